@@ -1,0 +1,9 @@
+//! Namespaces of elements.
+
+/// The namespace of an element (HTML Standard, "Namespaces"), as in the crate's `html::Namespace`.
+#[derive(Debug, Clone, Copy, PartialEq, Eq)]
+pub enum Namespace {
+    Html,
+    Svg,
+    MathML,
+}

@@ -1,0 +1,83 @@
+//! Why a text is no selector.
+
+ghost use Rattle.std.specs.Prelude.{◌≡◌};
+ghost use Rattle.lol_css.specs.declared.error.SelectorError.TheVariants.{Memory};
+
+use std::alloc::{AllocError, AllocFailed};
+use thiserror::Error;
+
+/// The first cause for which a text is refused, as in the crate's `selectors_vm::SelectorError`.
+#[derive(Debug, Clone, Copy, PartialEq, Eq, Error)]
+pub enum SelectorError {
+    /// A token that can't stand where it does.
+    #[error("Unexpected token in selector.")]
+    UnexpectedToken,
+
+    /// The text, or a bracket, ends where a token is wanted.
+    #[error("Unexpected end of selector.")]
+    UnexpectedEnd,
+
+    /// `[` without a name behind it.
+    #[error("Missing attribute name in attribute selector.")]
+    MissingAttributeName,
+
+    /// An empty text or an empty item of a list.
+    #[error("The selector is empty.")]
+    EmptySelector,
+
+    /// A combinator with no compound behind it, as in `div >`.
+    #[error("Dangling combinator in selector.")]
+    DanglingCombinator,
+
+    /// A token that can't stand where it does between `[` and `]`.
+    #[error("Unexpected token in the attribute selector.")]
+    UnexpectedTokenInAttribute,
+
+    /// A pseudo-class or a pseudo-element that the machine doesn't know.
+    #[error("Unsupported pseudo-class or pseudo-element in selector.")]
+    UnsupportedPseudoClassOrElement,
+
+    /// Never produced; the crate has it.
+    #[error("Nested negation in selector.")]
+    NestedNegation,
+
+    /// A name with a namespace, as in `svg|img`.
+    #[error("Selectors with explicit namespaces are not supported.")]
+    NamespacedSelector,
+
+    /// `.` without a name directly behind it.
+    #[error("Invalid or unescaped class name in selector.")]
+    InvalidClassName,
+
+    /// Never produced; the crate has it.
+    #[error("Empty negation in selector.")]
+    EmptyNegation,
+
+    /// `+` or `~` between two compounds.
+    #[error("Unsupported combinator `{0}` in selector.")]
+    UnsupportedCombinator(char),
+
+    /// A selector past the bounds of this reader.
+    #[error("Unsupported syntax in selector.")]
+    UnsupportedSyntax,
+
+    /// Memory was refused. (Not in the crate.)
+    #[error("Out of memory.")]
+    Memory,
+}
+
+impl From<AllocError> for SelectorError {
+    ghost from_gives = { λ _ error. error ≡ Memory };
+
+    fn from(_error: AllocError) -> SelectorError {
+        SelectorError::Memory
+    }
+}
+
+impl<T: Drop> From<AllocFailed<T>> for SelectorError {
+    ghost from_gives = { λ _ error. error ≡ Memory };
+
+    fn from(_error: AllocFailed<T>) -> SelectorError {
+        SelectorError::Memory
+    }
+}

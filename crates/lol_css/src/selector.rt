@@ -1,0 +1,78 @@
+//! Selectors as trees.
+
+ghost use Rattle.std.specs.Prelude.{◌≡◌, IfOk, string_bytes};
+
+use std::alloc::{AllocError, Global};
+use std::marker::Model;
+
+/// A text of a selector: a name or a value.
+#[derive(Drop)]
+pub struct CssString {
+    text: String,
+}
+
+impl Model for CssString {
+    ghost use Rattle.std.specs.Prelude.{ℕ, List, string_bytes};
+
+    ghost Value = { List ℕ };
+
+    ghost view = { λ s. string_bytes s.text };
+}
+
+impl CssString {
+    /// A copy of a text.
+    pub fn new(alloc: Global, text: &str) -> Result<CssString, AllocError>
+        ensures { IfOk result (λ s. s ≡ text.now) }
+    {
+        Ok(CssString {
+            text: String::from_str(alloc, text)?,
+        })
+    }
+
+    /// A copy of the text.
+    pub fn to_boxed_slice(&self, alloc: Global) -> Result<String, AllocError>
+        ensures { IfOk result (λ s. string_bytes s ≡ self.now) }
+    {
+        String::from_str(alloc, self.text.as_str())
+    }
+
+    /// The text.
+    pub fn as_str(&self) -> &str
+        ensures { result.now ≡ self.now }
+    {
+        self.text.as_str()
+    }
+}
+
+/// How a compound stands to the one before it (Selectors 4, section 16).
+#[derive(Debug, Clone, Copy, PartialEq, Eq)]
+pub enum Combinator {
+    Child,
+    Descendant,
+}
+
+/// A part of a compound.
+#[derive(Drop)]
+pub enum SimpleSelector {
+    LocalName(CssString),
+    ExplicitUniversalType,
+}
+
+/// Parts that one element has to have, in written order (Selectors 4, section 3.1).
+#[derive(Drop)]
+pub struct Compound {
+    pub parts: Vec<SimpleSelector>,
+}
+
+/// Compounds, each a step from the one before it (Selectors 4, section 3.1).
+#[derive(Drop)]
+pub struct ComplexSelector {
+    pub first: Compound,
+    pub rest: Vec<(Combinator, Compound)>,
+}
+
+/// The items of a list, in written order (Selectors 4, section 4.1).
+#[derive(Drop)]
+pub struct SelectorList {
+    pub items: Vec<ComplexSelector>,
+}

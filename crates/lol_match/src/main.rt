@@ -1,0 +1,4 @@
+//! Runs a script of selectors and tags.
+#![tactic(auto)]
+
+fn main() {}
