@@ -5,4 +5,7 @@ mod error;
 mod selector;
 
 pub use error::SelectorError;
-pub use selector::{Combinator, ComplexSelector, Compound, CssString, SelectorList, SimpleSelector};
+pub use selector::{
+    AttrSelectorOperator, Combinator, ComplexSelector, Compound, CssString, ParsedCaseSensitivity,
+    SelectorList, SimpleSelector,
+};

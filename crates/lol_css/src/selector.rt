@@ -44,11 +44,36 @@ impl CssString {
     }
 }
 
-/// How a compound stands to the one before it (Selectors 4, section 16).
+/// How a compound stands to the one before it (Selectors 4, "Combinators").
 #[derive(Debug, Clone, Copy, PartialEq, Eq)]
 pub enum Combinator {
     Child,
     Descendant,
+}
+
+/// How an attribute's value is compared (Selectors 4, "Attribute Selectors").
+#[derive(Debug, Clone, Copy, PartialEq, Eq)]
+pub enum AttrSelectorOperator {
+    Equal,
+    Includes,
+    DashMatch,
+    Prefix,
+    Substring,
+    Suffix,
+}
+
+/// Whether case counts when an attribute's value is compared (Selectors 4, "Case-sensitivity"): as a flag says, or without
+/// one by the attribute's name.
+#[derive(Debug, Clone, Copy, PartialEq, Eq)]
+pub enum ParsedCaseSensitivity {
+    /// The flag `s`.
+    ExplicitCaseSensitive,
+    /// The flag `i`.
+    AsciiCaseInsensitive,
+    /// No flag.
+    CaseSensitive,
+    /// No flag, at one of the attributes whose values the HTML Standard compares without case on HTML elements.
+    AsciiCaseInsensitiveIfInHtmlElementInHtmlDocument,
 }
 
 /// A part of a compound.
@@ -58,20 +83,20 @@ pub enum SimpleSelector {
     ExplicitUniversalType,
 }
 
-/// Parts that one element has to have, in written order (Selectors 4, section 3.1).
+/// Parts that one element has to have, in written order (Selectors 4, "Structure and Terminology").
 #[derive(Drop)]
 pub struct Compound {
     pub parts: Vec<SimpleSelector>,
 }
 
-/// Compounds, each a step from the one before it (Selectors 4, section 3.1).
+/// Compounds, each a step from the one before it (Selectors 4, "Structure and Terminology").
 #[derive(Drop)]
 pub struct ComplexSelector {
     pub first: Compound,
     pub rest: Vec<(Combinator, Compound)>,
 }
 
-/// The items of a list, in written order (Selectors 4, section 4.1).
+/// The items of a list, in written order (Selectors 4, "Selector Lists").
 #[derive(Drop)]
 pub struct SelectorList {
     pub items: Vec<ComplexSelector>,

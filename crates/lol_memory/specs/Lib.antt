@@ -1,1 +1,2 @@
 pub mod Limiter
+pub mod Slots

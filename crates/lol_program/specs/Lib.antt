@@ -1,0 +1,4 @@
+pub mod Tests
+pub mod Paths
+pub mod Same
+pub mod Nodes

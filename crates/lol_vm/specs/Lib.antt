@@ -1,0 +1,9 @@
+pub mod Events
+pub mod Documents
+pub mod Matching
+pub mod Answers
+pub mod Refusals
+pub mod Machine
+pub mod Simulation
+pub mod Laws
+pub mod Rows

@@ -1,2 +1,5 @@
-//! To come.
+//! The selector matching machine.
 #![tactic(auto)]
+
+pub mod laws;
+pub mod rows;

@@ -1,0 +1,5 @@
+pub mod Members
+pub mod SamePaths
+pub mod NodeLists
+
+

@@ -1,0 +1,68 @@
+-- The nodes of pairs, each once.
+use Rattle.std.proofs.Common.{◌≡◌, ◌≢◌, ℕ, Bool, true, false, ◌||◌, cond, List, [], ◌∷◌, Contains, AllPairs, ◌⊎◌, inl, inr, refl, sym, ap, ◌∙◌, subst}
+use Rattle.std.specs.Bool.{Decides}
+use Rattle.std.specs.List.{list_any, IsDistinct, AllByRecursion}
+use Rattle.std.proofs.lemmas.Map.Made.{AllPairs-from_IsDistinct}
+use Rattle.lol_program.specs.Paths.{Path, AreNodes, all_beginnings}
+use Rattle.lol_program.specs.Same.{same_path}
+use Rattle.lol_program.specs.Nodes.{each_once, nodes_of}
+use Rattle.lol_program.proofs.Members.{Among, among_from_contains, contains_from_among}
+use Rattle.lol_program.proofs.SamePaths.{same_path-Decides}
+
+-- a test that finds a path
+found : (path : Path) (paths : List Path) → list_any (same_path path) paths ≡ true → Among paths path
+found path [] h = cc
+found path (p ∷ paths) h = by_test (same_path path p) refl h (found path paths)
+  where
+    by_test : (b : Bool) → same_path path p ≡ b → (b || list_any (same_path path) paths) ≡ true → (list_any (same_path path) paths ≡ true → Among paths path) → Among (p ∷ paths) path
+    by_test true is h more = inl (sym ((same_path-Decides path p).0 is))
+    by_test false is h more = inr (more h)
+
+-- a test that finds none
+none_passes : {T : Type 0} (test : T → Bool) (xs : List T) → list_any test xs ≡ false → AllByRecursion (λ x. test x ≡ false) xs
+none_passes test [] h = tt
+none_passes test (x ∷ xs) h = by_test (test x) refl h (none_passes test xs)
+  where
+    by_test : (b : Bool) → test x ≡ b → (b || list_any test xs) ≡ false → (list_any test xs ≡ false → AllByRecursion (λ x. test x ≡ false) xs) → AllByRecursion (λ x. test x ≡ false) (x ∷ xs)
+    by_test true is h more = cc
+    by_test false is h more = (is, more h)
+
+-- each_once keeps the members
+kept : (paths : List Path) (path : Path) → Among paths path → Among (each_once paths) path
+kept [] path h = h
+kept (p ∷ paths) path h = by_test (list_any (same_path p) (each_once paths)) refl h (kept paths path)
+  where
+    by_test : (b : Bool) → list_any (same_path p) (each_once paths) ≡ b → Among (p ∷ paths) path → (Among paths path → Among (each_once paths) path) → Among (cond b (each_once paths) (p ∷ each_once paths)) path
+    by_test true is (inl same) more = subst (Among (each_once paths)) same (found p (each_once paths) is)
+    by_test true is (inr h) more = more h
+    by_test false is (inl same) more = inl same
+    by_test false is (inr h) more = inr (more h)
+
+-- and adds none
+no_other : (paths : List Path) (path : Path) → Among (each_once paths) path → Among paths path
+no_other [] path h = h
+no_other (p ∷ paths) path h = by_test (list_any (same_path p) (each_once paths)) h (no_other paths path)
+  where
+    by_test : (b : Bool) → Among (cond b (each_once paths) (p ∷ each_once paths)) path → (Among (each_once paths) path → Among paths path) → Among (p ∷ paths) path
+    by_test true h more = inr (more h)
+    by_test false (inl same) more = inl same
+    by_test false (inr h) more = inr (more h)
+
+distinct : (paths : List Path) → IsDistinct same_path (each_once paths)
+unfolding IsDistinct
+distinct [] = tt
+distinct (p ∷ paths) = by_test (list_any (same_path p) (each_once paths)) refl (distinct paths)
+  where
+    by_test : (b : Bool) → list_any (same_path p) (each_once paths) ≡ b → IsDistinct same_path (each_once paths) → IsDistinct same_path (cond b (each_once paths) (p ∷ each_once paths))
+    by_test true is rest = rest
+    by_test false is rest = (none_passes (same_path p) (each_once paths) is, rest)
+
+-- The nodes of pairs are the beginnings of their paths, each once.
+pub nodes_of-AreNodes : (pairs : List (Path × ℕ)) → AreNodes pairs (nodes_of pairs)
+nodes_of-AreNodes pairs = record {
+  members = λ path. (
+    λ h. contains_from_among _ path (no_other (all_beginnings pairs) path (among_from_contains _ path h)),
+    λ h. contains_from_among _ path (kept (all_beginnings pairs) path (among_from_contains _ path h))
+  );
+  each_once = AllPairs-from_IsDistinct same_path-Decides (nodes_of pairs) (distinct (all_beginnings pairs));
+}

@@ -1,0 +1,151 @@
+-- The tests of a compound selector, and whether an element passes them.
+use Rattle.std.specs.Prelude.{ℕ, zero, suc, ◌%◌, Bool, true, false, not, ◌&&◌, ◌||◌, if◌then◌else◌, ◌==◌, List, [], ◌∷◌, ◌++◌, Option, Some, None, unwrap_or, ℤ, pos, negsuc, ◌-ℤ◌, codes}
+use Rattle.std.specs.Option.{option_map}
+use Rattle.std.specs.Str.{bytes_eq}
+use Rattle.std.specs.List.{list_any, starts_with, ends_with, slice_split}
+use Rattle.lol_base.specs.Names.{same_name, lowercased}
+use Rattle.lol_base.specs.StartTags.{Attribute, StartTag}
+use Rattle.lol_base.specs.declared.namespace.Namespace.{Namespace}
+use Rattle.lol_base.specs.declared.namespace.Namespace.TheVariants.{Html, Svg, MathML}
+use Rattle.lol_css.specs.declared.selector.AttrSelectorOperator.{AttrSelectorOperator}
+use Rattle.lol_css.specs.declared.selector.AttrSelectorOperator.TheVariants.{Equal, Includes, DashMatch, Prefix, Substring, Suffix}
+use Rattle.lol_css.specs.declared.selector.ParsedCaseSensitivity.{ParsedCaseSensitivity}
+use Rattle.lol_css.specs.declared.selector.ParsedCaseSensitivity.TheVariants.{ExplicitCaseSensitive, AsciiCaseInsensitive, CaseSensitive, AsciiCaseInsensitiveIfInHtmlElementInHtmlDocument}
+
+-- An element of the document: the number of its start tag's event, that tag, and its place from 1 among its parent's children:
+-- among all of them, and among those of its name.
+pub record Element : Type 0 where
+  pub number : ℕ
+  pub tag : StartTag
+  pub position : ℕ
+  pub typed_position : ℕ
+
+-- 1. Tests
+
+-- step * n + offset, of whole numbers n from 0 (CSS Syntax 3, "The An+B microsyntax")
+pub record Progression : Type 0 where
+  pub step : ℤ
+  pub offset : ℤ
+
+-- Tests that need no attributes (Selectors 4, "Elemental Selectors" and "Tree-Structural pseudo-classes").
+pub data NameTest : Type 0 where
+  AnyName : NameTest
+  NoName : NameTest  -- what a name without a namespace asks for, as `|p`
+  HasName : (name : List ℕ) → NameTest
+  IsNthChild : (nth : Progression) → NameTest
+  IsNthOfType : (nth : Progression) → NameTest
+
+-- Tests of attributes (Selectors 4, "Attribute Selectors", "Class Selectors", "ID Selectors").
+pub data AttributeTest : Type 0 where
+  HasId : (id : List ℕ) → AttributeTest
+  HasClass : (name : List ℕ) → AttributeTest
+  HasAttribute : (name : List ℕ) → AttributeTest
+  Compares : (name : List ℕ) (operator : AttrSelectorOperator) (operand : List ℕ) (case : ParsedCaseSensitivity) → AttributeTest
+
+-- A test, or its opposite (Selectors 4, "The Negation Pseudo-class").
+pub record Signed (T : Type 0) : Type 0 where
+  pub test : T
+  pub negated : Bool
+
+-- 2. Truth of a name test
+
+-- Whether a whole number is step * n for some whole number n from 0.
+abbrev pub is_multiple : ℤ → ℤ → Bool
+is_multiple (pos zero) (pos d) = d == 0
+is_multiple (pos zero) (negsuc d) = false
+is_multiple (pos (suc step)) (pos d) = d % suc step == 0
+is_multiple (pos (suc step)) (negsuc d) = false
+is_multiple (negsuc step) (pos d) = d == 0
+is_multiple (negsuc step) (negsuc d) = suc d % suc step == 0
+
+abbrev pub has_index : Progression → ℕ → Bool
+has_index nth index = is_multiple nth.step (pos index -ℤ nth.offset)
+
+abbrev pub name_holds : NameTest → Element → Bool
+name_holds AnyName e = true
+name_holds NoName e = false
+name_holds (HasName name) e = same_name e.tag.name name
+name_holds (IsNthChild nth) e = has_index nth e.position
+name_holds (IsNthOfType nth) e = has_index nth e.typed_position
+
+-- 3. Truth of an attribute test
+
+abbrev pub find_attribute : List ℕ → List Attribute → Option Attribute
+find_attribute name [] = None
+find_attribute name (a ∷ more) = if bytes_eq (lowercased a.name) name then Some a else find_attribute name more
+
+-- The value of the first attribute of that name, which is empty where none is written, or nothing where it isn't there
+-- (HTML Standard, "Attributes": of two attributes of one name the first counts).
+abbrev pub value_of : List ℕ → StartTag → Option (List ℕ)
+value_of name tag = option_map (λ a. unwrap_or a.value []) (find_attribute name tag.attributes)
+
+-- space, line feed, carriage return, tab, form feed (HTML Standard, "ASCII whitespace")
+abbrev pub is_white : ℕ → Bool
+is_white b = (((b == 32 || b == 10) || b == 13) || b == 9) || b == 12
+
+-- the pieces between white space bytes, one more than there are such bytes
+abbrev pub words : List ℕ → List (List ℕ)
+words value = slice_split is_white value
+
+abbrev pub is_empty : List ℕ → Bool
+is_empty [] = true
+is_empty (b ∷ bytes) = false
+
+-- whether a part stands somewhere in a list
+abbrev pub stands_in : List ℕ → List ℕ → Bool
+stands_in [] part = bytes_eq [] part
+stands_in (b ∷ bytes) part = starts_with ◌==◌ (b ∷ bytes) part || stands_in bytes part
+
+-- Whether a value stands to an operand as an operator says, byte by byte.
+abbrev pub operator_holds : AttrSelectorOperator → List ℕ → List ℕ → Bool
+operator_holds Equal value operand = bytes_eq value operand
+operator_holds Includes value operand = list_any (λ word. bytes_eq word operand) (words value)
+operator_holds DashMatch value operand = bytes_eq value operand || starts_with ◌==◌ value (operand ++ 45 ∷ [])
+operator_holds Prefix value operand = starts_with ◌==◌ value operand
+operator_holds Substring value operand = not (is_empty operand) && stands_in value operand
+operator_holds Suffix value operand = ends_with ◌==◌ value operand
+
+-- The operators that an empty operand makes false (Selectors 4, "Attribute presence and value selectors" and "Substring matching
+-- attribute selectors").
+abbrev pub needs_operand : AttrSelectorOperator → Bool
+needs_operand Equal = false
+needs_operand Includes = true
+needs_operand DashMatch = false
+needs_operand Prefix = true
+needs_operand Substring = true
+needs_operand Suffix = true
+
+abbrev pub compares : AttrSelectorOperator → List ℕ → List ℕ → Bool
+compares operator value operand = not (needs_operand operator && is_empty operand) && operator_holds operator value operand
+
+abbrev pub is_html : Namespace → Bool
+is_html Html = true
+is_html Svg = false
+is_html MathML = false
+
+-- whether case doesn't count, in a namespace
+abbrev pub ignores_case : ParsedCaseSensitivity → Namespace → Bool
+ignores_case ExplicitCaseSensitive namespace = false
+ignores_case AsciiCaseInsensitive namespace = true
+ignores_case CaseSensitive namespace = false
+ignores_case AsciiCaseInsensitiveIfInHtmlElementInHtmlDocument namespace = is_html namespace
+
+-- what of some bytes is compared
+abbrev pub compared : Bool → List ℕ → List ℕ
+compared ignoring bytes = if ignoring then lowercased bytes else bytes
+
+abbrev pub has_value : Option (List ℕ) → (List ℕ → Bool) → Bool
+has_value None test = false
+has_value (Some value) test = test value
+
+abbrev pub attribute_holds : AttributeTest → Element → Bool
+attribute_holds (HasId id) e = has_value (value_of (codes "id") e.tag) (λ value. bytes_eq value id)
+attribute_holds (HasClass name) e = has_value (value_of (codes "class") e.tag) (λ value. list_any (λ word. bytes_eq word name) (words value))
+attribute_holds (HasAttribute name) e = has_value (value_of name e.tag) (λ value. true)
+attribute_holds (Compares name operator operand case) e =
+    let ignoring = ignores_case case e.tag.namespace in
+    has_value (value_of (lowercased name) e.tag) (λ value. compares operator (compared ignoring value) (compared ignoring operand))
+
+-- A sign turns what its test says.
+abbrev pub signed : {T : Type 0} → (T → Element → Bool) → Element → Signed T → Bool
+signed holds e s = if s.negated then not (holds s.test e) else holds s.test e

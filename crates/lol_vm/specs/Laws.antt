@@ -1,0 +1,54 @@
+-- Laws over the definitions, which later layers stand on.
+use Rattle.std.specs.Prelude.{ℕ, ◌≡◌, ◌≢◌, ◌<◌, ◌↔◌, true, Bool, List, [], ◌∷◌, map, None, Contains, AllPairs}
+use Rattle.lol_program.specs.Tests.{Element}
+use Rattle.lol_program.specs.Paths.{Path, Selectors}
+use Rattle.lol_vm.specs.Events.{Event, End, has_content}
+use Rattle.lol_vm.specs.Documents.{Document, place_of}
+use Rattle.lol_vm.specs.Matching.{matches}
+use Rattle.lol_vm.specs.Answers.{Match, Answer, Ended, report, answer, answers, after}
+use Rattle.lol_vm.specs.Refusals.{Allowance, refused}
+
+-- each number of a list is below all behind it
+abbrev pub IsStrictlyAscending : List ℕ → Type 0
+IsStrictlyAscending ns = AllPairs (λ m n. m < n) ns
+
+abbrev pub ids_of : List Match → List ℕ
+ids_of matched = map (λ m. m.id) matched
+
+-- an id stands in a report exactly if a path under it matches
+abbrev pub HasMatchingIds : Selectors → Bool → Element → List Element → Type 0
+HasMatchingIds s esi e outer =
+    (id : ℕ) → Contains (ids_of (report s esi e outer)) id ↔ ((path : Path) × Contains s.pairs (path, id) × (matches path e outer ≡ true))
+
+-- A report has each id of a matching path, once, in ascending order.
+pub record IsReport (s : Selectors) (esi : Bool) (e : Element) (outer : List Element) : Type 0 where
+  pub ascending : IsStrictlyAscending (ids_of (report s esi e outer))
+  pub members : HasMatchingIds s esi e outer
+
+-- A strictly ascending list is determined by its members.
+abbrev pub AscendingIsDetermined : Type 0
+AscendingIsDetermined =
+    (ms ns : List ℕ) → IsStrictlyAscending ms → IsStrictlyAscending ns → ((n : ℕ) → Contains ms n ↔ Contains ns n) → ms ≡ ns
+
+abbrev pub SameMembers : {T : Type 0} → List T → List T → Type 0
+SameMembers {T} xs ys = (x : T) → Contains xs x ↔ Contains ys x
+
+-- the same pairs, in any order and number, and the same nodes, each once, in any order
+pub record SameSelectors (s t : Selectors) : Type 0 where
+  pub pairs : SameMembers s.pairs t.pairs
+  pub nodes : SameMembers s.nodes t.nodes
+  pub each_once : AllPairs (λ a b. a ≢ b) s.nodes
+  pub each_once' : AllPairs (λ a b. a ≢ b) t.nodes
+
+-- The order in which pairs and nodes stand changes no answer and no refusal.
+abbrev pub OrderChangesNothing : Type 0
+OrderChangesNothing =
+    (s t : Selectors) → SameSelectors s t → (esi : Bool) (events : List Event)
+    → (answers s esi events ≡ answers t esi events) × ((a : Allowance) → refused s esi a events ≡ refused t esi a events)
+
+-- An end tag whose name isn't open closes nothing, and leaves the open elements and all children as they are.
+abbrev pub StrayEndChangesNothing : Type 0
+StrayEndChangesNothing =
+    (s : Selectors) (esi : Bool) (d : Document) (name : List ℕ) → place_of name d.open_elements ≡ None
+    → (answer s esi d (End name) ≡ Ended [])
+    × ((after s esi d (End name)).open_elements ≡ d.open_elements) × ((after s esi d (End name)).children ≡ d.children)
