@@ -1,1 +1,3 @@
 pub mod Simulated
+pub mod Reports
+pub mod Orders
