@@ -1,1 +1,2 @@
 pub mod CaselessAttributes
+pub mod Trees

@@ -1,5 +1,5 @@
 -- What a list contains, by recursion on the list.
-use Rattle.std.proofs.Common.{◌≡◌, ◌≢◌, ℕ, zero, suc, ◌+◌, ◌<◌, Bool, true, false, cond, ◌||◌, List, [], ◌∷◌, ◌++◌, length, get_or, Contains, All, AllPairs, ◌⊎◌, inl, inr, refl, sym, ap, ◌∙◌, subst, arith}
+use Rattle.std.proofs.Common.{◌≡◌, ◌≢◌, ℕ, zero, suc, ◌+◌, ◌<◌, Bool, true, false, cond, ◌||◌, List, [], ◌∷◌, ◌++◌, length, get_or, Contains, All, AllPairs, ◌⊎◌, ◌↔◌, map, inl, inr, refl, sym, ap, ◌∙◌, subst, arith}
 use Rattle.std.specs.List.{list_any, AllByRecursion, count_by}
 use Rattle.std.proofs.lemmas.List.Elements.{Contains-append_left, Contains-append_right, Contains-append_cases, Contains-get_or, All-from_recursion, recursion_from_All}
 use Rattle.std.proofs.lemmas.List.Kept.{AllPairs-cons}
@@ -106,3 +106,14 @@ module _ {T : Type 0} where
     λ again. let at = contains_from_among xs x again in h 0 (suc at.0) x (omega arith) (omega (arith, at.1)) (sym at.2),
     distinct_from_pairs xs (λ i j d below within. h (suc i) (suc j) d (omega (arith, below)) (omega (arith, within)))
   )
+
+pub map-map : {A B C : Type 0} (f : B → C) (g : A → B) (xs : List A) → map f (map g xs) ≡ map (λ x. f (g x)) xs
+map-map f g [] = refl
+map-map f g (x ∷ xs) = ap (λ ys. f (g x) ∷ ys) (map-map f g xs)
+
+-- an appended list has the members of both
+pub contains-append : {A : Type 0} (xs ys : List A) (x : A) → Contains (xs ++ ys) x ↔ (Contains xs x ⊎ Contains ys x)
+contains-append xs ys x = (
+  Contains-append_cases xs ys x,
+  λ either. elim either [ inl h ↦ Contains-append_left xs ys x h | inr h ↦ Contains-append_right xs ys x h ]
+)

@@ -14,6 +14,11 @@ pub data Path : Type 0 where
   First : (compound : Compound) → Path
   Then : (front : Path) (step : Combinator) (compound : Compound) → Path
 
+-- a path and further compounds, each by a step
+abbrev pub extended : Path → List (Combinator × Compound) → Path
+extended path [] = path
+extended path (step ∷ rest) = extended (Then path step.0 step.1) rest
+
 abbrev pub last_compound : Path → Compound
 last_compound (First c) = c
 last_compound (Then front step c) = c

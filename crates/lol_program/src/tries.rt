@@ -1,0 +1,39 @@
+//! How many nodes were tried.
+
+ghost use Rattle.std.specs.Prelude.{◌≡◌};
+
+/// How many nodes were tried for a start tag by their name tests, and how many by their attribute tests. (Not in the crate.)
+#[derive(Debug, Clone, Copy, PartialEq, Eq)]
+pub struct Tries {
+    names: u64,
+    attributes: u64,
+}
+
+impl Tries {
+    ghost use Rattle.lol_program.specs.Tries.{name_tries, attribute_tries};
+
+    /// None yet.
+    pub fn new() -> Self
+        ensures names { name_tries result ≡ 0 }
+        ensures attributes { attribute_tries result ≡ 0 }
+    {
+        Tries {
+            names: 0,
+            attributes: 0,
+        }
+    }
+
+    /// The nodes that were tried by their name tests.
+    pub fn names(&self) -> u64
+        ensures { result ≡ name_tries self.now }
+    {
+        self.names
+    }
+
+    /// The nodes that were tried by their attribute tests.
+    pub fn attributes(&self) -> u64
+        ensures { result ≡ attribute_tries self.now }
+    {
+        self.attributes
+    }
+}
