@@ -1,5 +1,3 @@
 pub mod Members
 pub mod SamePaths
 pub mod NodeLists
-
-

@@ -59,7 +59,7 @@ module _ {T : Type 0} where
   distinct_rest [] back x h = h.1
   distinct_rest (y ∷ front) back x h = (
     λ again. h.0 (elim (among_either front back y again) [ inl a ↦ among_front front (x ∷ back) y a | inr b ↦ among_back front (x ∷ back) y (inr b) ]),
-    distinct_rest front back x h.1
+    distinct_rest front back x h.1,
   )
 
   gone : (front back : List T) (x : T) → Distinct (front ++ x ∷ back) → Among (front ++ back) x → ⊥
@@ -85,14 +85,14 @@ module _ {T : Type 0} where
       let back = parts.back in
       let dy' : Distinct (front ++ x ∷ back) = subst Distinct parts.is dy in
       let rest = same_count p xs (front ++ back) dx.1 (distinct_rest front back x dy')
-          (λ y h. elim (among_either front (x ∷ back) y (subst (λ zs. Among zs y) parts.is (to y (inr h)))) [
-            | inl a ↦ among_front front back y a
-            | inr b ↦ other y h front back b
-          ])
-          (λ y h. elim (from y (subst (λ zs. Among zs y) (sym parts.is) (elim (among_either front back y h) [ inl a ↦ among_front front (x ∷ back) y a | inr b ↦ among_back front (x ∷ back) y (inr b) ]))) [
-            | inl is ↦ absurd (gone front back x dy' (subst (Among (front ++ back)) (sym is) h))
-            | inr a ↦ a
-          ]) in
+      (λ y h. elim (among_either front (x ∷ back) y (subst (λ zs. Among zs y) parts.is (to y (inr h)))) [
+        | inl a ↦ among_front front back y a
+        | inr b ↦ other y h front back b
+      ])
+      (λ y h. elim (from y (subst (λ zs. Among zs y) (sym parts.is) (elim (among_either front back y h) [ inl a ↦ among_front front (x ∷ back) y a | inr b ↦ among_back front (x ∷ back) y (inr b) ]))) [
+        | inl is ↦ absurd (gone front back x dy' (subst (Among (front ++ back)) (sym is) h))
+        | inr a ↦ a
+      ]) in
       count_by-cons p x xs ∙ (ap (λ n. cond (p x) 1 0 + n) rest ∙ (sym (count_rest p front back x) ∙ ap (count_by p) (sym parts.is)))
     where
       other : (y : T) → Among xs y → (front back : List T) → Among (x ∷ back) y → Among (front ++ back) y
@@ -104,7 +104,7 @@ module _ {T : Type 0} where
   distinct_from_pairs [] h = tt
   distinct_from_pairs (x ∷ xs) h = (
     λ again. let at = contains_from_among xs x again in h 0 (suc at.0) x (omega arith) (omega (arith, at.1)) (sym at.2),
-    distinct_from_pairs xs (λ i j d below within. h (suc i) (suc j) d (omega (arith, below)) (omega (arith, within)))
+    distinct_from_pairs xs (λ i j d below within. h (suc i) (suc j) d (omega (arith, below)) (omega (arith, within))),
   )
 
 pub map-map : {A B C : Type 0} (f : B → C) (g : A → B) (xs : List A) → map f (map g xs) ≡ map (λ x. f (g x)) xs
@@ -115,5 +115,5 @@ map-map f g (x ∷ xs) = ap (λ ys. f (g x) ∷ ys) (map-map f g xs)
 pub contains-append : {A : Type 0} (xs ys : List A) (x : A) → Contains (xs ++ ys) x ↔ (Contains xs x ⊎ Contains ys x)
 contains-append xs ys x = (
   Contains-append_cases xs ys x,
-  λ either. elim either [ inl h ↦ Contains-append_left xs ys x h | inr h ↦ Contains-append_right xs ys x h ]
+  λ either. elim either [ inl h ↦ Contains-append_left xs ys x h | inr h ↦ Contains-append_right xs ys x h ],
 )

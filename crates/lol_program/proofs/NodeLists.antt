@@ -62,7 +62,7 @@ pub nodes_of-AreNodes : (pairs : List (Path × ℕ)) → AreNodes pairs (nodes_o
 nodes_of-AreNodes pairs = record {
   members = λ path. (
     λ h. contains_from_among _ path (no_other (all_beginnings pairs) path (among_from_contains _ path h)),
-    λ h. contains_from_among _ path (kept (all_beginnings pairs) path (among_from_contains _ path h))
+    λ h. contains_from_among _ path (kept (all_beginnings pairs) path (among_from_contains _ path h)),
   );
   each_once = AllPairs-from_IsDistinct same_path-Decides (nodes_of pairs) (distinct (all_beginnings pairs));
 }

@@ -127,18 +127,17 @@ decides same agrees itself a b = (agrees a b, λ is. ap (same a) (sym is) ∙ it
 decides_signed : {T : Type 0} (same : T → T → Bool) → ((a b : T) → Decides (same a b) (a ≡ b)) → (a b : Signed T) → Decides (same_signed same a b) (a ≡ b)
 decides_signed same h a b = (
   λ fits.
-    let parts = both _ _ fits in
-    λ i. record { test = (h a.test b.test).0 parts.0 i; negated = agrees_sign a.negated b.negated parts.1 i },
-  λ is. join _ _ ((h a.test b.test).1 (ap (λ s. s.test) is)) (ap (same_sign a.negated) (ap (λ s. s.negated) (sym is)) ∙ itself_sign a.negated)
+      let parts = both _ _ fits in
+      λ i. record { test = (h a.test b.test).0 parts.0 i; negated = agrees_sign a.negated b.negated parts.1 i },
+  λ is. join _ _ ((h a.test b.test).1 (ap (λ s. s.test) is)) (ap (same_sign a.negated) (ap (λ s. s.negated) (sym is)) ∙ itself_sign a.negated),
 )
 
 decides_compound : (a b : Compound) → Decides (same_compound a b) (a ≡ b)
 decides_compound a b =
     let names = slice_eq-Decides (decides_signed same_name_test (decides same_name_test agrees_name_test itself_name_test)) a.name_tests b.name_tests _ refl in
-    let attributes = slice_eq-Decides (decides_signed same_attribute_test (decides same_attribute_test agrees_attribute_test itself_attribute_test)) a.attribute_tests b.attribute_tests _ refl in
-    (
+    let attributes = slice_eq-Decides (decides_signed same_attribute_test (decides same_attribute_test agrees_attribute_test itself_attribute_test)) a.attribute_tests b.attribute_tests _ refl in (
       λ fits. let parts = both _ _ fits in λ i. record { name_tests = names.0 parts.0 i; attribute_tests = attributes.0 parts.1 i },
-      λ is. join _ _ (names.1 (ap (λ c. c.name_tests) is)) (attributes.1 (ap (λ c. c.attribute_tests) is))
+      λ is. join _ _ (names.1 (ap (λ c. c.name_tests) is)) (attributes.1 (ap (λ c. c.attribute_tests) is)),
     )
 
 agrees_path : (a b : Path) → same_path a b ≡ true → a ≡ b

@@ -64,11 +64,7 @@ impl Ast {
     }
 
     /// Adds each complex selector of a list under an id. Where memory is refused the pairs are as before.
-    pub fn add_selector(
-        &mut self,
-        selector: &Selector,
-        match_id: MatchId,
-    ) -> Result<(), AllocError>
+    pub fn add_selector(&mut self, selector: &Selector, match_id: MatchId) -> Result<(), AllocError>
         ensures added { OnOk result (Joins (pairs_of self.old) (pairs_of self.new) (pairs_under match_id (items_of (list_of selector.now)))) }
         ensures unchanged { OnErr result (pairs_of self.new ≡ pairs_of self.old) }
     {

@@ -7,5 +7,4 @@ ghost use Rattle.lol_program.specs.Nodes.{nodes_of};
 /// The nodes of pairs are the beginnings of their paths, each once.
 pub fn nodes_are_the_beginnings()
     ensures { (pairs : List (Path × ℕ)) → AreNodes pairs (nodes_of pairs) }
-{
-}
+{}

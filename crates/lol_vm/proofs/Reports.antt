@@ -35,7 +35,7 @@ pub ascends_from_pairs : (ns : List ℕ) → IsStrictlyAscending ns → Ascends 
 ascends_from_pairs [] h = tt
 ascends_from_pairs (n ∷ ns) h = (
   all_above n ns (λ m a. let at = contains_from_among ns m a in subst (λ k. n < k) at.2 (h 0 (suc at.0) m (omega arith) (omega (arith, at.1)))),
-  ascends_from_pairs ns (λ i j d below within. h (suc i) (suc j) d (omega (arith, below)) (omega (arith, within)))
+  ascends_from_pairs ns (λ i j d below within. h (suc i) (suc j) d (omega (arith, below)) (omega (arith, within))),
 )
 
 determined : (ms ns : List ℕ) → Ascends ms → Ascends ns → ((n : ℕ) → Among ms n → Among ns n) → ((n : ℕ) → Among ns n → Among ms n) → ms ≡ ns
@@ -176,6 +176,6 @@ every_report s esi e outer =
       ascending = subst IsStrictlyAscending (sym ids) (pairs_from_ascends _ (ascending_ascends (ids_matching s.pairs e outer)));
       members = λ id. (
         λ h. let m = among_matching_ids e outer s.pairs id (among_from_contains _ id (subst (λ ns. Contains ns id) ids h)) in (m.0, contains_from_among s.pairs (m.0, id) m.1, m.2),
-        λ m. subst (λ ns. Contains ns id) (sym ids) (contains_from_among _ id (matching_ids_among e outer s.pairs m.0 id (among_from_contains s.pairs (m.0, id) m.1) m.2))
+        λ m. subst (λ ns. Contains ns id) (sym ids) (contains_from_among _ id (matching_ids_among e outer s.pairs m.0 id (among_from_contains s.pairs (m.0, id) m.1) m.2)),
       );
     }

@@ -7,3 +7,5 @@ pub mod Machine
 pub mod Simulation
 pub mod Laws
 pub mod Rows
+pub mod Views
+pub mod OpenNames

@@ -96,8 +96,8 @@ abbrev pub second_child : Row
 second_child =
     record {
       pairs =
-        (First (compound (plain (IsNthChild (record { step = pos 0; offset = pos 1 })) ∷ plain (HasName (codes "br")) ∷ []) []), 0)
-        ∷ (First (compound (plain (IsNthChild (record { step = pos 0; offset = pos 2 })) ∷ plain (HasName (codes "p")) ∷ []) []), 1) ∷ [];
+          (First (compound (plain (IsNthChild (record { step = pos 0; offset = pos 1 })) ∷ plain (HasName (codes "br")) ∷ []) []), 0)
+          ∷ (First (compound (plain (IsNthChild (record { step = pos 0; offset = pos 2 })) ∷ plain (HasName (codes "p")) ∷ []) []), 1) ∷ [];
       esi = false;
       events = start (codes "br") ∷ start (codes "p") ∷ [];
       answers = Started (void 0 ∷ []) false 2 0 ∷ Started (full 1 ∷ []) false 2 0 ∷ [];
@@ -120,7 +120,7 @@ caseless_in_html =
       pairs = (First (compound [] (plain (Compares (codes "type") Equal (codes "TEXT") AsciiCaseInsensitiveIfInHtmlElementInHtmlDocument) ∷ [])), 0) ∷ [];
       esi = false;
       events = start_with (codes "input") (codes "type") (codes "text")
-        ∷ start_in Svg (codes "input") (record { name = codes "type"; value = Some (codes "text") } ∷ []) false true ∷ [];
+          ∷ start_in Svg (codes "input") (record { name = codes "type"; value = Some (codes "text") } ∷ []) false true ∷ [];
       answers = Started (void 0 ∷ []) true 1 1 ∷ Started [] true 1 1 ∷ [];
     }
 

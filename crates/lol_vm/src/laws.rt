@@ -9,29 +9,24 @@ ghost use Rattle.lol_vm.specs.Simulation.{RunsLeftMatches};
 /// A report is strictly ascending and has exactly the ids under which a path matches.
 pub fn reports_are_ascending_and_exact()
     ensures { (s : Selectors) (esi : Bool) (e : Element) (outer : List Element) → IsReport s esi e outer }
-{
-}
+{}
 
 /// A strictly ascending list is determined by its members.
 pub fn ascending_lists_are_determined()
     ensures { AscendingIsDetermined }
-{
-}
+{}
 
 /// The order in which selectors stand changes no answer and no refusal.
 pub fn order_changes_nothing()
     ensures { OrderChangesNothing }
-{
-}
+{}
 
 /// An end tag whose name isn't open changes nothing.
 pub fn stray_end_changes_nothing()
     ensures { StrayEndChangesNothing }
-{
-}
+{}
 
 /// The ranges that a machine runs for a start tag hold the place of each node whose left part matches, and no other.
 pub fn ranges_are_left_matches()
     ensures { RunsLeftMatches }
-{
-}
+{}

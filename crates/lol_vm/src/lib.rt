@@ -1,5 +1,19 @@
-//! The selector matching machine.
+//! The selector matching machine: which selectors match each start tag of a document, as its tags come.
 #![tactic(auto)]
 
+mod events;
 pub mod laws;
+mod matching;
 pub mod rows;
+mod run;
+mod void;
+
+pub use events::{RunCause, RunRefusal, TagEvent, TagReport};
+pub use lol_base::{AttributeBuffer, AttributeOutline, AuxStartTagInfo, Bytes, Namespace, Range};
+pub use lol_css::{
+    AttrSelectorOperator, Combinator, ComplexSelector, Compound, CssString, ParsedCaseSensitivity,
+    Selector, SelectorError, SelectorList, SimpleSelector,
+};
+pub use lol_memory::{MatchId, MatchInfo, MemoryLimitExceededError, SharedMemoryLimiter};
+pub use lol_program::{Ast, AstPair, Expr, OnTagNameExpr, Predicate, Tries};
+pub use run::match_events;

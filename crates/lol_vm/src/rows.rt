@@ -19,8 +19,7 @@ pub fn answers_to_tags()
     ensures dropped_tag { Holds dropped_tag }
     ensures self_closing_tag { Holds self_closing_tag }
     ensures links { Holds links }
-{
-}
+{}
 
 /// Slots for items of 64, 512 and 7 bytes, and the tag at which a limit is passed.
 pub fn charges_and_limits()
@@ -31,5 +30,4 @@ pub fn charges_and_limits()
     ensures ninth_at_1023 { refused_at 1023 9 ≡ Some (8, Limit) }
     ensures sixteen_fit { refused_at 1024 16 ≡ None }
     ensures seventeenth { refused_at 1024 17 ≡ Some (16, Limit) }
-{
-}
+{}

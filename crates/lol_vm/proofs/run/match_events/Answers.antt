@@ -1,0 +1,37 @@
+use Rattle.std.proofs.Common.{◌≡◌, ℕ, ◌+◌, ◌<◌, List, [], ◌∷◌, ◌++◌, false, ap, sym, subst, ◌∙◌, arith, map, take, length, get_or, inr}
+use Rattle.std.proofs.lemmas.List.{map_push, take_more, length-map, length-take-le}
+use Rattle.std.specs.Prelude.{if◌then◌else◌}
+use Rattle.lol_vm.specs.Documents.{empty}
+use Rattle.lol_vm.specs.Answers.{answers, answer, document}
+use Rattle.lol_vm.specs.OpenNames.{Stands}
+use Rattle.lol_vm.specs.Views.{event_of, answer_of, without_tries, selectors}
+use Rattle.lol_vm.specs.declared.events.TagEvent.{TagEvent}
+use Rattle.lol_vm.proofs.Runs.{document_push, answers_push, events-document}
+use Rattle.lol_vm.proofs.run.match_events.Goals as goal
+
+-- the events up to one and with it
+front_more : (all : List TagEvent) (n : ℕ) (event : TagEvent) → n < length all → event ≡ get_or all n event → map event_of (take (n + 1) all) ≡ map event_of (take n all) ++ event_of event ∷ []
+front_more all n event within read =
+    ap (map event_of) (take_more all n event within ∙ ap (λ (e : TagEvent). take n all ++ e ∷ []) (sym read)) ∙ map_push event_of (take n all) event
+
+pub loop-number-preserved : goal.loop-number-preserved
+loop-number-preserved c =
+    let all = c.args.events.now in
+    let n = c.loop-number.number in
+    let event = c.index-events-number.result in
+    let before = map event_of (take n all) in
+    let front = front_more all n event c.loop-number-test.true c.index-events-number.is in
+    record {
+      told = λ nodes are.
+          let s = selectors c.args.ast.now nodes in
+          let pushed = c.push.ensures.items ∙ ap (λ ok. if ok then c.loop-number.reports.items ++ c.in-Ok.report ∷ [] else c.loop-number.reports.items) c.if-is_err.ensures.negation in
+          ap (map answer_of) pushed
+          ∙ (map_push answer_of c.loop-number.reports.items c.in-Ok.report
+          ∙ ((λ i. c.loop-number.invariant.told nodes are i ++ c.in-Ok.ensures.answer nodes (document s false before) are (c.loop-number.invariant.stands nodes are) i ∷ [])
+          ∙ sym (ap (λ es. map without_tries (answers s false es)) front ∙ (ap (map without_tries) (answers_push s false empty before (event_of event)) ∙ map_push without_tries (answers s false before) (answer s false (document s false before) (event_of event))))));
+      stands = λ nodes are.
+          let s = selectors c.args.ast.now nodes in
+          let count : (document s false before).events ≡ n = omega (arith, events-document s false empty before, length-map (take n all) event_of, length-take-le n all (omega arith)) in
+          subst (Stands c.answer.new.elements.items) (sym (ap (document s false) front ∙ document_push s false empty before (event_of event)))
+          (c.in-Ok.ensures.stands nodes (document s false before) are (c.loop-number.invariant.stands nodes are) count);
+    }

@@ -1,0 +1,57 @@
+-- What the values of a run stand for.
+use Rattle.std.specs.Prelude.{ℕ, ◌≡◌, Bool, false, true, List, [], map, reverse}
+use Rattle.std.specs.Borrow.{Bor}
+use Rattle.lol_base.specs.StartTags.{StartTag, attributes_of, RangesAreInside}
+use Rattle.lol_base.specs.declared.namespace.Namespace.{Namespace}
+use Rattle.lol_base.specs.declared.namespace.Namespace.TheVariants.{Html}
+use Rattle.lol_base.specs.declared.start_tag.AuxStartTagInfo.{AuxStartTagInfo}
+use Rattle.lol_memory.specs.declared.match_info.MatchInfo.{MatchInfo}
+use Rattle.lol_program.specs.Paths.{Path, Selectors}
+use Rattle.lol_program.specs.Asts.{pairs_of}
+use Rattle.lol_program.specs.Tries.{name_tries, attribute_tries}
+use Rattle.lol_program.specs.declared.ast.Ast.{Ast}
+use Rattle.lol_vm.specs.Events as events
+use Rattle.lol_vm.specs.Answers as answers
+use Rattle.lol_vm.specs.Answers.{Answer, Match}
+use Rattle.lol_vm.specs.declared.events.TagEvent.{TagEvent}
+use Rattle.lol_vm.specs.declared.events.TagEvent.TheVariants.{Start, End}
+use Rattle.lol_vm.specs.declared.events.TagReport.{TagReport}
+use Rattle.lol_vm.specs.declared.events.TagReport.TheVariants.{Started, Dropped, Ended}
+
+abbrev pub tag_of : List ℕ → Namespace → AuxStartTagInfo → Bool → StartTag
+tag_of name ns aux finish =
+    record { name = name; namespace = ns; attributes = attributes_of aux; self_closing = aux.self_closing; finish = finish }
+
+-- The event that a value stands for.
+abbrev pub event_of : TagEvent → events.Event
+event_of (Start name ns aux finish) = events.Start (tag_of name.now ns aux finish)
+event_of (End name) = events.End name.now
+
+-- each name range and each value range of a start tag lies inside its input
+abbrev pub HasRangesInside : TagEvent → Type 0
+HasRangesInside (Start name ns aux finish) = RangesAreInside aux
+HasRangesInside (End name) = Unit {0}
+
+-- a start tag is of HTML
+abbrev pub IsPlainHtml : TagEvent → Type 0
+IsPlainHtml (Start name ns aux finish) = ns ≡ Html
+IsPlainHtml (End name) = Unit {0}
+
+abbrev pub match_of : MatchInfo → Match
+match_of m = record { id = m.match_id; with_content = m.with_content }
+
+-- The answer that a report gives.
+abbrev pub answer_of : TagReport → Answer
+answer_of (Started matched asked tries) = answers.Started (map match_of matched.items) asked (name_tries tries) (attribute_tries tries)
+answer_of Dropped = answers.Dropped
+answer_of (Ended closed) = answers.Ended closed.items
+
+-- an answer whose tries aren't counted
+abbrev pub without_tries : Answer → Answer
+without_tries (answers.Started matched asked names attributes) = answers.Started matched asked 0 0
+without_tries answers.Dropped = answers.Dropped
+without_tries (answers.Ended closed) = answers.Ended closed
+
+-- the selectors that were added, with these nodes
+abbrev pub selectors : Ast → List Path → Selectors
+selectors ast nodes = record { pairs = pairs_of ast; nodes = nodes }

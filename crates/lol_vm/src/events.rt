@@ -1,0 +1,57 @@
+//! The tags of a run and what is answered to them.
+
+use lol_base::{AuxStartTagInfo, Namespace};
+use lol_memory::MatchInfo;
+use lol_program::Tries;
+
+/// A tag of a document. (Not in the crate, whose rewriter calls the machine tag by tag.)
+#[derive(Clone, Copy)]
+pub enum TagEvent<'i> {
+    /// A start tag. Where its attributes are asked for they are handed over if `finish` is true; otherwise the tag is dropped.
+    Start {
+        name: &'i [u8],
+        ns: Namespace,
+        aux_info: AuxStartTagInfo<'i>,
+        finish: bool,
+    },
+    /// An end tag.
+    End {
+        name: &'i [u8],
+    },
+}
+
+/// What is answered to a tag. (Not in the crate.)
+#[derive(Drop)]
+pub enum TagReport {
+    /// A start tag: what it is reported under, ascending by id, whether its attributes were asked for, and what was tried.
+    Started {
+        matched: Vec<MatchInfo>,
+        asked: bool,
+        tries: Tries,
+    },
+    /// A start tag whose attributes were asked for and not handed over.
+    Dropped,
+    /// An end tag: the numbers of the start tags whose elements it closed, the outermost first.
+    Ended {
+        closed: Vec<usize>,
+    },
+}
+
+/// Why a run was refused. (Not in the crate.)
+#[derive(Debug, Clone, Copy, PartialEq, Eq)]
+pub enum RunCause {
+    /// An element's charge would have passed the limiter's maximum.
+    MemoryLimitExceeded,
+    /// An element has as many children as can be counted.
+    CounterFull,
+    /// Memory was refused.
+    Memory,
+}
+
+/// A refused run: the reports of the events before `event`, which was refused. (Not in the crate.)
+#[derive(Drop)]
+pub struct RunRefusal {
+    pub reports: Vec<TagReport>,
+    pub event: usize,
+    pub cause: RunCause,
+}

@@ -1,0 +1,211 @@
+//! A whole run over a plain list of open elements.
+
+ghost use Rattle.std.specs.Prelude.{◌≡◌, ◌≤◌, ◌<◌, ◌∷◌, ◌++◌, ◌⊎◌, List, ℕ, Bool, false, IfOk, OnOk, IfErr, IfSome, map, reverse, position, length, take, All};
+ghost use Rattle.lol_base.specs.Names as names;
+ghost use Rattle.lol_base.specs.StartTags.{StartTag};
+ghost use Rattle.lol_program.specs.Asts.{pair_of, pairs_of};
+ghost use Rattle.lol_program.specs.Paths.{Path, AreNodes};
+ghost use Rattle.lol_vm.specs.Documents.{Document, closed, after_end, after_start, element_of};
+ghost use Rattle.lol_vm.specs.Answers.{with_number, matching_ids, answer, answers, after, report};
+ghost use Rattle.lol_vm.specs.Events.{has_content};
+ghost use Rattle.lol_vm.specs.OpenNames.{IsNamed, Stands, bare, bare_open};
+ghost use Rattle.lol_vm.specs.Views.{IsPlainHtml, HasRangesInside, event_of, answer_of, match_of, without_tries, selectors};
+ghost use Rattle.lol_vm.specs.declared.events.RunCause.TheVariants.{Memory};
+
+use crate::events::{RunCause, RunRefusal, TagEvent, TagReport};
+use crate::matching::{OpenElement, path_matches};
+use crate::void::is_void;
+use lol_memory::{MatchId, MatchInfo, SharedMemoryLimiter};
+use lol_program::{Ast, AstPair, Tries};
+use std::alloc::{AllocError, Global};
+
+fn refused(reports: Vec<TagReport>, event: usize) -> RunRefusal
+    ensures { result ≡ record { reports = reports; event = event; cause = Memory } }
+{
+    RunRefusal {
+        reports,
+        event,
+        cause: RunCause::Memory,
+    }
+}
+
+/// The answers to a list of tags, over selectors. The limiter's usage at the end is as before.
+///
+/// Items of the open list are charged for `item_bytes` each. With `enable_esi_tags` the names of ESI are void. (For now nothing
+/// is charged, every start tag is one of HTML, ESI is off, and no tries are counted.)
+///
+/// # Errors
+/// `Memory` where memory was refused, with the reports of the tags before.
+pub fn match_events(
+    alloc: Global,
+    ast: &Ast,
+    item_bytes: usize,
+    enable_esi_tags: bool,
+    events: &[TagEvent],
+    limiter: &mut SharedMemoryLimiter,
+) -> Result<Vec<TagReport>, RunRefusal>
+    requires item_bytes { 1 ≤ item_bytes }
+    requires ranges { All HasRangesInside events.now }
+    requires no_esi { enable_esi_tags ≡ false }
+    requires html { All IsPlainHtml events.now }
+    ensures ok { IfOk result (λ reports. (nodes : List Path) → AreNodes (pairs_of ast.now) nodes
+        → map answer_of reports.items ≡ map without_tries (answers (selectors ast.now nodes) enable_esi_tags (map event_of events.now))) }
+
+    // A refused run answers what came before the refused event, and memory is the one cause.
+    ensures refused { IfErr result (λ refusal. (nodes : List Path) → AreNodes (pairs_of ast.now) nodes
+        → map answer_of refusal.reports.items ≡ map without_tries (answers (selectors ast.now nodes) enable_esi_tags (map event_of (take refusal.event events.now)))) }
+    ensures event { IfErr result (λ refusal. (refusal.event ≡ 0) ⊎ (refusal.event < length events.now)) }
+    ensures cause { IfErr result (λ refusal. refusal.cause ≡ Memory) }
+    ensures usage { limiter.new ≡ limiter.old }
+{
+    let mut elements = Vec::new(alloc);
+    let mut reports = Vec::new(alloc);
+    for (number, event) in events.iter().enumerate() {
+        let Ok(report) = answer(alloc, ast, &mut elements, number, event) else {
+            return Err(refused(reports, number));
+        };
+        if reports.push(report).is_err() {
+            return Err(refused(reports, number));
+        }
+    }
+    Ok(reports)
+}
+
+/// Answers one event.
+fn answer<'i>(
+    alloc: Global,
+    ast: &Ast,
+    elements: &mut Vec<OpenElement<'i>>,
+    number: usize,
+    event: &TagEvent<'i>,
+) -> Result<TagReport, AllocError>
+    requires { IsPlainHtml event.now }
+    ensures answer { IfOk result (λ told. (nodes : List Path) (d : Document) → AreNodes (pairs_of ast.now) nodes → Stands elements.old.items d
+        → answer_of told ≡ without_tries (answer (selectors ast.now nodes) false d (event_of event.now))) }
+    ensures stands { OnOk result ((nodes : List Path) (d : Document) → AreNodes (pairs_of ast.now) nodes → Stands elements.old.items d → d.events ≡ number
+        → Stands elements.new.items (after (selectors ast.now nodes) false d (event_of event.now))) }
+{
+    match event {
+        TagEvent::Start { name, .. } => {
+            let matched = start(alloc, ast, elements, number, name)?;
+            Ok(TagReport::Started {
+                matched,
+                asked: false,
+                tries: Tries::new(),
+            })
+        }
+        TagEvent::End { name } => {
+            let closed = close(alloc, elements, name)?;
+            Ok(TagReport::Ended { closed })
+        }
+    }
+}
+
+/// Reports a start tag, and opens its element if it has content.
+fn start<'i>(
+    alloc: Global,
+    ast: &Ast,
+    elements: &mut Vec<OpenElement<'i>>,
+    number: usize,
+    name: &'i [u8],
+) -> Result<Vec<MatchInfo>, AllocError>
+    ensures report { IfOk result (λ matched. (nodes : List Path) (d : Document) (tag : StartTag) → IsNamed name.now tag → Stands elements.old.items d
+        → map match_of matched.items ≡ report (selectors ast.now nodes) false (element_of d tag) d.open_elements) }
+    ensures stands { OnOk result ((d : Document) (tag : StartTag) → IsNamed name.now tag → Stands elements.old.items d → d.events ≡ number
+        → Stands elements.new.items (after_start d tag (has_content false tag))) }
+{
+    let with_content = !is_void(name);
+    let ids = matching(alloc, ast.pairs(), name, elements)?;
+    let matched = infos_of(alloc, &ids, with_content)?;
+    if with_content {
+        elements.push(OpenElement { name, number })?;
+    }
+    Ok(matched)
+}
+
+/// The ids of the selectors that match, ascending.
+fn matching(
+    alloc: Global,
+    pairs: &[AstPair],
+    name: &[u8],
+    elements: &[OpenElement],
+) -> Result<Vec<MatchId>, AllocError>
+    ensures { IfOk result (λ ids. ids.items ≡ matching_ids (map pair_of pairs.now) (bare name.now) (bare_open elements.now)) }
+{
+    let mut ids = Vec::new(alloc);
+    for pair in pairs {
+        if path_matches(&pair.first, &pair.rest, name, elements) {
+            insert_id(&mut ids, pair.match_id)?;
+        }
+    }
+    Ok(ids)
+}
+
+/// Puts an id into an ascending list, unless it is there.
+fn insert_id(ids: &mut Vec<MatchId>, id: MatchId) -> Result<(), AllocError>
+    ensures { OnOk result (ids.new.items ≡ with_number id ids.old.items) }
+{
+    for place in 0..ids.len() {
+        if id < ids[place] {
+            ids.insert(place, id)?;
+            return Ok(());
+        }
+        if id == ids[place] {
+            return Ok(());
+        }
+    }
+    ids.push(id)?;
+    Ok(())
+}
+
+fn infos_of(
+    alloc: Global,
+    ids: &[MatchId],
+    with_content: bool,
+) -> Result<Vec<MatchInfo>, AllocError>
+    ensures { IfOk result (λ infos. map match_of infos.items ≡ map (λ id. record { id = id; with_content = with_content }) ids.now) }
+{
+    let mut infos = Vec::new(alloc);
+    for id in ids {
+        infos.push(MatchInfo {
+            match_id: *id,
+            with_content,
+        })?;
+    }
+    Ok(infos)
+}
+
+/// Closes the last open element of a name and all inside it, and gives their numbers, the outermost first.
+fn close(
+    alloc: Global,
+    elements: &mut Vec<OpenElement>,
+    name: &[u8],
+) -> Result<Vec<usize>, AllocError>
+    ensures closed { IfOk result (λ numbers. (d : Document) → Stands elements.old.items d → numbers.items ≡ closed name.now d) }
+    ensures stands { OnOk result ((d : Document) → Stands elements.old.items d → Stands elements.new.items (after_end d name.now)) }
+{
+    let Some(back) = last_place(elements, name) else {
+        return Ok(Vec::new(alloc));
+    };
+    let place = elements.len() - 1 - back;
+    let numbers = numbers_of(alloc, &elements[place..])?;
+    elements.truncate(place);
+    Ok(numbers)
+}
+
+/// How many open elements stand inside the last one of this name.
+fn last_place(elements: &[OpenElement], name: &[u8]) -> Option<usize>
+    ensures value { result ≡ position (λ e. names.same_name e.name.now name.now) (reverse elements.now) }
+    ensures within { IfSome result (λ back. back < length elements.now) }
+{
+    elements
+        .iter()
+        .rev()
+        .position(|e| e.name.eq_ignore_ascii_case(name))
+}
+
+fn numbers_of(alloc: Global, elements: &[OpenElement]) -> Result<Vec<usize>, AllocError>
+    ensures { IfOk result (λ numbers. numbers.items ≡ map (λ e. e.number) elements.now) }
+{
+    elements.iter().map(|e| e.number).collect(alloc)
+}
