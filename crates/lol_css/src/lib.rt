@@ -2,7 +2,14 @@
 #![tactic(auto)]
 
 mod error;
+pub mod laws;
+mod parser;
 mod selector;
+#[cfg(test)]
+mod tests;
 
 pub use error::SelectorError;
-pub use selector::{Combinator, ComplexSelector, Compound, CssString, SelectorList, SimpleSelector};
+pub use parser::{Selector, SelectorsParser};
+pub use selector::{
+    Combinator, ComplexSelector, Compound, CssString, SelectorList, SimpleSelector,
+};
