@@ -1,2 +1,3 @@
 pub mod CaselessAttributes
+pub mod Reading
 pub mod Trees

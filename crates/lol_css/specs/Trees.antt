@@ -7,11 +7,12 @@ use Rattle.lol_css.specs.declared.selector.ComplexSelector.{ComplexSelector}
 use Rattle.lol_css.specs.declared.selector.SelectorList.{SelectorList}
 use Rattle.lol_css.specs.declared.parser.Selector.{Selector}
 
--- A complex selector: its first compound selector, then the others, each behind its combinator (Selectors 4, section 3.1).
+-- A complex selector: its first compound selector, then the others, each behind its combinator (Selectors 4, "Structure and Terminology").
 pub record Complex : Type 0 where
   pub first : List SimpleSelector
   pub rest : List (Combinator × List SimpleSelector)
 
+-- a compound behind its combinator
 abbrev pub shown_step : Combinator × Compound → Combinator × List SimpleSelector
 shown_step step = (step.0, step.1.parts.items)
 

@@ -1,12 +1,15 @@
 //! Selectors as trees.
 
 ghost use Rattle.std.specs.Prelude.{◌≡◌, IfOk, string_bytes};
+ghost use Rattle.std.specs.Cmp.{partial_equiv_from_equiv};
+ghost use Rattle.std.specs.Cmp.Lexicographic.{nat_list_eq_equiv};
+ghost use Rattle.std.specs.Str.{bytes_eq};
 
 use std::alloc::{AllocError, Global};
 use std::marker::Model;
 
 /// A text of a selector: a name or a value.
-#[derive(Drop)]
+#[derive(Debug, Drop)]
 pub struct CssString {
     text: String,
 }
@@ -17,6 +20,20 @@ impl Model for CssString {
     ghost Value = { List ℕ };
 
     ghost view = { λ s. string_bytes s.text };
+}
+
+impl PartialEq for CssString {
+    ghost eq = { bytes_eq };
+
+    ghost laws = { partial_equiv_from_equiv nat_list_eq_equiv };
+
+    fn eq(&self, other: &CssString) -> bool {
+        self.text == other.text
+    }
+}
+
+impl Eq for CssString {
+    ghost laws = { nat_list_eq_equiv };
 }
 
 impl CssString {
@@ -33,7 +50,7 @@ impl CssString {
     pub fn to_boxed_slice(&self, alloc: Global) -> Result<String, AllocError>
         ensures { IfOk result (λ s. string_bytes s ≡ self.now) }
     {
-        String::from_str(alloc, self.text.as_str())
+        String::from_str(alloc, self.as_str())
     }
 
     /// The text.
@@ -77,27 +94,27 @@ pub enum ParsedCaseSensitivity {
 }
 
 /// A part of a compound.
-#[derive(Drop)]
+#[derive(Debug, PartialEq, Eq, Drop)]
 pub enum SimpleSelector {
     LocalName(CssString),
     ExplicitUniversalType,
 }
 
 /// Parts that one element has to have, in written order (Selectors 4, "Structure and Terminology").
-#[derive(Drop)]
+#[derive(Debug, PartialEq, Eq, Drop)]
 pub struct Compound {
     pub parts: Vec<SimpleSelector>,
 }
 
 /// Compounds, each a step from the one before it (Selectors 4, "Structure and Terminology").
-#[derive(Drop)]
+#[derive(Debug, PartialEq, Eq, Drop)]
 pub struct ComplexSelector {
     pub first: Compound,
     pub rest: Vec<(Combinator, Compound)>,
 }
 
 /// The items of a list, in written order (Selectors 4, "Selector Lists").
-#[derive(Drop)]
+#[derive(Debug, PartialEq, Eq, Drop)]
 pub struct SelectorList {
     pub items: Vec<ComplexSelector>,
 }

@@ -1,4 +1,6 @@
 //! Runs a script of selectors and tags.
 #![tactic(auto)]
 
+mod device;
+
 fn main() {}
