@@ -1,0 +1,233 @@
+-- Codes of names, and the names of codes.
+use Rattle.std.proofs.Common.{◌≡◌, ◌≢◌, ◌∙◌, sym, ap, refl, ℕ, zero, suc, ◌+◌, ◌-◌, ◌*◌, ◌/◌, ◌%◌, ◌^◌, ◌<◌, ◌≤◌, Bool, true, false, not, ◌&&◌, nat_eq, nat_lt, List, [], ◌∷◌, ◌++◌, length, fold, Option, Some, None, is_some, get_or, arith, add-zero, true≢false}
+use Rattle.std.specs.List.{list_all}
+use Rattle.std.specs.Bool.{Decides, ◌==◌, if◌then◌else◌}
+use Rattle.std.specs.Char.{to_ascii_lowercase}
+use Rattle.std.specs.Option.{option_eq}
+use Rattle.std.specs.Cmp.{unsigned_Decides}
+use Rattle.std.proofs.lemmas.List.{append-nil, length-map}
+use Rattle.std.proofs.lemmas.Nat.{pow-add}
+use Rattle.std.proofs.Math.Nat.{pow-le-pow_right}
+use Rattle.std.proofs.lemmas.Bool.Decides.{nat_tests}
+use Rattle.lol_base.specs.LocalNames.{is_hash_byte, is_hash, five_bits, bits_of, with_byte, name_code, local_name}
+use Rattle.lol_base.specs.Names.{lowercased}
+use Rattle.lol_base.specs.declared.local_name.Kept.TheVariants.{Hash}
+use Rattle.lol_base.specs.Kept.{byte_of, bytes_before, name_of_code, spelled_name, name_of, IsKeptRight}
+
+-- ---- one byte
+
+left_of : (a b : Bool) → (a && b) ≡ true → a ≡ true
+left_of true b both = refl
+left_of false b both = both
+
+right_of : (a b : Bool) → (a && b) ≡ true → b ≡ true
+right_of true b both = both
+right_of false b both = absurd (true≢false (sym both))
+
+pub five_bits-lt : (b : ℕ) → is_hash_byte b ≡ true → five_bits b < 32
+five_bits-lt b is = grind (arith, nat_tests)
+
+byte_of-five_bits : (b : ℕ) → is_hash_byte b ≡ true → byte_of (five_bits b) ≡ b
+byte_of-five_bits b is = grind (arith, nat_tests)
+
+five_bits-zero : (b : ℕ) → is_hash_byte b ≡ true → b ≢ 49 → 0 < five_bits b
+five_bits-zero b is other = grind (arith, nat_tests)
+
+-- ---- a code's bytes
+
+module _ (b : ℕ) (is : is_hash_byte b ≡ true) where
+  -- the last byte of a code is the one that was put behind
+  last_byte : (n code : ℕ) (others : List ℕ) → 0 < with_byte code b → bytes_before (suc n) (with_byte code b) others ≡ bytes_before n code (b ∷ others)
+  last_byte n code others some =
+      let small = five_bits-lt b is in
+      let some_code : nat_eq (with_byte code b) 0 ≡ false = grind (arith, nat_tests) in
+      let front : with_byte code b / 32 ≡ code = omega arith in
+      let last : with_byte code b % 32 ≡ five_bits b = omega arith in
+      rw (some_code, front, last, byte_of-five_bits b is) refl
+
+no_code : (n : ℕ) (others : List ℕ) → bytes_before n 0 others ≡ others
+no_code zero others = refl
+no_code (suc n) others = refl
+
+behind : (code b : ℕ) → 0 < code → 0 < with_byte code b
+behind code b some = omega arith
+
+decoded : (bs : List ℕ) (n code : ℕ) (others : List ℕ) → list_all is_hash_byte bs ≡ true → 0 < code
+    → bytes_before (n + length bs) (fold with_byte code bs) others ≡ bytes_before n code (bs ++ others)
+decoded [] n code others hashed some = ap (λ k. bytes_before k code others) (add-zero n)
+decoded (b ∷ bs) n code others hashed some =
+    let more : n + suc (length bs) ≡ suc n + length bs = omega arith in
+    let front = behind code b some in
+    ap (λ k. bytes_before k (fold with_byte (with_byte code b) bs) others) more
+    ∙ (decoded bs (suc n) (with_byte code b) others (right_of (is_hash_byte b) (list_all is_hash_byte bs) hashed) front
+    ∙ last_byte b (left_of (is_hash_byte b) (list_all is_hash_byte bs) hashed) n code (bs ++ others) front)
+
+all_decoded : (b : ℕ) (bs : List ℕ) (n : ℕ) → list_all is_hash_byte (b ∷ bs) ≡ true → b ≢ 49
+    → bytes_before (n + suc (length bs)) (fold with_byte 0 (b ∷ bs)) [] ≡ b ∷ bs
+all_decoded b bs n hashed other =
+    let first = left_of (is_hash_byte b) (list_all is_hash_byte bs) hashed in
+    let some : 0 < with_byte 0 b = omega (arith, five_bits-zero b first other) in
+    let more : n + suc (length bs) ≡ suc n + length bs = omega arith in
+    ap (λ k. bytes_before k (fold with_byte (with_byte 0 b) bs) []) more
+    ∙ (decoded bs (suc n) (with_byte 0 b) [] (right_of (is_hash_byte b) (list_all is_hash_byte bs) hashed) some
+    ∙ (last_byte b first n 0 (bs ++ []) some ∙ (no_code n (b ∷ (bs ++ [])) ∙ append-nil (b ∷ bs))))
+
+-- ---- names that have a code
+
+pub name_code-hash : (name : List ℕ) → is_hash name ≡ true → name_code name ≡ Some (fold with_byte 0 name)
+unfolding name_code
+name_code-hash name is = rw is refl
+
+pub name_code-none : (name : List ℕ) → is_hash name ≡ false → name_code name ≡ None
+unfolding name_code
+name_code-none name is = rw is refl
+
+-- a name has a code exactly if it is a hash, and then it is the fold
+pub hash_of_code : (name : List ℕ) (code : ℕ) → name_code name ≡ Some code → (is_hash name ≡ true) × (fold with_byte 0 name ≡ code)
+unfolding name_code
+hash_of_code name code is =
+    elim (is_hash name) as (λ h. is_hash name ≡ h → (is_hash name ≡ true) × (fold with_byte 0 name ≡ code)) [
+      | true ↦ λ hash. (hash, let e : Some (fold with_byte 0 name) ≡ Some code = sym (name_code-hash name hash) ∙ is in cc)
+      | false ↦ λ none. absurd (let e : None ≡ Some code = sym (name_code-none name none) ∙ is in cc)
+    ] refl
+
+name_of_code-is : (code : ℕ) → name_of_code code ≡ bytes_before 12 code []
+unfolding name_of_code
+name_of_code-is code = refl
+
+pub name_of_code-name_code : (name : List ℕ) (code : ℕ) → name_code name ≡ Some code → name_of_code code ≡ name
+name_of_code-name_code [] code is = absurd (true≢false (sym (hash_of_code [] code is).0))
+name_of_code-name_code (b ∷ bs) code is =
+    let h = hash_of_code (b ∷ bs) code is in
+    let hashed = right_of (not (nat_eq b 49) && nat_lt (length bs) 12) (list_all is_hash_byte (b ∷ bs)) h.0 in
+    let front = left_of (not (nat_eq b 49) && nat_lt (length bs) 12) (list_all is_hash_byte (b ∷ bs)) h.0 in
+    let first = left_of (not (nat_eq b 49)) (nat_lt (length bs) 12) front in
+    let short = right_of (not (nat_eq b 49)) (nat_lt (length bs) 12) front in
+    let other : b ≢ 49 = λ e. grind (arith, nat_tests) in
+    let few : length bs < 12 = grind (arith, nat_tests) in
+    let n : ℕ = 11 - length bs in
+    let all : n + suc (length bs) ≡ 12 = omega arith in
+    name_of_code-is code
+    ∙ (ap (λ k. bytes_before k code []) (sym all)
+    ∙ (ap (λ c. bytes_before (n + suc (length bs)) c []) (sym h.1) ∙ all_decoded b bs n hashed other))
+
+-- ---- codes are small
+
+pub code_bound : (code bits k : ℕ) → code < 32 ^ k → bits < 32 → code * 32 + bits < 32 ^ (k + 1)
+code_bound code bits k small few =
+    let next : 32 ^ (k + 1) ≡ 32 ^ k * 32 = pow-add 32 k 1 in
+    omega arith
+
+pub code_fits : (code k : ℕ) → code < 32 ^ k → k < 12 → code < 2 ^ 55
+code_fits code k small few =
+    let most : 32 ^ k ≤ 32 ^ 11 = pow-le-pow_right {n = 32} (omega arith) {i = k} {j = 11} (omega arith) in
+    omega (arith, most)
+
+pub is_some-name_code : (name : List ℕ) → is_some (name_code name) ≡ is_hash name
+is_some-name_code name =
+    elim (is_hash name) as (λ h. is_hash name ≡ h → is_some (name_code name) ≡ h) [
+      | true ↦ λ hash. ap is_some (name_code-hash name hash)
+      | false ↦ λ none. ap is_some (name_code-none name none)
+    ] refl
+
+-- names that have codes are the same exactly if their codes are
+pub codes_decide : (name other : List ℕ) (a b : ℕ) → name_code name ≡ Some a → name_code other ≡ Some b → Decides (a == b) (name ≡ other)
+codes_decide name other a b is is' = (
+  λ e. sym (name_of_code-name_code name a is) ∙ (ap name_of_code ((unsigned_Decides a b).0 e) ∙ name_of_code-name_code other b is'),
+  λ e. (unsigned_Decides a b).1 (let same : Some a ≡ Some b = sym is ∙ (ap name_code e ∙ is') in cc),
+)
+
+-- ---- from spelled bytes
+
+all_false : (a b : Bool) → b ≡ false → (a && b) ≡ false
+all_false true b is = is
+all_false false b is = refl
+
+all_false_left : (a b : Bool) → a ≡ false → (a && b) ≡ false
+all_false_left true b is = absurd (true≢false is)
+all_false_left false b is = refl
+
+both_true : (a b : Bool) → a ≡ true → b ≡ true → (a && b) ≡ true
+both_true true b is is' = is'
+both_true false b is is' = is
+
+-- a byte's lower case is the digit 1 only if the byte is
+one_from_lower : (b : ℕ) → to_ascii_lowercase b ≡ 49 → b ≡ 49
+one_from_lower b is = grind (arith, nat_tests)
+
+pub bits_of-lt : (b bits : ℕ) → bits_of b ≡ Some bits → bits < 32
+bits_of-lt b bits is =
+    elim (is_hash_byte b) as (λ h. is_hash_byte b ≡ h → (if h then Some (five_bits b) else None) ≡ Some bits → bits < 32) [
+      | true ↦ λ hash e. let same : five_bits b ≡ bits = cc in omega (arith, five_bits-lt b hash)
+      | false ↦ λ none e. absurd (cc)
+    ] refl is
+
+bits_of-none : (b : ℕ) → bits_of b ≡ None → is_hash_byte b ≡ false
+bits_of-none b is =
+    elim (is_hash_byte b) as (λ h. (if h then Some (five_bits b) else None) ≡ None → h ≡ false) [
+      | true ↦ λ e. absurd (cc)
+      | false ↦ λ e. refl
+    ] is
+
+pub no_code_if_empty : (bs : List ℕ) → (length bs == 0) ≡ true → name_code (lowercased bs) ≡ None
+no_code_if_empty [] empty = name_code-none [] refl
+no_code_if_empty (b ∷ bs) empty = let none : suc (length bs) ≡ 0 = (unsigned_Decides (suc (length bs)) 0).0 empty in absurd (omega arith)
+
+pub no_code_if_long : (bs : List ℕ) → 12 < length bs → name_code (lowercased bs) ≡ None
+no_code_if_long [] long = absurd (omega arith)
+no_code_if_long (b ∷ bs) long =
+    let len : length (lowercased bs) ≡ length bs = length-map bs to_ascii_lowercase in
+    let far : nat_lt (length (lowercased bs)) 12 ≡ false = grind (arith, nat_tests) in
+    name_code-none (lowercased (b ∷ bs))
+    (all_false_left (not (to_ascii_lowercase b == 49) && nat_lt (length (lowercased bs)) 12) (list_all is_hash_byte (lowercased (b ∷ bs)))
+    (all_false (not (to_ascii_lowercase b == 49)) (nat_lt (length (lowercased bs)) 12) far))
+
+pub no_code_if_one : (bs : List ℕ) → get_or bs 0 0 ≡ 49 → name_code (lowercased bs) ≡ None
+no_code_if_one [] first = absurd (omega arith)
+no_code_if_one (b ∷ bs) first =
+    name_code-none (lowercased (b ∷ bs))
+    (all_false_left (not (to_ascii_lowercase b == 49) && nat_lt (length (lowercased bs)) 12) (list_all is_hash_byte (lowercased (b ∷ bs)))
+    (all_false_left (not (to_ascii_lowercase b == 49)) (nat_lt (length (lowercased bs)) 12) (rw first refl)))
+
+other_byte : (bs : List ℕ) (i : ℕ) → i < length bs → is_hash_byte (to_ascii_lowercase (get_or bs i 0)) ≡ false → list_all is_hash_byte (lowercased bs) ≡ false
+other_byte [] i within other = absurd (omega arith)
+other_byte (b ∷ bs) zero within other = all_false_left (is_hash_byte (to_ascii_lowercase b)) (list_all is_hash_byte (lowercased bs)) other
+other_byte (b ∷ bs) (suc i) within other =
+    all_false (is_hash_byte (to_ascii_lowercase b)) (list_all is_hash_byte (lowercased bs)) (other_byte bs i (omega arith) other)
+
+pub no_code_if_other : (bs : List ℕ) (i : ℕ) → i < length bs → bits_of (to_ascii_lowercase (get_or bs i 0)) ≡ None → name_code (lowercased bs) ≡ None
+no_code_if_other [] i within none = absurd (omega arith)
+no_code_if_other (b ∷ bs) i within none =
+    let other = other_byte (b ∷ bs) i within (bits_of-none (to_ascii_lowercase (get_or (b ∷ bs) i 0)) none) in
+    name_code-none (lowercased (b ∷ bs)) (all_false (not (to_ascii_lowercase b == 49) && nat_lt (length (lowercased bs)) 12) (list_all is_hash_byte (lowercased (b ∷ bs))) other)
+
+pub code_if_hashed : (bs : List ℕ) → 0 < length bs → length bs ≤ 12 → get_or bs 0 0 ≢ 49 → list_all is_hash_byte (lowercased bs) ≡ true
+    → name_code (lowercased bs) ≡ Some (fold with_byte 0 (lowercased bs))
+code_if_hashed [] some few other hashed = absurd (omega arith)
+code_if_hashed (b ∷ bs) some few other hashed =
+    let len : length (lowercased bs) ≡ length bs = length-map bs to_ascii_lowercase in
+    let near : nat_lt (length (lowercased bs)) 12 ≡ true = grind (arith, nat_tests) in
+    let differs : to_ascii_lowercase b ≢ 49 = λ e. other (one_from_lower b e) in
+    let first : not (to_ascii_lowercase b == 49) ≡ true = grind (arith, nat_tests) in
+    name_code-hash (lowercased (b ∷ bs))
+    (both_true (not (to_ascii_lowercase b == 49) && nat_lt (length (lowercased bs)) 12) (list_all is_hash_byte (lowercased (b ∷ bs)))
+    (both_true (not (to_ascii_lowercase b == 49)) (nat_lt (length (lowercased bs)) 12) first near) hashed)
+
+-- ---- what a name is kept as
+
+pub hash_kept : (bs : List ℕ) (code : ℕ) → name_code (lowercased bs) ≡ Some code → IsKeptRight (Hash code) × (name_of (Hash code) ≡ local_name bs)
+hash_kept bs code is =
+    let name = name_of_code-name_code (lowercased bs) code is in
+    let hash = (hash_of_code (lowercased bs) code is).0 in
+    (ap name_code name ∙ is, rw (name, hash) refl)
+
+pub spelled_kept : (bs : List ℕ) → name_code (lowercased bs) ≡ None → spelled_name bs ≡ local_name bs
+spelled_kept bs is =
+    let none : is_hash (lowercased bs) ≡ false = sym (is_some-name_code (lowercased bs)) ∙ ap is_some is in
+    rw none refl
+
+-- a test of codes tells whether a name is one that has a code
+pub code_tells : (found : Option ℕ) (name other : List ℕ) (code : ℕ) → found ≡ name_code name → name_code other ≡ Some code
+    → Decides (option_eq ◌==◌ found (Some code)) (name ≡ other)
+code_tells None name other code is is' = (λ e. absurd (true≢false (sym e)), λ e. absurd (let none : None ≡ Some code = is ∙ (ap name_code e ∙ is') in cc))
+code_tells (Some a) name other code is is' = codes_decide name other a code (sym is) is'

@@ -1,0 +1,8 @@
+use Rattle.std.proofs.Common.{◌≡◌, take, map}
+use Rattle.std.specs.List.{fold, flat_map}
+use Rattle.std.specs.Hash as fed
+use Rattle.std.specs.Char.{to_ascii_lowercase}
+use Rattle.lol_base.proofs.local_name.LocalNameHash.hash.Given as goal
+
+abbrev pub invariant-loop-byte : goal.invariant-loop-byte
+invariant-loop-byte g l = l.state ≡ fold g.H.Hasher.write l.initial.state (flat_map fed.u8 (map to_ascii_lowercase (take l.byte-index l.bytes)))

@@ -1,0 +1,192 @@
+//! Names of elements.
+
+ghost use Rattle.std.specs.Prelude.{◌≡◌, ◌↔◌, IsTrue, IsSome, IsNone, IfSome, IfOk, IsOk, length};
+ghost use Rattle.std.specs.Option.{option_copied};
+ghost use Rattle.std.specs.Char.{to_ascii_lowercase};
+ghost use Rattle.lol_base.specs.Names.{lowercased};
+ghost use Rattle.lol_base.specs.LocalNames.{name_code, local_name, bits_of};
+
+use crate::tag::Tag;
+use std::alloc::{AllocError, Global};
+use std::hash::{Hash, Hasher};
+use std::marker::Model;
+
+/// The greatest number of bytes of a name that is a hash.
+const MAX_HASH_LEN: usize = 12;
+
+/// A name of an element, which is known by its bytes without ASCII case (the crate's `LocalName`). A name of 1 to 12 ASCII letters and
+/// digits from 1 to 6 that doesn't begin with 1 is a hash: it is kept as one number and takes no memory. Any other keeps its bytes as
+/// they are spelled.
+#[derive(Drop)]
+pub struct LocalName<'i> {
+    kept: Kept<'i>,
+}
+
+#[derive(Drop)]
+enum Kept<'i> {
+    Hash(u64),
+    Borrowed(&'i [u8]),
+    Owned(Vec<u8>),
+}
+
+impl<'i> Model for LocalName<'i> {
+    ghost use Rattle.lol_base.specs.LocalNames.{Name};
+
+    ghost Value = { Name };
+
+    ghost use Rattle.lol_base.specs.Kept.{name_of, IsKeptRight};
+
+    ghost view = { λ n. name_of n.kept };
+
+    ghost invariant = { λ n. IsKeptRight n.kept };
+}
+
+impl<'i> LocalName<'i> {
+    ghost use Rattle.lol_base.specs.Tags.{tag_name};
+
+    /// The name that these bytes spell. It borrows them where it isn't a hash, and takes no memory.
+    pub fn new(bytes: &'i [u8]) -> Self
+        ensures { result ≡ local_name bytes.now }
+    {
+        let kept = match code_of(bytes) {
+            Some(code) => Kept::Hash(code),
+            None => Kept::Borrowed(bytes),
+        };
+        LocalName { kept }
+    }
+
+    /// The code of a hash: five bits for each byte, the first byte highest; 0 to 5 stand for the digits 1 to 6, and 6 to 31 for the letters.
+    pub fn code(&self) -> Option<u64>
+        ensures { result ≡ name_code self.now.lowercased }
+    {
+        match &self.kept {
+            Kept::Hash(code) => Some(*code),
+            Kept::Borrowed(_) | Kept::Owned(_) => None,
+        }
+    }
+
+    /// The bytes as they were spelled, where the name isn't a hash.
+    pub fn spelling(&self) -> Option<&[u8]>
+        ensures value { option_copied result ≡ self.now.spelling }
+        ensures hash { IsNone result ↔ IsSome (name_code self.now.lowercased) }
+        ensures spelled { IfSome self.now.spelling (λ bytes. lowercased bytes ≡ self.now.lowercased) }
+    {
+        match &self.kept {
+            Kept::Hash(_) => None,
+            Kept::Borrowed(bytes) => Some(*bytes),
+            Kept::Owned(bytes) => Some(bytes.as_slice()),
+        }
+    }
+
+    /// Whether this is the tag's name.
+    pub fn is_tag(&self, tag: Tag) -> bool
+        ensures { IsTrue result ↔ (self.now.lowercased ≡ tag_name tag) }
+    {
+        self.code() == Some(tag.code())
+    }
+
+    /// The same name, which borrows nothing. A hash, and a name that owns its bytes, takes no memory.
+    pub fn into_owned(self, alloc: Global) -> Result<LocalName<'static>, AllocError>
+        ensures same { IfOk result (λ name. name ≡ self.entry) }
+        ensures free { IsNone self.entry.spelling → IsOk result }
+    {
+        let LocalName { kept } = self;
+        let kept = match kept {
+            Kept::Hash(code) => Kept::Hash(code),
+            Kept::Borrowed(bytes) => Kept::Owned(bytes.to_vec(alloc)?),
+            Kept::Owned(bytes) => Kept::Owned(bytes),
+        };
+        Ok(LocalName { kept })
+    }
+
+    /// The same name once more, which borrows nothing (for Rust's `Clone`). A hash takes no memory.
+    pub fn try_clone(&self, alloc: Global) -> Result<LocalName<'static>, AllocError>
+        ensures same { IfOk result (λ name. name ≡ self.now) }
+        ensures free { IsNone self.now.spelling → IsOk result }
+    {
+        let kept = match &self.kept {
+            Kept::Hash(code) => Kept::Hash(*code),
+            Kept::Borrowed(bytes) => Kept::Owned(bytes.to_vec(alloc)?),
+            Kept::Owned(bytes) => Kept::Owned(bytes.as_slice().to_vec(alloc)?),
+        };
+        Ok(LocalName { kept })
+    }
+}
+
+impl<'i> PartialEq for LocalName<'i> {
+    ghost use Rattle.lol_base.specs.LocalNames.{same_local_name};
+    ghost use Rattle.lol_base.specs.NameLaws.{same_local_name_partial};
+
+    ghost eq = { same_local_name };
+
+    ghost laws = { same_local_name_partial };
+
+    fn eq(&self, other: &LocalName<'i>) -> bool {
+        match (self.code(), other.code()) {
+            (Some(code), Some(other_code)) => code == other_code,
+            (None, None) => spelled(self).eq_ignore_ascii_case(spelled(other)),
+            _ => false,
+        }
+    }
+}
+
+impl<'i> Eq for LocalName<'i> {
+    ghost use Rattle.lol_base.specs.NameLaws.{same_local_name_equivalence};
+
+    ghost laws = { same_local_name_equivalence };
+}
+
+impl<'i> Hash for LocalName<'i> {
+    ghost use Rattle.lol_base.specs.LocalNames.{name_writes};
+    ghost use Rattle.lol_base.specs.NameLaws.{name_writes_alike};
+
+    ghost hash_input = { name_writes };
+
+    ghost respects_eq = { name_writes_alike };
+
+    fn hash<H: Hasher>(&self, state: &mut H) {
+        match self.code() {
+            Some(code) => code.hash(state),
+            None => {
+                let bytes = spelled(self);
+                bytes.len().hash(state);
+                for byte in bytes {
+                    byte.to_ascii_lowercase().hash(state);
+                }
+            }
+        }
+    }
+}
+
+/// The bytes of a name that isn't a hash.
+fn spelled<'s>(name: &'s LocalName<'_>) -> &'s [u8]
+    ensures { IsNone (name_code name.now.lowercased) → lowercased result.now ≡ name.now.lowercased }
+{
+    name.spelling().unwrap_or(&[])
+}
+
+/// The code of the name that these bytes spell, if it is a hash.
+fn code_of(bytes: &[u8]) -> Option<u64>
+    ensures { result ≡ name_code (lowercased bytes.now) }
+{
+    if bytes.is_empty() || bytes.len() > MAX_HASH_LEN || bytes[0] == b'1' {
+        return None;
+    }
+    let mut code = 0;
+    for byte in bytes {
+        code = code * 32 + five_bits(*byte)?;
+    }
+    Some(code)
+}
+
+/// The five bits of a byte of a hash.
+fn five_bits(byte: u8) -> Option<u64>
+    ensures { result ≡ bits_of (to_ascii_lowercase byte) }
+{
+    match byte {
+        b'1'..=b'6' => Some(u64::from(byte - b'1')),
+        b'a'..=b'z' => Some(u64::from(byte - b'a' + 6)),
+        b'A'..=b'Z' => Some(u64::from(byte - b'A' + 6)),
+        _ => None,
+    }
+}

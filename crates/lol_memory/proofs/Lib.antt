@@ -1,0 +1,4 @@
+pub mod WordsLemmas
+pub mod IterLemmas
+pub mod DrainLemmas
+pub mod LawLemmas

@@ -1,0 +1,54 @@
+-- Sets of ids, as contracts see them.
+use Rattle.std.specs.Prelude.{◌≡◌, ◌<◌, ◌≤◌, ◌⊎◌, ℕ, Bool, true, List, [], ◌∷◌}
+use Rattle.std.specs.Ordering.{nat_cmp}
+use Rattle.std.specs.Str.{bytes_eq}
+use Rattle.std.specs.Coded.{Coded, coded_ℕ}
+use base.Stored.{coded_unit}
+use Rattle.std.specs.FinMap as map
+
+-- a set of ids
+abbrev pub Ids : Type 0
+Ids = map.FinMap nat_cmp (Unit {0})
+
+abbrev pub ids_code : Coded Ids
+ids_code = map.code coded_ℕ coded_unit
+
+abbrev pub no_ids : Ids
+no_ids = map.empty
+
+-- whether the set has the id
+abbrev pub has : Ids → ℕ → Bool
+has s q = map.contains_key s q
+
+-- the set with one id more
+abbrev pub with_id : Ids → ℕ → Ids
+with_id s q = map.insert s q tt
+
+-- the set with the ids of a list
+abbrev pub with_ids : Ids → List ℕ → Ids
+with_ids s [] = s
+with_ids s (q ∷ qs) = with_id (with_ids s qs) q
+
+-- the ids of the set, ascending, each once
+abbrev pub ascending : Ids → List ℕ
+ascending s = map.keys s
+
+-- the ids of either set
+unfoldable pub union : Ids → Ids → Ids
+union s t = with_ids s (ascending t)
+
+-- whether the sets have the same ids
+abbrev pub same_ids : Ids → Ids → Bool
+same_ids s t = bytes_eq (ascending s) (ascending t)
+
+-- each id of the set is below 32
+abbrev pub AllSmall : Ids → Type 0
+AllSmall s = (q : ℕ) → has s q ≡ true → q < 32
+
+-- the id is below 32, or not above one that the set has: it needs no more memory than the set has already
+abbrev pub HasRoom : Ids → ℕ → Type 0
+HasRoom s q = (q < 32) ⊎ ((p : ℕ) × (has s p ≡ true) × (q ≤ p))
+
+-- each id of t has room in s
+abbrev pub HasRoomFor : Ids → Ids → Type 0
+HasRoomFor s t = (q : ℕ) → has t q ≡ true → HasRoom s q

@@ -1,0 +1,35 @@
+-- Words of 32 bits that hold ids: bit k of word j, the lowest first, stands for the id 32 * j + k.
+use Rattle.std.specs.Prelude.{◌≡◌, ◌≢◌, ℕ, zero, suc, ◌+◌, ◌-◌, ◌*◌, ◌/◌, ◌%◌, ◌^◌, ◌<◌, ◌≤◌, Bool, true, false, cond, List, [], ◌∷◌, length, get_or, nat_eq}
+use Rattle.std.specs.Int.{bit_at}
+use Rattle.lol_memory.specs.Ids.{Ids, no_ids, with_ids}
+
+-- whether the words hold the id
+unfoldable pub holds : List ℕ → ℕ → Bool
+holds ws q = nat_eq (bit_at (get_or ws (q / 32) 0) (q % 32)) 1
+
+-- those of the n ids from `from` on that the words hold, ascending
+abbrev pub ids_from : List ℕ → ℕ → ℕ → List ℕ
+ids_from ws from zero = []
+ids_from ws from (suc n) = cond (holds ws from) (from ∷ ids_from ws (from + 1) n) (ids_from ws (from + 1) n)
+
+-- the set of the ids that the words hold
+unfoldable pub ids_held : List ℕ → Ids
+ids_held ws = with_ids no_ids (ids_from ws 0 (32 * length ws))
+
+-- no more words than the ids need, and no more than u32 has ids for
+pub record IsTrim (ws : List ℕ) : Type 0 where
+  pub some : 0 < length ws
+  pub few : length ws ≤ 2 ^ 27
+  pub fit : (j : ℕ) → get_or ws j 0 < 2 ^ 32
+  pub last : 1 < length ws → get_or ws (length ws - 1) 0 ≢ 0
+
+-- the words hold no id from `from` up to `to`
+abbrev pub NoneHeld : List ℕ → ℕ → ℕ → Type 0
+NoneHeld ws from to = (q : ℕ) → from ≤ q → q < to → holds ws q ≡ false
+
+-- the first id that the words hold at or after `from`
+pub record IsFirstHeld (ws : List ℕ) (from q : ℕ) : Type 0 where
+  pub after : from ≤ q
+  pub within : q < 32 * length ws
+  pub held : holds ws q ≡ true
+  pub first : NoneHeld ws from q

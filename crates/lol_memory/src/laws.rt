@@ -1,0 +1,21 @@
+//! What holds of all sets of ids: each function takes and gives nothing, and its contract is the law.
+
+ghost use Rattle.std.specs.Prelude.{◌≡◌, ◌↔◌, ◌⊎◌, ℕ, IsTrue, false, Contains};
+ghost use Rattle.std.specs.List.Sorted.{IsStrictlyIncreasing};
+ghost use Rattle.lol_memory.specs.Ids.{Ids, no_ids, has, with_id, union, ascending, same_ids};
+
+/// Sets are equal exactly if their ascending lists are. Such a list rises strictly.
+pub fn sets_are_equal_as_their_lists()
+    ensures equal { (s t : Ids) → ((s ≡ t) ↔ (ascending s ≡ ascending t)) }
+    ensures tested { (s t : Ids) → (IsTrue (same_ids s t) ↔ (s ≡ t)) }
+    ensures rises { (s : Ids) → IsStrictlyIncreasing (ascending s) }
+{}
+
+/// What the words of a set mean: a set is known by the ids that it has.
+pub fn sets_are_known_by_their_ids()
+    ensures equal { (s t : Ids) → ((q : ℕ) → has s q ≡ has t q) → s ≡ t }
+    ensures listed { (s : Ids) (q : ℕ) → (IsTrue (has s q) ↔ Contains (ascending s) q) }
+    ensures none { (q : ℕ) → has no_ids q ≡ false }
+    ensures one_more { (s : Ids) (id q : ℕ) → (IsTrue (has (with_id s id) q) ↔ (q ≡ id) ⊎ IsTrue (has s q)) }
+    ensures joined { (s t : Ids) (q : ℕ) → (IsTrue (has (union s t) q) ↔ IsTrue (has s q) ⊎ IsTrue (has t q)) }
+{}
