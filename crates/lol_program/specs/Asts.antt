@@ -1,5 +1,5 @@
 -- What a contract sees of the selectors that were added.
-use Rattle.std.specs.Prelude.{ℕ, ◌↔◌, ◌⊎◌, List, [], ◌∷◌, map, string_bytes, Contains}
+use Rattle.std.specs.Prelude.{ℕ, ◌↔◌, ◌⊎◌, List, [], map, string_bytes, Contains}
 use Rattle.lol_css.specs.declared.selector.Combinator.{Combinator}
 use Rattle.lol_program.specs.Tests.{Signed, NameTest, AnyName, HasName}
 use Rattle.lol_program.specs.Paths.{Compound, Path, First, extended}

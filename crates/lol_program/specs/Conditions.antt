@@ -1,5 +1,5 @@
 -- From a selector's tree to a path of tests.
-use Rattle.std.specs.Prelude.{ℕ, false, List, [], ◌∷◌, map, reverse}
+use Rattle.std.specs.Prelude.{ℕ, false, List, [], map, reverse}
 use Rattle.lol_css.specs.Trees.{Complex}
 use Rattle.lol_css.specs.declared.selector.Combinator.{Combinator}
 use Rattle.lol_css.specs.declared.selector.SimpleSelector.{SimpleSelector}

@@ -1,5 +1,5 @@
 -- The nodes of pairs, as a list.
-use Rattle.std.specs.Prelude.{ℕ, Bool, if◌then◌else◌, List, [], ◌∷◌}
+use Rattle.std.specs.Prelude.{ℕ, if◌then◌else◌, List, [], ◌∷◌}
 use Rattle.std.specs.List.{list_any}
 use Rattle.lol_program.specs.Paths.{Path, Selectors, all_beginnings}
 use Rattle.lol_program.specs.Same.{same_path}

@@ -1,5 +1,5 @@
 -- A complex selector as a path: compounds, each under the one before it (Selectors 4, "Structure and Terminology").
-use Rattle.std.specs.Prelude.{ℕ, ◌≡◌, ◌≢◌, ◌↔◌, Bool, true, false, ◌&&◌, List, [], ◌∷◌, flat_map, Contains, AllPairs}
+use Rattle.std.specs.Prelude.{ℕ, ◌≢◌, ◌↔◌, Bool, true, false, ◌&&◌, List, [], ◌∷◌, flat_map, Contains, AllPairs}
 use Rattle.std.specs.List.{list_all}
 use Rattle.lol_css.specs.declared.selector.Combinator.{Combinator}
 use Rattle.lol_program.specs.Tests.{Element, Signed, NameTest, AttributeTest, name_holds, attribute_holds, signed}

@@ -1,5 +1,5 @@
 -- The order of pairs and nodes.
-use Rattle.std.proofs.Common.{◌≡◌, ℕ, ◌+◌, Bool, true, false, ◌||◌, ◌&&◌, not, cond, List, [], ◌∷◌, length, map, Contains, inl, inr, refl, sym, ap, ◌∙◌}
+use Rattle.std.proofs.Common.{◌≡◌, ℕ, Bool, true, false, ◌||◌, ◌&&◌, not, cond, List, [], ◌∷◌, length, map, inl, inr, refl, sym, ap, ◌∙◌}
 use Rattle.std.specs.Prelude.{max, nat_lt, Some, None, count_by}
 use Rattle.std.specs.List.{list_any}
 use Rattle.lol_program.specs.Tests.{Element, is_html}
@@ -8,7 +8,7 @@ use Rattle.lol_program.proofs.Members.{Among, among_from_contains, contains_from
 use Rattle.lol_vm.specs.Events.{Event, Start, End, has_content}
 use Rattle.lol_vm.specs.Documents.{Document, empty, element_of, after_start}
 use Rattle.lol_vm.specs.Matching.{left_matches}
-use Rattle.lol_vm.specs.Answers.{Answer, Started, Dropped, Match, matching_ids, report, needs_attributes, asks, name_tries, attribute_tries, answer, after, answers_from}
+use Rattle.lol_vm.specs.Answers.{Started, Dropped, matching_ids, needs_attributes, asks, answer, after, answers_from}
 use Rattle.lol_vm.specs.Refusals.{Allowance, Limit, Counter, exceeds, greatest_count, refusal, or_later, refused_from}
 use Rattle.lol_vm.specs.Laws.{SameSelectors, OrderChangesNothing}
 use Rattle.lol_vm.proofs.Reports.{matching_ids-same}

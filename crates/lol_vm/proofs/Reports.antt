@@ -1,16 +1,16 @@
 -- What a report holds.
-use Rattle.std.proofs.Common.{◌≡◌, ℕ, zero, suc, ◌+◌, ◌<◌, ◌≤◌, Bool, true, false, cond, List, [], ◌∷◌, ◌++◌, length, map, filter, Contains, AllPairs, ◌⊎◌, inl, inr, refl, sym, ap, ◌∙◌, subst, arith}
+use Rattle.std.proofs.Common.{◌≡◌, ℕ, suc, ◌<◌, Bool, true, false, cond, List, [], ◌∷◌, map, filter, Contains, ◌⊎◌, inl, inr, refl, sym, ap, ◌∙◌, subst, arith}
 use Rattle.std.specs.Prelude.{nat_lt, ◌==◌}
 use Rattle.std.specs.List.{AllByRecursion}
-use Rattle.std.proofs.lemmas.Bool.Decides.{nat_tests, Decides-ltb, Decides-eqb}
+use Rattle.std.proofs.lemmas.Bool.Decides.{Decides-ltb, Decides-eqb}
 use Rattle.std.proofs.lemmas.List.Elements.{All-from_recursion}
 use Rattle.std.proofs.lemmas.List.Kept.{AllPairs-cons}
 use Rattle.lol_program.specs.Tests.{Element}
 use Rattle.lol_program.specs.Paths.{Path, Selectors}
 use Rattle.lol_program.proofs.Members.{Among, among_from_contains, contains_from_among}
 use Rattle.lol_vm.specs.Matching.{matches}
-use Rattle.lol_vm.specs.Answers.{Match, with_number, ascending, matching_ids, report}
-use Rattle.lol_vm.specs.Laws.{IsStrictlyAscending, AscendingIsDetermined, IsReport, HasMatchingIds, ids_of}
+use Rattle.lol_vm.specs.Answers.{with_number, ascending, matching_ids, report}
+use Rattle.lol_vm.specs.Laws.{IsStrictlyAscending, AscendingIsDetermined, IsReport, ids_of}
 
 -- 1. Strictly ascending lists
 

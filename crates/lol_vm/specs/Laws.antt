@@ -1,11 +1,11 @@
 -- Laws over the definitions, which later layers stand on.
-use Rattle.std.specs.Prelude.{ℕ, ◌≡◌, ◌≢◌, ◌<◌, ◌↔◌, true, Bool, List, [], ◌∷◌, map, None, Contains, AllPairs}
+use Rattle.std.specs.Prelude.{ℕ, ◌≡◌, ◌≢◌, ◌<◌, ◌↔◌, true, Bool, List, [], map, None, Contains, AllPairs}
 use Rattle.lol_program.specs.Tests.{Element}
 use Rattle.lol_program.specs.Paths.{Path, Selectors}
-use Rattle.lol_vm.specs.Events.{Event, End, has_content}
+use Rattle.lol_vm.specs.Events.{Event, End}
 use Rattle.lol_vm.specs.Documents.{Document, place_of}
 use Rattle.lol_vm.specs.Matching.{matches}
-use Rattle.lol_vm.specs.Answers.{Match, Answer, Ended, report, answer, answers, after}
+use Rattle.lol_vm.specs.Answers.{Match, Ended, report, answer, answers, after}
 use Rattle.lol_vm.specs.Refusals.{Allowance, refused}
 
 -- each number of a list is below all behind it

@@ -1,5 +1,5 @@
 -- Worked rows: what some selectors answer to some tags, to compute the definitions on.
-use Rattle.std.specs.Prelude.{ℕ, ◌≡◌, Bool, true, false, List, [], ◌∷◌, ◌++◌, replicate, Option, Some, None, codes, pos}
+use Rattle.std.specs.Prelude.{ℕ, ◌≡◌, Bool, true, false, List, [], ◌∷◌, replicate, Option, Some, codes, pos}
 use Rattle.lol_base.specs.StartTags.{Attribute}
 use Rattle.lol_base.specs.declared.namespace.Namespace.{Namespace}
 use Rattle.lol_base.specs.declared.namespace.Namespace.TheVariants.{Html, Svg}
@@ -11,7 +11,7 @@ use Rattle.lol_program.specs.Paths.{Compound, Path, First, Then}
 use Rattle.lol_program.specs.Nodes.{selectors_of}
 use Rattle.lol_vm.specs.Events.{Event, Start, End}
 use Rattle.lol_vm.specs.Answers.{Answer, Started, Dropped, Ended, Match, answers}
-use Rattle.lol_vm.specs.Refusals.{Cause, Limit, refused}
+use Rattle.lol_vm.specs.Refusals.{Cause, refused}
 
 -- Selectors under ids, tags, and what is answered to each of them.
 pub record Row : Type 0 where

@@ -1,6 +1,5 @@
 -- What the values of a run stand for.
-use Rattle.std.specs.Prelude.{ℕ, ◌≡◌, Bool, false, true, List, [], map, reverse}
-use Rattle.std.specs.Borrow.{Bor}
+use Rattle.std.specs.Prelude.{ℕ, ◌≡◌, Bool, List, map}
 use Rattle.lol_base.specs.StartTags.{StartTag, attributes_of, RangesAreInside}
 use Rattle.lol_base.specs.declared.namespace.Namespace.{Namespace}
 use Rattle.lol_base.specs.declared.namespace.Namespace.TheVariants.{Html}

@@ -9,11 +9,16 @@ mod run;
 mod void;
 
 pub use events::{RunCause, RunRefusal, TagEvent, TagReport};
-pub use lol_base::{AttributeBuffer, AttributeOutline, AuxStartTagInfo, Bytes, Namespace, Range};
+pub use lol_base::{
+    AttributeBuffer, AttributeOutline, AuxStartTagInfo, Bytes, LocalName, Namespace, Range, Tag,
+};
 pub use lol_css::{
     AttrSelectorOperator, Combinator, ComplexSelector, Compound, CssString, ParsedCaseSensitivity,
-    Selector, SelectorError, SelectorList, SimpleSelector,
+    Selector, SelectorError, SelectorList, SelectorsParser, SimpleSelector,
 };
-pub use lol_memory::{MatchId, MatchInfo, MemoryLimitExceededError, SharedMemoryLimiter};
+pub use lol_memory::{
+    DenseHashSet, DenseHashSetIter, Drain, LimitedVec, MatchId, MatchInfo,
+    MemoryLimitExceededError, PushError, SharedMemoryLimiter,
+};
 pub use lol_program::{Ast, AstPair, Expr, OnTagNameExpr, Predicate, Tries};
 pub use run::match_events;

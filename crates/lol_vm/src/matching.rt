@@ -1,34 +1,35 @@
 //! Whether a selector matches, read from the right over the open elements.
 
-ghost use Rattle.std.specs.Prelude.{◌≡◌};
+ghost use Rattle.std.specs.Prelude.{◌≡◌, List};
 ghost use Rattle.std.specs.List.{list_all};
-ghost use Rattle.lol_program.specs.Tests.{signed, name_holds};
-ghost use Rattle.lol_program.specs.Asts.{signed_name_test, path_from};
+ghost use Rattle.lol_program.specs.Tests.{Element};
+ghost use Rattle.lol_program.specs.Asts.{path_from};
 ghost use Rattle.lol_vm.specs.Matching.{matches, step_reaches};
-ghost use Rattle.lol_vm.specs.OpenNames.{bare, bare_open};
+ghost use Rattle.lol_vm.specs.OpenNames.{Spells, AreNamed, expr_passes};
 
+use lol_base::LocalName;
 use lol_css::Combinator;
 use lol_program::{Expr, OnTagNameExpr, Predicate};
 
 /// An open element: its name, and the number of its start tag's event.
-#[derive(Clone, Copy)]
+#[derive(Drop)]
 pub(crate) struct OpenElement<'i> {
-    pub name: &'i [u8],
+    pub name: LocalName<'i>,
     pub number: usize,
 }
 
-fn expr_holds(expr: &Expr<OnTagNameExpr>, name: &[u8]) -> bool
-    ensures { result ≡ signed name_holds (bare name.now) (signed_name_test expr.now) }
+fn expr_holds(expr: &Expr<OnTagNameExpr>, name: &LocalName) -> bool
+    ensures { result ≡ expr_passes name.now expr.now }
 {
     let holds = match &expr.simple_expr {
         OnTagNameExpr::ExplicitAny => true,
-        OnTagNameExpr::LocalName(wanted) => name.eq_ignore_ascii_case(wanted.as_bytes()),
+        OnTagNameExpr::LocalName(wanted) => *name == LocalName::new(wanted.as_bytes()),
     };
     holds != expr.negation
 }
 
-fn predicate_holds(predicate: &Predicate, name: &[u8]) -> bool
-    ensures { result ≡ list_all (λ expr. signed name_holds (bare name.now) (signed_name_test expr)) predicate.now.on_tag_name_exprs.items }
+fn predicate_holds(predicate: &Predicate, name: &LocalName) -> bool
+    ensures { result ≡ list_all (expr_passes name.now) predicate.now.on_tag_name_exprs.items }
 {
     predicate
         .on_tag_name_exprs
@@ -41,10 +42,11 @@ fn predicate_holds(predicate: &Predicate, name: &[u8]) -> bool
 pub(crate) fn path_matches(
     first: &Predicate,
     rest: &[(Combinator, Predicate)],
-    name: &[u8],
+    name: &LocalName,
     elements: &[OpenElement],
 ) -> bool
-    ensures { result ≡ matches (path_from first.now rest.now) (bare name.now) (bare_open elements.now) }
+    ensures { (e : Element) (outer : List Element) → Spells name.now e.tag.name → AreNamed elements.now outer
+        → result ≡ matches (path_from first.now rest.now) e outer }
 {
     match rest.split_last() {
         None => predicate_holds(first, name),
@@ -62,12 +64,13 @@ fn step_is_reached(
     combinator: Combinator,
     elements: &[OpenElement],
 ) -> bool
-    ensures { result ≡ step_reaches combinator (matches (path_from first.now front.now)) (bare_open elements.now) }
+    ensures { (outer : List Element) → AreNamed elements.now outer
+        → result ≡ step_reaches combinator (matches (path_from first.now front.now)) outer }
 {
     match elements.split_last() {
         None => false,
         Some((last, outer)) => {
-            path_matches(first, front, last.name, outer)
+            path_matches(first, front, &last.name, outer)
                 || (combinator == Combinator::Descendant
                     && step_is_reached(first, front, combinator, outer))
         }

@@ -1,21 +1,24 @@
 //! A whole run over a plain list of open elements.
 
 ghost use Rattle.std.specs.Prelude.{◌≡◌, ◌≤◌, ◌<◌, ◌∷◌, ◌++◌, ◌⊎◌, List, ℕ, Bool, false, IfOk, OnOk, IfErr, IfSome, map, reverse, position, length, take, All};
-ghost use Rattle.lol_base.specs.Names as names;
+ghost use Rattle.lol_base.specs.LocalNames.{same_local_name};
 ghost use Rattle.lol_base.specs.StartTags.{StartTag};
+ghost use Rattle.lol_memory.specs.Ids.{ascending};
+ghost use Rattle.lol_program.specs.Tests.{Element};
 ghost use Rattle.lol_program.specs.Asts.{pair_of, pairs_of};
 ghost use Rattle.lol_program.specs.Paths.{Path, AreNodes};
 ghost use Rattle.lol_vm.specs.Documents.{Document, closed, after_end, after_start, element_of};
-ghost use Rattle.lol_vm.specs.Answers.{with_number, matching_ids, answer, answers, after, report};
+ghost use Rattle.lol_vm.specs.Answers.{matching_ids, answer, answers, after, report};
 ghost use Rattle.lol_vm.specs.Events.{has_content};
-ghost use Rattle.lol_vm.specs.OpenNames.{IsNamed, Stands, bare, bare_open};
+ghost use Rattle.lol_vm.specs.OpenNames.{Spells, IsNamed, AreNamed, Stands};
 ghost use Rattle.lol_vm.specs.Views.{IsPlainHtml, HasRangesInside, event_of, answer_of, match_of, without_tries, selectors};
 ghost use Rattle.lol_vm.specs.declared.events.RunCause.TheVariants.{Memory};
 
 use crate::events::{RunCause, RunRefusal, TagEvent, TagReport};
 use crate::matching::{OpenElement, path_matches};
 use crate::void::is_void;
-use lol_memory::{MatchId, MatchInfo, SharedMemoryLimiter};
+use lol_base::LocalName;
+use lol_memory::{DenseHashSet, MatchInfo, SharedMemoryLimiter};
 use lol_program::{Ast, AstPair, Tries};
 use std::alloc::{AllocError, Global};
 
@@ -87,7 +90,7 @@ fn answer<'i>(
 {
     match event {
         TagEvent::Start { name, .. } => {
-            let matched = start(alloc, ast, elements, number, name)?;
+            let matched = start(alloc, ast, elements, number, LocalName::new(name))?;
             Ok(TagReport::Started {
                 matched,
                 asked: false,
@@ -95,7 +98,7 @@ fn answer<'i>(
             })
         }
         TagEvent::End { name } => {
-            let closed = close(alloc, elements, name)?;
+            let closed = close(alloc, elements, &LocalName::new(name))?;
             Ok(TagReport::Ended { closed })
         }
     }
@@ -107,15 +110,15 @@ fn start<'i>(
     ast: &Ast,
     elements: &mut Vec<OpenElement<'i>>,
     number: usize,
-    name: &'i [u8],
+    name: LocalName<'i>,
 ) -> Result<Vec<MatchInfo>, AllocError>
-    ensures report { IfOk result (λ matched. (nodes : List Path) (d : Document) (tag : StartTag) → IsNamed name.now tag → Stands elements.old.items d
+    ensures report { IfOk result (λ matched. (nodes : List Path) (d : Document) (tag : StartTag) → IsNamed name.entry tag → Stands elements.old.items d
         → map match_of matched.items ≡ report (selectors ast.now nodes) false (element_of d tag) d.open_elements) }
-    ensures stands { OnOk result ((d : Document) (tag : StartTag) → IsNamed name.now tag → Stands elements.old.items d → d.events ≡ number
+    ensures stands { OnOk result ((d : Document) (tag : StartTag) → IsNamed name.entry tag → Stands elements.old.items d → d.events ≡ number
         → Stands elements.new.items (after_start d tag (has_content false tag))) }
 {
-    let with_content = !is_void(name);
-    let ids = matching(alloc, ast.pairs(), name, elements)?;
+    let with_content = !is_void(&name);
+    let ids = matching(alloc, ast.pairs(), &name, elements)?;
     let matched = infos_of(alloc, &ids, with_content)?;
     if with_content {
         elements.push(OpenElement { name, number })?;
@@ -123,52 +126,36 @@ fn start<'i>(
     Ok(matched)
 }
 
-/// The ids of the selectors that match, ascending.
+/// The ids of the selectors that match.
 fn matching(
     alloc: Global,
     pairs: &[AstPair],
-    name: &[u8],
+    name: &LocalName,
     elements: &[OpenElement],
-) -> Result<Vec<MatchId>, AllocError>
-    ensures { IfOk result (λ ids. ids.items ≡ matching_ids (map pair_of pairs.now) (bare name.now) (bare_open elements.now)) }
+) -> Result<DenseHashSet, AllocError>
+    ensures { IfOk result (λ ids. (e : Element) (outer : List Element) → Spells name.now e.tag.name → AreNamed elements.now outer
+        → ascending ids ≡ matching_ids (map pair_of pairs.now) e outer) }
 {
-    let mut ids = Vec::new(alloc);
+    let mut ids = DenseHashSet::new(alloc);
     for pair in pairs {
         if path_matches(&pair.first, &pair.rest, name, elements) {
-            insert_id(&mut ids, pair.match_id)?;
+            ids.insert(pair.match_id)?;
         }
     }
     Ok(ids)
 }
 
-/// Puts an id into an ascending list, unless it is there.
-fn insert_id(ids: &mut Vec<MatchId>, id: MatchId) -> Result<(), AllocError>
-    ensures { OnOk result (ids.new.items ≡ with_number id ids.old.items) }
-{
-    for place in 0..ids.len() {
-        if id < ids[place] {
-            ids.insert(place, id)?;
-            return Ok(());
-        }
-        if id == ids[place] {
-            return Ok(());
-        }
-    }
-    ids.push(id)?;
-    Ok(())
-}
-
 fn infos_of(
     alloc: Global,
-    ids: &[MatchId],
+    ids: &DenseHashSet,
     with_content: bool,
 ) -> Result<Vec<MatchInfo>, AllocError>
-    ensures { IfOk result (λ infos. map match_of infos.items ≡ map (λ id. record { id = id; with_content = with_content }) ids.now) }
+    ensures { IfOk result (λ infos. map match_of infos.items ≡ map (λ id. record { id = id; with_content = with_content }) (ascending ids.now)) }
 {
     let mut infos = Vec::new(alloc);
-    for id in ids {
+    for match_id in ids.iter() {
         infos.push(MatchInfo {
-            match_id: *id,
+            match_id,
             with_content,
         })?;
     }
@@ -179,10 +166,10 @@ fn infos_of(
 fn close(
     alloc: Global,
     elements: &mut Vec<OpenElement>,
-    name: &[u8],
+    name: &LocalName,
 ) -> Result<Vec<usize>, AllocError>
-    ensures closed { IfOk result (λ numbers. (d : Document) → Stands elements.old.items d → numbers.items ≡ closed name.now d) }
-    ensures stands { OnOk result ((d : Document) → Stands elements.old.items d → Stands elements.new.items (after_end d name.now)) }
+    ensures closed { IfOk result (λ numbers. (d : Document) (bytes : List ℕ) → Spells name.now bytes → Stands elements.old.items d → numbers.items ≡ closed bytes d) }
+    ensures stands { OnOk result ((d : Document) (bytes : List ℕ) → Spells name.now bytes → Stands elements.old.items d → Stands elements.new.items (after_end d bytes)) }
 {
     let Some(back) = last_place(elements, name) else {
         return Ok(Vec::new(alloc));
@@ -194,14 +181,11 @@ fn close(
 }
 
 /// How many open elements stand inside the last one of this name.
-fn last_place(elements: &[OpenElement], name: &[u8]) -> Option<usize>
-    ensures value { result ≡ position (λ e. names.same_name e.name.now name.now) (reverse elements.now) }
+fn last_place(elements: &[OpenElement], name: &LocalName) -> Option<usize>
+    ensures value { result ≡ position (λ e. same_local_name e.name name.now) (reverse elements.now) }
     ensures within { IfSome result (λ back. back < length elements.now) }
 {
-    elements
-        .iter()
-        .rev()
-        .position(|e| e.name.eq_ignore_ascii_case(name))
+    elements.iter().rev().position(|e| e.name == *name)
 }
 
 fn numbers_of(alloc: Global, elements: &[OpenElement]) -> Result<Vec<usize>, AllocError>

@@ -1,40 +1,50 @@
 //! Elements without content.
 
-ghost use Rattle.std.specs.Prelude.{◌≡◌};
+ghost use Rattle.std.specs.Prelude.{◌≡◌, List, ℕ};
+ghost use Rattle.std.specs.Str.{bytes_eq};
 ghost use Rattle.std.specs.List.{list_any};
 ghost use Rattle.lol_base.specs.Names as names;
-ghost use Rattle.lol_base.specs.Names.{same_name};
+ghost use Rattle.lol_base.specs.Tags.{tag_name};
+ghost use Rattle.lol_vm.specs.OpenNames.{Spells};
+
+use lol_base::{LocalName, Tag};
 
 /// The elements of HTML that never have content.
-const VOID_NAMES: [&[u8]; 17] = [
-    b"area",
-    b"base",
-    b"basefont",
-    b"bgsound",
-    b"br",
-    b"col",
-    b"embed",
-    b"hr",
-    b"img",
-    b"input",
-    b"keygen",
-    b"link",
-    b"meta",
-    b"param",
-    b"source",
-    b"track",
-    b"wbr",
+const VOID_TAGS: [Tag; 17] = [
+    Tag::Area,
+    Tag::Base,
+    Tag::Basefont,
+    Tag::Bgsound,
+    Tag::Br,
+    Tag::Col,
+    Tag::Embed,
+    Tag::Hr,
+    Tag::Img,
+    Tag::Input,
+    Tag::Keygen,
+    Tag::Link,
+    Tag::Meta,
+    Tag::Param,
+    Tag::Source,
+    Tag::Track,
+    Tag::Wbr,
 ];
 
-fn is_among(name: &[u8], names: &[&[u8]]) -> bool
-    ensures { result ≡ list_any (λ other. same_name name.now other.now) names.now }
+fn is_tag(name: &LocalName, tag: Tag) -> bool
+    ensures { result ≡ bytes_eq name.now.lowercased (tag_name tag) }
 {
-    names.iter().any(|other| name.eq_ignore_ascii_case(other))
+    name.is_tag(tag)
+}
+
+fn is_among(name: &LocalName, tags: &[Tag]) -> bool
+    ensures { result ≡ list_any (λ tag. bytes_eq name.now.lowercased (tag_name tag)) tags.now }
+{
+    tags.iter().any(|tag| is_tag(name, *tag))
 }
 
 /// Whether an HTML element of this name never has content.
-pub(crate) fn is_void(name: &[u8]) -> bool
-    ensures { result ≡ names.is_void name.now }
+pub(crate) fn is_void(name: &LocalName) -> bool
+    ensures { (bytes : List ℕ) → Spells name.now bytes → result ≡ names.is_void bytes }
 {
-    is_among(name, &VOID_NAMES)
+    is_among(name, &VOID_TAGS)
 }

@@ -1,9 +1,8 @@
-use Rattle.std.proofs.Common.{◌≡◌, List, [], map, reverse, sym, ap, ◌∙◌, Bor}
+use Rattle.std.proofs.Common.{List, [], map, sym, ap, ◌∙◌, Bor}
 use Rattle.std.proofs.lemmas.Iterator.Adapters.{YieldsList-from_rev_slice}
 use Rattle.std.proofs.lemmas.Iterator.Consumers.{YieldsList-end}
 use Rattle.lol_css.specs.declared.selector.SimpleSelector.{SimpleSelector}
 use Rattle.lol_program.specs.Tests.{Signed, NameTest}
-use Rattle.lol_program.specs.Conditions as conditions
 use Rattle.lol_program.specs.Conditions.{test_of}
 use Rattle.lol_program.proofs.Members.{map-map}
 use Rattle.lol_program.proofs.ast.predicate_of.Goals as goal

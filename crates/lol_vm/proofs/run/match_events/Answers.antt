@@ -1,4 +1,4 @@
-use Rattle.std.proofs.Common.{◌≡◌, ℕ, ◌+◌, ◌<◌, List, [], ◌∷◌, ◌++◌, false, ap, sym, subst, ◌∙◌, arith, map, take, length, get_or, inr}
+use Rattle.std.proofs.Common.{◌≡◌, ℕ, ◌+◌, ◌<◌, List, [], ◌∷◌, ◌++◌, false, ap, sym, subst, ◌∙◌, arith, map, take, length, get_or}
 use Rattle.std.proofs.lemmas.List.{map_push, take_more, length-map, length-take-le}
 use Rattle.std.specs.Prelude.{if◌then◌else◌}
 use Rattle.lol_vm.specs.Documents.{empty}

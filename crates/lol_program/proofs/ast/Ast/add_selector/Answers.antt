@@ -1,4 +1,4 @@
-use Rattle.std.proofs.Common.{◌≡◌, ◌++◌, Contains, map, sym, ap, ◌∙◌, subst}
+use Rattle.std.proofs.Common.{◌++◌, map, sym, ap, ◌∙◌, subst}
 use Rattle.std.proofs.lemmas.List.{map-append}
 use Rattle.lol_css.specs.Trees.{complex_of, items_of, list_of}
 use Rattle.lol_css.specs.declared.selector.SelectorList.{SelectorList}
