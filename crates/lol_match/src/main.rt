@@ -2,5 +2,6 @@
 #![tactic(auto)]
 
 mod device;
+mod lines;
 
 fn main() {}
