@@ -2,6 +2,7 @@
 #![tactic(auto)]
 
 mod device;
+mod laws;
 mod lines;
 
 fn main() {}
