@@ -1,8 +1,10 @@
 //! Runs a script of selectors and tags.
 #![tactic(auto)]
 
+mod bad_line;
 mod device;
 mod laws;
 mod lines;
+mod output;
 
 fn main() {}
