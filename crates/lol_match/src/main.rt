@@ -6,5 +6,7 @@ mod device;
 mod laws;
 mod lines;
 mod output;
+#[cfg(test)]
+mod tests;
 
 fn main() {}
