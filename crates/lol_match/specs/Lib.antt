@@ -1,1 +1,4 @@
 pub mod Devices
+pub mod First
+pub mod Output
+pub mod Script

@@ -21,6 +21,7 @@ pub enum RunFault {
 }
 
 /// A reader or a writer, and how many of its calls failed.
+#[derive(Drop)]
 pub struct Counted<D> {
     device: D,
     failures: u64,

@@ -1,0 +1,4 @@
+pub mod Fields
+pub mod FirstLines
+pub mod Lists
+pub mod Numbers

@@ -1,0 +1,11 @@
+use Rattle.std.proofs.Common.{◌∷◌, sym, ap, ◌∙◌, ◌+◌, take}
+use Rattle.std.specs.List.{slice_split}
+use Rattle.std.proofs.lemmas.List.{take_rest}
+use Rattle.lol_match.specs.Script.{is_tab}
+use Rattle.lol_match.proofs.Fields.{split_some}
+use Rattle.lol_match.proofs.lines.cut.Goals as goal
+
+pub returns : goal.returns
+returns c =
+    let bytes = c.args.bytes.now in
+    split_some bytes c.in_ok-place.place (sym c.in_ok-place.ensures) ∙ ap (λ rest. take c.in_ok-place.place bytes ∷ slice_split is_tab rest) (sym (take_rest bytes (c.in_ok-place.place + 1)))

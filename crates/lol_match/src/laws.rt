@@ -1,0 +1,66 @@
+//! Lines whose meaning is computed from the definition, and a law about the lines that are good at first.
+
+ghost use Rattle.std.specs.Prelude.{◌≡◌, ℕ, List, [], ◌∷◌, Some, None, true, false, codes};
+ghost use Rattle.lol_base.specs.declared.namespace.Namespace.TheVariants.{Svg};
+ghost use Rattle.lol_match.specs.Script.{Line, line_at, number_up_to, SetLimit, TurnEsiOn, ShowTries, Select, StartLine, EndLine};
+ghost use Rattle.lol_match.specs.First as first;
+ghost use Rattle.lol_match.specs.First.{plain_tag};
+
+/// Numbers: one or more digits, up to a greatest one.
+pub fn worked_numbers()
+    ensures leading_zeros { number_up_to 4294967295 (codes "0007") ≡ Some 7 }
+    ensures empty { number_up_to 4294967295 [] ≡ None }
+    ensures sign { number_up_to 4294967295 (codes "+7") ≡ None }
+    ensures greatest { number_up_to 4294967295 (codes "4294967295") ≡ Some 4294967295 }
+    ensures too_great { number_up_to 4294967295 (codes "4294967296") ≡ None }
+    ensures greatest_limit { line_at (codes "limit\t18446744073709551615") ≡ Some (SetLimit 18446744073709551615) }
+    ensures limit_too_great { line_at (codes "limit\t18446744073709551616") ≡ None }
+{}
+
+/// Lines before the first tag line.
+pub fn worked_settings()
+    ensures esi { line_at (codes "esi") ≡ Some TurnEsiOn }
+    ensures esi_return { line_at (codes "esi\r") ≡ None }
+    ensures esi_tab { line_at (codes "esi\t") ≡ None }
+    ensures tries { line_at (codes "tries") ≡ Some ShowTries }
+    ensures tries_tab { line_at (codes "tries\t") ≡ None }
+    ensures limit_tab { line_at (codes "limit\t5\t") ≡ None }
+    ensures no_text { line_at (codes "select\t0") ≡ None }
+    ensures empty_text { line_at (codes "select\t0\t") ≡ Some (Select 0 []) }
+    ensures text_with_tabs { line_at (codes "select\t12\ta\tb\t") ≡ Some (Select 12 (codes "a\tb\t")) }
+    ensures no_id { line_at (codes "select\t\ta") ≡ None }
+    ensures no_utf8 { line_at (115 ∷ 101 ∷ 108 ∷ 101 ∷ 99 ∷ 116 ∷ 9 ∷ 48 ∷ 9 ∷ 255 ∷ []) ≡ None }
+    ensures capital { line_at (codes "ESI") ≡ None }
+{}
+
+/// Tag lines.
+pub fn worked_tags()
+    ensures plain { line_at (codes "start\thtml\tdiv") ≡ Some (StartLine (plain_tag (codes "div"))) }
+    ensures dropped { line_at (codes "drop\thtml\tdiv") ≡ Some (StartLine (record (plain_tag (codes "div")) { finish = false })) }
+    ensures attributes { line_at (codes "start\tsvg/\tcircle\ta=b=c\td") ≡ Some (StartLine (record { name = codes "circle"; namespace = Svg; attributes = record { name = codes "a"; value = Some (codes "b=c") } ∷ record { name = codes "d"; value = None } ∷ []; self_closing = true; finish = true })) }
+    ensures no_name { line_at (codes "start\thtml") ≡ None }
+    ensures empty_name { line_at (codes "start\thtml\t") ≡ None }
+    ensures tab { line_at (codes "start\thtml\tdiv\t") ≡ None }
+    ensures no_attribute_name { line_at (codes "start\thtml\tdiv\t=b") ≡ None }
+    ensures no_namespace { line_at (codes "start\txml\tdiv") ≡ None }
+    ensures end { line_at (codes "end\tdiv") ≡ Some (EndLine (codes "div")) }
+    ensures end_tab { line_at (codes "end\tdiv\t") ≡ None }
+    ensures end_empty { line_at (codes "end\t") ≡ None }
+    ensures end_alone { line_at (codes "end") ≡ None }
+{}
+
+/// What is good at first is good, and says the same.
+pub fn first_lines_are_lines()
+    ensures { (bytes : List ℕ) (line : Line) → first.line_at bytes ≡ Some line → line_at bytes ≡ Some line }
+{}
+
+/// What isn't good yet.
+pub fn worked_first_lines()
+    ensures foreign { first.line_at (codes "start\tsvg\tg") ≡ None }
+    ensures self_closing { first.line_at (codes "start\thtml/\tdiv") ≡ None }
+    ensures attribute { first.line_at (codes "start\thtml\tdiv\ta") ≡ None }
+    ensures dropped { first.line_at (codes "drop\thtml\tdiv") ≡ None }
+    ensures esi { first.line_at (codes "esi") ≡ None }
+    ensures tries { first.line_at (codes "tries") ≡ None }
+    ensures limit { first.line_at (codes "limit\t5") ≡ None }
+{}

@@ -1,0 +1,140 @@
+//! Each call with ample memory, and devices that fail.
+
+use crate::bad_line::{BadLine, Cause, push_bad_line};
+use crate::device::{Counted, RunFault, read_all, write_text};
+use crate::lines::{Line, line_of};
+use crate::output::{push_matches, push_numbers};
+use lol_css::SelectorError;
+use lol_memory::MatchInfo;
+use std::io;
+use std::io::{ErrorKind, Read, Write};
+use std::test::Fail;
+
+/// Gives one byte a call, and then fails.
+#[derive(Drop)]
+struct Broken {
+    calls: u32,
+}
+
+impl Read for Broken {
+    fn read(&mut self, buffer: &mut [u8]) -> io::Result<usize> {
+        self.calls = self.calls.saturating_add(1);
+        if self.calls > 3 || buffer.is_empty() {
+            return Err(io::Error::from(ErrorKind::Interrupted));
+        }
+        buffer[0] = b'a';
+        Ok(1)
+    }
+}
+
+/// Takes two bytes a call, up to a number of bytes, and then none.
+#[derive(Drop)]
+struct Narrow {
+    taken: Vec<u8>,
+    most: usize,
+}
+
+impl Write for Narrow {
+    fn write(&mut self, bytes: &[u8]) -> io::Result<usize> {
+        let room = self.most.saturating_sub(self.taken.len());
+        let count = bytes.len().min(room).min(2);
+        self.taken.extend_from_slice(&bytes[..count])?;
+        Ok(count)
+    }
+
+    fn flush(&mut self) -> io::Result<()> {
+        Ok(())
+    }
+}
+
+#[test]
+fn reads_to_the_end(rt: HostRuntime) -> Result<(), Fail> {
+    let bytes = vec![in rt.alloc(); b'x'; 10_000]?;
+    let mut reader = Counted::new(bytes.as_slice());
+    let text = read_all(rt.alloc(), &mut reader);
+    assert!(rt; matches!(&text, Ok(text) if text == &bytes));
+    assert_eq!(rt; reader.failures(), 0);
+    assert!(rt; reader.into_inner().is_empty());
+    Ok(())
+}
+
+#[test]
+fn counts_a_failed_read(rt: HostRuntime) -> Result<(), Fail> {
+    let mut reader = Counted::new(Broken { calls: 0 });
+    assert_eq!(rt; read_all(rt.alloc(), &mut reader), Err(RunFault::Read));
+    assert_eq!(rt; reader.failures(), 1);
+    assert_eq!(rt; reader.into_inner().calls, 4);
+    Ok(())
+}
+
+#[test]
+fn writes_whole_or_a_beginning(rt: HostRuntime) -> Result<(), Fail> {
+    let mut writer = Counted::new(Narrow {
+        taken: Vec::new(rt.alloc()),
+        most: 5,
+    });
+    assert_eq!(rt; write_text(&mut writer, b"abc"), Ok(()));
+    assert_eq!(rt; writer.failures(), 0);
+    assert_eq!(rt; write_text(&mut writer, b"defg"), Err(RunFault::Write));
+    assert_eq!(rt; writer.failures(), 1);
+    assert_eq!(rt; writer.into_inner().taken.as_slice(), b"abcde".as_slice());
+    Ok(())
+}
+
+#[test]
+fn reads_lines(rt: HostRuntime) -> Result<(), Fail> {
+    let lines = [
+        (
+            "select\t07\tdiv\tp\t",
+            Some(Line::Select {
+                id: 7,
+                text: "div\tp\t",
+            }),
+        ),
+        ("start\thtml\tdiv", Some(Line::Start { name: b"div" })),
+        ("end\tdiv", Some(Line::End { name: b"div" })),
+        ("end\tdiv\t", None),
+    ];
+    for (text, line) in lines {
+        assert!(rt; line_of(text.as_bytes()) == line);
+    }
+    Ok(())
+}
+
+#[test]
+fn writes_lists(rt: HostRuntime) -> Result<(), Fail> {
+    let mut text = Vec::new(rt.alloc());
+    let full = MatchInfo {
+        match_id: 2,
+        with_content: true,
+    };
+    let empty = MatchInfo {
+        match_id: 4,
+        with_content: false,
+    };
+    push_matches(&mut text, &[full, empty])?;
+    push_matches(&mut text, &[])?;
+    push_numbers(&mut text, &[0, 12])?;
+    push_numbers(&mut text, &[])?;
+    assert_eq!(rt; text.as_slice(), b"2,4/-0,12-".as_slice());
+    Ok(())
+}
+
+#[test]
+fn writes_bad_lines(rt: HostRuntime) -> Result<(), Fail> {
+    let mut text = Vec::new(rt.alloc());
+    push_bad_line(
+        &mut text,
+        BadLine {
+            number: 12,
+            cause: Cause::Form,
+        },
+    )?;
+    let cause = Cause::Selector(SelectorError::UnsupportedCombinator('+'));
+    push_bad_line(&mut text, BadLine { number: 1, cause })?;
+    assert_eq!(rt;
+        text.as_slice(),
+        b"bad line 12: form\nbad line 1: UnsupportedCombinator(+)\n".as_slice()
+    );
+    Ok(())
+}
