@@ -1,10 +1,10 @@
 -- What the program writes.
-use Rattle.std.specs.Prelude.{ℕ, if◌then◌else◌, List, [], ◌∷◌, ◌++◌, codes, decimal}
+use Rattle.std.specs.Prelude.{ℕ, Bool, map, if◌then◌else◌, List, [], ◌∷◌, ◌++◌, codes, decimal}
 use Rattle.std.specs.Char.{encode_utf8}
 use Rattle.std.specs.List.{join_with_byte, flat_map}
 use Rattle.lol_css.specs.declared.error.SelectorError.{SelectorError}
 use Rattle.lol_css.specs.declared.error.SelectorError.TheVariants.{UnexpectedToken, UnexpectedEnd, MissingAttributeName, EmptySelector, DanglingCombinator, UnexpectedTokenInAttribute, UnsupportedPseudoClassOrElement, NestedNegation, NamespacedSelector, InvalidClassName, EmptyNegation, UnsupportedCombinator, UnsupportedSyntax, Memory}
-use Rattle.lol_memory.specs.declared.match_info.MatchInfo.{MatchInfo}
+use Rattle.lol_vm.specs.Answers.{Match, Answer, Started, Dropped, Ended}
 use Rattle.lol_match.specs.declared.bad_line.BadLine.{BadLine}
 use Rattle.lol_match.specs.declared.bad_line.Cause.{Cause}
 use Rattle.lol_match.specs.declared.bad_line.Cause.TheVariants.{Form, Selector}
@@ -15,8 +15,19 @@ listed [] = codes "-"
 listed (field ∷ fields) = join_with_byte 44 (field ∷ fields)
 
 -- an id, with `/` behind it where the element has no content
-abbrev pub shown_match : MatchInfo → List ℕ
-shown_match found = decimal found.match_id ++ (if found.with_content then [] else codes "/")
+abbrev pub shown_match : Match → List ℕ
+shown_match found = decimal found.id ++ (if found.with_content then [] else codes "/")
+
+-- the field of the tries, where tries are shown
+abbrev pub tries_field : Bool → ℕ → ℕ → List ℕ
+tries_field shows names attributes = if shows then 9 ∷ codes "tries " ++ (decimal names ++ 32 ∷ decimal attributes) else []
+
+-- the line of an answer
+abbrev pub shown_answer : Bool → Answer → List ℕ
+shown_answer shows (Started matched asked names attributes) =
+    codes "start" ++ (9 ∷ listed (map shown_match matched) ++ ((if asked then 9 ∷ codes "asked" else []) ++ tries_field shows names attributes))
+shown_answer shows Dropped = codes "dropped"
+shown_answer shows (Ended closed) = codes "end" ++ 9 ∷ listed (map decimal closed)
 
 -- lines, each of which LF ends
 abbrev pub lines_of : List (List ℕ) → List ℕ

@@ -1,10 +1,11 @@
-//! Numbers and lists as they are written.
+//! The lines of a run as they are written.
 
-ghost use Rattle.std.specs.Prelude.{◌≡◌, ◌∷◌, [], ◌++◌, OnOk, map, decimal};
-ghost use Rattle.lol_match.specs.Output.{listed, shown_match};
+ghost use Rattle.std.specs.Prelude.{◌≡◌, ◌∷◌, [], ◌++◌, OnOk, map, decimal, false};
+ghost use Rattle.lol_vm.specs.Views.{match_of, answer_of};
+ghost use Rattle.lol_match.specs.Output.{listed, shown_match, shown_answer, lines_of};
 
 use itoa::Buffer;
-use lol_memory::MatchInfo;
+use lol_vm::{MatchInfo, TagReport};
 use std::alloc::AllocError;
 
 /// Adds a number in decimal digits.
@@ -17,7 +18,7 @@ pub fn push_number(text: &mut Vec<u8>, number: u64) -> Result<(), AllocError>
 
 /// Adds an id, with `/` behind it where the element has no content.
 pub fn push_match(text: &mut Vec<u8>, found: MatchInfo) -> Result<(), AllocError>
-    ensures { OnOk result (text.new.items ≡ text.old.items ++ shown_match found) }
+    ensures { OnOk result (text.new.items ≡ text.old.items ++ shown_match (match_of found)) }
 {
     push_number(text, u64::from(found.match_id))?;
     if !found.with_content {
@@ -28,7 +29,7 @@ pub fn push_match(text: &mut Vec<u8>, found: MatchInfo) -> Result<(), AllocError
 
 /// Adds ids, parted by commas, or `-` where there are none.
 pub fn push_matches(text: &mut Vec<u8>, matched: &[MatchInfo]) -> Result<(), AllocError>
-    ensures { OnOk result (text.new.items ≡ text.old.items ++ listed (map shown_match matched.now)) }
+    ensures { OnOk result (text.new.items ≡ text.old.items ++ listed (map shown_match (map match_of matched.now))) }
 {
     let Some((first, others)) = matched.split_first() else {
         return Ok(text.push(b'-')?);
@@ -52,6 +53,38 @@ pub fn push_numbers(text: &mut Vec<u8>, numbers: &[usize]) -> Result<(), AllocEr
     for number in others {
         text.push(b',')?;
         push_number(text, *number as u64)?;
+    }
+    Ok(())
+}
+
+/// Adds the line of a report, without tries.
+pub fn push_report(text: &mut Vec<u8>, report: &TagReport) -> Result<(), AllocError>
+    ensures { OnOk result (text.new.items ≡ text.old.items ++ (shown_answer false (answer_of report.now) ++ 10 ∷ [])) }
+{
+    match report {
+        TagReport::Started { matched, asked, .. } => {
+            text.extend_from_slice(b"start\t")?;
+            push_matches(text, matched)?;
+            if *asked {
+                text.extend_from_slice(b"\tasked")?;
+            }
+        }
+        TagReport::Dropped => text.extend_from_slice(b"dropped")?,
+        TagReport::Ended { closed } => {
+            text.extend_from_slice(b"end\t")?;
+            push_numbers(text, closed)?;
+        }
+    }
+    text.push(b'\n')?;
+    Ok(())
+}
+
+/// Adds the lines of reports, without tries.
+pub fn push_reports(text: &mut Vec<u8>, reports: &[TagReport]) -> Result<(), AllocError>
+    ensures { OnOk result (text.new.items ≡ text.old.items ++ lines_of (map (λ report. shown_answer false (answer_of report)) reports.now)) }
+{
+    for report in reports {
+        push_report(text, report)?;
     }
     Ok(())
 }

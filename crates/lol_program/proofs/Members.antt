@@ -28,16 +28,16 @@ module _ {T : Type 0} where
   Distinct [] = Unit {0}
   Distinct (x ∷ xs) = (Among xs x → ⊥) × Distinct xs
 
-  among_front : (front back : List T) (x : T) → Among front x → Among (front ++ back) x
+  pub among_front : (front back : List T) (x : T) → Among front x → Among (front ++ back) x
   among_front [] back x h = absurd h
   among_front (y ∷ front) back x (inl is) = inl is
   among_front (y ∷ front) back x (inr h) = inr (among_front front back x h)
 
-  among_back : (front back : List T) (x : T) → Among back x → Among (front ++ back) x
+  pub among_back : (front back : List T) (x : T) → Among back x → Among (front ++ back) x
   among_back [] back x h = h
   among_back (y ∷ front) back x h = inr (among_back front back x h)
 
-  among_either : (front back : List T) (x : T) → Among (front ++ back) x → Among front x ⊎ Among back x
+  pub among_either : (front back : List T) (x : T) → Among (front ++ back) x → Among front x ⊎ Among back x
   among_either [] back x h = inr h
   among_either (y ∷ front) back x (inl is) = inl (inl is)
   among_either (y ∷ front) back x (inr h) = elim (among_either front back x h) [ inl in_front ↦ inl (inr in_front) | inr in_back ↦ inr in_back ]

@@ -1,11 +1,11 @@
 -- The nodes of pairs, each once.
-use Rattle.std.proofs.Common.{◌≡◌, ℕ, Bool, true, false, ◌||◌, cond, List, [], ◌∷◌, inl, inr, refl, sym, subst}
+use Rattle.std.proofs.Common.{◌≡◌, ℕ, Bool, true, false, ◌||◌, cond, List, [], ◌∷◌, Contains, ◌⊎◌, ◌↔◌, inl, inr, refl, sym, subst}
 use Rattle.std.specs.List.{list_any, IsDistinct, AllByRecursion}
 use Rattle.std.proofs.lemmas.Map.Made.{AllPairs-from_IsDistinct}
-use Rattle.lol_program.specs.Paths.{Path, AreNodes, all_beginnings}
+use Rattle.lol_program.specs.Paths.{Path, AreNodes, beginnings, all_beginnings}
 use Rattle.lol_program.specs.Same.{same_path}
 use Rattle.lol_program.specs.Nodes.{each_once, nodes_of}
-use Rattle.lol_program.proofs.Members.{Among, among_from_contains, contains_from_among}
+use Rattle.lol_program.proofs.Members.{Among, among_from_contains, contains_from_among, among_front, among_back, among_either}
 use Rattle.lol_program.proofs.SamePaths.{same_path-Decides}
 
 -- a test that finds a path
@@ -64,4 +64,32 @@ nodes_of-AreNodes pairs = record {
     λ h. contains_from_among _ path (kept (all_beginnings pairs) path (among_from_contains _ path h)),
   );
   each_once = AllPairs-from_IsDistinct same_path-Decides (nodes_of pairs) (distinct (all_beginnings pairs));
+}
+
+-- a beginning of a path of some pair
+begins : (pairs : List (Path × ℕ)) (path : Path) → Among (all_beginnings pairs) path → (pair : Path × ℕ) × Among pairs pair × Among (beginnings pair.0) path
+begins [] path h = absurd h
+begins (pair ∷ pairs) path h = elim (among_either (beginnings pair.0) (all_beginnings pairs) path h) [
+  | inl a ↦ (pair, inl refl, a)
+  | inr b ↦ let more = begins pairs path b in (more.0, inr more.1, more.2)
+]
+
+begun : (pairs : List (Path × ℕ)) (pair : Path × ℕ) (path : Path) → Among pairs pair → Among (beginnings pair.0) path → Among (all_beginnings pairs) path
+begun [] pair path h a = absurd h
+begun (p ∷ pairs) pair path (inl is) a = among_front (beginnings p.0) (all_beginnings pairs) path (subst (λ (q : Path × ℕ). Among (beginnings q.0) path) (sym is) a)
+begun (p ∷ pairs) pair path (inr h) a = among_back (beginnings p.0) (all_beginnings pairs) path (begun pairs pair path h a)
+
+same_beginnings : (ps qs : List (Path × ℕ)) → ((pair : Path × ℕ) → Contains ps pair → Contains qs pair) → (path : Path) → Contains (all_beginnings ps) path → Contains (all_beginnings qs) path
+same_beginnings ps qs to path h =
+    let at = begins ps path (among_from_contains _ path h) in
+    contains_from_among _ path (begun qs at.0 path (among_from_contains qs at.0 (to at.0 (contains_from_among ps at.0 at.1))) at.2)
+
+-- Pairs with the same members have the same nodes.
+pub AreNodes-same : (ps qs : List (Path × ℕ)) (nodes : List Path) → ((pair : Path × ℕ) → Contains ps pair ↔ Contains qs pair) → AreNodes qs nodes → AreNodes ps nodes
+AreNodes-same ps qs nodes same are = record {
+  members = λ path. (
+    λ h. same_beginnings qs ps (λ pair. (same pair).1) path ((are.members path).0 h),
+    λ h. (are.members path).1 (same_beginnings ps qs (λ pair. (same pair).0) path h)
+  );
+  each_once = are.each_once;
 }
