@@ -9,6 +9,8 @@ mod output;
 mod program;
 mod script;
 #[cfg(test)]
+mod replayed;
+#[cfg(test)]
 mod tests;
 
 use device::{Counted, RunFault};

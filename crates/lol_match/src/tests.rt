@@ -4,8 +4,11 @@ use crate::bad_line::{BadLine, Cause, push_bad_line};
 use crate::device::{Counted, RunFault, read_all, write_text};
 use crate::lines::{Line, line_of};
 use crate::output::{push_matches, push_numbers};
+use crate::program::{Status, run};
+use crate::replayed::SCRIPTS;
 use lol_css::SelectorError;
 use lol_memory::MatchInfo;
+use std::alloc::Global;
 use std::io;
 use std::io::{ErrorKind, Read, Write};
 use std::test::Fail;
@@ -136,5 +139,75 @@ fn writes_bad_lines(rt: HostRuntime) -> Result<(), Fail> {
         text.as_slice(),
         b"bad line 12: form\nbad line 1: UnsupportedCombinator(+)\n".as_slice()
     );
+    Ok(())
+}
+
+/// How the run of a script ended, and what it wrote.
+fn run_on(alloc: Global, script: &[u8]) -> (Result<Status, RunFault>, Vec<u8>) {
+    let mut reader = Counted::new(script);
+    let mut writer = Counted::new(Vec::new(alloc));
+    let outcome = run(alloc, &mut reader, &mut writer);
+    (outcome, writer.into_inner())
+}
+
+#[test]
+fn runs_scripts(rt: HostRuntime) -> Result<(), Fail> {
+    let scripts = [
+        ("", "", Status::Good),
+        (
+            "select\t0\tdiv + span\n",
+            "bad line 1: UnsupportedSyntax\n",
+            Status::BadLine,
+        ),
+        ("start\thtml\n", "bad line 1: form\n", Status::BadLine),
+        (
+            "select\t4\t* > br, P\nselect\t2\tp\nstart\thtml\tp\nstart\thtml\tBR\nstart\thtml\tp\nend\tP\nend\tP\n",
+            "start\t2,4\nstart\t4/\nstart\t2,4\nend\t2\nend\t0\n",
+            Status::Good,
+        ),
+        (
+            "start\thtml\tp\n\nselect\t0\tdiv + span",
+            "bad line 3: form\n",
+            Status::BadLine,
+        ),
+        ("end\ttable", "end\t-\n", Status::Good),
+        ("esi\n", "bad line 1: form\n", Status::BadLine),
+    ];
+    for (script, output, status) in scripts {
+        let (outcome, written) = run_on(rt.alloc(), script.as_bytes());
+        assert_eq!(rt; outcome, Ok(status), "{script:?}");
+        assert_eq!(rt; written.as_slice(), output.as_bytes(), "{script:?}");
+    }
+    Ok(())
+}
+
+#[test]
+fn replays_scripts(rt: HostRuntime) -> Result<(), Fail> {
+    for (script, output, good) in SCRIPTS {
+        let (outcome, written) = run_on(rt.alloc(), script.as_bytes());
+        let status = if good { Status::Good } else { Status::BadLine };
+        assert_eq!(rt; outcome, Ok(status), "{script:?}");
+        assert_eq!(rt; written.as_slice(), output.as_bytes(), "{script:?}");
+    }
+    Ok(())
+}
+
+#[test]
+fn fails_with_its_devices(rt: HostRuntime) -> Result<(), Fail> {
+    let mut reader = Counted::new(Broken { calls: 0 });
+    let mut writer = Counted::new(Vec::new(rt.alloc()));
+    assert_eq!(rt; run(rt.alloc(), &mut reader, &mut writer), Err(RunFault::Read));
+    assert_eq!(rt; reader.failures(), 1);
+    assert!(rt; writer.into_inner().is_empty());
+    let _ = reader.into_inner();
+
+    let mut script = Counted::new(b"end\tp\n".as_slice());
+    let mut narrow = Counted::new(Narrow {
+        taken: Vec::new(rt.alloc()),
+        most: 4,
+    });
+    assert_eq!(rt; run(rt.alloc(), &mut script, &mut narrow), Err(RunFault::Write));
+    assert_eq!(rt; narrow.failures(), 1);
+    assert_eq!(rt; narrow.into_inner().taken.as_slice(), b"end\t".as_slice());
     Ok(())
 }
