@@ -78,6 +78,13 @@ impl<'i> LocalName<'i> {
         }
     }
 
+    /// The bytes of a name that isn't a hash.
+    fn spelled(&self) -> &[u8]
+        ensures { IsNone (name_code self.now.lowercased) → lowercased result.now ≡ self.now.lowercased }
+    {
+        self.spelling().unwrap_or(&[])
+    }
+
     /// Whether this is the tag's name.
     pub fn is_tag(&self, tag: Tag) -> bool
         ensures { IsTrue result ↔ (self.now.lowercased ≡ tag_name tag) }
@@ -124,7 +131,7 @@ impl<'i> PartialEq for LocalName<'i> {
     fn eq(&self, other: &LocalName<'i>) -> bool {
         match (self.code(), other.code()) {
             (Some(code), Some(other_code)) => code == other_code,
-            (None, None) => spelled(self).eq_ignore_ascii_case(spelled(other)),
+            (None, None) => self.spelled().eq_ignore_ascii_case(other.spelled()),
             _ => false,
         }
     }
@@ -148,7 +155,7 @@ impl<'i> Hash for LocalName<'i> {
         match self.code() {
             Some(code) => code.hash(state),
             None => {
-                let bytes = spelled(self);
+                let bytes = self.spelled();
                 bytes.len().hash(state);
                 for byte in bytes {
                     byte.to_ascii_lowercase().hash(state);
@@ -156,13 +163,6 @@ impl<'i> Hash for LocalName<'i> {
             }
         }
     }
-}
-
-/// The bytes of a name that isn't a hash.
-fn spelled<'s>(name: &'s LocalName<'_>) -> &'s [u8]
-    ensures { IsNone (name_code name.now.lowercased) → lowercased result.now ≡ name.now.lowercased }
-{
-    name.spelling().unwrap_or(&[])
 }
 
 /// The code of the name that these bytes spell, if it is a hash.
