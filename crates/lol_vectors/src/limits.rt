@@ -2,7 +2,7 @@
 
 ghost use Rattle.std.specs.Prelude.{◌≡◌};
 
-use lol_memory::{LimitedVec, PushError, SharedMemoryLimiter};
+use lol_memory::{LimitedVec, MemoryLimitExceededError, PushError, SharedMemoryLimiter};
 use std::process::Abort;
 use std::test::Fail;
 
@@ -95,6 +95,15 @@ fn gives_what_it_takes_out_in_order(rt: HostRuntime) {
     assert_eq!(rt; list.as_slice(), [9, 4, 0].as_slice());
     assert_eq!(rt; list.last(), Some(&0));
     release(&rt, list, 1, &mut limiter);
+}
+
+#[test]
+fn refusals_have_their_text(rt: HostRuntime) -> Result<(), Fail> {
+    let error = MemoryLimitExceededError.to_string(rt.alloc())?;
+    assert_eq!(rt; error.as_str(), "The memory limit has been exceeded.");
+    let error = PushError::Limit(MemoryLimitExceededError).to_string(rt.alloc())?;
+    assert_eq!(rt; error.as_str(), "The memory limit has been exceeded.");
+    Ok(())
 }
 
 /// Pushes the numbers from 0 on.
