@@ -21,7 +21,7 @@ fn counts_up_to_the_maximum(rt: HostRuntime) {
 
 #[test]
 fn refuses_a_first_push_above_the_maximum(rt: HostRuntime) {
-    for (item_bytes, max) in [(1, 0), (2, 1), (257, 256)] {
+    for (item_bytes, max) in [(1, 0), (2, 1), (257, 256), (usize::MAX, usize::MAX)] {
         let mut limiter = SharedMemoryLimiter::new(max);
         let mut list = LimitedVec::new(rt.alloc(), item_bytes);
         assert!(rt;
