@@ -1,5 +1,5 @@
 -- Codes of names, and the names of codes.
-use Rattle.std.proofs.Common.{◌≡◌, ◌≢◌, ◌∙◌, sym, ap, refl, ℕ, zero, suc, ◌+◌, ◌-◌, ◌*◌, ◌/◌, ◌%◌, ◌^◌, ◌<◌, ◌≤◌, Bool, true, false, not, ◌&&◌, nat_eq, nat_lt, List, [], ◌∷◌, ◌++◌, length, fold, Option, Some, None, is_some, get_or, arith, add-zero, true≢false}
+use Rattle.std.proofs.Common.{◌≡◌, ◌≢◌, ◌∙◌, sym, ap, refl, ℕ, zero, suc, ◌+◌, ◌-◌, ◌*◌, ◌/◌, ◌%◌, ◌^◌, ◌<◌, ◌≤◌, Bool, true, false, not, ◌&&◌, nat_eq, nat_lt, List, [], ◌∷◌, ◌++◌, length, fold, Option, Some, None, is_some, IsNone, IsTrue, ◌↔◌, get_or, arith, add-zero, true≢false}
 use Rattle.std.specs.List.{list_all}
 use Rattle.std.specs.Bool.{Decides, ◌==◌, if◌then◌else◌}
 use Rattle.std.specs.Char.{to_ascii_lowercase}
@@ -11,7 +11,8 @@ use Rattle.std.proofs.Math.Nat.{pow-le-pow_right}
 use Rattle.std.proofs.lemmas.Bool.Decides.{nat_tests}
 use Rattle.lol_base.specs.LocalNames.{is_hash_byte, is_hash, five_bits, bits_of, with_byte, name_code, local_name}
 use Rattle.lol_base.specs.Names.{lowercased}
-use Rattle.lol_base.specs.declared.local_name.Kept.TheVariants.{Hash}
+use Rattle.lol_base.specs.declared.local_name.Kept.{Kept}
+use Rattle.lol_base.specs.declared.local_name.Kept.TheVariants.{Hash, Borrowed, Owned}
 use Rattle.lol_base.specs.Kept.{byte_of, bytes_before, name_of_code, spelled_name, name_of, IsKeptRight}
 
 -- ---- one byte
@@ -231,3 +232,14 @@ pub code_tells : (found : Option ℕ) (name other : List ℕ) (code : ℕ) → f
     → Decides (option_eq ◌==◌ found (Some code)) (name ≡ other)
 code_tells None name other code is is' = (λ e. absurd (true≢false (sym e)), λ e. absurd (let none : None ≡ Some code = is ∙ (ap name_code e ∙ is') in cc))
 code_tells (Some a) name other code is is' = codes_decide name other a code (sym is) is'
+
+spelled_no_hash : (bs : List ℕ) → name_code (lowercased bs) ≡ None → IsNone (Some bs) ↔ IsTrue (is_hash (lowercased bs))
+spelled_no_hash bs is =
+    let none : is_hash (lowercased bs) ≡ false = sym (is_some-name_code (lowercased bs)) ∙ ap is_some is in
+    (λ spelled. absurd (cc), λ hash. absurd (true≢false (sym hash ∙ none)))
+
+-- the names that are hashes have no spelling
+pub kept_hash : (kept : Kept) → IsKeptRight kept → IsNone (name_of kept).spelling ↔ IsTrue (is_hash (name_of kept).lowercased)
+kept_hash (Hash code) right = (λ none. (hash_of_code (name_of_code code) code right).0, λ hash. refl)
+kept_hash (Borrowed bytes) right = spelled_no_hash bytes.now right
+kept_hash (Owned bytes) right = spelled_no_hash bytes.items right

@@ -1,10 +1,10 @@
 //! Names of elements.
 
-ghost use Rattle.std.specs.Prelude.{◌≡◌, ◌↔◌, IsTrue, IsSome, IsNone, IfSome, IfOk, IsOk, length};
+ghost use Rattle.std.specs.Prelude.{◌≡◌, ◌↔◌, IsTrue, IsNone, IfSome, IfOk, IsOk};
 ghost use Rattle.std.specs.Option.{option_copied};
 ghost use Rattle.std.specs.Char.{to_ascii_lowercase};
 ghost use Rattle.lol_base.specs.Names.{lowercased};
-ghost use Rattle.lol_base.specs.LocalNames.{name_code, local_name, bits_of};
+ghost use Rattle.lol_base.specs.LocalNames.{name_code, local_name, is_hash, bits_of};
 
 use crate::tag::Tag;
 use std::alloc::{AllocError, Global};
@@ -68,13 +68,24 @@ impl<'i> LocalName<'i> {
     /// The bytes as they were spelled, where the name isn't a hash.
     pub fn spelling(&self) -> Option<&[u8]>
         ensures value { option_copied result ≡ self.now.spelling }
-        ensures hash { IsNone result ↔ IsSome (name_code self.now.lowercased) }
+        ensures hash { IsNone self.now.spelling ↔ IsTrue (is_hash self.now.lowercased) }
         ensures spelled { IfSome self.now.spelling (λ bytes. lowercased bytes ≡ self.now.lowercased) }
     {
         match &self.kept {
             Kept::Hash(_) => None,
-            Kept::Borrowed(bytes) => Some(*bytes),
+            Kept::Borrowed(bytes) => Some(bytes),
             Kept::Owned(bytes) => Some(bytes.as_slice()),
+        }
+    }
+
+    /// The bytes of a name that isn't a hash, and none of one that is.
+    fn spelled(&self) -> &[u8]
+        ensures { IsNone (name_code self.now.lowercased) → lowercased result.now ≡ self.now.lowercased }
+    {
+        match &self.kept {
+            Kept::Hash(_) => &[],
+            Kept::Borrowed(bytes) => bytes,
+            Kept::Owned(bytes) => bytes.as_slice(),
         }
     }
 
@@ -124,7 +135,7 @@ impl<'i> PartialEq for LocalName<'i> {
     fn eq(&self, other: &LocalName<'i>) -> bool {
         match (self.code(), other.code()) {
             (Some(code), Some(other_code)) => code == other_code,
-            (None, None) => spelled(self).eq_ignore_ascii_case(spelled(other)),
+            (None, None) => self.spelled().eq_ignore_ascii_case(other.spelled()),
             _ => false,
         }
     }
@@ -148,7 +159,7 @@ impl<'i> Hash for LocalName<'i> {
         match self.code() {
             Some(code) => code.hash(state),
             None => {
-                let bytes = spelled(self);
+                let bytes = self.spelled();
                 bytes.len().hash(state);
                 for byte in bytes {
                     byte.to_ascii_lowercase().hash(state);
@@ -156,13 +167,6 @@ impl<'i> Hash for LocalName<'i> {
             }
         }
     }
-}
-
-/// The bytes of a name that isn't a hash.
-fn spelled<'s>(name: &'s LocalName<'_>) -> &'s [u8]
-    ensures { IsNone (name_code name.now.lowercased) → lowercased result.now ≡ name.now.lowercased }
-{
-    name.spelling().unwrap_or(&[])
 }
 
 /// The code of the name that these bytes spell, if it is a hash.

@@ -25,24 +25,24 @@ unpaired : (ks : List ℕ) → map (λ e. e.0) (paired ks) ≡ ks
 unpaired [] = refl
 unpaired (k ∷ ks) = ap (λ rest. k ∷ rest) (unpaired ks)
 
-lower : (x y : ℕ) → x < y → is_lt (nat_cmp x y) ≡ true
-lower x y less = grind (arith, nat_tests)
+is_lt-nat_cmp : (x y : ℕ) → x < y → is_lt (nat_cmp x y) ≡ true
+is_lt-nat_cmp x y less = grind (arith, nat_tests)
 
-below : (ws : List ℕ) (x from n : ℕ) → x < from → below_all nat_cmp x (paired (ids_from ws from n)) ≡ true
-below ws x from zero less = refl
-below ws x from (suc n) less =
-    let rest : below_all nat_cmp x (paired (ids_from ws (from + 1) n)) ≡ true = below ws x (from + 1) n (omega arith) in
+below_all-ids_from : (ws : List ℕ) (x from n : ℕ) → x < from → below_all nat_cmp x (paired (ids_from ws from n)) ≡ true
+below_all-ids_from ws x from zero less = refl
+below_all-ids_from ws x from (suc n) less =
+    let rest : below_all nat_cmp x (paired (ids_from ws (from + 1) n)) ≡ true = below_all-ids_from ws x (from + 1) n (omega arith) in
     elim (holds ws from) as (λ b. below_all nat_cmp x (paired (cond b (from ∷ ids_from ws (from + 1) n) (ids_from ws (from + 1) n))) ≡ true) [
-      | true ↦ rw (lower x from less, rest) refl
+      | true ↦ rw (is_lt-nat_cmp x from less, rest) refl
       | false ↦ rest
     ]
 
-rises : (ws : List ℕ) (from n : ℕ) → is_sorted nat_cmp (paired (ids_from ws from n)) ≡ true
-rises ws from zero = refl
-rises ws from (suc n) =
-    let rest : is_sorted nat_cmp (paired (ids_from ws (from + 1) n)) ≡ true = rises ws (from + 1) n in
+ids_from-rises : (ws : List ℕ) (from n : ℕ) → is_sorted nat_cmp (paired (ids_from ws from n)) ≡ true
+ids_from-rises ws from zero = refl
+ids_from-rises ws from (suc n) =
+    let rest : is_sorted nat_cmp (paired (ids_from ws (from + 1) n)) ≡ true = ids_from-rises ws (from + 1) n in
     elim (holds ws from) as (λ b. is_sorted nat_cmp (paired (cond b (from ∷ ids_from ws (from + 1) n) (ids_from ws (from + 1) n))) ≡ true) [
-      | true ↦ rw (below ws from (from + 1) n (omega arith), rest) refl
+      | true ↦ rw (below_all-ids_from ws from (from + 1) n (omega arith), rest) refl
       | false ↦ rest
     ]
 
@@ -62,7 +62,7 @@ keys-with_ids ks rise =
 
 pub keys-ids_held : (ws : List ℕ) → fm.keys (ids_held ws) ≡ ids_from ws 0 (32 * length ws)
 unfolding ids_held
-keys-ids_held ws = keys-with_ids (ids_from ws 0 (32 * length ws)) (rises ws 0 (32 * length ws))
+keys-ids_held ws = keys-with_ids (ids_from ws 0 (32 * length ws)) (ids_from-rises ws 0 (32 * length ws))
 
 -- ---- from one id to the next
 pub skipped : (ws : List ℕ) (from k n : ℕ) → NoneHeld ws from (from + k) → ids_from ws from (k + n) ≡ ids_from ws (from + k) n

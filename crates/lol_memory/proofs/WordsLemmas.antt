@@ -14,53 +14,53 @@ use Rattle.lol_memory.specs.Ids.{AllSmall, HasRoom, HasRoomFor, same_ids, has, w
 use Rattle.lol_memory.specs.Words.{holds, ids_held, ids_from, IsTrim}
 use Rattle.lol_memory.specs.SetLaws.{same_set, has-no_ids, has-with_id, has-with_ids, has-union, same_ids-Decides}
 
-head_any : (p : ℕ → Bool) (b : Bool) (x : ℕ) (xs : List ℕ) → list_any p (cond b (x ∷ xs) xs) ≡ ((b && p x) || list_any p xs)
-head_any p true x xs = refl
-head_any p false x xs = refl
+list_any-cond : (p : ℕ → Bool) (b : Bool) (x : ℕ) (xs : List ℕ) → list_any p (cond b (x ∷ xs) xs) ≡ ((b && p x) || list_any p xs)
+list_any-cond p true x xs = refl
+list_any-cond p false x xs = refl
 
 -- a number that does not lie among n from `from` on does not stand among their ids
-others : (ws : List ℕ) (from n q : ℕ) → (q < from) ⊎ (from + n ≤ q) → list_any (λ y. nat_eq y q) (ids_from ws from n) ≡ false
-others ws from zero q out = refl
-others ws from (suc n) q out =
+list_any-outside : (ws : List ℕ) (from n q : ℕ) → (q < from) ⊎ (from + n ≤ q) → list_any (λ y. nat_eq y q) (ids_from ws from n) ≡ false
+list_any-outside ws from zero q out = refl
+list_any-outside ws from (suc n) q out =
     let rest : list_any (λ y. nat_eq y q) (ids_from ws (from + 1) n) ≡ false =
-    others ws (from + 1) n q (elim out [ inl below ↦ inl (omega arith) | inr above ↦ inr (omega arith) ]) in
+    list_any-outside ws (from + 1) n q (elim out [ inl below ↦ inl (omega arith) | inr above ↦ inr (omega arith) ]) in
     let apart : nat_eq from q ≡ false = elim out [ inl below ↦ grind (arith, nat_tests) | inr above ↦ grind (arith, nat_tests) ] in
-    head_any (λ y. nat_eq y q) (holds ws from) from (ids_from ws (from + 1) n) ∙ rw (rest, apart) (elim (holds ws from) as (λ b. ((b && false) || false) ≡ false) [ true ↦ refl | false ↦ refl ])
+    list_any-cond (λ y. nat_eq y q) (holds ws from) from (ids_from ws (from + 1) n) ∙ rw (rest, apart) (elim (holds ws from) as (λ b. ((b && false) || false) ≡ false) [ true ↦ refl | false ↦ refl ])
 
 -- one that does stands there exactly if the words hold it
-among : (ws : List ℕ) (from n q : ℕ) → from ≤ q → q < from + n → list_any (λ y. nat_eq y q) (ids_from ws from n) ≡ holds ws q
-among ws from zero q low high = absurd (omega arith)
-among ws from (suc n) q low high =
-    head_any (λ y. nat_eq y q) (holds ws from) from (ids_from ws (from + 1) n)
+list_any-inside : (ws : List ℕ) (from n q : ℕ) → from ≤ q → q < from + n → list_any (λ y. nat_eq y q) (ids_from ws from n) ≡ holds ws q
+list_any-inside ws from zero q low high = absurd (omega arith)
+list_any-inside ws from (suc n) q low high =
+    list_any-cond (λ y. nat_eq y q) (holds ws from) from (ids_from ws (from + 1) n)
     ∙ elim (cases_eq from q) [
       | inl here ↦
-          let none = others ws (from + 1) n q (inl (omega arith)) in
+          let none = list_any-outside ws (from + 1) n q (inl (omega arith)) in
           let same : nat_eq from q ≡ true = grind (arith, nat_tests) in
           rw (none, same, here) (elim (holds ws q) as (λ b. ((b && true) || false) ≡ b) [ true ↦ refl | false ↦ refl ])
       | inr other ↦
           let apart : nat_eq from q ≡ false = grind (arith, nat_tests) in
-          let rest = among ws (from + 1) n q (omega arith) (omega arith) in
+          let rest = list_any-inside ws (from + 1) n q (omega arith) (omega arith) in
           rw (rest, apart) (elim (holds ws from) as (λ b. ((b && false) || holds ws q) ≡ holds ws q) [ true ↦ refl | false ↦ refl ])
     ]
 
 -- past the words nothing is held
-past : (ws : List ℕ) (q : ℕ) → 32 * length ws ≤ q → holds ws q ≡ false
+holds-past : (ws : List ℕ) (q : ℕ) → 32 * length ws ≤ q → holds ws q ≡ false
 unfolding holds
-past ws q far =
+holds-past ws q far =
     let none : get_or ws (q / 32) 0 ≡ 0 = get_or_past ws (q / 32) 0 (omega arith) in
     rw none (rw (bit_at-zero (q % 32)) refl)
 
-flipped : (ks : List ℕ) (q : ℕ) → list_any (eq_by_cmp nat_cmp q) ks ≡ list_any (λ y. nat_eq y q) ks
-flipped [] q = refl
-flipped (k ∷ ks) q = λ i. (unsigned_tied q k ∙ nat_eq_equiv.symm q k) i || flipped ks q i
+list_any-flipped : (ks : List ℕ) (q : ℕ) → list_any (eq_by_cmp nat_cmp q) ks ≡ list_any (λ y. nat_eq y q) ks
+list_any-flipped [] q = refl
+list_any-flipped (k ∷ ks) q = λ i. (unsigned_tied q k ∙ nat_eq_equiv.symm q k) i || list_any-flipped ks q i
 
 pub has-ids_held : (ws : List ℕ) (q : ℕ) → has (ids_held ws) q ≡ holds ws q
 unfolding ids_held
 has-ids_held ws q =
-    has-with_ids no_ids (ids_from ws 0 (32 * length ws)) q ∙ ap (λ b. b || list_any (eq_by_cmp nat_cmp q) (ids_from ws 0 (32 * length ws))) (has-no_ids q) ∙ flipped (ids_from ws 0 (32 * length ws)) q
+    has-with_ids no_ids (ids_from ws 0 (32 * length ws)) q ∙ ap (λ b. b || list_any (eq_by_cmp nat_cmp q) (ids_from ws 0 (32 * length ws))) (has-no_ids q) ∙ list_any-flipped (ids_from ws 0 (32 * length ws)) q
     ∙ elim (cases_lt q (32 * length ws)) [
-      | inl near ↦ among ws 0 (32 * length ws) q (omega arith) (omega arith)
-      | inr far ↦ others ws 0 (32 * length ws) q (inr (omega arith)) ∙ sym (past ws q far)
+      | inl near ↦ list_any-inside ws 0 (32 * length ws) q (omega arith) (omega arith)
+      | inr far ↦ list_any-outside ws 0 (32 * length ws) q (inr (omega arith)) ∙ sym (holds-past ws q far)
     ]
 
 -- two lists of words that hold the same ids make the same set
@@ -146,8 +146,8 @@ ids_held-nothing =
     same_set _ _ (λ q. has-ids_held (0 ∷ []) q ∙ none_held q ∙ sym (has-no_ids q))
 
 -- a word that is not 0 has a bit
-a_bit : (word : ℕ) → word ≢ 0 → word < 2 ^ 32 → (k : ℕ) × (k < 32) × (bit_at word k ≡ 1)
-a_bit word some fits =
+some_bit : (word : ℕ) → word ≢ 0 → word < 2 ^ 32 → (k : ℕ) × (k < 32) × (bit_at word k ≡ 1)
+some_bit word some fits =
     let zeros = bit_at-trailing_zeros w32 word (omega arith) fits in
     (trailing_zeros w32 word, zeros.0, zeros.1)
 
@@ -157,7 +157,7 @@ module _ (ws : List ℕ) where
   unfolding holds
   last_id trim several =
       let last = length ws - 1 in
-      let bit = a_bit (get_or ws last 0) (trim.last several) (trim.fit last) in
+      let bit = some_bit (get_or ws last 0) (trim.last several) (trim.fit last) in
       let q = 32 * last + bit.0 in
       let word : q / 32 ≡ last = omega (arith, bit.1) in
       let rest : q % 32 ≡ bit.0 = omega (arith, bit.1) in
@@ -179,7 +179,7 @@ module _ (ws : List ℕ) where
   within_words q held =
       elim (cases_lt q (32 * length ws)) [
         | inl near ↦ near
-        | inr far ↦ absurd (true≢false (sym held ∙ past ws q far))
+        | inr far ↦ absurd (true≢false (sym held ∙ holds-past ws q far))
       ]
 
   -- there is a word for an id that has room
@@ -250,7 +250,7 @@ module _ (xs ys : List ℕ) (alike : (q : ℕ) → holds xs q ≡ holds ys q) wh
       elim (cases_lt (length xs) (length ys)) [
         | inl longer ↦
             let last = last_id ys trim' (omega (arith, trim.some)) in
-            let none = past xs last.0 (omega (arith, last.1)) in
+            let none = holds-past xs last.0 (omega (arith, last.1)) in
             absurd (true≢false (sym last.2 ∙ (sym (alike last.0) ∙ none)))
         | inr other ↦ other
       ]

@@ -1,0 +1,9 @@
+//! Tests: vectors whose answers come from outside, and each call that can refuse once with ample memory. The library is empty.
+#![tactic(auto)]
+
+#[cfg(test)]
+mod limits;
+#[cfg(test)]
+mod names;
+#[cfg(test)]
+mod sets;

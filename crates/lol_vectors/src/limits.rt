@@ -1,0 +1,136 @@
+//! The limiter, and lists with charged slots.
+
+ghost use Rattle.std.specs.Prelude.{◌≡◌};
+
+use lol_memory::{LimitedVec, MemoryLimitExceededError, PushError, SharedMemoryLimiter};
+use std::process::Abort;
+use std::test::Fail;
+
+#[test]
+fn counts_up_to_the_maximum(rt: HostRuntime) {
+    let mut limiter = SharedMemoryLimiter::new(10);
+    assert!(rt; limiter.increase_usage(3).is_ok());
+    assert_eq!(rt; limiter.current_usage(), 3);
+    assert!(rt; limiter.increase_usage(5).is_ok());
+    assert_eq!(rt; limiter.current_usage(), 8);
+    limiter.decrease_usage(4);
+    assert_eq!(rt; limiter.current_usage(), 4);
+    assert!(rt; limiter.increase_usage(15).is_err());
+    assert_eq!(rt; limiter.current_usage(), 4);
+}
+
+#[test]
+fn refuses_a_first_push_above_the_maximum(rt: HostRuntime) {
+    for (item_bytes, max) in [(1, 0), (2, 1), (257, 256), (usize::MAX, usize::MAX)] {
+        let mut limiter = SharedMemoryLimiter::new(max);
+        let mut list = LimitedVec::new(rt.alloc(), item_bytes);
+        assert!(rt;
+            matches!(list.push(7u8, &mut limiter), Err(PushError::Limit(_))),
+            "{item_bytes} bytes, {max} at most"
+        );
+        assert_eq!(rt;
+            (list.len(), list.slots(), limiter.current_usage()),
+            (0, 0, 0)
+        );
+        list.release(&mut limiter);
+    }
+}
+
+#[test]
+fn takes_the_fewest_slots_first(rt: HostRuntime) {
+    for (item_bytes, slots) in [(1, 128), (7, 18), (64, 8)] {
+        let mut limiter = SharedMemoryLimiter::new(1000);
+        let mut list = LimitedVec::new(rt.alloc(), item_bytes);
+        fill(&rt, &mut list, 1, &mut limiter);
+        assert_eq!(rt; list.slots(), slots, "{item_bytes} bytes");
+        release(&rt, list, item_bytes, &mut limiter);
+    }
+}
+
+#[test]
+fn keeps_the_charge_until_it_is_released(rt: HostRuntime) {
+    for (item_bytes, fewest, max) in [(1, 128, 256), (8, 16, 256), (7, 18, 252), (512, 8, 8192)] {
+        let mut limiter = SharedMemoryLimiter::new(max);
+        let mut list = LimitedVec::new(rt.alloc(), item_bytes);
+        fill(&rt, &mut list, 1, &mut limiter);
+        assert_eq!(rt; list.slots(), fewest);
+        fill(&rt, &mut list, 2, &mut limiter);
+        assert_eq!(rt; list.slots(), fewest);
+        let usage = limiter.current_usage();
+
+        assert_eq!(rt; list.len(), 3);
+        for _ in list.drain(1..3) {}
+        for _ in list.drain(0..1) {}
+        assert_eq!(rt;
+            (list.len(), list.slots(), limiter.current_usage()),
+            (0, fewest, usage)
+        );
+
+        fill(&rt, &mut list, 2 * fewest, &mut limiter);
+        assert_eq!(rt; limiter.current_usage(), max);
+        assert!(rt; matches!(list.push(0, &mut limiter), Err(PushError::Limit(_))));
+        assert_eq!(rt; (list.len(), limiter.current_usage()), (2 * fewest, max));
+        release(&rt, list, item_bytes, &mut limiter);
+        assert_eq!(rt; limiter.current_usage(), 0);
+    }
+}
+
+#[test]
+fn gives_what_it_takes_out_in_order(rt: HostRuntime) {
+    let mut limiter = SharedMemoryLimiter::new(1000);
+    let mut list = LimitedVec::new(rt.alloc(), 1);
+    fill(&rt, &mut list, 6, &mut limiter);
+    assert_eq!(rt; list.len(), 6);
+    {
+        let mut taken = list.drain(1..4);
+        assert_eq!(rt; taken.next(), Some(1));
+        assert_eq!(rt; taken.next(), Some(2));
+    }
+    assert_eq!(rt; list.as_slice(), [0, 4, 5].as_slice());
+    assert_eq!(rt; list[1], 4);
+    if let Some(last) = list.last_mut() {
+        *last = 9;
+    }
+    list.as_mut_slice().reverse();
+    assert_eq!(rt; list.as_slice(), [9, 4, 0].as_slice());
+    assert_eq!(rt; list.last(), Some(&0));
+    release(&rt, list, 1, &mut limiter);
+}
+
+#[test]
+fn refusals_have_their_text(rt: HostRuntime) -> Result<(), Fail> {
+    let error = MemoryLimitExceededError.to_string(rt.alloc())?;
+    assert_eq!(rt; error.as_str(), "The memory limit has been exceeded.");
+    let error = PushError::Limit(MemoryLimitExceededError).to_string(rt.alloc())?;
+    assert_eq!(rt; error.as_str(), "The memory limit has been exceeded.");
+    Ok(())
+}
+
+/// Pushes the numbers from 0 on.
+fn fill(
+    rt: &impl Abort,
+    list: &mut LimitedVec<usize>,
+    count: usize,
+    limiter: &mut SharedMemoryLimiter,
+)
+    ensures { list.new.item_bytes ≡ list.old.item_bytes }
+{
+    for i in 0..count {
+        assert!(rt; list.push(i, limiter).is_ok(), "push {i} of {count}");
+    }
+}
+
+/// Releases a list whose slots are charged for `item_bytes` each.
+fn release(
+    rt: &impl Abort,
+    list: LimitedVec<usize>,
+    item_bytes: usize,
+    limiter: &mut SharedMemoryLimiter,
+)
+    requires { list.item_bytes ≡ item_bytes }
+{
+    let charge = list.slots().checked_mul(item_bytes);
+    let charge = charge.expect(rt, "a charge that fits");
+    assert!(rt; charge <= limiter.current_usage());
+    list.release(limiter);
+}
