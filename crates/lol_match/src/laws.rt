@@ -5,6 +5,10 @@ ghost use Rattle.lol_base.specs.declared.namespace.Namespace.TheVariants.{Svg};
 ghost use Rattle.lol_match.specs.Script.{Line, line_at, number_up_to, SetLimit, TurnEsiOn, ShowTries, Select, StartLine, EndLine};
 ghost use Rattle.lol_match.specs.First as first;
 ghost use Rattle.lol_match.specs.First.{plain_tag};
+ghost use Rattle.lol_match.specs.Scripts.{output, first_output};
+ghost use Rattle.lol_match.specs.declared.program.Status.TheVariants.{Good, BadLine, Refused};
+
+
 
 /// Numbers: one or more digits, up to a greatest one.
 pub fn worked_numbers()
@@ -64,3 +68,25 @@ pub fn worked_first_lines()
     ensures tries { first.line_at (codes "tries") ≡ None }
     ensures limit { first.line_at (codes "limit\t5") ≡ None }
 {}
+
+/// Whole scripts, with the selectors of this reader: what is written, and how the run ends.
+pub fn worked_outputs()
+    ensures nothing { output [] ≡ record { text = []; status = Good } }
+    ensures descendant_and_child { output (codes "select\t0\tdiv p\nselect\t1\tdiv > p\nstart\thtml\tdiv\nstart\thtml\tsection\nstart\thtml\tp\nend\tdiv") ≡ record { text = codes "start\t-\nstart\t-\nstart\t0\nend\t0,1,2\n"; status = Good } }
+    ensures tries { output (codes "tries\nselect\t0\tdiv p\nselect\t1\tdiv > p\nstart\thtml\tdiv\nstart\thtml\tsection\nstart\thtml\tp\nend\tdiv\n") ≡ record { text = codes "start\t-\ttries 1 0\nstart\t-\ttries 3 0\nstart\t0\ttries 2 0\nend\t0,1,2\n"; status = Good } }
+    ensures without_content { output (codes "select\t4\t* > br, P\nselect\t2\tp\nstart\thtml\tp\nstart\thtml\tBR\nstart\thtml\tp\nend\tP\nend\tP\n") ≡ record { text = codes "start\t2,4\nstart\t4/\nstart\t2,4\nend\t2\nend\t0\n"; status = Good } }
+    ensures dropped { output (codes "select\t0\t*\ndrop\tsvg\tg\nstart\thtml\tp\nend\tg\n") ≡ record { text = codes "dropped\nstart\t0\nend\t-\n"; status = Good } }
+    ensures foreign { output (codes "tries\nselect\t0\tcircle\nstart\tsvg/\tcircle\nend\tcircle\n") ≡ record { text = codes "start\t0/\tasked\ttries 1 0\nend\t-\n"; status = Good } }
+    ensures limit { output (codes "limit\t512\nselect\t0\t*\nstart\thtml\ta\nstart\thtml\tb\nstart\thtml\tc\nstart\thtml\td\nstart\thtml\te\nstart\thtml\tf\nstart\thtml\tg\nstart\thtml\th\nstart\thtml\ti\n") ≡ record { text = codes "start\t0\nstart\t0\nstart\t0\nstart\t0\nstart\t0\nstart\t0\nstart\t0\nstart\t0\nrefused limit\n"; status = Refused } }
+    ensures bad_selector { output (codes "select\t0\tdiv + span") ≡ record { text = codes "bad line 1: UnsupportedSyntax\n"; status = BadLine } }
+    ensures bad_form { output (codes "start\thtml\n") ≡ record { text = codes "bad line 1: form\n"; status = BadLine } }
+    ensures late_bad_line { output (codes "start\thtml\tp\n\nselect\t0\tdiv + span") ≡ record { text = codes "bad line 3: form\n"; status = BadLine } }
+{
+}
+
+/// Whole scripts as they are answered for now, where fewer lines are good.
+pub fn worked_first_outputs()
+    ensures descendant_and_child { first_output (codes "select\t0\tdiv p\nselect\t1\tdiv > p\nstart\thtml\tdiv\nstart\thtml\tsection\nstart\thtml\tp\nend\tdiv") ≡ record { text = codes "start\t-\nstart\t-\nstart\t0\nend\t0,1,2\n"; status = Good } }
+    ensures esi { first_output (codes "select\t0\tp\nesi\n") ≡ record { text = codes "bad line 2: form\n"; status = BadLine } }
+{
+}

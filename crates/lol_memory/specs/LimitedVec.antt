@@ -1,7 +1,8 @@
 -- What a contract sees of a `LimitedVec`: its elements, the slots that are charged, and the bytes that a slot is charged for.
-use Rattle.std.specs.Prelude.{ℕ, ◌+◌, ◌*◌, ◌/◌, ◌^◌, ◌≤◌, ◌⊎◌, List, [], ◌∷◌, ◌++◌, length, max, if◌then◌else◌, nat_lt, refl}
+use Rattle.std.specs.Prelude.{ℕ, ◌+◌, ◌*◌, ◌^◌, ◌≤◌, ◌⊎◌, List, [], ◌∷◌, ◌++◌, length, max, if◌then◌else◌, nat_lt, refl}
 use Rattle.std.specs.Coded.{Coded, code_by, coded×, coded_ℕ, coded_list}
 use Rattle.lol_memory.specs.Limiter.{Limiter, Passes}
+use Rattle.lol_memory.specs.Slots.{minimum_slots}
 
 pub record LimitedVec (T : Type 0) : Type 0 where
   pub items : List T
@@ -12,10 +13,6 @@ abbrev pub limited_vec_code : {T : Type 0} → Coded T → Coded (LimitedVec T)
 limited_vec_code {T} code =
     code_by (List T × (ℕ × ℕ)) (coded× (coded_list code) (coded× coded_ℕ coded_ℕ)) (λ v. (v.items, (v.slots, v.item_bytes)))
     (λ p. record { items = p.0; slots = p.1.0; item_bytes = p.1.1 }) (λ _. refl)
-
--- the fewest slots that a growth from nothing charges
-abbrev pub minimum_slots : ℕ → ℕ
-minimum_slots item_bytes = max 8 (128 / item_bytes)
 
 module _ {T : Type 0} where
   abbrev pub IsFull : LimitedVec T → Type 0

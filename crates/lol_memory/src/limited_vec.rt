@@ -7,7 +7,8 @@ ghost use Rattle.std.specs.Iterator.{at_most};
 ghost use Rattle.std.specs.Iterator.Runs.{YieldsInOrder};
 ghost use Rattle.std.specs.List.{remove_range};
 ghost use Rattle.lol_memory.specs.Limiter.{charged};
-ghost use Rattle.lol_memory.specs.LimitedVec.{pushed, with_items, more_slots, grown_slots, IsLimited, minimum_slots as least_slots};
+ghost use Rattle.lol_memory.specs.LimitedVec.{pushed, with_items, more_slots, grown_slots, IsLimited};
+ghost use Rattle.lol_memory.specs.Slots.{minimum_slots as least_slots};
 
 use crate::limiter::{MemoryLimitExceededError, SharedMemoryLimiter};
 use std::alloc::{AllocError, Global};
