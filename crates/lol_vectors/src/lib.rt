@@ -6,4 +6,6 @@ mod limits;
 #[cfg(test)]
 mod names;
 #[cfg(test)]
+mod runs;
+#[cfg(test)]
 mod sets;

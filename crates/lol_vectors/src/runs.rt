@@ -1,0 +1,88 @@
+//! Selectors under ids, and whole runs.
+
+use lol_vm::{
+    Ast, AttributeBuffer, AuxStartTagInfo, Bytes, MatchInfo, Namespace, Selector,
+    SharedMemoryLimiter, TagEvent, TagReport, Tries, match_events,
+};
+use std::alloc::Global;
+use std::test::Fail;
+
+/// The selectors of these texts, each under an id.
+fn selectors(alloc: Global, texts: &[(&str, u32)]) -> Result<Ast, Fail> {
+    let mut ast = Ast::new(alloc);
+    for (text, match_id) in texts {
+        let selector = Selector::from_str(alloc, text)?;
+        ast.add_selector(&selector, *match_id)?;
+    }
+    Ok(ast)
+}
+
+fn start<'i>(name: &'i [u8], none: &'i AttributeBuffer) -> TagEvent<'i> {
+    TagEvent::Start {
+        name,
+        ns: Namespace::Html,
+        aux_info: AuxStartTagInfo {
+            input: Bytes::new(name),
+            attr_buffer: none,
+            self_closing: false,
+        },
+        finish: true,
+    }
+}
+
+#[test]
+fn adds_selectors(rt: HostRuntime) -> Result<(), Fail> {
+    let ast = selectors(rt.alloc(), &[("div p, *", 3), ("div > p", 3)])?;
+    assert_eq!(rt; ast.pairs().len(), 3);
+    assert_eq!(rt;
+        ast,
+        selectors(rt.alloc(), &[("div p", 3), ("*, div>p", 3)])?
+    );
+    assert_ne!(rt;
+        ast,
+        selectors(rt.alloc(), &[("div p, *", 3), ("div p", 3)])?
+    );
+    Ok(())
+}
+
+#[test]
+fn answers_tags(rt: HostRuntime) -> Result<(), Fail> {
+    let alloc = rt.alloc();
+    let ast = selectors(alloc, &[("div p", 0), ("div > p", 1)])?;
+    let none = AttributeBuffer::new(alloc);
+    let events = [
+        start(b"div", &none),
+        start(b"section", &none),
+        start(b"p", &none),
+        TagEvent::End { name: b"DIV" },
+    ];
+    let mut limiter = SharedMemoryLimiter::new(100);
+    let reports = match_events(alloc, &ast, 64, false, &events, &mut limiter);
+    assert_eq!(rt; limiter.current_usage(), 0);
+
+    let Ok(reports) = reports else {
+        return Err(Fail::from("the run was refused"));
+    };
+    let found = MatchInfo {
+        match_id: 0,
+        with_content: true,
+    };
+    let matched: [&[MatchInfo]; 3] = [&[], &[], &[found]];
+    assert_eq!(rt; reports.len(), 4);
+    for (report, wanted) in reports.iter().zip(matched) {
+        let TagReport::Started {
+            matched,
+            asked,
+            tries,
+        } = report
+        else {
+            return Err(Fail::from("no start tag"));
+        };
+        assert_eq!(rt; matched.as_slice(), wanted);
+        assert!(rt; !*asked && *tries == Tries::new());
+    }
+    assert!(rt;
+        matches!(&reports[3], TagReport::Ended { closed } if closed.as_slice() == [0, 1, 2].as_slice())
+    );
+    Ok(())
+}
