@@ -1,21 +1,18 @@
 -- Reading a script, line by line.
-use Rattle.std.proofs.Common.{◌≡◌, ◌≢◌, ℕ, ◌+◌, ◌<◌, List, [], ◌∷◌, ◌++◌, map, drop, get_or, length, Option, Some, None, Result, Ok, Err, OnOk, IfErr, Contains, All, ◌↔◌, ◌⊎◌, inl, inr, refl, sym, ap, ◌∙◌, arith}
-use Rattle.std.proofs.lemmas.List.{drop_more, get_or-map, length-map}
-use Rattle.std.specs.Borrow.{Bor}
-use Rattle.lol_css.specs.Reading.{accept}
+use Rattle.std.proofs.Common.{◌≡◌, ◌≢◌, ℕ, ◌+◌, ◌<◌, ◌≤◌, List, [], ◌∷◌, ◌++◌, drop, get_or, length, Option, Result, Ok, Contains, ◌↔◌, inl, inr, refl, sym, ap, ◌∙◌, arith}
+use Rattle.std.specs.List.{enumerate_from}
+use Rattle.std.proofs.lemmas.List.{drop_more, drop_all}
+use Rattle.std.proofs.lemmas.List.FromFn.{length-enumerate_from, get_or-enumerate_from}
 use Rattle.lol_css.specs.Trees.{Complex}
 use Rattle.lol_css.specs.declared.error.SelectorError.{SelectorError}
 use Rattle.lol_program.specs.Paths.{Path}
 use Rattle.lol_program.specs.Asts.{Joins}
-use Rattle.lol_program.specs.Conditions.{pairs_under}
 use Rattle.lol_program.proofs.Members.{contains-append}
 use Rattle.lol_vm.specs.Events.{Event}
 use Rattle.lol_match.specs.Script.{Line}
 use Rattle.lol_match.specs.First.{line_at}
-use Rattle.lol_match.specs.Scripts as scripts
-use Rattle.lol_match.specs.Scripts.{Script, with_line, with_bytes, with_meaning, with_selector, unless_begun, and_then}
+use Rattle.lol_match.specs.Scripts.{Script, with_bytes, with_meaning, with_selector, unless_begun, and_then, read_lines}
 use Rattle.lol_match.specs.Readings.{Stops}
-use Rattle.lol_match.specs.declared.bad_line.BadLine.{BadLine}
 use Rattle.lol_match.specs.declared.script.Stop.{Stop}
 use Rattle.lol_match.specs.declared.script.Stop.TheVariants.{Memory, Bad}
 
@@ -32,21 +29,31 @@ selector_taken number s id events read r none is = λ i. unless_begun (none i) n
 pub joined : (old new added pairs : List (Path × ℕ)) → ((pair : Path × ℕ) → Contains old pair ↔ Contains pairs pair) → Joins old new added → (pair : Path × ℕ) → Contains new pair ↔ Contains (pairs ++ added) pair
 joined old new added pairs same joins pair = (
   λ h. (contains-append pairs added pair).1 (elim ((joins pair).0 h) [ inl a ↦ inl ((same pair).0 a) | inr b ↦ inr b ]),
-  λ h. (joins pair).1 (elim ((contains-append pairs added pair).0 h) [ inl a ↦ inl ((same pair).1 a) | inr b ↦ inr b ])
+  λ h. (joins pair).1 (elim ((contains-append pairs added pair).0 h) [ inl a ↦ inl ((same pair).1 a) | inr b ↦ inr b ]),
 )
 
-abbrev texts : List (Bor (List ℕ)) → List (List ℕ)
-texts lines = map (λ (line : Bor (List ℕ)). line.now) lines
+-- the n-th of the numbered lines
+pub numbered : (lines : List (List ℕ)) (n place : ℕ) (line : List ℕ) → (n < length (enumerate_from 0 lines)) × ((place, line) ≡ get_or (enumerate_from 0 lines) n (place, line)) → ((n < length lines) × (line ≡ get_or lines n line)) × (place ≡ n)
+numbered lines n place line at =
+    let within : n < length lines = omega (arith, at.0, length-enumerate_from 0 lines) in
+    let is : (place, line) ≡ (0 + n, get_or lines n line) = at.1 ∙ get_or-enumerate_from 0 lines n (place, line) within in
+    ((within, ap (λ p. p.1) is), omega (arith, ap (λ p. p.0) is))
 
-module _ (lines : List (Bor (List ℕ))) (place : ℕ) (d : Bor (List ℕ)) (number : ℕ) (s : Script) (within : place < length lines) where
-  next_line : scripts.read_lines line_at number s (drop place (texts lines)) ≡ and_then (with_bytes line_at number s (get_or lines place d).now) (λ t. scripts.read_lines line_at (number + 1) t (drop (place + 1) (texts lines)))
-  next_line =
-      ap (scripts.read_lines line_at number s) (drop_more (texts lines) place d.now (omega (arith, within, length-map lines (λ (line : Bor (List ℕ)). line.now))))
-      ∙ ap (λ text. and_then (with_bytes line_at number s text) (λ t. scripts.read_lines line_at (number + 1) t (drop (place + 1) (texts lines)))) (get_or-map (λ (line : Bor (List ℕ)). line.now) lines place d d.now within)
+module _ (lines : List (List ℕ)) where
+  -- the line of this turn, which is the n-th, and then those behind it
+  module _ (n : ℕ) (line : List ℕ) (at : (n < length lines) × (line ≡ get_or lines n line)) (number : ℕ) (s : Script) where
+    next_line : read_lines line_at number s (drop n lines) ≡ and_then (with_bytes line_at number s line) (λ t. read_lines line_at (number + 1) t (drop (n + 1) lines))
+    next_line = ap (read_lines line_at number s) (drop_more lines n line at.0 ∙ ap (λ l. l ∷ drop (n + 1) lines) (sym at.1))
 
-  pub line_read : (t : Script) → with_bytes line_at number s (get_or lines place d).now ≡ Ok t → scripts.read_lines line_at number s (drop place (texts lines)) ≡ scripts.read_lines line_at (number + 1) t (drop (place + 1) (texts lines))
-  line_read t h = next_line ∙ ap (λ r. and_then r (λ t. scripts.read_lines line_at (number + 1) t (drop (place + 1) (texts lines)))) h
+    -- a good line
+    pub line_read : (t : Script) → with_bytes line_at number s line ≡ Ok t → read_lines line_at number s (drop n lines) ≡ read_lines line_at (number + 1) t (drop (n + 1) lines)
+    line_read t good = next_line ∙ ap (λ r. and_then r (λ u. read_lines line_at (number + 1) u (drop (n + 1) lines))) good
 
-  pub line_stops : (stop : Stop) → Stops stop (with_bytes line_at number s (get_or lines place d).now) → Stops stop (scripts.read_lines line_at number s (drop place (texts lines)))
-  line_stops Memory h = tt
-  line_stops (Bad bad) h = next_line ∙ ap (λ r. and_then r (λ t. scripts.read_lines line_at (number + 1) t (drop (place + 1) (texts lines)))) h
+    -- a line at which reading stops
+    pub line_stops : (stop : Stop) → Stops stop (with_bytes line_at number s line) → Stops stop (read_lines line_at number s (drop n lines))
+    line_stops Memory h = tt
+    line_stops (Bad bad) h = next_line ∙ ap (λ r. and_then r (λ u. read_lines line_at (number + 1) u (drop (n + 1) lines))) h
+
+  -- no line is left
+  pub lines_end : (n number : ℕ) (s : Script) → length lines ≤ n → read_lines line_at number s (drop n lines) ≡ Ok s
+  lines_end n number s all = ap (read_lines line_at number s) (drop_all n lines all)

@@ -1,5 +1,5 @@
 -- What the code has read of a script.
-use Rattle.std.specs.Prelude.{ℕ, ◌≡◌, ◌↔◌, false, List, [], ◌∷◌, map, Contains, All, Result, Ok, Err}
+use Rattle.std.specs.Prelude.{ℕ, ◌≡◌, ◌↔◌, map, Contains, All, Result, Ok, Err}
 use Rattle.lol_program.specs.Paths.{Path}
 use Rattle.lol_program.specs.Asts.{pairs_of}
 use Rattle.lol_vm.specs.Views.{IsPlainHtml, HasRangesInside, event_of}

@@ -8,8 +8,6 @@ ghost use Rattle.lol_match.specs.First.{plain_tag};
 ghost use Rattle.lol_match.specs.Scripts.{output, first_output};
 ghost use Rattle.lol_match.specs.declared.program.Status.TheVariants.{Good, BadLine, Refused};
 
-
-
 /// Numbers: one or more digits, up to a greatest one.
 pub fn worked_numbers()
     ensures leading_zeros { number_up_to 4294967295 (codes "0007") ≡ Some 7 }
@@ -81,12 +79,10 @@ pub fn worked_outputs()
     ensures bad_selector { output (codes "select\t0\tdiv + span") ≡ record { text = codes "bad line 1: UnsupportedSyntax\n"; status = BadLine } }
     ensures bad_form { output (codes "start\thtml\n") ≡ record { text = codes "bad line 1: form\n"; status = BadLine } }
     ensures late_bad_line { output (codes "start\thtml\tp\n\nselect\t0\tdiv + span") ≡ record { text = codes "bad line 3: form\n"; status = BadLine } }
-{
-}
+{}
 
 /// Whole scripts as they are answered for now, where fewer lines are good.
 pub fn worked_first_outputs()
     ensures descendant_and_child { first_output (codes "select\t0\tdiv p\nselect\t1\tdiv > p\nstart\thtml\tdiv\nstart\thtml\tsection\nstart\thtml\tp\nend\tdiv") ≡ record { text = codes "start\t-\nstart\t-\nstart\t0\nend\t0,1,2\n"; status = Good } }
     ensures esi { first_output (codes "select\t0\tp\nesi\n") ≡ record { text = codes "bad line 2: form\n"; status = BadLine } }
-{
-}
+{}

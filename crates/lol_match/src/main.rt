@@ -7,9 +7,9 @@ mod laws;
 mod lines;
 mod output;
 mod program;
-mod script;
 #[cfg(test)]
 mod replayed;
+mod script;
 #[cfg(test)]
 mod tests;
 

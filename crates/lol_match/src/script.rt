@@ -17,7 +17,7 @@ use crate::lines::{Line, line_of};
 use lol_vm::{
     Ast, AttributeBuffer, AuxStartTagInfo, Bytes, Namespace, Selector, SelectorError, TagEvent,
 };
-use std::alloc::{AllocError, Global};
+use std::alloc::Global;
 
 /// What a script asks for.
 #[derive(Drop)]
@@ -50,19 +50,10 @@ pub fn read_script<'s>(
         ast: Ast::new(alloc),
         events: Vec::new(alloc),
     };
-    let Ok(lines) = lines_of(alloc, bytes) else {
-        return Err(Stop::Memory);
-    };
-    for (place, line) in lines.iter().enumerate() {
+    for (place, line) in bytes.split(|b| *b == b'\n').enumerate() {
         take_line(alloc, &mut script, place + 1, line, none)?;
     }
     Ok(script)
-}
-
-fn lines_of(alloc: Global, bytes: &[u8]) -> Result<Vec<&[u8]>, AllocError>
-    ensures { IfOk result (λ lines. map (λ line. line.now) lines.items ≡ slice_split (λ b. b == 10) bytes.now) }
-{
-    bytes.split(|b| *b == b'\n').collect(alloc)
 }
 
 /// Takes what a line says.

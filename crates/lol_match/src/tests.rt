@@ -196,7 +196,10 @@ fn replays_scripts(rt: HostRuntime) -> Result<(), Fail> {
 fn fails_with_its_devices(rt: HostRuntime) -> Result<(), Fail> {
     let mut reader = Counted::new(Broken { calls: 0 });
     let mut writer = Counted::new(Vec::new(rt.alloc()));
-    assert_eq!(rt; run(rt.alloc(), &mut reader, &mut writer), Err(RunFault::Read));
+    assert_eq!(rt;
+        run(rt.alloc(), &mut reader, &mut writer),
+        Err(RunFault::Read)
+    );
     assert_eq!(rt; reader.failures(), 1);
     assert!(rt; writer.into_inner().is_empty());
     let _ = reader.into_inner();
@@ -206,7 +209,10 @@ fn fails_with_its_devices(rt: HostRuntime) -> Result<(), Fail> {
         taken: Vec::new(rt.alloc()),
         most: 4,
     });
-    assert_eq!(rt; run(rt.alloc(), &mut script, &mut narrow), Err(RunFault::Write));
+    assert_eq!(rt;
+        run(rt.alloc(), &mut script, &mut narrow),
+        Err(RunFault::Write)
+    );
     assert_eq!(rt; narrow.failures(), 1);
     assert_eq!(rt; narrow.into_inner().taken.as_slice(), b"end\t".as_slice());
     Ok(())

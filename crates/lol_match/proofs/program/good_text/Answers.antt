@@ -1,4 +1,4 @@
-use Rattle.std.proofs.Common.{◌≡◌, ◌++◌, false, map, ap, sym, ◌∙◌}
+use Rattle.std.proofs.Common.{◌++◌, false, map, ap, ◌∙◌}
 use Rattle.lol_program.specs.Asts.{pairs_of}
 use Rattle.lol_program.specs.Nodes.{nodes_of, selectors_of}
 use Rattle.lol_program.proofs.NodeLists.{nodes_of-AreNodes, AreNodes-same}
@@ -14,7 +14,7 @@ returns c = λ s reading.
     let nodes = nodes_of s.pairs in
     let are = AreNodes-same (pairs_of c.args.script.now.ast) s.pairs nodes reading.pairs (nodes_of-AreNodes s.pairs) in
     let same = order_changes_nothing (selectors c.args.script.now.ast nodes) (selectors_of s.pairs)
-        (record { pairs = reading.pairs; nodes = λ node. (λ h. h, λ h. h); each_once = are.each_once; each_once' = are.each_once }) false s.events in
+    (record { pairs = reading.pairs; nodes = λ node. (λ h. h, λ h. h); each_once = are.each_once; each_once' = are.each_once }) false s.events in
     c.in_ok-push_reports.ensures
     ∙ ((λ i. c.new-text.ensures.items i ++ lines_of (map (λ report. shown_answer false (answer_of report)) (c.deref-2.ensures.value i)))
     ∙ (lines_of_reports c.in-Ok.reports.items (answers (selectors c.args.script.now.ast nodes) false (map event_of c.deref.result.now)) (c.in-Ok.ensures.ok nodes are)

@@ -5,10 +5,9 @@ use Rattle.lol_match.proofs.program.run.Goals as goal
 pub returns-in_err-write_text-clause-beginning : goal.returns-in_err-write_text-clause-beginning
 returns-in_err-write_text-clause-beginning g c = λ is.
     let out = c.in_err-write_text.ensures.beginning in
-    let made = ap first_output (sym c.deref.ensures.value) ∙ c.in-Ok.ensures in
-    (
+    let made = ap first_output (sym c.deref.ensures.value) ∙ c.in-Ok.ensures in (
       c.in_ok-script.script.items,
       c.in_ok-script.ensures.bytes,
       c.in_ok-script.ensures.end,
-      (out.0, (out.1.0, out.1.1, ap (λ o. o.text) made ∙ (sym c.deref-2.ensures.value ∙ out.1.2)))
+      (out.0, (out.1.0, out.1.1, ap (λ o. o.text) made ∙ (sym c.deref-2.ensures.value ∙ out.1.2))),
     )

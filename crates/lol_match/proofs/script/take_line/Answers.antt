@@ -1,7 +1,7 @@
 use Rattle.std.proofs.Common.{◌≡◌, ◌≢◌, ◌==◌, [], List, ℕ, Some, length, sym, ap, ◌∙◌, subst}
 use Rattle.std.specs.Prelude.{option_map}
 use Rattle.std.proofs.lemmas.Result.{on_ok_weaker}
-use Rattle.lol_vm.specs.Events.{Event, Start, End}
+use Rattle.lol_vm.specs.Events.{Start, End}
 use Rattle.lol_match.specs.First.{plain_tag, said_by}
 use Rattle.lol_match.specs.Scripts.{with_event}
 use Rattle.lol_match.specs.Readings.{IsReading}
@@ -22,7 +22,7 @@ returns-in-Some-Start-clause-taken c =
     (λ taken s reading. (
       with_event s (Start (plain_tag c.in-Some-Start.name.now)),
       subst (λ event. IsReading c.take_event.new.script (with_event s event)) c.start.ensures.event (taken s reading),
-      with_bytes-line c.args.number s c.args.line.now _ some said
+      with_bytes-line c.args.number s c.args.line.now _ some said,
     ))
     c.take_event.ensures.taken
 
