@@ -2,6 +2,7 @@
 
 use crate::bad_line::{BadLine, Cause, push_bad_line};
 use crate::device::{Counted, RunFault, read_all, write_text};
+use crate::exit_status;
 use crate::lines::{Line, line_of};
 use crate::output::{push_matches, push_numbers};
 use crate::program::{Status, run};
@@ -9,6 +10,8 @@ use crate::replayed::SCRIPTS;
 use lol_css::SelectorError;
 use lol_memory::MatchInfo;
 use std::alloc::Global;
+use std::cell::RefCell;
+use std::fmt::{Display, Write as _};
 use std::io;
 use std::io::{ErrorKind, Read, Write};
 use std::test::Fail;
@@ -215,5 +218,45 @@ fn fails_with_its_devices(rt: HostRuntime) -> Result<(), Fail> {
     );
     assert_eq!(rt; narrow.failures(), 1);
     assert_eq!(rt; narrow.into_inner().taken.as_slice(), b"end\t".as_slice());
+    Ok(())
+}
+
+/// Keeps what it is told on standard error.
+struct Told {
+    text: RefCell<String>,
+}
+
+impl Eprint for Told {
+    fn eprint<D: Display + Drop>(&self, value: D) -> io::Result<()> {
+        let Ok(mut text) = self.text.try_borrow_mut() else {
+            return Err(io::Error::from(ErrorKind::Other));
+        };
+        write!(text, "{value}").map_err(|_| io::Error::from(ErrorKind::OutOfMemory))
+    }
+
+    fn eprintln<D: Display + Drop>(&self, value: D) -> io::Result<()> {
+        self.eprint(value)?;
+        self.eprint("\n")
+    }
+}
+
+#[test]
+fn ends_with_a_status(rt: HostRuntime) -> Result<(), Fail> {
+    let ends = [
+        (Ok(Status::Good), 0, ""),
+        (Ok(Status::BadLine), 2, ""),
+        (Ok(Status::Refused), 3, ""),
+        (Err(RunFault::Memory), 3, "lol_match: out of memory\n"),
+        (Err(RunFault::Read), 4, "lol_match: read failed\n"),
+        (Err(RunFault::Write), 4, "lol_match: write failed\n"),
+    ];
+    for (outcome, status, text) in ends {
+        let told = Told {
+            text: RefCell::new(String::new(rt.alloc())),
+        };
+        assert_eq!(rt; exit_status(&told, outcome), status);
+        let Told { text: kept } = told;
+        assert_eq!(rt; kept.into_inner().as_str(), text);
+    }
     Ok(())
 }
