@@ -89,7 +89,7 @@ pub AreNodes-same : (ps qs : List (Path × ℕ)) (nodes : List Path) → ((pair 
 AreNodes-same ps qs nodes same are = record {
   members = λ path. (
     λ h. same_beginnings qs ps (λ pair. (same pair).1) path ((are.members path).0 h),
-    λ h. (are.members path).1 (same_beginnings ps qs (λ pair. (same pair).0) path h)
+    λ h. (are.members path).1 (same_beginnings ps qs (λ pair. (same pair).0) path h),
   );
   each_once = are.each_once;
 }
