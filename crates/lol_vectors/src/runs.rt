@@ -1,5 +1,8 @@
 //! Selectors under ids, and whole runs.
 
+ghost use Rattle.std.specs.Prelude.{◌≡◌, []};
+ghost use Rattle.lol_vm.specs.Views.{HasRangesInside, IsPlainHtml};
+
 use lol_vm::{
     Ast, AttributeBuffer, AuxStartTagInfo, Bytes, MatchInfo, Namespace, Selector,
     SharedMemoryLimiter, TagEvent, TagReport, Tries, match_events,
@@ -17,7 +20,10 @@ fn selectors(alloc: Global, texts: &[(&str, u32)]) -> Result<Ast, Fail> {
     Ok(ast)
 }
 
-fn start<'i>(name: &'i [u8], none: &'i AttributeBuffer) -> TagEvent<'i> {
+fn start<'i>(name: &'i [u8], none: &'i AttributeBuffer) -> TagEvent<'i>
+    ensures ranges { none.now.items ≡ [] → HasRangesInside result }
+    ensures html { IsPlainHtml result }
+{
     TagEvent::Start {
         name,
         ns: Namespace::Html,
