@@ -1,2 +1,11 @@
-pub mod Names
-pub mod Splits
+pub mod Many
+pub mod Loops
+pub mod Streams
+pub mod Spaces
+pub mod Digits
+pub mod TreeRows
+pub mod Shorter
+pub mod Fusing
+pub mod Accepts
+pub mod Steps
+pub mod Fewer

@@ -1,3 +1,15 @@
 pub mod CaselessAttributes
-pub mod Reading
+pub mod Points
+pub mod Tokens
+pub mod Rules
+pub mod AnPlusB
 pub mod Trees
+pub mod Drafts
+pub mod Reading
+pub mod Accepting
+pub mod SameText
+pub mod Progression
+pub mod Judging
+pub mod Views
+pub mod TreeViews
+pub mod WorkedRows

@@ -1,72 +1,263 @@
--- Selector texts, in the words of Selectors 4. A compound selector is one type selector or `*`, with no escapes.
-use Rattle.std.specs.Prelude.{ℕ, Bool, true, false, not, ◌&&◌, ◌||◌, ◌==◌, nat_lt, if◌then◌else◌, List, [], ◌∷◌, ◌++◌, length, filter, Option, Some, None, ok_or, option_and_then, option_map, Result, codes}
-use Rattle.std.specs.Char.{is_ascii_alphabetic, is_ascii_alphanumeric}
-use Rattle.std.specs.List.{list_all, slice_split}
-use Rattle.std.specs.Str.{bytes_eq}
-use Rattle.lol_css.specs.Trees.{Complex}
-use Rattle.lol_css.specs.declared.error.SelectorError.{SelectorError}
-use Rattle.lol_css.specs.declared.error.SelectorError.TheVariants.{UnsupportedSyntax}
-use Rattle.lol_css.specs.declared.selector.Combinator.{Combinator}
+-- The grammar (Selectors 4, sections 3, 4, 6 and 18.1): each rule from a list of tokens to what is read and the tokens left, or a cause.
+use Rattle.std.specs.Prelude.{ℕ, zero, suc, ◌+◌, Bool, true, false, ◌&&◌, ◌==◌, if◌then◌else◌, List, [], ◌∷◌, length, drop, Option, Some, None, Result, Ok, Err, pos, codes}
+use Rattle.std.specs.List.{list_any}
+use Rattle.std.specs.Option.{option_map}
+use Rattle.std.specs.Str.{bytes_eq, encode_utf8_all}
+use Rattle.lol_css.specs.Points.{front}
+use Rattle.lol_css.specs.Tokens.{Token, Quoted, Hash, Function, Ident, Match, Delim}
+use Rattle.lol_css.specs.CaselessAttributes.{caseless_attributes}
+use Rattle.lol_css.specs.Trees.{Simple, LocalName, AnyName, NoNamespace, Id, Class, Exists, Compares, Nth}
+use Rattle.lol_css.specs.Drafts.{Step, By, Sibling, Part, Plain, LatePseudoClass, LateNamespace, Not, Compound, Nothing, With, Item, First, Then, Items, NoItems, And}
+use Rattle.lol_css.specs.Rules.{Read, ◌>>=◌, giving, keeping, is_delim, is_space, skip_space, Place, Outside, InFunction, InBrackets, at_end, at_stop, wanted, closed, lowered, says, ident_of}
+use Rattle.lol_css.specs.AnPlusB.{an_plus_b}
+use Rattle.lol_css.specs.declared.attribute.AttrSelectorOperator.{AttrSelectorOperator}
+use Rattle.lol_css.specs.declared.attribute.AttrSelectorOperator.TheVariants.{Equal, Includes, DashMatch, Prefix, Substring, Suffix}
+use Rattle.lol_css.specs.declared.attribute.ParsedCaseSensitivity.{ParsedCaseSensitivity}
+use Rattle.lol_css.specs.declared.attribute.ParsedCaseSensitivity.TheVariants.{ExplicitCaseSensitive, AsciiCaseInsensitive, CaseSensitive, AsciiCaseInsensitiveIfInHtmlElementInHtmlDocument}
 use Rattle.lol_css.specs.declared.selector.Combinator.TheVariants.{Child, Descendant}
-use Rattle.lol_css.specs.declared.selector.SimpleSelector.{SimpleSelector}
-use Rattle.lol_css.specs.declared.selector.SimpleSelector.TheVariants.{LocalName, ExplicitUniversalType}
+use Rattle.lol_css.specs.declared.error.SelectorError.{SelectorError}
+use Rattle.lol_css.specs.declared.error.SelectorError.TheVariants.{UnexpectedToken, UnexpectedEnd, MissingAttributeName, EmptySelector, DanglingCombinator, UnexpectedTokenInAttribute, UnsupportedPseudoClassOrElement, NamespacedSelector, InvalidClassName, UnsupportedSyntax}
 
--- white space: space, tab, LF (CSS Syntax 3, section 4.2)
-abbrev pub is_white_space : ℕ → Bool
-is_white_space b = (b == 32 || b == 9) || b == 10
+-- a text in UTF-8
+abbrev pub utf8 : List ℕ → List ℕ
+utf8 points = encode_utf8_all points
 
-abbrev pub is_comma : ℕ → Bool
-is_comma b = b == 44
+-- ---- attributes, behind the `[` (Selectors 4, section 6)
 
-abbrev pub is_greater_than : ℕ → Bool
-is_greater_than b = b == 62
+-- `|` and `*|` before a name; the name, and whether `*|` stands before it
+abbrev pub name_behind_bar : Bool → List Token → Read (List ℕ × Bool)
+name_behind_bar any tokens = giving (λ name. (name, any)) (wanted InBrackets ident_of UnexpectedTokenInAttribute tokens)
 
-abbrev pub is_empty : List ℕ → Bool
-is_empty [] = true
-is_empty (b ∷ bytes) = false
+abbrev pub bar_of : Token → Option ℕ
+bar_of (Delim c) = if c == 124 then Some c else None
+bar_of _ = None
 
--- an ASCII letter, then ASCII letters and digits
-abbrev pub is_name : List ℕ → Bool
-is_name [] = false
-is_name (b ∷ bytes) = is_ascii_alphabetic b && list_all is_ascii_alphanumeric bytes
+unfoldable pub attribute_name : List Token → Read (List ℕ × Bool)
+attribute_name [] = Err UnexpectedEnd
+attribute_name (Ident name ∷ tokens) = if front (is_delim 124) tokens then Err NamespacedSelector else Ok ((name, false), tokens)
+attribute_name (Delim c ∷ tokens) =
+    if c == 93 then Err UnexpectedEnd
+    else (if c == 124 then name_behind_bar false tokens
+    else (if c == 42 then (wanted InBrackets bar_of UnexpectedTokenInAttribute tokens >>= λ bar. name_behind_bar true bar.1)
+    else Err MissingAttributeName))
+attribute_name _ = Err MissingAttributeName
 
--- a type selector or the universal selector (sections 5.1 and 5.2)
-abbrev pub compound_at : List ℕ → Option (List SimpleSelector)
-compound_at word =
-    if bytes_eq word (codes "*") then Some (ExplicitUniversalType ∷ []) else (if is_name word then Some (LocalName word ∷ []) else None)
+abbrev pub operator_of : Token → Option AttrSelectorOperator
+operator_of (Delim c) = if c == 61 then Some Equal else None
+operator_of (Match c) =
+    if c == 126 then Some Includes
+    else (if c == 124 then Some DashMatch else (if c == 94 then Some Prefix else (if c == 36 then Some Suffix else Some Substring)))
+operator_of _ = None
 
--- a complex selector and one compound more, which stands behind this combinator; at most 1,024 compounds
-abbrev pub extended : Option Complex → Combinator → List SimpleSelector → Option Complex
-extended None combinator compound = Some (record { first = compound; rest = [] })
-extended (Some front) combinator compound =
-    if nat_lt (length front.rest) 1023 then Some (record front { rest = front.rest ++ (combinator, compound) ∷ [] }) else None
+abbrev pub value_of : Token → Option (List ℕ)
+value_of (Ident name) = Some name
+value_of (Quoted text) = Some text
+value_of _ = None
 
--- a complex selector and further words, the first behind this combinator, each other one behind white space (Selectors 4, "Descendant combinator")
-abbrev pub with_words : Option Complex → Combinator → List (List ℕ) → Option Complex
-with_words front combinator [] = front
-with_words front combinator (word ∷ words) =
-    option_and_then (λ complex. with_words (Some complex) Descendant words) (option_and_then (extended front combinator) (compound_at word))
+abbrev pub flag_named : List ℕ → Option ParsedCaseSensitivity
+flag_named name =
+    if says (codes "i") name then Some AsciiCaseInsensitive else (if says (codes "s") name then Some ExplicitCaseSensitive else None)
 
-abbrev pub words_of : List ℕ → List (List ℕ)
-words_of run = filter (λ word. not (is_empty word)) (slice_split is_white_space run)
+abbrev pub flag_of : Token → Option ParsedCaseSensitivity
+flag_of (Ident name) = flag_named name
+flag_of _ = None
 
--- a complex selector and the words of a run, of which there has to be one, behind `>` (Selectors 4, "Child combinators")
-abbrev pub with_run : Option Complex → List (List ℕ) → Option Complex
-with_run front [] = None
-with_run front (word ∷ words) = with_words front Child (word ∷ words)
+-- how an attribute of this name, lowercased, is compared where no flag stands
+abbrev pub unflagged : List ℕ → ParsedCaseSensitivity
+unflagged name =
+    if list_any (λ other. bytes_eq name other) caseless_attributes then AsciiCaseInsensitiveIfInHtmlElementInHtmlDocument else CaseSensitive
 
-abbrev pub with_runs : Option Complex → List (List ℕ) → Option Complex
-with_runs front [] = front
-with_runs front (run ∷ runs) = option_and_then (λ complex. with_runs (Some complex) runs) (with_run front (words_of run))
+-- the flag, and the end
+unfoldable pub case_sensitivity : List ℕ → List Token → Read ParsedCaseSensitivity
+case_sensitivity name tokens =
+    if at_end InBrackets tokens then Ok (unflagged name, drop 1 tokens)
+    else (do
+      flag ← wanted InBrackets flag_of UnexpectedToken tokens
+      end ← closed InBrackets flag.1
+      Ok (flag.0, end.1))
 
--- a complex selector: runs of words parted by `>` (Selectors 4, "Structure and Terminology")
-abbrev pub complex_at : List ℕ → Option Complex
-complex_at item = with_runs None (slice_split is_greater_than item)
+-- behind the name
+unfoldable pub comparison : List ℕ → List Token → Read Simple
+comparison name tokens =
+    if at_end InBrackets tokens then Ok (Exists name, drop 1 tokens)
+    else (do
+      operator ← wanted InBrackets operator_of UnexpectedTokenInAttribute tokens
+      value ← wanted InBrackets value_of UnexpectedTokenInAttribute (skip_space operator.1)
+      case ← case_sensitivity name (skip_space value.1)
+      Ok (Compares name operator.0 (utf8 value.0) case.0, case.1))
 
-abbrev pub complexes_at : List (List ℕ) → Option (List Complex)
-complexes_at [] = Some []
-complexes_at (item ∷ items) = option_and_then (λ complex. option_map (λ more. complex ∷ more) (complexes_at items)) (complex_at item)
+-- names are kept ASCII-lowercased
+unfoldable pub attribute : List Token → Read Part
+attribute tokens = do
+  name ← attribute_name (skip_space tokens)
+  part ← comparison (utf8 (lowered name.0.0)) (skip_space name.1)
+  Ok ((if name.0.1 then LateNamespace else Plain part.0), part.1)
 
--- a selector list: complex selectors parted by `,` (Selectors 4, "Selector Lists")
-abbrev pub accept : List ℕ → Result (List Complex) SelectorError
-accept text = ok_or (complexes_at (slice_split is_comma text)) UnsupportedSyntax
+-- ---- the other parts
+
+-- directly behind a `.`
+unfoldable pub class_name : Place → List Token → Read Simple
+class_name place tokens =
+    if at_stop place tokens then Err UnexpectedEnd
+    else giving (λ name. Class (utf8 name)) (wanted place ident_of InvalidClassName tokens)
+
+abbrev pub is_one_of : List (List ℕ) → List ℕ → Bool
+is_one_of words name = list_any (λ word. says word name) words
+
+-- a pseudo-class with an argument, from behind its parenthesis, but for `:not`
+unfoldable pub function_part : List ℕ → List Token → Read Part
+function_part name tokens =
+    if says (codes "nth-child") name then giving (λ nth. Plain (Nth false nth.0 nth.1)) (an_plus_b tokens)
+    else (if says (codes "nth-of-type") name then giving (λ nth. Plain (Nth true nth.0 nth.1)) (an_plus_b tokens)
+    else (if is_one_of (codes "nth-last-child" ∷ codes "nth-last-of-type" ∷ []) name then giving (λ nth. LatePseudoClass) (an_plus_b tokens)
+    else Err UnsupportedPseudoClassOrElement))
+
+-- the pseudo-classes without an argument that are refused late
+abbrev pub late_words : List (List ℕ)
+late_words = codes "last-child" ∷ codes "only-child" ∷ codes "last-of-type" ∷ codes "only-of-type" ∷ codes "root" ∷ codes "empty" ∷ codes "scope" ∷ []
+
+unfoldable pub ident_part : List ℕ → Result Part SelectorError
+ident_part name =
+    if says (codes "first-child") name then Ok (Plain (Nth false (pos 0) (pos 1)))
+    else (if says (codes "first-of-type") name then Ok (Plain (Nth true (pos 0) (pos 1)))
+    else (if is_one_of late_words name then Ok LatePseudoClass
+    else Err UnsupportedPseudoClassOrElement))
+
+-- behind a colon; inner reads the list of a `:not`
+unfoldable pub pseudo : (List Token → Read Items) → Place → List Token → Read Part
+pseudo inner place [] = Err UnexpectedEnd
+pseudo inner place (token ∷ tokens) =
+    if at_stop place (token ∷ tokens) then Err UnexpectedEnd
+    else elim token [
+      | Ident name ↦ keeping (ident_part name) tokens
+      | Function name ↦ if says (codes "not") name then giving Not (inner tokens) else function_part name tokens
+      | Delim c ↦ if c == 58 && at_stop place tokens then Err UnexpectedEnd else Err UnsupportedPseudoClassOrElement
+      | _ ↦ Err UnsupportedPseudoClassOrElement
+    ]
+
+abbrev pub some : Part → Option Part
+some found = Some found
+
+-- one more part, where the token begins one
+unfoldable pub part : (List Token → Read Items) → Place → List Token → Read (Option Part)
+part inner place [] = Ok (None, [])
+part inner place (Hash name is_id ∷ tokens) = if is_id then Ok (some (Plain (Id (utf8 name))), tokens) else Ok (None, Hash name is_id ∷ tokens)
+part inner place (Delim c ∷ tokens) =
+    if c == 46 then giving (λ found. some (Plain found)) (class_name place tokens)
+    else (if c == 91 then giving some (attribute tokens)
+    else (if c == 58 then giving some (pseudo inner place tokens)
+    else Ok (None, Delim c ∷ tokens)))
+part inner place (token ∷ tokens) = Ok (None, token ∷ tokens)
+
+-- parts as long as a token begins one; each takes one token at least, so there are at most n
+unfoldable pub parts_at_most : ℕ → (List Token → Read Items) → Place → Compound → List Token → Read Compound
+parts_at_most zero inner place parts tokens = Ok (parts, tokens)
+parts_at_most (suc n) inner place parts tokens = part inner place tokens >>= λ x. elim x.0 [
+  | None ↦ Ok (parts, x.1)
+  | Some found ↦ parts_at_most n inner place (With parts found) x.1
+]
+
+abbrev pub more_parts : (List Token → Read Items) → Place → Compound → List Token → Read Compound
+more_parts inner place parts tokens = parts_at_most (length tokens) inner place parts tokens
+
+-- directly behind a bar: a name or `*`; at Stop the compound counts as one that reads nothing (None)
+unfoldable pub behind_bar : Place → List Token → Read (Option Simple)
+behind_bar place [] = Ok (None, [])
+behind_bar place (token ∷ tokens) =
+    if at_stop place (token ∷ tokens) then Ok (None, token ∷ tokens)
+    else elim token [
+      | Ident name ↦ Ok (Some (LocalName (utf8 name)), tokens)
+      | Delim c ↦ if c == 42 then Ok (Some AnyName, tokens) else Err UnexpectedToken
+      | _ ↦ Err UnexpectedToken
+    ]
+
+-- `*|` and `|` before what stands behind the bar
+abbrev pub any_namespace : Simple → Compound
+any_namespace name = With Nothing (Plain name)
+
+abbrev pub no_namespace : Simple → Compound
+no_namespace name = With (With Nothing (Plain NoNamespace)) (Plain name)
+
+-- the type part, where one stands
+unfoldable pub type_part : Place → List Token → Read (Option Compound)
+type_part place [] = Ok (Some Nothing, [])
+type_part place (Ident name ∷ tokens) =
+    if front (is_delim 124) tokens then Err NamespacedSelector else Ok (Some (With Nothing (Plain (LocalName (utf8 name)))), tokens)
+type_part place (Delim c ∷ tokens) =
+    if c == 42 then
+    (if front (is_delim 124) tokens then giving (option_map any_namespace) (behind_bar place (drop 1 tokens))
+    else Ok (Some (With Nothing (Plain AnyName)), tokens))
+    else (if c == 124 then giving (option_map no_namespace) (behind_bar place tokens)
+    else Ok (Some Nothing, Delim c ∷ tokens))
+type_part place (token ∷ tokens) = Ok (Some Nothing, token ∷ tokens)
+
+abbrev pub is_nothing : Compound → Bool
+is_nothing Nothing = true
+is_nothing (With front last) = false
+
+-- a compound; one that reads nothing is refused with the cause given
+unfoldable pub compound : (List Token → Read Items) → Place → SelectorError → List Token → Read Compound
+compound inner place empty tokens = do
+  type ← type_part place tokens
+  elim type.0 [
+    | None ↦ Err empty
+    | Some start ↦ more_parts inner place start type.1 >>= λ parts. if is_nothing parts.0 then Err empty else Ok parts
+  ]
+
+-- ---- items and lists
+
+abbrev pub step_of : Token → Option Step
+step_of (Delim c) = if c == 62 then Some (By Child) else (if c == 43 then Some (Sibling 43) else (if c == 126 then Some (Sibling 126) else None))
+step_of _ = None
+
+-- the step, and the tokens where its compound is to be read: `>`, `+` and `~` are taken, behind white space anything else is a descendant
+unfoldable pub step : Bool → List Token → Read Step
+step after_space [] = Err UnexpectedToken
+step after_space (token ∷ tokens) = elim (step_of token) [
+  | Some found ↦ Ok (found, skip_space tokens)
+  | None ↦ if after_space then Ok (By Descendant, token ∷ tokens) else Err UnexpectedToken
+]
+
+-- the step behind a compound and white space; at Stop there is none
+unfoldable pub next_step : Place → List Token → Read (Option Step)
+next_step place tokens =
+    if at_stop place (skip_space tokens) then Ok (None, skip_space tokens)
+    else giving (λ found. Some found) (step (front is_space tokens) (skip_space tokens))
+
+-- the rest of an item, of which room further compounds may come; a step past the last is refused where it is recognised
+unfoldable pub further : ℕ → (List Token → Read Items) → Place → Item → List Token → Read Item
+further zero inner place item tokens = next_step place tokens >>= λ found. elim found.0 [
+  | None ↦ Ok (item, found.1)
+  | Some step ↦ Err UnsupportedSyntax
+]
+further (suc room) inner place item tokens = next_step place tokens >>= λ found. elim found.0 [
+  | None ↦ Ok (item, found.1)
+  | Some step ↦ compound inner place DanglingCombinator found.1 >>= λ next. further room inner place (Then item step next.0) next.1
+]
+
+-- an item has at most 1,024 compounds
+unfoldable pub item : (List Token → Read Items) → Place → List Token → Read Item
+item inner place tokens = do
+  first ← compound inner place EmptySelector (skip_space tokens)
+  further 1023 inner place (First first.0) first.1
+
+-- the rest of a list, with the end that closes it; each item begins behind a comma, so there are at most n
+unfoldable pub items_at_most : ℕ → (List Token → Read Items) → Place → Items → List Token → Read Items
+items_at_most zero inner place items tokens = Ok (items, tokens)
+items_at_most (suc n) inner place items tokens =
+    if at_end place tokens then Ok (items, drop 1 tokens)
+    else item inner place (drop 1 tokens) >>= λ x. items_at_most n inner place (And items x.0) x.1
+
+unfoldable pub list : (List Token → Read Items) → Place → List Token → Read Items
+list inner place tokens = do
+  first ← item inner place tokens
+  items_at_most (length first.1 + 1) inner place (And NoItems first.0) first.1
+
+-- the list of a `:not`, behind the parenthesis, inside which room others may still be opened
+unfoldable pub inner_list : ℕ → List Token → Read Items
+inner_list zero tokens = Err UnsupportedSyntax
+inner_list (suc room) tokens = list (inner_list room) InFunction tokens
+
+-- all of the tokens; a `:not` stands inside at most 127 others
+unfoldable pub selector : List Token → Read Items
+selector tokens = list (inner_list 128) Outside tokens

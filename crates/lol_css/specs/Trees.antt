@@ -1,28 +1,35 @@
--- What contracts see of selector trees.
-use Rattle.std.specs.Prelude.{List, map}
+-- Selectors as trees (Selectors 4, sections 3 and 4). Rows are built at their right end: what stands last is on the outside.
+-- Names and values are texts in UTF-8.
+use Rattle.std.specs.Prelude.{ℕ, Bool, List, ℤ}
+use Rattle.lol_css.specs.declared.attribute.AttrSelectorOperator.{AttrSelectorOperator}
+use Rattle.lol_css.specs.declared.attribute.ParsedCaseSensitivity.{ParsedCaseSensitivity}
 use Rattle.lol_css.specs.declared.selector.Combinator.{Combinator}
-use Rattle.lol_css.specs.declared.selector.SimpleSelector.{SimpleSelector}
-use Rattle.lol_css.specs.declared.selector.Compound.{Compound}
-use Rattle.lol_css.specs.declared.selector.ComplexSelector.{ComplexSelector}
-use Rattle.lol_css.specs.declared.selector.SelectorList.{SelectorList}
-use Rattle.lol_css.specs.declared.parser.Selector.{Selector}
 
--- A complex selector: its first compound selector, then the others, each behind its combinator (Selectors 4, "Structure and Terminology").
-pub record Complex : Type 0 where
-  pub first : List SimpleSelector
-  pub rest : List (Combinator × List SimpleSelector)
+-- a part without parts of its own
+pub data Simple : Type 0 where
+  LocalName : List ℕ → Simple
+  AnyName : Simple  -- `*`
+  NoNamespace : Simple  -- the bar of `|a`
+  Id : List ℕ → Simple
+  Class : List ℕ → Simple
+  Exists : List ℕ → Simple  -- `[a]`
+  Compares : List ℕ → AttrSelectorOperator → List ℕ → ParsedCaseSensitivity → Simple
+  Nth : Bool → ℤ → ℤ → Simple  -- whether by type, step and offset
 
--- a compound behind its combinator
-abbrev pub shown_step : Combinator × Compound → Combinator × List SimpleSelector
-shown_step step = (step.0, step.1.parts.items)
+-- a compound is a row of parts, an item a row of compounds with the step to each from the one before it, a list a row of items
+mutual
+  pub data Part : Type 0 where
+    Plain : Simple → Part
+    Not : Items → Part
 
-abbrev pub complex_of : ComplexSelector → Complex
-complex_of c = record { first = c.first.parts.items; rest = map shown_step c.rest.items }
+  pub data Compound : Type 0 where
+    Nothing : Compound
+    With : Compound → Part → Compound
 
--- the items of a list
-abbrev pub items_of : SelectorList → List Complex
-items_of list = map complex_of list.items.items
+  pub data Item : Type 0 where
+    First : Compound → Item
+    Then : Item → Combinator → Compound → Item
 
--- the list that a selector holds
-abbrev pub list_of : Selector → SelectorList
-list_of selector = selector.list
+  pub data Items : Type 0 where
+    NoItems : Items
+    And : Items → Item → Items

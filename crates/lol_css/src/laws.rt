@@ -1,18 +1,16 @@
-//! Texts whose answer is computed from the definition of the selector grammar.
+//! Laws that no single call states. Each function is empty: its contract is the law.
 
-ghost use Rattle.std.specs.Prelude.{◌≡◌, Ok, Err, codes, [], ◌∷◌};
-ghost use Rattle.lol_css.specs.Reading.{accept};
-ghost use Rattle.lol_css.specs.declared.error.SelectorError.TheVariants.{UnsupportedSyntax};
-ghost use Rattle.lol_css.specs.declared.selector.Combinator.TheVariants.{Child, Descendant};
-ghost use Rattle.lol_css.specs.declared.selector.SimpleSelector.TheVariants.{LocalName, ExplicitUniversalType};
+ghost use Rattle.std.specs.Prelude.{◌↔◌, ◌≤◌, ℕ, ℤ, List, length};
+ghost use Rattle.lol_css.specs.Progression.{Progression, Has, LiesOn};
+ghost use Rattle.lol_css.specs.Tokens.{tokens};
 
-/// What the definition gives for some texts.
-pub fn worked_texts()
-    ensures list { accept (codes " * > br ,P q") ≡ Ok (record { first = ExplicitUniversalType ∷ []; rest = (Child, LocalName (codes "br") ∷ []) ∷ [] } ∷ record { first = LocalName (codes "P") ∷ []; rest = (Descendant, LocalName (codes "q") ∷ []) ∷ [] } ∷ []) }
-    ensures next_sibling { accept (codes "div + span") ≡ Err UnsupportedSyntax }
-    ensures empty { accept [] ≡ Err UnsupportedSyntax }
-    ensures empty_item { accept (codes "a,") ≡ Err UnsupportedSyntax }
-    ensures dangling { accept (codes "a >") ≡ Err UnsupportedSyntax }
-    ensures leading { accept (codes "> a") ≡ Err UnsupportedSyntax }
-    ensures digit { accept (codes "1a") ≡ Err UnsupportedSyntax }
+/// Some whole `n` at least 0 has `i = step * n + offset` exactly if `i` is the offset, or the step isn't 0, divides
+/// `i - offset` and has its sign.
+pub fn index_lies_on_progression()
+    ensures { (progression : Progression) (index : ℤ) → Has progression index ↔ LiesOn progression index }
+{}
+
+/// A text has no more tokens than code points.
+pub fn tokens_are_no_more_than_code_points()
+    ensures { (text : List ℕ) → length (tokens text) ≤ length text }
 {}

@@ -1,15 +1,18 @@
 //! Selectors as trees.
 
-ghost use Rattle.std.specs.Prelude.{◌≡◌, IfOk, string_bytes};
+ghost use Rattle.std.specs.Prelude.{◌≡◌, IfOk, string_bytes, nat_eq};
+ghost use Rattle.std.specs.Cmp.Lexicographic.{pointwise};
 ghost use Rattle.std.specs.Cmp.{partial_equiv_from_equiv};
-ghost use Rattle.std.specs.Cmp.Lexicographic.{nat_list_eq_equiv};
-ghost use Rattle.std.specs.Str.{bytes_eq};
+ghost use Rattle.std.proofs.lemmas.Cmp.{nat_list_eq_equiv};
 
+use crate::attribute::{AttrSelectorOperator, ParsedCaseSensitivity};
+use crate::nth::NthChild;
 use std::alloc::{AllocError, Global};
+use std::fmt;
 use std::marker::Model;
 
 /// A text of a selector: a name or a value.
-#[derive(Debug, Drop)]
+#[derive(Drop)]
 pub struct CssString {
     text: String,
 }
@@ -22,20 +25,6 @@ impl Model for CssString {
     ghost view = { λ s. string_bytes s.text };
 }
 
-impl PartialEq for CssString {
-    ghost eq = { bytes_eq };
-
-    ghost laws = { partial_equiv_from_equiv nat_list_eq_equiv };
-
-    fn eq(&self, other: &CssString) -> bool {
-        self.text == other.text
-    }
-}
-
-impl Eq for CssString {
-    ghost laws = { nat_list_eq_equiv };
-}
-
 impl CssString {
     /// A copy of a text.
     pub fn new(alloc: Global, text: &str) -> Result<CssString, AllocError>
@@ -44,6 +33,13 @@ impl CssString {
         Ok(CssString {
             text: String::from_str(alloc, text)?,
         })
+    }
+
+    /// The text that a string holds.
+    pub(crate) fn from_string(text: String) -> CssString
+        ensures { result ≡ string_bytes text }
+    {
+        CssString { text }
     }
 
     /// A copy of the text.
@@ -61,60 +57,95 @@ impl CssString {
     }
 }
 
-/// How a compound stands to the one before it (Selectors 4, "Combinators").
+impl PartialEq for CssString {
+    ghost eq = { pointwise nat_eq };
+
+    ghost laws = { partial_equiv_from_equiv nat_list_eq_equiv };
+
+    fn eq(&self, other: &CssString) -> bool {
+        self.text == other.text
+    }
+}
+
+impl Eq for CssString {
+    ghost laws = { nat_list_eq_equiv };
+}
+
+impl fmt::Debug for CssString {
+    fn fmt<W: fmt::Write>(&self, f: &mut fmt::Formatter<W>) -> fmt::Result {
+        fmt::Debug::fmt(&self.text, f)
+    }
+}
+
+/// How a compound stands to the one before it (Selectors 4, section 16).
 #[derive(Debug, Clone, Copy, PartialEq, Eq)]
 pub enum Combinator {
+    /// `>`
     Child,
+    /// White space.
     Descendant,
-}
-
-/// How an attribute's value is compared (Selectors 4, "Attribute Selectors").
-#[derive(Debug, Clone, Copy, PartialEq, Eq)]
-pub enum AttrSelectorOperator {
-    Equal,
-    Includes,
-    DashMatch,
-    Prefix,
-    Substring,
-    Suffix,
-}
-
-/// Whether case counts when an attribute's value is compared (Selectors 4, "Case-sensitivity"): as a flag says, or without
-/// one by the attribute's name.
-#[derive(Debug, Clone, Copy, PartialEq, Eq)]
-pub enum ParsedCaseSensitivity {
-    /// The flag `s`.
-    ExplicitCaseSensitive,
-    /// The flag `i`.
-    AsciiCaseInsensitive,
-    /// No flag.
-    CaseSensitive,
-    /// No flag, at one of the attributes whose values the HTML Standard compares without case on HTML elements.
-    AsciiCaseInsensitiveIfInHtmlElementInHtmlDocument,
 }
 
 /// A part of a compound.
 #[derive(Debug, PartialEq, Eq, Drop)]
+#[cycle(tree)]
 pub enum SimpleSelector {
+    /// `a`
     LocalName(CssString),
+
+    /// `*`
     ExplicitUniversalType,
+
+    /// The bar of `|a`: a name in no namespace.
+    ExplicitNoNamespace,
+
+    /// `#a`
+    ID(CssString),
+
+    /// `.a`
+    Class(CssString),
+
+    /// `[name]`, the name ASCII-lowercased.
+    AttributeExists {
+        name: CssString,
+    },
+
+    /// `[name=value]` and the like, the name ASCII-lowercased.
+    AttributeComparison {
+        name: CssString,
+        value: CssString,
+        operator: AttrSelectorOperator,
+        case_sensitivity: ParsedCaseSensitivity,
+    },
+
+    /// `:nth-child(An+B)`, or `of_type` `:nth-of-type(An+B)`.
+    Nth {
+        of_type: bool,
+        nth: NthChild,
+    },
+
+    /// `:not(..)`
+    Negation(SelectorList),
 }
 
-/// Parts that one element has to have, in written order (Selectors 4, "Structure and Terminology").
+/// Parts that one element has to have, in written order (Selectors 4, section 3.1).
 #[derive(Debug, PartialEq, Eq, Drop)]
+#[cycle(tree)]
 pub struct Compound {
     pub parts: Vec<SimpleSelector>,
 }
 
-/// Compounds, each a step from the one before it (Selectors 4, "Structure and Terminology").
+/// Compounds, each a step from the one before it (Selectors 4, section 3.1).
 #[derive(Debug, PartialEq, Eq, Drop)]
+#[cycle(tree)]
 pub struct ComplexSelector {
     pub first: Compound,
     pub rest: Vec<(Combinator, Compound)>,
 }
 
-/// The items of a list, in written order (Selectors 4, "Selector Lists").
+/// The items of a list, in written order (Selectors 4, section 4.1).
 #[derive(Debug, PartialEq, Eq, Drop)]
+#[cycle(tree)]
 pub struct SelectorList {
     pub items: Vec<ComplexSelector>,
 }

@@ -1,4 +1,4 @@
-//! Printed texts, and each call with ample memory.
+//! Printed texts, the bounds of the grammar, and each call that takes memory once.
 
 use crate::{
     Combinator, ComplexSelector, Compound, CssString, Selector, SelectorError, SelectorList,
@@ -7,36 +7,9 @@ use crate::{
 use std::alloc::{AllocError, Global};
 use std::test::Fail;
 
-fn any(alloc: Global) -> Result<Compound, AllocError> {
-    let parts = vec![in alloc; SimpleSelector::ExplicitUniversalType]?;
-    Ok(Compound { parts })
-}
-
-fn name(alloc: Global, text: &str) -> Result<Compound, AllocError> {
-    let parts = vec![in alloc; SimpleSelector::LocalName(CssString::new(alloc, text)?)]?;
-    Ok(Compound { parts })
-}
-
-fn one(alloc: Global, first: Compound) -> ComplexSelector {
-    ComplexSelector {
-        first,
-        rest: Vec::new(alloc),
-    }
-}
-
-fn two(
-    alloc: Global,
-    first: Compound,
-    combinator: Combinator,
-    second: Compound,
-) -> Result<ComplexSelector, AllocError> {
-    let rest = vec![in alloc; (combinator, second)]?;
-    Ok(ComplexSelector { first, rest })
-}
-
 #[test]
-fn prints_errors(rt: HostRuntime) -> Result<(), Fail> {
-    let texts = [
+fn causes_print_as_in_the_crate(rt: HostRuntime) -> Result<(), Fail> {
+    for (cause, text) in [
         (
             SelectorError::UnexpectedToken,
             "Unexpected token in selector.",
@@ -81,76 +54,76 @@ fn prints_errors(rt: HostRuntime) -> Result<(), Fail> {
             "Unsupported syntax in selector.",
         ),
         (SelectorError::Memory, "Out of memory."),
-    ];
-    for (error, text) in texts {
-        assert_eq!(rt; format!(in rt.alloc(); "{error}")?.as_str(), text);
+    ] {
+        let printed = format!(in rt.alloc(); "{cause}")?;
+        assert_eq!(rt; printed.as_str(), text);
     }
     Ok(())
 }
 
+fn compound(alloc: Global, name: &str) -> Result<Compound, AllocError> {
+    let mut parts = Vec::new(alloc);
+    parts.push(SimpleSelector::LocalName(CssString::new(alloc, name)?))?;
+    Ok(Compound { parts })
+}
+
+/// `a > b`
+fn child(alloc: Global) -> Result<SelectorList, AllocError> {
+    let mut rest = Vec::new(alloc);
+    rest.push((Combinator::Child, compound(alloc, "b")?))?;
+    let mut items = Vec::new(alloc);
+    items.push(ComplexSelector {
+        first: compound(alloc, "a")?,
+        rest,
+    })?;
+    Ok(SelectorList { items })
+}
+
 #[test]
-fn reads_selectors(rt: HostRuntime) -> Result<(), Fail> {
-    let alloc = rt.alloc();
-    let children = two(alloc, any(alloc)?, Combinator::Child, name(alloc, "br")?)?;
-    let items = vec![in alloc; children, one(alloc, name(alloc, "P")?)]?;
-    assert_eq!(rt;
-        SelectorsParser::parse(alloc, "* > br, P"),
-        Ok(SelectorList { items })
-    );
-    let items = vec![in alloc;
-        two(
-            alloc,
-            name(alloc, "div")?,
-            Combinator::Descendant,
-            name(alloc, "p")?
-        )?,
-    ]?;
-    assert_eq!(rt;
-        Selector::from_str(alloc, "div p")?.list(),
-        &SelectorList { items }
-    );
-    let items = vec![in alloc;
-        two(
-            alloc,
-            name(alloc, "div")?,
-            Combinator::Child,
-            name(alloc, "p")?
-        )?,
-    ]?;
-    assert_eq!(rt;
-        Selector::from_str(alloc, "div > p")?.list(),
-        &SelectorList { items }
-    );
-    for text in ["a,", "a >> b"] {
+fn a_selector_is_read(rt: HostRuntime) -> Result<(), Fail> {
+    let expected = child(rt.alloc())?;
+    assert_eq!(rt; SelectorsParser::parse(rt.alloc(), "a>b"), Ok(expected));
+    let expected = child(rt.alloc())?;
+    let selector = Selector::from_str(rt.alloc(), "a/**/ > b")?;
+    assert!(rt; *selector.list() == expected);
+    Ok(())
+}
+
+#[test]
+fn a_text_is_copied(rt: HostRuntime) -> Result<(), Fail> {
+    let text = CssString::new(rt.alloc(), "div")?;
+    assert_eq!(rt; text.to_boxed_slice(rt.alloc())?.as_str(), "div");
+    let printed = format!(in rt.alloc(); "{text:?}")?;
+    assert_eq!(rt; printed.as_str(), "\"div\"");
+    Ok(())
+}
+
+/// A text some times over, and then another.
+fn repeated(alloc: Global, count: u32, text: &str, last: &str) -> Result<String, AllocError> {
+    let mut whole = String::new(alloc);
+    for _ in 0..count {
+        whole.push_str(text)?;
+    }
+    whole.push_str(last)?;
+    Ok(whole)
+}
+
+#[test]
+fn selectors_are_bounded(rt: HostRuntime) -> Result<(), Fail> {
+    for (count, text, last, answer) in [
+        (128, ":not(", "a", None),
+        (129, ":not(", "a", Some(SelectorError::UnsupportedSyntax)),
+        (1024, "a ", "", None),
+        (1024, "a ", "a", Some(SelectorError::UnsupportedSyntax)),
+        (1024, "a ", " >", Some(SelectorError::UnsupportedSyntax)),
+        (2000, "a,", "a", None),
+        (2000, ".a", "", None),
+    ] {
+        let whole = repeated(rt.alloc(), count, text, last)?;
         assert_eq!(rt;
-            SelectorsParser::parse(alloc, text),
-            Err(SelectorError::UnsupportedSyntax)
+            SelectorsParser::parse(rt.alloc(), whole.as_str()).err(),
+            answer
         );
     }
-    Ok(())
-}
-
-#[test]
-fn bounds_compounds(rt: HostRuntime) -> Result<(), Fail> {
-    let mut text = String::from_str(rt.alloc(), "a")?;
-    for _ in 1..1024u32 {
-        text.push_str(" a")?;
-    }
-    let list = SelectorsParser::parse(rt.alloc(), &text)?;
-    assert_eq!(rt; list.items.len(), 1);
-    assert_eq!(rt; list.items[0].rest.len(), 1023);
-    text.push_str(" a")?;
-    assert_eq!(rt;
-        SelectorsParser::parse(rt.alloc(), &text),
-        Err(SelectorError::UnsupportedSyntax)
-    );
-    Ok(())
-}
-
-#[test]
-fn copies_texts(rt: HostRuntime) -> Result<(), Fail> {
-    let text = CssString::new(rt.alloc(), "Div")?;
-    assert_eq!(rt; text.as_str(), "Div");
-    assert_eq!(rt; text.to_boxed_slice(rt.alloc())?.as_str(), "Div");
     Ok(())
 }

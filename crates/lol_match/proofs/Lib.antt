@@ -4,3 +4,4 @@ pub mod Lists
 pub mod Numbers
 pub mod Scripts
 pub mod Texts
+pub mod Selected

@@ -67,7 +67,7 @@ pub fn worked_first_lines()
     ensures limit { first.line_at (codes "limit\t5") ≡ None }
 {}
 
-/// Whole scripts, with the selectors of this reader: what is written, and how the run ends.
+/// Whole scripts: what is written, and how the run ends.
 pub fn worked_outputs()
     ensures nothing { output [] ≡ record { text = []; status = Good } }
     ensures descendant_and_child { output (codes "select\t0\tdiv p\nselect\t1\tdiv > p\nstart\thtml\tdiv\nstart\thtml\tsection\nstart\thtml\tp\nend\tdiv") ≡ record { text = codes "start\t-\nstart\t-\nstart\t0\nend\t0,1,2\n"; status = Good } }
@@ -76,13 +76,17 @@ pub fn worked_outputs()
     ensures dropped { output (codes "select\t0\t*\ndrop\tsvg\tg\nstart\thtml\tp\nend\tg\n") ≡ record { text = codes "dropped\nstart\t0\nend\t-\n"; status = Good } }
     ensures foreign { output (codes "tries\nselect\t0\tcircle\nstart\tsvg/\tcircle\nend\tcircle\n") ≡ record { text = codes "start\t0/\tasked\ttries 1 0\nend\t-\n"; status = Good } }
     ensures limit { output (codes "limit\t512\nselect\t0\t*\nstart\thtml\ta\nstart\thtml\tb\nstart\thtml\tc\nstart\thtml\td\nstart\thtml\te\nstart\thtml\tf\nstart\thtml\tg\nstart\thtml\th\nstart\thtml\ti\n") ≡ record { text = codes "start\t0\nstart\t0\nstart\t0\nstart\t0\nstart\t0\nstart\t0\nstart\t0\nstart\t0\nrefused limit\n"; status = Refused } }
-    ensures bad_selector { output (codes "select\t0\tdiv + span") ≡ record { text = codes "bad line 1: UnsupportedSyntax\n"; status = BadLine } }
+    ensures bad_selector { output (codes "select\t0\tdiv + span") ≡ record { text = codes "bad line 1: UnsupportedCombinator(+)\n"; status = BadLine } }
+    ensures empty_selector { output (codes "select\t0\t") ≡ record { text = codes "bad line 1: EmptySelector\n"; status = BadLine } }
     ensures bad_form { output (codes "start\thtml\n") ≡ record { text = codes "bad line 1: form\n"; status = BadLine } }
     ensures late_bad_line { output (codes "start\thtml\tp\n\nselect\t0\tdiv + span") ≡ record { text = codes "bad line 3: form\n"; status = BadLine } }
 {}
 
-/// Whole scripts as they are answered for now, where fewer lines are good.
+/// Whole scripts as they are answered for now, where fewer lines and selectors are good.
 pub fn worked_first_outputs()
     ensures descendant_and_child { first_output (codes "select\t0\tdiv p\nselect\t1\tdiv > p\nstart\thtml\tdiv\nstart\thtml\tsection\nstart\thtml\tp\nend\tdiv") ≡ record { text = codes "start\t-\nstart\t-\nstart\t0\nend\t0,1,2\n"; status = Good } }
+    ensures negations { first_output (codes "select\t0\t:not(div)\nselect\t1\t|p\nstart\thtml\tdiv\nstart\thtml\tp") ≡ record { text = codes "start\t-\nstart\t0\n"; status = Good } }
+    ensures position { first_output (codes "select\t0\tp\nselect\t1\tp > :first-child\n") ≡ record { text = codes "bad line 2: UnsupportedSyntax\n"; status = BadLine } }
+    ensures attribute { first_output (codes "select\t0\tp, p.a b\n") ≡ record { text = codes "bad line 1: UnsupportedSyntax\n"; status = BadLine } }
     ensures esi { first_output (codes "select\t0\tp\nesi\n") ≡ record { text = codes "bad line 2: form\n"; status = BadLine } }
 {}

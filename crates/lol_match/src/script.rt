@@ -2,7 +2,7 @@
 
 ghost use Rattle.std.specs.Prelude.{◌≡◌, ◌==◌, ◌+◌, ◌∷◌, [], ◌++◌, List, ℕ, IfOk, IfErr, OnOk, OnErr, Some, map};
 ghost use Rattle.std.specs.List.{slice_split};
-ghost use Rattle.lol_program.specs.Asts.{pairs_of};
+ghost use Rattle.lol_program.specs.Runs.{path_runs};
 ghost use Rattle.lol_vm.specs.Events.{Event, Start};
 ghost use Rattle.lol_vm.specs.Views.{IsPlainHtml, HasRangesInside, event_of};
 ghost use Rattle.lol_match.specs.Script.{Select};
@@ -10,6 +10,7 @@ ghost use Rattle.lol_match.specs.First.{line_at, plain_tag};
 ghost use Rattle.lol_match.specs.Scripts as scripts;
 ghost use Rattle.lol_match.specs.Scripts.{with_bytes, with_line, with_event, read_script};
 ghost use Rattle.lol_match.specs.Readings.{IsReading, Reads, Stops};
+ghost use Rattle.lol_css.specs.declared.error.SelectorError.TheVariants.{UnsupportedSyntax};
 ghost use Rattle.lol_match.specs.declared.script.Stop.TheVariants.{Memory};
 
 use crate::bad_line::{BadLine, Cause};
@@ -43,8 +44,8 @@ pub fn read_script<'s>(
     none: &'s AttributeBuffer,
 ) -> Result<Script<'s>, Stop>
     requires { none.now.items ≡ [] }
-    ensures read { IfOk result (λ script. Reads script (read_script line_at bytes.now)) }
-    ensures stop { IfErr result (λ stop. Stops stop (read_script line_at bytes.now)) }
+    ensures read { IfOk result (λ script. Reads script (read_script line_at path_runs bytes.now)) }
+    ensures stop { IfErr result (λ stop. Stops stop (read_script line_at path_runs bytes.now)) }
 {
     let mut script = Script {
         ast: Ast::new(alloc),
@@ -65,8 +66,8 @@ fn take_line<'s>(
     none: &'s AttributeBuffer,
 ) -> Result<(), Stop>
     requires { none.now.items ≡ [] }
-    ensures taken { OnOk result ((s : scripts.Script) → IsReading script.old s → Reads script.new (with_bytes line_at number s line.now)) }
-    ensures stop { IfErr result (λ stop. (s : scripts.Script) → IsReading script.old s → Stops stop (with_bytes line_at number s line.now)) }
+    ensures taken { OnOk result ((s : scripts.Script) → IsReading script.old s → Reads script.new (with_bytes line_at path_runs number s line.now)) }
+    ensures stop { IfErr result (λ stop. (s : scripts.Script) → IsReading script.old s → Stops stop (with_bytes line_at path_runs number s line.now)) }
 {
     if line.is_empty() {
         return Ok(());
@@ -85,6 +86,16 @@ fn malformed(number: usize) -> Stop
     Stop::Bad(BadLine {
         number,
         cause: Cause::Form,
+    })
+}
+
+/// A selector that isn't matched yet.
+fn unsupported(number: usize) -> Stop
+    ensures { result ≡ Stop.Bad (record { number = number; cause = Cause.Selector UnsupportedSyntax }) }
+{
+    Stop::Bad(BadLine {
+        number,
+        cause: Cause::Selector(SelectorError::UnsupportedSyntax),
     })
 }
 
@@ -126,8 +137,8 @@ fn take_selector(
     id: u32,
     text: &str,
 ) -> Result<(), Stop>
-    ensures taken { OnOk result ((s : scripts.Script) → IsReading script.old s → Reads script.new (with_line number s (Select id text.now))) }
-    ensures stop { IfErr result (λ stop. (s : scripts.Script) → IsReading script.old s → Stops stop (with_line number s (Select id text.now))) }
+    ensures taken { OnOk result ((s : scripts.Script) → IsReading script.old s → Reads script.new (with_line line_at path_runs number s (Select id text.now))) }
+    ensures stop { IfErr result (λ stop. (s : scripts.Script) → IsReading script.old s → Stops stop (with_line line_at path_runs number s (Select id text.now))) }
 {
     if !script.events.is_empty() {
         return Err(malformed(number));
@@ -142,7 +153,11 @@ fn take_selector(
             let Ok(()) = script.ast.add_selector(&selector, id) else {
                 return Err(Stop::Memory);
             };
-            Ok(())
+            if script.ast.runs_now() {
+                Ok(())
+            } else {
+                Err(unsupported(number))
+            }
         }
     }
 }

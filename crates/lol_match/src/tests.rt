@@ -159,8 +159,33 @@ fn runs_scripts(rt: HostRuntime) -> Result<(), Fail> {
         ("", "", Status::Good),
         (
             "select\t0\tdiv + span\n",
+            "bad line 1: UnsupportedCombinator(+)\n",
+            Status::BadLine,
+        ),
+        (
+            "select\t0\t\n",
+            "bad line 1: EmptySelector\n",
+            Status::BadLine,
+        ),
+        (
+            "select\t0\tp\nselect\t1\tli:nth-child(2n+1)\n",
+            "bad line 2: UnsupportedSyntax\n",
+            Status::BadLine,
+        ),
+        (
+            "select\t0\tp, a[href]\nstart\thtml\tp\n",
             "bad line 1: UnsupportedSyntax\n",
             Status::BadLine,
+        ),
+        (
+            "select\t0\t:not(div)\nselect\t1\t|p\nstart\thtml\tdiv\nstart\thtml\tp\n",
+            "start\t-\nstart\t0\n",
+            Status::Good,
+        ),
+        (
+            "select\t7\t:not(div):not(p) > \\42 r/* none */\nstart\thtml\tmain\nstart\thtml\tbr\nstart\thtml\tdiv\nstart\thtml\tbr\n",
+            "start\t-\nstart\t7/\nstart\t-\nstart\t-\n",
+            Status::Good,
         ),
         ("start\thtml\n", "bad line 1: form\n", Status::BadLine),
         (

@@ -4,13 +4,14 @@ use Rattle.std.specs.Bool.{Decides}
 use Rattle.std.specs.Str.{bytes_eq}
 use Rattle.std.proofs.lemmas.Bool.Decides.{Decides-int_eq}
 use Rattle.std.proofs.lemmas.Slice.Eq.{bytes_eq-Decides, slice_eq-Decides}
-use Rattle.lol_css.specs.declared.selector.AttrSelectorOperator.{AttrSelectorOperator}
-use Rattle.lol_css.specs.declared.selector.AttrSelectorOperator.TheVariants.{Equal, Includes, DashMatch, Prefix, Substring, Suffix}
-use Rattle.lol_css.specs.declared.selector.ParsedCaseSensitivity.{ParsedCaseSensitivity}
-use Rattle.lol_css.specs.declared.selector.ParsedCaseSensitivity.TheVariants.{ExplicitCaseSensitive, AsciiCaseInsensitive, CaseSensitive, AsciiCaseInsensitiveIfInHtmlElementInHtmlDocument}
+use Rattle.lol_css.specs.declared.attribute.AttrSelectorOperator.{AttrSelectorOperator}
+use Rattle.lol_css.specs.declared.attribute.AttrSelectorOperator.TheVariants.{Equal, Includes, DashMatch, Prefix, Substring, Suffix}
+use Rattle.lol_css.specs.declared.attribute.ParsedCaseSensitivity.{ParsedCaseSensitivity}
+use Rattle.lol_css.specs.declared.attribute.ParsedCaseSensitivity.TheVariants.{ExplicitCaseSensitive, AsciiCaseInsensitive, CaseSensitive, AsciiCaseInsensitiveIfInHtmlElementInHtmlDocument}
 use Rattle.lol_css.specs.declared.selector.Combinator.{Combinator}
 use Rattle.lol_css.specs.declared.selector.Combinator.TheVariants.{Child, Descendant}
-use Rattle.lol_program.specs.Tests.{Progression, NameTest, AnyName, NoName, HasName, IsNthChild, IsNthOfType, AttributeTest, HasId, HasClass, HasAttribute, Compares, Signed}
+use Rattle.lol_css.specs.Progression.{Progression}
+use Rattle.lol_program.specs.Tests.{NameTest, AnyName, NoName, HasName, IsNthChild, IsNthOfType, AttributeTest, HasId, HasClass, HasAttribute, Compares, Signed}
 use Rattle.lol_program.specs.Paths.{Compound, Path, First, Then}
 use Rattle.lol_program.specs.Same.{same_progression, same_name_test, same_operator, same_case, same_attribute_test, same_sign, same_signed, same_compound, same_step, same_path}
 
@@ -131,7 +132,7 @@ decides_signed same h a b = (
   λ is. join _ _ ((h a.test b.test).1 (ap (λ s. s.test) is)) (ap (same_sign a.negated) (ap (λ s. s.negated) (sym is)) ∙ itself_sign a.negated),
 )
 
-decides_compound : (a b : Compound) → Decides (same_compound a b) (a ≡ b)
+pub decides_compound : (a b : Compound) → Decides (same_compound a b) (a ≡ b)
 decides_compound a b =
     let names = slice_eq-Decides (decides_signed same_name_test (decides same_name_test agrees_name_test itself_name_test)) a.name_tests b.name_tests _ refl in
     let attributes = slice_eq-Decides (decides_signed same_attribute_test (decides same_attribute_test agrees_attribute_test itself_attribute_test)) a.attribute_tests b.attribute_tests _ refl in (

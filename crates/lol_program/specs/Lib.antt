@@ -4,4 +4,14 @@ pub mod Same
 pub mod Nodes
 pub mod Tries
 pub mod Conditions
+pub mod Predicates
+pub mod Forest
+pub mod Growth
+pub mod Places
+pub mod Views
+pub mod Gifts
+pub mod AstPaths
+pub mod Sets
 pub mod Asts
+pub mod Runs
+pub mod ForestRuns

@@ -7,10 +7,11 @@ use Rattle.lol_base.specs.Names.{same_name, lowercased}
 use Rattle.lol_base.specs.StartTags.{Attribute, StartTag}
 use Rattle.lol_base.specs.declared.namespace.Namespace.{Namespace}
 use Rattle.lol_base.specs.declared.namespace.Namespace.TheVariants.{Html, Svg, MathML}
-use Rattle.lol_css.specs.declared.selector.AttrSelectorOperator.{AttrSelectorOperator}
-use Rattle.lol_css.specs.declared.selector.AttrSelectorOperator.TheVariants.{Equal, Includes, DashMatch, Prefix, Substring, Suffix}
-use Rattle.lol_css.specs.declared.selector.ParsedCaseSensitivity.{ParsedCaseSensitivity}
-use Rattle.lol_css.specs.declared.selector.ParsedCaseSensitivity.TheVariants.{ExplicitCaseSensitive, AsciiCaseInsensitive, CaseSensitive, AsciiCaseInsensitiveIfInHtmlElementInHtmlDocument}
+use Rattle.lol_css.specs.Progression.{Progression}
+use Rattle.lol_css.specs.declared.attribute.AttrSelectorOperator.{AttrSelectorOperator}
+use Rattle.lol_css.specs.declared.attribute.AttrSelectorOperator.TheVariants.{Equal, Includes, DashMatch, Prefix, Substring, Suffix}
+use Rattle.lol_css.specs.declared.attribute.ParsedCaseSensitivity.{ParsedCaseSensitivity}
+use Rattle.lol_css.specs.declared.attribute.ParsedCaseSensitivity.TheVariants.{ExplicitCaseSensitive, AsciiCaseInsensitive, CaseSensitive, AsciiCaseInsensitiveIfInHtmlElementInHtmlDocument}
 
 -- An element of the document: the number of its start tag's event, that tag, and its place from 1 among its parent's children:
 -- among all of them, and among those of its name.
@@ -21,11 +22,6 @@ pub record Element : Type 0 where
   pub typed_position : ℕ
 
 -- 1. Tests
-
--- step * n + offset, of whole numbers n from 0 (CSS Syntax 3, "The An+B microsyntax")
-pub record Progression : Type 0 where
-  pub step : ℤ
-  pub offset : ℤ
 
 -- Tests that need no attributes (Selectors 4, "Elemental Selectors" and "Tree-Structural pseudo-classes").
 pub data NameTest : Type 0 where

@@ -1,142 +1,163 @@
-//! The selectors that are looked for, each under an id.
+//! The selectors that are looked for, as a tree in which equal beginnings are shared.
 
-ghost use Rattle.std.specs.Prelude.{◌≡◌, [], ◌∷◌, ◌++◌, IfOk, OnOk, OnErr, map};
-ghost use Rattle.lol_css.specs.Trees.{complex_of, shown_step, items_of, list_of};
-ghost use Rattle.lol_program.specs.Conditions as conditions;
-ghost use Rattle.lol_program.specs.Conditions.{pairs_under};
-ghost use Rattle.lol_program.specs.Asts.{signed_name_test, tests_of, step_of, pair_of, pairs_of, Joins};
+ghost use Rattle.std.specs.Prelude.{◌≡◌};
+ghost use Rattle.lol_program.specs.Forest.{size, SiblingsDiffer, SiblingsDiffer-prop};
+ghost use Rattle.lol_program.specs.Views.{forest_of};
 
-use lol_css::{Combinator, ComplexSelector, Compound, Selector, SimpleSelector};
+use crate::ast_node::{self, AstNode};
+use crate::ast_path::{self, AstPath};
+use crate::gift::Gift;
+use crate::spare_id::SpareId;
+use crate::spare_ids::spare_ids;
+use lol_css::{Selector, SelectorList};
 use lol_memory::MatchId;
 use std::alloc::{AllocError, Global};
 
-/// A test that a tag's name decides, as in the crate.
-#[derive(Debug, Drop, PartialEq, Eq)]
-pub enum OnTagNameExpr {
-    ExplicitAny,
-    LocalName(String),
-}
-
-/// A test or its opposite, as in the crate.
-#[derive(Debug, Drop, PartialEq, Eq)]
-pub struct Expr<E> {
-    pub simple_expr: E,
-    pub negation: bool,
-}
-
-/// The tests of a compound, all of which one element has to pass, as in the crate.
-#[derive(Debug, Drop, PartialEq, Eq)]
-pub struct Predicate {
-    pub on_tag_name_exprs: Vec<Expr<OnTagNameExpr>>,
-}
-
-/// A complex selector and the id that it was added under.
-#[derive(Debug, Drop, PartialEq, Eq)]
-pub struct AstPair {
-    pub first: Predicate,
-    pub rest: Vec<(Combinator, Predicate)>,
-    pub match_id: MatchId,
-}
-
-/// The selectors that are looked for: a set of pairs of a path and an id.
+/// The selectors that are looked for, as a tree in which equal beginnings are shared.
 #[derive(Debug, Drop, PartialEq, Eq)]
 pub struct Ast {
     alloc: Global,
-    pairs: Vec<AstPair>,
+    root: Vec<AstNode>,
+    cumulative_node_count: usize,
+    ghost counted: { cumulative_node_count ≡ size (forest_of root.items) },
+    ghost siblings: { SiblingsDiffer (forest_of root.items) } by { SiblingsDiffer-prop (forest_of root.items) },
 }
 
 impl Ast {
+    ghost use Rattle.std.specs.Prelude.{◌≢◌, ◌≤◌, ◌↔◌, ℕ, List, [], IsTrue, OnOk, OnErr, IsOk, Contains, length, map, flat_map, AllPairs, vec_len};
+    ghost use Rattle.lol_css.specs.TreeViews.{list_of};
+    ghost use Rattle.lol_program.specs.Paths.{Path, beginnings, all_beginnings};
+    ghost use Rattle.lol_program.specs.Runs.{path_runs};
+    ghost use Rattle.lol_program.specs.Conditions.{pairs_under};
+    ghost use Rattle.lol_program.specs.Gifts.{given, pairs_given, IsSpared, AllSpare};
+    ghost use Rattle.lol_program.specs.AstPaths.{shown, IsIn, AllIn};
+    ghost use Rattle.lol_program.specs.Sets.{Joins, SameMembers, IsBetween};
+    ghost use Rattle.lol_program.specs.Asts.{trees_of, nodes_of, pairs_of};
+
     /// No selectors. It takes no memory.
     pub fn new(alloc: Global) -> Self
-        ensures { pairs_of result ≡ [] }
+        ensures nodes { nodes_of result ≡ [] }
+        ensures pairs { pairs_of result ≡ [] }
     {
         Ast {
             alloc,
-            pairs: Vec::new(alloc),
+            root: Vec::new(alloc),
+            cumulative_node_count: 0,
         }
     }
 
-    /// The complex selectors, each with an id that it was added under.
-    pub fn pairs(&self) -> &[AstPair]
-        ensures { map pair_of result.now ≡ pairs_of self.now }
+    /// The nodes that no other stands above.
+    pub fn root(&self) -> &[AstNode]
+        ensures { forest_of result.now ≡ trees_of self.now }
     {
-        &self.pairs
+        &self.root
     }
 
-    /// Adds each complex selector of a list under an id. Where memory is refused the pairs are as before.
-    pub fn add_selector(&mut self, selector: &Selector, match_id: MatchId) -> Result<(), AllocError>
-        ensures added { OnOk result (Joins (pairs_of self.old) (pairs_of self.new) (pairs_under match_id (items_of (list_of selector.now)))) }
-        ensures unchanged { OnErr result (pairs_of self.new ≡ pairs_of self.old) }
+    /// The number of nodes, each of which has a path of its own.
+    pub fn cumulative_node_count(&self) -> usize
+        ensures count { result ≡ length (nodes_of self.now) }
+        ensures each_once { AllPairs (λ a b. a ≢ b) (nodes_of self.now) }
     {
-        let mut added = pairs_under(self.alloc, &selector.list().items, match_id)?;
-        self.pairs.append(&mut added)?;
+        self.cumulative_node_count
+    }
+
+    /// Whether all compounds have tests of names alone, which is what can be run so far. It takes no memory. (Not in the crate.)
+    pub fn runs_now(&self) -> bool
+        ensures nodes { IsTrue result ↔ ((path : Path) → Contains (nodes_of self.now) path → IsTrue (path_runs path)) }
+        ensures pairs { IsTrue result → (pair : Path × ℕ) → Contains (pairs_of self.now) pair → IsTrue (path_runs pair.0) }
+    {
+        ast_node::all_run_now(&self.root)
+    }
+
+    /// Adds each item of a selector's list under an id. Refused, it leaves the ids as they were, and the nodes too but for some without
+    /// ids, which stand for beginnings of the items. It is refused where memory is, and where there would be more nodes than a `usize`
+    /// counts.
+    pub fn add_selector(&mut self, selector: &Selector, match_id: MatchId) -> Result<(), AllocError>
+        ensures pairs { OnOk result (Joins (pairs_of self.old) (pairs_of self.new) (pairs_under match_id (list_of selector.now))) }
+        ensures nodes { OnOk result (Joins (nodes_of self.old) (nodes_of self.new) (all_beginnings (pairs_under match_id (list_of selector.now)))) }
+        ensures refused_pairs { OnErr result (SameMembers (pairs_of self.old) (pairs_of self.new)) }
+        ensures refused_nodes { OnErr result (IsBetween (nodes_of self.old) (nodes_of self.new) (all_beginnings (pairs_under match_id (list_of selector.now)))) }
+    {
+        self.add_list(selector.list(), match_id)
+    }
+
+    fn add_list(&mut self, list: &SelectorList, match_id: MatchId) -> Result<(), AllocError>
+        ensures pairs { OnOk result (Joins (pairs_of self.old) (pairs_of self.new) (pairs_under match_id (list_of list.now))) }
+        ensures nodes { OnOk result (Joins (nodes_of self.old) (nodes_of self.new) (all_beginnings (pairs_under match_id (list_of list.now)))) }
+        ensures refused_pairs { OnErr result (SameMembers (pairs_of self.old) (pairs_of self.new)) }
+        ensures refused_nodes { OnErr result (IsBetween (nodes_of self.old) (nodes_of self.new) (all_beginnings (pairs_under match_id (list_of list.now)))) }
+    {
+        let paths = ast_path::paths_of(self.alloc, &list.items)?;
+        self.add_nodes(&paths)?;
+        self.add_id(&paths, match_id)
+    }
+
+    fn add_path(&mut self, path: &AstPath, gift: Gift) -> Result<(), AllocError>
+        ensures pairs { OnOk result (Joins (pairs_of self.old) (pairs_of self.new) (pairs_given (given gift) (shown path.now))) }
+        ensures nodes { OnOk result (Joins (nodes_of self.old) (nodes_of self.new) (beginnings (shown path.now))) }
+        ensures stands { OnOk result (IsIn (trees_of self.new) path.now) }
+        ensures refused_pairs { OnErr result (SameMembers (pairs_of self.old) (pairs_of self.new)) }
+        ensures refused_nodes { OnErr result (IsBetween (nodes_of self.old) (nodes_of self.new) (beginnings (shown path.now))) }
+        ensures keeps { (paths : List AstPath) → AllIn (trees_of self.old) paths → AllIn (trees_of self.new) paths }
+        ensures free { IsSpared gift → IsIn (trees_of self.old) path.now → IsOk result }
+    {
+        ast_node::add_path(
+            self.alloc,
+            &mut self.root,
+            &mut self.cumulative_node_count,
+            &path.first,
+            &path.rest,
+            gift,
+        )
+    }
+
+    /// Makes the nodes of paths that aren't there.
+    fn add_nodes(&mut self, paths: &[AstPath]) -> Result<(), AllocError>
+        ensures pairs { SameMembers (pairs_of self.old) (pairs_of self.new) }
+        ensures nodes { OnOk result (Joins (nodes_of self.old) (nodes_of self.new) (flat_map beginnings (map shown paths.now))) }
+        ensures stands { OnOk result (AllIn (trees_of self.new) paths.now) }
+        ensures refused_nodes { OnErr result (IsBetween (nodes_of self.old) (nodes_of self.new) (flat_map beginnings (map shown paths.now))) }
+    {
+        for path in paths {
+            self.add_path(path, Gift::Nothing)?;
+        }
         Ok(())
     }
-}
 
-fn pairs_under(
-    alloc: Global,
-    items: &[ComplexSelector],
-    match_id: MatchId,
-) -> Result<Vec<AstPair>, AllocError>
-    ensures { IfOk result (λ pairs. map pair_of pairs.items ≡ pairs_under match_id (map complex_of items.now)) }
-{
-    let mut pairs = Vec::new(alloc);
-    for item in items {
-        pairs.push(pair_under(alloc, item, match_id)?)?;
+    /// Gives an id to the last nodes of paths that stand. All that may be refused comes before the first change.
+    fn add_id(&mut self, paths: &[AstPath], match_id: MatchId) -> Result<(), AllocError>
+        requires { AllIn (trees_of self.old) paths.now }
+        ensures pairs { OnOk result (Joins (pairs_of self.old) (pairs_of self.new) (map (λ path. (shown path, match_id)) paths.now)) }
+        ensures nodes { OnOk result (Joins (nodes_of self.old) (nodes_of self.new) (flat_map beginnings (map shown paths.now))) }
+        ensures refused_pairs { OnErr result (SameMembers (pairs_of self.old) (pairs_of self.new)) }
+        ensures refused_nodes { OnErr result (IsBetween (nodes_of self.old) (nodes_of self.new) (flat_map beginnings (map shown paths.now))) }
+    {
+        let Some((last, others)) = paths.split_last() else {
+            return Ok(());
+        };
+        let spares = spare_ids(self.alloc, match_id, others.len())?;
+        self.add_path(last, Gift::Id(match_id))?;
+        self.add_spare_ids(others, match_id, spares);
+        Ok(())
     }
-    Ok(pairs)
-}
-
-fn pair_under(
-    alloc: Global,
-    item: &ComplexSelector,
-    match_id: MatchId,
-) -> Result<AstPair, AllocError>
-    ensures { IfOk result (λ pair. pair_of pair ≡ (conditions.path_of (complex_of item.now), match_id)) }
-{
-    let first = predicate_of(alloc, &item.first)?;
-    let rest = steps_of(alloc, &item.rest)?;
-    Ok(AstPair {
-        first,
-        rest,
-        match_id,
-    })
-}
-
-fn steps_of(
-    alloc: Global,
-    rest: &[(Combinator, Compound)],
-) -> Result<Vec<(Combinator, Predicate)>, AllocError>
-    ensures { IfOk result (λ steps. map step_of steps.items ≡ map conditions.step_of (map shown_step rest.now)) }
-{
-    let mut steps = Vec::new(alloc);
-    for (combinator, compound) in rest {
-        steps.push((*combinator, predicate_of(alloc, compound)?))?;
+    /// Gives an id to the last nodes of paths that stand, with memory that was taken for each.
+    fn add_spare_ids(&mut self, paths: &[AstPath], match_id: MatchId, mut spares: Vec<SpareId>)
+        requires stand { AllIn (trees_of self.old) paths.now }
+        requires enough { length paths.now ≤ vec_len spares }
+        requires alike { AllSpare match_id spares.items }
+        ensures pairs { Joins (pairs_of self.old) (pairs_of self.new) (map (λ path. (shown path, match_id)) paths.now) }
+        ensures nodes { Joins (nodes_of self.old) (nodes_of self.new) (flat_map beginnings (map shown paths.now)) }
+    {
+        for path in paths {
+            let Some(spare) = spares.pop() else {
+                unreachable!();
+            };
+            let Ok(()) = self.add_path(path, Gift::Spared(spare)) else {
+                unreachable!();
+            };
+        }
     }
-    Ok(steps)
 }
 
-/// The tests of a compound's parts, taken from right to left.
-fn predicate_of(alloc: Global, compound: &Compound) -> Result<Predicate, AllocError>
-    ensures { IfOk result (λ predicate. tests_of predicate ≡ conditions.compound_of compound.now.parts.items) }
-{
-    let mut on_tag_name_exprs = Vec::new(alloc);
-    for part in compound.parts.iter().rev() {
-        on_tag_name_exprs.push(expr_of(alloc, part)?)?;
-    }
-    Ok(Predicate { on_tag_name_exprs })
-}
-
-fn expr_of(alloc: Global, part: &SimpleSelector) -> Result<Expr<OnTagNameExpr>, AllocError>
-    ensures { IfOk result (λ expr. signed_name_test expr ≡ conditions.test_of part.now) }
-{
-    let simple_expr = match part {
-        SimpleSelector::LocalName(name) => OnTagNameExpr::LocalName(name.to_boxed_slice(alloc)?),
-        SimpleSelector::ExplicitUniversalType => OnTagNameExpr::ExplicitAny,
-    };
-    Ok(Expr {
-        simple_expr,
-        negation: false,
-    })
-}
+#[cfg(test)]
+mod tests;

@@ -2,8 +2,18 @@
 #![tactic(auto)]
 
 mod ast;
+mod ast_node;
+mod ast_path;
+mod condition;
+mod gift;
 pub mod laws;
+mod predicate;
+mod spare_id;
+mod spare_ids;
 mod tries;
 
-pub use ast::{Ast, AstPair, Expr, OnTagNameExpr, Predicate};
+pub use ast::Ast;
+pub use ast_node::AstNode;
+pub use condition::{AttributeComparisonExpr, Condition, OnAttributesExpr, OnTagNameExpr};
+pub use predicate::{Expr, Predicate};
 pub use tries::Tries;

@@ -39,7 +39,7 @@ fn start<'i>(name: &'i [u8], none: &'i AttributeBuffer) -> TagEvent<'i>
 #[test]
 fn adds_selectors(rt: HostRuntime) -> Result<(), Fail> {
     let ast = selectors(rt.alloc(), &[("div p, *", 3), ("div > p", 3)])?;
-    assert_eq!(rt; ast.pairs().len(), 3);
+    assert_eq!(rt; ast.cumulative_node_count(), 4);
     assert_eq!(rt;
         ast,
         selectors(rt.alloc(), &[("div p", 3), ("*, div>p", 3)])?
@@ -62,6 +62,7 @@ fn answers_tags(rt: HostRuntime) -> Result<(), Fail> {
         start(b"p", &none),
         TagEvent::End { name: b"DIV" },
     ];
+    assert!(rt; ast.runs_now());
     let mut limiter = SharedMemoryLimiter::new(100);
     let reports = match_events(alloc, &ast, 64, false, &events, &mut limiter);
     assert_eq!(rt; limiter.current_usage(), 0);

@@ -165,6 +165,9 @@ module _ (e : Element) (outer : List Element) where
       (λ id h. let m = among_matching_ids ps id h in matching_ids_among qs m.0 id (to (m.0, id) m.1) m.2)
       (λ id h. let m = among_matching_ids qs id h in matching_ids_among ps m.0 id (from (m.0, id) m.1) m.2)
 
+  pub matching_ids_ascend : (pairs : List (Path × ℕ)) → IsStrictlyAscending (matching_ids pairs e outer)
+  matching_ids_ascend pairs = pairs_from_ascends _ (ascending_ascends (ids_matching pairs e outer))
+
 ids_of_matches : (ids : List ℕ) (content : Bool) → ids_of (map (λ (id : ℕ). record { id = id; with_content = content }) ids) ≡ ids
 ids_of_matches [] content = refl
 ids_of_matches (id ∷ ids) content = ap (λ more. id ∷ more) (ids_of_matches ids content)

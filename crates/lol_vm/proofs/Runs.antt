@@ -12,9 +12,6 @@ use Rattle.lol_base.specs.declared.namespace.Namespace.TheVariants.{Html}
 use Rattle.lol_css.specs.declared.selector.Combinator.{Combinator}
 use Rattle.lol_program.specs.Tests.{Element, is_html}
 use Rattle.lol_program.specs.Paths.{Path, First, Then, Selectors, AreNodes, last_compound, names_hold, has_attribute_tests, beginnings, all_beginnings, extended}
-use Rattle.lol_program.specs.Asts.{step_of, path_from, pair_of}
-use Rattle.lol_program.specs.declared.ast.Predicate.{Predicate}
-use Rattle.lol_program.specs.declared.ast.AstPair.{AstPair}
 use Rattle.lol_program.proofs.Members.{map-map}
 use Rattle.lol_vm.specs.Events as events
 use Rattle.lol_vm.specs.Events.{Event, has_content, has_content_in}
@@ -27,49 +24,7 @@ use Rattle.lol_vm.specs.OpenNames.{Spells, AreNamed, Stands, shown}
 use Rattle.lol_vm.specs.declared.matching.OpenElement.{OpenElement}
 use Rattle.lol_vm.proofs.Plain.{and-true}
 
--- 1. No attributes are asked for
-
-abbrev pub HasNoAttributeTests : Path → Type 0
-HasNoAttributeTests (First c) = has_attribute_tests c ≡ false
-HasNoAttributeTests (Then front step c) = HasNoAttributeTests front × (has_attribute_tests c ≡ false)
-
-plain_last : (path : Path) → HasNoAttributeTests path → has_attribute_tests (last_compound path) ≡ false
-plain_last (First c) h = h
-plain_last (Then front step c) h = h.1
-
-plain_extended : (path : Path) (rest : List (Combinator × Predicate)) → HasNoAttributeTests path → HasNoAttributeTests (extended path (map step_of rest))
-plain_extended path [] h = h
-plain_extended path (step ∷ rest) h = plain_extended _ rest (h, refl)
-
-pub plain_path_from : (first : Predicate) (rest : List (Combinator × Predicate)) → HasNoAttributeTests (path_from first rest)
-plain_path_from first rest = plain_extended _ rest refl
-
-plain_beginnings : (path : Path) → HasNoAttributeTests path → All HasNoAttributeTests (beginnings path)
-plain_beginnings (First c) h = All-cons HasNoAttributeTests (First c) [] h (All-nil HasNoAttributeTests)
-plain_beginnings (Then front step c) h = All-cons HasNoAttributeTests (Then front step c) (beginnings front) h (plain_beginnings front h.0)
-
-all_nodes : (pairs : List AstPair) → All HasNoAttributeTests (all_beginnings (map pair_of pairs))
-all_nodes [] = All-nil HasNoAttributeTests
-all_nodes (pair ∷ pairs) =
-    All-append HasNoAttributeTests (beginnings (pair_of pair).0) _ (plain_beginnings _ (plain_path_from pair.first pair.rest.items)) (all_nodes pairs)
-
-pub plain_nodes : (pairs : List AstPair) (nodes : List Path) → AreNodes (map pair_of pairs) nodes → All HasNoAttributeTests nodes
-plain_nodes pairs nodes are = λ k d within.
-    All-contains HasNoAttributeTests _ (get_or nodes k d) (all_nodes pairs) ((are.members (get_or nodes k d)).0 (k, within, get_or_default nodes k (get_or nodes k d) d within))
-
-and_false : (a b c : Bool) → c ≡ false → (a && (b && c)) ≡ false
-and_false true true c h = h
-and_false true false c h = refl
-and_false false b c h = refl
-
-none_needs : (e : Element) (outer : List Element) (nodes : List Path) → AllByRecursion HasNoAttributeTests nodes → list_any (needs_attributes e outer) nodes ≡ false
-none_needs e outer [] h = refl
-none_needs e outer (node ∷ nodes) h =
-    λ i. and_false (left_matches node outer) (names_hold (last_compound node) e) _ (plain_last node h.0) i || none_needs e outer nodes h.1 i
-
-pub asks_nothing : (pairs : List AstPair) (nodes : List Path) (e : Element) (outer : List Element) → AreNodes (map pair_of pairs) nodes → e.tag.namespace ≡ Html → asks (record { pairs = map pair_of pairs; nodes = nodes }) e outer ≡ false
-asks_nothing pairs nodes e outer are html =
-    λ i. not (is_html (html i)) || none_needs e outer nodes (recursion_from_All HasNoAttributeTests nodes (plain_nodes pairs nodes are)) i
+-- 1. An answer without attributes
 
 pub answer_start : (s : Selectors) (esi : Bool) (d : Document) (tag : StartTag) → asks s (element_of d tag) d.open_elements ≡ false → without_tries (answer s esi d (events.Start tag)) ≡ answered.Started (report s esi (element_of d tag) d.open_elements) false 0 0
 answer_start s esi d tag none =

@@ -2,10 +2,13 @@
 use Rattle.std.specs.Prelude.{ℕ, ◌≡◌, ◌≢◌, ◌<◌, ◌↔◌, true, Bool, List, [], map, None, Contains, AllPairs}
 use Rattle.lol_program.specs.Tests.{Element}
 use Rattle.lol_program.specs.Paths.{Path, Selectors}
+use Rattle.lol_program.specs.Asts.{pairs_of, nodes_of}
+use Rattle.lol_program.specs.declared.ast.Ast.{Ast}
 use Rattle.lol_vm.specs.Events.{Event, End}
 use Rattle.lol_vm.specs.Documents.{Document, place_of}
 use Rattle.lol_vm.specs.Matching.{matches}
 use Rattle.lol_vm.specs.Answers.{Match, Ended, report, answer, answers, after}
+use Rattle.lol_vm.specs.Views.{selectors}
 use Rattle.lol_vm.specs.Refusals.{Allowance, refused}
 
 -- each number of a list is below all behind it
@@ -52,3 +55,9 @@ StrayEndChangesNothing =
     (s : Selectors) (esi : Bool) (d : Document) (name : List ℕ) → place_of name d.open_elements ≡ None
     → (answer s esi d (End name) ≡ Ended [])
     × ((after s esi d (End name)).open_elements ≡ d.open_elements) × ((after s esi d (End name)).children ≡ d.children)
+
+-- Two trees of the same pairs, with the same nodes, answer alike: in whatever order their selectors were added.
+abbrev pub TreesAnswerAlike : Type 0
+TreesAnswerAlike =
+    (a b : Ast) → SameMembers (pairs_of a) (pairs_of b) → SameMembers (nodes_of a) (nodes_of b)
+    → (esi : Bool) (events : List Event) → answers (selectors a) esi events ≡ answers (selectors b) esi events

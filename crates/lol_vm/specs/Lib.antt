@@ -5,7 +5,7 @@ pub mod Answers
 pub mod Refusals
 pub mod Machine
 pub mod Simulation
-pub mod Laws
 pub mod Rows
-pub mod Views
 pub mod OpenNames
+pub mod Views
+pub mod Laws

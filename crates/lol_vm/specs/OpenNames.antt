@@ -1,16 +1,26 @@
--- The plain matcher's list of open elements, of which it keeps the names and the numbers.
-use Rattle.std.specs.Prelude.{ℕ, ◌≡◌, Bool, true, not, List, map, reverse, string_bytes, if◌then◌else◌}
+-- The plain matcher's list of open elements, of which it keeps the names and the numbers, and what it finds in the tree.
+use Rattle.std.specs.Prelude.{ℕ, ◌≡◌, ◌⊎◌, ◌↔◌, ◌&&◌, Bool, true, false, not, List, [], ◌∷◌, map, reverse, Contains, string_bytes, if◌then◌else◌}
 use Rattle.std.specs.Str.{bytes_eq}
 use Rattle.lol_base.specs.Names.{lowercased}
 use Rattle.lol_base.specs.LocalNames.{Name}
 use Rattle.lol_base.specs.StartTags.{StartTag}
 use Rattle.lol_base.specs.declared.namespace.Namespace.TheVariants.{Html}
+use Rattle.lol_css.specs.declared.selector.Combinator.{Combinator}
+use Rattle.lol_css.specs.declared.selector.Combinator.TheVariants.{Child, Descendant}
+use Rattle.lol_memory.specs.Ids.{Ids, has}
 use Rattle.lol_program.specs.Tests.{Element}
-use Rattle.lol_program.specs.declared.ast.Expr.{Expr}
-use Rattle.lol_program.specs.declared.ast.OnTagNameExpr.{OnTagNameExpr}
-use Rattle.lol_program.specs.declared.ast.OnTagNameExpr.TheVariants.{ExplicitAny, LocalName}
+use Rattle.lol_program.specs.Paths.{Compound, Path, First, Then}
+use Rattle.lol_program.specs.Predicates.{tests_of}
+use Rattle.lol_program.specs.Forest.{Forest, none, more, Node}
+use Rattle.lol_program.specs.Runs.{compound_runs}
+use Rattle.lol_program.specs.ForestRuns.{forest_runs}
+use Rattle.lol_program.specs.declared.predicate.Expr.{Expr}
+use Rattle.lol_program.specs.declared.condition.OnTagNameExpr.{OnTagNameExpr}
+use Rattle.lol_program.specs.declared.condition.OnTagNameExpr.TheVariants.{ExplicitAny, Unmatchable, LocalName, NthChild, NthOfType}
 use Rattle.lol_vm.specs.Documents.{Document}
+use Rattle.lol_vm.specs.Matching.{matches}
 use Rattle.lol_vm.specs.declared.matching.OpenElement.{OpenElement}
+use Rattle.lol_vm.specs.declared.matching.Step.{Step}
 
 -- a name spells these bytes, up to ASCII case
 abbrev pub Spells : Name → List ℕ → Type 0
@@ -35,10 +45,52 @@ shown e = (e.name.lowercased, e.number)
 abbrev pub Stands : List OpenElement → Document → Type 0
 Stands elements d = map shown (reverse elements) ≡ map (λ e. (lowercased e.tag.name, e.number)) d.open_elements
 
--- what a test says of a name
+-- what a test says of a name; a position isn't known
 abbrev pub simple_passes : Name → OnTagNameExpr → Bool
 simple_passes name ExplicitAny = true
+simple_passes name Unmatchable = false
 simple_passes name (LocalName wanted) = bytes_eq name.lowercased (lowercased (string_bytes wanted))
+simple_passes name (NthChild nth) = false
+simple_passes name (NthOfType nth) = false
 
 abbrev pub expr_passes : Name → Expr OnTagNameExpr → Bool
 expr_passes name expr = if expr.negation then not (simple_passes name expr.simple_expr) else simple_passes name expr.simple_expr
+
+-- the path of some steps, the last of them first
+abbrev pub path_up : List Step → Path
+path_up [] = First (record { name_tests = []; attribute_tests = [] })
+path_up (step ∷ []) = First (tests_of step.predicate.now)
+path_up (step ∷ before ∷ others) = Then (path_up (before ∷ others)) step.combinator (tests_of step.predicate.now)
+
+-- the path of some steps and one compound more
+abbrev pub path_to : List Step → Combinator → Compound → Path
+path_to [] combinator compound = First compound
+path_to (step ∷ others) combinator compound = Then (path_up (step ∷ others)) combinator compound
+
+-- each step's compound is one that runs
+abbrev pub StepsRun : List Step → Type 0
+StepsRun [] = Unit {0}
+StepsRun (step ∷ others) = (compound_runs (tests_of step.predicate.now) ≡ true) × StepsRun others
+
+-- one tree runs
+abbrev pub NodeRuns : Node → Type 0
+NodeRuns n = (compound_runs n.compound ≡ true) × (forest_runs n.children ≡ true) × (forest_runs n.descendants ≡ true)
+
+-- some node of the trees has the id and matches
+abbrev pub Reports : (Compound → Path) → Forest → Element → List Element → ℕ → Type 0
+Reports make none e outer id = ⊥
+Reports make (more compound ids children descendants rest) e outer id =
+    (Contains ids id × (matches (make compound) e outer ≡ true))
+    ⊎ (Reports (Then (make compound) Child) children e outer id
+    ⊎ (Reports (Then (make compound) Descendant) descendants e outer id
+    ⊎ Reports make rest e outer id))
+
+-- the same of one tree
+abbrev pub ReportsIn : (Compound → Path) → Node → Element → List Element → ℕ → Type 0
+ReportsIn make n e outer id =
+    (Contains n.ids id × (matches (make n.compound) e outer ≡ true))
+    ⊎ (Reports (Then (make n.compound) Child) n.children e outer id ⊎ Reports (Then (make n.compound) Descendant) n.descendants e outer id)
+
+-- the ids of a set that were there, or for which P holds
+abbrev pub Gains : Ids → Ids → (ℕ → Type 0) → Type 0
+Gains old new P = (id : ℕ) → (has new id ≡ true) ↔ ((has old id ≡ true) ⊎ P id)

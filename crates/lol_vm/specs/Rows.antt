@@ -3,8 +3,8 @@ use Rattle.std.specs.Prelude.{ℕ, ◌≡◌, Bool, true, false, List, [], ◌�
 use Rattle.lol_base.specs.StartTags.{Attribute}
 use Rattle.lol_base.specs.declared.namespace.Namespace.{Namespace}
 use Rattle.lol_base.specs.declared.namespace.Namespace.TheVariants.{Html, Svg}
-use Rattle.lol_css.specs.declared.selector.AttrSelectorOperator.TheVariants.{Equal, Substring}
-use Rattle.lol_css.specs.declared.selector.ParsedCaseSensitivity.TheVariants.{CaseSensitive, AsciiCaseInsensitiveIfInHtmlElementInHtmlDocument}
+use Rattle.lol_css.specs.declared.attribute.AttrSelectorOperator.TheVariants.{Equal, Substring}
+use Rattle.lol_css.specs.declared.attribute.ParsedCaseSensitivity.TheVariants.{CaseSensitive, AsciiCaseInsensitiveIfInHtmlElementInHtmlDocument}
 use Rattle.lol_css.specs.declared.selector.Combinator.TheVariants.{Child, Descendant}
 use Rattle.lol_program.specs.Tests.{Signed, NameTest, AnyName, HasName, IsNthChild, IsNthOfType, AttributeTest, HasClass, HasAttribute, Compares}
 use Rattle.lol_program.specs.Paths.{Compound, Path, First, Then}

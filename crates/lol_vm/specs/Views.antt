@@ -5,8 +5,8 @@ use Rattle.lol_base.specs.declared.namespace.Namespace.{Namespace}
 use Rattle.lol_base.specs.declared.namespace.Namespace.TheVariants.{Html}
 use Rattle.lol_base.specs.declared.start_tag.AuxStartTagInfo.{AuxStartTagInfo}
 use Rattle.lol_memory.specs.declared.match_info.MatchInfo.{MatchInfo}
-use Rattle.lol_program.specs.Paths.{Path, Selectors}
-use Rattle.lol_program.specs.Asts.{pairs_of}
+use Rattle.lol_program.specs.Paths.{Selectors}
+use Rattle.lol_program.specs.Asts.{pairs_of, nodes_of}
 use Rattle.lol_program.specs.Tries.{name_tries, attribute_tries}
 use Rattle.lol_program.specs.declared.ast.Ast.{Ast}
 use Rattle.lol_vm.specs.Events as events
@@ -51,6 +51,6 @@ without_tries (answers.Started matched asked names attributes) = answers.Started
 without_tries answers.Dropped = answers.Dropped
 without_tries (answers.Ended closed) = answers.Ended closed
 
--- the selectors that were added, with these nodes
-abbrev pub selectors : Ast → List Path → Selectors
-selectors ast nodes = record { pairs = pairs_of ast; nodes = nodes }
+-- the selectors that were added, and the nodes of their tree
+abbrev pub selectors : Ast → Selectors
+selectors ast = record { pairs = pairs_of ast; nodes = nodes_of ast }

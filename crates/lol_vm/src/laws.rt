@@ -3,7 +3,7 @@
 ghost use Rattle.std.specs.Prelude.{Bool, List};
 ghost use Rattle.lol_program.specs.Tests.{Element};
 ghost use Rattle.lol_program.specs.Paths.{Selectors};
-ghost use Rattle.lol_vm.specs.Laws.{IsReport, AscendingIsDetermined, OrderChangesNothing, StrayEndChangesNothing};
+ghost use Rattle.lol_vm.specs.Laws.{IsReport, AscendingIsDetermined, OrderChangesNothing, TreesAnswerAlike, StrayEndChangesNothing};
 ghost use Rattle.lol_vm.specs.Simulation.{RunsLeftMatches};
 
 /// A report is strictly ascending and has exactly the ids under which a path matches.
@@ -19,6 +19,11 @@ pub fn ascending_lists_are_determined()
 /// The order in which selectors stand changes no answer and no refusal.
 pub fn order_changes_nothing()
     ensures { OrderChangesNothing }
+{}
+
+/// Two trees of the same pairs and nodes answer alike, in whatever order their selectors were added.
+pub fn trees_answer_alike()
+    ensures { TreesAnswerAlike }
 {}
 
 /// An end tag whose name isn't open changes nothing.

@@ -13,12 +13,16 @@ pub use lol_base::{
     AttributeBuffer, AttributeOutline, AuxStartTagInfo, Bytes, LocalName, Namespace, Range, Tag,
 };
 pub use lol_css::{
-    AttrSelectorOperator, Combinator, ComplexSelector, Compound, CssString, ParsedCaseSensitivity,
-    Selector, SelectorError, SelectorList, SelectorsParser, SimpleSelector,
+    AttrSelectorOperator, CaseSensitivity, Combinator, ComplexSelector, Compound, CssString,
+    NthChild, ParsedCaseSensitivity, Selector, SelectorError, SelectorList, SelectorsParser,
+    SimpleSelector,
 };
 pub use lol_memory::{
     DenseHashSet, DenseHashSetIter, Drain, LimitedVec, MatchId, MatchInfo,
     MemoryLimitExceededError, PushError, SharedMemoryLimiter,
 };
-pub use lol_program::{Ast, AstPair, Expr, OnTagNameExpr, Predicate, Tries};
+pub use lol_program::{
+    Ast, AstNode, AttributeComparisonExpr, Condition, Expr, OnAttributesExpr, OnTagNameExpr,
+    Predicate, Tries,
+};
 pub use run::match_events;

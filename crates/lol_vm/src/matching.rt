@@ -1,15 +1,18 @@
-//! Whether a selector matches, read from the right over the open elements.
+//! Whether a node of the tree matches, read from the right over the open elements.
 
-ghost use Rattle.std.specs.Prelude.{◌≡◌, List};
+ghost use Rattle.std.specs.Prelude.{◌≡◌, true, List, reverse, OnOk, map};
 ghost use Rattle.std.specs.List.{list_all};
+ghost use Rattle.lol_program.specs.ForestRuns.{forest_runs};
+ghost use Rattle.lol_program.specs.Views.{node_of, forest_of};
 ghost use Rattle.lol_program.specs.Tests.{Element};
-ghost use Rattle.lol_program.specs.Asts.{path_from};
 ghost use Rattle.lol_vm.specs.Matching.{matches, step_reaches};
-ghost use Rattle.lol_vm.specs.OpenNames.{Spells, AreNamed, expr_passes};
+ghost use Rattle.lol_vm.specs.OpenNames.{Spells, AreNamed, StepsRun, NodeRuns, Reports, ReportsIn, Gains, expr_passes, path_up, path_to};
 
 use lol_base::LocalName;
 use lol_css::Combinator;
-use lol_program::{Expr, OnTagNameExpr, Predicate};
+use lol_memory::DenseHashSet;
+use lol_program::{AstNode, Expr, OnTagNameExpr, Predicate};
+use std::alloc::AllocError;
 
 /// An open element: its name, and the number of its start tag's event.
 #[derive(Drop)]
@@ -18,12 +21,22 @@ pub(crate) struct OpenElement<'i> {
     pub number: usize,
 }
 
+/// A node on the way down the tree, and how it stands to the one above it. (A root stands under nothing.)
+#[derive(Clone, Copy)]
+pub(crate) struct Step<'t> {
+    pub combinator: Combinator,
+    pub predicate: &'t Predicate,
+}
+
 fn expr_holds(expr: &Expr<OnTagNameExpr>, name: &LocalName) -> bool
     ensures { result ≡ expr_passes name.now expr.now }
 {
     let holds = match &expr.simple_expr {
         OnTagNameExpr::ExplicitAny => true,
         OnTagNameExpr::LocalName(wanted) => *name == LocalName::new(wanted.as_bytes()),
+        OnTagNameExpr::Unmatchable
+        | OnTagNameExpr::NthChild(_)
+        | OnTagNameExpr::NthOfType(_) => false,
     };
     holds != expr.negation
 }
@@ -37,42 +50,80 @@ fn predicate_holds(predicate: &Predicate, name: &LocalName) -> bool
         .all(|expr| expr_holds(expr, name))
 }
 
-/// Whether a path matches an element of this name inside these open ones, the outermost first.
+/// Whether the node at the end of a way matches an element of this name inside these open ones, the outermost first.
 #[cycle(matching)]
-pub(crate) fn path_matches(
-    first: &Predicate,
-    rest: &[(Combinator, Predicate)],
-    name: &LocalName,
-    elements: &[OpenElement],
-) -> bool
-    ensures { (e : Element) (outer : List Element) → Spells name.now e.tag.name → AreNamed elements.now outer
-        → result ≡ matches (path_from first.now rest.now) e outer }
+fn path_matches(path: &[Step], name: &LocalName, elements: &[OpenElement]) -> bool
+    ensures { (e : Element) (outer : List Element) → StepsRun (reverse path.now) → Spells name.now e.tag.name → AreNamed elements.now outer
+        → result ≡ matches (path_up (reverse path.now)) e outer }
 {
-    match rest.split_last() {
-        None => predicate_holds(first, name),
-        Some(((combinator, last), front)) => {
-            predicate_holds(last, name) && step_is_reached(first, front, *combinator, elements)
+    match path.split_last() {
+        None => true,
+        Some((last, front)) => {
+            predicate_holds(last.predicate, name)
+                && (front.is_empty() || step_is_reached(front, last.combinator, elements))
         }
     }
 }
 
 /// Whether the parent matches what stands left of a step, or for a descendant step some ancestor.
 #[cycle(matching)]
-fn step_is_reached(
-    first: &Predicate,
-    front: &[(Combinator, Predicate)],
-    combinator: Combinator,
-    elements: &[OpenElement],
-) -> bool
-    ensures { (outer : List Element) → AreNamed elements.now outer
-        → result ≡ step_reaches combinator (matches (path_from first.now front.now)) outer }
+fn step_is_reached(front: &[Step], combinator: Combinator, elements: &[OpenElement]) -> bool
+    ensures { (outer : List Element) → StepsRun (reverse front.now) → AreNamed elements.now outer
+        → result ≡ step_reaches combinator (matches (path_up (reverse front.now))) outer }
 {
     match elements.split_last() {
         None => false,
         Some((last, outer)) => {
-            path_matches(first, front, &last.name, outer)
+            path_matches(front, &last.name, outer)
                 || (combinator == Combinator::Descendant
-                    && step_is_reached(first, front, combinator, outer))
+                    && step_is_reached(front, combinator, outer))
         }
     }
+}
+
+/// Adds the ids of each of these nodes, and of those under them, that matches an element of this name.
+#[cycle(visiting)]
+pub(crate) fn visit_nodes<'t>(
+    nodes: &'t [AstNode],
+    combinator: Combinator,
+    path: &mut Vec<Step<'t>>,
+    name: &LocalName,
+    elements: &[OpenElement],
+    ids: &mut DenseHashSet,
+) -> Result<(), AllocError>
+    ensures path { OnOk result (path.new.items ≡ path.old.items) }
+    ensures found { OnOk result ((e : Element) (outer : List Element) → StepsRun (reverse path.old.items) → forest_runs (forest_of nodes.now) ≡ true → Spells name.now e.tag.name → AreNamed elements.now outer
+        → Gains ids.old ids.new (Reports (path_to (reverse path.old.items) combinator) (forest_of nodes.now) e outer)) }
+{
+    for node in nodes {
+        visit_node(node, combinator, path, name, elements, ids)?;
+    }
+    Ok(())
+}
+
+/// The same of one node.
+#[cycle(visiting)]
+fn visit_node<'t>(
+    node: &'t AstNode,
+    combinator: Combinator,
+    path: &mut Vec<Step<'t>>,
+    name: &LocalName,
+    elements: &[OpenElement],
+    ids: &mut DenseHashSet,
+) -> Result<(), AllocError>
+    ensures path { OnOk result (path.new.items ≡ path.old.items) }
+    ensures found { OnOk result ((e : Element) (outer : List Element) → StepsRun (reverse path.old.items) → NodeRuns (node_of node.now) → Spells name.now e.tag.name → AreNamed elements.now outer
+        → Gains ids.old ids.new (ReportsIn (path_to (reverse path.old.items) combinator) (node_of node.now) e outer)) }
+{
+    path.push(Step {
+        combinator,
+        predicate: &node.predicate,
+    })?;
+    if path_matches(path, name, elements) {
+        ids.union(&node.match_ids)?;
+    }
+    visit_nodes(&node.children, Combinator::Child, path, name, elements, ids)?;
+    visit_nodes(&node.descendants, Combinator::Descendant, path, name, elements, ids)?;
+    path.pop();
+    Ok(())
 }

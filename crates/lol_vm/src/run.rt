@@ -1,12 +1,16 @@
 //! A whole run over a plain list of open elements.
 
-ghost use Rattle.std.specs.Prelude.{◌≡◌, ◌≤◌, ◌<◌, ◌∷◌, ◌++◌, ◌⊎◌, List, ℕ, Bool, false, IfOk, OnOk, IfErr, IfSome, map, reverse, position, length, take, All};
+ghost use Rattle.std.specs.Prelude.{◌≡◌, ◌≤◌, ◌<◌, ◌∷◌, ◌++◌, ◌⊎◌, List, ℕ, Bool, false, true, IfOk, OnOk, IfErr, IfSome, IsTrue, Contains, map, reverse, position, length, take, All};
 ghost use Rattle.lol_base.specs.LocalNames.{same_local_name};
 ghost use Rattle.lol_base.specs.StartTags.{StartTag};
 ghost use Rattle.lol_memory.specs.Ids.{ascending};
 ghost use Rattle.lol_program.specs.Tests.{Element};
-ghost use Rattle.lol_program.specs.Asts.{pair_of, pairs_of};
-ghost use Rattle.lol_program.specs.Paths.{Path, AreNodes};
+ghost use Rattle.lol_program.specs.Asts.{nodes_of, trees_of};
+ghost use Rattle.lol_program.specs.Forest.{pairs_in};
+ghost use Rattle.lol_program.specs.Paths.{First, Path};
+ghost use Rattle.lol_program.specs.Runs.{path_runs};
+ghost use Rattle.lol_program.specs.ForestRuns.{forest_runs};
+ghost use Rattle.lol_program.specs.Views.{forest_of};
 ghost use Rattle.lol_vm.specs.Documents.{Document, closed, after_end, after_start, element_of};
 ghost use Rattle.lol_vm.specs.Answers.{matching_ids, answer, answers, after, report};
 ghost use Rattle.lol_vm.specs.Events.{has_content};
@@ -15,11 +19,12 @@ ghost use Rattle.lol_vm.specs.Views.{IsPlainHtml, HasRangesInside, event_of, ans
 ghost use Rattle.lol_vm.specs.declared.events.RunCause.TheVariants.{Memory};
 
 use crate::events::{RunCause, RunRefusal, TagEvent, TagReport};
-use crate::matching::{OpenElement, path_matches};
+use crate::matching::{OpenElement, visit_nodes};
 use crate::void::is_void;
 use lol_base::LocalName;
 use lol_memory::{DenseHashSet, MatchInfo, SharedMemoryLimiter};
-use lol_program::{Ast, AstPair, Tries};
+use lol_css::Combinator;
+use lol_program::{Ast, AstNode, Tries};
 use std::alloc::{AllocError, Global};
 
 fn refused(reports: Vec<TagReport>, event: usize) -> RunRefusal
@@ -35,7 +40,8 @@ fn refused(reports: Vec<TagReport>, event: usize) -> RunRefusal
 /// The answers to a list of tags, over selectors. The limiter's usage at the end is as before.
 ///
 /// Items of the open list are charged for `item_bytes` each. With `enable_esi_tags` the names of ESI are void. (For now nothing
-/// is charged, every start tag is one of HTML, ESI is off, and no tries are counted.)
+/// is charged, every start tag is one of HTML, ESI is off, the selectors are those that `Ast::runs_now` lets pass, and no tries are
+/// counted.)
 ///
 /// # Errors
 /// `Memory` where memory was refused, with the reports of the tags before.
@@ -51,12 +57,12 @@ pub fn match_events(
     requires ranges { All HasRangesInside events.now }
     requires no_esi { enable_esi_tags ≡ false }
     requires html { All IsPlainHtml events.now }
-    ensures ok { IfOk result (λ reports. (nodes : List Path) → AreNodes (pairs_of ast.now) nodes
-        → map answer_of reports.items ≡ map without_tries (answers (selectors ast.now nodes) enable_esi_tags (map event_of events.now))) }
+    requires runs { (path : Path) → Contains (nodes_of ast.now) path → IsTrue (path_runs path) }
+    ensures ok { IfOk result (λ reports. map answer_of reports.items ≡ map without_tries (answers (selectors ast.now) enable_esi_tags (map event_of events.now))) }
 
     // A refused run answers what came before the refused event, and memory is the one cause.
-    ensures refused { IfErr result (λ refusal. (nodes : List Path) → AreNodes (pairs_of ast.now) nodes
-        → map answer_of refusal.reports.items ≡ map without_tries (answers (selectors ast.now nodes) enable_esi_tags (map event_of (take refusal.event events.now)))) }
+    ensures refused { IfErr result (λ refusal.
+        map answer_of refusal.reports.items ≡ map without_tries (answers (selectors ast.now) enable_esi_tags (map event_of (take refusal.event events.now)))) }
     ensures event { IfErr result (λ refusal. (refusal.event ≡ 0) ⊎ (refusal.event < length events.now)) }
     ensures cause { IfErr result (λ refusal. refusal.cause ≡ Memory) }
     ensures usage { limiter.new ≡ limiter.old }
@@ -82,11 +88,12 @@ fn answer<'i>(
     number: usize,
     event: &TagEvent<'i>,
 ) -> Result<TagReport, AllocError>
-    requires { IsPlainHtml event.now }
-    ensures answer { IfOk result (λ told. (nodes : List Path) (d : Document) → AreNodes (pairs_of ast.now) nodes → Stands elements.old.items d
-        → answer_of told ≡ without_tries (answer (selectors ast.now nodes) false d (event_of event.now))) }
-    ensures stands { OnOk result ((nodes : List Path) (d : Document) → AreNodes (pairs_of ast.now) nodes → Stands elements.old.items d → d.events ≡ number
-        → Stands elements.new.items (after (selectors ast.now nodes) false d (event_of event.now))) }
+    requires html { IsPlainHtml event.now }
+    requires runs { forest_runs (trees_of ast.now) ≡ true }
+    ensures answer { IfOk result (λ told. (d : Document) → Stands elements.old.items d
+        → answer_of told ≡ without_tries (answer (selectors ast.now) false d (event_of event.now))) }
+    ensures stands { OnOk result ((d : Document) → Stands elements.old.items d → d.events ≡ number
+        → Stands elements.new.items (after (selectors ast.now) false d (event_of event.now))) }
 {
     match event {
         TagEvent::Start { name, .. } => {
@@ -112,13 +119,14 @@ fn start<'i>(
     number: usize,
     name: LocalName<'i>,
 ) -> Result<Vec<MatchInfo>, AllocError>
-    ensures report { IfOk result (λ matched. (nodes : List Path) (d : Document) (tag : StartTag) → IsNamed name.entry tag → Stands elements.old.items d
-        → map match_of matched.items ≡ report (selectors ast.now nodes) false (element_of d tag) d.open_elements) }
+    requires { forest_runs (trees_of ast.now) ≡ true }
+    ensures report { IfOk result (λ matched. (d : Document) (tag : StartTag) → IsNamed name.entry tag → Stands elements.old.items d
+        → map match_of matched.items ≡ report (selectors ast.now) false (element_of d tag) d.open_elements) }
     ensures stands { OnOk result ((d : Document) (tag : StartTag) → IsNamed name.entry tag → Stands elements.old.items d → d.events ≡ number
         → Stands elements.new.items (after_start d tag (has_content false tag))) }
 {
     let with_content = !is_void(&name);
-    let ids = matching(alloc, ast.pairs(), &name, elements)?;
+    let ids = matching(alloc, ast.root(), &name, elements)?;
     let matched = infos_of(alloc, &ids, with_content)?;
     if with_content {
         elements.push(OpenElement { name, number })?;
@@ -129,19 +137,17 @@ fn start<'i>(
 /// The ids of the selectors that match.
 fn matching(
     alloc: Global,
-    pairs: &[AstPair],
+    roots: &[AstNode],
     name: &LocalName,
     elements: &[OpenElement],
 ) -> Result<DenseHashSet, AllocError>
+    requires { forest_runs (forest_of roots.now) ≡ true }
     ensures { IfOk result (λ ids. (e : Element) (outer : List Element) → Spells name.now e.tag.name → AreNamed elements.now outer
-        → ascending ids ≡ matching_ids (map pair_of pairs.now) e outer) }
+        → ascending ids ≡ matching_ids (pairs_in First (forest_of roots.now)) e outer) }
 {
+    let mut path = Vec::new(alloc);
     let mut ids = DenseHashSet::new(alloc);
-    for pair in pairs {
-        if path_matches(&pair.first, &pair.rest, name, elements) {
-            ids.insert(pair.match_id)?;
-        }
-    }
+    visit_nodes(roots, Combinator::Descendant, &mut path, name, elements, &mut ids)?;
     Ok(ids)
 }
 

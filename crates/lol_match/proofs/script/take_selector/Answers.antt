@@ -1,24 +1,60 @@
-use Rattle.std.proofs.Common.{◌≡◌, [], ◌++◌, map, sym, ap, ◌∙◌, arith}
+use Rattle.std.proofs.Common.{◌≡◌, [], ◌++◌, List, ℕ, Bool, true, false, map, sym, ap, ◌∙◌, subst, arith, true≢false}
+use Rattle.std.specs.Prelude.{Result, Ok, Err, if◌then◌else◌}
+use Rattle.std.specs.List.{list_all}
 use Rattle.std.proofs.lemmas.Bool.Decides.{nat_tests}
+use Rattle.std.proofs.lemmas.Grind.{flat_map-append}
 use Rattle.std.proofs.lemmas.List.{nil_from_length}
-use Rattle.lol_css.specs.Trees.{items_of, list_of}
-use Rattle.lol_program.specs.Asts.{pairs_of}
+use Rattle.lol_css.specs.TreeViews.{list_of}
+use Rattle.lol_css.specs.declared.error.SelectorError.TheVariants.{UnsupportedSyntax}
+use Rattle.lol_program.specs.Paths.{Path, beginnings, all_beginnings}
+use Rattle.lol_program.specs.Runs.{path_runs}
+use Rattle.lol_program.specs.Asts.{pairs_of, nodes_of}
 use Rattle.lol_program.specs.Conditions.{pairs_under}
+use Rattle.lol_program.specs.Sets.{SameMembers}
 use Rattle.lol_vm.specs.Views.{event_of}
+use Rattle.lol_match.specs.Script.{Select}
+use Rattle.lol_match.specs.First.{line_at}
+use Rattle.lol_match.specs.Scripts as scripts
+use Rattle.lol_match.specs.Readings.{Stops}
+use Rattle.lol_match.specs.declared.bad_line.BadLine.{BadLine}
+use Rattle.lol_match.specs.declared.bad_line.Cause.TheVariants.{Selector}
 use Rattle.lol_match.proofs.Scripts.{selector_taken, joined}
+use Rattle.lol_match.proofs.Selected.{added_run, nodes_run, not_true}
 use Rattle.lol_match.proofs.script.take_selector.Goals as goal
 
-pub returns-in-Ok-add_selector-clause-taken : goal.returns-in-Ok-add_selector-clause-taken
-returns-in-Ok-add_selector-clause-taken c = λ s reading.
-    let added = pairs_under c.args.id (items_of (list_of c.in-Ok.selector)) in
+-- what a selector that was read gives
+abbrev judged : ℕ → scripts.Script → List (Path × ℕ) → Bool → Result scripts.Script BadLine
+judged number s added b = if b then Ok (record s { pairs = s.pairs ++ added }) else Err (record { number = number; cause = Selector UnsupportedSyntax })
+
+pub returns-then-runs_now-clause-taken : goal.returns-then-runs_now-clause-taken
+returns-then-runs_now-clause-taken c = λ s reading.
+    let added = pairs_under c.args.id (list_of c.in-Ok.selector) in
+    let old = c.args.script.now.ast in
+    let new = c.add_selector.new.self in
     let empty : c.args.script.now.events.items ≡ [] = nil_from_length _ (grind (arith, nat_tests, c.args.script.now.events.ok.0)) in
-    let none : s.events ≡ [] = sym reading.events ∙ ap (map event_of) empty in (
+    let none : s.events ≡ [] = sym reading.events ∙ ap (map event_of) empty in
+    let adds : list_all (λ (pair : Path × ℕ). path_runs pair.0) added ≡ true = added_run (pairs_of old) (pairs_of new) added c.in-Ok-add_selector.ensures.pairs (c.runs_now.ensures.pairs c.if-runs_now.true) in (
       record s { pairs = s.pairs ++ added },
       record {
-        pairs = joined (pairs_of c.args.script.now.ast) (pairs_of c.add_selector.new.self) added s.pairs reading.pairs c.in-Ok-add_selector.ensures.added;
+        pairs = joined (pairs_of old) (pairs_of new) added s.pairs reading.pairs c.in-Ok-add_selector.ensures.pairs;
+        nodes = subst (λ (members : List Path). SameMembers members (nodes_of new)) (sym (flat_map-append (λ (pair : Path × ℕ). beginnings pair.0) s.pairs added))
+            (joined (nodes_of old) (nodes_of new) (all_beginnings added) (all_beginnings s.pairs) reading.nodes c.in-Ok-add_selector.ensures.nodes);
+        runs = c.runs_now.ensures.nodes.0 c.if-runs_now.true;
         events = reading.events;
         html = reading.html;
         ranges = reading.ranges;
       },
-      selector_taken c.args.number s c.args.id s.events _ _ none c.in-Ok.ensures.read,
+      selector_taken c.args.number s c.args.id s.events _ _ none c.in-Ok.ensures.ok ∙ ap (judged c.args.number s added) adds,
     )
+
+pub returns-clause-stop : goal.returns-clause-stop
+returns-clause-stop c = λ s reading.
+    let added = pairs_under c.args.id (list_of c.in-Ok.selector) in
+    let old = c.args.script.now.ast in
+    let new = c.add_selector.new.self in
+    let empty : c.args.script.now.events.items ≡ [] = nil_from_length _ (grind (arith, nat_tests, c.args.script.now.events.ok.0)) in
+    let none : s.events ≡ [] = sym reading.events ∙ ap (map event_of) empty in
+    let adds : list_all (λ (pair : Path × ℕ). path_runs pair.0) added ≡ false =
+        not_true _ (λ all. true≢false (sym (c.runs_now.ensures.nodes.1 (nodes_run (nodes_of old) (nodes_of new) added c.in-Ok-add_selector.ensures.nodes reading.runs all)) ∙ c.if-runs_now.false)) in
+    subst (λ stop. Stops stop (scripts.with_line line_at path_runs c.args.number s (Select c.args.id c.args.text.now))) (sym c.unsupported.ensures)
+    (selector_taken c.args.number s c.args.id s.events _ _ none c.in-Ok.ensures.ok ∙ ap (judged c.args.number s added) adds)

@@ -7,6 +7,8 @@ use Rattle.lol_vm.specs.OpenNames.{Stands}
 use Rattle.lol_vm.specs.Views.{event_of, answer_of, without_tries, selectors}
 use Rattle.lol_vm.specs.declared.events.TagEvent.{TagEvent}
 use Rattle.lol_vm.proofs.Runs.{document_push, answers_push, events-document}
+use Rattle.lol_program.specs.Asts.{trees_of}
+use Rattle.lol_vm.proofs.Trees.{runs_forest}
 use Rattle.lol_vm.proofs.run.match_events.Goals as goal
 
 -- the events up to one and with it
@@ -22,16 +24,19 @@ loop-number-preserved c =
     let before = map event_of (take n all) in
     let front = front_more all n event c.loop-number-test.true c.index-events-number.is in
     record {
-      told = λ nodes are.
-          let s = selectors c.args.ast.now nodes in
+      told =
+          let s = selectors c.args.ast.now in
           let pushed = c.push.ensures.items ∙ ap (λ ok. if ok then c.loop-number.reports.items ++ c.in-Ok.report ∷ [] else c.loop-number.reports.items) c.if-is_err.ensures.negation in
           ap (map answer_of) pushed
           ∙ (map_push answer_of c.loop-number.reports.items c.in-Ok.report
-          ∙ ((λ i. c.loop-number.invariant.told nodes are i ++ c.in-Ok.ensures.answer nodes (document s false before) are (c.loop-number.invariant.stands nodes are) i ∷ [])
+          ∙ ((λ i. c.loop-number.invariant.told i ++ c.in-Ok.ensures.answer (document s false before) c.loop-number.invariant.stands i ∷ [])
           ∙ sym (ap (λ es. map without_tries (answers s false es)) front ∙ (ap (map without_tries) (answers_push s false empty before (event_of event)) ∙ map_push without_tries (answers s false before) (answer s false (document s false before) (event_of event))))));
-      stands = λ nodes are.
-          let s = selectors c.args.ast.now nodes in
+      stands =
+          let s = selectors c.args.ast.now in
           let count : (document s false before).events ≡ n = omega (arith, events-document s false empty before, length-map (take n all) event_of, length-take-le n all (omega arith)) in
           subst (Stands c.answer.new.elements.items) (sym (ap (document s false) front ∙ document_push s false empty before (event_of event)))
-          (c.in-Ok.ensures.stands nodes (document s false before) are (c.loop-number.invariant.stands nodes are) count);
+          (c.in-Ok.ensures.stands (document s false before) c.loop-number.invariant.stands count);
     }
+
+pub answer-requires-clause-runs : goal.answer-requires-clause-runs
+answer-requires-clause-runs c = runs_forest (trees_of c.args.ast.now) c.requires.runs

@@ -1,0 +1,49 @@
+-- From what is read to what is accepted.
+use Rattle.std.proofs.Common.{◌≡◌, ℕ, ◌⊎◌, inl, inr, false, List, Result, Ok, Err, IfOk, IfErr, refl}
+use Rattle.std.specs.Str.{chars}
+use Rattle.lol_css.specs.Points.{preprocessed}
+use Rattle.lol_css.specs.Tokens.{Token, tokens_of}
+use Rattle.lol_css.specs.Trees as trees
+use Rattle.lol_css.specs.Drafts.{Items}
+use Rattle.lol_css.specs.Rules.{Read, giving, Outside}
+use Rattle.lol_css.specs.Reading.{selector, list, inner_list}
+use Rattle.lol_css.specs.Accepting.{judged, accept}
+use Rattle.lol_css.specs.Judging.{Judged}
+use Rattle.lol_css.specs.Views.{Fails, seen}
+use Rattle.lol_css.specs.TreeViews.{list_of}
+use Rattle.lol_css.specs.declared.selector.SelectorList.{SelectorList}
+use Rattle.lol_css.specs.declared.error.SelectorError.{SelectorError}
+use Rattle.lol_css.specs.declared.error.SelectorError.TheVariants.{Memory}
+use Rattle.lol_css.proofs.Fusing.{giving-ok, giving-err, fails_cases}
+
+-- the whole text, judged as it is read
+abbrev pub read_whole : List ℕ → Read (Judged trees.Items)
+read_whole text = giving (judged false) (list (inner_list 128) Outside (tokens_of (preprocessed (chars text))))
+
+accept_err : (text : List ℕ) (cause : SelectorError) → list (inner_list 128) Outside (tokens_of (preprocessed (chars text))) ≡ Err cause → accept text ≡ Err cause
+unfolding accept selector
+accept_err text cause e = rw e refl
+
+accept_fails_of : (text : List ℕ) (cause : SelectorError) → (cause ≡ Memory) ⊎ (read_whole text ≡ Err cause) → (cause ≡ Memory) ⊎ (accept text ≡ Err cause)
+accept_fails_of text cause (inl e) = inl e
+accept_fails_of text cause (inr e) = inr (accept_err text cause (giving-err (judged false) (list (inner_list 128) Outside (tokens_of (preprocessed (chars text)))) cause e))
+
+pub accept-fails : (text : List ℕ) (cause : SelectorError) → Fails cause (read_whole text) → (cause ≡ Memory) ⊎ (accept text ≡ Err cause)
+accept-fails text cause h = accept_fails_of text cause (fails_cases cause (read_whole text) h)
+
+accept_read : (text : List ℕ) (draft : Items) (rest : List Token) (found : Judged trees.Items) → list (inner_list 128) Outside (tokens_of (preprocessed (chars text))) ≡ Ok (draft, rest) → judged false draft ≡ found → accept text ≡ found
+unfolding accept selector
+accept_read text draft rest found e g = rw e g
+
+pub accept-read : (text : List ℕ) (found : Judged trees.Items) (rest : List Token) → read_whole text ≡ Ok (found, rest) → accept text ≡ found
+accept-read text found rest e =
+    let f = giving-ok (judged false) (list (inner_list 128) Outside (tokens_of (preprocessed (chars text)))) found rest e in
+    accept_read text f.x rest found f.is f.gives
+
+pub accepts : (text : List ℕ) (answer : Result SelectorList SelectorError) → accept text ≡ seen list_of answer → IfOk answer (λ selector. accept text ≡ Ok (list_of selector))
+accepts text (Ok selector) e = e
+accepts text (Err cause) e = tt
+
+pub refuses : (text : List ℕ) (answer : Result SelectorList SelectorError) → accept text ≡ seen list_of answer → IfErr answer (λ cause. (cause ≡ Memory) ⊎ (accept text ≡ Err cause))
+refuses text (Ok selector) e = tt
+refuses text (Err cause) e = inr e

@@ -1,0 +1,461 @@
+-- To judge what is read as it is read is to read first and to judge then; and one round of each loop.
+use Rattle.std.proofs.Common.{◌≡◌, ℕ, zero, suc, ◌+◌, ◌-◌, ◌<◌, ◌≤◌, Bool, true, false, cond, ◌⊎◌, inl, inr, List, [], ◌∷◌, length, drop, Option, Some, None, Result, Ok, Err, refl, sym, ap, ◌∙◌, arith, length-drop}
+use Rattle.std.specs.Option.{option_map}
+use Rattle.lol_css.specs.Tokens.{Token, Delim}
+use Rattle.lol_css.specs.Trees as trees
+use Rattle.lol_css.specs.Drafts.{Step, Part, Not, Compound, Nothing, With, Item, First, Then, Items, NoItems, And}
+use Rattle.lol_css.specs.Rules.{Read, ◌>>=◌, giving, skip_space, Place, InFunction, at_end}
+use Rattle.lol_css.specs.Reading.{class_name, pseudo, part, parts_at_most, more_parts, type_part, is_nothing, compound, next_step, further, item, items_at_most, list, inner_list}
+use Rattle.lol_css.specs.Accepting.{judged_step, judged_part, judged_compound, judged_item, judged}
+use Rattle.lol_css.specs.Judging.{Judged, with_part, alone, with_compound, with_item, judged_parts_at_most, judged_parts, judged_further, judged_items_at_most, is_empty}
+use Rattle.lol_css.specs.Views.{Fails}
+use Rattle.lol_css.specs.declared.selector.Combinator.{Combinator}
+use Rattle.lol_css.specs.declared.error.SelectorError.{SelectorError}
+use Rattle.lol_css.specs.declared.error.SelectorError.TheVariants as errors
+use Rattle.lol_css.proofs.Shorter.{InnerLeaves, part-takes, item-leaves}
+use Rattle.lol_css.proofs.Spaces.{fails, then-fails}
+
+-- ---- causes
+
+pub fails_cases : {A : Type 0} (cause : SelectorError) (read : Result A SelectorError) → Fails cause read → (cause ≡ errors.Memory) ⊎ (read ≡ Err cause)
+fails_cases errors.Memory read h = inl refl
+fails_cases errors.UnexpectedToken read h = inr h
+fails_cases errors.UnexpectedEnd read h = inr h
+fails_cases errors.MissingAttributeName read h = inr h
+fails_cases errors.EmptySelector read h = inr h
+fails_cases errors.DanglingCombinator read h = inr h
+fails_cases errors.UnexpectedTokenInAttribute read h = inr h
+fails_cases errors.UnsupportedPseudoClassOrElement read h = inr h
+fails_cases errors.NestedNegation read h = inr h
+fails_cases errors.NamespacedSelector read h = inr h
+fails_cases errors.InvalidClassName read h = inr h
+fails_cases errors.EmptyNegation read h = inr h
+fails_cases (errors.UnsupportedCombinator c) read h = inr h
+fails_cases errors.UnsupportedSyntax read h = inr h
+
+memory_fails : {A : Type 0} (cause : SelectorError) (read : Result A SelectorError) → cause ≡ errors.Memory → Fails cause read
+memory_fails cause read e = rw e tt
+
+fails_on : {A B : Type 0} (cause : SelectorError) (read : Result A SelectorError) (total : Result B SelectorError) → (read ≡ Err cause → total ≡ Err cause) → (cause ≡ errors.Memory) ⊎ (read ≡ Err cause) → Fails cause total
+fails_on cause read total h (inl e) = memory_fails cause total e
+fails_on cause read total h (inr e) = fails cause total (h e)
+
+-- what fails where this fails
+pub fails-along : {A B : Type 0} (cause : SelectorError) (read : Result A SelectorError) (total : Result B SelectorError) → (read ≡ Err cause → total ≡ Err cause) → Fails cause read → Fails cause total
+fails-along cause read total h f = fails_on cause read total h (fails_cases cause read f)
+
+-- ---- what is changed as it is read
+
+-- what was read before the change
+pub record From {A B : Type 0} (f : A → B) (read : Read A) (y : B) (rest : List Token) : Type 0 where
+  pub x : A
+  pub is : read ≡ Ok (x, rest)
+  pub gives : f x ≡ y
+
+pub giving-ok : {A B : Type 0} (f : A → B) (read : Read A) (y : B) (rest : List Token) → giving f read ≡ Ok (y, rest) → From f read y rest
+giving-ok {A} {B} f (Ok p) y rest e =
+    let l : B × List Token = (f p.0, p.1) in
+    let r : B × List Token = (y, rest) in
+    let same : l ≡ r = cc in
+    let second : p.1 ≡ rest = ap (λ (t : B × List Token). t.1) same in
+    record {
+      x = p.0;
+      is = ap (λ (t : List Token). Ok (p.0, t)) second;
+      gives = ap (λ (t : B × List Token). t.0) same;
+    }
+giving-ok f (Err cause) y rest e = absurd cc
+
+pub giving-err : {A B : Type 0} (f : A → B) (read : Read A) (cause : SelectorError) → giving f read ≡ Err cause → read ≡ Err cause
+giving-err f (Ok p) cause e = absurd cc
+giving-err f (Err other) cause e = let same : other ≡ cause = cc in ap (λ (c : SelectorError). Err c) same
+
+pub giving-then : {A B C : Type 0} (f : B → C) (read : Read A) (g : A × List Token → Read B) → giving f (read >>= g) ≡ (read >>= λ x. giving f (g x))
+giving-then f (Ok p) g = refl
+giving-then f (Err cause) g = refl
+
+then-same : {A B : Type 0} (read : Read A) (f g : A × List Token → Read B) → ((x : A) (rest : List Token) → read ≡ Ok (x, rest) → f (x, rest) ≡ g (x, rest)) → (read >>= f) ≡ (read >>= g)
+then-same (Ok p) f g h = h p.0 p.1 refl
+then-same (Err cause) f g h = refl
+
+option_same : {A X : Type 0} (o : Option X) (none none2 : A) (found found2 : X → A) → (o ≡ None → none ≡ none2) → ((x : X) → o ≡ Some x → found x ≡ found2 x) → (let l : A = elim o [ None ↦ none | Some x ↦ found x ] in let r : A = elim o [ None ↦ none2 | Some x ↦ found2 x ] in l ≡ r)
+option_same None none none2 found found2 p q = p refl
+option_same (Some x) none none2 found found2 p q = q x refl
+
+giving-option : {A B X : Type 0} (f : A → B) (o : Option X) (none : Read A) (found : X → Read A) → giving f (elim o [ None ↦ none | Some x ↦ found x ]) ≡ elim o [ None ↦ giving f none | Some x ↦ giving f (found x) ]
+giving-option f None none found = refl
+giving-option f (Some x) none found = refl
+
+-- ---- parts
+
+pub parts-fused : (n : ℕ) (inner : List Token → Read Items) (place : Place) (parts : Compound) (tokens : List Token) → giving judged_compound (parts_at_most n inner place parts tokens) ≡ judged_parts_at_most n inner place (judged_compound parts) tokens
+unfolding parts_at_most judged_parts_at_most judged_compound
+parts-fused zero inner place parts tokens = refl
+parts-fused (suc n) inner place parts tokens =
+    giving-then judged_compound (part inner place tokens) (λ x. elim x.0 [ None ↦ Ok (parts, x.1) | Some found ↦ parts_at_most n inner place (With parts found) x.1 ])
+    ∙ then-same (part inner place tokens) _ _ (λ x rest e. giving-option judged_compound x (Ok (parts, rest)) (λ found. parts_at_most n inner place (With parts found) rest) ∙ option_same x _ _ _ _ (λ h. refl) (λ found h. parts-fused n inner place (With parts found) rest))
+
+-- more rounds than tokens change nothing
+parts_enough : (m n : ℕ) (inner : List Token → Read Items) → InnerLeaves inner → (place : Place) (parts : Judged trees.Compound) (tokens : List Token) → length tokens ≤ m → length tokens ≤ n → judged_parts_at_most m inner place parts tokens ≡ judged_parts_at_most n inner place parts tokens
+unfolding judged_parts_at_most part
+parts_enough zero zero inner h place parts tokens a b = refl
+parts_enough zero (suc n) inner h place parts [] a b = refl
+parts_enough zero (suc n) inner h place parts (token ∷ tokens) a b = absurd (omega arith)
+parts_enough (suc m) zero inner h place parts [] a b = refl
+parts_enough (suc m) zero inner h place parts (token ∷ tokens) a b = absurd (omega arith)
+parts_enough (suc m) (suc n) inner h place parts tokens a b =
+    then-same (part inner place tokens) _ _ (λ x rest e. option_same x _ _ _ _ (λ none. refl)
+    (λ found is.
+    let taken : part inner place tokens ≡ Ok (Some found, rest) = e ∙ ap (λ (o : Option Part). Ok (o, rest)) is in
+    parts_enough m n inner h place (with_part parts (judged_part found)) rest (omega (arith, (part-takes inner h place tokens).taken found rest taken)) (omega (arith, (part-takes inner h place tokens).taken found rest taken))))
+
+parts_goes_on_of : (n : ℕ) (inner : List Token → Read Items) → InnerLeaves inner → (place : Place) (parts : Judged trees.Compound) (tokens : List Token) (found : Part) (rest : List Token) → n ≡ length tokens → part inner place tokens ≡ Ok (Some found, rest) → judged_parts_at_most n inner place parts tokens ≡ judged_parts inner place (with_part parts (judged_part found)) rest
+unfolding judged_parts_at_most
+parts_goes_on_of zero inner h place parts tokens found rest l e = absurd (omega (arith, (part-takes inner h place tokens).taken found rest e))
+parts_goes_on_of (suc n) inner h place parts tokens found rest l e =
+    rw e (parts_enough n (length rest) inner h place (with_part parts (judged_part found)) rest (omega (arith, (part-takes inner h place tokens).taken found rest e)) (omega arith))
+
+-- a part was read
+pub record PartRead (inner : List Token → Read Items) (place : Place) (parts : Judged trees.Compound) (tokens : List Token) (found : Judged trees.Part) (rest : List Token) : Type 0 where
+  pub same : judged_parts inner place parts tokens ≡ judged_parts inner place (with_part parts found) rest
+  pub shorter : length rest < length tokens
+
+part_read_of : (o : Option Part) (inner : List Token → Read Items) → InnerLeaves inner → (place : Place) (parts : Judged trees.Compound) (tokens : List Token) (found : Judged trees.Part) (rest : List Token) → part inner place tokens ≡ Ok (o, rest) → option_map judged_part o ≡ Some found → PartRead inner place parts tokens found rest
+part_read_of None inner h place parts tokens found rest e g = absurd cc
+part_read_of (Some draft) inner h place parts tokens found rest e g =
+    let same : judged_part draft ≡ found = cc in
+    record {
+      same = parts_goes_on_of (length tokens) inner h place parts tokens draft rest refl e ∙ ap (λ (p : Judged trees.Part). judged_parts inner place (with_part parts p) rest) same;
+      shorter = (part-takes inner h place tokens).taken draft rest e;
+    }
+
+pub part-read : (inner : List Token → Read Items) → InnerLeaves inner → (place : Place) (parts : Judged trees.Compound) (tokens : List Token) (found : Judged trees.Part) (rest : List Token) → giving (option_map judged_part) (part inner place tokens) ≡ Ok (Some found, rest) → PartRead inner place parts tokens found rest
+part-read inner h place parts tokens found rest e =
+    let f = giving-ok (option_map judged_part) (part inner place tokens) (Some found) rest e in
+    part_read_of f.x inner h place parts tokens found rest f.is f.gives
+
+parts_stop_of : (n : ℕ) (inner : List Token → Read Items) (place : Place) (parts : Judged trees.Compound) (tokens rest : List Token) → n ≡ length tokens → part inner place tokens ≡ Ok (None, rest) → judged_parts_at_most n inner place parts tokens ≡ Ok (parts, rest)
+unfolding judged_parts_at_most part
+parts_stop_of zero inner place parts [] rest l e =
+    let p : Option Part × List Token = (None, []) in
+    let q : Option Part × List Token = (None, rest) in
+    let same : p ≡ q = cc in
+    ap (λ (t : Option Part × List Token). Ok (parts, t.1)) same
+parts_stop_of zero inner place parts (token ∷ tokens) rest l e = absurd (omega arith)
+parts_stop_of (suc n) inner place parts tokens rest l e = rw e refl
+
+none_same : (o : Option Part) → option_map judged_part o ≡ None → o ≡ None
+none_same None e = refl
+none_same (Some x) e = absurd cc
+
+-- no further part begins
+pub parts-stop : (inner : List Token → Read Items) (place : Place) (parts : Judged trees.Compound) (tokens rest : List Token) → giving (option_map judged_part) (part inner place tokens) ≡ Ok (None, rest) → judged_parts inner place parts tokens ≡ Ok (parts, rest)
+parts-stop inner place parts tokens rest e =
+    let f = giving-ok (option_map judged_part) (part inner place tokens) None rest e in
+    let nothing = none_same f.x f.gives in
+    parts_stop_of (length tokens) inner place parts tokens rest refl (f.is ∙ ap (λ (o : Option Part). Ok (o, rest)) nothing)
+
+parts_err_of : (n : ℕ) (inner : List Token → Read Items) (place : Place) (parts : Judged trees.Compound) (tokens : List Token) (cause : SelectorError) → n ≡ length tokens → part inner place tokens ≡ Err cause → judged_parts_at_most n inner place parts tokens ≡ Err cause
+unfolding judged_parts_at_most part
+parts_err_of zero inner place parts [] cause l e = absurd cc
+parts_err_of zero inner place parts (token ∷ tokens) cause l e = absurd (omega arith)
+parts_err_of (suc n) inner place parts tokens cause l e = rw e refl
+
+pub parts-fail : (inner : List Token → Read Items) (place : Place) (parts : Judged trees.Compound) (tokens : List Token) (cause : SelectorError) → Fails cause (giving (option_map judged_part) (part inner place tokens)) → Fails cause (judged_parts inner place parts tokens)
+parts-fail inner place parts tokens cause h =
+    fails-along cause (giving (option_map judged_part) (part inner place tokens)) (judged_parts inner place parts tokens) (λ e. parts_err_of (length tokens) inner place parts tokens cause refl (giving-err (option_map judged_part) (part inner place tokens) cause e)) h
+
+-- ---- compounds
+
+nothing_judged_of : (front : Judged trees.Compound) (part : Judged trees.Part) → is_empty (with_part front part) ≡ false
+nothing_judged_of (Ok parts) (Ok last) = refl
+nothing_judged_of (Ok parts) (Err cause) = refl
+nothing_judged_of (Err cause) part = refl
+
+nothing_judged : (parts : Compound) → is_nothing parts ≡ is_empty (judged_compound parts)
+unfolding judged_compound
+nothing_judged Nothing = refl
+nothing_judged (With front last) = sym (nothing_judged_of (judged_compound front) (judged_part last))
+
+-- a compound that reads nothing is refused
+abbrev pub not_empty : SelectorError → Read (Judged trees.Compound) → Read (Judged trees.Compound)
+not_empty empty parts = parts >>= λ x. cond (is_empty x.0) (Err empty) (Ok x)
+
+empty_same : (b : Bool) (empty : SelectorError) (parts : Compound) (rest : List Token) → giving judged_compound (cond b (Err empty) (Ok (parts, rest))) ≡ cond b (Err empty) (Ok (judged_compound parts, rest))
+empty_same true empty parts rest = refl
+empty_same false empty parts rest = refl
+
+not_empty_fused : (empty : SelectorError) (read : Read Compound) → giving judged_compound (read >>= λ parts. cond (is_nothing parts.0) (Err empty) (Ok parts)) ≡ not_empty empty (giving judged_compound read)
+not_empty_fused empty (Ok p) = empty_same (is_nothing p.0) empty p.0 p.1 ∙ ap (λ (b : Bool). cond {A = Read (Judged trees.Compound)} b (Err empty) (Ok (judged_compound p.0, p.1))) (nothing_judged p.0)
+not_empty_fused empty (Err cause) = refl
+
+compound_of_start : (o : Option Compound) (inner : List Token → Read Items) (place : Place) (empty : SelectorError) (tokens : List Token) (start : trees.Compound) (rest : List Token) → type_part place tokens ≡ Ok (o, rest) → option_map judged_compound o ≡ Some (Ok start) → giving judged_compound (compound inner place empty tokens) ≡ not_empty empty (judged_parts inner place (Ok start) rest)
+unfolding compound
+compound_of_start None inner place empty tokens start rest e g = absurd cc
+compound_of_start (Some draft) inner place empty tokens start rest e g =
+    let same : judged_compound draft ≡ Ok start = cc in
+    rw e (not_empty_fused empty (more_parts inner place draft rest) ∙ ap (λ (r : Read (Judged trees.Compound)). not_empty empty r) (parts-fused (length rest) inner place draft rest ∙ ap (λ (j : Judged trees.Compound). judged_parts inner place j rest) same))
+
+-- behind its type part
+pub compound-starts : (inner : List Token → Read Items) (place : Place) (empty : SelectorError) (tokens : List Token) (start : trees.Compound) (rest : List Token) → giving (option_map judged_compound) (type_part place tokens) ≡ Ok (Some (Ok start), rest) → giving judged_compound (compound inner place empty tokens) ≡ not_empty empty (judged_parts inner place (Ok start) rest)
+compound-starts inner place empty tokens start rest e =
+    let f = giving-ok (option_map judged_compound) (type_part place tokens) (Some (Ok start)) rest e in
+    compound_of_start f.x inner place empty tokens start rest f.is f.gives
+
+compound_of_none : (o : Option Compound) (inner : List Token → Read Items) (place : Place) (empty : SelectorError) (tokens rest : List Token) → type_part place tokens ≡ Ok (o, rest) → option_map judged_compound o ≡ None → giving judged_compound (compound inner place empty tokens) ≡ Err empty
+unfolding compound
+compound_of_none None inner place empty tokens rest e g = rw e refl
+compound_of_none (Some draft) inner place empty tokens rest e g = absurd cc
+
+-- where a bar ends the item
+pub compound-none : (inner : List Token → Read Items) (place : Place) (empty : SelectorError) (tokens rest : List Token) → giving (option_map judged_compound) (type_part place tokens) ≡ Ok (None, rest) → giving judged_compound (compound inner place empty tokens) ≡ Err empty
+compound-none inner place empty tokens rest e =
+    let f = giving-ok (option_map judged_compound) (type_part place tokens) None rest e in
+    compound_of_none f.x inner place empty tokens rest f.is f.gives
+
+compound_err : (inner : List Token → Read Items) (place : Place) (empty : SelectorError) (tokens : List Token) (cause : SelectorError) → type_part place tokens ≡ Err cause → giving judged_compound (compound inner place empty tokens) ≡ Err cause
+unfolding compound
+compound_err inner place empty tokens cause e = rw e refl
+
+pub compound-fails : (inner : List Token → Read Items) (place : Place) (empty : SelectorError) (tokens : List Token) (cause : SelectorError) → Fails cause (giving (option_map judged_compound) (type_part place tokens)) → Fails cause (giving judged_compound (compound inner place empty tokens))
+compound-fails inner place empty tokens cause h =
+    fails-along cause (giving (option_map judged_compound) (type_part place tokens)) (giving judged_compound (compound inner place empty tokens)) (λ e. compound_err inner place empty tokens cause (giving-err (option_map judged_compound) (type_part place tokens) cause e)) h
+
+-- ---- items
+
+further_fused : (room : ℕ) (inner : List Token → Read Items) (place : Place) (inside : Bool) (front : Item) (tokens : List Token) → giving (judged_item inside) (further room inner place front tokens) ≡ judged_further room inner place inside (judged_item inside front) tokens
+unfolding further judged_further judged_item
+further_fused zero inner place inside front tokens =
+    giving-then (judged_item inside) (next_step place tokens) (λ found. elim found.0 [ None ↦ Ok (front, found.1) | Some step ↦ Err errors.UnsupportedSyntax ])
+    ∙ then-same (next_step place tokens) _ _ (λ found rest e. giving-option (judged_item inside) found (Ok (front, rest)) (λ step. Err errors.UnsupportedSyntax))
+further_fused (suc room) inner place inside front tokens =
+    giving-then (judged_item inside) (next_step place tokens) (λ found. elim found.0 [ None ↦ Ok (front, found.1) | Some step ↦ compound inner place errors.DanglingCombinator found.1 >>= λ next. further room inner place (Then front step next.0) next.1 ])
+    ∙ then-same (next_step place tokens) _ _ (λ found rest e.
+    giving-option (judged_item inside) found (Ok (front, rest)) (λ step. compound inner place errors.DanglingCombinator rest >>= λ next. further room inner place (Then front step next.0) next.1)
+    ∙ option_same found _ _ _ _ (λ h. refl)
+    (λ step h.
+    giving-then (judged_item inside) (compound inner place errors.DanglingCombinator rest) (λ next. further room inner place (Then front step next.0) next.1)
+    ∙ then-same (compound inner place errors.DanglingCombinator rest) _ _ (λ next rest2 e2. further_fused room inner place inside (Then front step next) rest2)))
+
+item_starts_of : (inner : List Token → Read Items) (place : Place) (inside : Bool) (tokens : List Token) (draft : Compound) (first : Judged trees.Compound) (rest : List Token) → compound inner place errors.EmptySelector (skip_space tokens) ≡ Ok (draft, rest) → judged_compound draft ≡ first → giving (judged_item inside) (item inner place tokens) ≡ judged_further 1023 inner place inside (alone first) rest
+unfolding item judged_item
+item_starts_of inner place inside tokens draft first rest e g =
+    rw e (further_fused 1023 inner place inside (First draft) rest ∙ ap (λ (j : Judged trees.Compound). judged_further 1023 inner place inside (alone j) rest) g)
+
+-- behind its first compound
+pub item-starts : (inner : List Token → Read Items) (place : Place) (inside : Bool) (tokens : List Token) (first : Judged trees.Compound) (rest : List Token) → giving judged_compound (compound inner place errors.EmptySelector (skip_space tokens)) ≡ Ok (first, rest) → giving (judged_item inside) (item inner place tokens) ≡ judged_further 1023 inner place inside (alone first) rest
+item-starts inner place inside tokens first rest e =
+    let f = giving-ok judged_compound (compound inner place errors.EmptySelector (skip_space tokens)) first rest e in
+    item_starts_of inner place inside tokens f.x first rest f.is f.gives
+
+item_err : (inner : List Token → Read Items) (place : Place) (inside : Bool) (tokens : List Token) (cause : SelectorError) → compound inner place errors.EmptySelector (skip_space tokens) ≡ Err cause → giving (judged_item inside) (item inner place tokens) ≡ Err cause
+unfolding item
+item_err inner place inside tokens cause e = rw e refl
+
+pub item-fails : (inner : List Token → Read Items) (place : Place) (inside : Bool) (tokens : List Token) (cause : SelectorError) → Fails cause (giving judged_compound (compound inner place errors.EmptySelector (skip_space tokens))) → Fails cause (giving (judged_item inside) (item inner place tokens))
+item-fails inner place inside tokens cause h =
+    fails-along cause (giving judged_compound (compound inner place errors.EmptySelector (skip_space tokens))) (giving (judged_item inside) (item inner place tokens)) (λ e. item_err inner place inside tokens cause (giving-err judged_compound (compound inner place errors.EmptySelector (skip_space tokens)) cause e)) h
+
+no_step : (inside : Bool) (o : Option Step) → option_map (judged_step inside) o ≡ None → o ≡ None
+no_step inside None e = refl
+no_step inside (Some x) e = absurd cc
+
+further_stop_of : (room : ℕ) (inner : List Token → Read Items) (place : Place) (inside : Bool) (front : Judged trees.Item) (tokens rest : List Token) → next_step place tokens ≡ Ok (None, rest) → judged_further room inner place inside front tokens ≡ Ok (front, rest)
+unfolding judged_further
+further_stop_of zero inner place inside front tokens rest e = rw e refl
+further_stop_of (suc room) inner place inside front tokens rest e = rw e refl
+
+-- no further step
+pub further-stops : (room : ℕ) (inner : List Token → Read Items) (place : Place) (inside : Bool) (front : Judged trees.Item) (tokens rest : List Token) → giving (option_map (judged_step inside)) (next_step place tokens) ≡ Ok (None, rest) → judged_further room inner place inside front tokens ≡ Ok (front, rest)
+further-stops room inner place inside front tokens rest e =
+    let f = giving-ok (option_map (judged_step inside)) (next_step place tokens) None rest e in
+    further_stop_of room inner place inside front tokens rest (f.is ∙ ap (λ (o : Option Step). Ok (o, rest)) (no_step inside f.x f.gives))
+
+further_err : (room : ℕ) (inner : List Token → Read Items) (place : Place) (inside : Bool) (front : Judged trees.Item) (tokens : List Token) (cause : SelectorError) → next_step place tokens ≡ Err cause → judged_further room inner place inside front tokens ≡ Err cause
+unfolding judged_further
+further_err zero inner place inside front tokens cause e = rw e refl
+further_err (suc room) inner place inside front tokens cause e = rw e refl
+
+pub further-fails : (room : ℕ) (inner : List Token → Read Items) (place : Place) (inside : Bool) (front : Judged trees.Item) (tokens : List Token) (cause : SelectorError) → Fails cause (giving (option_map (judged_step inside)) (next_step place tokens)) → Fails cause (judged_further room inner place inside front tokens)
+further-fails room inner place inside front tokens cause h =
+    fails-along cause (giving (option_map (judged_step inside)) (next_step place tokens)) (judged_further room inner place inside front tokens) (λ e. further_err room inner place inside front tokens cause (giving-err (option_map (judged_step inside)) (next_step place tokens) cause e)) h
+
+-- a step was read
+pub record StepRead (place : Place) (inside : Bool) (tokens : List Token) (step : Judged Combinator) (rest : List Token) : Type 0 where
+  pub draft : Step
+  pub is : next_step place tokens ≡ Ok (Some draft, rest)
+  pub gives : judged_step inside draft ≡ step
+
+step_read_of : (o : Option Step) (place : Place) (inside : Bool) (tokens : List Token) (step : Judged Combinator) (rest : List Token) → next_step place tokens ≡ Ok (o, rest) → option_map (judged_step inside) o ≡ Some step → StepRead place inside tokens step rest
+step_read_of None place inside tokens step rest e g = absurd cc
+step_read_of (Some draft) place inside tokens step rest e g = record { draft = draft; is = e; gives = cc }
+
+pub step-read : (place : Place) (inside : Bool) (tokens : List Token) (step : Judged Combinator) (rest : List Token) → giving (option_map (judged_step inside)) (next_step place tokens) ≡ Ok (Some step, rest) → StepRead place inside tokens step rest
+step-read place inside tokens step rest e =
+    let f = giving-ok (option_map (judged_step inside)) (next_step place tokens) (Some step) rest e in
+    step_read_of f.x place inside tokens step rest f.is f.gives
+
+-- a step too many
+pub further-full : (inner : List Token → Read Items) (place : Place) (inside : Bool) (front : Judged trees.Item) (tokens : List Token) (step : Judged Combinator) (rest : List Token) → StepRead place inside tokens step rest → judged_further 0 inner place inside front tokens ≡ Err errors.UnsupportedSyntax
+unfolding judged_further
+further-full inner place inside front tokens step rest s = rw s.is refl
+
+further_goes_on_of : (room : ℕ) (inner : List Token → Read Items) (place : Place) (inside : Bool) (front : Judged trees.Item) (tokens : List Token) (step : Judged Combinator) (rest : List Token) → StepRead place inside tokens step rest → (draft : Compound) (next : Judged trees.Compound) (rest2 : List Token) → compound inner place errors.DanglingCombinator rest ≡ Ok (draft, rest2) → judged_compound draft ≡ next → judged_further (suc room) inner place inside front tokens ≡ judged_further room inner place inside (with_compound front step next) rest2
+unfolding judged_further
+further_goes_on_of room inner place inside front tokens step rest s draft next rest2 e g =
+    rw (s.is, e) (ap (λ (c : Judged Combinator). judged_further room inner place inside (with_compound front c (judged_compound draft)) rest2) s.gives ∙ ap (λ (j : Judged trees.Compound). judged_further room inner place inside (with_compound front step j) rest2) g)
+
+pub further-goes_on : (room : ℕ) (inner : List Token → Read Items) (place : Place) (inside : Bool) (front : Judged trees.Item) (tokens : List Token) (step : Judged Combinator) (rest : List Token) → StepRead place inside tokens step rest → (next : Judged trees.Compound) (rest2 : List Token) → giving judged_compound (compound inner place errors.DanglingCombinator rest) ≡ Ok (next, rest2) → ¬ (room ≡ 0) → judged_further room inner place inside front tokens ≡ judged_further (room - 1) inner place inside (with_compound front step next) rest2
+further-goes_on zero inner place inside front tokens step rest s next rest2 e h = absurd (h refl)
+further-goes_on (suc room) inner place inside front tokens step rest s next rest2 e h =
+    let f = giving-ok judged_compound (compound inner place errors.DanglingCombinator rest) next rest2 e in
+    let less : suc room - 1 ≡ room = omega arith in
+    rw less (further_goes_on_of room inner place inside front tokens step rest s f.x next rest2 f.is f.gives)
+
+further_compound_err : (room : ℕ) (inner : List Token → Read Items) (place : Place) (inside : Bool) (front : Judged trees.Item) (tokens : List Token) (step : Judged Combinator) (rest : List Token) → StepRead place inside tokens step rest → (cause : SelectorError) → compound inner place errors.DanglingCombinator rest ≡ Err cause → judged_further (suc room) inner place inside front tokens ≡ Err cause
+unfolding judged_further
+further_compound_err room inner place inside front tokens step rest s cause e = rw (s.is, e) refl
+
+pub further-compound-fails : (room : ℕ) (inner : List Token → Read Items) (place : Place) (inside : Bool) (front : Judged trees.Item) (tokens : List Token) (step : Judged Combinator) (rest : List Token) → StepRead place inside tokens step rest → (cause : SelectorError) → ¬ (room ≡ 0) → Fails cause (giving judged_compound (compound inner place errors.DanglingCombinator rest)) → Fails cause (judged_further room inner place inside front tokens)
+further-compound-fails zero inner place inside front tokens step rest s cause n h = absurd (n refl)
+further-compound-fails (suc room) inner place inside front tokens step rest s cause n h =
+    fails-along cause (giving judged_compound (compound inner place errors.DanglingCombinator rest)) (judged_further (suc room) inner place inside front tokens) (λ e. further_compound_err room inner place inside front tokens step rest s cause (giving-err judged_compound (compound inner place errors.DanglingCombinator rest) cause e)) h
+
+-- ---- lists
+
+items_fused_of : (b : Bool) (inside : Bool) (items : Items) (rest : List Token) (read : Read Items) (total : Read (Judged trees.Items)) → giving (judged inside) read ≡ total → giving (judged inside) (cond b (Ok (items, rest)) read) ≡ cond b (Ok (judged inside items, rest)) total
+items_fused_of true inside items rest read total e = refl
+items_fused_of false inside items rest read total e = e
+
+items_fused : (n : ℕ) (inner : List Token → Read Items) (place : Place) (inside : Bool) (items : Items) (tokens : List Token) → giving (judged inside) (items_at_most n inner place items tokens) ≡ judged_items_at_most n inner place inside (judged inside items) tokens
+unfolding items_at_most judged_items_at_most judged
+items_fused zero inner place inside items tokens = refl
+items_fused (suc n) inner place inside items tokens =
+    items_fused_of (at_end place tokens) inside items (drop 1 tokens) (item inner place (drop 1 tokens) >>= λ x. items_at_most n inner place (And items x.0) x.1) (item inner place (drop 1 tokens) >>= λ x. judged_items_at_most n inner place inside (with_item (judged inside items) (judged_item inside x.0)) x.1)
+    (giving-then (judged inside) (item inner place (drop 1 tokens)) (λ x. items_at_most n inner place (And items x.0) x.1) ∙ then-same (item inner place (drop 1 tokens)) _ _ (λ x rest e. items_fused n inner place inside (And items x) rest))
+
+list_starts_of : (inner : List Token → Read Items) (place : Place) (inside : Bool) (tokens : List Token) (draft : Item) (first : Judged trees.Item) (rest : List Token) → item inner place tokens ≡ Ok (draft, rest) → judged_item inside draft ≡ first → giving (judged inside) (list inner place tokens) ≡ judged_items_at_most (length rest + 1) inner place inside (with_item (Ok trees.NoItems) first) rest
+unfolding list judged
+list_starts_of inner place inside tokens draft first rest e g =
+    rw e (items_fused (length rest + 1) inner place inside (And NoItems draft) rest ∙ ap (λ (j : Judged trees.Item). judged_items_at_most (length rest + 1) inner place inside (with_item (Ok trees.NoItems) j) rest) g)
+
+-- behind its first item
+pub list-starts : (inner : List Token → Read Items) (place : Place) (inside : Bool) (tokens : List Token) (first : Judged trees.Item) (rest : List Token) → giving (judged_item inside) (item inner place tokens) ≡ Ok (first, rest) → giving (judged inside) (list inner place tokens) ≡ judged_items_at_most (length rest + 1) inner place inside (with_item (Ok trees.NoItems) first) rest
+list-starts inner place inside tokens first rest e =
+    let f = giving-ok (judged_item inside) (item inner place tokens) first rest e in
+    list_starts_of inner place inside tokens f.x first rest f.is f.gives
+
+list_err : (inner : List Token → Read Items) (place : Place) (inside : Bool) (tokens : List Token) (cause : SelectorError) → item inner place tokens ≡ Err cause → giving (judged inside) (list inner place tokens) ≡ Err cause
+unfolding list
+list_err inner place inside tokens cause e = rw e refl
+
+pub list-fails : (inner : List Token → Read Items) (place : Place) (inside : Bool) (tokens : List Token) (cause : SelectorError) → Fails cause (giving (judged_item inside) (item inner place tokens)) → Fails cause (giving (judged inside) (list inner place tokens))
+list-fails inner place inside tokens cause h =
+    fails-along cause (giving (judged_item inside) (item inner place tokens)) (giving (judged inside) (list inner place tokens)) (λ e. list_err inner place inside tokens cause (giving-err (judged_item inside) (item inner place tokens) cause e)) h
+
+-- more rounds than tokens change nothing
+items_enough_of : (b : Bool) (items : Judged trees.Items) (rest : List Token) (l r : Read (Judged trees.Items)) → (b ≡ false → l ≡ r) → cond {A = Read (Judged trees.Items)} b (Ok (items, rest)) l ≡ cond b (Ok (items, rest)) r
+items_enough_of true items rest l r h = refl
+items_enough_of false items rest l r h = h refl
+
+not_at_end : (place : Place) (tokens : List Token) → at_end place tokens ≡ false → 0 < length tokens
+not_at_end place [] e = absurd cc
+not_at_end place (token ∷ tokens) e = omega arith
+
+items_enough : (m n : ℕ) (inner : List Token → Read Items) → InnerLeaves inner → (place : Place) (inside : Bool) (items : Judged trees.Items) (tokens : List Token) → length tokens < m → length tokens < n → judged_items_at_most m inner place inside items tokens ≡ judged_items_at_most n inner place inside items tokens
+unfolding judged_items_at_most
+items_enough zero n inner h place inside items tokens a b = absurd (omega arith)
+items_enough (suc m) zero inner h place inside items tokens a b = absurd (omega arith)
+items_enough (suc m) (suc n) inner h place inside items tokens a b =
+    items_enough_of (at_end place tokens) items (drop 1 tokens) _ _ (λ e.
+    then-same (item inner place (drop 1 tokens)) _ _ (λ x rest is.
+    let l = (item-leaves inner h place (drop 1 tokens)).left x rest is in
+    items_enough m n inner h place inside (with_item items (judged_item inside x)) rest (omega (arith, l, length-drop 1 tokens, not_at_end place tokens e)) (omega (arith, l, length-drop 1 tokens, not_at_end place tokens e))))
+
+items_stop_of : (n : ℕ) (inner : List Token → Read Items) (place : Place) (inside : Bool) (items : Judged trees.Items) (tokens : List Token) → at_end place tokens ≡ true → judged_items_at_most (suc n) inner place inside items tokens ≡ Ok (items, drop 1 tokens)
+unfolding judged_items_at_most
+items_stop_of n inner place inside items tokens e = rw e refl
+
+-- the end
+pub items-stop : (inner : List Token → Read Items) (place : Place) (inside : Bool) (items : Judged trees.Items) (tokens : List Token) → at_end place tokens ≡ true → judged_items_at_most (length tokens + 1) inner place inside items tokens ≡ Ok (items, drop 1 tokens)
+items-stop inner place inside items tokens e = let n : length tokens + 1 ≡ suc (length tokens) = omega arith in rw n (items_stop_of (length tokens) inner place inside items tokens e)
+
+-- a further item was read
+pub record ItemRead (inner : List Token → Read Items) (place : Place) (inside : Bool) (items : Judged trees.Items) (tokens : List Token) (found : Judged trees.Item) (rest : List Token) : Type 0 where
+  pub same : judged_items_at_most (length tokens + 1) inner place inside items tokens ≡ judged_items_at_most (length rest + 1) inner place inside (with_item items found) rest
+  pub shorter : length rest < length tokens
+
+item_read_of : (n : ℕ) (inner : List Token → Read Items) → InnerLeaves inner → (place : Place) (inside : Bool) (items : Judged trees.Items) (tokens : List Token) (draft : Item) (found : Judged trees.Item) (rest : List Token) → n ≡ length tokens → at_end place tokens ≡ false → item inner place (drop 1 tokens) ≡ Ok (draft, rest) → judged_item inside draft ≡ found → judged_items_at_most (suc n) inner place inside items tokens ≡ judged_items_at_most (length rest + 1) inner place inside (with_item items found) rest
+unfolding judged_items_at_most
+item_read_of n inner h place inside items tokens draft found rest l e is g =
+    let left = (item-leaves inner h place (drop 1 tokens)).left draft rest is in
+    rw (e, is) (items_enough n (length rest + 1) inner h place inside (with_item items (judged_item inside draft)) rest (omega (arith, left, length-drop 1 tokens, not_at_end place tokens e)) (omega arith) ∙ ap (λ (j : Judged trees.Item). judged_items_at_most (length rest + 1) inner place inside (with_item items j) rest) g)
+
+pub item-read : (inner : List Token → Read Items) → InnerLeaves inner → (place : Place) (inside : Bool) (items : Judged trees.Items) (tokens : List Token) (found : Judged trees.Item) (rest : List Token) → at_end place tokens ≡ false → giving (judged_item inside) (item inner place (drop 1 tokens)) ≡ Ok (found, rest) → ItemRead inner place inside items tokens found rest
+item-read inner h place inside items tokens found rest e g =
+    let f = giving-ok (judged_item inside) (item inner place (drop 1 tokens)) found rest g in
+    let left = (item-leaves inner h place (drop 1 tokens)).left f.x rest f.is in
+    let n : length tokens + 1 ≡ suc (length tokens) = omega arith in
+    record {
+      same = rw n (item_read_of (length tokens) inner h place inside items tokens f.x found rest refl e f.is f.gives);
+      shorter = omega (arith, left, length-drop 1 tokens, not_at_end place tokens e);
+    }
+
+items_err : (n : ℕ) (inner : List Token → Read Items) (place : Place) (inside : Bool) (items : Judged trees.Items) (tokens : List Token) (cause : SelectorError) → at_end place tokens ≡ false → item inner place (drop 1 tokens) ≡ Err cause → judged_items_at_most (suc n) inner place inside items tokens ≡ Err cause
+unfolding judged_items_at_most
+items_err n inner place inside items tokens cause e is = rw (e, is) refl
+
+pub items-fail : (inner : List Token → Read Items) (place : Place) (inside : Bool) (items : Judged trees.Items) (tokens : List Token) (cause : SelectorError) → at_end place tokens ≡ false → Fails cause (giving (judged_item inside) (item inner place (drop 1 tokens))) → Fails cause (judged_items_at_most (length tokens + 1) inner place inside items tokens)
+items-fail inner place inside items tokens cause e h =
+    let n : length tokens + 1 ≡ suc (length tokens) = omega arith in
+    rw n (fails-along cause (giving (judged_item inside) (item inner place (drop 1 tokens))) (judged_items_at_most (suc (length tokens)) inner place inside items tokens) (λ is. items_err (length tokens) inner place inside items tokens cause e (giving-err (judged_item inside) (item inner place (drop 1 tokens)) cause is)) h)
+
+-- ---- inside a `:not`
+
+pub inner_list-opens : (room : ℕ) (tokens : List Token) → ¬ (room ≡ 0) → inner_list room tokens ≡ list (inner_list (room - 1)) InFunction tokens
+unfolding inner_list
+inner_list-opens zero tokens h = absurd (h refl)
+inner_list-opens (suc room) tokens h = let e : suc room - 1 ≡ room = omega arith in rw e refl
+
+negation_of : (draft : Items) (found : Judged trees.Items) → judged true draft ≡ found → judged_part (Not draft) ≡ (found >>= λ items. Ok (trees.Not items))
+unfolding judged_part judged
+negation_of draft found e = rw e refl
+
+-- a list inside a `:not` was read
+pub negation-read : (read : Read Items) (found : Judged trees.Items) (rest : List Token) → giving (judged true) read ≡ Ok (found, rest) → giving judged_part (giving (λ items. Not items) read) ≡ Ok ((found >>= λ items. Ok (trees.Not items)), rest)
+negation-read read found rest e =
+    let f = giving-ok (judged true) read found rest e in
+    rw f.is (ap (λ (j : Judged trees.Part). Ok (j, rest)) (negation_of f.x found f.gives))
+
+giving_err : {A B : Type 0} (f : A → B) (read : Read A) (cause : SelectorError) → read ≡ Err cause → giving f read ≡ Err cause
+giving_err f read cause e = rw e refl
+
+pub negation-fails : (read : Read Items) (cause : SelectorError) → Fails cause (giving (judged true) read) → Fails cause (giving judged_part (giving (λ items. Not items) read))
+negation-fails read cause h =
+    fails-along cause (giving (judged true) read) (giving judged_part (giving (λ items. Not items) read)) (λ e. giving_err judged_part (giving (λ items. Not items) read) cause (giving_err (λ items. Not items) read cause (giving-err (judged true) read cause e))) h
+
+-- ---- what the code's answers cite
+
+pub not_empty-fails : (empty : SelectorError) (read : Read (Judged trees.Compound)) (cause : SelectorError) → Fails cause read → Fails cause (not_empty empty read)
+not_empty-fails empty read cause h = then-fails cause read (λ x. cond (is_empty x.0) (Err empty) (Ok x)) h
+
+pub not_empty-refused : (empty : SelectorError) (read : Read (Judged trees.Compound)) (parts : Judged trees.Compound) (rest : List Token) → read ≡ Ok (parts, rest) → is_empty parts ≡ true → not_empty empty read ≡ Err empty
+not_empty-refused empty read parts rest e h = rw (e, h) refl
+
+pub not_empty-kept : (empty : SelectorError) (read : Read (Judged trees.Compound)) (parts : Judged trees.Compound) (rest : List Token) → read ≡ Ok (parts, rest) → is_empty parts ≡ false → not_empty empty read ≡ Ok (parts, rest)
+not_empty-kept empty read parts rest e h = rw (e, h) refl
+
+part_pseudo_err : (inner : List Token → Read Items) (place : Place) (rest : List Token) (cause : SelectorError) → pseudo inner place rest ≡ Err cause → giving (option_map judged_part) (part inner place (Delim 58 ∷ rest)) ≡ Err cause
+unfolding part
+part_pseudo_err inner place rest cause e = rw e refl
+
+pub part-pseudo-fails : (inner : List Token → Read Items) (place : Place) (tokens rest : List Token) (cause : SelectorError) → tokens ≡ Delim 58 ∷ rest → Fails cause (giving judged_part (pseudo inner place rest)) → Fails cause (giving (option_map judged_part) (part inner place tokens))
+part-pseudo-fails inner place tokens rest cause e h =
+    rw e (fails-along cause (giving judged_part (pseudo inner place rest)) (giving (option_map judged_part) (part inner place (Delim 58 ∷ rest))) (λ is. part_pseudo_err inner place rest cause (giving-err judged_part (pseudo inner place rest) cause is)) h)
+
+part_class_err : (inner : List Token → Read Items) (place : Place) (rest : List Token) (cause : SelectorError) → class_name place rest ≡ Err cause → giving (option_map judged_part) (part inner place (Delim 46 ∷ rest)) ≡ Err cause
+unfolding part
+part_class_err inner place rest cause e = rw e refl
+
+pub part-class-fails : (inner : List Token → Read Items) (place : Place) (tokens rest : List Token) (cause : SelectorError) → tokens ≡ Delim 46 ∷ rest → Fails cause (giving (λ part. trees.Plain part) (class_name place rest)) → Fails cause (giving (option_map judged_part) (part inner place tokens))
+part-class-fails inner place tokens rest cause e h =
+    rw e (fails-along cause (giving (λ part. trees.Plain part) (class_name place rest)) (giving (option_map judged_part) (part inner place (Delim 46 ∷ rest))) (λ is. part_class_err inner place rest cause (giving-err (λ part. trees.Plain part) (class_name place rest) cause is)) h)

@@ -1,0 +1,503 @@
+-- No rule leaves more tokens than it was given, and a part takes one.
+use Rattle.std.proofs.Common.{◌≡◌, ℕ, zero, suc, ◌+◌, ◌<◌, ◌≤◌, Bool, true, false, cond, eqb, ◌&&◌, List, [], ◌∷◌, length, drop, Option, Some, None, Result, Ok, Err, ℤ, pos, codes, refl, ap, arith, length-drop}
+use Rattle.std.specs.Option.{option_map}
+use Rattle.lol_css.specs.Points.{front, is, decimal}
+use Rattle.lol_css.specs.Tokens.{Token, Numeral, Space, Quoted, BadString, Hash, Number, Dimension, Percentage, Cdc, Function, Ident, Match, Delim}
+use Rattle.lol_css.specs.Trees.{Simple, LocalName, AnyName, Id, Class, Exists, Compares, Nth}
+use Rattle.lol_css.specs.Drafts.{By, Part, Plain, LatePseudoClass, LateNamespace, Not, Compound, Nothing, With, Item, First, Then, Items, NoItems, And}
+use Rattle.lol_css.specs.Rules.{Read, ◌>>=◌, giving, keeping, is_delim, is_space, skip_space, Place, InFunction, InBrackets, closes, at_end, at_stop, wanted, closed, says, lowered, ident_of}
+use Rattle.lol_css.specs.AnPlusB.{minus, integer_value, unsigned, in_i32, fitting, digits_of_b, behind_n, is_n_and_digits, rest_of, with_step, integer, scaled, an_plus_b_of, an_plus_b}
+use Rattle.lol_css.specs.Reading.{utf8, name_behind_bar, bar_of, attribute_name, operator_of, value_of, flag_of, unflagged, case_sensitivity, comparison, attribute, class_name, is_one_of, function_part, ident_part, pseudo, some, part, parts_at_most, more_parts, behind_bar, any_namespace, no_namespace, type_part, is_nothing, compound, step_of, step, next_step, further, item, items_at_most, list, inner_list}
+use Rattle.lol_css.specs.declared.error.SelectorError.{SelectorError}
+use Rattle.lol_css.specs.declared.error.SelectorError.TheVariants as errors
+use Rattle.lol_css.specs.declared.selector.Combinator.TheVariants.{Descendant}
+
+-- what is left is at most so long
+pub record Leaves {A : Type 0} (read : Read A) (n : ℕ) : Type 0 where
+  pub left : (x : A) (rest : List Token) → read ≡ Ok (x, rest) → length rest ≤ n
+
+ok_same : {A : Type 0} (x y : A × List Token) → (let u : Read A = Ok x in let v : Read A = Ok y in u ≡ v) → x ≡ y
+ok_same x y e = cc
+
+ok_leaves : {A : Type 0} (x : A) (rest : List Token) (n : ℕ) → length rest ≤ n → Leaves {A = A} (Ok (x, rest)) n
+ok_leaves {A} x rest n l = record {
+  left = λ y r e.
+      let p : A × List Token = (x, rest) in
+      let q : A × List Token = (y, r) in
+      let same : p ≡ q = ok_same p q e in
+      let s : rest ≡ r = ap (λ (t : A × List Token). t.1) same in
+      rw (← s) l;
+}
+
+err_leaves : {A : Type 0} (cause : SelectorError) (n : ℕ) → Leaves {A = A} (Err cause) n
+err_leaves cause n = record { left = λ y r e. absurd cc }
+
+then_leaves : {A B : Type 0} (read : Read A) (f : A × List Token → Read B) (m n : ℕ) → Leaves read m → ((x : A) (rest : List Token) → length rest ≤ m → Leaves (f (x, rest)) n) → Leaves (read >>= f) n
+then_leaves (Ok p) f m n l h = h p.0 p.1 (l.left p.0 p.1 refl)
+then_leaves (Err cause) f m n l h = err_leaves cause n
+
+giving_leaves : {A B : Type 0} (f : A → B) (read : Read A) (n : ℕ) → Leaves read n → Leaves (giving f read) n
+giving_leaves f (Ok p) n l = ok_leaves (f p.0) p.1 n (l.left p.0 p.1 refl)
+giving_leaves f (Err cause) n l = err_leaves cause n
+
+keeping_leaves : {A : Type 0} (r : Result A SelectorError) (tokens : List Token) (n : ℕ) → length tokens ≤ n → Leaves (keeping r tokens) n
+keeping_leaves (Ok x) tokens n l = ok_leaves x tokens n l
+keeping_leaves (Err cause) tokens n l = err_leaves cause n
+
+if_leaves : {A : Type 0} (b : Bool) (l r : Read A) (n : ℕ) → Leaves l n → Leaves r n → Leaves (cond b l r) n
+if_leaves true l r n p q = p
+if_leaves false l r n p q = q
+
+option_leaves : {A X : Type 0} (o : Option X) (none : Read A) (found : X → Read A) (n : ℕ) → Leaves none n → ((x : X) → Leaves (found x) n) → Leaves (elim o [ None ↦ none | Some x ↦ found x ]) n
+option_leaves None none found n p q = p
+option_leaves (Some x) none found n p q = q x
+
+weaker : {A : Type 0} (read : Read A) (m n : ℕ) → Leaves read m → m ≤ n → Leaves read n
+weaker read m n l h = record { left = λ x rest e. omega (arith, l.left x rest e) }
+
+-- ---- words
+
+skip_space_of : (b : Bool) (token : Token) (tokens : List Token) → length (skip_space tokens) ≤ length tokens → length (cond b (skip_space tokens) (token ∷ tokens)) ≤ length (token ∷ tokens)
+skip_space_of true token tokens h = omega arith
+skip_space_of false token tokens h = omega arith
+
+pub skip_space-shorter : (tokens : List Token) → length (skip_space tokens) ≤ length tokens
+unfolding skip_space
+skip_space-shorter [] = omega arith
+skip_space-shorter (token ∷ tokens) = skip_space_of (is_space token) token tokens (skip_space-shorter tokens)
+
+wanted-leaves : {A : Type 0} (place : Place) (kind : Token → Option A) (other : SelectorError) (tokens : List Token) → Leaves (wanted place kind other tokens) (length tokens)
+unfolding wanted
+wanted-leaves place kind other [] = err_leaves errors.UnexpectedEnd 0
+wanted-leaves {A} place kind other (token ∷ tokens) =
+    if_leaves (closes place token) (Err errors.UnexpectedEnd) (elim (kind token) [ None ↦ Err other | Some x ↦ Ok (x, tokens) ]) (length (token ∷ tokens)) (err_leaves errors.UnexpectedEnd (length (token ∷ tokens)))
+    (option_leaves (kind token) (Err other) (λ (x : A). Ok (x, tokens)) (length (token ∷ tokens)) (err_leaves other (length (token ∷ tokens))) (λ x. ok_leaves x tokens (length (token ∷ tokens)) (omega arith)))
+
+-- the same behind white space
+wanted_behind : {A : Type 0} (place : Place) (kind : Token → Option A) (other : SelectorError) (tokens : List Token) → Leaves (wanted place kind other (skip_space tokens)) (length tokens)
+wanted_behind place kind other tokens = weaker (wanted place kind other (skip_space tokens)) (length (skip_space tokens)) (length tokens) (wanted-leaves place kind other (skip_space tokens)) (skip_space-shorter tokens)
+
+closed-leaves : (place : Place) (tokens : List Token) → Leaves (closed place tokens) (length tokens)
+unfolding closed
+closed-leaves place tokens =
+    if_leaves (at_end place (skip_space tokens)) (Ok (tt, drop 1 (skip_space tokens))) (Err errors.UnexpectedToken) (length tokens)
+    (ok_leaves tt (drop 1 (skip_space tokens)) (length tokens) (omega (arith, length-drop 1 (skip_space tokens), skip_space-shorter tokens))) (err_leaves errors.UnexpectedToken (length tokens))
+
+-- ---- An+B
+
+fitting-leaves : (x : ℤ) (tokens : List Token) (n : ℕ) → length tokens ≤ n → Leaves (fitting x tokens) n
+unfolding fitting
+fitting-leaves x tokens n l = if_leaves (in_i32 x) (Ok (x, tokens)) (Err errors.UnexpectedToken) n (ok_leaves x tokens n l) (err_leaves errors.UnexpectedToken n)
+
+digits_of_b-leaves : (signed : ℕ → ℤ) (tokens : List Token) → Leaves (digits_of_b signed tokens) (length tokens)
+unfolding digits_of_b
+digits_of_b-leaves signed tokens =
+    then_leaves (wanted InFunction unsigned errors.UnexpectedToken (skip_space tokens)) (λ digits. fitting (signed digits.0) digits.1) (length tokens) (length tokens) (wanted_behind InFunction unsigned errors.UnexpectedToken tokens) (λ x rest l. fitting-leaves (signed x) rest (length tokens) l)
+
+same_leaves : {A : Type 0} (x : A) (tokens : List Token) → Leaves {A = A} (Ok (x, tokens)) (length tokens)
+same_leaves x tokens = ok_leaves x tokens (length tokens) (omega arith)
+
+longer : {A : Type 0} (read : Read A) (token : Token) (tokens : List Token) → Leaves read (length tokens) → Leaves read (length (token ∷ tokens))
+longer read token tokens l = weaker read (length tokens) (length (token ∷ tokens)) l (omega arith)
+
+behind_number-leaves : (n : Numeral) (tokens : List Token) (sign : Option ℕ) → Leaves (elim sign [
+  | None ↦ Ok (pos 0, Number n ∷ tokens)
+  | Some c ↦ elim (integer_value n) [ None ↦ Ok (pos 0, Number n ∷ tokens) | Some b ↦ fitting b tokens ]
+]) (length (Number n ∷ tokens))
+behind_number-leaves n tokens None = same_leaves (pos 0) (Number n ∷ tokens)
+behind_number-leaves n tokens (Some c) =
+    option_leaves (integer_value n) (Ok (pos 0, Number n ∷ tokens)) (λ b. fitting b tokens) (length (Number n ∷ tokens)) (same_leaves (pos 0) (Number n ∷ tokens)) (λ b. fitting-leaves b tokens (length (Number n ∷ tokens)) (omega arith))
+
+behind_n-leaves : (tokens : List Token) → Leaves (behind_n tokens) (length tokens)
+unfolding behind_n
+behind_n-leaves [] = same_leaves (pos 0) []
+behind_n-leaves (Delim c ∷ tokens) =
+    if_leaves (eqb c 43) (digits_of_b pos tokens) (cond (eqb c 45) (digits_of_b minus tokens) (Ok (pos 0, Delim c ∷ tokens))) (length (Delim c ∷ tokens)) (longer (digits_of_b pos tokens) (Delim c) tokens (digits_of_b-leaves pos tokens))
+    (if_leaves (eqb c 45) (digits_of_b minus tokens) (Ok (pos 0, Delim c ∷ tokens)) (length (Delim c ∷ tokens)) (longer (digits_of_b minus tokens) (Delim c) tokens (digits_of_b-leaves minus tokens)) (same_leaves (pos 0) (Delim c ∷ tokens)))
+behind_n-leaves (Number n ∷ tokens) = behind_number-leaves n tokens n.sign
+behind_n-leaves (Space ∷ tokens) = same_leaves (pos 0) (Space ∷ tokens)
+behind_n-leaves (Quoted text ∷ tokens) = same_leaves (pos 0) (Quoted text ∷ tokens)
+behind_n-leaves (BadString ∷ tokens) = same_leaves (pos 0) (BadString ∷ tokens)
+behind_n-leaves (Hash name is_id ∷ tokens) = same_leaves (pos 0) (Hash name is_id ∷ tokens)
+behind_n-leaves (Dimension n unit ∷ tokens) = same_leaves (pos 0) (Dimension n unit ∷ tokens)
+behind_n-leaves (Percentage ∷ tokens) = same_leaves (pos 0) (Percentage ∷ tokens)
+behind_n-leaves (Cdc ∷ tokens) = same_leaves (pos 0) (Cdc ∷ tokens)
+behind_n-leaves (Function name ∷ tokens) = same_leaves (pos 0) (Function name ∷ tokens)
+behind_n-leaves (Ident name ∷ tokens) = same_leaves (pos 0) (Ident name ∷ tokens)
+behind_n-leaves (Match c ∷ tokens) = same_leaves (pos 0) (Match c ∷ tokens)
+
+rest_of-leaves : (name : List ℕ) (tokens : List Token) → Leaves (rest_of name tokens) (length tokens)
+unfolding rest_of
+rest_of-leaves name tokens =
+    if_leaves (says (codes "n") name) (behind_n (skip_space tokens)) (cond (says (codes "n-") name) (digits_of_b minus tokens) (cond (is_n_and_digits name) (fitting (minus (decimal (drop 2 name))) tokens) (Err errors.UnexpectedToken))) (length tokens)
+    (weaker (behind_n (skip_space tokens)) (length (skip_space tokens)) (length tokens) (behind_n-leaves (skip_space tokens)) (skip_space-shorter tokens))
+    (if_leaves (says (codes "n-") name) (digits_of_b minus tokens) (cond (is_n_and_digits name) (fitting (minus (decimal (drop 2 name))) tokens) (Err errors.UnexpectedToken)) (length tokens)
+    (digits_of_b-leaves minus tokens)
+    (if_leaves (is_n_and_digits name) (fitting (minus (decimal (drop 2 name))) tokens) (Err errors.UnexpectedToken) (length tokens)
+    (fitting-leaves (minus (decimal (drop 2 name))) tokens (length tokens) (omega arith)) (err_leaves errors.UnexpectedToken (length tokens))))
+
+step-leaves : (a : ℤ) (name : List ℕ) (tokens : List Token) (n : ℕ) → length tokens ≤ n → Leaves (with_step a (rest_of name tokens)) n
+step-leaves a name tokens n l = giving_leaves (λ x. (a, x)) (rest_of name tokens) n (weaker (rest_of name tokens) (length tokens) n (rest_of-leaves name tokens) l)
+
+integer-leaves : (n : Numeral) (tokens : List Token) → Leaves (integer n tokens) (length tokens)
+unfolding integer
+integer-leaves n tokens = option_leaves (integer_value n) (Err errors.UnexpectedToken) (λ x. fitting x tokens) (length tokens) (err_leaves errors.UnexpectedToken (length tokens)) (λ x. fitting-leaves x tokens (length tokens) (omega arith))
+
+scaled-leaves : (n : Numeral) (unit : List ℕ) (tokens : List Token) → Leaves (scaled n unit tokens) (length tokens)
+unfolding scaled
+scaled-leaves n unit tokens =
+    then_leaves (integer n tokens) (λ step. with_step step.0 (rest_of unit step.1)) (length tokens) (length tokens) (integer-leaves n tokens) (λ x rest l. step-leaves x unit rest (length tokens) l)
+
+an_plus_b_of-leaves : (token : Token) (tokens : List Token) → Leaves (an_plus_b_of token tokens) (length tokens)
+unfolding an_plus_b_of
+an_plus_b_of-leaves (Ident name) tokens =
+    if_leaves (says (codes "even") name) (Ok ((pos 2, pos 0), tokens)) (cond (says (codes "odd") name) (Ok ((pos 2, pos 1), tokens)) (cond (front (is 45) name) (with_step (minus 1) (rest_of (drop 1 name) tokens)) (with_step (pos 1) (rest_of name tokens)))) (length tokens)
+    (same_leaves (pos 2, pos 0) tokens)
+    (if_leaves (says (codes "odd") name) (Ok ((pos 2, pos 1), tokens)) (cond (front (is 45) name) (with_step (minus 1) (rest_of (drop 1 name) tokens)) (with_step (pos 1) (rest_of name tokens))) (length tokens)
+    (same_leaves (pos 2, pos 1) tokens)
+    (if_leaves (front (is 45) name) (with_step (minus 1) (rest_of (drop 1 name) tokens)) (with_step (pos 1) (rest_of name tokens)) (length tokens)
+    (step-leaves (minus 1) (drop 1 name) tokens (length tokens) (omega arith)) (step-leaves (pos 1) name tokens (length tokens) (omega arith))))
+an_plus_b_of-leaves (Number n) tokens = giving_leaves (λ x. (pos 0, x)) (integer n tokens) (length tokens) (integer-leaves n tokens)
+an_plus_b_of-leaves (Dimension n unit) tokens = scaled-leaves n unit tokens
+an_plus_b_of-leaves (Delim c) tokens =
+    if_leaves (eqb c 43) (wanted InFunction ident_of errors.UnexpectedToken tokens >>= λ name. with_step (pos 1) (rest_of name.0 name.1)) (Err errors.UnexpectedToken) (length tokens)
+    (then_leaves (wanted InFunction ident_of errors.UnexpectedToken tokens) (λ name. with_step (pos 1) (rest_of name.0 name.1)) (length tokens) (length tokens) (wanted-leaves InFunction ident_of errors.UnexpectedToken tokens) (λ name rest l. step-leaves (pos 1) name rest (length tokens) l)) (err_leaves errors.UnexpectedToken (length tokens))
+an_plus_b_of-leaves Space tokens = err_leaves errors.UnexpectedToken (length tokens)
+an_plus_b_of-leaves (Quoted text) tokens = err_leaves errors.UnexpectedToken (length tokens)
+an_plus_b_of-leaves BadString tokens = err_leaves errors.UnexpectedToken (length tokens)
+an_plus_b_of-leaves (Hash name is_id) tokens = err_leaves errors.UnexpectedToken (length tokens)
+an_plus_b_of-leaves Percentage tokens = err_leaves errors.UnexpectedToken (length tokens)
+an_plus_b_of-leaves Cdc tokens = err_leaves errors.UnexpectedToken (length tokens)
+an_plus_b_of-leaves (Function name) tokens = err_leaves errors.UnexpectedToken (length tokens)
+an_plus_b_of-leaves (Match c) tokens = err_leaves errors.UnexpectedToken (length tokens)
+
+an_plus_b-leaves : (tokens : List Token) → Leaves (an_plus_b tokens) (length tokens)
+unfolding an_plus_b
+an_plus_b-leaves tokens =
+    then_leaves (wanted InFunction (λ t. Some t) errors.UnexpectedToken (skip_space tokens)) (λ token. an_plus_b_of token.0 token.1 >>= λ nth. closed InFunction nth.1 >>= λ end. Ok (nth.0, end.1)) (length tokens) (length tokens) (wanted_behind InFunction (λ t. Some t) errors.UnexpectedToken tokens)
+    (λ token rest l. then_leaves (an_plus_b_of token rest) (λ nth. closed InFunction nth.1 >>= λ end. Ok (nth.0, end.1)) (length tokens) (length tokens) (weaker (an_plus_b_of token rest) (length rest) (length tokens) (an_plus_b_of-leaves token rest) l)
+    (λ nth rest2 l2. then_leaves (closed InFunction rest2) (λ end. Ok (nth, end.1)) (length tokens) (length tokens) (weaker (closed InFunction rest2) (length rest2) (length tokens) (closed-leaves InFunction rest2) l2) (λ end rest3 l3. ok_leaves nth rest3 (length tokens) l3)))
+
+-- ---- attributes
+
+-- a name behind a bar
+behind_bar_name-leaves : (any : Bool) (tokens : List Token) (n : ℕ) → length tokens ≤ n → Leaves (name_behind_bar any tokens) n
+behind_bar_name-leaves any tokens n l =
+    giving_leaves (λ name. (name, any)) (wanted InBrackets ident_of errors.UnexpectedTokenInAttribute tokens) n (weaker (wanted InBrackets ident_of errors.UnexpectedTokenInAttribute tokens) (length tokens) n (wanted-leaves InBrackets ident_of errors.UnexpectedTokenInAttribute tokens) l)
+
+attribute_name-leaves : (tokens : List Token) → Leaves (attribute_name tokens) (length tokens)
+unfolding attribute_name
+attribute_name-leaves [] = err_leaves errors.UnexpectedEnd 0
+attribute_name-leaves (Ident name ∷ tokens) =
+    if_leaves (front (is_delim 124) tokens) (Err errors.NamespacedSelector) (Ok ((name, false), tokens)) (length (Ident name ∷ tokens)) (err_leaves errors.NamespacedSelector (length (Ident name ∷ tokens))) (ok_leaves (name, false) tokens (length (Ident name ∷ tokens)) (omega arith))
+attribute_name-leaves (Delim c ∷ tokens) =
+    let n = length (Delim c ∷ tokens) in
+    let any = wanted InBrackets bar_of errors.UnexpectedTokenInAttribute tokens >>= λ bar. name_behind_bar true bar.1 in
+    if_leaves (eqb c 93) (Err errors.UnexpectedEnd) (cond (eqb c 124) (name_behind_bar false tokens) (cond (eqb c 42) any (Err errors.MissingAttributeName))) n
+    (err_leaves errors.UnexpectedEnd n)
+    (if_leaves (eqb c 124) (name_behind_bar false tokens) (cond (eqb c 42) any (Err errors.MissingAttributeName)) n
+    (behind_bar_name-leaves false tokens n (omega arith))
+    (if_leaves (eqb c 42) any (Err errors.MissingAttributeName) n
+    (then_leaves (wanted InBrackets bar_of errors.UnexpectedTokenInAttribute tokens) (λ bar. name_behind_bar true bar.1) (length tokens) n (wanted-leaves InBrackets bar_of errors.UnexpectedTokenInAttribute tokens) (λ bar rest l. behind_bar_name-leaves true rest n (omega arith)))
+    (err_leaves errors.MissingAttributeName n)))
+attribute_name-leaves (Space ∷ tokens) = err_leaves errors.MissingAttributeName (length (Space ∷ tokens))
+attribute_name-leaves (Quoted text ∷ tokens) = err_leaves errors.MissingAttributeName (length (Quoted text ∷ tokens))
+attribute_name-leaves (BadString ∷ tokens) = err_leaves errors.MissingAttributeName (length (BadString ∷ tokens))
+attribute_name-leaves (Hash name is_id ∷ tokens) = err_leaves errors.MissingAttributeName (length (Hash name is_id ∷ tokens))
+attribute_name-leaves (Number n ∷ tokens) = err_leaves errors.MissingAttributeName (length (Number n ∷ tokens))
+attribute_name-leaves (Dimension n unit ∷ tokens) = err_leaves errors.MissingAttributeName (length (Dimension n unit ∷ tokens))
+attribute_name-leaves (Percentage ∷ tokens) = err_leaves errors.MissingAttributeName (length (Percentage ∷ tokens))
+attribute_name-leaves (Cdc ∷ tokens) = err_leaves errors.MissingAttributeName (length (Cdc ∷ tokens))
+attribute_name-leaves (Function name ∷ tokens) = err_leaves errors.MissingAttributeName (length (Function name ∷ tokens))
+attribute_name-leaves (Match c ∷ tokens) = err_leaves errors.MissingAttributeName (length (Match c ∷ tokens))
+
+case_sensitivity-leaves : (name : List ℕ) (tokens : List Token) → Leaves (case_sensitivity name tokens) (length tokens)
+unfolding case_sensitivity
+case_sensitivity-leaves name tokens =
+    let n = length tokens in
+    if_leaves (at_end InBrackets tokens) (Ok (unflagged name, drop 1 tokens)) (wanted InBrackets flag_of errors.UnexpectedToken tokens >>= λ flag. closed InBrackets flag.1 >>= λ end. Ok (flag.0, end.1)) n
+    (ok_leaves (unflagged name) (drop 1 tokens) n (omega (arith, length-drop 1 tokens)))
+    (then_leaves (wanted InBrackets flag_of errors.UnexpectedToken tokens) (λ flag. closed InBrackets flag.1 >>= λ end. Ok (flag.0, end.1)) n n (wanted-leaves InBrackets flag_of errors.UnexpectedToken tokens)
+    (λ flag rest l. then_leaves (closed InBrackets rest) (λ end. Ok (flag, end.1)) n n (weaker (closed InBrackets rest) (length rest) n (closed-leaves InBrackets rest) l) (λ end rest2 l2. ok_leaves flag rest2 n l2)))
+
+comparison-leaves : (name : List ℕ) (tokens : List Token) → Leaves (comparison name tokens) (length tokens)
+unfolding comparison
+comparison-leaves name tokens =
+    let n = length tokens in
+    let wanted_operator = wanted InBrackets operator_of errors.UnexpectedTokenInAttribute tokens in
+    if_leaves (at_end InBrackets tokens) (Ok (Exists name, drop 1 tokens)) (wanted_operator >>= λ operator. wanted InBrackets value_of errors.UnexpectedTokenInAttribute (skip_space operator.1) >>= λ value. case_sensitivity name (skip_space value.1) >>= λ case. Ok (Compares name operator.0 (utf8 value.0) case.0, case.1)) n
+    (ok_leaves (Exists name) (drop 1 tokens) n (omega (arith, length-drop 1 tokens)))
+    (then_leaves wanted_operator (λ operator. wanted InBrackets value_of errors.UnexpectedTokenInAttribute (skip_space operator.1) >>= λ value. case_sensitivity name (skip_space value.1) >>= λ case. Ok (Compares name operator.0 (utf8 value.0) case.0, case.1)) n n (wanted-leaves InBrackets operator_of errors.UnexpectedTokenInAttribute tokens)
+    (λ operator rest l. then_leaves (wanted InBrackets value_of errors.UnexpectedTokenInAttribute (skip_space rest)) (λ value. case_sensitivity name (skip_space value.1) >>= λ case. Ok (Compares name operator (utf8 value.0) case.0, case.1)) n n
+    (weaker (wanted InBrackets value_of errors.UnexpectedTokenInAttribute (skip_space rest)) (length rest) n (wanted_behind InBrackets value_of errors.UnexpectedTokenInAttribute rest) l)
+    (λ value rest2 l2. then_leaves (case_sensitivity name (skip_space rest2)) (λ case. Ok (Compares name operator (utf8 value) case.0, case.1)) n n
+    (weaker (case_sensitivity name (skip_space rest2)) (length (skip_space rest2)) n (case_sensitivity-leaves name (skip_space rest2)) (omega (arith, skip_space-shorter rest2)))
+    (λ case rest3 l3. ok_leaves (Compares name operator (utf8 value) case) rest3 n l3))))
+
+attribute-leaves : (tokens : List Token) → Leaves (attribute tokens) (length tokens)
+unfolding attribute
+attribute-leaves tokens =
+    let n = length tokens in
+    then_leaves (attribute_name (skip_space tokens)) (λ name. comparison (utf8 (lowered name.0.0)) (skip_space name.1) >>= λ part. Ok ((cond name.0.1 LateNamespace (Plain part.0)), part.1)) n n
+    (weaker (attribute_name (skip_space tokens)) (length (skip_space tokens)) n (attribute_name-leaves (skip_space tokens)) (skip_space-shorter tokens))
+    (λ name rest l. then_leaves (comparison (utf8 (lowered name.0)) (skip_space rest)) (λ part. Ok ((cond name.1 LateNamespace (Plain part.0)), part.1)) n n
+    (weaker (comparison (utf8 (lowered name.0)) (skip_space rest)) (length (skip_space rest)) n (comparison-leaves (utf8 (lowered name.0)) (skip_space rest)) (omega (arith, skip_space-shorter rest)))
+    (λ part rest2 l2. ok_leaves (cond name.1 LateNamespace (Plain part)) rest2 n l2))
+
+-- ---- parts
+
+class_name-leaves : (place : Place) (tokens : List Token) → Leaves (class_name place tokens) (length tokens)
+unfolding class_name
+class_name-leaves place tokens =
+    if_leaves (at_stop place tokens) (Err errors.UnexpectedEnd) (giving (λ name. Class (utf8 name)) (wanted place ident_of errors.InvalidClassName tokens)) (length tokens) (err_leaves errors.UnexpectedEnd (length tokens))
+    (giving_leaves (λ name. Class (utf8 name)) (wanted place ident_of errors.InvalidClassName tokens) (length tokens) (wanted-leaves place ident_of errors.InvalidClassName tokens))
+
+function_part-leaves : (name : List ℕ) (tokens : List Token) → Leaves (function_part name tokens) (length tokens)
+unfolding function_part
+function_part-leaves name tokens =
+    let n = length tokens in
+    let late = cond (is_one_of (codes "nth-last-child" ∷ codes "nth-last-of-type" ∷ []) name) (giving (λ nth. LatePseudoClass) (an_plus_b tokens)) (Err errors.UnsupportedPseudoClassOrElement) in
+    if_leaves (says (codes "nth-child") name) (giving (λ nth. Plain (Nth false nth.0 nth.1)) (an_plus_b tokens)) (cond (says (codes "nth-of-type") name) (giving (λ nth. Plain (Nth true nth.0 nth.1)) (an_plus_b tokens)) late) n
+    (giving_leaves (λ nth. Plain (Nth false nth.0 nth.1)) (an_plus_b tokens) n (an_plus_b-leaves tokens))
+    (if_leaves (says (codes "nth-of-type") name) (giving (λ nth. Plain (Nth true nth.0 nth.1)) (an_plus_b tokens)) late n
+    (giving_leaves (λ nth. Plain (Nth true nth.0 nth.1)) (an_plus_b tokens) n (an_plus_b-leaves tokens))
+    (if_leaves (is_one_of (codes "nth-last-child" ∷ codes "nth-last-of-type" ∷ []) name) (giving (λ nth. LatePseudoClass) (an_plus_b tokens)) (Err errors.UnsupportedPseudoClassOrElement) n
+    (giving_leaves (λ nth. LatePseudoClass) (an_plus_b tokens) n (an_plus_b-leaves tokens)) (err_leaves errors.UnsupportedPseudoClassOrElement n)))
+
+-- the list of a `:not` leaves no more than it is given
+pub record InnerLeaves (inner : List Token → Read Items) : Type 0 where
+  pub each : (tokens : List Token) → Leaves (inner tokens) (length tokens)
+
+refused_leaves : {A : Type 0} (b : Bool) (n : ℕ) → Leaves {A = A} (cond b (Err errors.UnexpectedEnd) (Err errors.UnsupportedPseudoClassOrElement)) n
+refused_leaves true n = err_leaves errors.UnexpectedEnd n
+refused_leaves false n = err_leaves errors.UnsupportedPseudoClassOrElement n
+
+pseudo_of-leaves : (inner : List Token → Read Items) → InnerLeaves inner → (place : Place) (token : Token) (tokens : List Token) → Leaves (elim token [
+  | Ident name ↦ keeping (ident_part name) tokens
+  | Function name ↦ cond (says (codes "not") name) (giving Not (inner tokens)) (function_part name tokens)
+  | Delim c ↦ cond (eqb c 58 && at_stop place tokens) (Err errors.UnexpectedEnd) (Err errors.UnsupportedPseudoClassOrElement)
+  | _ ↦ Err errors.UnsupportedPseudoClassOrElement
+]) (length (token ∷ tokens))
+pseudo_of-leaves inner h place (Ident name) tokens = keeping_leaves (ident_part name) tokens (length (Ident name ∷ tokens)) (omega arith)
+pseudo_of-leaves inner h place (Function name) tokens =
+    if_leaves (says (codes "not") name) (giving (λ items. Not items) (inner tokens)) (function_part name tokens) (length (Function name ∷ tokens))
+    (giving_leaves (λ items. Not items) (inner tokens) (length (Function name ∷ tokens)) (longer (inner tokens) (Function name) tokens (h.each tokens))) (longer (function_part name tokens) (Function name) tokens (function_part-leaves name tokens))
+pseudo_of-leaves inner h place (Delim c) tokens = refused_leaves (eqb c 58 && at_stop place tokens) (length (Delim c ∷ tokens))
+pseudo_of-leaves inner h place Space tokens = err_leaves errors.UnsupportedPseudoClassOrElement (length (Space ∷ tokens))
+pseudo_of-leaves inner h place (Quoted text) tokens = err_leaves errors.UnsupportedPseudoClassOrElement (length (Quoted text ∷ tokens))
+pseudo_of-leaves inner h place BadString tokens = err_leaves errors.UnsupportedPseudoClassOrElement (length (BadString ∷ tokens))
+pseudo_of-leaves inner h place (Hash name is_id) tokens = err_leaves errors.UnsupportedPseudoClassOrElement (length (Hash name is_id ∷ tokens))
+pseudo_of-leaves inner h place (Number n) tokens = err_leaves errors.UnsupportedPseudoClassOrElement (length (Number n ∷ tokens))
+pseudo_of-leaves inner h place (Dimension n unit) tokens = err_leaves errors.UnsupportedPseudoClassOrElement (length (Dimension n unit ∷ tokens))
+pseudo_of-leaves inner h place Percentage tokens = err_leaves errors.UnsupportedPseudoClassOrElement (length (Percentage ∷ tokens))
+pseudo_of-leaves inner h place Cdc tokens = err_leaves errors.UnsupportedPseudoClassOrElement (length (Cdc ∷ tokens))
+pseudo_of-leaves inner h place (Match c) tokens = err_leaves errors.UnsupportedPseudoClassOrElement (length (Match c ∷ tokens))
+
+pseudo-leaves : (inner : List Token → Read Items) → InnerLeaves inner → (place : Place) (tokens : List Token) → Leaves (pseudo inner place tokens) (length tokens)
+unfolding pseudo
+pseudo-leaves inner h place [] = err_leaves errors.UnexpectedEnd 0
+pseudo-leaves inner h place (token ∷ tokens) =
+    if_leaves (at_stop place (token ∷ tokens)) (Err errors.UnexpectedEnd) _ (length (token ∷ tokens)) (err_leaves errors.UnexpectedEnd (length (token ∷ tokens))) (pseudo_of-leaves inner h place token tokens)
+
+-- where a part was read, a token was
+pub record Takes (read : Read (Option Part)) (n : ℕ) : Type 0 where
+  pub all : (rest : List Token) → read ≡ Ok (None, rest) → length rest ≤ n
+  pub taken : (found : Part) (rest : List Token) → read ≡ Ok (Some found, rest) → length rest < n
+
+nothing_takes : (tokens : List Token) → Takes (Ok (None, tokens)) (length tokens)
+nothing_takes tokens = record {
+  all = λ rest e. let l = (ok_leaves {A = Option Part} None tokens (length tokens) (omega arith)).left None rest e in l;
+  taken = λ found rest e.
+      let nothing : Option Part = None in
+      let p : Option Part × List Token = (nothing, tokens) in
+      let q : Option Part × List Token = (Some found, rest) in
+      let same : p ≡ q = ok_same p q e in
+      let s : nothing ≡ Some found = ap (λ (t : Option Part × List Token). t.0) same in
+      absurd cc;
+}
+
+err_takes : (cause : SelectorError) (n : ℕ) → Takes (Err cause) n
+err_takes cause n = record { all = λ rest e. absurd cc; taken = λ found rest e. absurd cc }
+
+-- behind a token
+some_takes : {A : Type 0} (f : A → Part) (read : Read A) (token : Token) (tokens : List Token) → Leaves read (length tokens) → Takes (giving (λ found. some (f found)) read) (length (token ∷ tokens))
+some_takes f read token tokens l = record {
+  all = λ rest e. omega (arith, (giving_leaves (λ found. some (f found)) read (length tokens) l).left None rest e);
+  taken = λ found rest e. omega (arith, (giving_leaves (λ x. some (f x)) read (length tokens) l).left (some found) rest e);
+}
+
+if_takes : (b : Bool) (l r : Read (Option Part)) (n : ℕ) → Takes l n → Takes r n → Takes (cond b l r) n
+if_takes true l r n p q = p
+if_takes false l r n p q = q
+
+pub part-takes : (inner : List Token → Read Items) → InnerLeaves inner → (place : Place) (tokens : List Token) → Takes (part inner place tokens) (length tokens)
+unfolding part
+part-takes inner h place [] = nothing_takes []
+part-takes inner h place (Hash name is_id ∷ tokens) =
+    if_takes is_id (Ok (some (Plain (Id (utf8 name))), tokens)) (Ok (None, Hash name is_id ∷ tokens)) (length (Hash name is_id ∷ tokens))
+    (some_takes (λ (s : Simple). Plain s) (Ok (Id (utf8 name), tokens)) (Hash name is_id) tokens (same_leaves (Id (utf8 name)) tokens))
+    (nothing_takes (Hash name is_id ∷ tokens))
+part-takes inner h place (Delim c ∷ tokens) =
+    let n = length (Delim c ∷ tokens) in
+    if_takes (eqb c 46) (giving (λ found. some (Plain found)) (class_name place tokens)) (cond (eqb c 91) (giving some (attribute tokens)) (cond (eqb c 58) (giving some (pseudo inner place tokens)) (Ok (None, Delim c ∷ tokens)))) n
+    (some_takes (λ (s : Simple). Plain s) (class_name place tokens) (Delim c) tokens (class_name-leaves place tokens))
+    (if_takes (eqb c 91) (giving some (attribute tokens)) (cond (eqb c 58) (giving some (pseudo inner place tokens)) (Ok (None, Delim c ∷ tokens))) n
+    (some_takes (λ (p : Part). p) (attribute tokens) (Delim c) tokens (attribute-leaves tokens))
+    (if_takes (eqb c 58) (giving some (pseudo inner place tokens)) (Ok (None, Delim c ∷ tokens)) n
+    (some_takes (λ (p : Part). p) (pseudo inner place tokens) (Delim c) tokens (pseudo-leaves inner h place tokens)) (nothing_takes (Delim c ∷ tokens))))
+part-takes inner h place (Space ∷ tokens) = nothing_takes (Space ∷ tokens)
+part-takes inner h place (Quoted text ∷ tokens) = nothing_takes (Quoted text ∷ tokens)
+part-takes inner h place (BadString ∷ tokens) = nothing_takes (BadString ∷ tokens)
+part-takes inner h place (Number n ∷ tokens) = nothing_takes (Number n ∷ tokens)
+part-takes inner h place (Dimension n unit ∷ tokens) = nothing_takes (Dimension n unit ∷ tokens)
+part-takes inner h place (Percentage ∷ tokens) = nothing_takes (Percentage ∷ tokens)
+part-takes inner h place (Cdc ∷ tokens) = nothing_takes (Cdc ∷ tokens)
+part-takes inner h place (Function name ∷ tokens) = nothing_takes (Function name ∷ tokens)
+part-takes inner h place (Ident name ∷ tokens) = nothing_takes (Ident name ∷ tokens)
+part-takes inner h place (Match c ∷ tokens) = nothing_takes (Match c ∷ tokens)
+
+-- ---- compounds, items and lists
+
+-- a part that may be there
+part_leaves : (read : Read (Option Part)) (n : ℕ) → Takes read n → Leaves read n
+part_leaves read n t = record { left = λ x rest e. cases x rest e }
+  where
+    cases : (x : Option Part) (rest : List Token) → read ≡ Ok (x, rest) → length rest ≤ n
+    cases None rest e = t.all rest e
+    cases (Some found) rest e = omega (arith, t.taken found rest e)
+
+parts-leaves : (n : ℕ) (inner : List Token → Read Items) → InnerLeaves inner → (place : Place) (parts : Compound) (tokens : List Token) → Leaves (parts_at_most n inner place parts tokens) (length tokens)
+unfolding parts_at_most
+parts-leaves zero inner h place parts tokens = same_leaves parts tokens
+parts-leaves (suc n) inner h place parts tokens =
+    then_leaves (part inner place tokens) (λ x. elim x.0 [ None ↦ Ok (parts, x.1) | Some found ↦ parts_at_most n inner place (With parts found) x.1 ]) (length tokens) (length tokens) (part_leaves (part inner place tokens) (length tokens) (part-takes inner h place tokens))
+    (λ x rest l. option_leaves x (Ok (parts, rest)) (λ found. parts_at_most n inner place (With parts found) rest) (length tokens) (ok_leaves parts rest (length tokens) l)
+    (λ found. weaker (parts_at_most n inner place (With parts found) rest) (length rest) (length tokens) (parts-leaves n inner h place (With parts found) rest) l))
+
+behind_bar_of-leaves : (token : Token) (tokens : List Token) → Leaves (elim token [
+  | Ident name ↦ Ok (Some (LocalName (utf8 name)), tokens)
+  | Delim c ↦ cond (eqb c 42) (Ok (Some AnyName, tokens)) (Err errors.UnexpectedToken)
+  | _ ↦ Err errors.UnexpectedToken
+]) (length (token ∷ tokens))
+behind_bar_of-leaves (Ident name) tokens = ok_leaves (Some (LocalName (utf8 name))) tokens (length (Ident name ∷ tokens)) (omega arith)
+behind_bar_of-leaves (Delim c) tokens =
+    if_leaves (eqb c 42) (Ok (Some AnyName, tokens)) (Err errors.UnexpectedToken) (length (Delim c ∷ tokens)) (ok_leaves (Some AnyName) tokens (length (Delim c ∷ tokens)) (omega arith)) (err_leaves errors.UnexpectedToken (length (Delim c ∷ tokens)))
+behind_bar_of-leaves Space tokens = err_leaves errors.UnexpectedToken (length (Space ∷ tokens))
+behind_bar_of-leaves (Quoted text) tokens = err_leaves errors.UnexpectedToken (length (Quoted text ∷ tokens))
+behind_bar_of-leaves BadString tokens = err_leaves errors.UnexpectedToken (length (BadString ∷ tokens))
+behind_bar_of-leaves (Hash name is_id) tokens = err_leaves errors.UnexpectedToken (length (Hash name is_id ∷ tokens))
+behind_bar_of-leaves (Number n) tokens = err_leaves errors.UnexpectedToken (length (Number n ∷ tokens))
+behind_bar_of-leaves (Dimension n unit) tokens = err_leaves errors.UnexpectedToken (length (Dimension n unit ∷ tokens))
+behind_bar_of-leaves Percentage tokens = err_leaves errors.UnexpectedToken (length (Percentage ∷ tokens))
+behind_bar_of-leaves Cdc tokens = err_leaves errors.UnexpectedToken (length (Cdc ∷ tokens))
+behind_bar_of-leaves (Function name) tokens = err_leaves errors.UnexpectedToken (length (Function name ∷ tokens))
+behind_bar_of-leaves (Match c) tokens = err_leaves errors.UnexpectedToken (length (Match c ∷ tokens))
+
+behind_bar-leaves : (place : Place) (tokens : List Token) → Leaves (behind_bar place tokens) (length tokens)
+unfolding behind_bar
+behind_bar-leaves place [] = same_leaves None []
+behind_bar-leaves place (token ∷ tokens) =
+    if_leaves (at_stop place (token ∷ tokens)) (Ok (None, token ∷ tokens)) _ (length (token ∷ tokens)) (same_leaves None (token ∷ tokens)) (behind_bar_of-leaves token tokens)
+
+type_part-leaves : (place : Place) (tokens : List Token) → Leaves (type_part place tokens) (length tokens)
+unfolding type_part
+type_part-leaves place [] = same_leaves (Some Nothing) []
+type_part-leaves place (Ident name ∷ tokens) =
+    if_leaves (front (is_delim 124) tokens) (Err errors.NamespacedSelector) (Ok (Some (With Nothing (Plain (LocalName (utf8 name)))), tokens)) (length (Ident name ∷ tokens)) (err_leaves errors.NamespacedSelector (length (Ident name ∷ tokens))) (ok_leaves (Some (With Nothing (Plain (LocalName (utf8 name))))) tokens (length (Ident name ∷ tokens)) (omega arith))
+type_part-leaves place (Delim c ∷ tokens) =
+    let n = length (Delim c ∷ tokens) in
+    let any = giving (option_map any_namespace) (behind_bar place (drop 1 tokens)) in
+    let none = giving (option_map no_namespace) (behind_bar place tokens) in
+    if_leaves (eqb c 42) (cond (front (is_delim 124) tokens) any (Ok (Some (With Nothing (Plain AnyName)), tokens))) (cond (eqb c 124) none (Ok (Some Nothing, Delim c ∷ tokens))) n
+    (if_leaves (front (is_delim 124) tokens) any (Ok (Some (With Nothing (Plain AnyName)), tokens)) n
+    (giving_leaves (option_map any_namespace) (behind_bar place (drop 1 tokens)) n (weaker (behind_bar place (drop 1 tokens)) (length (drop 1 tokens)) n (behind_bar-leaves place (drop 1 tokens)) (omega (arith, length-drop 1 tokens))))
+    (ok_leaves (Some (With Nothing (Plain AnyName))) tokens n (omega arith)))
+    (if_leaves (eqb c 124) none (Ok (Some Nothing, Delim c ∷ tokens)) n
+    (giving_leaves (option_map no_namespace) (behind_bar place tokens) n (longer (behind_bar place tokens) (Delim c) tokens (behind_bar-leaves place tokens)))
+    (same_leaves (Some Nothing) (Delim c ∷ tokens)))
+type_part-leaves place (Space ∷ tokens) = same_leaves (Some Nothing) (Space ∷ tokens)
+type_part-leaves place (Quoted text ∷ tokens) = same_leaves (Some Nothing) (Quoted text ∷ tokens)
+type_part-leaves place (BadString ∷ tokens) = same_leaves (Some Nothing) (BadString ∷ tokens)
+type_part-leaves place (Hash name is_id ∷ tokens) = same_leaves (Some Nothing) (Hash name is_id ∷ tokens)
+type_part-leaves place (Number n ∷ tokens) = same_leaves (Some Nothing) (Number n ∷ tokens)
+type_part-leaves place (Dimension n unit ∷ tokens) = same_leaves (Some Nothing) (Dimension n unit ∷ tokens)
+type_part-leaves place (Percentage ∷ tokens) = same_leaves (Some Nothing) (Percentage ∷ tokens)
+type_part-leaves place (Cdc ∷ tokens) = same_leaves (Some Nothing) (Cdc ∷ tokens)
+type_part-leaves place (Function name ∷ tokens) = same_leaves (Some Nothing) (Function name ∷ tokens)
+type_part-leaves place (Match c ∷ tokens) = same_leaves (Some Nothing) (Match c ∷ tokens)
+
+compound-leaves : (inner : List Token → Read Items) → InnerLeaves inner → (place : Place) (empty : SelectorError) (tokens : List Token) → Leaves (compound inner place empty tokens) (length tokens)
+unfolding compound
+compound-leaves inner h place empty tokens =
+    let n = length tokens in
+    then_leaves (type_part place tokens) (λ type. elim type.0 [
+      | None ↦ Err empty
+      | Some start ↦ more_parts inner place start type.1 >>= λ parts. cond (is_nothing parts.0) (Err empty) (Ok parts)
+    ]) n n (type_part-leaves place tokens)
+    (λ type rest l. option_leaves type (Err empty) (λ start. more_parts inner place start rest >>= λ parts. cond (is_nothing parts.0) (Err empty) (Ok parts)) n (err_leaves empty n)
+    (λ start. then_leaves (more_parts inner place start rest) (λ parts. cond (is_nothing parts.0) (Err empty) (Ok parts)) n n (weaker (more_parts inner place start rest) (length rest) n (parts-leaves (length rest) inner h place start rest) l)
+    (λ parts rest2 l2. if_leaves (is_nothing parts) (Err empty) (Ok (parts, rest2)) n (err_leaves empty n) (ok_leaves parts rest2 n l2))))
+
+step-token-leaves : (after_space : Bool) (tokens : List Token) → Leaves (step after_space tokens) (length tokens)
+unfolding step
+step-token-leaves after_space [] = err_leaves errors.UnexpectedToken 0
+step-token-leaves after_space (token ∷ tokens) =
+    let n = length (token ∷ tokens) in
+    option_leaves (step_of token) (cond after_space (Ok (By Descendant, token ∷ tokens)) (Err errors.UnexpectedToken)) (λ found. Ok (found, skip_space tokens)) n
+    (if_leaves after_space (Ok (By Descendant, token ∷ tokens)) (Err errors.UnexpectedToken) n (same_leaves (By Descendant) (token ∷ tokens)) (err_leaves errors.UnexpectedToken n))
+    (λ found. ok_leaves found (skip_space tokens) n (omega (arith, skip_space-shorter tokens)))
+
+next_step-leaves : (place : Place) (tokens : List Token) → Leaves (next_step place tokens) (length tokens)
+unfolding next_step
+next_step-leaves place tokens =
+    let n = length tokens in
+    if_leaves (at_stop place (skip_space tokens)) (Ok (None, skip_space tokens)) (giving (λ found. Some found) (step (front is_space tokens) (skip_space tokens))) n
+    (ok_leaves None (skip_space tokens) n (skip_space-shorter tokens))
+    (giving_leaves (λ found. Some found) (step (front is_space tokens) (skip_space tokens)) n (weaker (step (front is_space tokens) (skip_space tokens)) (length (skip_space tokens)) n (step-token-leaves (front is_space tokens) (skip_space tokens)) (skip_space-shorter tokens)))
+
+further-leaves : (room : ℕ) (inner : List Token → Read Items) → InnerLeaves inner → (place : Place) (front : Item) (tokens : List Token) → Leaves (further room inner place front tokens) (length tokens)
+unfolding further
+further-leaves zero inner h place front tokens =
+    let n = length tokens in
+    then_leaves (next_step place tokens) (λ found. elim found.0 [ None ↦ Ok (front, found.1) | Some step ↦ Err errors.UnsupportedSyntax ]) n n (next_step-leaves place tokens)
+    (λ found rest l. option_leaves found (Ok (front, rest)) (λ step. Err errors.UnsupportedSyntax) n (ok_leaves front rest n l) (λ step. err_leaves errors.UnsupportedSyntax n))
+further-leaves (suc room) inner h place front tokens =
+    let n = length tokens in
+    then_leaves (next_step place tokens) (λ found. elim found.0 [ None ↦ Ok (front, found.1) | Some step ↦ compound inner place errors.DanglingCombinator found.1 >>= λ next. further room inner place (Then front step next.0) next.1 ]) n n (next_step-leaves place tokens)
+    (λ found rest l. option_leaves found (Ok (front, rest)) (λ step. compound inner place errors.DanglingCombinator rest >>= λ next. further room inner place (Then front step next.0) next.1) n (ok_leaves front rest n l)
+    (λ step. then_leaves (compound inner place errors.DanglingCombinator rest) (λ next. further room inner place (Then front step next.0) next.1) n n (weaker (compound inner place errors.DanglingCombinator rest) (length rest) n (compound-leaves inner h place errors.DanglingCombinator rest) l)
+    (λ next rest2 l2. weaker (further room inner place (Then front step next) rest2) (length rest2) n (further-leaves room inner h place (Then front step next) rest2) l2)))
+
+pub item-leaves : (inner : List Token → Read Items) → InnerLeaves inner → (place : Place) (tokens : List Token) → Leaves (item inner place tokens) (length tokens)
+unfolding item
+item-leaves inner h place tokens =
+    let n = length tokens in
+    then_leaves (compound inner place errors.EmptySelector (skip_space tokens)) (λ first. further 1023 inner place (First first.0) first.1) n n
+    (weaker (compound inner place errors.EmptySelector (skip_space tokens)) (length (skip_space tokens)) n (compound-leaves inner h place errors.EmptySelector (skip_space tokens)) (skip_space-shorter tokens))
+    (λ first rest l. weaker (further 1023 inner place (First first) rest) (length rest) n (further-leaves 1023 inner h place (First first) rest) l)
+
+items-leaves : (n : ℕ) (inner : List Token → Read Items) → InnerLeaves inner → (place : Place) (items : Items) (tokens : List Token) → Leaves (items_at_most n inner place items tokens) (length tokens)
+unfolding items_at_most
+items-leaves zero inner h place items tokens = same_leaves items tokens
+items-leaves (suc m) inner h place items tokens =
+    let n = length tokens in
+    if_leaves (at_end place tokens) (Ok (items, drop 1 tokens)) (item inner place (drop 1 tokens) >>= λ x. items_at_most m inner place (And items x.0) x.1) n
+    (ok_leaves items (drop 1 tokens) n (omega (arith, length-drop 1 tokens)))
+    (then_leaves (item inner place (drop 1 tokens)) (λ x. items_at_most m inner place (And items x.0) x.1) n n
+    (weaker (item inner place (drop 1 tokens)) (length (drop 1 tokens)) n (item-leaves inner h place (drop 1 tokens)) (omega (arith, length-drop 1 tokens)))
+    (λ x rest l. weaker (items_at_most m inner place (And items x) rest) (length rest) n (items-leaves m inner h place (And items x) rest) l))
+
+list-leaves : (inner : List Token → Read Items) → InnerLeaves inner → (place : Place) (tokens : List Token) → Leaves (list inner place tokens) (length tokens)
+unfolding list
+list-leaves inner h place tokens =
+    let n = length tokens in
+    then_leaves (item inner place tokens) (λ first. items_at_most (length first.1 + 1) inner place (And NoItems first.0) first.1) n n (item-leaves inner h place tokens)
+    (λ first rest l. weaker (items_at_most (length rest + 1) inner place (And NoItems first) rest) (length rest) n (items-leaves (length rest + 1) inner h place (And NoItems first) rest) l)
+
+inner_list_leaves : (room : ℕ) (tokens : List Token) → Leaves (inner_list room tokens) (length tokens)
+unfolding inner_list
+inner_list_leaves zero tokens = err_leaves errors.UnsupportedSyntax (length tokens)
+inner_list_leaves (suc room) tokens = list-leaves (inner_list room) (record { each = inner_list_leaves room }) InFunction tokens
+
+pub inner_list-leaves : (room : ℕ) → InnerLeaves (inner_list room)
+inner_list-leaves room = record { each = inner_list_leaves room }

@@ -1,0 +1,52 @@
+-- The late walk, and what is accepted.
+use Rattle.std.specs.Prelude.{ℕ, Bool, true, false, List, Result, Ok, Err}
+use Rattle.std.specs.Str.{chars}
+use Rattle.lol_css.specs.Tokens.{tokens}
+use Rattle.lol_css.specs.Trees as trees
+use Rattle.lol_css.specs.Drafts.{Step, By, Sibling, Part, Plain, LatePseudoClass, LateNamespace, Not, Compound, Nothing, With, Item, First, Then, Items, NoItems, And}
+use Rattle.lol_css.specs.Rules.{◌>>=◌}
+use Rattle.lol_css.specs.Reading.{selector}
+use Rattle.lol_css.specs.declared.selector.Combinator.{Combinator}
+use Rattle.lol_css.specs.declared.error.SelectorError.{SelectorError}
+use Rattle.lol_css.specs.declared.error.SelectorError.TheVariants.{UnsupportedPseudoClassOrElement, UnsupportedCombinator, NamespacedSelector}
+
+-- What was read as a selector, or the first thing that is refused: items in written order, in an item the last compound first,
+-- then the step on its left, then the compound before, and so on; in a compound the parts in written order. Inside a `:not`
+-- each step is refused.
+abbrev pub judged_step : Bool → Step → Result Combinator SelectorError
+judged_step true step = Err UnsupportedPseudoClassOrElement
+judged_step false (By combinator) = Ok combinator
+judged_step false (Sibling sign) = Err (UnsupportedCombinator sign)
+
+unfoldable mutual
+  pub judged_part : Part → Result trees.Part SelectorError
+  judged_part (Plain part) = Ok (trees.Plain part)
+  judged_part LatePseudoClass = Err UnsupportedPseudoClassOrElement
+  judged_part LateNamespace = Err NamespacedSelector
+  judged_part (Not items) = judged true items >>= λ inner. Ok (trees.Not inner)
+
+  pub judged_compound : Compound → Result trees.Compound SelectorError
+  judged_compound Nothing = Ok trees.Nothing
+  judged_compound (With front part) = do
+    parts ← judged_compound front
+    last ← judged_part part
+    Ok (trees.With parts last)
+
+  pub judged_item : Bool → Item → Result trees.Item SelectorError
+  judged_item inside (First compound) = judged_compound compound >>= λ first. Ok (trees.First first)
+  judged_item inside (Then front step compound) = do
+    last ← judged_compound compound
+    combinator ← judged_step inside step
+    before ← judged_item inside front
+    Ok (trees.Then before combinator last)
+
+  pub judged : Bool → Items → Result trees.Items SelectorError
+  judged inside NoItems = Ok trees.NoItems
+  judged inside (And front item) = do
+    items ← judged inside front
+    last ← judged_item inside item
+    Ok (trees.And items last)
+
+-- what the bytes of a text stand for: a selector, or the one cause for which it is refused
+unfoldable pub accept : List ℕ → Result trees.Items SelectorError
+accept text = selector (tokens (chars text)) >>= λ read. judged false read.0

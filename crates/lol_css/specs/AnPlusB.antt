@@ -1,0 +1,94 @@
+-- An+B: the tokens between the parentheses of `:nth-child(` and its kin (CSS Syntax 3, section 6.2).
+-- Departures: A and B lie in i32, and each refusal has a cause.
+use Rattle.std.specs.Prelude.{ℕ, Bool, ◌&&◌, ◌==◌, nat_le, if◌then◌else◌, List, [], ◌∷◌, drop, take, Option, Some, None, Ok, Err, ℤ, pos, negsuc, neg_ℤ, codes}
+use Rattle.std.specs.List.{list_all}
+use Rattle.lol_css.specs.Points.{is, front, is_decimal, decimal}
+use Rattle.lol_css.specs.Tokens.{Token, Numeral, Number, Dimension, Ident, Delim}
+use Rattle.lol_css.specs.Rules.{Read, ◌>>=◌, giving, skip_space, InFunction, wanted, closed, says, ident_of}
+use Rattle.lol_css.specs.declared.error.SelectorError.TheVariants.{UnexpectedToken}
+
+abbrev pub minus : ℕ → ℤ
+minus n = neg_ℤ (pos n)
+
+-- the value of an integer with its sign; none of what has a fraction or an exponent
+abbrev pub integer_value : Numeral → Option ℤ
+integer_value n = elim n.integer [
+  | None ↦ None
+  | Some digits ↦ Some (elim n.sign [ None ↦ pos digits | Some c ↦ if c == 45 then minus digits else pos digits ])
+]
+
+-- an integer without a sign
+abbrev pub unsigned : Token → Option ℕ
+unsigned (Number n) = elim n.sign [ None ↦ n.integer | Some c ↦ None ]
+unsigned _ = None
+
+abbrev pub in_i32 : ℤ → Bool
+in_i32 (pos n) = nat_le n 2147483647
+in_i32 (negsuc n) = nat_le n 2147483647
+
+-- A or B, which was just read
+unfoldable pub fitting : ℤ → List Token → Read ℤ
+fitting x tokens = if in_i32 x then Ok (x, tokens) else Err UnexpectedToken
+
+-- white space and a number without a sign, of which B is made
+unfoldable pub digits_of_b : (ℕ → ℤ) → List Token → Read ℤ
+digits_of_b signed tokens = do
+  digits ← wanted InFunction unsigned UnexpectedToken (skip_space tokens)
+  fitting (signed digits.0) digits.1
+
+-- B behind `n` and white space: a sign and a number, a number with a sign, or nothing
+unfoldable pub behind_n : List Token → Read ℤ
+behind_n [] = Ok (pos 0, [])
+behind_n (Delim c ∷ tokens) =
+    if c == 43 then digits_of_b pos tokens
+    else (if c == 45 then digits_of_b minus tokens else Ok (pos 0, Delim c ∷ tokens))
+behind_n (Number n ∷ tokens) =
+    elim n.sign [
+      | None ↦ Ok (pos 0, Number n ∷ tokens)
+      | Some c ↦ elim (integer_value n) [ None ↦ Ok (pos 0, Number n ∷ tokens) | Some b ↦ fitting b tokens ]
+    ]
+behind_n (token ∷ tokens) = Ok (pos 0, token ∷ tokens)
+
+-- `n-` and digits, one at least
+abbrev pub is_n_and_digits : List ℕ → Bool
+is_n_and_digits name = says (codes "n-") (take 2 name) && list_all is_decimal (drop 2 name)
+
+-- the rest, which a name holds
+unfoldable pub rest_of : List ℕ → List Token → Read ℤ
+rest_of name tokens =
+    if says (codes "n") name then behind_n (skip_space tokens)
+    else (if says (codes "n-") name then digits_of_b minus tokens
+    else (if is_n_and_digits name then fitting (minus (decimal (drop 2 name))) tokens
+    else Err UnexpectedToken))
+
+abbrev pub with_step : ℤ → Read ℤ → Read (ℤ × ℤ)
+with_step a b = giving (λ x. (a, x)) b
+
+-- an integer, which was just read
+unfoldable pub integer : Numeral → List Token → Read ℤ
+integer n tokens = elim (integer_value n) [ None ↦ Err UnexpectedToken | Some x ↦ fitting x tokens ]
+
+-- an integer and its unit, which holds the rest
+unfoldable pub scaled : Numeral → List ℕ → List Token → Read (ℤ × ℤ)
+scaled n unit tokens = integer n tokens >>= λ step. with_step step.0 (rest_of unit step.1)
+
+-- A and B, of which this is the first token
+unfoldable pub an_plus_b_of : Token → List Token → Read (ℤ × ℤ)
+an_plus_b_of (Ident name) tokens =
+    if says (codes "even") name then Ok ((pos 2, pos 0), tokens)
+    else (if says (codes "odd") name then Ok ((pos 2, pos 1), tokens)
+    else (if front (is 45) name then with_step (minus 1) (rest_of (drop 1 name) tokens) else with_step (pos 1) (rest_of name tokens)))
+an_plus_b_of (Number n) tokens = with_step (pos 0) (integer n tokens)
+an_plus_b_of (Dimension n unit) tokens = scaled n unit tokens
+an_plus_b_of (Delim c) tokens =
+    if c == 43 then (wanted InFunction ident_of UnexpectedToken tokens >>= λ name. with_step (pos 1) (rest_of name.0 name.1))
+    else Err UnexpectedToken
+an_plus_b_of _ tokens = Err UnexpectedToken
+
+-- behind the parenthesis, up to the one that closes it
+unfoldable pub an_plus_b : List Token → Read (ℤ × ℤ)
+an_plus_b tokens = do
+  token ← wanted InFunction (λ t. Some t) UnexpectedToken (skip_space tokens)
+  nth ← an_plus_b_of token.0 token.1
+  end ← closed InFunction nth.1
+  Ok (nth.0, end.1)

@@ -1,0 +1,28 @@
+-- What is read: the trees of selectors, and in them what is refused only after the whole list was read.
+use Rattle.std.specs.Prelude.{ℕ}
+use Rattle.lol_css.specs.Trees.{Simple}
+use Rattle.lol_css.specs.declared.selector.Combinator.{Combinator}
+
+-- how a compound stands to the one before it; `+` and `~` are refused late
+pub data Step : Type 0 where
+  By : Combinator → Step
+  Sibling : ℕ → Step
+
+mutual
+  pub data Part : Type 0 where
+    Plain : Simple → Part
+    LatePseudoClass : Part  -- `:root` and its like
+    LateNamespace : Part  -- `[*|a]`
+    Not : Items → Part
+
+  pub data Compound : Type 0 where
+    Nothing : Compound
+    With : Compound → Part → Compound
+
+  pub data Item : Type 0 where
+    First : Compound → Item
+    Then : Item → Step → Compound → Item
+
+  pub data Items : Type 0 where
+    NoItems : Items
+    And : Items → Item → Items

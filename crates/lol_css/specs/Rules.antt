@@ -1,0 +1,83 @@
+-- What the rules of the grammar are made of: each goes from a list of tokens to what is read and the tokens left, or to a cause.
+use Rattle.std.specs.Prelude.{ℕ, Bool, true, false, ◌||◌, ◌==◌, if◌then◌else◌, List, [], ◌∷◌, map, drop, Option, Some, None, Result, Ok, Err}
+use Rattle.std.specs.Char.{to_ascii_lowercase}
+use Rattle.std.specs.Str.{bytes_eq}
+use Rattle.lol_css.specs.Points.{front}
+use Rattle.lol_css.specs.Tokens.{Token, Space, Ident, Delim}
+use Rattle.lol_css.specs.declared.error.SelectorError.{SelectorError}
+use Rattle.lol_css.specs.declared.error.SelectorError.TheVariants.{UnexpectedToken, UnexpectedEnd}
+
+-- what a rule reads from the front, with the tokens left, or why it refuses
+abbrev pub Read : Type 0 → Type 0
+Read A = Result (A × List Token) SelectorError
+
+-- one after the other, up to the first cause
+infixl 10 ◌>>=◌
+abbrev pub ◌>>=◌ : {A B : Type 0} → Result A SelectorError → (A → Result B SelectorError) → Result B SelectorError
+(Ok x) >>= f = f x
+(Err cause) >>= f = Err cause
+
+-- what is read, changed
+abbrev pub giving : {A B : Type 0} → (A → B) → Read A → Read B
+giving f (Ok x) = Ok (f x.0, x.1)
+giving f (Err cause) = Err cause
+
+-- what was judged without taking a token
+abbrev pub keeping : {A : Type 0} → Result A SelectorError → List Token → Read A
+keeping (Ok x) tokens = Ok (x, tokens)
+keeping (Err cause) tokens = Err cause
+
+abbrev pub is_delim : ℕ → Token → Bool
+is_delim c (Delim d) = d == c
+is_delim c _ = false
+
+abbrev pub is_space : Token → Bool
+is_space Space = true
+is_space _ = false
+
+unfoldable pub skip_space : List Token → List Token
+skip_space [] = []
+skip_space (token ∷ tokens) = if is_space token then skip_space tokens else token ∷ tokens
+
+-- what is open innermost
+pub data Place : Type 0 where
+  Outside : Place
+  InFunction : Place
+  InBrackets : Place
+
+-- `)` and `]` close what is open innermost
+abbrev pub closes : Place → Token → Bool
+closes Outside token = false
+closes InFunction token = is_delim 41 token
+closes InBrackets token = is_delim 93 token
+
+-- End: what closes it, or the text's end, which closes everything
+abbrev pub at_end : Place → List Token → Bool
+at_end place [] = true
+at_end place (token ∷ tokens) = closes place token
+
+-- Stop: End, or a comma of the list
+abbrev pub at_stop : Place → List Token → Bool
+at_stop place tokens = at_end place tokens || front (is_delim 44) tokens
+
+-- a token of a kind that is wanted here: End is UnexpectedEnd, another token has the cause given
+unfoldable pub wanted : {A : Type 0} → Place → (Token → Option A) → SelectorError → List Token → Read A
+wanted place kind other [] = Err UnexpectedEnd
+wanted place kind other (token ∷ tokens) =
+    if closes place token then Err UnexpectedEnd
+    else elim (kind token) [ None ↦ Err other | Some x ↦ Ok (x, tokens) ]
+
+-- white space, and then End, which is taken
+unfoldable pub closed : Place → List Token → Read (Unit {0})
+closed place tokens = if at_end place (skip_space tokens) then Ok (tt, drop 1 (skip_space tokens)) else Err UnexpectedToken
+
+-- names of pseudo-classes, flags and An+B are compared up to ASCII case
+abbrev pub lowered : List ℕ → List ℕ
+lowered name = map to_ascii_lowercase name
+
+abbrev pub says : List ℕ → List ℕ → Bool
+says word name = bytes_eq (lowered name) word
+
+abbrev pub ident_of : Token → Option (List ℕ)
+ident_of (Ident name) = Some name
+ident_of _ = None

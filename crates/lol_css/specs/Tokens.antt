@@ -1,0 +1,148 @@
+-- The tokens of a text: at each place the first fitting row decides, and takes as much as it can (CSS Syntax 3, section 4).
+-- Departures from the standard: `~=`, `|=`, `^=`, `$=` and `*=` are tokens of their own (row 8); `<!--`, `@` with a name,
+-- colon, semicolon, comma, brackets, parentheses and braces have none, so each of their signs is a Delim (row 9);
+-- `url(` is an ordinary Function.
+use Rattle.std.specs.Prelude.{ℕ, Bool, ◌&&◌, ◌||◌, ◌==◌, if◌then◌else◌, List, [], ◌∷◌, length, drop, Option, Some, None, codes, ◌++◌}
+use Rattle.std.specs.List.{list_any}
+use Rattle.std.specs.Option.{option_map}
+use Rattle.lol_css.specs.Points.{is, front, past, many, one, is_newline, is_white_space, is_decimal, is_sign, decimal, ◌or◌, escaped, begins_escape, is_in_name, name, starts_identifier, starts_number, preprocessed}
+
+-- a number as it is written: its sign if one stands there, and its digits' value if it has neither fraction nor exponent
+pub record Numeral : Type 0 where
+  pub sign : Option ℕ
+  pub integer : Option ℕ
+
+-- names and texts are lists of code points
+pub data Token : Type 0 where
+  Space : Token
+  Quoted : List ℕ → Token
+  BadString : Token
+  Hash : List ℕ → Bool → Token  -- the name, and whether it is an id
+  Number : Numeral → Token
+  Dimension : Numeral → List ℕ → Token
+  Percentage : Token
+  Cdc : Token
+  Function : List ℕ → Token
+  Ident : List ℕ → Token
+  Match : ℕ → Token  -- `~=` and the like, by the first sign
+  Delim : ℕ → Token
+
+-- what a row gives: nothing where it doesn't fit, else its token (none for a comment) and what is left
+abbrev pub Row : Type 0
+Row = List ℕ → Option (Option Token × List ℕ)
+
+-- row 1 (4.3.2): a comment, up to `*/` or the end
+unfoldable pub in_comment : List ℕ → Option (ℕ × List ℕ)
+in_comment [] = None
+in_comment (c ∷ cs) = if c == 42 && front (is 47) cs then None else Some (c, cs)
+
+unfoldable pub comment : Row
+comment text = if front (is 47) text && front (is 42) (drop 1 text) then Some (None, drop 2 (many in_comment (drop 2 text)).1) else None
+
+-- row 2: white space
+unfoldable pub space : Row
+space text = option_map (λ taken. (Some Space, (many (one is_white_space) taken.1).1)) (one is_white_space text)
+
+-- row 3 (4.3.5): a string, up to the same quote or the end
+-- what an escape in a string stands for, from behind the backslash: at the end and before LF nothing
+unfoldable pub string_escape : List ℕ → List ℕ × List ℕ
+string_escape [] = ([], [])
+string_escape (c ∷ cs) = if is_newline c then ([], cs) else (let point = escaped (c ∷ cs) in (point.0 ∷ [], point.1))
+
+unfoldable pub string_piece : ℕ → List ℕ → Option (List ℕ × List ℕ)
+string_piece quote [] = None
+string_piece quote (c ∷ cs) =
+    if c == quote || is_newline c then None
+    else (if c == 92 then Some (string_escape cs) else Some (c ∷ [], cs))
+
+abbrev pub joined : List (List ℕ) → List ℕ
+joined [] = []
+joined (points ∷ pieces) = points ++ joined pieces
+
+-- the text up to the quote, and what is left from there
+abbrev pub string_text : ℕ → List ℕ → List ℕ × List ℕ
+string_text quote text = let pieces = many (string_piece quote) text in (joined pieces.0, pieces.1)
+
+-- at an unescaped LF it is a BadString, which ends before it
+abbrev pub string_behind : ℕ → List ℕ → Option Token × List ℕ
+string_behind quote text =
+    let taken = string_text quote text in
+    if front is_newline taken.1 then (Some BadString, taken.1) else (Some (Quoted taken.0), drop 1 taken.1)
+
+unfoldable pub string : Row
+string [] = None
+string (c ∷ cs) = if c == 34 || c == 39 then Some (string_behind c cs) else None
+
+-- row 4: `#` and a name
+unfoldable pub hash : Row
+hash [] = None
+hash (c ∷ cs) =
+    if c == 35 && (front is_in_name cs || begins_escape cs) then (let n = name cs in Some (Some (Hash n.0 (starts_identifier cs)), n.1))
+    else None
+
+-- row 5 (4.3.3 and 4.3.12): a number, alone, with a unit or with `%`
+abbrev pub sign_of : List ℕ → Option ℕ
+sign_of [] = None
+sign_of (c ∷ cs) = if is_sign c then Some c else None
+
+-- behind a fraction and behind an exponent, where one stands
+unfoldable pub behind_fraction : List ℕ → List ℕ
+behind_fraction text = if front (is 46) text && front is_decimal (drop 1 text) then (many (one is_decimal) (drop 1 text)).1 else text
+
+unfoldable pub behind_exponent : List ℕ → List ℕ
+behind_exponent text =
+    if front (λ c. c == 69 || c == 101) text && front is_decimal (past is_sign (drop 1 text)) then (many (one is_decimal) (past is_sign (drop 1 text))).1 else text
+
+unfoldable pub numeral : List ℕ → Numeral × List ℕ
+numeral text =
+    let digits = many (one is_decimal) (past is_sign text) in
+    let rest = behind_exponent (behind_fraction digits.1) in
+    (record { sign = sign_of text; integer = if length rest == length digits.1 then Some (decimal digits.0) else None }, rest)
+
+unfoldable pub number : Row
+number text =
+    let n = numeral text in
+    if starts_number text then
+    (if starts_identifier n.1 then (let unit = name n.1 in Some (Some (Dimension n.0 unit.0), unit.1))
+    else (if front (is 37) n.1 then Some (Some Percentage, drop 1 n.1) else Some (Some (Number n.0), n.1)))
+    else None
+
+-- row 6: `-->`
+unfoldable pub cdc : Row
+cdc text = if front (is 45) text && front (is 45) (drop 1 text) && front (is 62) (drop 2 text) then Some (Some Cdc, drop 3 text) else None
+
+-- row 7 (4.3.4): a name, which takes a `(` directly behind it
+unfoldable pub identifier : Row
+identifier text =
+    if starts_identifier text then
+    (let n = name text in if front (is 40) n.1 then Some (Some (Function n.0), drop 1 n.1) else Some (Some (Ident n.0), n.1))
+    else None
+
+-- row 8: `~=`, `|=`, `^=`, `$=`, `*=`
+unfoldable pub match_sign : Row
+match_sign [] = None
+match_sign (c ∷ cs) = if list_any (is c) (codes "~|^$*") && front (is 61) cs then Some (Some (Match c), drop 1 cs) else None
+
+-- row 9: anything else
+unfoldable pub delim : Row
+delim [] = None
+delim (c ∷ cs) = Some (Some (Delim c), cs)
+
+-- the first fitting row decides
+unfoldable pub next : Row
+next text = comment text or space text or string text or hash text or number text or cdc text or identifier text or match_sign text or delim text
+
+abbrev pub with_first : Option Token → List Token → List Token
+with_first None tokens = tokens
+with_first (Some token) tokens = token ∷ tokens
+
+abbrev pub somes : List (Option Token) → List Token
+somes [] = []
+somes (first ∷ all) = with_first first (somes all)
+
+-- the tokens of a text that is preprocessed, and of a text
+unfoldable pub tokens_of : List ℕ → List Token
+tokens_of text = somes (many next text).0
+
+abbrev pub tokens : List ℕ → List Token
+tokens text = tokens_of (preprocessed text)

@@ -1,0 +1,81 @@
+-- What the code's values stand for.
+use Rattle.std.specs.Prelude.{◌≡◌, ℕ, Bool, true, false, List, [], ◌∷◌, Option, Some, None, Result, Ok, Err}
+use Rattle.std.specs.Option.{option_map}
+use Rattle.lol_css.specs.Points.{decimal, name}
+use Rattle.lol_css.specs.Tokens as tokens
+use Rattle.lol_css.specs.Tokens.{string_text}
+use Rattle.lol_css.specs.Rules as rules
+use Rattle.lol_css.specs.Rules.{Read}
+use Rattle.lol_css.specs.declared.error.SelectorError.{SelectorError}
+use Rattle.lol_css.specs.declared.error.SelectorError.TheVariants.{Memory}
+use Rattle.lol_css.specs.declared.reader.Place.{Place}
+use Rattle.lol_css.specs.declared.reader.Place.TheVariants.{Outside, InFunction, InBrackets}
+use Rattle.lol_css.specs.declared.texts.Name.{Name}
+use Rattle.lol_css.specs.declared.texts.Quoted as texts
+use Rattle.lol_css.specs.declared.tokens.Numeral.{Numeral}
+use Rattle.lol_css.specs.declared.tokens.Token.{Token}
+use Rattle.lol_css.specs.declared.tokens.Token.TheVariants.{Space, Quoted, BadString, Hash, Number, Dimension, Percentage, Cdc, Function, Ident, Match, Delim}
+
+-- what was taken from the front, seen by view, is this
+abbrev pub Took : {X Y : Type 0} → (X → Y) → Option X → Option Y → Type 0
+Took view None taken = taken ≡ None
+Took view (Some x) taken = taken ≡ Some (view x)
+
+-- the code points of a name, and of a quoted text
+unfoldable pub points_of : Name → List ℕ
+points_of n = (name n.text.now).0
+
+unfoldable pub quoted_points : texts.Quoted → List ℕ
+quoted_points q = (string_text q.quote q.text.now).0
+
+-- the first code point and the rest of a name, where it has one
+abbrev pub IsSplit : List ℕ → Option (ℕ × Name) → Type 0
+IsSplit points None = points ≡ []
+IsSplit points (Some x) = points ≡ x.0 ∷ points_of x.1
+
+abbrev pub numeral_of : Numeral → tokens.Numeral
+numeral_of n = record { sign = n.sign; integer = option_map (λ digits. decimal digits.now) n.integer }
+
+abbrev pub token_of : Token → tokens.Token
+token_of Space = tokens.Space
+token_of (Quoted text) = tokens.Quoted (quoted_points text)
+token_of BadString = tokens.BadString
+token_of (Hash name is_id) = tokens.Hash (points_of name) is_id
+token_of (Number n) = tokens.Number (numeral_of n)
+token_of (Dimension n unit) = tokens.Dimension (numeral_of n) (points_of unit)
+token_of Percentage = tokens.Percentage
+token_of Cdc = tokens.Cdc
+token_of (Function name) = tokens.Function (points_of name)
+token_of (Ident name) = tokens.Ident (points_of name)
+token_of (Match c) = tokens.Match c
+token_of (Delim c) = tokens.Delim c
+
+-- a list, what stands first in it, and the rest
+abbrev pub IsFirst : {A : Type 0} → List A → Option A → List A → Type 0
+IsFirst whole None rest = (whole ≡ []) × (rest ≡ [])
+IsFirst whole (Some x) rest = whole ≡ x ∷ rest
+
+-- a cause, and what reading gives: want of memory says nothing of it
+abbrev pub Fails : {Y : Type 0} → SelectorError → Result Y SelectorError → Type 0
+Fails Memory read = Unit {0}
+Fails cause read = read ≡ Err cause
+
+-- what a reader answered, seen by view, with the tokens that are left, is what reading gives
+abbrev pub Reads : {X Y : Type 0} → (X → Y) → Result X SelectorError → List tokens.Token → Read Y → Type 0
+Reads view (Ok x) rest read = read ≡ Ok (view x, rest)
+Reads view (Err cause) rest read = Fails cause read
+
+abbrev pub place_of : Place → rules.Place
+place_of Outside = rules.Outside
+place_of InFunction = rules.InFunction
+place_of InBrackets = rules.InBrackets
+
+-- whether a list inside a `:not` is read
+abbrev pub is_inside : Place → Bool
+is_inside InFunction = true
+is_inside _ = false
+
+-- what is kept, seen by view, or the cause for which it is refused late
+abbrev pub seen : {X Y : Type 0} → (X → Y) → Result X SelectorError → Result Y SelectorError
+seen view (Ok x) = Ok (view x)
+seen view (Err cause) = Err cause

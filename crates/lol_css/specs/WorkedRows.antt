@@ -1,0 +1,135 @@
+-- Texts and what they stand for, worked by hand.
+use Rattle.std.specs.Prelude.{ℕ, zero, suc, true, false, List, [], ◌∷◌, ◌++◌, pos, negsuc, codes}
+use Rattle.lol_css.specs.Trees.{LocalName, AnyName, NoNamespace, Id, Class, Exists, Compares, Nth, Part, Plain, Not, Compound, Nothing, With, Item, First, Then, Items, NoItems, And}
+use Rattle.lol_css.specs.declared.attribute.AttrSelectorOperator.TheVariants.{Equal, Includes, DashMatch, Prefix, Substring, Suffix}
+use Rattle.lol_css.specs.declared.attribute.ParsedCaseSensitivity.TheVariants.{ExplicitCaseSensitive, AsciiCaseInsensitive, CaseSensitive, AsciiCaseInsensitiveIfInHtmlElementInHtmlDocument}
+use Rattle.lol_css.specs.declared.selector.Combinator.TheVariants.{Child, Descendant}
+use Rattle.lol_css.specs.declared.error.SelectorError.{SelectorError}
+use Rattle.lol_css.specs.declared.error.SelectorError.TheVariants.{UnexpectedToken, UnexpectedEnd, MissingAttributeName, EmptySelector, DanglingCombinator, UnexpectedTokenInAttribute, UnsupportedPseudoClassOrElement, NamespacedSelector, InvalidClassName, UnsupportedCombinator}
+
+-- ---- small trees
+
+abbrev pub only : Part → Compound
+only part = With Nothing part
+
+abbrev pub type : List ℕ → Part
+type name = Plain (LocalName name)
+
+abbrev pub item : Part → Item
+item part = First (only part)
+
+abbrev pub one : Part → Items
+one part = And NoItems (item part)
+
+-- a text and what it stands for
+pub record Accepted : Type 0 where
+  pub text : List ℕ
+  pub selector : Items
+
+abbrev pub stands_for : List ℕ → Items → Accepted
+stands_for text selector = record { text = text; selector = selector }
+
+-- U+FFFD
+abbrev pub replacement : List ℕ
+replacement = 239 ∷ 191 ∷ 189 ∷ []
+
+abbrev pub accepted_rows : List Accepted
+accepted_rows =
+    stands_for (codes "a") (one (type (codes "a")))
+    ∷ stands_for (codes "*") (one (Plain AnyName))
+    ∷ stands_for (codes "*|a") (one (type (codes "a")))
+    ∷ stands_for (codes "*|*") (one (Plain AnyName))
+    ∷ stands_for (codes "|*") (And NoItems (First (With (only (Plain NoNamespace)) (Plain AnyName))))
+    ∷ stands_for (codes "a |b") (And NoItems (Then (item (type (codes "a"))) Descendant (With (only (Plain NoNamespace)) (type (codes "b")))))
+    ∷ stands_for (codes "a,b") (And (And NoItems (item (type (codes "a")))) (item (type (codes "b"))))
+    ∷ stands_for (codes "a b > c") (And NoItems (Then (Then (item (type (codes "a"))) Descendant (only (type (codes "b")))) Child (only (type (codes "c")))))
+    ∷ stands_for (codes "div.foo#bar:not([baz])") (And NoItems (First (With (With (With (only (type (codes "div"))) (Plain (Class (codes "foo")))) (Plain (Id (codes "bar")))) (Not (one (Plain (Exists (codes "baz"))))))))
+    ∷ stands_for (codes "[foo=\"bar") (one (Plain (Compares (codes "foo") Equal (codes "bar") CaseSensitive)))
+    ∷ stands_for (codes "[FOO~=\"bar\" i]") (one (Plain (Compares (codes "foo") Includes (codes "bar") AsciiCaseInsensitive)))
+    ∷ stands_for (codes "[foo|=\"bar\" s]") (one (Plain (Compares (codes "foo") DashMatch (codes "bar") ExplicitCaseSensitive)))
+    ∷ stands_for (codes "[foo^=bar]") (one (Plain (Compares (codes "foo") Prefix (codes "bar") CaseSensitive)))
+    ∷ stands_for (codes "[foo*='']") (one (Plain (Compares (codes "foo") Substring [] CaseSensitive)))
+    ∷ stands_for (codes "[foo$=bar]") (one (Plain (Compares (codes "foo") Suffix (codes "bar") CaseSensitive)))
+    ∷ stands_for (codes "[type=TEXT]") (one (Plain (Compares (codes "type") Equal (codes "TEXT") AsciiCaseInsensitiveIfInHtmlElementInHtmlDocument)))
+    ∷ stands_for (codes "[a|=b]") (one (Plain (Compares (codes "a") DashMatch (codes "b") CaseSensitive)))
+    ∷ stands_for (codes "[|a]") (one (Plain (Exists (codes "a"))))
+    ∷ stands_for (codes "[foo") (one (Plain (Exists (codes "foo"))))
+    ∷ stands_for (codes "#\\31 a") (one (Plain (Id (codes "1a"))))
+    ∷ stands_for (codes ":NTH-CHILD( -2N + 7 )") (one (Plain (Nth false (negsuc 1) (pos 7))))
+    ∷ stands_for (codes ":nth-child(-2147483648)") (one (Plain (Nth false (pos 0) (negsuc 2147483647))))
+    ∷ stands_for (codes ":nth-child(-2147483648n-2147483648)") (one (Plain (Nth false (negsuc 2147483647) (negsuc 2147483647))))
+    ∷ stands_for (codes ":nth-of-type(+n)") (one (Plain (Nth true (pos 1) (pos 0))))
+    ∷ stands_for (codes ":nth-child(-n-1)") (one (Plain (Nth false (negsuc 0) (negsuc 0))))
+    ∷ stands_for (codes ":nth-child(EVEN)") (one (Plain (Nth false (pos 2) (pos 0))))
+    ∷ stands_for (codes ":nth-child(odd)") (one (Plain (Nth false (pos 2) (pos 1))))
+    ∷ stands_for (codes ":nth-child(3n +1)") (one (Plain (Nth false (pos 3) (pos 1))))
+    ∷ stands_for (codes ":nth-child(+/**/n)") (one (Plain (Nth false (pos 1) (pos 0))))
+    ∷ stands_for (codes ":first-child:first-of-type") (And NoItems (First (With (only (Plain (Nth false (pos 0) (pos 1)))) (Plain (Nth true (pos 0) (pos 1))))))
+    ∷ stands_for (codes ":not(a") (one (Not (one (type (codes "a")))))
+    ∷ stands_for (codes ":/**/not(a)") (one (Not (one (type (codes "a")))))
+    ∷ stands_for (codes ":not(:not(a, b))") (one (Not (one (Not (And (And NoItems (item (type (codes "a")))) (item (type (codes "b"))))))))
+    ∷ stands_for (codes "a-->b") (And NoItems (Then (item (type (codes "a--"))) Child (only (type (codes "b")))))
+    ∷ stands_for (codes "a /**/ b") (And NoItems (Then (item (type (codes "a"))) Descendant (only (type (codes "b")))))
+    ∷ stands_for (codes "a/* b") (one (type (codes "a")))
+    ∷ stands_for (codes "./**/a") (one (Plain (Class (codes "a"))))
+    ∷ stands_for (codes "*/**/|/**/a") (one (type (codes "a")))
+    ∷ stands_for (92 ∷ []) (one (type replacement))
+    ∷ stands_for (codes "#\\0") (one (Plain (Id replacement)))
+    ∷ stands_for (codes "\\110000") (one (type replacement))
+    ∷ stands_for (codes "\\D800 a") (one (type (replacement ++ codes "a")))
+    ∷ stands_for (97 ∷ 0 ∷ 98 ∷ []) (one (type (codes "a" ++ replacement ++ codes "b")))
+    ∷ stands_for (codes "[a=\"\\") (one (Plain (Compares (codes "a") Equal [] CaseSensitive)))
+    ∷ stands_for (codes "[a='x\\\ny']") (one (Plain (Compares (codes "a") Equal (codes "xy") CaseSensitive)))
+    ∷ stands_for (codes "a\r\n\tb") (And NoItems (Then (item (type (codes "a"))) Descendant (only (type (codes "b")))))
+    ∷ []
+
+-- texts that are refused with this cause
+pub record Refused : Type 0 where
+  pub cause : SelectorError
+  pub texts : List (List ℕ)
+
+abbrev pub refused : SelectorError → List (List ℕ) → Refused
+refused cause texts = record { cause = cause; texts = texts }
+
+abbrev pub refused_rows : List Refused
+refused_rows =
+    refused EmptySelector ([] ∷ codes ":not()" ∷ codes "*|" ∷ codes "a," ∷ codes ",a" ∷ codes "#1a" ∷ codes ".1a" ∷ codes "-->" ∷ [])
+    ∷ refused DanglingCombinator (codes "div >" ∷ codes "div @" ∷ codes "a > *|" ∷ codes "a >> b" ∷ codes "a #1" ∷ [])
+    ∷ refused UnexpectedEnd (codes "div." ∷ codes ":nth-child(3n-)" ∷ codes ":nth-child(+)" ∷ codes "[a=]" ∷ codes "a:" ∷ codes "a + ." ∷ [])
+    ∷ refused UnexpectedToken (codes "div@" ∷ codes ":nth-child(+ n)" ∷ codes ":nth-child(n of a)" ∷ codes ":nth-child(2147483648)" ∷ codes ":nth-child(2147483648n-" ∷ codes ":nth-child(n-2147483649)" ∷ codes ":nth-child(n+2147483648)" ∷ codes ":nth-child(n+-1)" ∷ codes ":nth-child(2e1n)" ∷ codes ":nth-child(1.0)" ∷ codes ":nth-child(--n)" ∷ codes "*|.a" ∷ codes "*|a|b" ∷ codes "*|*|a" ∷ codes "*| " ∷ codes "[a=b x]" ∷ codes "[a=b i s]" ∷ codes "a)" ∷ codes "a#1" ∷ codes "a.1b" ∷ codes "a/**/b" ∷ codes ":not(a]" ∷ [])
+    ∷ refused MissingAttributeName (codes "div[=\"foo\"]" ∷ [])
+    ∷ refused UnexpectedTokenInAttribute (codes "div[foo~\"bar\"]" ∷ codes "[a=1]" ∷ codes "[a~/**/=b]" ∷ codes "[a=\"x\ny\"]" ∷ [])
+    ∷ refused NamespacedSelector (codes "svg|img" ∷ codes "[*|Foo]" ∷ codes "[*|Foo=bar]" ∷ codes "[a|b]" ∷ codes ":not(a [*|b])" ∷ [])
+    ∷ refused InvalidClassName (codes ".foo()" ∷ [])
+    ∷ refused (UnsupportedCombinator 43) (codes "div + span" ∷ [])
+    ∷ refused (UnsupportedCombinator 126) (codes "div ~ span" ∷ codes "div + span ~ p" ∷ codes "a + b c ~ d" ∷ [])
+    ∷ refused UnsupportedPseudoClassOrElement (codes "a: b" ∷ codes ":not/**/(a)" ∷ codes ":not(foo bar)" ∷ codes ":not(foo > bar)" ∷ codes ":not(* > .x)" ∷ codes ":not([*|b] a)" ∷ codes ":not(:nth-last-child(even))" ∷ [])
+    ∷ []
+
+-- pseudo-classes and pseudo-elements that are refused, each alone
+abbrev pub refused_pseudo : List (List ℕ)
+refused_pseudo =
+    codes ":active" ∷ codes ":any-link" ∷ codes ":blank" ∷ codes ":checked" ∷ codes ":current" ∷ codes ":default" ∷ codes ":defined" ∷ codes ":dir(rtl)"
+    ∷ codes ":disabled" ∷ codes ":drop" ∷ codes ":empty" ∷ codes ":enabled" ∷ codes ":first" ∷ codes ":fullscreen" ∷ codes ":future" ∷ codes ":focus"
+    ∷ codes ":focus-visible" ∷ codes ":focus-within" ∷ codes ":has(div)" ∷ codes ":host" ∷ codes ":host(h1)" ∷ codes ":host-context(h1)" ∷ codes ":hover"
+    ∷ codes ":indeterminate" ∷ codes ":in-range" ∷ codes ":invalid" ∷ codes ":is(header)" ∷ codes ":lang(en)" ∷ codes ":last-child" ∷ codes ":last-of-type"
+    ∷ codes ":left" ∷ codes ":link" ∷ codes ":local-link" ∷ codes ":nth-col(1)" ∷ codes ":nth-last-child(1)" ∷ codes ":nth-last-col(1)" ∷ codes ":nth-last-of-type(1)"
+    ∷ codes ":only-child" ∷ codes ":only-of-type" ∷ codes ":optional" ∷ codes ":out-of-range" ∷ codes ":past" ∷ codes ":placeholder-shown" ∷ codes ":read-only"
+    ∷ codes ":read-write" ∷ codes ":required" ∷ codes ":right" ∷ codes ":root" ∷ codes ":scope" ∷ codes ":target" ∷ codes ":target-within" ∷ codes ":user-invalid"
+    ∷ codes ":valid" ∷ codes ":visited" ∷ codes ":where(p)" ∷ codes "::after" ∷ codes "::backdrop" ∷ codes "::before" ∷ codes "::cue" ∷ codes "::first-letter"
+    ∷ codes "::first-line" ∷ codes "::grammar-error" ∷ codes "::marker" ∷ codes "::placeholder" ∷ codes "::selection" ∷ codes "::slotted()" ∷ codes "::spelling-error" ∷ []
+
+-- a text so often
+abbrev pub times : ℕ → List ℕ → List ℕ
+times zero text = []
+times (suc n) text = text ++ times n text
+
+-- a name inside so many `:not`
+abbrev pub negated : ℕ → Part → Part
+negated zero part = part
+negated (suc n) part = Not (one (negated n part))
+
+-- a name so often, each inside the one before it
+abbrev pub inside : ℕ → Item → Item
+inside zero front = front
+inside (suc n) front = inside n (Then front Descendant (only (type (codes "a"))))

@@ -1,0 +1,53 @@
+//! How an attribute's value is compared.
+
+ghost use Rattle.std.specs.Prelude.{◌↔◌, IsTrue};
+ghost use Rattle.lol_css.specs.SameText.{SameText};
+
+/// How a value stands to the operand (Selectors 4, section 6.1 and 6.2), as in the crate `selectors`.
+#[derive(Debug, Clone, Copy, PartialEq, Eq)]
+pub enum AttrSelectorOperator {
+    /// `=`
+    Equal,
+    /// `~=`
+    Includes,
+    /// `|=`
+    DashMatch,
+    /// `^=`
+    Prefix,
+    /// `*=`
+    Substring,
+    /// `$=`
+    Suffix,
+}
+
+/// How a selector says that letters' case counts (Selectors 4, section 6.3), as in the crate `selectors`.
+#[derive(Debug, Clone, Copy, PartialEq, Eq)]
+pub enum ParsedCaseSensitivity {
+    /// The flag `s`.
+    ExplicitCaseSensitive,
+    /// The flag `i`.
+    AsciiCaseInsensitive,
+    /// No flag.
+    CaseSensitive,
+    /// No flag, at one of the names whose values compare without case on HTML elements.
+    AsciiCaseInsensitiveIfInHtmlElementInHtmlDocument,
+}
+
+/// Whether letters' case counts where an attribute is compared, as in the crate `selectors`.
+#[derive(Debug, Clone, Copy, PartialEq, Eq)]
+pub enum CaseSensitivity {
+    CaseSensitive,
+    AsciiCaseInsensitive,
+}
+
+impl CaseSensitivity {
+    /// Whether two texts are equal, for `AsciiCaseInsensitive` up to the case of ASCII letters.
+    pub fn eq(self, a: &[u8], b: &[u8]) -> bool
+        ensures { IsTrue result ↔ SameText self a.now b.now }
+    {
+        match self {
+            CaseSensitivity::CaseSensitive => a == b,
+            CaseSensitivity::AsciiCaseInsensitive => a.eq_ignore_ascii_case(b),
+        }
+    }
+}

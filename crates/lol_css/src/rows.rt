@@ -1,0 +1,31 @@
+//! Worked rows: what the definitions give for texts of known meaning. Each function is empty: its contract is the rows.
+
+ghost use Rattle.std.specs.Prelude.{◌≡◌, ◌++◌, Ok, Err, map, codes};
+ghost use Rattle.lol_css.specs.Accepting.{accept};
+ghost use Rattle.lol_css.specs.Trees.{And, NoItems};
+ghost use Rattle.lol_css.specs.WorkedRows.{accepted_rows, refused_rows, refused_pseudo, times, negated, inside, one, item, type};
+ghost use Rattle.lol_css.specs.declared.error.SelectorError.TheVariants.{UnsupportedPseudoClassOrElement, UnsupportedSyntax};
+
+/// Texts and the selectors that they stand for.
+pub fn accepted()
+    ensures { map (λ row. accept row.text) accepted_rows ≡ map (λ row. Ok row.selector) accepted_rows }
+{}
+
+/// Causes, and texts that are refused with each.
+pub fn refused()
+    ensures { map (λ row. map accept row.texts) refused_rows ≡ map (λ row. map (λ text. Err row.cause) row.texts) refused_rows }
+{}
+
+/// Pseudo-classes and pseudo-elements that the machine doesn't know.
+pub fn refused_pseudo_classes_and_elements()
+    ensures { map accept refused_pseudo ≡ map (λ text. Err UnsupportedPseudoClassOrElement) refused_pseudo }
+{}
+
+/// The bounds: 128 nested `:not`, and 1,024 compounds an item.
+pub fn bounds()
+    ensures negations { accept (times 128 (codes ":not(") ++ codes "a") ≡ Ok (one (negated 128 (type (codes "a")))) }
+    ensures negations_past { accept (times 129 (codes ":not(") ++ codes "a") ≡ Err UnsupportedSyntax }
+    ensures compounds { accept (times 1024 (codes "a ")) ≡ Ok (And NoItems (inside 1023 (item (type (codes "a"))))) }
+    ensures compounds_past { accept (times 1025 (codes "a ")) ≡ Err UnsupportedSyntax }
+    ensures step_past { accept (times 1024 (codes "a ") ++ codes " >") ≡ Err UnsupportedSyntax }
+{}

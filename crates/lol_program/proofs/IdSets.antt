@@ -1,0 +1,91 @@
+-- Sets of ids by their lists.
+use Rattle.std.proofs.Common.{◌≡◌, ℕ, ◌<◌, ◌≤◌, Bool, true, false, ◌||◌, List, [], ◌∷◌, ◌⊎◌, inl, inr, ⊎_elim, refl, sym, ap, ◌∙◌, arith, true≢false, subst}
+use Rattle.std.specs.Prelude.{Contains}
+use Rattle.std.specs.List.{list_any}
+use Rattle.std.specs.Ordering.{nat_cmp, eq_by_cmp}
+use Rattle.std.specs.Cmp.{unsigned_tied, unsigned_Decides}
+use Rattle.std.proofs.lemmas.Cmp.{nat_cmp_total, eq_by_cmp_equiv}
+use Rattle.std.proofs.lemmas.Bool.{cases_lt}
+use Rattle.std.proofs.lemmas.Map.Views.{list_any-from_Contains}
+use Rattle.lol_memory.specs.Ids.{Ids, has, no_ids, with_id, union, ascending, HasRoom, HasRoomFor}
+use Rattle.lol_memory.specs.SetLaws.{same_set, has-no_ids, has-with_id, has-union, has-keys}
+use Rattle.lol_program.specs.Growth.{IsWith}
+use Rattle.lol_program.proofs.Members.{Among, contains_from_among, among_from_contains}
+
+is_same : (q k : ℕ) → eq_by_cmp nat_cmp q k ≡ true → q ≡ k
+is_same q k h = (unsigned_Decides q k).0 (sym (unsigned_tied q k) ∙ h)
+
+itself : (q : ℕ) → eq_by_cmp nat_cmp q q ≡ true
+itself q = unsigned_tied q q ∙ (unsigned_Decides q q).1 refl
+
+either : (a b : Bool) → (a || b) ≡ true → (a ≡ true) ⊎ (b ≡ true)
+either true b h = inl refl
+either false b h = inr h
+
+left : (a b : Bool) → a ≡ true → (a || b) ≡ true
+left a b h = ap (λ (c : Bool). c || b) h
+
+right : (a b : Bool) → b ≡ true → (a || b) ≡ true
+right true b h = refl
+right false b h = h
+
+found : (q : ℕ) (ks : List ℕ) → list_any (eq_by_cmp nat_cmp q) ks ≡ true → Among ks q
+found q [] h = true≢false (sym h)
+found q (k ∷ ks) h = ⊎_elim (λ (e : eq_by_cmp nat_cmp q k ≡ true). inl (sym (is_same q k e))) (λ (t : list_any (eq_by_cmp nat_cmp q) ks ≡ true). inr (found q ks t)) (either _ _ h)
+
+-- what the set has is in its list
+pub listed : (s : Ids) (q : ℕ) → has s q ≡ true → Contains (ascending s) q
+listed s q h = contains_from_among (ascending s) q (found q (ascending s) (sym (has-keys s q) ∙ h))
+
+pub held : (s : Ids) (q : ℕ) → Contains (ascending s) q → has s q ≡ true
+held s q h = has-keys s q ∙ list_any-from_Contains (eq_by_cmp_equiv nat_cmp_total) q (ascending s) h
+
+none_listed : (ks : List ℕ) → ((q : ℕ) → list_any (eq_by_cmp nat_cmp q) ks ≡ false) → ks ≡ []
+none_listed [] h = refl
+none_listed (k ∷ ks) h = absurd (true≢false (sym (left _ _ (itself k)) ∙ h k))
+
+-- the empty set's list
+pub ascending-no_ids : ascending no_ids ≡ []
+ascending-no_ids = none_listed (ascending no_ids) (λ q. sym (has-keys no_ids q) ∙ has-no_ids q)
+
+-- one id more
+pub with_id-IsWith : (s : Ids) (id : ℕ) → IsWith id (ascending s) (ascending (with_id s id))
+with_id-IsWith s id x = (
+  λ h. ⊎_elim (λ (e : eq_by_cmp nat_cmp x id ≡ true). inr (sym (is_same x id e))) (λ (t : has s x ≡ true). inl (listed s x t))
+      (either _ _ (sym (has-with_id s id x) ∙ held (with_id s id) x h)),
+  λ h. listed (with_id s id) x (has-with_id s id x ∙ ⊎_elim (λ (t : Contains (ascending s) x). right _ _ (held s x t)) (λ (e : id ≡ x). left _ _ (subst (λ (y : ℕ). eq_by_cmp nat_cmp x y ≡ true) (sym e) (itself x))) h),
+)
+
+or_swap : (a b : Bool) → (a || b) ≡ (b || a)
+or_swap true true = refl
+or_swap true false = refl
+or_swap false true = refl
+or_swap false false = refl
+
+-- the set of an id alone, with the ids of another
+pub union-alone : (s : Ids) (id : ℕ) → union (with_id no_ids id) s ≡ with_id s id
+union-alone s id =
+    same_set _ _ (λ q. has-union (with_id no_ids id) s q ∙ ap (λ (b : Bool). b || has s q) (has-with_id no_ids id q ∙ ap (λ (b : Bool). eq_by_cmp nat_cmp q id || b) (has-no_ids q) ∙ or_swap _ false) ∙ sym (has-with_id s id q))
+
+-- some id of a list is at least this one, or all are below it
+above : (ks : List ℕ) (id : ℕ) → ((p : ℕ) × (Among ks p × (id ≤ p))) ⊎ ((p : ℕ) → Among ks p → p < id)
+above [] id = inr (λ p h. absurd h)
+above (k ∷ ks) id =
+    ⊎_elim
+    (λ (less : k < id). ⊎_elim
+    (λ (h : (p : ℕ) × (Among ks p × (id ≤ p))). inl (h.0, (inr h.1.0, h.1.1)))
+    (λ (h : (p : ℕ) → Among ks p → p < id). inr (λ p a. ⊎_elim (λ (e : k ≡ p). subst (λ (x : ℕ). x < id) e less) (λ (t : Among ks p). h p t) a))
+    (above ks id))
+    (λ (more : id ≤ k). inl (k, (inl refl, more)))
+    (cases_lt k id)
+
+-- The id has room in the set, or the set's ids have room beside the id.
+pub room_either : (s : Ids) (id : ℕ) → HasRoom s id ⊎ HasRoomFor (with_id no_ids id) s
+room_either s id =
+    ⊎_elim
+    (λ (h : (p : ℕ) × (Among (ascending s) p × (id ≤ p))). inl (inr (h.0, held s h.0 (contains_from_among (ascending s) h.0 h.1.0), h.1.1)))
+    (λ (h : (p : ℕ) → Among (ascending s) p → p < id). inr (λ q has_q. inr (id, has-with_id no_ids id id ∙ left _ _ (itself id), less q (h q (among_from_contains (ascending s) q (listed s q has_q))))))
+    (above (ascending s) id)
+  where
+    less : (q : ℕ) → q < id → q ≤ id
+    less q h = omega arith

@@ -1,0 +1,87 @@
+-- Lists as sets that take in others.
+use Rattle.std.proofs.Common.{◌↔◌, ◌⊎◌, inl, inr, ⊎_elim, List, [], ◌++◌, sym, subst}
+use Rattle.std.specs.Prelude.{Contains, flat_map}
+use Rattle.std.proofs.lemmas.Grind.{flat_map-append}
+use Rattle.lol_program.specs.Sets.{Joins, SameMembers, IsBetween}
+use Rattle.lol_program.proofs.Members.{Among, among_from_contains, contains_from_among, among_front, among_back, among_either}
+
+module _ {T : Type 0} where
+  pub none_in : (x : T) → Contains [] x → ⊥
+  none_in x h = among_from_contains [] x h
+
+  pub in_front : (xs ys : List T) (x : T) → Contains xs x → Contains (xs ++ ys) x
+  in_front xs ys x h = contains_from_among (xs ++ ys) x (among_front xs ys x (among_from_contains xs x h))
+
+  pub in_back : (xs ys : List T) (x : T) → Contains ys x → Contains (xs ++ ys) x
+  in_back xs ys x h = contains_from_among (xs ++ ys) x (among_back xs ys x (among_from_contains ys x h))
+
+  pub in_either : (xs ys : List T) (x : T) → Contains (xs ++ ys) x → Contains xs x ⊎ Contains ys x
+  in_either xs ys x h = ⊎_elim (λ (a : Among xs x). inl (contains_from_among xs x a)) (λ (a : Among ys x). inr (contains_from_among ys x a)) (among_either xs ys x (among_from_contains (xs ++ ys) x h))
+
+  -- a set takes in nothing
+  pub Joins-none : (old new : List T) → SameMembers old new → Joins old new []
+  Joins-none old new s x = (λ h. inl ((s x).0 h), λ h. ⊎_elim (λ (a : Contains old x). (s x).1 a) (λ (n : Contains [] x). absurd (none_in x n)) h)
+
+  pub SameMembers-from : (old new : List T) → Joins old new [] → SameMembers old new
+  SameMembers-from old new j x = (λ h. ⊎_elim (λ (a : Contains old x). a) (λ (n : Contains [] x). absurd (none_in x n)) ((j x).0 h), λ h. (j x).1 (inl h))
+
+  pub SameMembers-both : (a b c : List T) → SameMembers a b → SameMembers b c → SameMembers a c
+  SameMembers-both a b c s t x = (λ h. (s x).0 ((t x).0 h), λ h. (t x).1 ((s x).1 h))
+
+  -- one list after another
+  pub Joins-both : (old mid new xs ys : List T) → Joins old mid xs → Joins mid new ys → Joins old new (xs ++ ys)
+  Joins-both old mid new xs ys j k x = (
+    λ h. ⊎_elim
+        (λ (m : Contains mid x). ⊎_elim (λ (a : Contains old x). inl a) (λ (a : Contains xs x). inr (in_front xs ys x a)) ((j x).0 m))
+        (λ (a : Contains ys x). inr (in_back xs ys x a)) ((k x).0 h),
+    λ h. ⊎_elim
+        (λ (a : Contains old x). (k x).1 (inl ((j x).1 (inl a))))
+        (λ (b : Contains (xs ++ ys) x). ⊎_elim (λ (a : Contains xs x). (k x).1 (inl ((j x).1 (inr a)))) (λ (a : Contains ys x). (k x).1 (inr a)) (in_either xs ys x b)) h,
+  )
+
+  pub Joins-same : (old new xs ys : List T) → ((x : T) → Contains xs x ↔ Contains ys x) → Joins old new xs → Joins old new ys
+  Joins-same old new xs ys s j x = (
+    λ h. ⊎_elim (λ (a : Contains old x). inl a) (λ (a : Contains xs x). inr ((s x).0 a)) ((j x).0 h),
+    λ h. (j x).1 (⊎_elim (λ (a : Contains old x). inl a) (λ (a : Contains ys x). inr ((s x).1 a)) h),
+  )
+
+  pub Joins-after_same : (old mid new xs : List T) → SameMembers old mid → Joins mid new xs → Joins old new xs
+  Joins-after_same old mid new xs s j x = (
+    λ h. ⊎_elim (λ (a : Contains mid x). inl ((s x).0 a)) (λ (a : Contains xs x). inr a) ((j x).0 h),
+    λ h. (j x).1 (⊎_elim (λ (a : Contains old x). inl ((s x).1 a)) (λ (a : Contains xs x). inr a) h),
+  )
+
+  -- a list of which all is taken in already, or some
+  pub Joins-again : (old mid new xs : List T) → Joins old mid xs → Joins mid new xs → Joins old new xs
+  Joins-again old mid new xs j k =
+      Joins-same old new (xs ++ xs) xs (λ x. (λ h. ⊎_elim (λ (a : Contains xs x). a) (λ (a : Contains xs x). a) (in_either xs xs x h), λ h. in_front xs xs x h)) (Joins-both old mid new xs xs j k)
+
+  pub IsBetween-joined : (old new xs : List T) → Joins old new xs → IsBetween old new xs
+  IsBetween-joined old new xs j = record { kept = λ x h. (j x).1 (inl h); only = λ x h. (j x).0 h }
+
+  pub IsBetween-more : (old new xs ys : List T) → ((x : T) → Contains xs x → Contains ys x) → IsBetween old new xs → IsBetween old new ys
+  IsBetween-more old new xs ys f b = record { kept = b.kept; only = λ x h. ⊎_elim (λ (a : Contains old x). inl a) (λ (a : Contains xs x). inr (f x a)) (b.only x h) }
+
+  pub IsBetween-both : (old mid new xs : List T) → IsBetween old mid xs → IsBetween mid new xs → IsBetween old new xs
+  IsBetween-both old mid new xs b c = record {
+    kept = λ x h. c.kept x (b.kept x h);
+    only = λ x h. ⊎_elim (λ (m : Contains mid x). b.only x m) (λ (a : Contains xs x). inr a) (c.only x h);
+  }
+
+  pub IsBetween-none : (old : List T) (xs : List T) → IsBetween old old xs
+  IsBetween-none old xs = record { kept = λ x h. h; only = λ x h. inl h }
+
+-- what a part of a list gives, the list gives
+pub flat_map-front : {A B : Type 0} (f : A → List B) (xs ys : List A) (b : B) → Contains (flat_map f xs) b → Contains (flat_map f (xs ++ ys)) b
+flat_map-front f xs ys b h = subst (λ (l : List _). Contains l b) (sym (flat_map-append f xs ys)) (in_front (flat_map f xs) (flat_map f ys) b h)
+
+pub flat_map-back : {A B : Type 0} (f : A → List B) (xs ys : List A) (b : B) → Contains (flat_map f ys) b → Contains (flat_map f (xs ++ ys)) b
+flat_map-back f xs ys b h = subst (λ (l : List _). Contains l b) (sym (flat_map-append f xs ys)) (in_back (flat_map f xs) (flat_map f ys) b h)
+
+-- two lists in either order
+pub Joins-flipped : {T : Type 0} (old mid new xs ys : List T) → Joins old mid xs → Joins mid new ys → Joins old new (ys ++ xs)
+Joins-flipped {T} old mid new xs ys j k =
+    Joins-same old new (xs ++ ys) (ys ++ xs) (λ x. (
+      λ h. ⊎_elim (λ (a : Contains xs x). in_back ys xs x a) (λ (a : Contains ys x). in_front ys xs x a) (in_either xs ys x h),
+      λ h. ⊎_elim (λ (a : Contains ys x). in_back xs ys x a) (λ (a : Contains xs x). in_front xs ys x a) (in_either ys xs x h),
+    )) (Joins-both old mid new xs ys j k)

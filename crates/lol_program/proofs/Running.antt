@@ -1,0 +1,109 @@
+-- Which nodes can be run so far.
+use Rattle.std.proofs.Common.{◌≡◌, inl, inr, ℕ, ◌+◌, ◌<◌, zero, suc, Bool, true, false, ◌&&◌, List, [], ◌∷◌, ◌++◌, map, take, get_or, length, arith, refl, sym, ap, subst, ◌∙◌}
+use Rattle.std.specs.List.{list_all}
+use Rattle.std.proofs.lemmas.List.{take_more, map-append}
+use Rattle.lol_css.specs.declared.selector.Combinator.TheVariants.{Child, Descendant}
+use Rattle.lol_program.specs.Paths.{Compound, Path, Then}
+use Rattle.lol_program.specs.Forest.{Forest, none, more, Node}
+use Rattle.lol_program.specs.Runs.{is_by_name, compound_runs, path_runs}
+use Rattle.lol_program.specs.ForestRuns.{forest_runs}
+use Rattle.lol_program.specs.Tests.{Signed, NameTest}
+use Rattle.lol_program.specs.Predicates.{name_test, signed_name_test, signed_attribute_test, tests_of}
+use Rattle.lol_program.specs.declared.predicate.Predicate.{Predicate}
+use Rattle.lol_program.specs.declared.predicate.Expr.{Expr}
+use Rattle.lol_program.specs.declared.condition.OnAttributesExpr.{OnAttributesExpr}
+use Rattle.lol_program.specs.declared.ast_node.AstNode.{AstNode}
+use Rattle.lol_program.specs.Views.{linked, node_of, forest_of}
+use Rattle.lol_program.proofs.Having.{HasNode, HasPair}
+
+no : {A : Type 0} → false ≡ true → A
+no h = cc
+
+both : (a b : Bool) → (a && b) ≡ true → (a ≡ true) × (b ≡ true)
+both true true h = (refl, refl)
+both true false h = no h
+both false b h = no h
+
+join : (a b : Bool) → a ≡ true → b ≡ true → (a && b) ≡ true
+join a b p q = λ i. p i && q i
+
+-- 1. Nodes one after another
+
+runs_front : (front back : List Node) → forest_runs (linked (front ++ back)) ≡ (forest_runs (linked front) && forest_runs (linked back))
+runs_front [] back = refl
+runs_front (n ∷ front) back = ap (λ (b : Bool). (compound_runs n.compound && (forest_runs n.children && forest_runs n.descendants)) && b) (runs_front front back) ∙ sym (regroup (compound_runs n.compound && (forest_runs n.children && forest_runs n.descendants)) (forest_runs (linked front)) (forest_runs (linked back)))
+  where
+    regroup : (a b c : Bool) → ((a && b) && c) ≡ (a && (b && c))
+    regroup true b c = refl
+    regroup false b c = refl
+
+pub list_all-map : {A B : Type 0} (p : B → Bool) (f : A → B) (xs : List A) → list_all p (map f xs) ≡ list_all (λ x. p (f x)) xs
+list_all-map p f [] = refl
+list_all-map p f (x ∷ xs) = ap (λ (b : Bool). p (f x) && b) (list_all-map p f xs)
+
+-- a compound without tests of attributes
+pub compound_runs-none : (p : Predicate) → p.on_attr_exprs.items ≡ [] → list_all (λ expr. is_by_name (name_test expr.simple_expr)) p.on_tag_name_exprs.items ≡ compound_runs (tests_of p)
+compound_runs-none p empty =
+    sym (ap (λ (attributes : List (Expr OnAttributesExpr)). compound_runs (record { name_tests = map signed_name_test p.on_tag_name_exprs.items; attribute_tests = map signed_attribute_test attributes })) empty
+    ∙ list_all-map (λ (s : Signed NameTest). is_by_name s.test) signed_name_test p.on_tag_name_exprs.items)
+
+-- one node more, of a list of which all so far run
+pub runs_more : (nodes : List AstNode) (i : ℕ) (node : AstNode) → i < length nodes → node ≡ get_or nodes i node → forest_runs (forest_of (take i nodes)) ≡ true → forest_runs (linked (node_of node ∷ [])) ≡ true
+    → forest_runs (forest_of (take (i + 1) nodes)) ≡ true
+runs_more nodes i node within at before here =
+    ap (λ (l : List AstNode). forest_runs (forest_of l)) (take_more nodes i node within ∙ ap (λ (n : AstNode). take i nodes ++ n ∷ []) (sym at))
+    ∙ ap (λ (l : List Node). forest_runs (linked l)) (map-append node_of (take i nodes) (node ∷ [])) ∙ runs_front (map node_of (take i nodes)) (node_of node ∷ []) ∙ join _ _ before here
+
+false_right : (a b : Bool) → b ≡ false → (a && b) ≡ false
+false_right true b h = h
+false_right false b h = refl
+
+false_left : (a b : Bool) → a ≡ false → (a && b) ≡ false
+false_left a b h = ap (λ (c : Bool). c && b) h
+
+-- a list with a node that doesn't run
+pub runs_not : (nodes : List AstNode) (i : ℕ) (node : AstNode) → i < length nodes → node ≡ get_or nodes i node → forest_runs (linked (node_of node ∷ [])) ≡ false → forest_runs (forest_of nodes) ≡ false
+runs_not [] i node within at h = absurd (omega (arith, within))
+runs_not (n ∷ nodes) zero node within at h =
+    runs_front (node_of n ∷ []) (map node_of nodes) ∙ false_left _ _ (ap (λ (m : AstNode). forest_runs (linked (node_of m ∷ []))) (sym at) ∙ h)
+runs_not (n ∷ nodes) (suc i) node within at h =
+    runs_front (node_of n ∷ []) (map node_of nodes) ∙ false_right _ _ (runs_not nodes i node (omega (arith, within)) at h)
+
+-- 2. Paths and forests
+
+pub runs_all : (make : Compound → Path) → ((c : Compound) → compound_runs c ≡ true → path_runs (make c) ≡ true) → (f : Forest) → forest_runs f ≡ true → (path : Path) → HasNode make f path → path_runs path ≡ true
+runs_all make law none h path n = absurd n
+runs_all make law (more c ids children descendants rest) h path (inl (inl is)) =
+    let here = both (compound_runs c) _ (both _ (forest_runs rest) h).0 in
+    subst (λ (p : Path). path_runs p ≡ true) is (law c here.0)
+runs_all make law (more c ids children descendants rest) h path (inl (inr (inl n))) =
+    let here = both (compound_runs c) _ (both _ (forest_runs rest) h).0 in
+    let under = both (forest_runs children) (forest_runs descendants) here.1 in
+    runs_all (Then (make c) Child) (λ d e. join (path_runs (make c)) (compound_runs d) (law c here.0) e) children under.0 path n
+runs_all make law (more c ids children descendants rest) h path (inl (inr (inr n))) =
+    let here = both (compound_runs c) _ (both _ (forest_runs rest) h).0 in
+    let under = both (forest_runs children) (forest_runs descendants) here.1 in
+    runs_all (Then (make c) Descendant) (λ d e. join (path_runs (make c)) (compound_runs d) (law c here.0) e) descendants under.1 path n
+runs_all make law (more c ids children descendants rest) h path (inr n) = runs_all make law rest (both _ (forest_runs rest) h).1 path n
+
+pub all_run : (make : Compound → Path) → ((c : Compound) → path_runs (make c) ≡ true → compound_runs c ≡ true) → (f : Forest) → ((path : Path) → HasNode make f path → path_runs path ≡ true) → forest_runs f ≡ true
+all_run make law none h = refl
+all_run make law (more c ids children descendants rest) h =
+    join _ (forest_runs rest)
+    (join (compound_runs c) _ (law c (h (make c) (inl (inl refl))))
+    (join (forest_runs children) (forest_runs descendants)
+    (all_run (Then (make c) Child) (λ d e. (both (path_runs (make c)) (compound_runs d) e).1) children (λ path n. h path (inl (inr (inl n)))))
+    (all_run (Then (make c) Descendant) (λ d e. (both (path_runs (make c)) (compound_runs d) e).1) descendants (λ path n. h path (inl (inr (inr n)))))))
+    (all_run make law rest (λ path n. h path (inr n)))
+
+-- a pair's path is that of a node
+pub pair_at_node : (make : Compound → Path) (f : Forest) (path : Path) (id : ℕ) → HasPair make f path id → HasNode make f path
+pair_at_node make none path id h = absurd h
+pair_at_node make (more c ids children descendants rest) path id (inl (inl own)) = inl (inl own.0)
+pair_at_node make (more c ids children descendants rest) path id (inl (inr (inl h))) = inl (inr (inl (pair_at_node (Then (make c) Child) children path id h)))
+pair_at_node make (more c ids children descendants rest) path id (inl (inr (inr h))) = inl (inr (inr (pair_at_node (Then (make c) Descendant) descendants path id h)))
+pair_at_node make (more c ids children descendants rest) path id (inr h) = inr (pair_at_node make rest path id h)
+
+pub empty_from : {A : Type 0} (xs : List A) → length xs ≡ 0 → xs ≡ []
+empty_from [] h = refl
+empty_from (x ∷ xs) h = absurd (omega (arith, h))

@@ -1,0 +1,137 @@
+-- A path that stands.
+use Rattle.std.proofs.Common.{ℕ, zero, suc, ◌≡◌, inl, inr, arith, ◌∷◌, map, get_or, List, [], Option, None, Some, refl, ap, sym, subst, ◌∙◌}
+use Rattle.std.proofs.lemmas.List.{get_or-map}
+use Rattle.lol_memory.specs.Ids.{Ids, ascending}
+use Rattle.lol_css.specs.declared.selector.Combinator.{Combinator}
+use Rattle.lol_css.specs.declared.selector.Combinator.TheVariants.{Child, Descendant}
+use Rattle.lol_program.specs.Paths.{Compound}
+use Rattle.lol_program.specs.Forest.{Node, Forest, none, more}
+use Rattle.lol_program.specs.Growth.{fresh, AtRoot, Takes, Under, under, Adds, AddsFirst, AtTop, Stands, IsWith}
+use Rattle.lol_program.specs.Places.{IsPlace, HasPlace, IsNowhere}
+use Rattle.lol_program.specs.Gifts.{Gives}
+use Rattle.lol_program.specs.Predicates.{tests_of}
+use Rattle.lol_program.specs.Views.{node_of, forest_of, linked, steps_of}
+use Rattle.lol_program.specs.declared.predicate.Predicate.{Predicate}
+use Rattle.lol_program.specs.declared.ast_node.AstNode.{AstNode}
+use Rattle.lol_program.specs.declared.ast_node.AstNode.TheViews.{out-AstNode}
+use Rattle.lol_program.proofs.Nodes.{shape, node_out}
+use Rattle.lol_program.proofs.IdSets.{with_id-IsWith}
+use Rattle.lol_program.proofs.Placed.{place_within}
+
+-- a node's set that takes an id, or none
+pub gives-Takes : (id : Option ℕ) (c : Compound) (old new : Ids) (children descendants : Forest) → Gives id old new
+    → Takes id (record { compound = c; ids = ascending old; children = children; descendants = descendants }) (record { compound = c; ids = ascending new; children = children; descendants = descendants })
+gives-Takes None c old new children descendants g = λ i. record { compound = c; ids = ascending (g i); children = children; descendants = descendants }
+gives-Takes (Some id) c old new children descendants g = (ascending new, subst (λ (s : Ids). IsWith id (ascending old) (ascending s)) (sym g) (with_id-IsWith old id), refl)
+
+module _ (c : Compound) (P : Node → Type 0) where
+  at_top_nowhere : (nodes : List Node) → IsNowhere c nodes → AtTop c P (linked nodes) → ⊥
+  at_top_nowhere [] nowhere t = t
+  at_top_nowhere (n ∷ nodes) nowhere (inl h) = nowhere 0 n (omega arith) h.0
+  at_top_nowhere (n ∷ nodes) nowhere (inr h) = at_top_nowhere nodes (λ k d l. nowhere (suc k) d (omega (arith, l))) h.1
+
+  at_top_place : (nodes : List Node) (i : ℕ) (d : Node) → IsPlace c nodes i → AtTop c P (linked nodes) → P (get_or nodes i d)
+  at_top_place [] i d p t = absurd t
+  at_top_place (n ∷ nodes) zero d p (inl h) = h.1
+  at_top_place (n ∷ nodes) zero d p (inr h) = absurd (h.0 (p.here d))
+  at_top_place (n ∷ nodes) (suc i) d p (inl h) = absurd (p.before 0 d (omega arith) h.0)
+  at_top_place (n ∷ nodes) (suc i) d p (inr h) = at_top_place nodes i d (record { within = omega (arith, p.within); here = λ e. p.here e; before = λ k e l. p.before (suc k) e (omega (arith, l)) }) h.1
+
+  -- at the node that was found
+  pub stands_at : (old mid : List AstNode) (i : ℕ) (n : AstNode) → HasPlace c (map node_of old) (map node_of mid) i → n ≡ get_or mid i n → AtTop c P (forest_of old) → P (shape (out-AstNode n))
+  stands_at old mid i n (inl h) at t =
+      let found = at_top_place (map node_of old) i (node_of n) h.1 t in
+      let same : get_or (map node_of old) i (node_of n) ≡ shape (out-AstNode n) =
+      ap (λ (ns : List Node). get_or ns i (node_of n)) (sym h.0) ∙ (get_or-map node_of mid i n (node_of n) (place_within c old mid i (inl h)) ∙ (ap node_of (sym at) ∙ node_out n)) in
+      subst P same found
+  stands_at old mid i n (inr h) at t = absurd (at_top_nowhere (map node_of old) h.2 t)
+
+pub stands_nowhere : (c : Compound) (rest : List (Combinator × Compound)) (nodes : List Node) → IsNowhere c nodes → Stands c rest (linked nodes) → ⊥
+stands_nowhere c [] nodes nowhere s = at_top_nowhere c (λ n. Unit {0}) nodes nowhere s
+stands_nowhere c (step ∷ rest) nodes nowhere s = at_top_nowhere c (λ n. Stands step.1 rest (under step.0 n)) nodes nowhere s
+
+pub stands_some : (c : Compound) (all rest : List (Combinator × Predicate)) (s : Combinator × Predicate) (step : Combinator) (f : Forest) → all ≡ s ∷ rest → s.0 ≡ step
+    → Stands c (steps_of all) f → AtTop c (λ n. Stands (tests_of s.1) (steps_of rest) (under step n)) f
+stands_some c all rest s step f e g h =
+    subst (λ (t : Combinator). AtTop c (λ n. Stands (tests_of s.1) (steps_of rest) (under t n)) f) g (subst (λ (ss : List (Combinator × Predicate)). Stands c (steps_of ss) f) e h)
+
+-- What stands stays while a forest grows.
+abbrev pub Keeps : Forest → Forest → Type 0
+Keeps old new = (c : Compound) (rest : List (Combinator × Compound)) → Stands c rest old → Stands c rest new
+
+abbrev KeepsIn : Node → Node → Type 0
+KeepsIn n m = (m.compound ≡ n.compound) × (Keeps n.children m.children × Keeps n.descendants m.descendants)
+
+-- what a node has under it
+abbrev InNode : List (Combinator × Compound) → Node → Type 0
+InNode [] n = Unit {0}
+InNode (step ∷ rest) n = Stands step.1 rest (under step.0 n)
+
+stands_in : (c : Compound) (rest : List (Combinator × Compound)) (f : Forest) → Stands c rest f ≡ AtTop c (InNode rest) f
+stands_in c [] f = refl
+stands_in c (step ∷ rest) f = refl
+
+kept_in : (rest : List (Combinator × Compound)) (n m : Node) → KeepsIn n m → InNode rest n → InNode rest m
+kept_in [] n m k h = tt
+kept_in (step ∷ rest) n m k h = by_step step.0 h
+  where
+    by_step : (s : Combinator) → Stands step.1 rest (under s n) → Stands step.1 rest (under s m)
+    by_step Child t = k.1.0 step.1 rest t
+    by_step Descendant t = k.1.1 step.1 rest t
+
+module _ (c : Compound) (R : Node → Node → Type 0) (law : (n m : Node) → R n m → KeepsIn n m) where
+  tops_kept : (d : Compound) (rest : List (Combinator × Compound)) (old new : Forest) → AtRoot c R old new → AtTop d (InNode rest) old → AtTop d (InNode rest) new
+  tops_kept d rest none new h t = absurd t
+  tops_kept d rest (more e ids children descendants others) new (inl h) (inl t) =
+      let k = law _ h.1 h.2 in
+      subst (AtTop d (InNode rest)) (sym h.3) (inl (k.0 ∙ t.0, kept_in rest _ h.1 k t.1))
+  tops_kept d rest (more e ids children descendants others) new (inl h) (inr t) =
+      let k = law _ h.1 h.2 in
+      subst (AtTop d (InNode rest)) (sym h.3) (inr (λ is. t.0 (sym k.0 ∙ is), t.1))
+  tops_kept d rest (more e ids children descendants others) new (inr h) (inl t) = subst (AtTop d (InNode rest)) (sym h.3) (inl t)
+  tops_kept d rest (more e ids children descendants others) new (inr h) (inr t) =
+      subst (AtTop d (InNode rest)) (sym h.3) (inr (t.0, tops_kept d rest others h.1 h.2 t.1))
+
+  root_keeps : (old new : Forest) → AtRoot c R old new → Keeps old new
+  root_keeps old new h d rest s = subst (λ (X : Type 0). X) (sym (stands_in d rest new)) (tops_kept d rest old new h (subst (λ (X : Type 0). X) (stands_in d rest old) s))
+
+no_change : (f : Forest) → Keeps f f
+no_change f c rest s = s
+
+takes_keeps : (id : Option ℕ) (n m : Node) → Takes id n m → KeepsIn n m
+takes_keeps None n m t = subst (KeepsIn n) (sym t) (refl, (no_change n.children, no_change n.descendants))
+takes_keeps (Some id) n m t = subst (KeepsIn n) (sym t.2) (refl, (no_change n.children, no_change n.descendants))
+
+under_keeps : (step : Combinator) (R : Forest → Forest → Type 0) → ((old new : Forest) → R old new → Keeps old new) → (n m : Node) → Under step R n m → KeepsIn n m
+under_keeps Child R law n m u = subst (KeepsIn n) (sym u.2) (refl, (law n.children u.0 u.1, no_change n.descendants))
+under_keeps Descendant R law n m u = subst (KeepsIn n) (sym u.2) (refl, (no_change n.children, law n.descendants u.0 u.1))
+
+pub adds_keeps : (id : Option ℕ) (c : Compound) (rest : List (Combinator × Compound)) (old new : Forest) → Adds id c rest old new → Keeps old new
+adds_keeps id c [] old new h = root_keeps c (Takes id) (takes_keeps id) old new h
+adds_keeps id c (step ∷ rest) old new h = root_keeps c (Under step.0 (Adds id step.1 rest)) (under_keeps step.0 (Adds id step.1 rest) (λ o w k. adds_keeps id step.1 rest o w k)) old new h
+
+pub first_keeps : (k : ℕ) (c : Compound) (rest : List (Combinator × Compound)) (old new : Forest) → AddsFirst k c rest old new → Keeps old new
+first_keeps zero c rest old new h = subst (Keeps old) (sym h) (no_change old)
+first_keeps (suc k) c [] old new h = root_keeps c (Takes None) (takes_keeps None) old new h
+first_keeps (suc k) c (step ∷ rest) old new h = root_keeps c (Under step.0 (AddsFirst k step.1 rest)) (under_keeps step.0 (AddsFirst k step.1 rest) (λ o w t. first_keeps k step.1 rest o w t)) old new h
+
+-- A path that was added stands.
+module _ (c : Compound) (R : Node → Node → Type 0) (same : (n m : Node) → R n m → m.compound ≡ n.compound) (P : Node → Type 0) (law : (n m : Node) → R n m → P m) where
+  root_stands : (old new : Forest) → AtRoot c R old new → AtTop c P new
+  root_stands none new h = subst (AtTop c P) (sym h.2) (inl (same (fresh c) h.0 h.1, law (fresh c) h.0 h.1))
+  root_stands (more d ids children descendants rest) new (inl h) = subst (AtTop c P) (sym h.3) (inl (same _ h.1 h.2 ∙ h.0, law _ h.1 h.2))
+  root_stands (more d ids children descendants rest) new (inr h) = subst (AtTop c P) (sym h.3) (inr (h.0, root_stands rest h.1 h.2))
+
+under_same : (step : Combinator) (R : Forest → Forest → Type 0) (n m : Node) → Under step R n m → m.compound ≡ n.compound
+under_same Child R n m u = ap (λ k. k.compound) u.2
+under_same Descendant R n m u = ap (λ k. k.compound) u.2
+
+under_stands : (step : Combinator) (R : Forest → Forest → Type 0) (Q : Forest → Type 0) → ((old new : Forest) → R old new → Q new) → (n m : Node) → Under step R n m → Q (under step m)
+under_stands Child R Q law n m u = subst (λ (k : Node). Q k.children) (sym u.2) (law n.children u.0 u.1)
+under_stands Descendant R Q law n m u = subst (λ (k : Node). Q k.descendants) (sym u.2) (law n.descendants u.0 u.1)
+
+pub adds_stands : (id : Option ℕ) (c : Compound) (rest : List (Combinator × Compound)) (old new : Forest) → Adds id c rest old new → Stands c rest new
+adds_stands id c [] old new h = root_stands c (Takes id) (λ n m t. (takes_keeps id n m t).0) (λ n. Unit {0}) (λ n m t. tt) old new h
+adds_stands id c (step ∷ rest) old new h =
+    root_stands c (Under step.0 (Adds id step.1 rest)) (under_same step.0 (Adds id step.1 rest)) (λ n. Stands step.1 rest (under step.0 n))
+    (under_stands step.0 (Adds id step.1 rest) (Stands step.1 rest) (λ o w k. adds_stands id step.1 rest o w k)) old new h

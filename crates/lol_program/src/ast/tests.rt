@@ -1,0 +1,274 @@
+use crate::{
+    Ast, AstNode, AttributeComparisonExpr, Condition, Expr, OnAttributesExpr, OnTagNameExpr,
+};
+use lol_css::{
+    AttrSelectorOperator, Combinator, ComplexSelector, Compound, CssString, NthChild,
+    ParsedCaseSensitivity, SelectorList, SimpleSelector,
+};
+use std::alloc::{AllocError, Global};
+use std::process::Abort;
+use std::test::Fail;
+
+type Parts = Vec<SimpleSelector>;
+
+fn tag(alloc: Global, name: &str) -> Result<SimpleSelector, AllocError> {
+    Ok(SimpleSelector::LocalName(CssString::new(alloc, name)?))
+}
+
+fn class(alloc: Global, name: &str) -> Result<SimpleSelector, AllocError> {
+    Ok(SimpleSelector::Class(CssString::new(alloc, name)?))
+}
+
+fn id(alloc: Global, name: &str) -> Result<SimpleSelector, AllocError> {
+    Ok(SimpleSelector::ID(CssString::new(alloc, name)?))
+}
+
+fn has(alloc: Global, name: &str) -> Result<SimpleSelector, AllocError> {
+    let name = CssString::new(alloc, name)?;
+    Ok(SimpleSelector::AttributeExists { name })
+}
+
+fn not(alloc: Global, part: SimpleSelector) -> Result<SimpleSelector, AllocError> {
+    let list = list(alloc, item(alloc, vec![in alloc; part]?))?;
+    Ok(SimpleSelector::Negation(list))
+}
+
+fn item(alloc: Global, parts: Parts) -> ComplexSelector {
+    ComplexSelector {
+        first: Compound { parts },
+        rest: Vec::new(alloc),
+    }
+}
+
+fn then(
+    mut item: ComplexSelector,
+    combinator: Combinator,
+    parts: Parts,
+) -> Result<ComplexSelector, AllocError> {
+    item.rest.push((combinator, Compound { parts }))?;
+    Ok(item)
+}
+
+fn list(alloc: Global, item: ComplexSelector) -> Result<SelectorList, AllocError> {
+    Ok(SelectorList {
+        items: vec![in alloc; item]?,
+    })
+}
+
+fn name(alloc: Global, name: &str, negation: bool) -> Result<Expr<OnTagNameExpr>, AllocError> {
+    let simple_expr = OnTagNameExpr::LocalName(String::from_str(alloc, name)?);
+    Ok(Expr {
+        simple_expr,
+        negation,
+    })
+}
+
+fn attribute(simple_expr: OnAttributesExpr, negation: bool) -> Expr<OnAttributesExpr> {
+    Expr {
+        simple_expr,
+        negation,
+    }
+}
+
+fn node<'n>(rt: &impl Abort, nodes: &'n [AstNode], place: usize) -> &'n AstNode {
+    nodes.get(place).expect(rt, "a node")
+}
+
+fn has_ids(node: &AstNode, ids: &[u32]) -> bool {
+    let mut rest = ids;
+    for id in node.match_ids.iter() {
+        match rest {
+            [first, others @ ..] if *first == id => rest = others,
+            _ => return false,
+        }
+    }
+    rest.is_empty()
+}
+
+/// The tree of one item has one node, with these tests and the id 0.
+fn is_one_node(
+    rt: &impl Abort,
+    alloc: Global,
+    parts: Parts,
+    names: &[Expr<OnTagNameExpr>],
+    attributes: &[Expr<OnAttributesExpr>],
+) -> Result<(), AllocError> {
+    let mut ast = Ast::new(alloc);
+    ast.add_list(&list(alloc, item(alloc, parts))?, 0)?;
+    let node = node(rt, ast.root(), 0);
+    assert!(rt; ast.cumulative_node_count() == 1);
+    assert!(rt; node.predicate.on_tag_name_exprs.as_slice() == names);
+    assert!(rt; node.predicate.on_attr_exprs.as_slice() == attributes);
+    assert!(rt; has_ids(node, &[0]));
+    Ok(())
+}
+
+#[test]
+fn trees_of_one_node(rt: HostRuntime) -> Result<(), Fail> {
+    let alloc = rt.alloc();
+    let any = Expr {
+        simple_expr: OnTagNameExpr::ExplicitAny,
+        negation: false,
+    };
+    let text = |text: &str| String::from_str(alloc, text);
+    is_one_node(
+        &rt,
+        alloc,
+        vec![in alloc; SimpleSelector::ExplicitUniversalType]?,
+        &[any],
+        &[],
+    )?;
+    is_one_node(
+        &rt,
+        alloc,
+        vec![in alloc; tag(alloc, "div")?]?,
+        &[name(alloc, "div", false)?],
+        &[],
+    )?;
+    let div = tag(alloc, "div")?;
+    is_one_node(
+        &rt,
+        alloc,
+        vec![in alloc; not(alloc, div)?]?,
+        &[name(alloc, "div", true)?],
+        &[],
+    )?;
+    // `:not(:not(:not(div)))`
+    let div = not(alloc, not(alloc, tag(alloc, "div")?)?)?;
+    is_one_node(
+        &rt,
+        alloc,
+        vec![in alloc; not(alloc, div)?]?,
+        &[name(alloc, "div", true)?],
+        &[],
+    )?;
+    // `div:not(:not(.foo))`
+    let foo = not(alloc, class(alloc, "foo")?)?;
+    is_one_node(
+        &rt,
+        alloc,
+        vec![in alloc; tag(alloc, "div")?, not(alloc, foo)?]?,
+        &[name(alloc, "div", false)?],
+        &[attribute(OnAttributesExpr::Class(text("foo")?), false)],
+    )?;
+    // `div.foo#bar:not([baz])`
+    let baz = has(alloc, "baz")?;
+    is_one_node(
+        &rt,
+        alloc,
+        vec![in alloc;
+            tag(alloc, "div")?,
+            class(alloc, "foo")?,
+            id(alloc, "bar")?,
+            not(alloc, baz)?,
+        ]?,
+        &[name(alloc, "div", false)?],
+        &[
+            attribute(OnAttributesExpr::AttributeExists(text("baz")?), true),
+            attribute(OnAttributesExpr::Id(text("bar")?), false),
+            attribute(OnAttributesExpr::Class(text("foo")?), false),
+        ],
+    )?;
+    Ok(())
+}
+
+/// Adds `#foo` and, a child step further, a part.
+fn add_under_foo(
+    alloc: Global,
+    ast: &mut Ast,
+    a: SimpleSelector,
+    b: SimpleSelector,
+    match_id: u32,
+) -> Result<(), AllocError> {
+    let foo = item(alloc, vec![in alloc; id(alloc, "foo")?]?);
+    let again = item(alloc, vec![in alloc; id(alloc, "foo")?]?);
+    let items = vec![in alloc;
+        then(foo, Combinator::Child, vec![in alloc; a]?)?,
+        then(again, Combinator::Child, vec![in alloc; b]?)?,
+    ]?;
+    ast.add_list(&SelectorList { items }, match_id)
+}
+
+#[test]
+fn equal_beginnings_are_shared(rt: HostRuntime) -> Result<(), Fail> {
+    let alloc = rt.alloc();
+    let mut ast = Ast::new(alloc);
+    // `#foo > div, #foo > span` and `#foo > .c1, #foo > .c2`
+    add_under_foo(alloc, &mut ast, tag(alloc, "div")?, tag(alloc, "span")?, 0)?;
+    add_under_foo(alloc, &mut ast, class(alloc, "c1")?, class(alloc, "c2")?, 1)?;
+    assert!(rt; ast.cumulative_node_count() == 5);
+    assert!(rt; ast.root().len() == 1);
+    let foo = node(&rt, ast.root(), 0);
+    assert!(rt; has_ids(foo, &[]));
+    assert!(rt; foo.descendants.is_empty());
+    for (place, ids) in [(0, 0), (1, 0), (2, 1), (3, 1)] {
+        assert!(rt; has_ids(node(&rt, &foo.children, place), &[ids]));
+    }
+    assert!(rt; !ast.runs_now());
+    Ok(())
+}
+
+#[test]
+fn predicates_that_differ_are_not_shared(rt: HostRuntime) -> Result<(), Fail> {
+    let alloc = rt.alloc();
+    let mut ast = Ast::new(alloc);
+    for (text, id) in [("DIV", 0), ("div", 1), ("div", 1), ("div", 40)] {
+        ast.add_list(
+            &list(alloc, item(alloc, vec![in alloc; tag(alloc, text)?]?))?,
+            id,
+        )?;
+    }
+    assert!(rt; ast.cumulative_node_count() == 2);
+    assert!(rt; has_ids(node(&rt, ast.root(), 1), &[1, 40]));
+    assert!(rt; ast.runs_now());
+    for (a, b) in [("a", "b"), ("b", "a")] {
+        let parts = vec![in alloc; class(alloc, a)?, class(alloc, b)?]?;
+        ast.add_list(&list(alloc, item(alloc, parts))?, 0)?;
+    }
+    assert!(rt; ast.cumulative_node_count() == 4);
+    Ok(())
+}
+
+#[test]
+fn long_selectors(rt: HostRuntime) -> Result<(), Fail> {
+    let alloc = rt.alloc();
+    let mut long = item(alloc, vec![in alloc; tag(alloc, "a")?]?);
+    for _ in 1..1024u32 {
+        long = then(
+            long,
+            Combinator::Descendant,
+            vec![in alloc; tag(alloc, "a")?]?,
+        )?;
+    }
+    let mut ast = Ast::new(alloc);
+    ast.add_list(&list(alloc, long)?, 7)?;
+    assert!(rt; ast.cumulative_node_count() == 1024);
+    Ok(())
+}
+
+#[test]
+fn conditions(rt: HostRuntime) -> Result<(), Fail> {
+    let alloc = rt.alloc();
+    let nth = SimpleSelector::Nth {
+        of_type: true,
+        nth: NthChild::new(2, 1),
+    };
+    let of_type = Condition::OnTagName(OnTagNameExpr::NthOfType(NthChild::new(2, 1)));
+    assert!(rt; Condition::from_simple(alloc, &nth)? == Some(of_type));
+    let div = not(alloc, tag(alloc, "div")?)?;
+    assert!(rt; Condition::from_simple(alloc, &div)?.is_none());
+
+    // `[foo="bar"]`
+    let expr = AttributeComparisonExpr::new(
+        String::from_str(alloc, "foo")?,
+        String::from_str(alloc, "bar")?,
+        ParsedCaseSensitivity::CaseSensitive,
+        AttrSelectorOperator::Equal,
+    );
+    let text = format!(in alloc; "{expr:?}")?;
+    assert!(rt;
+        text.as_str()
+            == "AttributeExpr { name: \"foo\", value: \"bar\", case_sensitivity: CaseSensitive, operator: \"AttrSelectorOperator::Equal\" }"
+    );
+    Ok(())
+}

@@ -1,0 +1,129 @@
+//! The nodes of the tree of selectors, and how a path is added to them.
+
+ghost use Rattle.std.specs.Prelude.{ℕ, ◌≡◌, ◌+◌, IfOk, OnOk, OnErr, IsOk, IfSome, IfNone, [], ◌∷◌, map};
+ghost use Rattle.lol_program.specs.Predicates.{tests_of};
+ghost use Rattle.lol_program.specs.Views.{node_of, linked, forest_of, steps_of};
+ghost use Rattle.lol_program.specs.ForestRuns.{forest_runs};
+ghost use Rattle.lol_program.specs.Forest.{size};
+ghost use Rattle.lol_program.specs.Growth.{fresh, Adds, AddsFirst, Stands};
+ghost use Rattle.lol_program.specs.Gifts.{given, IsSpared};
+ghost use Rattle.lol_program.specs.Places.{IsPlace, HasPlace, IsNowhere};
+
+use crate::gift::Gift;
+use crate::predicate::Predicate;
+use lol_css::Combinator;
+use lol_memory::DenseHashSet;
+use std::alloc::{AllocError, Global};
+
+/// A compound of the selectors that begin alike up to it, as in the crate.
+#[derive(Debug, Drop, PartialEq, Eq)]
+pub struct AstNode {
+    /// The tests of the compound.
+    pub predicate: Predicate,
+    /// The compounds that are a child step further.
+    pub children: Vec<AstNode>,
+    /// The compounds that are a descendant step further.
+    pub descendants: Vec<AstNode>,
+    /// The ids of the selectors that end here.
+    pub match_ids: DenseHashSet,
+}
+
+impl AstNode {
+    #[cycle(runs)]
+    fn runs_now(&self) -> bool
+        ensures { result ≡ forest_runs (linked (node_of self.now ∷ [])) }
+    {
+        self.predicate.runs_now() && all_run_now(&self.children) && all_run_now(&self.descendants)
+    }
+}
+
+/// A node without ids, with nothing under it.
+fn fresh_node(alloc: Global, predicate: Predicate) -> AstNode
+    ensures { node_of result ≡ fresh (tests_of predicate) }
+{
+    AstNode {
+        predicate,
+        children: Vec::new(alloc),
+        descendants: Vec::new(alloc),
+        match_ids: DenseHashSet::new(alloc),
+    }
+}
+
+/// The place of the first node with these tests.
+fn place_of(nodes: &[AstNode], predicate: &Predicate) -> Option<usize>
+    ensures some { IfSome result (λ i. IsPlace (tests_of predicate.now) (map node_of nodes.now) i) }
+    ensures none { IfNone result (IsNowhere (tests_of predicate.now) (map node_of nodes.now)) }
+{
+    for (i, node) in nodes.iter().enumerate() {
+        if node.predicate.is_same(predicate) {
+            return Some(i);
+        }
+    }
+    None
+}
+
+/// The place of the node with these tests, which is made last where there is none.
+fn place_for(
+    alloc: Global,
+    nodes: &mut Vec<AstNode>,
+    count: &mut usize,
+    predicate: &Predicate,
+) -> Result<usize, AllocError>
+    ensures place { IfOk result (λ i. HasPlace (tests_of predicate.now) (map node_of nodes.old.items) (map node_of nodes.new.items) i) }
+    ensures free { OnErr result (IsNowhere (tests_of predicate.now) (map node_of nodes.old.items)) }
+    ensures unchanged { OnErr result (nodes.new.items ≡ nodes.old.items) }
+    ensures count { count.new + size (forest_of nodes.old.items) ≡ count.old + size (forest_of nodes.new.items) }
+{
+    if let Some(place) = place_of(nodes, predicate) {
+        return Ok(place);
+    }
+    let Some(more) = count.checked_add(1) else {
+        return Err(AllocError);
+    };
+    let place = nodes.len();
+    nodes.push(fresh_node(alloc, predicate.try_clone()?))?;
+    *count = more;
+    Ok(place)
+}
+
+/// Makes the nodes of a path that aren't there, in the list where it begins, and gives its last node an id or none.
+pub(crate) fn add_path(
+    alloc: Global,
+    nodes: &mut Vec<AstNode>,
+    count: &mut usize,
+    first: &Predicate,
+    rest: &[(Combinator, Predicate)],
+    gift: Gift,
+) -> Result<(), AllocError>
+    ensures added { OnOk result (Adds (given gift) (tests_of first.now) (steps_of rest.now) (forest_of nodes.old.items) (forest_of nodes.new.items)) }
+    ensures partly { OnErr result ((k : ℕ) × AddsFirst k (tests_of first.now) (steps_of rest.now) (forest_of nodes.old.items) (forest_of nodes.new.items)) }
+    ensures free { IsSpared gift → Stands (tests_of first.now) (steps_of rest.now) (forest_of nodes.old.items) → IsOk result }
+    ensures count { count.new + size (forest_of nodes.old.items) ≡ count.old + size (forest_of nodes.new.items) }
+{
+    let place = place_for(alloc, nodes, count, first)?;
+    let node = &mut nodes[place];
+    match rest.split_first() {
+        None => gift.give_to(&mut node.match_ids),
+        Some(((combinator, predicate), rest)) => match combinator {
+            Combinator::Child => {
+                add_path(alloc, &mut node.children, count, predicate, rest, gift)
+            }
+            Combinator::Descendant => {
+                add_path(alloc, &mut node.descendants, count, predicate, rest, gift)
+            }
+        },
+    }
+}
+
+/// Whether these nodes and all under them have tests of names alone.
+#[cycle(runs)]
+pub(crate) fn all_run_now(nodes: &[AstNode]) -> bool
+    ensures { result ≡ forest_runs (forest_of nodes.now) }
+{
+    for node in nodes {
+        if !node.runs_now() {
+            return false;
+        }
+    }
+    true
+}

@@ -1,0 +1,155 @@
+//! The tests of a selector's parts.
+
+ghost use Rattle.std.specs.Prelude.{◌≡◌, IfOk, string_bytes};
+ghost use Rattle.std.specs.Option.{option_map};
+ghost use Rattle.lol_css.specs.TreeViews.{part_of};
+ghost use Rattle.lol_program.specs.Conditions.{part_test};
+ghost use Rattle.lol_program.specs.Predicates.{name_test, test_shown};
+ghost use Rattle.lol_program.specs.Runs.{is_by_name};
+
+use lol_css::{AttrSelectorOperator, CssString, NthChild, ParsedCaseSensitivity, SimpleSelector};
+use std::alloc::{AllocError, Global};
+use std::fmt;
+
+/// A test that needs no attributes, as in the crate.
+#[derive(Debug, Drop, Clone, PartialEq, Eq)]
+pub enum OnTagNameExpr {
+    /// Every element passes.
+    ExplicitAny,
+    /// No element passes.
+    Unmatchable,
+    /// The element's name.
+    LocalName(String),
+    /// Its place among its parent's children.
+    NthChild(NthChild),
+    /// Its place among those of its name.
+    NthOfType(NthChild),
+}
+
+impl OnTagNameExpr {
+    /// Whether it asks for no place among siblings.
+    pub(crate) fn is_by_name(&self) -> bool
+        ensures { result ≡ is_by_name (name_test self.now) }
+    {
+        match self {
+            OnTagNameExpr::ExplicitAny | OnTagNameExpr::Unmatchable | OnTagNameExpr::LocalName(_) =>
+                true,
+            OnTagNameExpr::NthChild(_) | OnTagNameExpr::NthOfType(_) => false,
+        }
+    }
+}
+
+/// A test of attributes, as in the crate.
+#[derive(Debug, Drop, Clone, PartialEq, Eq)]
+pub enum OnAttributesExpr {
+    /// The value of `id`.
+    Id(String),
+    /// A word of `class`.
+    Class(String),
+    /// An attribute is there.
+    AttributeExists(String),
+    /// An attribute's value stands to an operand as an operator says.
+    AttributeComparisonExpr(AttributeComparisonExpr),
+}
+
+/// A comparison of an attribute's value, as in the crate.
+#[derive(Drop, Clone, PartialEq, Eq)]
+pub struct AttributeComparisonExpr {
+    pub name: String,
+    pub value: String,
+    pub case_sensitivity: ParsedCaseSensitivity,
+    pub operator: AttrSelectorOperator,
+}
+
+impl AttributeComparisonExpr {
+    /// A comparison with the operand `value`.
+    pub fn new(
+        name: String,
+        value: String,
+        case_sensitivity: ParsedCaseSensitivity,
+        operator: AttrSelectorOperator,
+    ) -> Self
+        ensures { result ≡ record { name = name; value = value; case_sensitivity = case_sensitivity; operator = operator } }
+    {
+        AttributeComparisonExpr {
+            name,
+            value,
+            case_sensitivity,
+            operator,
+        }
+    }
+}
+
+impl fmt::Debug for AttributeComparisonExpr {
+    fn fmt<W: fmt::Write>(&self, f: &mut fmt::Formatter<W>) -> fmt::Result {
+        let operator = match self.operator {
+            AttrSelectorOperator::Equal => "AttrSelectorOperator::Equal",
+            AttrSelectorOperator::Includes => "AttrSelectorOperator::Includes",
+            AttrSelectorOperator::DashMatch => "AttrSelectorOperator::DashMatch",
+            AttrSelectorOperator::Prefix => "AttrSelectorOperator::Prefix",
+            AttrSelectorOperator::Substring => "AttrSelectorOperator::Substring",
+            AttrSelectorOperator::Suffix => "AttrSelectorOperator::Suffix",
+        };
+        f.debug_struct("AttributeExpr")
+            .field("name", &self.name)
+            .field("value", &self.value)
+            .field("case_sensitivity", &self.case_sensitivity)
+            .field("operator", &operator)
+            .finish()
+    }
+}
+
+/// The test of a part, as in the crate.
+#[derive(Debug, Drop, PartialEq, Eq)]
+pub enum Condition {
+    OnTagName(OnTagNameExpr),
+    OnAttributes(OnAttributesExpr),
+}
+
+impl Condition {
+    /// The test of a part; none for a `:not`, which has tests of its own. (The crate's `From<&Component>`.)
+    pub fn from_simple(
+        alloc: Global,
+        part: &SimpleSelector,
+    ) -> Result<Option<Condition>, AllocError>
+        ensures { IfOk result (λ condition. option_map test_shown condition ≡ part_test (part_of part.now)) }
+    {
+        Ok(Some(match part {
+            SimpleSelector::LocalName(name) => {
+                Condition::OnTagName(OnTagNameExpr::LocalName(name.to_boxed_slice(alloc)?))
+            }
+            SimpleSelector::ExplicitUniversalType => {
+                Condition::OnTagName(OnTagNameExpr::ExplicitAny)
+            }
+            SimpleSelector::ExplicitNoNamespace => Condition::OnTagName(OnTagNameExpr::Unmatchable),
+            SimpleSelector::ID(id) => {
+                Condition::OnAttributes(OnAttributesExpr::Id(id.to_boxed_slice(alloc)?))
+            }
+            SimpleSelector::Class(name) => {
+                Condition::OnAttributes(OnAttributesExpr::Class(name.to_boxed_slice(alloc)?))
+            }
+            SimpleSelector::AttributeExists { name } => Condition::OnAttributes(
+                OnAttributesExpr::AttributeExists(name.to_boxed_slice(alloc)?),
+            ),
+            SimpleSelector::AttributeComparison {
+                name,
+                value,
+                operator,
+                case_sensitivity,
+            } => Condition::OnAttributes(OnAttributesExpr::AttributeComparisonExpr(
+                AttributeComparisonExpr::new(
+                    name.to_boxed_slice(alloc)?,
+                    value.to_boxed_slice(alloc)?,
+                    *case_sensitivity,
+                    *operator,
+                ),
+            )),
+            SimpleSelector::Nth { of_type, nth } => Condition::OnTagName(if *of_type {
+                OnTagNameExpr::NthOfType(*nth)
+            } else {
+                OnTagNameExpr::NthChild(*nth)
+            }),
+            SimpleSelector::Negation(_) => return Ok(None),
+        }))
+    }
+}

@@ -1,0 +1,154 @@
+-- What the nodes of the tree report, and that they need no attributes.
+use Rattle.std.proofs.Common.{◌≡◌, ℕ, Bool, true, false, ◌&&◌, ◌||◌, not, List, [], ◌∷◌, ◌++◌, map, ◌⊎◌, ◌↔◌, inl, inr, ⊎_elim, refl, sym, ap, ◌∙◌, subst, true≢false}
+use Rattle.std.specs.Prelude.{Contains, AllPairs, ◌≢◌}
+use Rattle.std.specs.List.{list_any}
+use Rattle.std.proofs.lemmas.List.Folds.{list_any-append}
+use Rattle.std.proofs.lemmas.List.Kept.{AllPairs-from_increasing}
+use Rattle.lol_base.specs.declared.namespace.Namespace.TheVariants.{Html}
+use Rattle.lol_css.specs.declared.selector.Combinator.TheVariants.{Child, Descendant}
+use Rattle.lol_memory.specs.Ids as ids
+use Rattle.lol_memory.specs.Ids.{Ids, has, no_ids}
+use Rattle.lol_memory.specs.SetLaws.{has-no_ids}
+use Rattle.lol_memory.proofs.LawLemmas.{ascending_rises}
+use Rattle.lol_program.specs.Tests.{Element, is_html}
+use Rattle.lol_program.specs.Paths.{Compound, Path, First, Then, last_compound, names_hold, has_attribute_tests}
+use Rattle.lol_program.specs.Forest.{Forest, none, more, tops, below, nodes_in, pairs_in}
+use Rattle.lol_program.specs.Runs.{compound_runs}
+use Rattle.lol_program.specs.ForestRuns.{forest_runs}
+use Rattle.lol_program.proofs.Members.{Among, among_front, among_back, among_either, among_from_contains, contains_from_among}
+use Rattle.lol_program.specs.Runs.{path_runs}
+use Rattle.lol_program.proofs.IdSets.{listed, held}
+use Rattle.lol_program.proofs.Listed.{nodes_listed}
+use Rattle.lol_program.proofs.Running.{all_run}
+use Rattle.lol_program.specs.Asts.{nodes_of, trees_of}
+use Rattle.lol_program.specs.declared.ast.Ast.{Ast}
+use Rattle.lol_program.proofs.Once.{AllPairs-from_Distinct, nodes_distinct}
+use Rattle.lol_vm.specs.Views.{selectors}
+use Rattle.lol_vm.specs.Laws.{TreesAnswerAlike}
+use Rattle.lol_vm.specs.Matching.{matches, left_matches}
+use Rattle.lol_vm.specs.Answers.{matching_ids, asks, needs_attributes}
+use Rattle.lol_vm.specs.OpenNames.{Reports, Gains}
+use Rattle.lol_vm.proofs.Plain.{both, runs_parts}
+use Rattle.lol_vm.proofs.Orders.{order_changes_nothing}
+use Rattle.lol_vm.proofs.Reports.{among_matching_ids, matching_ids_among, matching_ids_ascend, ascending_is_determined}
+
+-- 1. The pairs
+
+among_one : (path : Path) (list : List ℕ) (id : ℕ) → Among list id → Among {T = Path × ℕ} (map (λ (n : ℕ). (path, n)) list) (path, id)
+among_one path [] id h = absurd h
+among_one path (n ∷ list) id (inl is) = inl (ap (λ (m : ℕ). (path, m)) is)
+among_one path (n ∷ list) id (inr h) = inr (among_one path list id h)
+
+one_among : (path : Path) (list : List ℕ) (found : Path) (id : ℕ) → Among {T = Path × ℕ} (map (λ (n : ℕ). (path, n)) list) (found, id) → (path ≡ found) × Among list id
+one_among path [] found id h = absurd h
+one_among path (n ∷ list) found id (inl is) = (ap (λ (p : Path × ℕ). p.0) is, inl (ap (λ (p : Path × ℕ). p.1) is))
+one_among path (n ∷ list) found id (inr h) = let rest = one_among path list found id h in (rest.0, inr rest.1)
+
+module _ (e : Element) (outer : List Element) (id : ℕ) where
+  abbrev Fits : List (Path × ℕ) → Type 0
+  Fits pairs = (path : Path) × Among pairs (path, id) × (matches path e outer ≡ true)
+
+  fits_front : (front back : List (Path × ℕ)) → Fits front → Fits (front ++ back)
+  fits_front front back h = (h.0, among_front front back (h.0, id) h.1, h.2)
+
+  fits_back : (front back : List (Path × ℕ)) → Fits back → Fits (front ++ back)
+  fits_back front back h = (h.0, among_back front back (h.0, id) h.1, h.2)
+
+  fits_either : (front back : List (Path × ℕ)) → Fits (front ++ back) → Fits front ⊎ Fits back
+  fits_either front back h = ⊎_elim (λ (a : Among front (h.0, id)). inl (h.0, a, h.2)) (λ (b : Among back (h.0, id)). inr (h.0, b, h.2)) (among_either front back (h.0, id) h.1)
+
+  pub report_fits : (make : Compound → Path) (f : Forest) → Reports make f e outer id → Fits (pairs_in make f)
+  report_fits make none h = absurd h
+  report_fits make (more c own children descendants rest) (inl h) =
+      fits_front (map (λ (n : ℕ). (make c, n)) own) _ (make c, among_one (make c) own id (among_from_contains own id h.0), h.1)
+  report_fits make (more c own children descendants rest) (inr (inl h)) =
+      fits_back (map (λ (n : ℕ). (make c, n)) own) _ (fits_front (pairs_in (Then (make c) Child) children) _ (report_fits (Then (make c) Child) children h))
+  report_fits make (more c own children descendants rest) (inr (inr (inl h))) =
+      fits_back (map (λ (n : ℕ). (make c, n)) own) _ (fits_back (pairs_in (Then (make c) Child) children) _ (fits_front (pairs_in (Then (make c) Descendant) descendants) _ (report_fits (Then (make c) Descendant) descendants h)))
+  report_fits make (more c own children descendants rest) (inr (inr (inr h))) =
+      fits_back (map (λ (n : ℕ). (make c, n)) own) _ (fits_back (pairs_in (Then (make c) Child) children) _ (fits_back (pairs_in (Then (make c) Descendant) descendants) _ (report_fits make rest h)))
+
+  pub fit_reports : (make : Compound → Path) (f : Forest) → Fits (pairs_in make f) → Reports make f e outer id
+  fit_reports make none h = absurd h.1
+  fit_reports make (more c own children descendants rest) h =
+      ⊎_elim
+      (λ (a : Fits (map (λ (n : ℕ). (make c, n)) own)). let one = one_among (make c) own a.0 id a.1 in inl (contains_from_among own id one.1, ap (λ (p : Path). matches p e outer) one.0 ∙ a.2))
+      (λ (b : Fits (pairs_in (Then (make c) Child) children ++ (pairs_in (Then (make c) Descendant) descendants ++ pairs_in make rest))). inr (⊎_elim
+        (λ (a : Fits (pairs_in (Then (make c) Child) children)). inl (fit_reports (Then (make c) Child) children a))
+        (λ (b' : Fits (pairs_in (Then (make c) Descendant) descendants ++ pairs_in make rest)). inr (⊎_elim
+          (λ (a : Fits (pairs_in (Then (make c) Descendant) descendants)). inl (fit_reports (Then (make c) Descendant) descendants a))
+          (λ (r : Fits (pairs_in make rest)). inr (fit_reports make rest r))
+          (fits_either (pairs_in (Then (make c) Descendant) descendants) (pairs_in make rest) b')))
+        (fits_either (pairs_in (Then (make c) Child) children) _ b)))
+      (fits_either (map (λ (n : ℕ). (make c, n)) own) _ h)
+
+-- what was gained from nothing are the matching ids
+pub gained_ids : (make : Compound → Path) (f : Forest) (e : Element) (outer : List Element) (found : Ids) → Gains no_ids found (Reports make f e outer) → ids.ascending found ≡ matching_ids (pairs_in make f) e outer
+gained_ids make f e outer found gains =
+    ascending_is_determined (ids.ascending found) (matching_ids (pairs_in make f) e outer)
+    (AllPairs-from_increasing (ids.ascending found) (ascending_rises found))
+    (matching_ids_ascend e outer (pairs_in make f))
+    (λ id. (
+      λ h. ⊎_elim
+          (λ (a : has no_ids id ≡ true). absurd (true≢false (sym a ∙ has-no_ids id)))
+          (λ (r : Reports make f e outer id). let fits = report_fits e outer id make f r in contains_from_among _ id (matching_ids_among e outer (pairs_in make f) fits.0 id fits.1 fits.2))
+          ((gains id).0 (held found id h)),
+      λ h. listed found id ((gains id).1 (inr (fit_reports e outer id make f (among_matching_ids e outer (pairs_in make f) id (among_from_contains _ id h))))),
+    ))
+
+-- 2. No attributes are asked for
+
+and_false : (a b c : Bool) → c ≡ false → (a && (b && c)) ≡ false
+and_false true true c h = h
+and_false true false c h = refl
+and_false false b c h = refl
+
+not_true : (b : Bool) → not b ≡ true → b ≡ false
+not_true true h = absurd (true≢false (sym h))
+not_true false h = refl
+
+no_tests : (c : Compound) → compound_runs c ≡ true → has_attribute_tests c ≡ false
+no_tests c runs = not_true _ (both _ _ runs).0
+
+neither : (a b : Bool) → a ≡ false → b ≡ false → (a || b) ≡ false
+neither a b ha hb = λ i. ha i || hb i
+
+module _ (e : Element) (outer : List Element) where
+  needs_none : (node : Path) → has_attribute_tests (last_compound node) ≡ false → needs_attributes e outer node ≡ false
+  needs_none node h = and_false (left_matches node outer) (names_hold (last_compound node) e) _ h
+
+  tops_need_none : (make : Compound → Path) → ((c : Compound) → last_compound (make c) ≡ c) → (f : Forest) → forest_runs f ≡ true → list_any (needs_attributes e outer) (tops make f) ≡ false
+  tops_need_none make last none runs = refl
+  tops_need_none make last (more c own children descendants rest) runs =
+      let parts = runs_parts c own children descendants rest runs in
+      neither _ _ (needs_none (make c) (ap has_attribute_tests (last c) ∙ no_tests c parts.0)) (tops_need_none make last rest parts.3)
+
+  nodes_need_none : (make : Compound → Path) → ((c : Compound) → last_compound (make c) ≡ c) → (f : Forest) → forest_runs f ≡ true
+      → list_any (needs_attributes e outer) (below make f) ≡ false → list_any (needs_attributes e outer) (nodes_in make f) ≡ false
+  nodes_need_none make last f runs under = list_any-append (needs_attributes e outer) (tops make f) (below make f) ∙ neither _ _ (tops_need_none make last f runs) under
+
+  below_need_none : (make : Compound → Path) (f : Forest) → forest_runs f ≡ true → list_any (needs_attributes e outer) (below make f) ≡ false
+  below_need_none make none runs = refl
+  below_need_none make (more c own children descendants rest) runs =
+      let parts = runs_parts c own children descendants rest runs in
+      list_any-append (needs_attributes e outer) (nodes_in (Then (make c) Child) children) _
+      ∙ neither _ _ (nodes_need_none (Then (make c) Child) (λ d. refl) children parts.1 (below_need_none (Then (make c) Child) children parts.1))
+      (list_any-append (needs_attributes e outer) (nodes_in (Then (make c) Descendant) descendants) _
+      ∙ neither _ _ (nodes_need_none (Then (make c) Descendant) (λ d. refl) descendants parts.2 (below_need_none (Then (make c) Descendant) descendants parts.2)) (below_need_none make rest parts.3))
+
+  pub asks_nothing : (f : Forest) → forest_runs f ≡ true → e.tag.namespace ≡ Html → asks (record { pairs = pairs_in First f; nodes = nodes_in First f }) e outer ≡ false
+  asks_nothing f runs html = λ i. not (is_html (html i)) || nodes_need_none First (λ c. refl) f runs (below_need_none First f runs) i
+
+-- 3. What runs
+
+pub runs_forest : (f : Forest) → ((path : Path) → Contains (nodes_in First f) path → path_runs path ≡ true) → forest_runs f ≡ true
+runs_forest f h = all_run First (λ c e. e) f (λ path n. h path ((nodes_listed First f path).1 n))
+
+-- 4. Trees with the same members
+
+once : (ast : Ast) → AllPairs (λ a b. a ≢ b) (nodes_of ast)
+once ast = AllPairs-from_Distinct (nodes_of ast) (nodes_distinct (trees_of ast) ast.siblings)
+
+pub trees_answer_alike : TreesAnswerAlike
+trees_answer_alike a b pairs nodes esi events =
+    (order_changes_nothing (selectors a) (selectors b) (record { pairs = pairs; nodes = nodes; each_once = once a; each_once' = once b }) esi events).0
