@@ -1,11 +1,10 @@
 -- Reading a script, line by line.
-use Rattle.std.proofs.Common.{◌≡◌, ◌≢◌, ℕ, ◌+◌, ◌<◌, ◌≤◌, List, [], ◌∷◌, ◌++◌, drop, get_or, length, Option, Result, Ok, Contains, ◌↔◌, inl, inr, refl, sym, ap, ◌∙◌, arith}
+use Rattle.std.proofs.Common.{◌≡◌, ◌≢◌, ℕ, ◌+◌, ◌<◌, ◌≤◌, List, [], ◌∷◌, ◌++◌, drop, get_or, length, Option, Result, Ok, inl, inr, refl, sym, ap, ◌∙◌, arith}
 use Rattle.std.specs.List.{enumerate_from}
 use Rattle.std.proofs.lemmas.List.{drop_more, drop_all}
 use Rattle.std.proofs.lemmas.List.FromFn.{length-enumerate_from, get_or-enumerate_from}
 use Rattle.lol_css.specs.Trees.{Items}
 use Rattle.lol_css.specs.declared.error.SelectorError.{SelectorError}
-use Rattle.lol_program.specs.Paths.{Path}
 use Rattle.lol_program.specs.Sets.{Joins, SameMembers}
 use Rattle.lol_program.specs.Runs.{path_runs}
 use Rattle.lol_program.proofs.Members.{contains-append}

@@ -1,5 +1,5 @@
 -- What the code has read of a script.
-use Rattle.std.specs.Prelude.{ℕ, ◌≡◌, IsTrue, map, Contains, All, Result, Ok, Err}
+use Rattle.std.specs.Prelude.{◌≡◌, IsTrue, map, Contains, All, Result, Ok, Err}
 use Rattle.lol_program.specs.Paths.{Path, all_beginnings}
 use Rattle.lol_program.specs.Asts.{pairs_of, nodes_of}
 use Rattle.lol_program.specs.Runs.{path_runs}

@@ -1,6 +1,6 @@
 -- What the plain matcher looks at.
-use Rattle.std.proofs.Common.{◌≡◌, ℕ, ◌+◌, ◌<◌, take, get_or, cond, Bool, true, false, ◌&&◌, ◌||◌, not, List, [], ◌∷◌, ◌++◌, map, reverse, length, refl, sym, ap, ◌∙◌, arith, subst}
-use Rattle.std.specs.Prelude.{string_bytes, ◌↔◌}
+use Rattle.std.proofs.Common.{◌≡◌, ℕ, cond, Bool, true, false, ◌&&◌, ◌||◌, not, List, [], ◌∷◌, ◌++◌, map, reverse, length, refl, sym, ap, ◌∙◌, subst}
+use Rattle.std.specs.Prelude.{string_bytes}
 use Rattle.std.specs.Str.{bytes_eq}
 use Rattle.std.specs.List.{list_all}
 use Rattle.std.proofs.lemmas.List.{reverse-append, length-reverse, nil_from_length}
@@ -9,7 +9,7 @@ use Rattle.lol_base.specs.LocalNames.{Name}
 use Rattle.lol_css.specs.declared.selector.Combinator.{Combinator}
 use Rattle.lol_css.specs.declared.selector.Combinator.TheVariants.{Child, Descendant}
 use Rattle.lol_program.specs.Tests.{Element, Signed, AttributeTest, name_holds, attribute_holds, signed}
-use Rattle.lol_program.specs.Paths.{Compound, Path, First, Then, all_hold, some_test, has_attribute_tests}
+use Rattle.lol_program.specs.Paths.{Compound, all_hold, some_test}
 use Rattle.lol_program.specs.Predicates.{name_test, signed_name_test, tests_of}
 use Rattle.lol_program.specs.declared.condition.OnTagNameExpr.{OnTagNameExpr}
 use Rattle.lol_program.specs.declared.condition.OnTagNameExpr.TheVariants.{ExplicitAny, Unmatchable, LocalName, NthChild, NthOfType}

@@ -1,21 +1,18 @@
 -- Runs over the open names.
-use Rattle.std.proofs.Common.{◌≡◌, ℕ, ◌+◌, ◌-◌, ◌≤◌, Bool, true, false, ◌&&◌, ◌||◌, not, cond, List, [], ◌∷◌, ◌++◌, map, reverse, take, drop, length, get_or, position, Some, None, All, refl, sym, ap, ◌∙◌, arith}
-use Rattle.std.specs.List.{list_any, position_or_len, AllByRecursion}
+use Rattle.std.proofs.Common.{◌≡◌, ℕ, ◌+◌, ◌-◌, ◌≤◌, Bool, true, false, ◌&&◌, ◌||◌, not, cond, List, [], ◌∷◌, ◌++◌, map, reverse, take, drop, length, position, Some, None, refl, sym, ap, ◌∙◌, arith}
+use Rattle.std.specs.List.{position_or_len}
 use Rattle.std.specs.Prelude.{nat_lt, if◌then◌else◌}
 use Rattle.std.specs.Str.{bytes_eq}
-use Rattle.std.proofs.lemmas.List.{reverse-append, reverse-reverse, map-append, length-map, length-reverse, length-drop, take-append-drop, take_at, drop_at, get_or_default, take-map, drop-map}
-use Rattle.std.proofs.lemmas.List.Elements.{All-contains, All-append, All-cons, All-nil, recursion_from_All}
+use Rattle.std.proofs.lemmas.List.{reverse-append, reverse-reverse, map-append, length-map, length-reverse, length-drop, take-append-drop, take_at, drop_at, take-map, drop-map}
 use Rattle.lol_base.specs.Names.{lowercased, is_void}
 use Rattle.lol_base.specs.LocalNames.{Name, same_local_name}
 use Rattle.lol_base.specs.StartTags.{StartTag}
 use Rattle.lol_base.specs.declared.namespace.Namespace.TheVariants.{Html}
-use Rattle.lol_css.specs.declared.selector.Combinator.{Combinator}
-use Rattle.lol_program.specs.Tests.{Element, is_html}
-use Rattle.lol_program.specs.Paths.{Path, First, Then, Selectors, AreNodes, last_compound, names_hold, has_attribute_tests, beginnings, all_beginnings, extended}
+use Rattle.lol_program.specs.Tests.{Element}
+use Rattle.lol_program.specs.Paths.{Selectors}
 use Rattle.lol_program.proofs.Members.{map-map}
 use Rattle.lol_vm.specs.Events as events
 use Rattle.lol_vm.specs.Events.{Event, has_content, has_content_in}
-use Rattle.lol_vm.specs.Matching.{left_matches}
 use Rattle.lol_vm.specs.Documents.{Document, element_of, closed, after_start, after_end, place_of, inner_part, outer_part}
 use Rattle.lol_vm.specs.Answers as answered
 use Rattle.lol_vm.specs.Answers.{Answer, answer, after, answers_from, document_from, matching_ids, ascending, asks, needs_attributes, report}

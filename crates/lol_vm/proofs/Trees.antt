@@ -1,5 +1,5 @@
 -- What the nodes of the tree report, and that they need no attributes.
-use Rattle.std.proofs.Common.{◌≡◌, ℕ, Bool, true, false, ◌&&◌, ◌||◌, not, List, [], ◌∷◌, ◌++◌, map, ◌⊎◌, ◌↔◌, inl, inr, ⊎_elim, refl, sym, ap, ◌∙◌, subst, true≢false}
+use Rattle.std.proofs.Common.{◌≡◌, ℕ, Bool, true, false, ◌&&◌, ◌||◌, not, List, [], ◌∷◌, ◌++◌, map, ◌⊎◌, inl, inr, ⊎_elim, refl, sym, ap, ◌∙◌, true≢false}
 use Rattle.std.specs.Prelude.{Contains, AllPairs, ◌≢◌}
 use Rattle.std.specs.List.{list_any}
 use Rattle.std.proofs.lemmas.List.Folds.{list_any-append}
@@ -74,12 +74,12 @@ module _ (e : Element) (outer : List Element) (id : ℕ) where
       ⊎_elim
       (λ (a : Fits (map (λ (n : ℕ). (make c, n)) own)). let one = one_among (make c) own a.0 id a.1 in inl (contains_from_among own id one.1, ap (λ (p : Path). matches p e outer) one.0 ∙ a.2))
       (λ (b : Fits (pairs_in (Then (make c) Child) children ++ (pairs_in (Then (make c) Descendant) descendants ++ pairs_in make rest))). inr (⊎_elim
-        (λ (a : Fits (pairs_in (Then (make c) Child) children)). inl (fit_reports (Then (make c) Child) children a))
-        (λ (b' : Fits (pairs_in (Then (make c) Descendant) descendants ++ pairs_in make rest)). inr (⊎_elim
-          (λ (a : Fits (pairs_in (Then (make c) Descendant) descendants)). inl (fit_reports (Then (make c) Descendant) descendants a))
-          (λ (r : Fits (pairs_in make rest)). inr (fit_reports make rest r))
-          (fits_either (pairs_in (Then (make c) Descendant) descendants) (pairs_in make rest) b')))
-        (fits_either (pairs_in (Then (make c) Child) children) _ b)))
+      (λ (a : Fits (pairs_in (Then (make c) Child) children)). inl (fit_reports (Then (make c) Child) children a))
+      (λ (b' : Fits (pairs_in (Then (make c) Descendant) descendants ++ pairs_in make rest)). inr (⊎_elim
+      (λ (a : Fits (pairs_in (Then (make c) Descendant) descendants)). inl (fit_reports (Then (make c) Descendant) descendants a))
+      (λ (r : Fits (pairs_in make rest)). inr (fit_reports make rest r))
+      (fits_either (pairs_in (Then (make c) Descendant) descendants) (pairs_in make rest) b')))
+      (fits_either (pairs_in (Then (make c) Child) children) _ b)))
       (fits_either (map (λ (n : ℕ). (make c, n)) own) _ h)
 
 -- what was gained from nothing are the matching ids

@@ -2,20 +2,19 @@
 use Rattle.std.proofs.Common.{◌≡◌, ℕ, zero, suc, ◌+◌, ◌<◌, take, get_or, Bool, true, false, ◌||◌, List, [], ◌∷◌, ◌++◌, map, reverse, length, ◌⊎◌, ◌↔◌, inl, inr, ⊎_elim, refl, sym, ap, ◌∙◌, arith, subst, true≢false}
 use Rattle.std.specs.Prelude.{Contains}
 use Rattle.std.proofs.lemmas.List.{take_more, map_push, reverse-append, get_or-map, length-map}
-use Rattle.lol_css.specs.declared.selector.Combinator.{Combinator}
 use Rattle.lol_css.specs.declared.selector.Combinator.TheVariants.{Child, Descendant}
 use Rattle.lol_memory.specs.Ids.{Ids, has, union, ascending}
 use Rattle.lol_memory.specs.SetLaws.{has-union}
 use Rattle.lol_program.specs.Tests.{Element}
-use Rattle.lol_program.specs.Paths.{Compound, Path, First, Then}
-use Rattle.lol_program.specs.Forest.{Forest, none, more, Node, link}
+use Rattle.lol_program.specs.Paths.{Compound, Path, Then}
+use Rattle.lol_program.specs.Forest.{Node}
 use Rattle.lol_program.specs.Views.{node_of, forest_of, linked}
 use Rattle.lol_program.specs.Runs.{compound_runs}
 use Rattle.lol_program.specs.ForestRuns.{forest_runs}
 use Rattle.lol_program.specs.Predicates.{tests_of}
 use Rattle.lol_program.specs.declared.ast_node.AstNode.{AstNode}
 use Rattle.lol_program.specs.declared.ast_node.AstNode.TheViews.{out-AstNode}
-use Rattle.lol_program.proofs.Nodes.{shape, node_out}
+use Rattle.lol_program.proofs.Nodes.{node_out}
 use Rattle.lol_program.proofs.IdSets.{listed, held}
 use Rattle.lol_vm.specs.Matching.{matches}
 use Rattle.lol_vm.specs.OpenNames.{StepsRun, NodeRuns, Reports, ReportsIn, Gains, path_up, path_to}
@@ -56,8 +55,7 @@ or_of false b h = ⊎_elim (λ (x : false ≡ true). absurd (true≢false (sym x
 -- the ids of a node that matches
 pub gains_ids : (r s ids : Ids) (matched : Bool) → matched ≡ true → s ≡ union r ids → Gains r s (λ id. Contains (ascending ids) id × (matched ≡ true))
 gains_ids r s ids matched holds is id =
-    let same : has s id ≡ (has r id || has ids id) = ap (λ (x : Ids). has x id) is ∙ has-union r ids id in
-    (
+    let same : has s id ≡ (has r id || has ids id) = ap (λ (x : Ids). has x id) is ∙ has-union r ids id in (
       λ h. ⊎_elim (λ (a : has r id ≡ true). inl a) (λ (b : has ids id ≡ true). inr (listed ids id b, holds)) (either _ _ (sym same ∙ h)),
       λ h. same ∙ or_of _ _ (⊎_elim (λ (a : has r id ≡ true). inl a) (λ (b : Contains (ascending ids) id × (matched ≡ true)). inr (held ids id b.0)) h),
     )
@@ -75,8 +73,7 @@ module _ (make : Compound → Path) (e : Element) (outer : List Element) where
     λ h. elim h [ inl own ↦ inr (inl own) | inr (inl c) ↦ inr (inr (inl c)) | inr (inr (inl d)) ↦ inr (inr (inr d)) | inr (inr (inr a)) ↦ absurd a ],
   )
   reports_push (m ∷ ns) n id =
-      let rest = reports_push ns n id in
-      (
+      let rest = reports_push ns n id in (
         λ h. elim h [
           | inl (inl own) ↦ inl own
           | inl (inr (inl c)) ↦ inr (inl c)
@@ -109,8 +106,8 @@ gains_tree make e outer nodes i x r s t within at before here =
     let front : take (i + 1) nodes ≡ take i nodes ++ x ∷ [] = take_more nodes i x within ∙ ap (λ (y : AstNode). take i nodes ++ y ∷ []) (sym at) in
     let now : map node_of (take (i + 1) nodes) ≡ map node_of (take i nodes) ++ node_of x ∷ [] = ap (map node_of) front ∙ map_push node_of (take i nodes) x in
     gains_same r t _ _
-      (λ id. subst (λ (ns : List Node). (Reports make (forest_of (take i nodes)) e outer id ⊎ ReportsIn make (node_of x) e outer id) ↔ Reports make (linked ns) e outer id) (sym now) (reports_push make e outer (map node_of (take i nodes)) (node_of x) id))
-      (gains_then r s t _ _ before here)
+    (λ id. subst (λ (ns : List Node). (Reports make (forest_of (take i nodes)) e outer id ⊎ ReportsIn make (node_of x) e outer id) ↔ Reports make (linked ns) e outer id) (sym now) (reports_push make e outer (map node_of (take i nodes)) (node_of x) id))
+    (gains_then r s t _ _ before here)
 
 -- 3. One tree, by its root
 
@@ -137,8 +134,8 @@ module _ (e : Element) (outer : List Element) (x : AstNode) (up : List Step) (st
       let path : path_up (step ∷ up) ≡ path_to up step.combinator (tests_of (out-AstNode x).predicate) = path_up_is up step ∙ ap (λ p. path_to up step.combinator (tests_of p)) is in
       let all = gains_then r s u _ _ own (gains_then s t u _ _ children descendants) in
       subst (λ (n : Node). Gains r u (ReportsIn (path_to up step.combinator) n e outer)) (sym (node_out x))
-        (subst (λ (p : Path). Gains r u (λ id. (Contains (ascending (out-AstNode x).match_ids) id × (matches p e outer ≡ true))
-            ⊎ (Reports (Then p Child) (forest_of (out-AstNode x).children.items) e outer id ⊎ Reports (Then p Descendant) (forest_of (out-AstNode x).descendants.items) e outer id))) path all)
+      (subst (λ (p : Path). Gains r u (λ id. (Contains (ascending (out-AstNode x).match_ids) id × (matches p e outer ≡ true))
+      ⊎ (Reports (Then p Child) (forest_of (out-AstNode x).children.items) e outer id ⊎ Reports (Then p Descendant) (forest_of (out-AstNode x).descendants.items) e outer id))) path all)
 
 module _ (e : Element) (outer : List Element) (x : AstNode) (old new : List Step) (step : Step) (is : new ≡ old ++ step ∷ []) (same : step.predicate.now ≡ (out-AstNode x).predicate) where
   abbrev turned : reverse new ≡ step ∷ reverse old
@@ -155,6 +152,6 @@ module _ (e : Element) (outer : List Element) (x : AstNode) (old new : List Step
       → Gains r u (ReportsIn (path_to (reverse old) step.combinator) (node_of x) e outer)
   gains_way r s t u own children descendants =
       gains_node e outer x (reverse old) step r s t u same
-        (subst (λ (up : List Step). Gains r s (λ id. Contains (ascending (out-AstNode x).match_ids) id × (matches (path_up up) e outer ≡ true))) turned own)
-        (subst (λ (up : List Step). Gains s t (Reports (path_to up Child) (forest_of (out-AstNode x).children.items) e outer)) turned children)
-        (subst (λ (up : List Step). Gains t u (Reports (path_to up Descendant) (forest_of (out-AstNode x).descendants.items) e outer)) turned descendants)
+      (subst (λ (up : List Step). Gains r s (λ id. Contains (ascending (out-AstNode x).match_ids) id × (matches (path_up up) e outer ≡ true))) turned own)
+      (subst (λ (up : List Step). Gains s t (Reports (path_to up Child) (forest_of (out-AstNode x).children.items) e outer)) turned children)
+      (subst (λ (up : List Step). Gains t u (Reports (path_to up Descendant) (forest_of (out-AstNode x).descendants.items) e outer)) turned descendants)

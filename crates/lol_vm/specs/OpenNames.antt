@@ -1,5 +1,5 @@
 -- The plain matcher's list of open elements, of which it keeps the names and the numbers, and what it finds in the tree.
-use Rattle.std.specs.Prelude.{ℕ, ◌≡◌, ◌⊎◌, ◌↔◌, ◌&&◌, Bool, true, false, not, List, [], ◌∷◌, map, reverse, Contains, string_bytes, if◌then◌else◌}
+use Rattle.std.specs.Prelude.{ℕ, ◌≡◌, ◌⊎◌, ◌↔◌, Bool, true, false, not, List, [], ◌∷◌, map, reverse, Contains, string_bytes, if◌then◌else◌}
 use Rattle.std.specs.Str.{bytes_eq}
 use Rattle.lol_base.specs.Names.{lowercased}
 use Rattle.lol_base.specs.LocalNames.{Name}

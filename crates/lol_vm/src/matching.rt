@@ -34,9 +34,8 @@ fn expr_holds(expr: &Expr<OnTagNameExpr>, name: &LocalName) -> bool
     let holds = match &expr.simple_expr {
         OnTagNameExpr::ExplicitAny => true,
         OnTagNameExpr::LocalName(wanted) => *name == LocalName::new(wanted.as_bytes()),
-        OnTagNameExpr::Unmatchable
-        | OnTagNameExpr::NthChild(_)
-        | OnTagNameExpr::NthOfType(_) => false,
+        OnTagNameExpr::Unmatchable | OnTagNameExpr::NthChild(_) | OnTagNameExpr::NthOfType(_) =>
+            false,
     };
     holds != expr.negation
 }
@@ -123,7 +122,14 @@ fn visit_node<'t>(
         ids.union(&node.match_ids)?;
     }
     visit_nodes(&node.children, Combinator::Child, path, name, elements, ids)?;
-    visit_nodes(&node.descendants, Combinator::Descendant, path, name, elements, ids)?;
+    visit_nodes(
+        &node.descendants,
+        Combinator::Descendant,
+        path,
+        name,
+        elements,
+        ids,
+    )?;
     path.pop();
     Ok(())
 }

@@ -22,8 +22,8 @@ use crate::events::{RunCause, RunRefusal, TagEvent, TagReport};
 use crate::matching::{OpenElement, visit_nodes};
 use crate::void::is_void;
 use lol_base::LocalName;
-use lol_memory::{DenseHashSet, MatchInfo, SharedMemoryLimiter};
 use lol_css::Combinator;
+use lol_memory::{DenseHashSet, MatchInfo, SharedMemoryLimiter};
 use lol_program::{Ast, AstNode, Tries};
 use std::alloc::{AllocError, Global};
 
@@ -147,7 +147,14 @@ fn matching(
 {
     let mut path = Vec::new(alloc);
     let mut ids = DenseHashSet::new(alloc);
-    visit_nodes(roots, Combinator::Descendant, &mut path, name, elements, &mut ids)?;
+    visit_nodes(
+        roots,
+        Combinator::Descendant,
+        &mut path,
+        name,
+        elements,
+        &mut ids,
+    )?;
     Ok(ids)
 }
 

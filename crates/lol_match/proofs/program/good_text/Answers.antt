@@ -1,7 +1,6 @@
 use Rattle.std.proofs.Common.{◌++◌, false, map, ap, ◌∙◌}
-use Rattle.lol_program.specs.Paths.{Path}
 use Rattle.lol_program.specs.Asts.{pairs_of, trees_of}
-use Rattle.lol_program.specs.Nodes.{nodes_of, selectors_of}
+use Rattle.lol_program.specs.Nodes.{selectors_of}
 use Rattle.lol_program.specs.Asts as tree
 use Rattle.lol_program.proofs.NodeLists.{nodes_of-AreNodes}
 use Rattle.lol_program.proofs.Once.{AllPairs-from_Distinct, nodes_distinct}

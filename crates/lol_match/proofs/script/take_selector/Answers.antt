@@ -55,6 +55,6 @@ returns-clause-stop c = λ s reading.
     let empty : c.args.script.now.events.items ≡ [] = nil_from_length _ (grind (arith, nat_tests, c.args.script.now.events.ok.0)) in
     let none : s.events ≡ [] = sym reading.events ∙ ap (map event_of) empty in
     let adds : list_all (λ (pair : Path × ℕ). path_runs pair.0) added ≡ false =
-        not_true _ (λ all. true≢false (sym (c.runs_now.ensures.nodes.1 (nodes_run (nodes_of old) (nodes_of new) added c.in-Ok-add_selector.ensures.nodes reading.runs all)) ∙ c.if-runs_now.false)) in
+    not_true _ (λ all. true≢false (sym (c.runs_now.ensures.nodes.1 (nodes_run (nodes_of old) (nodes_of new) added c.in-Ok-add_selector.ensures.nodes reading.runs all)) ∙ c.if-runs_now.false)) in
     subst (λ stop. Stops stop (scripts.with_line line_at path_runs c.args.number s (Select c.args.id c.args.text.now))) (sym c.unsupported.ensures)
     (selector_taken c.args.number s c.args.id s.events _ _ none c.in-Ok.ensures.ok ∙ ap (judged c.args.number s added) adds)

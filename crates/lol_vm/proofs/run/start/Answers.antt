@@ -1,7 +1,6 @@
-use Rattle.std.proofs.Common.{ℕ, ap, sym, ◌∙◌, map, not, false}
+use Rattle.std.proofs.Common.{ℕ, ap, sym, ◌∙◌, map, not}
 use Rattle.lol_program.specs.Paths.{First}
 use Rattle.lol_program.specs.Forest.{pairs_in}
-use Rattle.lol_vm.specs.Events.{has_content}
 use Rattle.lol_vm.specs.OpenNames.{names_of}
 use Rattle.lol_vm.specs.Documents.{element_of}
 use Rattle.lol_vm.specs.Answers.{matching_ids}
