@@ -1,5 +1,5 @@
 -- A text has no more tokens than code points.
-use Rattle.std.proofs.Common.{◌≡◌, ℕ, zero, suc, ◌+◌, ◌≤◌, Bool, true, false, cond, eqb, ◌&&◌, List, [], ◌∷◌, ◌++◌, length, Option, Some, None, refl, arith, length-append}
+use Rattle.std.proofs.Common.{◌≡◌, ℕ, zero, suc, ◌+◌, ◌≤◌, Bool, true, false, cond, eqb, ◌&&◌, List, [], ◌∷◌, length, Option, Some, None, refl, arith, length-append}
 use Rattle.lol_css.specs.Points.{took, at_most, preprocessed_behind, cleaned, cleaned_behind, preprocessed}
 use Rattle.lol_css.specs.Tokens.{Token, next, somes, with_first, tokens_of, tokens}
 use Rattle.lol_css.proofs.Many.{Shrinks}

@@ -6,6 +6,8 @@ mod limits;
 #[cfg(test)]
 mod names;
 #[cfg(test)]
+mod readings;
+#[cfg(test)]
 mod runs;
 #[cfg(test)]
 mod sets;

@@ -1,379 +1,446 @@
-//! Texts with the cause for which each is refused, or none where it is read.
+//! Texts that are read, and texts that are refused for each cause.
 //!
 //! They are a part of 4,308 texts that were made by a slow model of the grammar, written apart from this project (it draws signs, names and
 //! brackets at random), and were read by the Rust crate too, with the same answers. All 4,308 were read once by `SelectorsParser::parse`,
 //! again with the same answers.
 
 use lol_vm::{SelectorError, SelectorsParser};
+use std::alloc::Global;
 use std::test::Fail;
 
-const TEXTS: [(&str, Option<SelectorError>); 360] = [
-    (":not(* ]a", Some(SelectorError::DanglingCombinator)),
-    (":not(a) |", Some(SelectorError::DanglingCombinator)),
-    (":not(a> +", Some(SelectorError::DanglingCombinator)),
-    (":not(a>,+", Some(SelectorError::DanglingCombinator)),
-    (":not(|a |", Some(SelectorError::DanglingCombinator)),
-    (":nth-child(1) -", Some(SelectorError::DanglingCombinator)),
-    (":nth-child(n) -", Some(SelectorError::DanglingCombinator)),
-    (":nth-child(n) 1", Some(SelectorError::DanglingCombinator)),
-    (":nth-child(n) 2", Some(SelectorError::DanglingCombinator)),
-    (":nth-child(n)+ ", Some(SelectorError::DanglingCombinator)),
-    (":nth-child(n)+)", Some(SelectorError::DanglingCombinator)),
-    (":nth-child(n)++", Some(SelectorError::DanglingCombinator)),
-    (":nth-child(n)+,", Some(SelectorError::DanglingCombinator)),
-    (":nth-child(n)+-", Some(SelectorError::DanglingCombinator)),
-    ("[ i]~", Some(SelectorError::DanglingCombinator)),
-    ("[a] =", Some(SelectorError::DanglingCombinator)),
-    ("\\\" ~", Some(SelectorError::DanglingCombinator)),
-    ("a+=:", Some(SelectorError::DanglingCombinator)),
-    ("a+>:|", Some(SelectorError::DanglingCombinator)),
-    ("a+~(*", Some(SelectorError::DanglingCombinator)),
-    ("a,a~#", Some(SelectorError::DanglingCombinator)),
-    ("a-a+]", Some(SelectorError::DanglingCombinator)),
-    ("a>1 *", Some(SelectorError::DanglingCombinator)),
-    ("aa+,", Some(SelectorError::DanglingCombinator)),
-    ("aa~a>", Some(SelectorError::DanglingCombinator)),
-    ("a~ #.", Some(SelectorError::DanglingCombinator)),
-    ("a~]#", Some(SelectorError::DanglingCombinator)),
-    ("|\\+>", Some(SelectorError::DanglingCombinator)),
-    (")] |", Some(SelectorError::EmptySelector)),
-    ("+)*#", Some(SelectorError::EmptySelector)),
-    (":not()*+[", Some(SelectorError::EmptySelector)),
-    (":not(,#|.", Some(SelectorError::EmptySelector)),
-    (":not(,:) ", Some(SelectorError::EmptySelector)),
-    (":not(,>#:", Some(SelectorError::EmptySelector)),
-    (":not(> ,*", Some(SelectorError::EmptySelector)),
-    (":not(>*]|", Some(SelectorError::EmptySelector)),
-    (":not(]#, ", Some(SelectorError::EmptySelector)),
-    (":nth-child(1),-", Some(SelectorError::EmptySelector)),
-    (":nth-child(22),", Some(SelectorError::EmptySelector)),
-    (":nth-child(n) ,", Some(SelectorError::EmptySelector)),
-    (":nth-child(n), ", Some(SelectorError::EmptySelector)),
-    (":nth-child(n),)", Some(SelectorError::EmptySelector)),
-    (":nth-child(n),+", Some(SelectorError::EmptySelector)),
-    (":nth-child(n),,", Some(SelectorError::EmptySelector)),
-    (":nth-child(n),-", Some(SelectorError::EmptySelector)),
-    (":nth-child(n),1", Some(SelectorError::EmptySelector)),
-    (":nth-child(n),2", Some(SelectorError::EmptySelector)),
-    ("[ i],", Some(SelectorError::EmptySelector)),
-    ("[\\i],", Some(SelectorError::EmptySelector)),
-    ("[i ],", Some(SelectorError::EmptySelector)),
-    ("a(: ,", Some(SelectorError::EmptySelector)),
-    ("a(:#(", Some(SelectorError::EmptySelector)),
-    ("a,,1=", Some(SelectorError::EmptySelector)),
-    ("a,,a ", Some(SelectorError::EmptySelector)),
-    ("a1a-(", Some(SelectorError::EmptySelector)),
-    ("~-a1", Some(SelectorError::EmptySelector)),
-    (".#-[", Some(SelectorError::InvalidClassName)),
-    (".) (", Some(SelectorError::InvalidClassName)),
-    (".)##", Some(SelectorError::InvalidClassName)),
-    ("..1+", Some(SelectorError::InvalidClassName)),
-    (".=-\\", Some(SelectorError::InvalidClassName)),
-    (".]*~", Some(SelectorError::InvalidClassName)),
-    (".],\"", Some(SelectorError::InvalidClassName)),
-    (".|+-", Some(SelectorError::InvalidClassName)),
-    (":not( ..*", Some(SelectorError::InvalidClassName)),
-    (":not( .|.", Some(SelectorError::InvalidClassName)),
-    (":not(*.>*", Some(SelectorError::InvalidClassName)),
-    (":not(. )+", Some(SelectorError::InvalidClassName)),
-    (":not(..|.", Some(SelectorError::InvalidClassName)),
-    (":not(.>>|", Some(SelectorError::InvalidClassName)),
-    (":not(.[)+", Some(SelectorError::InvalidClassName)),
-    (":nth-child(2).+", Some(SelectorError::InvalidClassName)),
-    (":nth-child(2).-", Some(SelectorError::InvalidClassName)),
-    (":nth-child(2)..", Some(SelectorError::InvalidClassName)),
-    (":nth-child(n). ", Some(SelectorError::InvalidClassName)),
-    (":nth-child(n).)", Some(SelectorError::InvalidClassName)),
-    (":nth-child(n).+", Some(SelectorError::InvalidClassName)),
-    (":nth-child(n).-", Some(SelectorError::InvalidClassName)),
-    (":nth-child(n)..", Some(SelectorError::InvalidClassName)),
-    ("a+.=", Some(SelectorError::InvalidClassName)),
-    ("a.:]\\", Some(SelectorError::InvalidClassName)),
-    ("a.[1", Some(SelectorError::InvalidClassName)),
-    ("a>.)", Some(SelectorError::InvalidClassName)),
-    ("a\\*.=", Some(SelectorError::InvalidClassName)),
-    (":not([):+", Some(SelectorError::MissingAttributeName)),
-    (":not([)|:", Some(SelectorError::MissingAttributeName)),
-    (":not([+[,", Some(SelectorError::MissingAttributeName)),
-    (":not([[*#", Some(SelectorError::MissingAttributeName)),
-    (":not(a[,:", Some(SelectorError::MissingAttributeName)),
-    (":not(a[,a", Some(SelectorError::MissingAttributeName)),
-    (":not(a[.*", Some(SelectorError::MissingAttributeName)),
-    (":not(a[:*", Some(SelectorError::MissingAttributeName)),
-    (":not(a[:>", Some(SelectorError::MissingAttributeName)),
-    (":not(a[:|", Some(SelectorError::MissingAttributeName)),
-    (":not(a[>a", Some(SelectorError::MissingAttributeName)),
-    (":not(|a[.", Some(SelectorError::MissingAttributeName)),
-    ("[ ~\\", Some(SelectorError::MissingAttributeName)),
-    ("[\"\"\\,", Some(SelectorError::MissingAttributeName)),
-    ("[\"a|1", Some(SelectorError::MissingAttributeName)),
-    ("[\"~i]", Some(SelectorError::MissingAttributeName)),
-    ("[)=1", Some(SelectorError::MissingAttributeName)),
-    ("[+~~", Some(SelectorError::MissingAttributeName)),
-    ("[,=1a", Some(SelectorError::MissingAttributeName)),
-    ("[-*a", Some(SelectorError::MissingAttributeName)),
-    ("[=\"*|", Some(SelectorError::MissingAttributeName)),
-    ("[>]|", Some(SelectorError::MissingAttributeName)),
-    ("[~+=", Some(SelectorError::MissingAttributeName)),
-    ("[~\\=,", Some(SelectorError::MissingAttributeName)),
-    ("a+[(#", Some(SelectorError::MissingAttributeName)),
-    ("a[,:", Some(SelectorError::MissingAttributeName)),
-    ("aa[:", Some(SelectorError::MissingAttributeName)),
-    ("|*[,", Some(SelectorError::MissingAttributeName)),
-    (":not(*>a|", Some(SelectorError::NamespacedSelector)),
-    (":not([*|a]):root", Some(SelectorError::NamespacedSelector)),
-    (":not(a [*|b])", Some(SelectorError::NamespacedSelector)),
-    (":not(a|+)", Some(SelectorError::NamespacedSelector)),
-    (":not(a|.)", Some(SelectorError::NamespacedSelector)),
-    (":not(a|.,", Some(SelectorError::NamespacedSelector)),
-    (":not(a|]", Some(SelectorError::NamespacedSelector)),
-    (":not(a|a]", Some(SelectorError::NamespacedSelector)),
-    (":not(a||*", Some(SelectorError::NamespacedSelector)),
-    (":not(a||+", Some(SelectorError::NamespacedSelector)),
-    (":not(a||[", Some(SelectorError::NamespacedSelector)),
-    (":not(a||]", Some(SelectorError::NamespacedSelector)),
-    ("[*|a]:root", Some(SelectorError::NamespacedSelector)),
-    ("[\\*|\"", Some(SelectorError::NamespacedSelector)),
-    ("[\\1|*", Some(SelectorError::NamespacedSelector)),
-    ("[aa|~", Some(SelectorError::NamespacedSelector)),
-    ("[a|1", Some(SelectorError::NamespacedSelector)),
-    ("[i1||", Some(SelectorError::NamespacedSelector)),
-    ("\\)|a", Some(SelectorError::NamespacedSelector)),
-    ("a + [*|b]", Some(SelectorError::NamespacedSelector)),
-    ("a| ,(", Some(SelectorError::NamespacedSelector)),
-    ("a|\">1", Some(SelectorError::NamespacedSelector)),
-    ("a|#|", Some(SelectorError::NamespacedSelector)),
-    ("a|(a", Some(SelectorError::NamespacedSelector)),
-    ("a|))~", Some(SelectorError::NamespacedSelector)),
-    ("a|,b", Some(SelectorError::NamespacedSelector)),
-    ("a|1=,", Some(SelectorError::NamespacedSelector)),
-    ("a||>:", Some(SelectorError::NamespacedSelector)),
-    ("*::,", Some(SelectorError::UnexpectedEnd)),
-    (":", Some(SelectorError::UnexpectedEnd)),
-    (":not( a>[", Some(SelectorError::UnexpectedEnd)),
-    (":not([|]*", Some(SelectorError::UnexpectedEnd)),
-    (":nth-child() ee", Some(SelectorError::UnexpectedEnd)),
-    (":nth-child())n1", Some(SelectorError::UnexpectedEnd)),
-    (":nth-child()++,", Some(SelectorError::UnexpectedEnd)),
-    (":nth-child(),-e", Some(SelectorError::UnexpectedEnd)),
-    (":nth-child()-,", Some(SelectorError::UnexpectedEnd)),
-    (":nth-child()1-", Some(SelectorError::UnexpectedEnd)),
-    (":nth-child()2),", Some(SelectorError::UnexpectedEnd)),
-    (":nth-child()n..", Some(SelectorError::UnexpectedEnd)),
-    (":nth-child()n2)", Some(SelectorError::UnexpectedEnd)),
-    (":nth-child(22).", Some(SelectorError::UnexpectedEnd)),
-    (":nth-child(n +)", Some(SelectorError::UnexpectedEnd)),
-    (":nth-child(n -)", Some(SelectorError::UnexpectedEnd)),
-    (":nth-child(n+  ", Some(SelectorError::UnexpectedEnd)),
-    (":nth-child(n+))", Some(SelectorError::UnexpectedEnd)),
-    (":nth-child(n- )", Some(SelectorError::UnexpectedEnd)),
-    (":nth-last-child(", Some(SelectorError::UnexpectedEnd)),
-    (":nth-last-child(1) + .", Some(SelectorError::UnexpectedEnd)),
-    ("[] ]\"", Some(SelectorError::UnexpectedEnd)),
-    ("[]\"1*", Some(SelectorError::UnexpectedEnd)),
-    ("[]**=", Some(SelectorError::UnexpectedEnd)),
-    ("[]-|", Some(SelectorError::UnexpectedEnd)),
-    ("a  a.", Some(SelectorError::UnexpectedEnd)),
-    ("a+aa.", Some(SelectorError::UnexpectedEnd)),
-    ("a:,:1", Some(SelectorError::UnexpectedEnd)),
-    ("#\\]*", Some(SelectorError::UnexpectedToken)),
-    (":not( |.]", Some(SelectorError::UnexpectedToken)),
-    (":not(|>>*", Some(SelectorError::UnexpectedToken)),
-    (":not(|]*.", Some(SelectorError::UnexpectedToken)),
-    (":nth-child(2+-e", Some(SelectorError::UnexpectedToken)),
-    (":nth-child(2147483648n-", Some(SelectorError::UnexpectedToken)),
-    (":nth-child(e  ,", Some(SelectorError::UnexpectedToken)),
-    (":nth-child(n + 1.0)", Some(SelectorError::UnexpectedToken)),
-    (":nth-child(n - -1)", Some(SelectorError::UnexpectedToken)),
-    (":nth-child(n - 2147483649", Some(SelectorError::UnexpectedToken)),
-    (":nth-child(n- +1)", Some(SelectorError::UnexpectedToken)),
-    (":nth-child(n- -1)", Some(SelectorError::UnexpectedToken)),
-    (":nth-child(n-1 2)", Some(SelectorError::UnexpectedToken)),
-    (":nth-last-child(x)", Some(SelectorError::UnexpectedToken)),
-    ("[a]1=", Some(SelectorError::UnexpectedToken)),
-    ("[i]\"\"", Some(SelectorError::UnexpectedToken)),
-    ("[i]|1", Some(SelectorError::UnexpectedToken)),
-    ("[ia]*", Some(SelectorError::UnexpectedToken)),
-    ("\\1) ", Some(SelectorError::UnexpectedToken)),
-    ("a\"=1", Some(SelectorError::UnexpectedToken)),
-    ("a\">:a", Some(SelectorError::UnexpectedToken)),
-    ("a*=(+", Some(SelectorError::UnexpectedToken)),
-    ("a1]=*", Some(SelectorError::UnexpectedToken)),
-    ("a=:\"~", Some(SelectorError::UnexpectedToken)),
-    ("a\\\rb", Some(SelectorError::UnexpectedToken)),
-    ("a\\-\"", Some(SelectorError::UnexpectedToken)),
-    ("|*=", Some(SelectorError::UnexpectedToken)),
-    ("|:,,", Some(SelectorError::UnexpectedToken)),
-    (":not([a)>", Some(SelectorError::UnexpectedTokenInAttribute)),
-    (":not([a,)", Some(SelectorError::UnexpectedTokenInAttribute)),
-    (":not([|||", Some(SelectorError::UnexpectedTokenInAttribute)),
-    (":not(a[*#", Some(SelectorError::UnexpectedTokenInAttribute)),
-    (":not(a[*+", Some(SelectorError::UnexpectedTokenInAttribute)),
-    (":not(a[*:", Some(SelectorError::UnexpectedTokenInAttribute)),
-    (":not(a[a+", Some(SelectorError::UnexpectedTokenInAttribute)),
-    (":not(a[a,", Some(SelectorError::UnexpectedTokenInAttribute)),
-    (":not(a[| ", Some(SelectorError::UnexpectedTokenInAttribute)),
-    ("[ i~ ", Some(SelectorError::UnexpectedTokenInAttribute)),
-    ("[*\":", Some(SelectorError::UnexpectedTokenInAttribute)),
-    ("[*\"]", Some(SelectorError::UnexpectedTokenInAttribute)),
-    ("[*a]", Some(SelectorError::UnexpectedTokenInAttribute)),
-    ("[*a||", Some(SelectorError::UnexpectedTokenInAttribute)),
-    ("[\\i~~", Some(SelectorError::UnexpectedTokenInAttribute)),
-    ("[\\~,*", Some(SelectorError::UnexpectedTokenInAttribute)),
-    ("[a i", Some(SelectorError::UnexpectedTokenInAttribute)),
-    ("[a~\"", Some(SelectorError::UnexpectedTokenInAttribute)),
-    ("[a~/**/=b]", Some(SelectorError::UnexpectedTokenInAttribute)),
-    ("[i*~~", Some(SelectorError::UnexpectedTokenInAttribute)),
-    ("[|:=", Some(SelectorError::UnexpectedTokenInAttribute)),
-    ("[|a,|", Some(SelectorError::UnexpectedTokenInAttribute)),
-    ("[|a~a", Some(SelectorError::UnexpectedTokenInAttribute)),
-    ("[||)", Some(SelectorError::UnexpectedTokenInAttribute)),
-    ("a>[a[", Some(SelectorError::UnexpectedTokenInAttribute)),
-    ("a[*)-", Some(SelectorError::UnexpectedTokenInAttribute)),
-    ("a[aa+", Some(SelectorError::UnexpectedTokenInAttribute)),
-    ("a[|~-", Some(SelectorError::UnexpectedTokenInAttribute)),
-    ("*+\\[", Some(SelectorError::UnsupportedCombinator('+'))),
-    ("*+a ", Some(SelectorError::UnsupportedCombinator('+'))),
-    (":nth-child(1)+e", Some(SelectorError::UnsupportedCombinator('+'))),
-    (":nth-child(1)+n", Some(SelectorError::UnsupportedCombinator('+'))),
-    (":nth-child(2)+e", Some(SelectorError::UnsupportedCombinator('+'))),
-    (":nth-child(2)+n", Some(SelectorError::UnsupportedCombinator('+'))),
-    (":nth-child(n)+e", Some(SelectorError::UnsupportedCombinator('+'))),
-    (":nth-child(n)+n", Some(SelectorError::UnsupportedCombinator('+'))),
-    ("[*|a] + b", Some(SelectorError::UnsupportedCombinator('+'))),
-    ("\\:+\\", Some(SelectorError::UnsupportedCombinator('+'))),
-    ("\\=+\\", Some(SelectorError::UnsupportedCombinator('+'))),
-    ("\\\\+\\", Some(SelectorError::UnsupportedCombinator('+'))),
-    ("\\]+a", Some(SelectorError::UnsupportedCombinator('+'))),
-    ("\\|+\\", Some(SelectorError::UnsupportedCombinator('+'))),
-    ("\\~+*", Some(SelectorError::UnsupportedCombinator('+'))),
-    ("a + b, c ~ d", Some(SelectorError::UnsupportedCombinator('+'))),
-    ("a+*#\\", Some(SelectorError::UnsupportedCombinator('+'))),
-    ("a+*>\\", Some(SelectorError::UnsupportedCombinator('+'))),
-    ("a+\\1a", Some(SelectorError::UnsupportedCombinator('+'))),
-    ("a+\\| ", Some(SelectorError::UnsupportedCombinator('+'))),
-    ("a+a a", Some(SelectorError::UnsupportedCombinator('+'))),
-    ("a-+aa", Some(SelectorError::UnsupportedCombinator('+'))),
-    ("a1+*", Some(SelectorError::UnsupportedCombinator('+'))),
-    ("a>*+\\", Some(SelectorError::UnsupportedCombinator('+'))),
-    ("a\\)+*", Some(SelectorError::UnsupportedCombinator('+'))),
-    ("a\\|+*", Some(SelectorError::UnsupportedCombinator('+'))),
-    ("aa+ *", Some(SelectorError::UnsupportedCombinator('+'))),
-    ("aa+#a", Some(SelectorError::UnsupportedCombinator('+'))),
-    ("*~\\a", Some(SelectorError::UnsupportedCombinator('~'))),
-    ("*~|*", Some(SelectorError::UnsupportedCombinator('~'))),
-    ("--~*", Some(SelectorError::UnsupportedCombinator('~'))),
-    ("\\(~\\", Some(SelectorError::UnsupportedCombinator('~'))),
-    ("\\,~\\", Some(SelectorError::UnsupportedCombinator('~'))),
-    ("\\-~\\", Some(SelectorError::UnsupportedCombinator('~'))),
-    ("\\.~*", Some(SelectorError::UnsupportedCombinator('~'))),
-    ("\\[~*", Some(SelectorError::UnsupportedCombinator('~'))),
-    ("a.a~*", Some(SelectorError::UnsupportedCombinator('~'))),
-    ("a1~*", Some(SelectorError::UnsupportedCombinator('~'))),
-    ("a>a~\\", Some(SelectorError::UnsupportedCombinator('~'))),
-    ("a\\1~a", Some(SelectorError::UnsupportedCombinator('~'))),
-    ("aa-~a", Some(SelectorError::UnsupportedCombinator('~'))),
-    ("aa~a-", Some(SelectorError::UnsupportedCombinator('~'))),
-    ("a~ \\*", Some(SelectorError::UnsupportedCombinator('~'))),
-    ("a~*", Some(SelectorError::UnsupportedCombinator('~'))),
-    ("a~.\\1", Some(SelectorError::UnsupportedCombinator('~'))),
-    ("a~a-", Some(SelectorError::UnsupportedCombinator('~'))),
-    ("a~a1a", Some(SelectorError::UnsupportedCombinator('~'))),
-    ("a~a>a", Some(SelectorError::UnsupportedCombinator('~'))),
-    ("a~a\\", Some(SelectorError::UnsupportedCombinator('~'))),
-    ("a~a\\\"", Some(SelectorError::UnsupportedCombinator('~'))),
-    ("a~a\\*", Some(SelectorError::UnsupportedCombinator('~'))),
-    ("a~a\\~", Some(SelectorError::UnsupportedCombinator('~'))),
-    ("a~aa ", Some(SelectorError::UnsupportedCombinator('~'))),
-    ("a~aaa", Some(SelectorError::UnsupportedCombinator('~'))),
-    ("a~|--", Some(SelectorError::UnsupportedCombinator('~'))),
-    ("a~|\\", Some(SelectorError::UnsupportedCombinator('~'))),
-    (":*.", Some(SelectorError::UnsupportedPseudoClassOrElement)),
-    (":..,", Some(SelectorError::UnsupportedPseudoClassOrElement)),
-    ("::\"\"", Some(SelectorError::UnsupportedPseudoClassOrElement)),
-    (":=.>", Some(SelectorError::UnsupportedPseudoClassOrElement)),
-    (":\\\"[", Some(SelectorError::UnsupportedPseudoClassOrElement)),
-    (":a\" ", Some(SelectorError::UnsupportedPseudoClassOrElement)),
-    (":first-child(", Some(SelectorError::UnsupportedPseudoClassOrElement)),
-    (":first-child()", Some(SelectorError::UnsupportedPseudoClassOrElement)),
-    (":is(a, :where())", Some(SelectorError::UnsupportedPseudoClassOrElement)),
-    (":not(: aa", Some(SelectorError::UnsupportedPseudoClassOrElement)),
-    (":not(::+a", Some(SelectorError::UnsupportedPseudoClassOrElement)),
-    (":not(:>|", Some(SelectorError::UnsupportedPseudoClassOrElement)),
-    (":not(:] ", Some(SelectorError::UnsupportedPseudoClassOrElement)),
-    (":not(:|:", Some(SelectorError::UnsupportedPseudoClassOrElement)),
-    (":not([*|b] a)", Some(SelectorError::UnsupportedPseudoClassOrElement)),
-    (":not(a + b)", Some(SelectorError::UnsupportedPseudoClassOrElement)),
-    (":not/**/(a)", Some(SelectorError::UnsupportedPseudoClassOrElement)),
-    (":nth-child", Some(SelectorError::UnsupportedPseudoClassOrElement)),
-    (":root", Some(SelectorError::UnsupportedPseudoClassOrElement)),
-    (":root[*|a]", Some(SelectorError::UnsupportedPseudoClassOrElement)),
-    ("a,:\\|", Some(SelectorError::UnsupportedPseudoClassOrElement)),
-    ("a-:a>", Some(SelectorError::UnsupportedPseudoClassOrElement)),
-    ("a: #=", Some(SelectorError::UnsupportedPseudoClassOrElement)),
-    ("a:#\",", Some(SelectorError::UnsupportedPseudoClassOrElement)),
-    ("a:):]", Some(SelectorError::UnsupportedPseudoClassOrElement)),
-    ("a:=+|", Some(SelectorError::UnsupportedPseudoClassOrElement)),
-    ("a:]\\]", Some(SelectorError::UnsupportedPseudoClassOrElement)),
-    ("a:a|:", Some(SelectorError::UnsupportedPseudoClassOrElement)),
-    ("-\\", None),
-    ("./**/a", None),
-    (".\\=-", None),
-    (".a\\\"", None),
-    (":not( aa", None),
-    (":not(* ", None),
-    (":not(*),*", None),
-    (":not(*),a", None),
-    (":not(*,|*", None),
-    (":not([ a", None),
-    (":not(a#a)", None),
-    (":not(aaaa", None),
-    (":not(|*", None),
-    (":nth-child( 2  ", None),
-    (":nth-child(+/**/n)", None),
-    (":nth-child(+0n-0)", None),
-    (":nth-child(+211", None),
-    (":nth-child(-1", None),
-    (":nth-child(-2  ", None),
-    (":nth-child(-2 )", None),
-    (":nth-child(0000000000000000000001n)", None),
-    (":nth-child(1221", None),
-    (":nth-child(2147483647n - 2147483648)", None),
-    (":nth-child(2n )", None),
-    (":nth-child(n - 1)", None),
-    (":nth-child(n- 2147483648)", None),
-    (":nth-child(n-00000000000000000000001)", None),
-    (":nth-child(n-\\31)", None),
-    ("[ |\\\\", None),
-    ("[-a]", None),
-    ("[\\= ", None),
-    ("[\\=]", None),
-    ("[a=b", None),
-    ("[a|=\\", None),
-    ("[ii\\,", None),
-    ("[|\\ a", None),
-    ("[|\\|]", None),
-    ("\\: ", None),
-    ("\\[ ", None),
-    ("\\[\\|", None),
-    ("a *", None),
-    ("a .\\ ", None),
-    ("a,\\+a", None),
-    ("a-\\1a", None),
-    ("a-a>*", None),
-    ("a.\\", None),
-    ("a.\\+", None),
-    ("a.\\=1", None),
-    ("a1>|\\", None),
-    ("a\\[", None),
-    ("a\\\\>a", None),
-    ("a\\a\\", None),
-];
+const READ: &str = r##"-\
+./**/a
+.\=-
+.a\"
+:not( aa
+:not(* 
+:not(*),*
+:not(*),a
+:not(*,|*
+:not([ a
+:not(a#a)
+:not(aaaa
+:not(|*
+:nth-child( 2  
+:nth-child(+/**/n)
+:nth-child(+0n-0)
+:nth-child(+211
+:nth-child(-1
+:nth-child(-2  
+:nth-child(-2 )
+:nth-child(0000000000000000000001n)
+:nth-child(1221
+:nth-child(2147483647n - 2147483648)
+:nth-child(2n )
+:nth-child(n - 1)
+:nth-child(n- 2147483648)
+:nth-child(n-00000000000000000000001)
+:nth-child(n-\31)
+[ |\\
+[-a]
+[\= 
+[\=]
+[a=b
+[a|=\
+[ii\,
+[|\ a
+[|\|]
+\: 
+\[ 
+\[\|
+a *
+a .\ 
+a,\+a
+a-\1a
+a-a>*
+a.\
+a.\+
+a.\=1
+a1>|\
+a\[
+a\\>a
+a\a\"##;
+
+const DANGLING_COMBINATOR: &str = r##":not( .a>
+:not(* ]a
+:not(a) |
+:not(a> +
+:not(a>,+
+:not(|a |
+:nth-child(1) -
+:nth-child(n) -
+:nth-child(n) 1
+:nth-child(n) 2
+:nth-child(n)+ 
+:nth-child(n)+)
+:nth-child(n)++
+:nth-child(n)+,
+:nth-child(n)+-
+[ i]~
+[a] =
+\" ~
+\,+|
+a+=:
+a+>:|
+a+~(*
+a,a~#
+a-a+]
+a>1 *
+aa+,
+aa~a>
+a~ #.
+a~]#
+|\+>"##;
+
+const EMPTY_SELECTOR: &str = r##")] |
++)*#
+:not()*+[
+:not(,#|.
+:not(,., 
+:not(,:) 
+:not(,>#:
+:not(> ,*
+:not(>*]|
+:not(]#, 
+:nth-child(1),-
+:nth-child(22),
+:nth-child(n) ,
+:nth-child(n), 
+:nth-child(n),)
+:nth-child(n),+
+:nth-child(n),,
+:nth-child(n),-
+:nth-child(n),1
+:nth-child(n),2
+[ i],
+[\i],
+[i ],
+]=-]
+a(: ,
+a(:#(
+a,,1=
+a,,a 
+a1a-(
+~-a1"##;
+
+const INVALID_CLASS_NAME: &str = r##".#-[
+.) (
+.)##
+..1+
+.=-\
+.]*~
+.],"
+.|+-
+:not( ..*
+:not( .|.
+:not(*.>*
+:not(. )+
+:not(..|.
+:not(.>>|
+:not(.[)+
+:nth-child(2).+
+:nth-child(2).-
+:nth-child(2)..
+:nth-child(n). 
+:nth-child(n).)
+:nth-child(n).+
+:nth-child(n).-
+:nth-child(n)..
+a .*#
+a+.=
+a..~]
+a.:]\
+a.[1
+a>.)
+a\*.="##;
+
+const MISSING_ATTRIBUTE_NAME: &str = r##":not([):+
+:not([)|:
+:not([+[,
+:not([[*#
+:not(a[,:
+:not(a[,a
+:not(a[.*
+:not(a[:*
+:not(a[:>
+:not(a[:|
+:not(a[>a
+:not(|a[.
+[ =\
+[ ~\
+[""\,
+["a|1
+["~i]
+[)=1
+[+~~
+[,=1a
+[-*a
+[="*|
+[>]|
+[~+=
+[~\=,
+a+[(#
+a[#]]
+a[,:
+aa[:
+|*[,"##;
+
+const NAMESPACED_SELECTOR: &str = r##":not(*>a|
+:not([*|a]):root
+:not(a [*|b])
+:not(a|+)
+:not(a|.)
+:not(a|.,
+:not(a|]
+:not(a|]:
+:not(a|a]
+:not(a||*
+:not(a||+
+:not(a||[
+:not(a||]
+[*|a]:root
+[\*|"
+[\1|*
+[aa|~
+[a|1
+[i1||
+\)|a
+\+| 
+a + [*|b]
+a| ,(
+a|">1
+a|#|
+a|(a
+a|))~
+a|,b
+a|1=,
+a||>:"##;
+
+const UNEXPECTED_END: &str = r##"*::,
+:
+:not( a>[
+:not([|]*
+:nth-child() ee
+:nth-child())n1
+:nth-child()++,
+:nth-child(),-e
+:nth-child()-,
+:nth-child()1-
+:nth-child()2),
+:nth-child()n..
+:nth-child()n2)
+:nth-child(22).
+:nth-child(n +)
+:nth-child(n -)
+:nth-child(n+  
+:nth-child(n+))
+:nth-child(n- )
+:nth-last-child(
+:nth-last-child(1) + .
+[\,=]
+[] ]"
+[]"1*
+[]**=
+[]-|
+a  a.
+a ~:,
+a+aa.
+a:,:1"##;
+
+const UNEXPECTED_TOKEN: &str = r##"#\]*
+:not( |.]
+:not(|>>*
+:not(|]*.
+:nth-child(2+-e
+:nth-child(2147483648n-
+:nth-child(e  ,
+:nth-child(n + 1.0)
+:nth-child(n - -1)
+:nth-child(n - 2147483649
+:nth-child(n- +1)
+:nth-child(n- -1)
+:nth-child(n-1 2)
+:nth-last-child(x)
+[a]1=
+[i]""
+[i]|1
+[i]|i
+[ia]*
+\1) 
+a"=1
+a">:a
+a*=(+
+a,|1>
+a1]=*
+a=:"~
+a@
+a\-"
+|*=
+|:,,"##;
+
+const UNEXPECTED_TOKEN_IN_ATTRIBUTE: &str = r##":not([a)>
+:not([a,)
+:not([|||
+:not(a[*#
+:not(a[*+
+:not(a[*:
+:not(a[a+
+:not(a[a,
+:not(a[| 
+[ i~ 
+[*":
+[*"]
+[*a]
+[*a||
+[\i~~
+[\~,*
+[a i
+[a~"
+[a~/**/=b]
+[i*~~
+[|:=
+[|a,|
+[|a~a
+[||)
+[|~-
+a>[a[
+a[*)-
+a[*+=
+a[aa+
+a[|~-"##;
+
+const SIBLING_STEPS: &str = r##"*+\[
+*+\a
+*+a 
+:nth-child(1)+e
+:nth-child(1)+n
+:nth-child(2)+e
+:nth-child(2)+n
+:nth-child(n)+e
+:nth-child(n)+n
+[*|a] + b
+\:+\
+\=+\
+\\+\
+\]+a
+\|+\
+\~+*
+a + b, c ~ d
+a+*#\
+a+*>\
+a+\1a
+a+\>
+a+\| 
+a+a a
+a-+aa
+a1+*
+a>*+\
+a\)+*
+a\|+*
+aa+ *
+aa+#a"##;
+
+const LATER_SIBLING_STEPS: &str = r##"*~\a
+*~|*
+--~*
+\(~\
+\,~\
+\-~\
+\.~*
+\[~*
+a.a~*
+a1~*
+a>a~\
+a\1~a
+aa-~a
+aa~a-
+a~ \*
+a~#\)
+a~*
+a~.\1
+a~.\\
+a~a-
+a~a1a
+a~a>a
+a~a\
+a~a\"
+a~a\*
+a~a\~
+a~aa 
+a~aaa
+a~|--
+a~|\"##;
+
+const UNSUPPORTED_PSEUDO_CLASS_OR_ELEMENT: &str = r##":*.
+:..,
+::""
+:=.>
+:\"[
+:a" 
+:first-child(
+:first-child()
+:is(a, :where())
+:not(*:#+
+:not(: aa
+:not(::+a
+:not(:>|
+:not(:] 
+:not(:|:
+:not([*|b] a)
+:not(a + b)
+:not/**/(a)
+:nth-child
+:root
+:root[*|a]
+a,:\|
+a-:a>
+a: #=
+a:#",
+a:):]
+a:=+|
+a:]\]
+a:a|:
+a:~#"##;
+
+/// Whether each line is answered so.
+fn all_answer(alloc: Global, texts: &str, cause: Option<SelectorError>) -> bool {
+    texts
+        .split('\n')
+        .all(|text| SelectorsParser::parse(alloc, text).err() == cause)
+}
 
 #[test]
 fn are_read_as_the_model_reads_them(rt: HostRuntime) -> Result<(), Fail> {
-    for (text, cause) in TEXTS {
-        assert_eq!(rt; SelectorsParser::parse(rt.alloc(), text).err(), cause, "{text:?}");
+    for (texts, cause) in [
+        (READ, None),
+        (DANGLING_COMBINATOR, Some(SelectorError::DanglingCombinator)),
+        (EMPTY_SELECTOR, Some(SelectorError::EmptySelector)),
+        (INVALID_CLASS_NAME, Some(SelectorError::InvalidClassName)),
+        (
+            MISSING_ATTRIBUTE_NAME,
+            Some(SelectorError::MissingAttributeName),
+        ),
+        (NAMESPACED_SELECTOR, Some(SelectorError::NamespacedSelector)),
+        (UNEXPECTED_END, Some(SelectorError::UnexpectedEnd)),
+        (UNEXPECTED_TOKEN, Some(SelectorError::UnexpectedToken)),
+        (
+            UNEXPECTED_TOKEN_IN_ATTRIBUTE,
+            Some(SelectorError::UnexpectedTokenInAttribute),
+        ),
+        (
+            SIBLING_STEPS,
+            Some(SelectorError::UnsupportedCombinator('+')),
+        ),
+        (
+            LATER_SIBLING_STEPS,
+            Some(SelectorError::UnsupportedCombinator('~')),
+        ),
+        (
+            UNSUPPORTED_PSEUDO_CLASS_OR_ELEMENT,
+            Some(SelectorError::UnsupportedPseudoClassOrElement),
+        ),
+    ] {
+        assert!(rt; all_answer(rt.alloc(), texts, cause), "{cause:?}");
     }
     Ok(())
 }
