@@ -1,10 +1,12 @@
 -- The nodes of pairs, each once.
 use Rattle.std.proofs.Common.{◌≡◌, ℕ, Bool, true, false, ◌||◌, cond, List, [], ◌∷◌, Contains, ◌↔◌, inl, inr, refl, sym, subst}
+use Rattle.std.specs.Prelude.{AllPairs, ◌≢◌}
 use Rattle.std.specs.List.{list_any, IsDistinct, AllByRecursion}
 use Rattle.std.proofs.lemmas.Map.Made.{AllPairs-from_IsDistinct}
 use Rattle.lol_program.specs.Paths.{Path, AreNodes, beginnings, all_beginnings}
 use Rattle.lol_program.specs.Same.{same_path}
 use Rattle.lol_program.specs.Nodes.{each_once, nodes_of}
+use Rattle.lol_program.specs.Sets.{Joins}
 use Rattle.lol_program.proofs.Members.{Among, among_from_contains, contains_from_among, among_front, among_back, among_either}
 use Rattle.lol_program.proofs.SamePaths.{same_path-Decides}
 
@@ -92,4 +94,23 @@ AreNodes-same ps qs nodes same are = record {
     λ h. (are.members path).1 (same_beginnings ps qs (λ pair. (same pair).0) path h),
   );
   each_once = are.each_once;
+}
+
+-- Nodes that take in what the pairs' paths bring stay their nodes.
+pub AreNodes-joined : (pairs more_pairs added : List (Path × ℕ)) (nodes more_nodes : List Path) → AreNodes pairs nodes → Joins pairs more_pairs added → Joins nodes more_nodes (all_beginnings added)
+    → AllPairs (λ a b. a ≢ b) more_nodes → AreNodes more_pairs more_nodes
+AreNodes-joined pairs more_pairs added nodes more_nodes are p n once = record {
+  members = λ path. (
+    λ h. elim ((n path).0 h) [
+      | inl old ↦ same_beginnings pairs more_pairs (λ pair x. (p pair).1 (inl x)) path ((are.members path).0 old)
+      | inr new ↦ same_beginnings added more_pairs (λ pair x. (p pair).1 (inr x)) path new
+    ],
+    λ h.
+        let at = begins more_pairs path (among_from_contains _ path h) in
+        elim ((p at.0).0 (contains_from_among more_pairs at.0 at.1)) [
+          | inl old ↦ (n path).1 (inl ((are.members path).1 (contains_from_among _ path (begun pairs at.0 path (among_from_contains pairs at.0 old) at.2))))
+          | inr new ↦ (n path).1 (inr (contains_from_among _ path (begun added at.0 path (among_from_contains added at.0 new) at.2)))
+        ],
+  );
+  each_once = once;
 }

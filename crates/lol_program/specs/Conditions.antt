@@ -10,7 +10,8 @@ pub data Test : Type 0 where
   OfName : NameTest → Test
   OfAttributes : AttributeTest → Test
 
--- The test of a part without parts of its own (Selectors 4, sections 5, 6 and 14). A name in no namespace is never met here.
+-- The test of a part without parts of its own (Selectors 4, sections 5, 6 and 13). Each element has a namespace, so no element has a
+-- name in none.
 abbrev pub test_of : Simple → Test
 test_of (trees.LocalName name) = OfName (HasName name)
 test_of trees.AnyName = OfName AnyName
@@ -39,7 +40,7 @@ abbrev pub joined : Compound → Compound → Compound
 joined a b = record { name_tests = a.name_tests ++ b.name_tests; attribute_tests = a.attribute_tests ++ b.attribute_tests }
 
 -- The signed tests of a part. Those of a `:not` are the tests of its items in written order, each with its sign turned
--- (Selectors 4, section 4.3, but for each test by itself). Of an item the last compound counts; a list that was read has no other.
+-- (Selectors 4, section 4.3, but for each test by itself). Of an item the last compound counts; an item that was read has no other.
 abbrev mutual
   pub part_tests : Bool → Part → Compound
   part_tests negated (Plain simple) = one_test negated (test_of simple)

@@ -15,3 +15,4 @@ pub mod Sets
 pub mod Asts
 pub mod Runs
 pub mod ForestRuns
+pub mod Laws

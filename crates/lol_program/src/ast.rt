@@ -13,7 +13,8 @@ use lol_css::{Selector, SelectorList};
 use lol_memory::MatchId;
 use std::alloc::{AllocError, Global};
 
-/// The selectors that are looked for, as a tree in which equal beginnings are shared.
+/// The selectors that are looked for, as a tree in which equal beginnings are shared (the crate's `Ast`). Seen from outside it is a set
+/// of nodes, each known by its path, and a set of pairs of a path and an id.
 #[derive(Debug, Drop, PartialEq, Eq)]
 pub struct Ast {
     alloc: Global,
@@ -69,9 +70,12 @@ impl Ast {
         ast_node::all_run_now(&self.root)
     }
 
-    /// Adds each item of a selector's list under an id. Refused, it leaves the ids as they were, and the nodes too but for some without
-    /// ids, which stand for beginnings of the items. It is refused where memory is, and where there would be more nodes than a `usize`
-    /// counts.
+    /// Adds each item of a selector's list under an id: its compounds from the left, each step under the node of the one before it. A
+    /// node is used again where the same list has an equal predicate, and goes last otherwise; the last one takes the id. It costs
+    /// time in proportion to the lists that it walks.
+    ///
+    /// It is refused where memory is, and where there would be more nodes than a `usize` counts. Then the ids are as they were, and so
+    /// are the nodes but for some without ids, which are beginnings of the items.
     pub fn add_selector(&mut self, selector: &Selector, match_id: MatchId) -> Result<(), AllocError>
         ensures pairs { OnOk result (Joins (pairs_of self.old) (pairs_of self.new) (pairs_under match_id (list_of selector.now))) }
         ensures nodes { OnOk result (Joins (nodes_of self.old) (nodes_of self.new) (all_beginnings (pairs_under match_id (list_of selector.now)))) }

@@ -3,8 +3,19 @@
 ghost use Rattle.std.specs.Prelude.{ℕ, List};
 ghost use Rattle.lol_program.specs.Paths.{Path, AreNodes};
 ghost use Rattle.lol_program.specs.Nodes.{nodes_of};
+ghost use Rattle.lol_program.specs.Laws.{NodesStayTheBeginnings, AreRows};
 
 /// The nodes of pairs are the beginnings of their paths, each once.
 pub fn nodes_are_the_beginnings()
     ensures { (pairs : List (Path × ℕ)) → AreNodes pairs (nodes_of pairs) }
+{}
+
+/// Nodes that take in what the pairs' paths bring stay their beginnings: so the nodes of a tree are, where no add was refused.
+pub fn nodes_stay_the_beginnings()
+    ensures { NodesStayTheBeginnings }
+{}
+
+/// Worked rows: the tests of compounds.
+pub fn worked_compounds()
+    ensures { AreRows }
 {}

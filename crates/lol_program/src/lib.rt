@@ -1,4 +1,4 @@
-//! The selectors that are looked for, as paths of tests.
+//! The selectors that are looked for, as a tree of tests.
 #![tactic(auto)]
 
 mod ast;

@@ -209,6 +209,45 @@ fn equal_beginnings_are_shared(rt: HostRuntime) -> Result<(), Fail> {
 }
 
 #[test]
+fn steps_of_both_kinds(rt: HostRuntime) -> Result<(), Fail> {
+    let alloc = rt.alloc();
+    let start = || Ok::<_, AllocError>(item(alloc, vec![in alloc; class(alloc, "c1")?]?));
+    let (child, descendant) = (Combinator::Child, Combinator::Descendant);
+    // `.c1 > .c2 .c3 #foo`, `.c1 > .c2 #bar`, `.c1 > #qux`, `.c1 #baz`, `.c1 [foo] [bar]`, `#quz`
+    let foo = then(start()?, child, vec![in alloc; class(alloc, "c2")?]?)?;
+    let foo = then(foo, descendant, vec![in alloc; class(alloc, "c3")?]?)?;
+    let foo = then(foo, descendant, vec![in alloc; id(alloc, "foo")?]?)?;
+    let bar = then(start()?, child, vec![in alloc; class(alloc, "c2")?]?)?;
+    let bar = then(bar, descendant, vec![in alloc; id(alloc, "bar")?]?)?;
+    let qux = then(start()?, child, vec![in alloc; id(alloc, "qux")?]?)?;
+    let baz = then(start()?, descendant, vec![in alloc; id(alloc, "baz")?]?)?;
+    let has_bar = then(start()?, descendant, vec![in alloc; has(alloc, "foo")?]?)?;
+    let has_bar = then(has_bar, descendant, vec![in alloc; has(alloc, "bar")?]?)?;
+    let quz = item(alloc, vec![in alloc; id(alloc, "quz")?]?);
+    let mut ast = Ast::new(alloc);
+    let mut match_id = 0;
+    for selector in vec![in alloc; foo, bar, qux, baz, has_bar, quz]? {
+        ast.add_list(&list(alloc, selector)?, match_id)?;
+        match_id = match_id.wrapping_add(1);
+    }
+    assert!(rt; ast.cumulative_node_count() == 10);
+    let c1 = node(&rt, ast.root(), 0);
+    let c2 = node(&rt, &c1.children, 0);
+    let c3 = node(&rt, &c2.descendants, 0);
+    let has_foo = node(&rt, &c1.descendants, 1);
+    for without_ids in [c1, c2, c3, has_foo] {
+        assert!(rt; has_ids(without_ids, &[]));
+    }
+    assert!(rt; has_ids(node(&rt, &c3.descendants, 0), &[0]));
+    assert!(rt; has_ids(node(&rt, &c2.descendants, 1), &[1]));
+    assert!(rt; has_ids(node(&rt, &c1.children, 1), &[2]));
+    assert!(rt; has_ids(node(&rt, &c1.descendants, 0), &[3]));
+    assert!(rt; has_ids(node(&rt, &has_foo.descendants, 0), &[4]));
+    assert!(rt; has_ids(node(&rt, ast.root(), 1), &[5]));
+    Ok(())
+}
+
+#[test]
 fn predicates_that_differ_are_not_shared(rt: HostRuntime) -> Result<(), Fail> {
     let alloc = rt.alloc();
     let mut ast = Ast::new(alloc);
