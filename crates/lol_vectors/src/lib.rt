@@ -11,3 +11,5 @@ mod readings;
 mod runs;
 #[cfg(test)]
 mod sets;
+#[cfg(test)]
+mod trees;
