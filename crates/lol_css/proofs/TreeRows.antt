@@ -15,15 +15,15 @@ use Rattle.lol_css.specs.TreeViews.{part_of, with_parts, with_further, with_item
 
 -- ---- one more at the end
 
-with_part_list-push : (front : trees.Compound) (parts : List SimpleSelector) (last : SimpleSelector) → with_part_list front (parts ++ last ∷ []) ≡ trees.With (with_part_list front parts) (part_of last)
+pub with_part_list-push : (front : trees.Compound) (parts : List SimpleSelector) (last : SimpleSelector) → with_part_list front (parts ++ last ∷ []) ≡ trees.With (with_part_list front parts) (part_of last)
 with_part_list-push front [] last = refl
 with_part_list-push front (part ∷ parts) last = with_part_list-push (trees.With front (part_of part)) parts last
 
-with_item_list-push : (front : trees.Items) (items : List ComplexSelector) (last : ComplexSelector) → with_item_list front (items ++ last ∷ []) ≡ trees.And (with_item_list front items) (item_of last)
+pub with_item_list-push : (front : trees.Items) (items : List ComplexSelector) (last : ComplexSelector) → with_item_list front (items ++ last ∷ []) ≡ trees.And (with_item_list front items) (item_of last)
 with_item_list-push front [] last = refl
 with_item_list-push front (item ∷ items) last = with_item_list-push (trees.And front (item_of item)) items last
 
-with_compound_list-push : (front : trees.Item) (others : List (Combinator × Compound)) (last : Combinator × Compound) → with_compound_list front (others ++ last ∷ []) ≡ trees.Then (with_compound_list front others) last.0 (compound_of last.1)
+pub with_compound_list-push : (front : trees.Item) (others : List (Combinator × Compound)) (last : Combinator × Compound) → with_compound_list front (others ++ last ∷ []) ≡ trees.Then (with_compound_list front others) last.0 (compound_of last.1)
 with_compound_list-push front [] last = refl
 with_compound_list-push front (next ∷ others) last = with_compound_list-push (trees.Then front next.0 (compound_of next.1)) others last
 

@@ -7,54 +7,57 @@ use crate::{
 use std::alloc::{AllocError, Global};
 use std::test::Fail;
 
+/// The text of each cause.
+const CAUSES: [(SelectorError, &str); 14] = [
+    (
+        SelectorError::UnexpectedToken,
+        "Unexpected token in selector.",
+    ),
+    (SelectorError::UnexpectedEnd, "Unexpected end of selector."),
+    (
+        SelectorError::MissingAttributeName,
+        "Missing attribute name in attribute selector.",
+    ),
+    (SelectorError::EmptySelector, "The selector is empty."),
+    (
+        SelectorError::DanglingCombinator,
+        "Dangling combinator in selector.",
+    ),
+    (
+        SelectorError::UnexpectedTokenInAttribute,
+        "Unexpected token in the attribute selector.",
+    ),
+    (
+        SelectorError::UnsupportedPseudoClassOrElement,
+        "Unsupported pseudo-class or pseudo-element in selector.",
+    ),
+    (
+        SelectorError::NestedNegation,
+        "Nested negation in selector.",
+    ),
+    (
+        SelectorError::NamespacedSelector,
+        "Selectors with explicit namespaces are not supported.",
+    ),
+    (
+        SelectorError::InvalidClassName,
+        "Invalid or unescaped class name in selector.",
+    ),
+    (SelectorError::EmptyNegation, "Empty negation in selector."),
+    (
+        SelectorError::UnsupportedCombinator('+'),
+        "Unsupported combinator `+` in selector.",
+    ),
+    (
+        SelectorError::UnsupportedSyntax,
+        "Unsupported syntax in selector.",
+    ),
+    (SelectorError::Memory, "Out of memory."),
+];
+
 #[test]
 fn causes_print_as_in_the_crate(rt: HostRuntime) -> Result<(), Fail> {
-    for (cause, text) in [
-        (
-            SelectorError::UnexpectedToken,
-            "Unexpected token in selector.",
-        ),
-        (SelectorError::UnexpectedEnd, "Unexpected end of selector."),
-        (
-            SelectorError::MissingAttributeName,
-            "Missing attribute name in attribute selector.",
-        ),
-        (SelectorError::EmptySelector, "The selector is empty."),
-        (
-            SelectorError::DanglingCombinator,
-            "Dangling combinator in selector.",
-        ),
-        (
-            SelectorError::UnexpectedTokenInAttribute,
-            "Unexpected token in the attribute selector.",
-        ),
-        (
-            SelectorError::UnsupportedPseudoClassOrElement,
-            "Unsupported pseudo-class or pseudo-element in selector.",
-        ),
-        (
-            SelectorError::NestedNegation,
-            "Nested negation in selector.",
-        ),
-        (
-            SelectorError::NamespacedSelector,
-            "Selectors with explicit namespaces are not supported.",
-        ),
-        (
-            SelectorError::InvalidClassName,
-            "Invalid or unescaped class name in selector.",
-        ),
-        (SelectorError::EmptyNegation, "Empty negation in selector."),
-        (
-            SelectorError::UnsupportedCombinator('+'),
-            "Unsupported combinator `+` in selector.",
-        ),
-        (
-            SelectorError::UnsupportedSyntax,
-            "Unsupported syntax in selector.",
-        ),
-        (SelectorError::Memory, "Out of memory."),
-    ] {
+    for (cause, text) in CAUSES {
         let printed = format!(in rt.alloc(); "{cause}")?;
         assert_eq!(rt; printed.as_str(), text);
     }

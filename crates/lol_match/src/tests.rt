@@ -153,55 +153,57 @@ fn run_on(alloc: Global, script: &[u8]) -> (Result<Status, RunFault>, Vec<u8>) {
     (outcome, writer.into_inner())
 }
 
+/// Scripts, what is written for each, and how its run ends.
+const WORKED: [(&str, &str, Status); 12] = [
+    ("", "", Status::Good),
+    (
+        "select\t0\tdiv + span\n",
+        "bad line 1: UnsupportedCombinator(+)\n",
+        Status::BadLine,
+    ),
+    (
+        "select\t0\t\n",
+        "bad line 1: EmptySelector\n",
+        Status::BadLine,
+    ),
+    (
+        "select\t0\tp\nselect\t1\tli:nth-child(2n+1)\n",
+        "bad line 2: UnsupportedSyntax\n",
+        Status::BadLine,
+    ),
+    (
+        "select\t0\tp, a[href]\nstart\thtml\tp\n",
+        "bad line 1: UnsupportedSyntax\n",
+        Status::BadLine,
+    ),
+    (
+        "select\t0\t:not(div)\nselect\t1\t|p\nstart\thtml\tdiv\nstart\thtml\tp\n",
+        "start\t-\nstart\t0\n",
+        Status::Good,
+    ),
+    (
+        "select\t7\t:not(div):not(p) > \\42 r/* none */\nstart\thtml\tmain\nstart\thtml\tbr\nstart\thtml\tdiv\nstart\thtml\tbr\n",
+        "start\t-\nstart\t7/\nstart\t-\nstart\t-\n",
+        Status::Good,
+    ),
+    ("start\thtml\n", "bad line 1: form\n", Status::BadLine),
+    (
+        "select\t4\t* > br, P\nselect\t2\tp\nstart\thtml\tp\nstart\thtml\tBR\nstart\thtml\tp\nend\tP\nend\tP\n",
+        "start\t2,4\nstart\t4/\nstart\t2,4\nend\t2\nend\t0\n",
+        Status::Good,
+    ),
+    (
+        "start\thtml\tp\n\nselect\t0\tdiv + span",
+        "bad line 3: form\n",
+        Status::BadLine,
+    ),
+    ("end\ttable", "end\t-\n", Status::Good),
+    ("esi\n", "bad line 1: form\n", Status::BadLine),
+];
+
 #[test]
 fn runs_scripts(rt: HostRuntime) -> Result<(), Fail> {
-    let scripts = [
-        ("", "", Status::Good),
-        (
-            "select\t0\tdiv + span\n",
-            "bad line 1: UnsupportedCombinator(+)\n",
-            Status::BadLine,
-        ),
-        (
-            "select\t0\t\n",
-            "bad line 1: EmptySelector\n",
-            Status::BadLine,
-        ),
-        (
-            "select\t0\tp\nselect\t1\tli:nth-child(2n+1)\n",
-            "bad line 2: UnsupportedSyntax\n",
-            Status::BadLine,
-        ),
-        (
-            "select\t0\tp, a[href]\nstart\thtml\tp\n",
-            "bad line 1: UnsupportedSyntax\n",
-            Status::BadLine,
-        ),
-        (
-            "select\t0\t:not(div)\nselect\t1\t|p\nstart\thtml\tdiv\nstart\thtml\tp\n",
-            "start\t-\nstart\t0\n",
-            Status::Good,
-        ),
-        (
-            "select\t7\t:not(div):not(p) > \\42 r/* none */\nstart\thtml\tmain\nstart\thtml\tbr\nstart\thtml\tdiv\nstart\thtml\tbr\n",
-            "start\t-\nstart\t7/\nstart\t-\nstart\t-\n",
-            Status::Good,
-        ),
-        ("start\thtml\n", "bad line 1: form\n", Status::BadLine),
-        (
-            "select\t4\t* > br, P\nselect\t2\tp\nstart\thtml\tp\nstart\thtml\tBR\nstart\thtml\tp\nend\tP\nend\tP\n",
-            "start\t2,4\nstart\t4/\nstart\t2,4\nend\t2\nend\t0\n",
-            Status::Good,
-        ),
-        (
-            "start\thtml\tp\n\nselect\t0\tdiv + span",
-            "bad line 3: form\n",
-            Status::BadLine,
-        ),
-        ("end\ttable", "end\t-\n", Status::Good),
-        ("esi\n", "bad line 1: form\n", Status::BadLine),
-    ];
-    for (script, output, status) in scripts {
+    for (script, output, status) in WORKED {
         let (outcome, written) = run_on(rt.alloc(), script.as_bytes());
         assert_eq!(rt; outcome, Ok(status), "{script:?}");
         assert_eq!(rt; written.as_slice(), output.as_bytes(), "{script:?}");

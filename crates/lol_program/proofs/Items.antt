@@ -8,7 +8,7 @@ use Rattle.lol_css.specs.declared.selector.ComplexSelector.{ComplexSelector}
 use Rattle.lol_css.specs.TreeViews.{item_of, compound_of, with_compound_list, with_item_list}
 use Rattle.lol_program.specs.Paths.{Path, extended}
 use Rattle.lol_program.specs.Conditions.{compound_tests, path_of, paths_of}
-use Rattle.lol_program.proofs.CssRows.{with_item_list-push}
+use Rattle.lol_css.proofs.TreeRows.{with_item_list-push}
 
 pub path_of-steps : (front : trees.Item) (others : List (Combinator × css.Compound)) → path_of (with_compound_list front others) ≡ extended (path_of front) (map (λ step. (step.0, compound_tests (compound_of step.1))) others)
 path_of-steps front [] = refl

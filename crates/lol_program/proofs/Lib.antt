@@ -1,7 +1,6 @@
 pub mod Members
 pub mod SamePaths
 pub mod NodeLists
-pub mod CssRows
 pub mod Tests
 pub mod Mapped
 pub mod SamePredicates

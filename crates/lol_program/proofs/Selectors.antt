@@ -10,7 +10,7 @@ use Rattle.lol_program.specs.Paths.{Path, beginnings, all_beginnings}
 use Rattle.lol_program.specs.Conditions.{paths_of, pairs_under}
 use Rattle.lol_program.specs.AstPaths.{shown}
 use Rattle.lol_program.specs.declared.ast_path.AstPath.{AstPath}
-use Rattle.lol_program.proofs.CssRows.{list_of-out}
+use Rattle.lol_css.proofs.TreeRows.{list_of-out}
 use Rattle.lol_program.proofs.Members.{map-map}
 use Rattle.lol_program.proofs.PathLists.{all_of, pairs_for, beginnings_under}
 

@@ -12,7 +12,7 @@ use Rattle.lol_css.specs.declared.selector.SimpleSelector.TheViews.{out-Selector
 use Rattle.lol_css.specs.TreeViews.{part_of, item_of, list_of, compound_of, with_part_list, with_item_list, with_compound_list}
 use Rattle.lol_program.specs.Paths.{Compound}
 use Rattle.lol_program.specs.Conditions.{joined, part_tests, item_tests, items_tests, written_tests}
-use Rattle.lol_program.proofs.CssRows.{with_part_list-push, with_item_list-push, list_of-out}
+use Rattle.lol_css.proofs.TreeRows.{with_part_list-push, with_item_list-push, list_of-out}
 
 pub joined_assoc : (a b c : Compound) → joined (joined a b) c ≡ joined a (joined b c)
 joined_assoc a b c = λ i. record { name_tests = append_assoc a.name_tests b.name_tests c.name_tests i; attribute_tests = append_assoc a.attribute_tests b.attribute_tests c.attribute_tests i }

@@ -93,75 +93,85 @@ fn of_attributes(rt: HostRuntime) -> Result<(), Fail> {
     Ok(())
 }
 
+/// A comparison, with its operator, value and case rule, and whether it is negated.
+type Comparison = (
+    &'static str,
+    AttrSelectorOperator,
+    &'static str,
+    ParsedCaseSensitivity,
+    bool,
+);
+
+const COMPARISONS: [Comparison; 9] = [
+    (
+        "[foo=\"bar\"]",
+        AttrSelectorOperator::Equal,
+        "bar",
+        ParsedCaseSensitivity::CaseSensitive,
+        false,
+    ),
+    (
+        "[FOO=\"bar\"]",
+        AttrSelectorOperator::Equal,
+        "bar",
+        ParsedCaseSensitivity::CaseSensitive,
+        false,
+    ),
+    (
+        "[foo*=\"\"]",
+        AttrSelectorOperator::Substring,
+        "",
+        ParsedCaseSensitivity::CaseSensitive,
+        false,
+    ),
+    (
+        "[foo~=\"bar\" i]",
+        AttrSelectorOperator::Includes,
+        "bar",
+        ParsedCaseSensitivity::AsciiCaseInsensitive,
+        false,
+    ),
+    (
+        "[foo|=\"bar\" s]",
+        AttrSelectorOperator::DashMatch,
+        "bar",
+        ParsedCaseSensitivity::ExplicitCaseSensitive,
+        false,
+    ),
+    (
+        "[foo^=\"bar\"]",
+        AttrSelectorOperator::Prefix,
+        "bar",
+        ParsedCaseSensitivity::CaseSensitive,
+        false,
+    ),
+    (
+        "[foo*=\"bar\"]",
+        AttrSelectorOperator::Substring,
+        "bar",
+        ParsedCaseSensitivity::CaseSensitive,
+        false,
+    ),
+    (
+        "[foo$=\"bar\"]",
+        AttrSelectorOperator::Suffix,
+        "bar",
+        ParsedCaseSensitivity::CaseSensitive,
+        false,
+    ),
+    (
+        ":not([foo$=\"bar\"])",
+        AttrSelectorOperator::Suffix,
+        "bar",
+        ParsedCaseSensitivity::CaseSensitive,
+        true,
+    ),
+];
+
 #[test]
 fn of_comparisons(rt: HostRuntime) -> Result<(), Fail> {
     let alloc = rt.alloc();
-    let with_case = ParsedCaseSensitivity::CaseSensitive;
-    for (text, operator, value, case, negation) in [
-        (
-            "[foo=\"bar\"]",
-            AttrSelectorOperator::Equal,
-            "bar",
-            with_case,
-            false,
-        ),
-        (
-            "[FOO=\"bar\"]",
-            AttrSelectorOperator::Equal,
-            "bar",
-            with_case,
-            false,
-        ),
-        (
-            "[foo*=\"\"]",
-            AttrSelectorOperator::Substring,
-            "",
-            with_case,
-            false,
-        ),
-        (
-            "[foo~=\"bar\" i]",
-            AttrSelectorOperator::Includes,
-            "bar",
-            ParsedCaseSensitivity::AsciiCaseInsensitive,
-            false,
-        ),
-        (
-            "[foo|=\"bar\" s]",
-            AttrSelectorOperator::DashMatch,
-            "bar",
-            ParsedCaseSensitivity::ExplicitCaseSensitive,
-            false,
-        ),
-        (
-            "[foo^=\"bar\"]",
-            AttrSelectorOperator::Prefix,
-            "bar",
-            with_case,
-            false,
-        ),
-        (
-            "[foo*=\"bar\"]",
-            AttrSelectorOperator::Substring,
-            "bar",
-            with_case,
-            false,
-        ),
-        (
-            "[foo$=\"bar\"]",
-            AttrSelectorOperator::Suffix,
-            "bar",
-            with_case,
-            false,
-        ),
-        (
-            ":not([foo$=\"bar\"])",
-            AttrSelectorOperator::Suffix,
-            "bar",
-            with_case,
-            true,
-        ),
-    ] {
+    for (text, operator, value, case, negation) in COMPARISONS {
         let comparison = AttributeComparisonExpr::new(
             String::from_str(alloc, "foo")?,
             String::from_str(alloc, value)?,

@@ -110,7 +110,6 @@ fn trees_of_one_node(rt: HostRuntime) -> Result<(), Fail> {
         simple_expr: OnTagNameExpr::ExplicitAny,
         negation: false,
     };
-    let text = |text: &str| String::from_str(alloc, text);
     is_one_node(
         &rt,
         alloc,
@@ -142,6 +141,13 @@ fn trees_of_one_node(rt: HostRuntime) -> Result<(), Fail> {
         &[name(alloc, "div", true)?],
         &[],
     )?;
+    Ok(())
+}
+
+#[test]
+fn trees_of_one_node_with_attributes(rt: HostRuntime) -> Result<(), Fail> {
+    let alloc = rt.alloc();
+    let text = |text: &str| String::from_str(alloc, text);
     // `div:not(:not(.foo))`
     let foo = not(alloc, class(alloc, "foo")?)?;
     is_one_node(

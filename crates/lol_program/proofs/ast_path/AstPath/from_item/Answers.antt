@@ -6,7 +6,7 @@ use Rattle.lol_css.specs.declared.selector.SimpleSelector.TheViews.{out-ComplexS
 use Rattle.lol_css.specs.TreeViews.{compound_of}
 use Rattle.lol_program.specs.Paths.{Compound, First, extended}
 use Rattle.lol_program.specs.Conditions.{compound_tests, path_of}
-use Rattle.lol_program.proofs.CssRows.{item_of-out}
+use Rattle.lol_css.proofs.TreeRows.{item_of-out}
 use Rattle.lol_program.proofs.Items.{path_of-steps}
 use Rattle.lol_program.proofs.ast_path.AstPath.from_item.Goals as goal
 

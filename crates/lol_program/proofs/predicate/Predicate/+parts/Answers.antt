@@ -6,7 +6,7 @@ use Rattle.lol_css.specs.TreeViews.{part_of, compound_of}
 use Rattle.lol_css.specs.declared.selector.SimpleSelector.{SimpleSelector}
 use Rattle.lol_program.specs.Conditions.{joined, written_tests, item_tests, part_tests}
 use Rattle.lol_program.specs.Predicates.{tests_of}
-use Rattle.lol_program.proofs.CssRows.{item_of-out}
+use Rattle.lol_css.proofs.TreeRows.{item_of-out}
 use Rattle.lol_program.proofs.Tests.{more_parts, more_items, all_parts, all_items, counts_first, counts_last}
 use Rattle.lol_program.proofs.predicate.Predicate.+parts.Goals as goal
 use Rattle.lol_program.proofs.predicate.Predicate.+parts.Goals.{add_item-in-empty, add_item-in-len1-up}
