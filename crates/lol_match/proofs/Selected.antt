@@ -1,15 +1,11 @@
 -- What a selector brings, and whether it runs.
-use Rattle.std.proofs.Common.{◌≡◌, ℕ, Bool, true, false, ◌&&◌, List, [], ◌∷◌, Contains, inl, inr, ⊎_elim, refl, sym, subst, true≢false}
+use Rattle.std.proofs.Common.{◌≡◌, ℕ, Bool, true, false, ◌&&◌, List, [], ◌∷◌, Contains, inl, inr, ⊎_elim, refl, subst}
 use Rattle.std.specs.List.{list_all}
 use Rattle.lol_program.specs.Paths.{Path, First, Then, beginnings, all_beginnings}
 use Rattle.lol_program.specs.Runs.{path_runs}
 use Rattle.lol_program.specs.Sets.{Joins}
+use Rattle.lol_program.proofs.Running.{both}
 use Rattle.lol_program.proofs.Members.{Among, among_either, among_from_contains, contains_from_among}
-
-both : (a b : Bool) → (a && b) ≡ true → (a ≡ true) × (b ≡ true)
-both true true h = (refl, refl)
-both true false h = absurd (true≢false (sym h))
-both false b h = absurd (true≢false (sym h))
 
 -- each beginning of a path that runs
 beginning_runs : (path : Path) → path_runs path ≡ true → (node : Path) → Among (beginnings path) node → path_runs node ≡ true

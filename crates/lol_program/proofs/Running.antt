@@ -19,7 +19,8 @@ use Rattle.lol_program.proofs.Having.{HasNode, HasPair}
 no : {A : Type 0} → false ≡ true → A
 no h = cc
 
-both : (a b : Bool) → (a && b) ≡ true → (a ≡ true) × (b ≡ true)
+-- both sides of a conjunction
+pub both : (a b : Bool) → (a && b) ≡ true → (a ≡ true) × (b ≡ true)
 both true true h = (refl, refl)
 both true false h = no h
 both false b h = no h

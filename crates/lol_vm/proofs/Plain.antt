@@ -18,6 +18,7 @@ use Rattle.lol_program.specs.declared.predicate.Predicate.{Predicate}
 use Rattle.lol_program.specs.Runs.{is_by_name, compound_runs}
 use Rattle.lol_program.specs.ForestRuns.{forest_runs}
 use Rattle.lol_program.specs.Forest.{Forest, more}
+use Rattle.lol_program.proofs.Running.{both}
 use Rattle.lol_vm.specs.Matching.{matches, step_reaches, some_ancestor_passes}
 use Rattle.lol_vm.specs.OpenNames.{Spells, AreNamed, StepsRun, names_of, simple_passes, expr_passes, path_up}
 use Rattle.lol_vm.specs.declared.matching.OpenElement.{OpenElement}
@@ -26,11 +27,6 @@ use Rattle.lol_vm.specs.declared.matching.Step.{Step}
 pub and-true : (b : Bool) → (b && true) ≡ b
 and-true true = refl
 and-true false = refl
-
-pub both : (a b : Bool) → (a && b) ≡ true → (a ≡ true) × (b ≡ true)
-both true true h = (refl, refl)
-both true false h = cc
-both false b h = cc
 
 -- what runs of a list of trees that runs
 pub runs_parts : (c : Compound) (ids : List ℕ) (children descendants rest : Forest) → forest_runs (more c ids children descendants rest) ≡ true

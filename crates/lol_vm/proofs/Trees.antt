@@ -19,7 +19,7 @@ use Rattle.lol_program.proofs.Members.{Among, among_front, among_back, among_eit
 use Rattle.lol_program.specs.Runs.{path_runs}
 use Rattle.lol_program.proofs.IdSets.{listed, held}
 use Rattle.lol_program.proofs.Listed.{nodes_listed}
-use Rattle.lol_program.proofs.Running.{all_run}
+use Rattle.lol_program.proofs.Running.{all_run, both}
 use Rattle.lol_program.specs.Asts.{nodes_of, trees_of}
 use Rattle.lol_program.specs.declared.ast.Ast.{Ast}
 use Rattle.lol_program.proofs.Once.{AllPairs-from_Distinct, nodes_distinct}
@@ -28,7 +28,7 @@ use Rattle.lol_vm.specs.Laws.{TreesAnswerAlike}
 use Rattle.lol_vm.specs.Matching.{matches, left_matches}
 use Rattle.lol_vm.specs.Answers.{matching_ids, asks, needs_attributes}
 use Rattle.lol_vm.specs.OpenNames.{Reports, Gains}
-use Rattle.lol_vm.proofs.Plain.{both, runs_parts}
+use Rattle.lol_vm.proofs.Plain.{runs_parts}
 use Rattle.lol_vm.proofs.Orders.{order_changes_nothing}
 use Rattle.lol_vm.proofs.Reports.{among_matching_ids, matching_ids_among, matching_ids_ascend, ascending_is_determined}
 
