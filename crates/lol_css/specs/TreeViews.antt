@@ -2,7 +2,7 @@
 use Rattle.std.specs.Prelude.{List, [], ◌∷◌}
 use Rattle.lol_css.specs.Trees as trees
 use Rattle.lol_css.specs.declared.selector.Combinator.{Combinator}
-use Rattle.lol_css.specs.declared.selector.SimpleSelector.{SimpleSelector, LocalName, ExplicitUniversalType, ExplicitNoNamespace, ID, Class, AttributeExists, AttributeComparison, Nth, Negation}
+use Rattle.lol_css.specs.declared.selector.SimpleSelector.{SimpleSelector, LocalName, ExplicitUniversalType, ExplicitNoNamespace, ID, Class, AttributeExists, AttributeComparison, Nth, Negation, Is, Where}
 use Rattle.lol_css.specs.declared.selector.Compound.{Compound, Row_of-SimpleSelector, end_of-SimpleSelector, more_of-SimpleSelector}
 use Rattle.lol_css.specs.declared.selector.ComplexSelector.{ComplexSelector, ComplexSelector', Row_of-ComplexSelector-rest-2, end_of-ComplexSelector-rest-2, more_of-ComplexSelector-rest-2}
 use Rattle.lol_css.specs.declared.selector.SelectorList.{SelectorList, SelectorList', Row_of-ComplexSelector, end_of-ComplexSelector, more_of-ComplexSelector}
@@ -19,6 +19,8 @@ abbrev mutual
   part_of (AttributeComparison name value operator case) = trees.Plain (trees.Compares name operator value case)
   part_of (Nth of_type nth) = trees.Plain (trees.Nth of_type nth.step nth.offset)
   part_of (Negation list) = trees.Not (list_of list)
+  part_of (Is list) = trees.Is (list_of list)
+  part_of (Where list) = trees.Where (list_of list)
 
   pub with_parts : {m : _} → trees.Compound → Row_of-SimpleSelector m → trees.Compound
   with_parts front end_of-SimpleSelector = front

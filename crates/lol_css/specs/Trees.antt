@@ -21,6 +21,8 @@ mutual
   pub data Part : Type 0 where
     Plain : Simple → Part
     Not : Items → Part
+    Is : Items → Part
+    Where : Items → Part
 
   pub data Compound : Type 0 where
     Nothing : Compound

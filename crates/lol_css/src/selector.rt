@@ -126,6 +126,12 @@ pub enum SimpleSelector {
 
     /// `:not(..)`
     Negation(SelectorList),
+
+    /// `:is(..)`
+    Is(SelectorList),
+
+    /// `:where(..)`
+    Where(SelectorList),
 }
 
 /// Parts that one element has to have, in written order (Selectors 4, section 3.1).
