@@ -1,5 +1,5 @@
 -- Whole steps: `step * n` for whole n at least 0.
-use Rattle.std.proofs.Common.{◌≡◌, ◌≢◌, ℕ, zero, suc, ◌*◌, ◌/◌, ◌%◌, ◌<◌, true, false, not, ◌⊎◌, inl, inr, ◌↔◌, IsTrue, nat_eq, refl, sym, ap, ◌∙◌, arith, ℤ, pos, negsuc, neg_ℤ, ◌+ℤ◌, ◌-ℤ◌, ◌*ℤ◌}
+use Rattle.std.proofs.Common.{◌≡◌, ◌≢◌, ℕ, zero, suc, ◌*◌, ◌/◌, ◌%◌, ◌<◌, true, false, not, ◌⊎◌, inl, inr, ◌↔◌, IsTrue, nat_eq, refl, sym, ap, ◌∙◌, arith, ℤ, pos, negsuc, neg_ℤ, ◌+ℤ◌, ◌-ℤ◌, ◌*ℤ◌, Bool, eqb}
 use Rattle.std.proofs.Math.Nat.{mul-mod_right}
 use Rattle.std.proofs.Math.IntN.{nat_abs, negsuc-*ℤ-pos, pos-*ℤ-negsuc, negsuc-*ℤ-negsuc, neg_ℤ-neg_ℤ, +ℤ-neg_ℤ_cancel, -ℤ-+ℤ_cancel, zero-*ℤ, *ℤ-zero}
 use Rattle.std.proofs.lemmas.Int.{ints, to_z-of_z}
@@ -7,7 +7,8 @@ use Rattle.std.proofs.Common.{w64, of_z, to_z, SFits}
 use Rattle.std.specs.Int.Signed.{lt_z}
 use Rattle.std.proofs.Math.Bool.{beq}
 use Rattle.std.proofs.lemmas.Bool.{eqb-true, eq-eqb}
-use Rattle.lol_css.specs.Progression.{Progression, Has, SameSign, LiesOn, IsWhole}
+use Rattle.std.specs.Cmp.Derive.{one_truth}
+use Rattle.lol_css.specs.Progression.{Progression, Has, SameSign, LiesOn, IsWhole, is_whole, has_index}
 
 pos_same : (a b : ℕ) → pos a ≡ pos b → a ≡ b
 pos_same a b e = cc
@@ -98,6 +99,51 @@ whole-test step distance f g x y a b s d h =
     let sign = same_sign step distance ns nd (rw (es, ed) at h) in
     let m : x % y ≡ nat_abs distance % nat_abs step = rw (a, b, es, ed) refl in
     rw m (λ t. whole-by_remainder step distance sign (eqb-true (nat_abs distance % nat_abs step) 0 t), λ w. eq-eqb (nat_abs distance % nat_abs step) 0 (remainder-of_whole step distance sign w))
+
+-- ---- the test that computes
+
+zero_test : (step : ℤ) (d : ℕ) → (IsWhole step (pos d) → d ≡ 0) → IsTrue (eqb d 0) ↔ IsWhole step (pos d)
+zero_test step d h = (λ t. whole-zero step (pos d) (ap (λ (n : ℕ). pos n) (eqb-true d 0 t)), λ w. eq-eqb d 0 (h w))
+
+still_zero : (d : ℕ) → IsWhole (pos zero) (pos d) → d ≡ 0
+still_zero d w = pos_same d 0 (w.1 ∙ zero-*ℤ (pos w.0))
+
+down_zero : (b d : ℕ) → IsWhole (negsuc b) (pos d) → d ≡ 0
+down_zero b zero w = refl
+down_zero b (suc a) w = absurd (not_back b (suc a) (whole-sign (negsuc b) (pos (suc a)) (λ e. absurd (omega (arith, pos_same (suc a) 0 e))) w))
+
+up_test : (b a : ℕ) → IsTrue (eqb (a % suc b) 0) ↔ IsWhole (pos (suc b)) (pos a)
+up_test b a = (
+  λ t. let e = eqb-true (a % suc b) 0 t in (a / suc b, ap (λ (n : ℕ). pos n) (omega arith)),
+  λ w. eq-eqb (a % suc b) 0 (let e : a ≡ suc b * w.0 = pos_same a (suc b * w.0) w.1 in rw e (mul-mod_right (suc b) w.0)),
+)
+
+down_test : (b a : ℕ) → IsTrue (eqb (suc a % suc b) 0) ↔ IsWhole (negsuc b) (negsuc a)
+down_test b a =
+    let sign : SameSign (negsuc b) (negsuc a) = inr (omega (arith, ints), omega (arith, ints)) in
+    (λ t. whole-by_remainder (negsuc b) (negsuc a) sign (eqb-true (suc a % suc b) 0 t), λ w. eq-eqb (suc a % suc b) 0 (remainder-of_whole (negsuc b) (negsuc a) sign w))
+
+across_test : (b a : ℕ) → IsTrue false ↔ IsWhole (pos b) (negsuc a)
+across_test b a = (λ t. absurd cc, λ w. absurd (not_across b a (whole-sign (pos b) (negsuc a) (λ e. absurd cc) w)))
+
+whole_test : (step distance : ℤ) → IsTrue (is_whole step distance) ↔ IsWhole step distance
+whole_test (pos zero) (pos d) = zero_test (pos zero) d (still_zero d)
+whole_test (pos zero) (negsuc d) = across_test zero d
+whole_test (pos (suc b)) (pos d) = up_test b d
+whole_test (pos (suc b)) (negsuc d) = across_test (suc b) d
+whole_test (negsuc b) (pos d) = zero_test (negsuc b) d (down_zero b d)
+whole_test (negsuc b) (negsuc d) = down_test b d
+
+pub has_index-decides : (p : Progression) (index : ℤ) → IsTrue (has_index p index) ↔ Has p index
+has_index-decides p index =
+    let whole = whole_test p.step (index -ℤ p.offset) in
+    (λ t. has-from_whole p index (whole.0 t), λ h. whole.1 (whole-from_has p index h))
+
+-- what decides it is the test
+pub has_index-same : (p : Progression) (index : ℤ) (b : Bool) → IsTrue b ↔ Has p index → b ≡ has_index p index
+has_index-same p index b h =
+    let test = has_index-decides p index in
+    one_truth b (has_index p index) (λ t. test.1 (h.0 t)) (λ t. h.1 (test.0 t))
 
 -- ---- the law
 

@@ -1,5 +1,5 @@
 -- The indices that An+B names (Selectors 4, section 13.3.1: "the An+Bth child").
-use Rattle.std.specs.Prelude.{◌≡◌, ◌≢◌, ℕ, ℤ, pos, ◌+ℤ◌, ◌-ℤ◌, ◌*ℤ◌, ◌<ℤ◌, ◌⊎◌}
+use Rattle.std.specs.Prelude.{◌≡◌, ◌≢◌, ℕ, zero, suc, ◌%◌, ◌==◌, Bool, false, ℤ, pos, negsuc, ◌+ℤ◌, ◌-ℤ◌, ◌*ℤ◌, ◌<ℤ◌, ◌⊎◌}
 
 -- A and B
 pub record Progression : Type 0 where
@@ -9,6 +9,19 @@ pub record Progression : Type 0 where
 -- some whole n at least 0 has `index = step * n + offset`
 abbrev pub Has : Progression → ℤ → Type 0
 Has p index = (n : ℕ) × (index ≡ p.step *ℤ pos n +ℤ p.offset)
+
+-- whether a distance is `step * n` for some whole n at least 0
+abbrev pub is_whole : ℤ → ℤ → Bool
+is_whole (pos zero) (pos d) = d == 0
+is_whole (pos zero) (negsuc d) = false
+is_whole (pos (suc step)) (pos d) = d % suc step == 0
+is_whole (pos (suc step)) (negsuc d) = false
+is_whole (negsuc step) (pos d) = d == 0
+is_whole (negsuc step) (negsuc d) = suc d % suc step == 0
+
+-- `Has` as a test, which computes
+abbrev pub has_index : Progression → ℤ → Bool
+has_index p index = is_whole p.step (index -ℤ p.offset)
 
 -- one divides the other
 abbrev pub Divides : ℤ → ℤ → Type 0

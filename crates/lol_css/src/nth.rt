@@ -1,7 +1,7 @@
 //! An+B: which of an element's siblings it may be.
 
 ghost use Rattle.std.specs.Prelude.{◌≡◌, ◌↔◌, IsTrue};
-ghost use Rattle.lol_css.specs.Progression.{Has, IsWhole};
+ghost use Rattle.lol_css.specs.Progression.{Has, IsWhole, has_index};
 
 use std::marker::Model;
 
@@ -32,7 +32,8 @@ impl NthChild {
 
     /// Whether some whole `n` at least 0 has `index = step * n + offset`, in numbers that don't wrap.
     pub fn has_index(self, index: i32) -> bool
-        ensures { IsTrue result ↔ Has self index }
+        ensures member { IsTrue result ↔ Has self index }
+        ensures computed { result ≡ has_index self index }
     {
         is_whole(
             i64::from(self.step),
