@@ -3,13 +3,14 @@ use Rattle.std.proofs.Common.{◌≡◌, ℕ, zero, suc, ◌+◌, ◌-◌, ◌<�
 use Rattle.std.specs.Option.{option_map}
 use Rattle.lol_css.specs.Tokens.{Token, Delim}
 use Rattle.lol_css.specs.Trees as trees
-use Rattle.lol_css.specs.Drafts.{Step, Part, Not, Compound, Nothing, With, Item, First, Then, Items, NoItems, And}
+use Rattle.lol_css.specs.Drafts.{Step, Part, Logical, Compound, Nothing, With, Item, First, Then, Items, NoItems, And}
 use Rattle.lol_css.specs.Rules.{Read, ◌>>=◌, giving, skip_space, Place, InFunction, at_end}
 use Rattle.lol_css.specs.Reading.{class_name, pseudo, part, parts_at_most, more_parts, type_part, is_nothing, compound, next_step, further, item, items_at_most, list, inner_list}
-use Rattle.lol_css.specs.Accepting.{judged_step, judged_part, judged_compound, judged_item, judged}
+use Rattle.lol_css.specs.Accepting.{judged_step, combined, judged_part, judged_compound, judged_item, judged}
 use Rattle.lol_css.specs.Judging.{Judged, with_part, alone, with_compound, with_item, judged_parts_at_most, judged_parts, judged_further, judged_items_at_most, is_empty}
 use Rattle.lol_css.specs.Views.{Fails}
 use Rattle.lol_css.specs.declared.selector.Combinator.{Combinator}
+use Rattle.lol_css.specs.declared.logical.LogicalCombination.{LogicalCombination}
 use Rattle.lol_css.specs.declared.error.SelectorError.{SelectorError}
 use Rattle.lol_css.specs.declared.error.SelectorError.TheVariants as errors
 use Rattle.lol_css.proofs.Shorter.{InnerLeaves, part-takes, item-leaves}
@@ -409,29 +410,29 @@ items-fail inner place inside items tokens cause e h =
     let n : length tokens + 1 ≡ suc (length tokens) = omega arith in
     rw n (fails-along cause (giving (judged_item inside) (item inner place (drop 1 tokens))) (judged_items_at_most (suc (length tokens)) inner place inside items tokens) (λ is. items_err (length tokens) inner place inside items tokens cause e (giving-err (judged_item inside) (item inner place (drop 1 tokens)) cause is)) h)
 
--- ---- inside a `:not`
+-- ---- inside a logical combination
 
 pub inner_list-opens : (room : ℕ) (tokens : List Token) → ¬ (room ≡ 0) → inner_list room tokens ≡ list (inner_list (room - 1)) InFunction tokens
 unfolding inner_list
 inner_list-opens zero tokens h = absurd (h refl)
 inner_list-opens (suc room) tokens h = let e : suc room - 1 ≡ room = omega arith in rw e refl
 
-negation_of : (draft : Items) (found : Judged trees.Items) → judged true draft ≡ found → judged_part (Not draft) ≡ (found >>= λ items. Ok (trees.Not items))
+logical_of : (combination : LogicalCombination) (draft : Items) (found : Judged trees.Items) → judged true draft ≡ found → judged_part (Logical combination draft) ≡ (found >>= λ items. Ok (combined combination items))
 unfolding judged_part judged
-negation_of draft found e = rw e refl
+logical_of combination draft found e = rw e refl
 
--- a list inside a `:not` was read
-pub negation-read : (read : Read Items) (found : Judged trees.Items) (rest : List Token) → giving (judged true) read ≡ Ok (found, rest) → giving judged_part (giving (λ items. Not items) read) ≡ Ok ((found >>= λ items. Ok (trees.Not items)), rest)
-negation-read read found rest e =
+-- the list of a logical combination was read
+pub logical-read : (combination : LogicalCombination) (read : Read Items) (found : Judged trees.Items) (rest : List Token) → giving (judged true) read ≡ Ok (found, rest) → giving judged_part (giving (λ items. Logical combination items) read) ≡ Ok ((found >>= λ items. Ok (combined combination items)), rest)
+logical-read combination read found rest e =
     let f = giving-ok (judged true) read found rest e in
-    rw f.is (ap (λ (j : Judged trees.Part). Ok (j, rest)) (negation_of f.x found f.gives))
+    rw f.is (ap (λ (j : Judged trees.Part). Ok (j, rest)) (logical_of combination f.x found f.gives))
 
 giving_err : {A B : Type 0} (f : A → B) (read : Read A) (cause : SelectorError) → read ≡ Err cause → giving f read ≡ Err cause
 giving_err f read cause e = rw e refl
 
-pub negation-fails : (read : Read Items) (cause : SelectorError) → Fails cause (giving (judged true) read) → Fails cause (giving judged_part (giving (λ items. Not items) read))
-negation-fails read cause h =
-    fails-along cause (giving (judged true) read) (giving judged_part (giving (λ items. Not items) read)) (λ e. giving_err judged_part (giving (λ items. Not items) read) cause (giving_err (λ items. Not items) read cause (giving-err (judged true) read cause e))) h
+pub logical-fails : (combination : LogicalCombination) (read : Read Items) (cause : SelectorError) → Fails cause (giving (judged true) read) → Fails cause (giving judged_part (giving (λ items. Logical combination items) read))
+logical-fails combination read cause h =
+    fails-along cause (giving (judged true) read) (giving judged_part (giving (λ items. Logical combination items) read)) (λ e. giving_err judged_part (giving (λ items. Logical combination items) read) cause (giving_err (λ items. Logical combination items) read cause (giving-err (judged true) read cause e))) h
 
 -- ---- what the code's answers cite
 

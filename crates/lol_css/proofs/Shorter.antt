@@ -4,10 +4,10 @@ use Rattle.std.specs.Option.{option_map}
 use Rattle.lol_css.specs.Points.{front, is, decimal}
 use Rattle.lol_css.specs.Tokens.{Token, Numeral, Space, Quoted, BadString, Hash, Number, Dimension, Percentage, Cdc, Function, Ident, Match, Delim}
 use Rattle.lol_css.specs.Trees.{Simple, LocalName, AnyName, Id, Class, Exists, Compares, Nth}
-use Rattle.lol_css.specs.Drafts.{By, Part, Plain, LatePseudoClass, LateNamespace, Not, Compound, Nothing, With, Item, First, Then, Items, NoItems, And}
+use Rattle.lol_css.specs.Drafts.{By, Part, Plain, LatePseudoClass, LateNamespace, Logical, Compound, Nothing, With, Item, First, Then, Items, NoItems, And}
 use Rattle.lol_css.specs.Rules.{Read, ◌>>=◌, giving, keeping, is_delim, is_space, skip_space, Place, InFunction, InBrackets, closes, at_end, at_stop, wanted, closed, says, lowered, ident_of}
 use Rattle.lol_css.specs.AnPlusB.{minus, integer_value, unsigned, in_i32, fitting, digits_of_b, behind_n, is_n_and_digits, rest_of, with_step, integer, scaled, an_plus_b_of, an_plus_b}
-use Rattle.lol_css.specs.Reading.{utf8, name_behind_bar, bar_of, attribute_name, operator_of, value_of, flag_of, unflagged, case_sensitivity, comparison, attribute, class_name, is_one_of, function_part, ident_part, pseudo, some, part, parts_at_most, more_parts, behind_bar, any_namespace, no_namespace, type_part, is_nothing, compound, step_of, step, next_step, further, item, items_at_most, list, inner_list}
+use Rattle.lol_css.specs.Reading.{utf8, combination_named, name_behind_bar, bar_of, attribute_name, operator_of, value_of, flag_of, unflagged, case_sensitivity, comparison, attribute, class_name, is_one_of, function_part, ident_part, pseudo, some, part, parts_at_most, more_parts, behind_bar, any_namespace, no_namespace, type_part, is_nothing, compound, step_of, step, next_step, further, item, items_at_most, list, inner_list}
 use Rattle.lol_css.specs.declared.error.SelectorError.{SelectorError}
 use Rattle.lol_css.specs.declared.error.SelectorError.TheVariants as errors
 use Rattle.lol_css.specs.declared.selector.Combinator.TheVariants.{Descendant}
@@ -264,7 +264,7 @@ function_part-leaves name tokens =
     (if_leaves (is_one_of (codes "nth-last-child" ∷ codes "nth-last-of-type" ∷ []) name) (giving (λ nth. LatePseudoClass) (an_plus_b tokens)) (Err errors.UnsupportedPseudoClassOrElement) n
     (giving_leaves (λ nth. LatePseudoClass) (an_plus_b tokens) n (an_plus_b-leaves tokens)) (err_leaves errors.UnsupportedPseudoClassOrElement n)))
 
--- the list of a `:not` leaves no more than it is given
+-- the list of a logical combination leaves no more than it is given
 pub record InnerLeaves (inner : List Token → Read Items) : Type 0 where
   pub each : (tokens : List Token) → Leaves (inner tokens) (length tokens)
 
@@ -274,14 +274,18 @@ refused_leaves false n = err_leaves errors.UnsupportedPseudoClassOrElement n
 
 pseudo_of-leaves : (inner : List Token → Read Items) → InnerLeaves inner → (place : Place) (token : Token) (tokens : List Token) → Leaves (elim token [
   | Ident name ↦ keeping (ident_part name) tokens
-  | Function name ↦ cond (says (codes "not") name) (giving Not (inner tokens)) (function_part name tokens)
+  | Function name ↦ elim (combination_named name) [
+    | None ↦ function_part name tokens
+    | Some combination ↦ giving (Logical combination) (inner tokens)
+  ]
   | Delim c ↦ cond (eqb c 58 && at_stop place tokens) (Err errors.UnexpectedEnd) (Err errors.UnsupportedPseudoClassOrElement)
   | _ ↦ Err errors.UnsupportedPseudoClassOrElement
 ]) (length (token ∷ tokens))
 pseudo_of-leaves inner h place (Ident name) tokens = keeping_leaves (ident_part name) tokens (length (Ident name ∷ tokens)) (omega arith)
 pseudo_of-leaves inner h place (Function name) tokens =
-    if_leaves (says (codes "not") name) (giving (λ items. Not items) (inner tokens)) (function_part name tokens) (length (Function name ∷ tokens))
-    (giving_leaves (λ items. Not items) (inner tokens) (length (Function name ∷ tokens)) (longer (inner tokens) (Function name) tokens (h.each tokens))) (longer (function_part name tokens) (Function name) tokens (function_part-leaves name tokens))
+    option_leaves (combination_named name) (function_part name tokens) (λ combination. giving (λ items. Logical combination items) (inner tokens)) (length (Function name ∷ tokens))
+    (longer (function_part name tokens) (Function name) tokens (function_part-leaves name tokens))
+    (λ combination. giving_leaves (λ items. Logical combination items) (inner tokens) (length (Function name ∷ tokens)) (longer (inner tokens) (Function name) tokens (h.each tokens)))
 pseudo_of-leaves inner h place (Delim c) tokens = refused_leaves (eqb c 58 && at_stop place tokens) (length (Delim c ∷ tokens))
 pseudo_of-leaves inner h place Space tokens = err_leaves errors.UnsupportedPseudoClassOrElement (length (Space ∷ tokens))
 pseudo_of-leaves inner h place (Quoted text) tokens = err_leaves errors.UnsupportedPseudoClassOrElement (length (Quoted text ∷ tokens))

@@ -3,27 +3,34 @@ use Rattle.std.specs.Prelude.{ℕ, Bool, true, false, List, Result, Ok, Err}
 use Rattle.std.specs.Str.{chars}
 use Rattle.lol_css.specs.Tokens.{tokens}
 use Rattle.lol_css.specs.Trees as trees
-use Rattle.lol_css.specs.Drafts.{Step, By, Sibling, Part, Plain, LatePseudoClass, LateNamespace, Not, Compound, Nothing, With, Item, First, Then, Items, NoItems, And}
+use Rattle.lol_css.specs.Drafts.{Step, By, Sibling, Part, Plain, LatePseudoClass, LateNamespace, Logical, Compound, Nothing, With, Item, First, Then, Items, NoItems, And}
 use Rattle.lol_css.specs.Rules.{◌>>=◌}
 use Rattle.lol_css.specs.Reading.{selector}
 use Rattle.lol_css.specs.declared.selector.Combinator.{Combinator}
+use Rattle.lol_css.specs.declared.logical.LogicalCombination.{LogicalCombination}
+use Rattle.lol_css.specs.declared.logical.LogicalCombination.TheVariants as combinations
 use Rattle.lol_css.specs.declared.error.SelectorError.{SelectorError}
 use Rattle.lol_css.specs.declared.error.SelectorError.TheVariants.{UnsupportedPseudoClassOrElement, UnsupportedCombinator, NamespacedSelector}
 
 -- What was read as a selector, or the first thing that is refused: items in written order, in an item the last compound first,
--- then the step on its left, then the compound before, and so on; in a compound the parts in written order. Inside a `:not`
--- each step is refused.
+-- then the step on its left, then the compound before, and so on; in a compound the parts in written order, and at a `:not`, `:is`
+-- or `:where` its own list, inside which each step is refused.
 abbrev pub judged_step : Bool → Step → Result Combinator SelectorError
 judged_step true step = Err UnsupportedPseudoClassOrElement
 judged_step false (By combinator) = Ok combinator
 judged_step false (Sibling sign) = Err (UnsupportedCombinator sign)
+
+abbrev pub combined : LogicalCombination → trees.Items → trees.Part
+combined combinations.Not items = trees.Not items
+combined combinations.Is items = trees.Is items
+combined combinations.Where items = trees.Where items
 
 unfoldable mutual
   pub judged_part : Part → Result trees.Part SelectorError
   judged_part (Plain part) = Ok (trees.Plain part)
   judged_part LatePseudoClass = Err UnsupportedPseudoClassOrElement
   judged_part LateNamespace = Err NamespacedSelector
-  judged_part (Not items) = judged true items >>= λ inner. Ok (trees.Not inner)
+  judged_part (Logical combination items) = judged true items >>= λ inner. Ok (combined combination inner)
 
   pub judged_compound : Compound → Result trees.Compound SelectorError
   judged_compound Nothing = Ok trees.Nothing

@@ -2,6 +2,7 @@
 use Rattle.std.specs.Prelude.{ℕ}
 use Rattle.lol_css.specs.Trees.{Simple}
 use Rattle.lol_css.specs.declared.selector.Combinator.{Combinator}
+use Rattle.lol_css.specs.declared.logical.LogicalCombination.{LogicalCombination}
 
 -- how a compound stands to the one before it; `+` and `~` are refused late
 pub data Step : Type 0 where
@@ -13,7 +14,7 @@ mutual
     Plain : Simple → Part
     LatePseudoClass : Part  -- `:root` and its like
     LateNamespace : Part  -- `[*|a]`
-    Not : Items → Part
+    Logical : LogicalCombination → Items → Part  -- `:not(..)`, `:is(..)` and `:where(..)`
 
   pub data Compound : Type 0 where
     Nothing : Compound

@@ -7,7 +7,7 @@ use Rattle.lol_css.specs.Points.{front}
 use Rattle.lol_css.specs.Tokens.{Token, Quoted, Hash, Function, Ident, Match, Delim}
 use Rattle.lol_css.specs.CaselessAttributes.{caseless_attributes}
 use Rattle.lol_css.specs.Trees.{Simple, LocalName, AnyName, NoNamespace, Id, Class, Exists, Compares, Nth}
-use Rattle.lol_css.specs.Drafts.{Step, By, Sibling, Part, Plain, LatePseudoClass, LateNamespace, Not, Compound, Nothing, With, Item, First, Then, Items, NoItems, And}
+use Rattle.lol_css.specs.Drafts.{Step, By, Sibling, Part, Plain, LatePseudoClass, LateNamespace, Logical, Compound, Nothing, With, Item, First, Then, Items, NoItems, And}
 use Rattle.lol_css.specs.Rules.{Read, ◌>>=◌, giving, keeping, is_delim, is_space, skip_space, Place, Outside, InFunction, InBrackets, at_end, at_stop, wanted, closed, lowered, says, ident_of}
 use Rattle.lol_css.specs.AnPlusB.{an_plus_b}
 use Rattle.lol_css.specs.declared.attribute.AttrSelectorOperator.{AttrSelectorOperator}
@@ -15,6 +15,8 @@ use Rattle.lol_css.specs.declared.attribute.AttrSelectorOperator.TheVariants.{Eq
 use Rattle.lol_css.specs.declared.attribute.ParsedCaseSensitivity.{ParsedCaseSensitivity}
 use Rattle.lol_css.specs.declared.attribute.ParsedCaseSensitivity.TheVariants.{ExplicitCaseSensitive, AsciiCaseInsensitive, CaseSensitive, AsciiCaseInsensitiveIfInHtmlElementInHtmlDocument}
 use Rattle.lol_css.specs.declared.selector.Combinator.TheVariants.{Child, Descendant}
+use Rattle.lol_css.specs.declared.logical.LogicalCombination.{LogicalCombination}
+use Rattle.lol_css.specs.declared.logical.LogicalCombination.TheVariants.{Not, Is, Where}
 use Rattle.lol_css.specs.declared.error.SelectorError.{SelectorError}
 use Rattle.lol_css.specs.declared.error.SelectorError.TheVariants.{UnexpectedToken, UnexpectedEnd, MissingAttributeName, EmptySelector, DanglingCombinator, UnexpectedTokenInAttribute, UnsupportedPseudoClassOrElement, NamespacedSelector, InvalidClassName, UnsupportedSyntax}
 
@@ -104,7 +106,13 @@ class_name place tokens =
 abbrev pub is_one_of : List (List ℕ) → List ℕ → Bool
 is_one_of words name = list_any (λ word. says word name) words
 
--- a pseudo-class with an argument, from behind its parenthesis, but for `:not`
+-- the functions that take a list (Selectors 4, section 4, "Logical Combinations")
+abbrev pub combination_named : List ℕ → Option LogicalCombination
+combination_named name =
+    if says (codes "not") name then Some Not
+    else (if says (codes "is") name then Some Is else (if says (codes "where") name then Some Where else None))
+
+-- a pseudo-class with another argument, after its parenthesis
 unfoldable pub function_part : List ℕ → List Token → Read Part
 function_part name tokens =
     if says (codes "nth-child") name then giving (λ nth. Plain (Nth false nth.0 nth.1)) (an_plus_b tokens)
@@ -123,14 +131,17 @@ ident_part name =
     else (if is_one_of late_words name then Ok LatePseudoClass
     else Err UnsupportedPseudoClassOrElement))
 
--- behind a colon; inner reads the list of a `:not`
+-- after a colon; inner reads the list of a logical combination
 unfoldable pub pseudo : (List Token → Read Items) → Place → List Token → Read Part
 pseudo inner place [] = Err UnexpectedEnd
 pseudo inner place (token ∷ tokens) =
     if at_stop place (token ∷ tokens) then Err UnexpectedEnd
     else elim token [
       | Ident name ↦ keeping (ident_part name) tokens
-      | Function name ↦ if says (codes "not") name then giving Not (inner tokens) else function_part name tokens
+      | Function name ↦ elim (combination_named name) [
+        | None ↦ function_part name tokens
+        | Some combination ↦ giving (Logical combination) (inner tokens)
+      ]
       | Delim c ↦ if c == 58 && at_stop place tokens then Err UnexpectedEnd else Err UnsupportedPseudoClassOrElement
       | _ ↦ Err UnsupportedPseudoClassOrElement
     ]
@@ -253,11 +264,11 @@ list inner place tokens = do
   first ← item inner place tokens
   items_at_most (length first.1 + 1) inner place (And NoItems first.0) first.1
 
--- the list of a `:not`, behind the parenthesis, inside which room others may still be opened
+-- the list of a logical combination, after its parenthesis; room of them may still be opened one inside the other, this one included
 unfoldable pub inner_list : ℕ → List Token → Read Items
 inner_list zero tokens = Err UnsupportedSyntax
 inner_list (suc room) tokens = list (inner_list room) InFunction tokens
 
--- all of the tokens; a `:not` stands inside at most 127 others
+-- all of the tokens; a logical combination stands inside at most 127 others
 unfoldable pub selector : List Token → Read Items
 selector tokens = list (inner_list 128) Outside tokens

@@ -70,7 +70,7 @@ place_of Outside = rules.Outside
 place_of InFunction = rules.InFunction
 place_of InBrackets = rules.InBrackets
 
--- whether a list inside a `:not` is read
+-- whether the list of a logical combination is read
 abbrev pub is_inside : Place → Bool
 is_inside InFunction = true
 is_inside _ = false

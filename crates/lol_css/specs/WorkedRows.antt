@@ -1,6 +1,6 @@
 -- Texts and what they stand for, worked by hand.
 use Rattle.std.specs.Prelude.{ℕ, zero, suc, true, false, List, [], ◌∷◌, ◌++◌, pos, negsuc, codes}
-use Rattle.lol_css.specs.Trees.{LocalName, AnyName, NoNamespace, Id, Class, Exists, Compares, Nth, Part, Plain, Not, Compound, Nothing, With, Item, First, Then, Items, NoItems, And}
+use Rattle.lol_css.specs.Trees.{LocalName, AnyName, NoNamespace, Id, Class, Exists, Compares, Nth, Part, Plain, Not, Is, Where, Compound, Nothing, With, Item, First, Then, Items, NoItems, And}
 use Rattle.lol_css.specs.declared.attribute.AttrSelectorOperator.TheVariants.{Equal, Includes, DashMatch, Prefix, Substring, Suffix}
 use Rattle.lol_css.specs.declared.attribute.ParsedCaseSensitivity.TheVariants.{ExplicitCaseSensitive, AsciiCaseInsensitive, CaseSensitive, AsciiCaseInsensitiveIfInHtmlElementInHtmlDocument}
 use Rattle.lol_css.specs.declared.selector.Combinator.TheVariants.{Child, Descendant}
@@ -68,6 +68,12 @@ accepted_rows =
     ∷ stands_for (codes ":not(a") (one (Not (one (type (codes "a")))))
     ∷ stands_for (codes ":/**/not(a)") (one (Not (one (type (codes "a")))))
     ∷ stands_for (codes ":not(:not(a, b))") (one (Not (one (Not (And (And NoItems (item (type (codes "a")))) (item (type (codes "b"))))))))
+    ∷ stands_for (codes ":is(header)") (one (Is (one (type (codes "header")))))
+    ∷ stands_for (codes ":where(p)") (one (Where (one (type (codes "p")))))
+    ∷ stands_for (codes ":IS(a") (one (Is (one (type (codes "a")))))
+    ∷ stands_for (codes ":wh\\65re(\\69s, is)") (one (Where (And (And NoItems (item (type (codes "is")))) (item (type (codes "is"))))))
+    ∷ stands_for (codes ":is(a.x, p)") (one (Is (And (And NoItems (First (With (only (type (codes "a"))) (Plain (Class (codes "x")))))) (item (type (codes "p"))))))
+    ∷ stands_for (codes ":not(:is(a, b))") (one (Not (one (Is (And (And NoItems (item (type (codes "a")))) (item (type (codes "b"))))))))
     ∷ stands_for (codes "a-->b") (And NoItems (Then (item (type (codes "a--"))) Child (only (type (codes "b")))))
     ∷ stands_for (codes "a /**/ b") (And NoItems (Then (item (type (codes "a"))) Descendant (only (type (codes "b")))))
     ∷ stands_for (codes "a/* b") (one (type (codes "a")))
@@ -93,17 +99,17 @@ refused cause texts = record { cause = cause; texts = texts }
 
 abbrev pub refused_rows : List Refused
 refused_rows =
-    refused EmptySelector ([] ∷ codes ":not()" ∷ codes "*|" ∷ codes "a," ∷ codes ",a" ∷ codes "#1a" ∷ codes ".1a" ∷ codes "-->" ∷ [])
+    refused EmptySelector ([] ∷ codes ":not()" ∷ codes ":is()" ∷ codes ":where()" ∷ codes ":is(a,)" ∷ codes ":is(a, :where())" ∷ codes "*|" ∷ codes "a," ∷ codes ",a" ∷ codes "#1a" ∷ codes ".1a" ∷ codes "-->" ∷ [])
     ∷ refused DanglingCombinator (codes "div >" ∷ codes "div @" ∷ codes "a > *|" ∷ codes "a >> b" ∷ codes "a #1" ∷ [])
     ∷ refused UnexpectedEnd (codes "div." ∷ codes ":nth-child(3n-)" ∷ codes ":nth-child(+)" ∷ codes "[a=]" ∷ codes "a:" ∷ codes "a + ." ∷ [])
-    ∷ refused UnexpectedToken (codes "div@" ∷ codes ":nth-child(+ n)" ∷ codes ":nth-child(n of a)" ∷ codes ":nth-child(2147483648)" ∷ codes ":nth-child(2147483648n-" ∷ codes ":nth-child(n-2147483649)" ∷ codes ":nth-child(n+2147483648)" ∷ codes ":nth-child(n+-1)" ∷ codes ":nth-child(2e1n)" ∷ codes ":nth-child(1.0)" ∷ codes ":nth-child(--n)" ∷ codes "*|.a" ∷ codes "*|a|b" ∷ codes "*|*|a" ∷ codes "*| " ∷ codes "[a=b x]" ∷ codes "[a=b i s]" ∷ codes "a)" ∷ codes "a#1" ∷ codes "a.1b" ∷ codes "a/**/b" ∷ codes ":not(a]" ∷ [])
+    ∷ refused UnexpectedToken (codes "div@" ∷ codes ":nth-child(+ n)" ∷ codes ":nth-child(n of a)" ∷ codes ":nth-child(2147483648)" ∷ codes ":nth-child(2147483648n-" ∷ codes ":nth-child(n-2147483649)" ∷ codes ":nth-child(n+2147483648)" ∷ codes ":nth-child(n+-1)" ∷ codes ":nth-child(2e1n)" ∷ codes ":nth-child(1.0)" ∷ codes ":nth-child(--n)" ∷ codes "*|.a" ∷ codes "*|a|b" ∷ codes "*|*|a" ∷ codes "*| " ∷ codes "[a=b x]" ∷ codes "[a=b i s]" ∷ codes "a)" ∷ codes "a#1" ∷ codes "a.1b" ∷ codes "a/**/b" ∷ codes ":not(a]" ∷ codes ":is(a]" ∷ [])
     ∷ refused MissingAttributeName (codes "div[=\"foo\"]" ∷ [])
     ∷ refused UnexpectedTokenInAttribute (codes "div[foo~\"bar\"]" ∷ codes "[a=1]" ∷ codes "[a~/**/=b]" ∷ codes "[a=\"x\ny\"]" ∷ [])
-    ∷ refused NamespacedSelector (codes "svg|img" ∷ codes "[*|Foo]" ∷ codes "[*|Foo=bar]" ∷ codes "[a|b]" ∷ codes ":not(a [*|b])" ∷ [])
+    ∷ refused NamespacedSelector (codes "svg|img" ∷ codes "[*|Foo]" ∷ codes "[*|Foo=bar]" ∷ codes "[a|b]" ∷ codes ":not(a [*|b])" ∷ codes ":is(a [*|b])" ∷ codes ":where([*|b], a > c)" ∷ [])
     ∷ refused InvalidClassName (codes ".foo()" ∷ [])
     ∷ refused (UnsupportedCombinator 43) (codes "div + span" ∷ [])
     ∷ refused (UnsupportedCombinator 126) (codes "div ~ span" ∷ codes "div + span ~ p" ∷ codes "a + b c ~ d" ∷ [])
-    ∷ refused UnsupportedPseudoClassOrElement (codes "a: b" ∷ codes ":not/**/(a)" ∷ codes ":not(foo bar)" ∷ codes ":not(foo > bar)" ∷ codes ":not(* > .x)" ∷ codes ":not([*|b] a)" ∷ codes ":not(:nth-last-child(even))" ∷ [])
+    ∷ refused UnsupportedPseudoClassOrElement (codes "a: b" ∷ codes ":not/**/(a)" ∷ codes ":not(foo bar)" ∷ codes ":not(foo > bar)" ∷ codes ":not(* > .x)" ∷ codes ":not([*|b] a)" ∷ codes ":not(:nth-last-child(even))" ∷ codes ":is(:nth-last-child(1))" ∷ codes ":is(a > b)" ∷ codes ":where(a b)" ∷ codes ":is(a, [*|b] c)" ∷ codes ":where(a + b)" ∷ codes ":is" ∷ codes ":where" ∷ codes "::is(a)" ∷ codes "::where(a)" ∷ codes ":is/**/(a)" ∷ [])
     ∷ []
 
 -- pseudo-classes and pseudo-elements that are refused, each alone
@@ -112,11 +118,11 @@ refused_pseudo =
     codes ":active" ∷ codes ":any-link" ∷ codes ":blank" ∷ codes ":checked" ∷ codes ":current" ∷ codes ":default" ∷ codes ":defined" ∷ codes ":dir(rtl)"
     ∷ codes ":disabled" ∷ codes ":drop" ∷ codes ":empty" ∷ codes ":enabled" ∷ codes ":first" ∷ codes ":fullscreen" ∷ codes ":future" ∷ codes ":focus"
     ∷ codes ":focus-visible" ∷ codes ":focus-within" ∷ codes ":has(div)" ∷ codes ":host" ∷ codes ":host(h1)" ∷ codes ":host-context(h1)" ∷ codes ":hover"
-    ∷ codes ":indeterminate" ∷ codes ":in-range" ∷ codes ":invalid" ∷ codes ":is(header)" ∷ codes ":lang(en)" ∷ codes ":last-child" ∷ codes ":last-of-type"
+    ∷ codes ":indeterminate" ∷ codes ":in-range" ∷ codes ":invalid" ∷ codes ":lang(en)" ∷ codes ":last-child" ∷ codes ":last-of-type"
     ∷ codes ":left" ∷ codes ":link" ∷ codes ":local-link" ∷ codes ":nth-col(1)" ∷ codes ":nth-last-child(1)" ∷ codes ":nth-last-col(1)" ∷ codes ":nth-last-of-type(1)"
     ∷ codes ":only-child" ∷ codes ":only-of-type" ∷ codes ":optional" ∷ codes ":out-of-range" ∷ codes ":past" ∷ codes ":placeholder-shown" ∷ codes ":read-only"
     ∷ codes ":read-write" ∷ codes ":required" ∷ codes ":right" ∷ codes ":root" ∷ codes ":scope" ∷ codes ":target" ∷ codes ":target-within" ∷ codes ":user-invalid"
-    ∷ codes ":valid" ∷ codes ":visited" ∷ codes ":where(p)" ∷ codes "::after" ∷ codes "::backdrop" ∷ codes "::before" ∷ codes "::cue" ∷ codes "::first-letter"
+    ∷ codes ":valid" ∷ codes ":visited" ∷ codes "::after" ∷ codes "::backdrop" ∷ codes "::before" ∷ codes "::cue" ∷ codes "::first-letter"
     ∷ codes "::first-line" ∷ codes "::grammar-error" ∷ codes "::marker" ∷ codes "::placeholder" ∷ codes "::selection" ∷ codes "::slotted()" ∷ codes "::spelling-error" ∷ []
 
 -- a text so often
@@ -128,6 +134,11 @@ times (suc n) text = text ++ times n text
 abbrev pub negated : ℕ → Part → Part
 negated zero part = part
 negated (suc n) part = Not (one (negated n part))
+
+-- a name inside so many `:is`, each with a `:not` directly inside
+abbrev pub alternated : ℕ → Part → Part
+alternated zero part = part
+alternated (suc n) part = Is (one (Not (one (alternated n part))))
 
 -- a name so often, each inside the one before it
 abbrev pub inside : ℕ → Item → Item

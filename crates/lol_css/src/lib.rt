@@ -7,6 +7,7 @@ mod attribute_part;
 mod error;
 mod judged;
 pub mod laws;
+mod logical;
 mod nth;
 mod parser;
 mod points;

@@ -12,8 +12,8 @@ use crate::rules::list;
 use crate::selector::SelectorList;
 use std::alloc::Global;
 
-/// How many `:not` may be open at once.
-const MAX_NEGATIONS: u32 = 128;
+/// How many of `:not`, `:is` and `:where` may be open at once.
+const MAX_NESTING: u32 = 128;
 
 /// Reads selectors, as in the crate's `selectors_vm::SelectorsParser`.
 pub struct SelectorsParser;
@@ -30,7 +30,7 @@ impl SelectorsParser {
     {
         let points = preprocessed(alloc, text)?;
         let mut reader = Reader::new(points.as_slice());
-        list(alloc, &mut reader, Place::Outside, MAX_NEGATIONS)?
+        list(alloc, &mut reader, Place::Outside, MAX_NESTING)?
     }
 }
 

@@ -16,6 +16,7 @@ use crate::an_plus_b::an_plus_b;
 use crate::attribute_part::attribute;
 use crate::error::SelectorError;
 use crate::judged::Judged;
+use crate::logical::LogicalCombination;
 use crate::nth::NthChild;
 use crate::reader::{Place, Reader};
 use crate::selector::{Combinator, ComplexSelector, Compound, SelectorList, SimpleSelector};
@@ -77,7 +78,7 @@ fn ident_part(name: Name<'_>) -> Result<Judged<SimpleSelector>, SelectorError>
     Err(SelectorError::UnsupportedPseudoClassOrElement)
 }
 
-/// A pseudo-class with an argument, from behind its parenthesis, but for `:not`.
+/// A pseudo-class whose argument is no list, after its parenthesis.
 #[tactic(auto, unfolding(crate::specs::Reading::function_part, crate::specs::Accepting::judged_part))]
 fn function_part(
     name: Name<'_>,
@@ -350,33 +351,31 @@ fn pseudo(
     }
     match reader.next() {
         Some(Token::Ident(name)) => ident_part(name),
-        Some(Token::Function(name)) => {
-            if name.is_word("not") {
-                negation(alloc, reader, room)
-            } else {
-                function_part(name, reader)
-            }
-        }
+        Some(Token::Function(name)) => match LogicalCombination::from_name(name) {
+            Some(combination) => logical_part(alloc, reader, room, combination),
+            None => function_part(name, reader),
+        },
         Some(Token::Delim(':')) if reader.is_at_stop(place) => Err(SelectorError::UnexpectedEnd),
         _ => Err(SelectorError::UnsupportedPseudoClassOrElement),
     }
 }
 
-/// A `:not`, from behind its parenthesis, inside which `room` others may still be opened, itself included.
+/// A logical combination, after its parenthesis; `room` of them may still be opened one inside the other, this one included.
 #[tactic(auto, unfolding(crate::specs::Accepting::judged_part))]
 #[cycle(rules)]
-fn negation(
+fn logical_part(
     alloc: Global,
     reader: &mut Reader<'_>,
     room: u32,
+    combination: LogicalCombination,
 ) -> Result<Judged<SimpleSelector>, SelectorError>
-    ensures { Reads (seen part_of) result reader.new (giving judged_part (giving drafts.Not (inner_list room reader.old))) }
+    ensures { Reads (seen part_of) result reader.new (giving judged_part (giving (drafts.Logical combination) (inner_list room reader.old))) }
 {
     if room == 0 {
         return Err(SelectorError::UnsupportedSyntax);
     }
     match list(alloc, reader, Place::InFunction, room - 1)? {
-        Ok(list) => Ok(Ok(SimpleSelector::Negation(list))),
+        Ok(list) => Ok(Ok(combination.of(list))),
         Err(cause) => Ok(Err(cause)),
     }
 }

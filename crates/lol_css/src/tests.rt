@@ -92,6 +92,38 @@ fn a_selector_is_read(rt: HostRuntime) -> Result<(), Fail> {
     Ok(())
 }
 
+/// A list of this part alone.
+fn alone(alloc: Global, part: SimpleSelector) -> Result<SelectorList, AllocError> {
+    let mut parts = Vec::new(alloc);
+    parts.push(part)?;
+    let mut items = Vec::new(alloc);
+    items.push(ComplexSelector {
+        first: Compound { parts },
+        rest: Vec::new(alloc),
+    })?;
+    Ok(SelectorList { items })
+}
+
+/// `a`
+fn named(alloc: Global) -> Result<SelectorList, AllocError> {
+    alone(
+        alloc,
+        SimpleSelector::LocalName(CssString::new(alloc, "a")?),
+    )
+}
+
+#[test]
+fn lists_inside_a_function_are_read(rt: HostRuntime) -> Result<(), Fail> {
+    let alloc = rt.alloc();
+    let expected = alone(alloc, SimpleSelector::Negation(named(alloc)?))?;
+    assert_eq!(rt; SelectorsParser::parse(alloc, ":not(a)"), Ok(expected));
+    let expected = alone(alloc, SimpleSelector::Is(named(alloc)?))?;
+    assert_eq!(rt; SelectorsParser::parse(alloc, ":IS(a)"), Ok(expected));
+    let expected = alone(alloc, SimpleSelector::Where(named(alloc)?))?;
+    assert_eq!(rt; SelectorsParser::parse(alloc, ":wh\\65re( a"), Ok(expected));
+    Ok(())
+}
+
 #[test]
 fn a_text_is_copied(rt: HostRuntime) -> Result<(), Fail> {
     let text = CssString::new(rt.alloc(), "div")?;
@@ -116,6 +148,15 @@ fn selectors_are_bounded(rt: HostRuntime) -> Result<(), Fail> {
     for (count, text, last, answer) in [
         (128, ":not(", "a", None),
         (129, ":not(", "a", Some(SelectorError::UnsupportedSyntax)),
+        (64, ":is(:not(", "a", None),
+        (64, ":where(:is(", "a", None),
+        (
+            64,
+            ":is(:not(",
+            ":where(a",
+            Some(SelectorError::UnsupportedSyntax),
+        ),
+        (129, ":is(", "a", Some(SelectorError::UnsupportedSyntax)),
         (1024, "a ", "", None),
         (1024, "a ", "a", Some(SelectorError::UnsupportedSyntax)),
         (1024, "a ", " >", Some(SelectorError::UnsupportedSyntax)),

@@ -19,6 +19,14 @@ pub returns-clause-negations_past : goal.returns-clause-negations_past
 unfolding chars at_most hexadecimal preprocessed_behind escaped name_point in_comment comment space string_escape string_piece string hash behind_fraction behind_exponent numeral number cdc identifier match_sign delim next tokens_of skip_space wanted closed fitting digits_of_b behind_n rest_of integer scaled an_plus_b_of an_plus_b caseless_attributes attribute_name case_sensitivity comparison attribute class_name function_part ident_part pseudo part parts_at_most behind_bar type_part compound step next_step further item items_at_most list inner_list selector judged_part judged_compound judged_item judged accept encode_utf8
 returns-clause-negations_past c = refl
 
+pub returns-clause-combinations : goal.returns-clause-combinations
+unfolding chars at_most hexadecimal preprocessed_behind escaped name_point in_comment comment space string_escape string_piece string hash behind_fraction behind_exponent numeral number cdc identifier match_sign delim next tokens_of skip_space wanted closed fitting digits_of_b behind_n rest_of integer scaled an_plus_b_of an_plus_b caseless_attributes attribute_name case_sensitivity comparison attribute class_name function_part ident_part pseudo part parts_at_most behind_bar type_part compound step next_step further item items_at_most list inner_list selector judged_part judged_compound judged_item judged accept encode_utf8
+returns-clause-combinations c = refl
+
+pub returns-clause-combinations_past : goal.returns-clause-combinations_past
+unfolding chars at_most hexadecimal preprocessed_behind escaped name_point in_comment comment space string_escape string_piece string hash behind_fraction behind_exponent numeral number cdc identifier match_sign delim next tokens_of skip_space wanted closed fitting digits_of_b behind_n rest_of integer scaled an_plus_b_of an_plus_b caseless_attributes attribute_name case_sensitivity comparison attribute class_name function_part ident_part pseudo part parts_at_most behind_bar type_part compound step next_step further item items_at_most list inner_list selector judged_part judged_compound judged_item judged accept encode_utf8
+returns-clause-combinations_past c = refl
+
 pub returns-clause-compounds : goal.returns-clause-compounds
 unfolding chars at_most hexadecimal preprocessed_behind escaped name_point in_comment comment space string_escape string_piece string hash behind_fraction behind_exponent numeral number cdc identifier match_sign delim next tokens_of skip_space wanted closed fitting digits_of_b behind_n rest_of integer scaled an_plus_b_of an_plus_b caseless_attributes attribute_name case_sensitivity comparison attribute class_name function_part ident_part pseudo part parts_at_most behind_bar type_part compound step next_step further item items_at_most list inner_list selector judged_part judged_compound judged_item judged accept encode_utf8
 returns-clause-compounds c = refl

@@ -9,7 +9,7 @@ use Rattle.lol_css.specs.TreeViews.{compound_of, item_of, list_of, part_of}
 use Rattle.lol_css.proofs.TreeRows.{list-none}
 use Rattle.lol_css.proofs.Shorter.{inner_list-leaves}
 use Rattle.lol_css.proofs.Spaces.{fails}
-use Rattle.lol_css.proofs.Fusing.{part-read, parts-stop, parts-fail, compound-starts, compound-none, compound-fails, not_empty-fails, not_empty-refused, not_empty-kept, item-starts, item-fails, further-stops, further-fails, further-full, further-goes_on, further-compound-fails, step-read, list-starts, list-fails, items-stop, item-read, items-fail, inner_list-opens, negation-read, negation-fails, part-pseudo-fails, part-class-fails}
+use Rattle.lol_css.proofs.Fusing.{part-read, parts-stop, parts-fail, compound-starts, compound-none, compound-fails, not_empty-fails, not_empty-refused, not_empty-kept, item-starts, item-fails, further-stops, further-fails, further-full, further-goes_on, further-compound-fails, step-read, list-starts, list-fails, items-stop, item-read, items-fail, inner_list-opens, logical-read, logical-fails, part-pseudo-fails, part-class-fails}
 use Rattle.lol_css.proofs.rules.+rules.Goals as goal
 
 -- ---- compounds
@@ -133,16 +133,16 @@ pub more_parts-returns : goal.more_parts-returns
 more_parts-returns t c =
     sym c.parts.invariant ∙ parts-stop (inner_list c.args.room) (place_of c.args.place) (seen compound_of c.parts.parts) c.parts.reader c.part.new.reader (rw c.in_default.is at c.in_ok-found.ensures)
 
--- ---- inside a `:not`
+-- ---- inside a logical combination
 
-pub negation-returns-then-room-eq0 : goal.negation-returns-then-room-eq0
+pub logical_part-returns-then-room-eq0 : goal.logical_part-returns-then-room-eq0
 unfolding inner_list
-negation-returns-then-room-eq0 t c = rw c.if-room-eq0.true refl
+logical_part-returns-then-room-eq0 t c = rw c.if-room-eq0.true refl
 
-pub negation-returns-in_err-list : goal.negation-returns-in_err-list
-negation-returns-in_err-list t c =
+pub logical_part-returns-in_err-list : goal.logical_part-returns-in_err-list
+logical_part-returns-in_err-list t c =
     let p = err_from_is_err_and c.from_residual.result c.from_residual.ensures.1 in
-    rw (p.1, p.2, inner_list-opens c.args.room c.args.reader.now c.if-room-eq0.false) (negation-fails _ c.in_err-list.field-0.0 c.in_err-list.ensures)
+    rw (p.1, p.2, inner_list-opens c.args.room c.args.reader.now c.if-room-eq0.false) (logical-fails c.args.combination _ c.in_err-list.field-0.0 c.in_err-list.ensures)
 
 pub part-returns-in_err-pseudo-in-Some-Delim-eq58 : goal.part-returns-in_err-pseudo-in-Some-Delim-eq58
 part-returns-in_err-pseudo-in-Some-Delim-eq58 t c =
@@ -150,15 +150,15 @@ part-returns-in_err-pseudo-in-Some-Delim-eq58 t c =
     let first : c.args.reader.now ≡ Delim 58 ∷ drop 1 c.args.reader.now = cc c.in-Some-Delim-eq58.ensures in
     rw (p.1, p.2) (part-pseudo-fails (inner_list c.args.room) (place_of c.args.place) c.args.reader.now (drop 1 c.args.reader.now) c.in_err-pseudo-in-Some-Delim-eq58.field-0.0 first (rw c.advance-in-Some-Delim-eq58.ensures at c.in_err-pseudo-in-Some-Delim-eq58.ensures))
 
-pub negation-returns-in-Ok : goal.negation-returns-in-Ok
-negation-returns-in-Ok t c =
-    rw (inner_list-opens c.args.room c.args.reader.now c.if-room-eq0.false)
-    (negation-read (list (inner_list (c.args.room - 1)) InFunction c.args.reader.now) (Ok (list_of c.in-Ok.list)) c.list.new.reader (rw c.in-Ok.is at c.in_ok-list.ensures))
+pub logical_part-returns-in-Ok : goal.logical_part-returns-in-Ok
+logical_part-returns-in-Ok t c =
+    rw (c.of.ensures, inner_list-opens c.args.room c.args.reader.now c.if-room-eq0.false)
+    (logical-read c.args.combination (list (inner_list (c.args.room - 1)) InFunction c.args.reader.now) (Ok (list_of c.in-Ok.list)) c.list.new.reader (rw c.in-Ok.is at c.in_ok-list.ensures))
 
-pub negation-returns-in-Err : goal.negation-returns-in-Err
-negation-returns-in-Err t c =
+pub logical_part-returns-in-Err : goal.logical_part-returns-in-Err
+logical_part-returns-in-Err t c =
     rw (inner_list-opens c.args.room c.args.reader.now c.if-room-eq0.false)
-    (negation-read (list (inner_list (c.args.room - 1)) InFunction c.args.reader.now) (Err c.in-Err.cause) c.list.new.reader (rw c.in-Err.is at c.in_ok-list.ensures))
+    (logical-read c.args.combination (list (inner_list (c.args.room - 1)) InFunction c.args.reader.now) (Err c.in-Err.cause) c.list.new.reader (rw c.in-Err.is at c.in_ok-list.ensures))
 
 pub part-returns-in_err-class_name-in-Some-Delim-eq46 : goal.part-returns-in_err-class_name-in-Some-Delim-eq46
 part-returns-in_err-class_name-in-Some-Delim-eq46 t c =

@@ -7,8 +7,8 @@ use Rattle.lol_css.specs.Views.{place_of, is_inside, seen}
 use Rattle.lol_css.specs.TreeViews.{compound_of, item_of, list_of}
 use Rattle.lol_css.proofs.rules.+rules.Given as goal
 
-abbrev pub decreases-negation : goal.decreases-negation
-decreases-negation l = 7 * l.room
+abbrev pub decreases-logical_part : goal.decreases-logical_part
+decreases-logical_part l = 7 * l.room
 
 abbrev pub decreases-pseudo : goal.decreases-pseudo
 decreases-pseudo l = 7 * l.room + 1
