@@ -20,6 +20,7 @@ judged_step true step = Err UnsupportedPseudoClassOrElement
 judged_step false (By combinator) = Ok combinator
 judged_step false (Sibling sign) = Err (UnsupportedCombinator sign)
 
+-- what a combination of a list is kept as
 abbrev pub combined : LogicalCombination → trees.Items → trees.Part
 combined combinations.Not items = trees.Not items
 combined combinations.Is items = trees.Is items
