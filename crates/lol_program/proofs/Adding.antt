@@ -1,16 +1,17 @@
 -- What an added path brings, in the lists of nodes and pairs.
+use Rattle.lol_css.specs.declared.selector.SimpleSelector.TheViews.{out-ComplexSelector}
 use Rattle.std.proofs.Common.{ℕ, inl, inr, ⊎_elim, List, [], ◌∷◌, Option, Result, Ok, Err, OnOk, OnErr}
 use Rattle.std.specs.Prelude.{Contains}
 use Rattle.lol_css.specs.declared.selector.Combinator.{Combinator}
-use Rattle.lol_program.specs.Paths.{Compound, First, extended, beginnings}
+use Rattle.lol_program.specs.Compounds.{Compound}
+use Rattle.lol_program.specs.Paths.{First, extended, beginnings}
 use Rattle.lol_program.specs.Forest.{Forest, nodes_in, pairs_in}
 use Rattle.lol_program.specs.Growth.{Adds, AddsFirst}
 use Rattle.lol_program.specs.Gifts.{pairs_given}
 use Rattle.lol_program.specs.Sets.{Joins, SameMembers, IsBetween}
 use Rattle.lol_program.specs.AstPaths.{AllIn}
-use Rattle.lol_program.specs.Predicates.{tests_of}
-use Rattle.lol_program.specs.Views.{steps_of}
-use Rattle.lol_program.specs.declared.ast_path.AstPath.{AstPath}
+use Rattle.lol_program.specs.Views.{steps_of, tests_in}
+use Rattle.lol_css.specs.declared.selector.ComplexSelector.{ComplexSelector}
 use Rattle.lol_program.proofs.Having.{HasNode, HasPair, BringsNode, BringsPair, BringsFirst}
 use Rattle.lol_program.proofs.Grown.{has_added, has_added_first}
 use Rattle.lol_program.proofs.Listed.{nodes_listed, pairs_listed, brings_beginnings, first_brings, brings_given}
@@ -55,6 +56,6 @@ module _ (c : Compound) (rest : List (Combinator × Compound)) (old new : Forest
   keeps_either (Ok x) id a b = adds_keeps id c rest old new a
   keeps_either (Err x) id a b = first_keeps b.0 c rest old new b.1
 
-pub keeps_all : (old new : Forest) → Keeps old new → (paths : List AstPath) → AllIn old paths → AllIn new paths
+pub keeps_all : (old new : Forest) → Keeps old new → (items : List ComplexSelector) → AllIn old items → AllIn new items
 keeps_all old new k [] h = tt
-keeps_all old new k (path ∷ paths) h = (k (tests_of path.first) (steps_of path.rest.items) h.0, keeps_all old new k paths h.1)
+keeps_all old new k (item ∷ items) h = (k (tests_in (out-ComplexSelector item).first) (steps_of (out-ComplexSelector item).rest.items) h.0, keeps_all old new k items h.1)

@@ -1,24 +1,29 @@
 -- Paths of items.
-use Rattle.std.proofs.Common.{◌≡◌, ℕ, ◌+◌, ◌<◌, List, [], ◌∷◌, ◌++◌, map, take, get_or, length, refl, sym, ap, ◌∙◌}
-use Rattle.std.proofs.lemmas.List.{take_more}
+use Rattle.std.proofs.Common.{◌≡◌, List, [], ◌∷◌, ◌++◌, map, refl, sym, ap, ◌∙◌, append_assoc, append-nil}
 use Rattle.lol_css.specs.Trees as trees
 use Rattle.lol_css.specs.declared.selector.Combinator.{Combinator}
 use Rattle.lol_css.specs.declared.selector.Compound as css
 use Rattle.lol_css.specs.declared.selector.ComplexSelector.{ComplexSelector}
+use Rattle.lol_css.specs.declared.selector.SimpleSelector.TheViews.{out-ComplexSelector}
 use Rattle.lol_css.specs.TreeViews.{item_of, compound_of, with_compound_list, with_item_list}
 use Rattle.lol_program.specs.Paths.{Path, extended}
-use Rattle.lol_program.specs.Conditions.{compound_tests, path_of, paths_of}
-use Rattle.lol_css.proofs.TreeRows.{with_item_list-push}
+use Rattle.lol_program.specs.Conditions.{path_of, paths_of}
+use Rattle.lol_program.specs.Views.{steps_of}
+use Rattle.lol_program.specs.AstPaths.{shown}
+use Rattle.lol_css.proofs.TreeRows.{item_of-out}
 
-pub path_of-steps : (front : trees.Item) (others : List (Combinator × css.Compound)) → path_of (with_compound_list front others) ≡ extended (path_of front) (map (λ step. (step.0, compound_tests (compound_of step.1))) others)
+path_of-steps : (front : trees.Item) (others : List (Combinator × css.Compound)) → path_of (with_compound_list front others) ≡ extended (path_of front) (steps_of others)
 path_of-steps front [] = refl
 path_of-steps front (next ∷ others) = path_of-steps (trees.Then front next.0 (compound_of next.1)) others
 
--- one item more
-pub more_paths : (items : List ComplexSelector) (i : ℕ) (item : ComplexSelector) (now : List Path) (next : Path) → i < length items → item ≡ get_or items i item
-    → now ≡ paths_of (with_item_list trees.NoItems (take i items)) → next ≡ path_of (item_of item)
-    → now ++ next ∷ [] ≡ paths_of (with_item_list trees.NoItems (take (i + 1) items))
-more_paths items i item now next within at before is =
-    let all : with_item_list trees.NoItems (take (i + 1) items) ≡ trees.And (with_item_list trees.NoItems (take i items)) (item_of item) =
-    ap (with_item_list trees.NoItems) (take_more items i item within) ∙ with_item_list-push trees.NoItems (take i items) (get_or items i item) ∙ ap (λ (p : ComplexSelector). trees.And (with_item_list trees.NoItems (take i items)) (item_of p)) (sym at) in
-    (λ j. before j ++ is j ∷ []) ∙ ap paths_of (sym all)
+pub shown-path_of : (item : ComplexSelector) → shown item ≡ path_of (item_of item)
+shown-path_of item = sym (ap path_of (item_of-out item) ∙ path_of-steps (trees.First (compound_of (out-ComplexSelector item).first)) (out-ComplexSelector item).rest.items)
+
+paths-front : (front : trees.Items) (items : List ComplexSelector) → paths_of (with_item_list front items) ≡ paths_of front ++ map shown items
+paths-front front [] = sym (append-nil (paths_of front))
+paths-front front (item ∷ items) =
+    paths-front (trees.And front (item_of item)) items ∙ append_assoc (paths_of front) (path_of (item_of item) ∷ []) (map shown items)
+    ∙ ap (λ (p : Path). paths_of front ++ p ∷ map shown items) (sym (shown-path_of item))
+
+pub paths_of-items : (items : List ComplexSelector) → paths_of (with_item_list trees.NoItems items) ≡ map shown items
+paths_of-items items = paths-front trees.NoItems items

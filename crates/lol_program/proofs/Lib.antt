@@ -2,9 +2,6 @@ pub mod Members
 pub mod SamePaths
 pub mod NodeLists
 pub mod Tests
-pub mod Mapped
-pub mod SamePredicates
-pub mod RightToLeft
 pub mod Having
 pub mod Grown
 pub mod Nodes
@@ -20,3 +17,6 @@ pub mod PathLists
 pub mod Selectors
 pub mod Once
 pub mod Running
+pub mod TestRows
+pub mod Values
+pub mod RunningTests

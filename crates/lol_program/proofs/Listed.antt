@@ -3,7 +3,8 @@ use Rattle.std.proofs.Common.{ℕ, zero, suc, length, length-append, arith, ◌�
 use Rattle.std.specs.Prelude.{Contains}
 use Rattle.lol_css.specs.declared.selector.Combinator.{Combinator}
 use Rattle.lol_css.specs.declared.selector.Combinator.TheVariants.{Child, Descendant}
-use Rattle.lol_program.specs.Paths.{Compound, Path, First, Then, extended, beginnings}
+use Rattle.lol_program.specs.Compounds.{Compound}
+use Rattle.lol_program.specs.Paths.{Path, First, Then, extended, beginnings}
 use Rattle.lol_program.specs.Forest.{Forest, none, more, size, tops, below, nodes_in, pairs_in}
 use Rattle.lol_program.specs.Gifts.{pairs_given}
 use Rattle.lol_program.proofs.Having.{HasNode, HasPair, BringsNode, BringsPair, BringsFirst}

@@ -1,5 +1,5 @@
 -- Paths that are taken one after another.
-use Rattle.std.proofs.Common.{ℕ, zero, suc, arith, ◌≡◌, ◌+◌, ◌<◌, List, [], ◌∷◌, ◌++◌, map, take, drop, get_or, length, Result, Ok, Err, OnErr, refl, sym, ap, subst, ◌∙◌}
+use Rattle.std.proofs.Common.{ℕ, zero, suc, arith, ◌≡◌, ◌+◌, ◌<◌, ◌≤◌, List, [], ◌∷◌, ◌++◌, map, take, drop, get_or, length, Result, Ok, Err, OnErr, refl, sym, ap, subst, ◌∙◌}
 use Rattle.std.specs.Prelude.{Contains, flat_map}
 use Rattle.std.proofs.lemmas.List.{take_more, map-append, take-append-drop, append-nil}
 use Rattle.std.proofs.Math.Seq.{take-length}
@@ -7,50 +7,50 @@ use Rattle.std.proofs.lemmas.Grind.{flat_map-append}
 use Rattle.lol_program.specs.Paths.{Path, beginnings, all_beginnings}
 use Rattle.lol_program.specs.Forest.{Forest}
 use Rattle.lol_program.specs.AstPaths.{shown, IsIn, AllIn}
-use Rattle.lol_program.specs.declared.ast_path.AstPath.{AstPath}
+use Rattle.lol_css.specs.declared.selector.ComplexSelector.{ComplexSelector}
 use Rattle.lol_program.proofs.Joining.{flat_map-front}
 
 -- the beginnings of paths
-abbrev pub all_of : List AstPath → List Path
+abbrev pub all_of : List ComplexSelector → List Path
 all_of paths = flat_map beginnings (map shown paths)
 
 -- their pairs under an id
-abbrev pub pairs_for : ℕ → List AstPath → List (Path × ℕ)
+abbrev pub pairs_for : ℕ → List ComplexSelector → List (Path × ℕ)
 pairs_for id paths = map (λ path. (shown path, id)) paths
 
-pub all_of-append : (xs ys : List AstPath) → all_of (xs ++ ys) ≡ all_of xs ++ all_of ys
+pub all_of-append : (xs ys : List ComplexSelector) → all_of (xs ++ ys) ≡ all_of xs ++ all_of ys
 all_of-append xs ys = ap (flat_map beginnings) (map-append shown xs ys) ∙ flat_map-append beginnings (map shown xs) (map shown ys)
 
-pub all_of-one : (x : AstPath) → all_of (x ∷ []) ≡ beginnings (shown x)
+pub all_of-one : (x : ComplexSelector) → all_of (x ∷ []) ≡ beginnings (shown x)
 all_of-one x = append-nil (beginnings (shown x))
 
-one_more : (paths : List AstPath) (i : ℕ) (x : AstPath) → i < length paths → x ≡ get_or paths i x → take (i + 1) paths ≡ take i paths ++ x ∷ []
-one_more paths i x within at = take_more paths i x within ∙ ap (λ (y : AstPath). take i paths ++ y ∷ []) (sym at)
+one_more : (paths : List ComplexSelector) (i : ℕ) (x : ComplexSelector) → i < length paths → x ≡ get_or paths i x → take (i + 1) paths ≡ take i paths ++ x ∷ []
+one_more paths i x within at = take_more paths i x within ∙ ap (λ (y : ComplexSelector). take i paths ++ y ∷ []) (sym at)
 
-pub all_of-more : (paths : List AstPath) (i : ℕ) (x : AstPath) → i < length paths → x ≡ get_or paths i x → all_of (take (i + 1) paths) ≡ all_of (take i paths) ++ beginnings (shown x)
+pub all_of-more : (paths : List ComplexSelector) (i : ℕ) (x : ComplexSelector) → i < length paths → x ≡ get_or paths i x → all_of (take (i + 1) paths) ≡ all_of (take i paths) ++ beginnings (shown x)
 all_of-more paths i x within at = ap all_of (one_more paths i x within at) ∙ all_of-append (take i paths) (x ∷ []) ∙ ap (λ (l : List Path). all_of (take i paths) ++ l) (all_of-one x)
 
-pub pairs_for-more : (id : ℕ) (paths : List AstPath) (i : ℕ) (x : AstPath) → i < length paths → x ≡ get_or paths i x → pairs_for id (take (i + 1) paths) ≡ pairs_for id (take i paths) ++ (shown x, id) ∷ []
-pairs_for-more id paths i x within at = ap (pairs_for id) (one_more paths i x within at) ∙ map-append (λ (path : AstPath). (shown path, id)) (take i paths) (x ∷ [])
+pub pairs_for-more : (id : ℕ) (paths : List ComplexSelector) (i : ℕ) (x : ComplexSelector) → i < length paths → x ≡ get_or paths i x → pairs_for id (take (i + 1) paths) ≡ pairs_for id (take i paths) ++ (shown x, id) ∷ []
+pairs_for-more id paths i x within at = ap (pairs_for id) (one_more paths i x within at) ∙ map-append (λ (path : ComplexSelector). (shown path, id)) (take i paths) (x ∷ [])
 
 -- all that were taken are all
-pub all_taken : (paths : List AstPath) (i : ℕ) → i ≡ length paths → take i paths ≡ paths
+pub all_taken : (paths : List ComplexSelector) (i : ℕ) → i ≡ length paths → take i paths ≡ paths
 all_taken paths i is = ap (λ (k : ℕ). take k paths) is ∙ take-length paths
 
 -- those that were taken are among all
-pub part_of_all : (paths : List AstPath) (i : ℕ) (path : Path) → Contains (all_of (take i paths)) path → Contains (all_of paths) path
+pub part_of_all : (paths : List ComplexSelector) (i : ℕ) (path : Path) → Contains (all_of (take i paths)) path → Contains (all_of paths) path
 part_of_all paths i path h =
-    subst (λ (l : List AstPath). Contains (all_of l) path) (take-append-drop i paths)
+    subst (λ (l : List ComplexSelector). Contains (all_of l) path) (take-append-drop i paths)
     (subst (λ (l : List Path). Contains (flat_map beginnings l) path) (sym (map-append shown (take i paths) (drop i paths))) (flat_map-front beginnings (map shown (take i paths)) (map shown (drop i paths)) path h))
 
-pub AllIn-push : (f : Forest) (xs : List AstPath) (x : AstPath) → AllIn f xs → IsIn f x → AllIn f (xs ++ x ∷ [])
+pub AllIn-push : (f : Forest) (xs : List ComplexSelector) (x : ComplexSelector) → AllIn f xs → IsIn f x → AllIn f (xs ++ x ∷ [])
 AllIn-push f [] x h is = (is, tt)
 AllIn-push f (y ∷ xs) x h is = (h.0, AllIn-push f xs x h.1 is)
 
-pub AllIn-more : (f : Forest) (paths : List AstPath) (i : ℕ) (x : AstPath) → i < length paths → x ≡ get_or paths i x → AllIn f (take i paths) → IsIn f x → AllIn f (take (i + 1) paths)
+pub AllIn-more : (f : Forest) (paths : List ComplexSelector) (i : ℕ) (x : ComplexSelector) → i < length paths → x ≡ get_or paths i x → AllIn f (take i paths) → IsIn f x → AllIn f (take (i + 1) paths)
 AllIn-more f paths i x within at h is = subst (AllIn f) (sym (one_more paths i x within at)) (AllIn-push f (take i paths) x h is)
 
-pub AllIn-front : (f : Forest) (xs ys : List AstPath) → AllIn f (xs ++ ys) → AllIn f xs
+pub AllIn-front : (f : Forest) (xs ys : List ComplexSelector) → AllIn f (xs ++ ys) → AllIn f xs
 AllIn-front f [] ys h = tt
 AllIn-front f (x ∷ xs) ys h = (h.0, AllIn-front f xs ys h.1)
 
@@ -64,14 +64,20 @@ pub beginnings_under : (id : ℕ) (paths : List Path) → all_beginnings (map (�
 beginnings_under id [] = refl
 beginnings_under id (path ∷ paths) = ap (λ (l : List Path). beginnings path ++ l) (beginnings_under id paths)
 
-pub AllIn-at : (f : Forest) (paths : List AstPath) (i : ℕ) (x : AstPath) → i < length paths → x ≡ get_or paths i x → AllIn f paths → IsIn f x
+pub AllIn-at : (f : Forest) (paths : List ComplexSelector) (i : ℕ) (x : ComplexSelector) → i < length paths → x ≡ get_or paths i x → AllIn f paths → IsIn f x
 AllIn-at f [] i x within at h = absurd (omega (arith, within))
 AllIn-at f (y ∷ paths) zero x within at h = subst (IsIn f) (sym at) h.0
 AllIn-at f (y ∷ paths) (suc i) x within at h = AllIn-at f paths i x (omega (arith, within)) at h.1
 
 -- others, and a last one
-pub all_of-last : (paths others : List AstPath) (last : AstPath) → paths ≡ others ++ last ∷ [] → all_of paths ≡ all_of others ++ beginnings (shown last)
+pub all_of-last : (paths others : List ComplexSelector) (last : ComplexSelector) → paths ≡ others ++ last ∷ [] → all_of paths ≡ all_of others ++ beginnings (shown last)
 all_of-last paths others last is = ap all_of is ∙ all_of-append others (last ∷ []) ∙ ap (λ (l : List Path). all_of others ++ l) (all_of-one last)
 
-pub pairs_for-last : (id : ℕ) (paths others : List AstPath) (last : AstPath) → paths ≡ others ++ last ∷ [] → pairs_for id paths ≡ pairs_for id others ++ (shown last, id) ∷ []
-pairs_for-last id paths others last is = ap (pairs_for id) is ∙ map-append (λ (path : AstPath). (shown path, id)) others (last ∷ [])
+pub pairs_for-last : (id : ℕ) (paths others : List ComplexSelector) (last : ComplexSelector) → paths ≡ others ++ last ∷ [] → pairs_for id paths ≡ pairs_for id others ++ (shown last, id) ∷ []
+pairs_for-last id paths others last is = ap (pairs_for id) is ∙ map-append (λ (path : ComplexSelector). (shown path, id)) others (last ∷ [])
+
+-- a list of one item
+pub one_item : (items : List ComplexSelector) (x : ComplexSelector) → 1 ≤ length items → length items < 2 → x ≡ get_or items 0 x → items ≡ x ∷ []
+one_item [] x some few at = absurd (omega (arith, some))
+one_item (y ∷ []) x some few at = ap (λ (z : ComplexSelector). z ∷ []) (sym at)
+one_item (y ∷ z ∷ items) x some few at = absurd (omega (arith, few))

@@ -1,17 +1,12 @@
 -- Which nodes can be run so far.
 use Rattle.std.proofs.Common.{◌≡◌, inl, inr, ℕ, ◌+◌, ◌<◌, zero, suc, Bool, true, false, ◌&&◌, List, [], ◌∷◌, ◌++◌, map, take, get_or, length, arith, refl, sym, ap, subst, ◌∙◌}
-use Rattle.std.specs.List.{list_all}
 use Rattle.std.proofs.lemmas.List.{take_more, map-append}
 use Rattle.lol_css.specs.declared.selector.Combinator.TheVariants.{Child, Descendant}
-use Rattle.lol_program.specs.Paths.{Compound, Path, Then}
+use Rattle.lol_program.specs.Compounds.{Compound}
+use Rattle.lol_program.specs.Paths.{Path, Then}
 use Rattle.lol_program.specs.Forest.{Forest, none, more, Node}
-use Rattle.lol_program.specs.Runs.{is_by_name, compound_runs, path_runs}
+use Rattle.lol_program.specs.Runs.{compound_runs, path_runs}
 use Rattle.lol_program.specs.ForestRuns.{forest_runs}
-use Rattle.lol_program.specs.Tests.{Signed, NameTest}
-use Rattle.lol_program.specs.Predicates.{name_test, signed_name_test, signed_attribute_test, tests_of}
-use Rattle.lol_program.specs.declared.predicate.Predicate.{Predicate}
-use Rattle.lol_program.specs.declared.predicate.Expr.{Expr}
-use Rattle.lol_program.specs.declared.condition.OnAttributesExpr.{OnAttributesExpr}
 use Rattle.lol_program.specs.declared.ast_node.AstNode.{AstNode}
 use Rattle.lol_program.specs.Views.{linked, node_of, forest_of}
 use Rattle.lol_program.proofs.Having.{HasNode, HasPair}
@@ -37,16 +32,6 @@ runs_front (n ∷ front) back = ap (λ (b : Bool). (compound_runs n.compound && 
     regroup : (a b c : Bool) → ((a && b) && c) ≡ (a && (b && c))
     regroup true b c = refl
     regroup false b c = refl
-
-pub list_all-map : {A B : Type 0} (p : B → Bool) (f : A → B) (xs : List A) → list_all p (map f xs) ≡ list_all (λ x. p (f x)) xs
-list_all-map p f [] = refl
-list_all-map p f (x ∷ xs) = ap (λ (b : Bool). p (f x) && b) (list_all-map p f xs)
-
--- a compound without tests of attributes
-pub compound_runs-none : (p : Predicate) → p.on_attr_exprs.items ≡ [] → list_all (λ expr. is_by_name (name_test expr.simple_expr)) p.on_tag_name_exprs.items ≡ compound_runs (tests_of p)
-compound_runs-none p empty =
-    sym (ap (λ (attributes : List (Expr OnAttributesExpr)). compound_runs (record { name_tests = map signed_name_test p.on_tag_name_exprs.items; attribute_tests = map signed_attribute_test attributes })) empty
-    ∙ list_all-map (λ (s : Signed NameTest). is_by_name s.test) signed_name_test p.on_tag_name_exprs.items)
 
 -- one node more, of a list of which all so far run
 pub runs_more : (nodes : List AstNode) (i : ℕ) (node : AstNode) → i < length nodes → node ≡ get_or nodes i node → forest_runs (forest_of (take i nodes)) ≡ true → forest_runs (linked (node_of node ∷ [])) ≡ true

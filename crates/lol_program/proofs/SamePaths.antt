@@ -3,7 +3,7 @@ use Rattle.std.proofs.Common.{◌≡◌, ℕ, Bool, true, false, ◌&&◌, List,
 use Rattle.std.specs.Bool.{Decides}
 use Rattle.std.specs.Str.{bytes_eq}
 use Rattle.std.proofs.lemmas.Bool.Decides.{Decides-int_eq}
-use Rattle.std.proofs.lemmas.Slice.Eq.{bytes_eq-Decides, slice_eq-Decides}
+use Rattle.std.proofs.lemmas.Slice.Eq.{bytes_eq-Decides}
 use Rattle.lol_css.specs.declared.attribute.AttrSelectorOperator.{AttrSelectorOperator}
 use Rattle.lol_css.specs.declared.attribute.AttrSelectorOperator.TheVariants.{Equal, Includes, DashMatch, Prefix, Substring, Suffix}
 use Rattle.lol_css.specs.declared.attribute.ParsedCaseSensitivity.{ParsedCaseSensitivity}
@@ -11,9 +11,10 @@ use Rattle.lol_css.specs.declared.attribute.ParsedCaseSensitivity.TheVariants.{E
 use Rattle.lol_css.specs.declared.selector.Combinator.{Combinator}
 use Rattle.lol_css.specs.declared.selector.Combinator.TheVariants.{Child, Descendant}
 use Rattle.lol_css.specs.Progression.{Progression}
-use Rattle.lol_program.specs.Tests.{NameTest, AnyName, NoName, HasName, IsNthChild, IsNthOfType, AttributeTest, HasId, HasClass, HasAttribute, Compares, Signed}
-use Rattle.lol_program.specs.Paths.{Compound, Path, First, Then}
-use Rattle.lol_program.specs.Same.{same_progression, same_name_test, same_operator, same_case, same_attribute_test, same_sign, same_signed, same_compound, same_step, same_path}
+use Rattle.lol_program.specs.Tests.{NameTest, AnyName, NoName, HasName, IsNthChild, IsNthOfType, AttributeTest, HasId, HasClass, HasAttribute, Compares}
+use Rattle.lol_program.specs.Compounds.{Test, OfName, OfAttributes, NoneOf, SomeOf, Compound, NoTests, AndTest, Compounds, NoCompounds, OrCompound}
+use Rattle.lol_program.specs.Paths.{Path, First, Then}
+use Rattle.lol_program.specs.Same.{same_progression, same_name_test, same_operator, same_case, same_attribute_test, same_test, same_compound, same_compounds, same_step, same_path}
 
 no : {A : Type 0} → false ≡ true → A
 no h = cc
@@ -71,11 +72,6 @@ agrees_attribute_test (Compares a operator operand case) (Compares b operator' o
     λ i. Compares (agrees_bytes a b texts.0 i) (agrees_operator operator operator' kinds.0 i) (agrees_bytes operand operand' texts.1 i) (agrees_case case case' kinds.1 i)
 agrees_attribute_test _ _ h = no h
 
-agrees_sign : (a b : Bool) → same_sign a b ≡ true → a ≡ b
-agrees_sign true true h = refl
-agrees_sign false false h = refl
-agrees_sign _ _ h = no h
-
 agrees_step : (a b : Combinator) → same_step a b ≡ true → a ≡ b
 agrees_step Child Child h = refl
 agrees_step Descendant Descendant h = refl
@@ -111,10 +107,6 @@ itself_attribute_test (HasAttribute a) = (bytes_eq-Decides a a).1 refl
 itself_attribute_test (Compares a operator operand case) =
     join _ _ (join _ _ ((bytes_eq-Decides a a).1 refl) ((bytes_eq-Decides operand operand).1 refl)) (join _ _ (itself_operator operator) (itself_case case))
 
-itself_sign : (a : Bool) → same_sign a a ≡ true
-itself_sign true = refl
-itself_sign false = refl
-
 itself_step : (a : Combinator) → same_step a a ≡ true
 itself_step Child = refl
 itself_step Descendant = refl
@@ -124,21 +116,45 @@ itself_step Descendant = refl
 decides : {T : Type 0} (same : T → T → Bool) → ((a b : T) → same a b ≡ true → a ≡ b) → ((a : T) → same a a ≡ true) → (a b : T) → Decides (same a b) (a ≡ b)
 decides same agrees itself a b = (agrees a b, λ is. ap (same a) (sym is) ∙ itself a)
 
-decides_signed : {T : Type 0} (same : T → T → Bool) → ((a b : T) → Decides (same a b) (a ≡ b)) → (a b : Signed T) → Decides (same_signed same a b) (a ≡ b)
-decides_signed same h a b = (
-  λ fits.
-      let parts = both _ _ fits in
-      λ i. record { test = (h a.test b.test).0 parts.0 i; negated = agrees_sign a.negated b.negated parts.1 i },
-  λ is. join _ _ ((h a.test b.test).1 (ap (λ s. s.test) is)) (ap (same_sign a.negated) (ap (λ s. s.negated) (sym is)) ∙ itself_sign a.negated),
-)
+mutual
+  agrees_test : (a b : Test) → same_test a b ≡ true → a ≡ b
+  agrees_test (OfName a) (OfName b) h = ap OfName (agrees_name_test a b h)
+  agrees_test (OfAttributes a) (OfAttributes b) h = ap OfAttributes (agrees_attribute_test a b h)
+  agrees_test (NoneOf a) (NoneOf b) h = ap NoneOf (agrees_compounds a b h)
+  agrees_test (SomeOf a) (SomeOf b) h = ap SomeOf (agrees_compounds a b h)
+  agrees_test _ _ h = no h
+
+  agrees_compound : (a b : Compound) → same_compound a b ≡ true → a ≡ b
+  agrees_compound NoTests NoTests h = refl
+  agrees_compound (AndTest a rest) (AndTest b rest') h =
+      let h2 = both _ _ h in
+      λ i. AndTest (agrees_test a b h2.0 i) (agrees_compound rest rest' h2.1 i)
+  agrees_compound _ _ h = no h
+
+  agrees_compounds : (a b : Compounds) → same_compounds a b ≡ true → a ≡ b
+  agrees_compounds NoCompounds NoCompounds h = refl
+  agrees_compounds (OrCompound a rest) (OrCompound b rest') h =
+      let h2 = both _ _ h in
+      λ i. OrCompound (agrees_compound a b h2.0 i) (agrees_compounds rest rest' h2.1 i)
+  agrees_compounds _ _ h = no h
+
+mutual
+  itself_test : (a : Test) → same_test a a ≡ true
+  itself_test (OfName a) = itself_name_test a
+  itself_test (OfAttributes a) = itself_attribute_test a
+  itself_test (NoneOf a) = itself_compounds a
+  itself_test (SomeOf a) = itself_compounds a
+
+  itself_compound : (a : Compound) → same_compound a a ≡ true
+  itself_compound NoTests = refl
+  itself_compound (AndTest a rest) = join _ _ (itself_test a) (itself_compound rest)
+
+  itself_compounds : (a : Compounds) → same_compounds a a ≡ true
+  itself_compounds NoCompounds = refl
+  itself_compounds (OrCompound a rest) = join _ _ (itself_compound a) (itself_compounds rest)
 
 pub decides_compound : (a b : Compound) → Decides (same_compound a b) (a ≡ b)
-decides_compound a b =
-    let names = slice_eq-Decides (decides_signed same_name_test (decides same_name_test agrees_name_test itself_name_test)) a.name_tests b.name_tests _ refl in
-    let attributes = slice_eq-Decides (decides_signed same_attribute_test (decides same_attribute_test agrees_attribute_test itself_attribute_test)) a.attribute_tests b.attribute_tests _ refl in (
-      λ fits. let parts = both _ _ fits in λ i. record { name_tests = names.0 parts.0 i; attribute_tests = attributes.0 parts.1 i },
-      λ is. join _ _ (names.1 (ap (λ c. c.name_tests) is)) (attributes.1 (ap (λ c. c.attribute_tests) is)),
-    )
+decides_compound = decides same_compound agrees_compound itself_compound
 
 agrees_path : (a b : Path) → same_path a b ≡ true → a ≡ b
 agrees_path (First a) (First b) h = ap First ((decides_compound a b).0 h)

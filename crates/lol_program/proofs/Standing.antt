@@ -4,14 +4,13 @@ use Rattle.std.proofs.lemmas.List.{get_or-map}
 use Rattle.lol_memory.specs.Ids.{Ids, ascending}
 use Rattle.lol_css.specs.declared.selector.Combinator.{Combinator}
 use Rattle.lol_css.specs.declared.selector.Combinator.TheVariants.{Child, Descendant}
-use Rattle.lol_program.specs.Paths.{Compound}
+use Rattle.lol_program.specs.Compounds.{Compound}
 use Rattle.lol_program.specs.Forest.{Node, Forest, none, more}
 use Rattle.lol_program.specs.Growth.{fresh, AtRoot, Takes, Under, under, Adds, AddsFirst, AtTop, Stands, IsWith}
 use Rattle.lol_program.specs.Places.{IsPlace, HasPlace, IsNowhere}
 use Rattle.lol_program.specs.Gifts.{Gives}
-use Rattle.lol_program.specs.Predicates.{tests_of}
-use Rattle.lol_program.specs.Views.{node_of, forest_of, linked, steps_of}
-use Rattle.lol_program.specs.declared.predicate.Predicate.{Predicate}
+use Rattle.lol_program.specs.Views.{node_of, forest_of, linked, steps_of, tests_in}
+use Rattle.lol_css.specs.declared.selector.Compound as css
 use Rattle.lol_program.specs.declared.ast_node.AstNode.{AstNode}
 use Rattle.lol_program.specs.declared.ast_node.AstNode.TheViews.{out-AstNode}
 use Rattle.lol_program.proofs.Nodes.{shape, node_out}
@@ -50,10 +49,10 @@ pub stands_nowhere : (c : Compound) (rest : List (Combinator × Compound)) (node
 stands_nowhere c [] nodes nowhere s = at_top_nowhere c (λ n. Unit {0}) nodes nowhere s
 stands_nowhere c (step ∷ rest) nodes nowhere s = at_top_nowhere c (λ n. Stands step.1 rest (under step.0 n)) nodes nowhere s
 
-pub stands_some : (c : Compound) (all rest : List (Combinator × Predicate)) (s : Combinator × Predicate) (step : Combinator) (f : Forest) → all ≡ s ∷ rest → s.0 ≡ step
-    → Stands c (steps_of all) f → AtTop c (λ n. Stands (tests_of s.1) (steps_of rest) (under step n)) f
+pub stands_some : (c : Compound) (all rest : List (Combinator × css.Compound)) (s : Combinator × css.Compound) (step : Combinator) (f : Forest) → all ≡ s ∷ rest → s.0 ≡ step
+    → Stands c (steps_of all) f → AtTop c (λ n. Stands (tests_in s.1) (steps_of rest) (under step n)) f
 stands_some c all rest s step f e g h =
-    subst (λ (t : Combinator). AtTop c (λ n. Stands (tests_of s.1) (steps_of rest) (under t n)) f) g (subst (λ (ss : List (Combinator × Predicate)). Stands c (steps_of ss) f) e h)
+    subst (λ (t : Combinator). AtTop c (λ n. Stands (tests_in s.1) (steps_of rest) (under t n)) f) g (subst (λ (ss : List (Combinator × css.Compound)). Stands c (steps_of ss) f) e h)
 
 -- What stands stays while a forest grows.
 abbrev pub Keeps : Forest → Forest → Type 0

@@ -1,72 +1,151 @@
--- Tests that are joined part by part.
-use Rattle.std.proofs.Common.{◌≡◌, ℕ, ◌+◌, ◌-◌, ◌<◌, ◌≤◌, arith, Bool, List, [], ◌∷◌, length, get_or, take, refl, sym, ap, ◌∙◌, append_assoc}
-use Rattle.std.proofs.lemmas.List.{take_more}
-use Rattle.std.proofs.Math.Seq.{take-length}
+-- The tests of parts and the compounds of items, one after another.
+use Rattle.std.proofs.Common.{◌≡◌, ℕ, zero, suc, ◌+◌, ◌-◌, ◌<◌, ◌≤◌, arith, List, [], ◌∷◌, ◌++◌, length, get_or, take, map, reverse, refl, sym, ap, ◌∙◌, ⊎_elim, append_assoc, append-nil}
+use Rattle.std.proofs.lemmas.List.{take_more, take_all, map-append, length-map, get_or-map, reverse-append}
+use Rattle.std.proofs.lemmas.Bool.{cases_lt}
 use Rattle.lol_css.specs.Trees as trees
 use Rattle.lol_css.specs.declared.selector.SimpleSelector.{SimpleSelector}
 use Rattle.lol_css.specs.declared.selector.ComplexSelector.{ComplexSelector}
 use Rattle.lol_css.specs.declared.selector.Compound as css
 use Rattle.lol_css.specs.declared.selector.Combinator.{Combinator}
 use Rattle.lol_css.specs.declared.selector.SelectorList.{SelectorList}
-use Rattle.lol_css.specs.declared.selector.SimpleSelector.TheViews.{out-SelectorList}
+use Rattle.lol_css.specs.declared.selector.SimpleSelector.TheViews.{out-SelectorList, out-ComplexSelector}
 use Rattle.lol_css.specs.TreeViews.{part_of, item_of, list_of, compound_of, with_part_list, with_item_list, with_compound_list}
-use Rattle.lol_program.specs.Paths.{Compound}
-use Rattle.lol_program.specs.Conditions.{joined, part_tests, item_tests, items_tests, written_tests}
-use Rattle.lol_css.proofs.TreeRows.{with_part_list-push, with_item_list-push, list_of-out}
+use Rattle.lol_program.specs.Compounds.{Test, Compound, AndTest, Compounds, OrCompound, all_of, any_of, with_test, with_compound}
+use Rattle.lol_program.specs.Conditions.{part_test, items_compounds, item_compound, written_tests, compound_tests}
+use Rattle.lol_css.proofs.TreeRows.{list_of-out, item_of-out}
 
-pub joined_assoc : (a b c : Compound) → joined (joined a b) c ≡ joined a (joined b c)
-joined_assoc a b c = λ i. record { name_tests = append_assoc a.name_tests b.name_tests c.name_tests i; attribute_tests = append_assoc a.attribute_tests b.attribute_tests c.attribute_tests i }
+-- 1. Rows of tests, and of compounds
 
--- one part more
-pub more_parts : (start now next : Compound) (negated : Bool) (parts : List SimpleSelector) (i : ℕ) (part : SimpleSelector) → i < length parts → part ≡ get_or parts i part
-    → now ≡ joined start (written_tests negated (with_part_list trees.Nothing (take i parts))) → next ≡ joined now (part_tests negated (part_of part))
-    → next ≡ joined start (written_tests negated (with_part_list trees.Nothing (take (i + 1) parts)))
-more_parts start now next negated parts i part within at before is =
-    let front = written_tests negated (with_part_list trees.Nothing (take i parts)) in
-    let new = part_tests negated (part_of part) in
-    let all : with_part_list trees.Nothing (take (i + 1) parts) ≡ trees.With (with_part_list trees.Nothing (take i parts)) (part_of part) =
-    ap (with_part_list trees.Nothing) (take_more parts i part within) ∙ with_part_list-push trees.Nothing (take i parts) (get_or parts i part) ∙ ap (λ (p : SimpleSelector). trees.With (with_part_list trees.Nothing (take i parts)) (part_of p)) (sym at) in
-    is ∙ ap (λ (c : Compound). joined c new) before ∙ joined_assoc start front new ∙ ap (λ (c : trees.Compound). joined start (written_tests negated c)) (sym all)
+pub all_of-push : (tests : List Test) (test : Test) → all_of (tests ++ test ∷ []) ≡ with_test (all_of tests) test
+all_of-push [] test = refl
+all_of-push (t ∷ tests) test = ap (AndTest t) (all_of-push tests test)
 
--- the last compound of an item counts
-last_counts : (negated : Bool) (front : trees.Item) (next : Combinator × css.Compound) (others : List (Combinator × css.Compound)) (d : Combinator × css.Compound)
-    → item_tests negated (with_compound_list front (next ∷ others)) ≡ written_tests negated (compound_of (get_or (next ∷ others) (length others) d).1)
-last_counts negated front next [] d = refl
-last_counts negated front next (n ∷ others) d = last_counts negated (trees.Then front next.0 (compound_of next.1)) n others d
+pub any_of-push : (compounds : List Compound) (compound : Compound) → any_of (compounds ++ compound ∷ []) ≡ with_compound (any_of compounds) compound
+any_of-push [] compound = refl
+any_of-push (c ∷ compounds) compound = ap (OrCompound c) (any_of-push compounds compound)
 
-pub counts_first : (negated : Bool) (first : css.Compound) (rest : List (Combinator × css.Compound)) → length rest ≡ 0
-    → item_tests negated (with_compound_list (trees.First (compound_of first)) rest) ≡ written_tests negated (compound_of first)
-counts_first negated first [] none = refl
-counts_first negated first (next ∷ rest) none = absurd (omega (arith, none))
+pub all_of-equal : (xs ys : List Test) → all_of xs ≡ all_of ys → xs ≡ ys
+all_of-equal [] [] e = refl
+all_of-equal [] (y ∷ ys) e = cc
+all_of-equal (x ∷ xs) [] e = cc
+all_of-equal (x ∷ xs) (y ∷ ys) e =
+    let rest : all_of xs ≡ all_of ys = cc in
+    let more = all_of-equal xs ys rest in
+    cc
 
-pub counts_last : (negated : Bool) (first : css.Compound) (rest : List (Combinator × css.Compound)) (last : Combinator × css.Compound) → 1 ≤ length rest → last ≡ get_or rest (length rest - 1) last
-    → item_tests negated (with_compound_list (trees.First (compound_of first)) rest) ≡ written_tests negated (compound_of last.1)
-counts_last negated first [] last some at = absurd (omega (arith, some))
-counts_last negated first (next ∷ rest) last some at =
+pub any_of-equal : (xs ys : List Compound) → any_of xs ≡ any_of ys → xs ≡ ys
+any_of-equal [] [] e = refl
+any_of-equal [] (y ∷ ys) e = cc
+any_of-equal (x ∷ xs) [] e = cc
+any_of-equal (x ∷ xs) (y ∷ ys) e =
+    let rest : any_of xs ≡ any_of ys = cc in
+    let more = any_of-equal xs ys rest in
+    cc
+
+-- 2. Parts and items
+
+abbrev pub test_in : SimpleSelector → Test
+test_in part = part_test (part_of part)
+
+abbrev pub compound_in : ComplexSelector → Compound
+compound_in item = item_compound (item_of item)
+
+written-front : (front : trees.Compound) (tests : List Test) (parts : List SimpleSelector) → written_tests front ≡ all_of tests → written_tests (with_part_list front parts) ≡ all_of (tests ++ map test_in parts)
+written-front front tests [] h = h ∙ ap all_of (sym (append-nil tests))
+written-front front tests (part ∷ parts) h =
+    written-front (trees.With front (part_of part)) (tests ++ test_in part ∷ []) parts (ap (λ (c : Compound). with_test c (test_in part)) h ∙ sym (all_of-push tests (test_in part)))
+    ∙ ap all_of (append_assoc tests (test_in part ∷ []) (map test_in parts))
+
+pub written_tests-parts : (parts : List SimpleSelector) → written_tests (with_part_list trees.Nothing parts) ≡ all_of (map test_in parts)
+written_tests-parts parts = written-front trees.Nothing [] parts refl
+
+reversed-front : (front : trees.Compound) (tests : List Test) (parts : List SimpleSelector) → compound_tests front ≡ all_of tests → compound_tests (with_part_list front parts) ≡ all_of (reverse (map test_in parts) ++ tests)
+reversed-front front tests [] h = h
+reversed-front front tests (part ∷ parts) h =
+    reversed-front (trees.With front (part_of part)) (test_in part ∷ tests) parts (ap (AndTest (test_in part)) h)
+    ∙ ap all_of (sym (append_assoc (reverse (map test_in parts)) (test_in part ∷ []) tests) ∙ ap (λ (l : List Test). l ++ tests) (sym (reverse-append (test_in part ∷ []) (map test_in parts))))
+
+pub compound_tests-parts : (parts : List SimpleSelector) → compound_tests (with_part_list trees.Nothing parts) ≡ all_of (reverse (map test_in parts))
+compound_tests-parts parts = reversed-front trees.Nothing [] parts refl ∙ ap all_of (append-nil (reverse (map test_in parts)))
+
+items-front : (front : trees.Items) (compounds : List Compound) (items : List ComplexSelector) → items_compounds front ≡ any_of compounds → items_compounds (with_item_list front items) ≡ any_of (compounds ++ map compound_in items)
+items-front front compounds [] h = h ∙ ap any_of (sym (append-nil compounds))
+items-front front compounds (item ∷ items) h =
+    items-front (trees.And front (item_of item)) (compounds ++ compound_in item ∷ []) items (ap (λ (c : Compounds). with_compound c (compound_in item)) h ∙ sym (any_of-push compounds (compound_in item)))
+    ∙ ap any_of (append_assoc compounds (compound_in item ∷ []) (map compound_in items))
+
+pub items_compounds-items : (items : List ComplexSelector) → items_compounds (with_item_list trees.NoItems items) ≡ any_of (map compound_in items)
+items_compounds-items items = items-front trees.NoItems [] items refl
+
+pub items_compounds-list : (list : SelectorList) → items_compounds (list_of list) ≡ items_compounds (with_item_list trees.NoItems (out-SelectorList list).items.items)
+items_compounds-list list = ap items_compounds (list_of-out list)
+
+-- 3. Two lists that agree, element by element
+
+pub agreed : {A B C : Type 0} (f : A → C) (g : B → C) (xs : List A) (ys : List B) → length xs ≡ length ys → ((k : ℕ) (a : A) (b : B) → k < length xs → f (get_or xs k a) ≡ g (get_or ys k b)) → map f xs ≡ map g ys
+agreed f g [] [] len h = refl
+agreed f g [] (y ∷ ys) len h = absurd (omega (arith, len))
+agreed f g (x ∷ xs) [] len h = absurd (omega (arith, len))
+agreed f g (x ∷ xs) (y ∷ ys) len h = λ i. h 0 x y (omega arith) i ∷ agreed f g xs ys (omega (arith, len)) (λ k a b within. h (suc k) a b (omega (arith, within))) i
+
+pub at_place : {A B C : Type 0} (f : A → C) (g : B → C) (xs : List A) (ys : List B) (k : ℕ) (a : A) (b : B) → map f xs ≡ map g ys → k < length xs → f (get_or xs k a) ≡ g (get_or ys k b)
+at_place f g xs ys k a b same within =
+    let len : length xs ≡ length ys = sym (length-map xs f) ∙ ap length same ∙ length-map ys g in
+    let there : k < length ys = omega (arith, len, within) in
+    sym (get_or-map f xs k a (f a) within) ∙ ap (λ l. get_or l k (f a)) same ∙ get_or-map g ys k b (f a) there
+
+pub same_length : {A B C : Type 0} (f : A → C) (g : B → C) (xs : List A) (ys : List B) → map f xs ≡ map g ys → length xs ≡ length ys
+same_length f g xs ys same = sym (length-map xs f) ∙ ap length same ∙ length-map ys g
+
+-- one element more
+pub mapped_more : {A B : Type 0} (f : A → B) (xs : List A) (i : ℕ) (x : A) → i < length xs → x ≡ get_or xs i x → map f (take (i + 1) xs) ≡ map f (take i xs) ++ f x ∷ []
+mapped_more f xs i x within at = ap (map f) (take_more xs i x within) ∙ map-append f (take i xs) (get_or xs i x ∷ []) ∙ ap (λ y. map f (take i xs) ++ f y ∷ []) (sym at)
+
+pub mapped_all : {A B : Type 0} (f : A → B) (xs : List A) (i : ℕ) → length xs ≤ i → map f (take i xs) ≡ map f xs
+mapped_all f xs i h = ap (map f) (take_all i xs h)
+
+get_or-any : {X : Type 0} (xs : List X) (i : ℕ) (d e : X) → i < length xs → get_or xs i d ≡ get_or xs i e
+get_or-any [] i d e h = absurd (omega (arith, h))
+get_or-any (x ∷ xs) zero d e h = refl
+get_or-any (x ∷ xs) (suc i) d e h = get_or-any xs i d e (omega (arith, h))
+
+-- one element more that agrees
+pub agreed_more : {A B C : Type 0} (f : A → C) (g : B → C) (xs : List A) (ys : List B) (i : ℕ) (x : A) (y : B) → i < length xs → length xs ≡ length ys → x ≡ get_or xs i x → y ≡ get_or ys i y → f x ≡ g y
+    → ((k : ℕ) (a : A) (b : B) → k < i → f (get_or xs k a) ≡ g (get_or ys k b)) → (k : ℕ) (a : A) (b : B) → k < i + 1 → f (get_or xs k a) ≡ g (get_or ys k b)
+agreed_more f g xs ys i x y within len at at' here before k a b h = ⊎_elim (λ (lt : k < i). before k a b lt) (λ (le : i ≤ k). there (omega (arith, le, h))) (cases_lt k i)
+  where
+    there : k ≡ i → f (get_or xs k a) ≡ g (get_or ys k b)
+    there e =
+        let inside : i < length ys = omega (arith, within, len) in
+        ap (λ (j : ℕ). f (get_or xs j a)) e ∙ ap f (get_or-any xs i a x within ∙ sym at) ∙ here ∙ ap g (at' ∙ get_or-any ys i y b inside) ∙ ap (λ (j : ℕ). g (get_or ys j b)) (sym e)
+
+pub reverse-map : {A B : Type 0} (f : A → B) (xs : List A) → reverse (map f xs) ≡ map f (reverse xs)
+reverse-map f [] = refl
+reverse-map f (x ∷ xs) =
+    reverse-append (f x ∷ []) (map f xs) ∙ ap (λ l. l ++ f x ∷ []) (reverse-map f xs) ∙ sym (map-append f (reverse xs) (x ∷ [])) ∙ ap (map f) (sym (reverse-append (x ∷ []) xs))
+
+-- 4. The compound of an item is its last one
+
+last_counts : (front : trees.Item) (next : Combinator × css.Compound) (others : List (Combinator × css.Compound)) (d : Combinator × css.Compound)
+    → item_compound (with_compound_list front (next ∷ others)) ≡ written_tests (compound_of (get_or (next ∷ others) (length others) d).1)
+last_counts front next [] d = refl
+last_counts front next (n ∷ others) d = last_counts (trees.Then front next.0 (compound_of next.1)) n others d
+
+pub counts_first : (item : ComplexSelector) → length (out-ComplexSelector item).rest.items ≡ 0 → item_compound (item_of item) ≡ written_tests (compound_of (out-ComplexSelector item).first)
+counts_first item none = ap item_compound (item_of-out item) ∙ first_of (out-ComplexSelector item).rest.items none
+  where
+    first_of : (rest : List (Combinator × css.Compound)) → length rest ≡ 0 → item_compound (with_compound_list (trees.First (compound_of (out-ComplexSelector item).first)) rest) ≡ written_tests (compound_of (out-ComplexSelector item).first)
+    first_of [] none = refl
+    first_of (next ∷ rest) none = absurd (omega (arith, none))
+
+counts_last_of : (front : trees.Item) (rest : List (Combinator × css.Compound)) (last : Combinator × css.Compound) → 1 ≤ length rest → last ≡ get_or rest (length rest - 1) last
+    → item_compound (with_compound_list front rest) ≡ written_tests (compound_of last.1)
+counts_last_of front [] last some at = absurd (omega (arith, some))
+counts_last_of front (next ∷ rest) last some at =
     let e : length (next ∷ rest) - 1 ≡ length rest = omega arith in
-    last_counts negated (trees.First (compound_of first)) next rest last
-    ∙ ap (λ (l : Combinator × css.Compound). written_tests negated (compound_of l.1)) (sym (at ∙ ap (λ (k : ℕ). get_or (next ∷ rest) k last) e))
+    last_counts front next rest last
+    ∙ ap (λ (l : Combinator × css.Compound). written_tests (compound_of l.1)) (sym (at ∙ ap (λ (k : ℕ). get_or (next ∷ rest) k last) e))
 
--- one item more
-pub more_items : (start now next : Compound) (negated : Bool) (items : List ComplexSelector) (i : ℕ) (item : ComplexSelector) → i < length items → item ≡ get_or items i item
-    → now ≡ joined start (items_tests negated (with_item_list trees.NoItems (take i items))) → next ≡ joined now (item_tests negated (item_of item))
-    → next ≡ joined start (items_tests negated (with_item_list trees.NoItems (take (i + 1) items)))
-more_items start now next negated items i item within at before is =
-    let front = items_tests negated (with_item_list trees.NoItems (take i items)) in
-    let new = item_tests negated (item_of item) in
-    let all : with_item_list trees.NoItems (take (i + 1) items) ≡ trees.And (with_item_list trees.NoItems (take i items)) (item_of item) =
-    ap (with_item_list trees.NoItems) (take_more items i item within) ∙ with_item_list-push trees.NoItems (take i items) (get_or items i item) ∙ ap (λ (p : ComplexSelector). trees.And (with_item_list trees.NoItems (take i items)) (item_of p)) (sym at) in
-    is ∙ ap (λ (c : Compound). joined c new) before ∙ joined_assoc start front new ∙ ap (λ (c : trees.Items). joined start (items_tests negated c)) (sym all)
-
--- all parts of a compound
-pub all_parts : (start now : Compound) (negated : Bool) (parts : List SimpleSelector) (i : ℕ) (compound : css.Compound) → i ≡ length parts → parts ≡ compound.parts.items
-    → now ≡ joined start (written_tests negated (with_part_list trees.Nothing (take i parts))) → now ≡ joined start (written_tests negated (compound_of compound))
-all_parts start now negated parts i compound end is before =
-    before ∙ ap (λ (ps : List SimpleSelector). joined start (written_tests negated (with_part_list trees.Nothing ps))) (ap (λ (k : ℕ). take k parts) end ∙ take-length parts ∙ is)
-
--- all items of a list
-pub all_items : (start now : Compound) (negated : Bool) (items : List ComplexSelector) (i : ℕ) (list : SelectorList) → i ≡ length items → items ≡ (out-SelectorList list).items.items
-    → now ≡ joined start (items_tests negated (with_item_list trees.NoItems (take i items))) → now ≡ joined start (items_tests negated (list_of list))
-all_items start now negated items i list end is before =
-    before ∙ ap (λ (ps : List ComplexSelector). joined start (items_tests negated (with_item_list trees.NoItems ps))) (ap (λ (k : ℕ). take k items) end ∙ take-length items ∙ is)
-    ∙ ap (λ (l : trees.Items). joined start (items_tests negated l)) (sym (list_of-out list))
+pub counts_last : (item : ComplexSelector) (last : Combinator × css.Compound) → 1 ≤ length (out-ComplexSelector item).rest.items
+    → last ≡ get_or (out-ComplexSelector item).rest.items (length (out-ComplexSelector item).rest.items - 1) last → item_compound (item_of item) ≡ written_tests (compound_of last.1)
+counts_last item last some at = ap item_compound (item_of-out item) ∙ counts_last_of (trees.First (compound_of (out-ComplexSelector item).first)) (out-ComplexSelector item).rest.items last some at

@@ -1,19 +1,19 @@
--- What the path of an item stands for.
+-- The path of an item, and whether it stands in a forest.
 use Rattle.std.specs.Prelude.{List, [], ◌∷◌}
+use Rattle.lol_css.specs.declared.selector.ComplexSelector.{ComplexSelector}
+use Rattle.lol_css.specs.declared.selector.SimpleSelector.TheViews.{out-ComplexSelector}
 use Rattle.lol_program.specs.Paths.{Path, First, extended}
 use Rattle.lol_program.specs.Forest.{Forest}
 use Rattle.lol_program.specs.Growth.{Stands}
-use Rattle.lol_program.specs.Predicates.{tests_of}
-use Rattle.lol_program.specs.Views.{steps_of}
-use Rattle.lol_program.specs.declared.ast_path.AstPath.{AstPath}
+use Rattle.lol_program.specs.Views.{tests_in, steps_of}
 
-abbrev pub shown : AstPath → Path
-shown path = extended (First (tests_of path.first)) (steps_of path.rest.items)
+abbrev pub shown : ComplexSelector → Path
+shown item = extended (First (tests_in (out-ComplexSelector item).first)) (steps_of (out-ComplexSelector item).rest.items)
 
 -- the path stands in a forest
-abbrev pub IsIn : Forest → AstPath → Type 0
-IsIn f path = Stands (tests_of path.first) (steps_of path.rest.items) f
+abbrev pub IsIn : Forest → ComplexSelector → Type 0
+IsIn f item = Stands (tests_in (out-ComplexSelector item).first) (steps_of (out-ComplexSelector item).rest.items) f
 
-abbrev pub AllIn : Forest → List AstPath → Type 0
+abbrev pub AllIn : Forest → List ComplexSelector → Type 0
 AllIn f [] = Unit {0}
-AllIn f (path ∷ paths) = IsIn f path × AllIn f paths
+AllIn f (item ∷ items) = IsIn f item × AllIn f items

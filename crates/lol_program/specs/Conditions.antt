@@ -1,14 +1,10 @@
--- From a selector's tree to paths of signed tests: a part is a test, and `:not` turns the sign of each test in it.
-use Rattle.std.specs.Prelude.{ℕ, Bool, false, not, if◌then◌else◌, List, [], ◌∷◌, ◌++◌, map, Option, Some, None}
+-- From a selector's tree to paths of compounds.
+use Rattle.std.specs.Prelude.{ℕ, if◌then◌else◌, List, [], ◌∷◌, ◌++◌, map, Option, Some, None}
 use Rattle.lol_css.specs.Trees as trees
-use Rattle.lol_css.specs.Trees.{Simple, Part, Plain, Not, Nothing, With, Item, Items, NoItems, And}
-use Rattle.lol_program.specs.Tests.{NameTest, AnyName, NoName, HasName, IsNthChild, IsNthOfType, AttributeTest, HasId, HasClass, HasAttribute, Compares}
-use Rattle.lol_program.specs.Paths.{Compound, Path, First, Then}
-
--- a test of either kind
-pub data Test : Type 0 where
-  OfName : NameTest → Test
-  OfAttributes : AttributeTest → Test
+use Rattle.lol_css.specs.Trees.{Simple, Part, Plain, Not, Is, Where, Nothing, With, Item, Items, NoItems, And}
+use Rattle.lol_program.specs.Tests.{AnyName, NoName, HasName, IsNthChild, IsNthOfType, HasId, HasClass, HasAttribute, Compares}
+use Rattle.lol_program.specs.Compounds.{Test, OfName, OfAttributes, NoneOf, SomeOf, Compound, NoTests, AndTest, Compounds, NoCompounds, with_test, with_compound}
+use Rattle.lol_program.specs.Paths.{Path, First, Then}
 
 -- The test of a part without parts of its own (Selectors 4, sections 5, 6 and 13). Each element has a namespace, so no element has a
 -- name in none.
@@ -23,45 +19,37 @@ test_of (trees.Compares name operator value case) = OfAttributes (Compares name 
 test_of (trees.Nth of_type step offset) =
     OfName (if of_type then IsNthOfType (record { step = step; offset = offset }) else IsNthChild (record { step = step; offset = offset }))
 
--- the test of a part, which `:not` hasn't
-abbrev pub part_test : Part → Option Test
-part_test (Plain simple) = Some (test_of simple)
-part_test (Not items) = None
+-- the test of a part without parts of its own, which the others haven't
+abbrev pub plain_test : Part → Option Test
+plain_test (Plain simple) = Some (test_of simple)
+plain_test _ = None
 
--- no tests, one signed test, and the tests of two compounds one behind the other
-abbrev pub no_tests : Compound
-no_tests = record { name_tests = []; attribute_tests = [] }
-
-abbrev pub one_test : Bool → Test → Compound
-one_test negated (OfName test) = record { name_tests = record { test = test; negated = negated } ∷ []; attribute_tests = [] }
-one_test negated (OfAttributes test) = record { name_tests = []; attribute_tests = record { test = test; negated = negated } ∷ [] }
-
-abbrev pub joined : Compound → Compound → Compound
-joined a b = record { name_tests = a.name_tests ++ b.name_tests; attribute_tests = a.attribute_tests ++ b.attribute_tests }
-
--- The signed tests of a part. Those of a `:not` are the tests of its items in written order, each with its sign turned
--- (Selectors 4, section 4.3, but for each test by itself). Of an item the last compound counts; an item that was read has no other.
+-- The test of a part. `:not` holds where none of the compounds of its list does (Selectors 4, section 4.3), `:is` and `:where` where some
+-- does (sections 4.2 and 4.4); their compounds have their tests in written order. Of an item the last compound counts; an item that was
+-- read there has no other.
 abbrev mutual
-  pub part_tests : Bool → Part → Compound
-  part_tests negated (Plain simple) = one_test negated (test_of simple)
-  part_tests negated (Not items) = items_tests (not negated) items
+  pub part_test : Part → Test
+  part_test (Plain simple) = test_of simple
+  part_test (Not items) = NoneOf (items_compounds items)
+  part_test (Is items) = SomeOf (items_compounds items)
+  part_test (Where items) = SomeOf (items_compounds items)
 
-  pub items_tests : Bool → Items → Compound
-  items_tests negated NoItems = no_tests
-  items_tests negated (And items item) = joined (items_tests negated items) (item_tests negated item)
+  pub items_compounds : Items → Compounds
+  items_compounds NoItems = NoCompounds
+  items_compounds (And items item) = with_compound (items_compounds items) (item_compound item)
 
-  pub item_tests : Bool → Item → Compound
-  item_tests negated (trees.First compound) = written_tests negated compound
-  item_tests negated (trees.Then front step compound) = written_tests negated compound
+  pub item_compound : Item → Compound
+  item_compound (trees.First compound) = written_tests compound
+  item_compound (trees.Then front step compound) = written_tests compound
 
-  pub written_tests : Bool → trees.Compound → Compound
-  written_tests negated Nothing = no_tests
-  written_tests negated (With front part) = joined (written_tests negated front) (part_tests negated part)
+  pub written_tests : trees.Compound → Compound
+  written_tests Nothing = NoTests
+  written_tests (With front part) = with_test (written_tests front) (part_test part)
 
 -- The tests of a compound: its parts are taken from right to left.
 abbrev pub compound_tests : trees.Compound → Compound
-compound_tests Nothing = no_tests
-compound_tests (With front part) = joined (part_tests false part) (compound_tests front)
+compound_tests Nothing = NoTests
+compound_tests (With front part) = AndTest (part_test part) (compound_tests front)
 
 -- The path of an item, and the paths of a list's items in written order.
 abbrev pub path_of : Item → Path

@@ -1,8 +1,11 @@
 -- Laws of nodes and tests, and worked rows.
-use Rattle.std.specs.Prelude.{ℕ, ◌≡◌, ◌≢◌, Bool, true, false, List, [], ◌∷◌, AllPairs, codes}
+use Rattle.std.specs.Prelude.{ℕ, ◌≡◌, ◌≢◌, Bool, false, List, [], ◌∷◌, AllPairs, codes}
 use Rattle.lol_css.specs.Trees as trees
-use Rattle.lol_css.specs.Trees.{Part, Plain, Not, Nothing, With, Items, NoItems, And}
-use Rattle.lol_program.specs.Tests.{Signed, NameTest, NoName, HasName, HasId, HasClass, HasAttribute}
+use Rattle.lol_css.specs.Trees.{Part, Plain, Not, Is, Where, Nothing, With, Items, NoItems, And}
+use Rattle.lol_base.specs.StartTags.{Attribute}
+use Rattle.lol_program.specs.Tests.{Element, NoName, HasName, HasId, HasClass, HasAttribute}
+use Rattle.lol_program.specs.Compounds.{Test, OfName, OfAttributes, NoneOf, SomeOf, Compound, NoTests, AndTest, all_of, any_of, all_hold, by_names, with_rest, Decides}
+use Rattle.lol_program.specs.Same.{same_compound}
 use Rattle.lol_program.specs.Paths.{Path, AreNodes, all_beginnings}
 use Rattle.lol_program.specs.Conditions.{compound_tests}
 use Rattle.lol_program.specs.Sets.{Joins}
@@ -13,31 +16,52 @@ NodesStayTheBeginnings =
     (pairs more_pairs added : List (Path × ℕ)) (nodes more_nodes : List Path) → AreNodes pairs nodes → Joins pairs more_pairs added → Joins nodes more_nodes (all_beginnings added)
     → AllPairs (λ a b. a ≢ b) more_nodes → AreNodes more_pairs more_nodes
 
+-- Where the value by names of a compound isn't open, it is the truth, whatever the attributes are.
+abbrev pub ValuesDecide : Type 0
+ValuesDecide =
+    (c : Compound) (e : Element) (attributes : List Attribute) (self_closing finish : Bool) → Decides (by_names c e) (all_hold c (with_rest e attributes self_closing finish))
+
+-- A value by names doesn't depend on the rest of the tag.
+abbrev pub ValuesAreByNames : Type 0
+ValuesAreByNames = (c : Compound) (e : Element) (attributes : List Attribute) (self_closing finish : Bool) → by_names c (with_rest e attributes self_closing finish) ≡ by_names c e
+
 abbrev pub tag : List ℕ → Part
 tag name = Plain (trees.LocalName name)
 
--- `:not` of one part, and of two
-abbrev pub not_one : Part → Part
-not_one a = Not (And NoItems (trees.First (With Nothing a)))
+-- a list of one compound of one part, and of two
+abbrev pub one : Part → Items
+one a = And NoItems (trees.First (With Nothing a))
 
-abbrev pub not_two : Part → Part → Part
-not_two a b = Not (And (And NoItems (trees.First (With Nothing a))) (trees.First (With Nothing b)))
+abbrev pub two : Part → Part → Items
+two a b = And (And NoItems (trees.First (With Nothing a))) (trees.First (With Nothing b))
 
-abbrev pub named : Bool → List ℕ → Signed NameTest
-named negated name = record { test = HasName name; negated = negated }
+abbrev pub named : List ℕ → Test
+named name = OfName (HasName name)
+
+-- a compound of one test
+abbrev pub alone : Test → Compound
+alone test = AndTest test NoTests
 
 -- Worked rows: the tests of compounds.
 pub record AreRows : Type 0 where
   -- `|div`
-  pub no_namespace : compound_tests (With (With Nothing (Plain trees.NoNamespace)) (tag (codes "div"))) ≡ record { name_tests = named false (codes "div") ∷ record { test = NoName; negated = false } ∷ []; attribute_tests = [] }
+  pub no_namespace : compound_tests (With (With Nothing (Plain trees.NoNamespace)) (tag (codes "div"))) ≡ AndTest (named (codes "div")) (alone (OfName NoName))
   -- `:not(a, b)`
-  pub neither : compound_tests (With Nothing (not_two (tag (codes "a")) (tag (codes "b")))) ≡ record { name_tests = named true (codes "a") ∷ named true (codes "b") ∷ []; attribute_tests = [] }
+  pub neither : compound_tests (With Nothing (Not (two (tag (codes "a")) (tag (codes "b"))))) ≡ alone (NoneOf (any_of (alone (named (codes "a")) ∷ alone (named (codes "b")) ∷ [])))
   -- `:not(:not(a, b))`
-  pub not_neither : compound_tests (With Nothing (not_one (not_two (tag (codes "a")) (tag (codes "b"))))) ≡ record { name_tests = named false (codes "a") ∷ named false (codes "b") ∷ []; attribute_tests = [] }
+  pub not_neither :
+      compound_tests (With Nothing (Not (one (Not (two (tag (codes "a")) (tag (codes "b")))))))
+      ≡ alone (NoneOf (any_of (alone (NoneOf (any_of (alone (named (codes "a")) ∷ alone (named (codes "b")) ∷ []))) ∷ [])))
   -- `div.foo#bar:not([baz])`
   pub mixed :
-      compound_tests (With (With (With (With Nothing (tag (codes "div"))) (Plain (trees.Class (codes "foo")))) (Plain (trees.Id (codes "bar")))) (not_one (Plain (trees.Exists (codes "baz")))))
-      ≡ record {
-        name_tests = named false (codes "div") ∷ [];
-        attribute_tests = record { test = HasAttribute (codes "baz"); negated = true } ∷ record { test = HasId (codes "bar"); negated = false } ∷ record { test = HasClass (codes "foo"); negated = false } ∷ [];
-      }
+      compound_tests (With (With (With (With Nothing (tag (codes "div"))) (Plain (trees.Class (codes "foo")))) (Plain (trees.Id (codes "bar")))) (Not (one (Plain (trees.Exists (codes "baz"))))))
+      ≡ all_of (NoneOf (any_of (alone (OfAttributes (HasAttribute (codes "baz"))) ∷ [])) ∷ OfAttributes (HasId (codes "bar")) ∷ OfAttributes (HasClass (codes "foo")) ∷ named (codes "div") ∷ [])
+  -- `:is(a.x, p)`: the parts inside stand in written order
+  pub either_of :
+      compound_tests (With Nothing (Is (And (And NoItems (trees.First (With (With Nothing (tag (codes "a"))) (Plain (trees.Class (codes "x")))))) (trees.First (With Nothing (tag (codes "p")))))))
+      ≡ alone (SomeOf (any_of (all_of (named (codes "a") ∷ OfAttributes (HasClass (codes "x")) ∷ []) ∷ alone (named (codes "p")) ∷ [])))
+  -- `:is(a)` and `:where(a)` are one, `:is(a)` and `a` two, and so are `:not(a, b)` and `:not(b, a)`, `:not(:not(a))` and `a`
+  pub is_and_where : compound_tests (With Nothing (Is (one (tag (codes "a"))))) ≡ compound_tests (With Nothing (Where (one (tag (codes "a")))))
+  pub is_and_name : same_compound (compound_tests (With Nothing (Is (one (tag (codes "a")))))) (compound_tests (With Nothing (tag (codes "a")))) ≡ false
+  pub order_counts : same_compound (compound_tests (With Nothing (Not (two (tag (codes "a")) (tag (codes "b")))))) (compound_tests (With Nothing (Not (two (tag (codes "b")) (tag (codes "a")))))) ≡ false
+  pub not_not : same_compound (compound_tests (With Nothing (Not (one (Not (one (tag (codes "a")))))))) (compound_tests (With Nothing (tag (codes "a")))) ≡ false

@@ -1,4 +1,5 @@
 pub mod Tests
+pub mod Compounds
 pub mod Paths
 pub mod Same
 pub mod Nodes

@@ -1,13 +1,7 @@
 -- A complex selector as a path: compounds, each under the one before it (Selectors 4, "Structure and Terminology").
-use Rattle.std.specs.Prelude.{ℕ, ◌≢◌, ◌↔◌, Bool, true, false, ◌&&◌, List, [], ◌∷◌, flat_map, Contains, AllPairs}
-use Rattle.std.specs.List.{list_all}
+use Rattle.std.specs.Prelude.{ℕ, ◌≢◌, ◌↔◌, List, [], ◌∷◌, flat_map, Contains, AllPairs}
 use Rattle.lol_css.specs.declared.selector.Combinator.{Combinator}
-use Rattle.lol_program.specs.Tests.{Element, Signed, NameTest, AttributeTest, name_holds, attribute_holds, signed}
-
--- A compound: tests that one element has to pass.
-pub record Compound : Type 0 where
-  pub name_tests : List (Signed NameTest)
-  pub attribute_tests : List (Signed AttributeTest)
+use Rattle.lol_program.specs.Compounds.{Compound}
 
 -- Read from its last compound: the path before it, the step, the compound.
 pub data Path : Type 0 where
@@ -27,23 +21,6 @@ last_compound (Then front step c) = c
 abbrev pub beginnings : Path → List Path
 beginnings (First c) = First c ∷ []
 beginnings (Then front step c) = Then front step c ∷ beginnings front
-
-abbrev pub names_hold : Compound → Element → Bool
-names_hold c e = list_all (signed name_holds e) c.name_tests
-
-abbrev pub attributes_hold : Compound → Element → Bool
-attributes_hold c e = list_all (signed attribute_holds e) c.attribute_tests
-
--- Whether an element passes all tests of a compound.
-abbrev pub all_hold : Compound → Element → Bool
-all_hold c e = names_hold c e && attributes_hold c e
-
-abbrev pub some_test : List (Signed AttributeTest) → Bool
-some_test [] = false
-some_test (test ∷ tests) = true
-
-abbrev pub has_attribute_tests : Compound → Bool
-has_attribute_tests c = some_test c.attribute_tests
 
 -- What is looked for: the pairs of a path and the id that it was added under, and the nodes: the paths that are tried.
 pub record Selectors : Type 0 where

@@ -1,8 +1,8 @@
--- The selectors that can be run so far: tests of names, and no tests of places or attributes.
-use Rattle.std.specs.Prelude.{Bool, true, false, not, ◌&&◌}
-use Rattle.std.specs.List.{list_all}
-use Rattle.lol_program.specs.Tests.{Signed, NameTest, AnyName, NoName, HasName, IsNthChild, IsNthOfType}
-use Rattle.lol_program.specs.Paths.{Compound, Path, First, Then, has_attribute_tests}
+-- The selectors that can be run so far: tests of names, and no tests of places or attributes, at any depth.
+use Rattle.std.specs.Prelude.{Bool, true, false, ◌&&◌}
+use Rattle.lol_program.specs.Tests.{NameTest, AnyName, NoName, HasName, IsNthChild, IsNthOfType}
+use Rattle.lol_program.specs.Compounds.{Test, OfName, OfAttributes, NoneOf, SomeOf, Compound, NoTests, AndTest, Compounds, NoCompounds, OrCompound}
+use Rattle.lol_program.specs.Paths.{Path, First, Then}
 
 abbrev pub is_by_name : NameTest → Bool
 is_by_name AnyName = true
@@ -11,8 +11,20 @@ is_by_name (HasName name) = true
 is_by_name (IsNthChild nth) = false
 is_by_name (IsNthOfType nth) = false
 
-abbrev pub compound_runs : Compound → Bool
-compound_runs c = not (has_attribute_tests c) && list_all (λ (s : Signed NameTest). is_by_name s.test) c.name_tests
+abbrev mutual
+  pub test_runs : Test → Bool
+  test_runs (OfName test) = is_by_name test
+  test_runs (OfAttributes test) = false
+  test_runs (NoneOf compounds) = all_run compounds
+  test_runs (SomeOf compounds) = all_run compounds
+
+  pub compound_runs : Compound → Bool
+  compound_runs NoTests = true
+  compound_runs (AndTest test tests) = test_runs test && compound_runs tests
+
+  pub all_run : Compounds → Bool
+  all_run NoCompounds = true
+  all_run (OrCompound compound compounds) = compound_runs compound && all_run compounds
 
 -- each compound of the path
 abbrev pub path_runs : Path → Bool

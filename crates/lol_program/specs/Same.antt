@@ -2,7 +2,6 @@
 use Rattle.std.specs.Prelude.{Bool, true, false, ◌&&◌}
 use Rattle.std.specs.Str.{bytes_eq}
 use Rattle.std.specs.Ordering.{int_eq}
-use Rattle.std.specs.Cmp.Lexicographic.{pointwise}
 use Rattle.lol_css.specs.declared.attribute.AttrSelectorOperator.{AttrSelectorOperator}
 use Rattle.lol_css.specs.declared.attribute.AttrSelectorOperator.TheVariants.{Equal, Includes, DashMatch, Prefix, Substring, Suffix}
 use Rattle.lol_css.specs.declared.attribute.ParsedCaseSensitivity.{ParsedCaseSensitivity}
@@ -10,8 +9,9 @@ use Rattle.lol_css.specs.declared.attribute.ParsedCaseSensitivity.TheVariants.{E
 use Rattle.lol_css.specs.declared.selector.Combinator.{Combinator}
 use Rattle.lol_css.specs.declared.selector.Combinator.TheVariants.{Child, Descendant}
 use Rattle.lol_css.specs.Progression.{Progression}
-use Rattle.lol_program.specs.Tests.{NameTest, AnyName, NoName, HasName, IsNthChild, IsNthOfType, AttributeTest, HasId, HasClass, HasAttribute, Compares, Signed}
-use Rattle.lol_program.specs.Paths.{Compound, Path, First, Then}
+use Rattle.lol_program.specs.Tests.{NameTest, AnyName, NoName, HasName, IsNthChild, IsNthOfType, AttributeTest, HasId, HasClass, HasAttribute, Compares}
+use Rattle.lol_program.specs.Compounds.{Test, OfName, OfAttributes, NoneOf, SomeOf, Compound, NoTests, AndTest, Compounds, NoCompounds, OrCompound}
+use Rattle.lol_program.specs.Paths.{Path, First, Then}
 
 abbrev pub same_progression : Progression → Progression → Bool
 same_progression a b = int_eq a.step b.step && int_eq a.offset b.offset
@@ -48,17 +48,23 @@ same_attribute_test (Compares a operator operand case) (Compares b operator' ope
     (bytes_eq a b && bytes_eq operand operand') && (same_operator operator operator' && same_case case case')
 same_attribute_test _ _ = false
 
-abbrev pub same_sign : Bool → Bool → Bool
-same_sign true true = true
-same_sign false false = true
-same_sign _ _ = false
+abbrev mutual
+  pub same_test : Test → Test → Bool
+  same_test (OfName a) (OfName b) = same_name_test a b
+  same_test (OfAttributes a) (OfAttributes b) = same_attribute_test a b
+  same_test (NoneOf a) (NoneOf b) = same_compounds a b
+  same_test (SomeOf a) (SomeOf b) = same_compounds a b
+  same_test _ _ = false
 
-abbrev pub same_signed : {T : Type 0} → (T → T → Bool) → Signed T → Signed T → Bool
-same_signed same a b = same a.test b.test && same_sign a.negated b.negated
+  pub same_compound : Compound → Compound → Bool
+  same_compound NoTests NoTests = true
+  same_compound (AndTest a rest) (AndTest b rest') = same_test a b && same_compound rest rest'
+  same_compound _ _ = false
 
-abbrev pub same_compound : Compound → Compound → Bool
-same_compound a b =
-    pointwise (same_signed same_name_test) a.name_tests b.name_tests && pointwise (same_signed same_attribute_test) a.attribute_tests b.attribute_tests
+  pub same_compounds : Compounds → Compounds → Bool
+  same_compounds NoCompounds NoCompounds = true
+  same_compounds (OrCompound a rest) (OrCompound b rest') = same_compound a b && same_compounds rest rest'
+  same_compounds _ _ = false
 
 abbrev pub same_step : Combinator → Combinator → Bool
 same_step Child Child = true

@@ -1,5 +1,5 @@
--- The tests of a compound selector, and whether an element passes them.
-use Rattle.std.specs.Prelude.{ℕ, zero, suc, ◌%◌, Bool, true, false, not, ◌&&◌, ◌||◌, if◌then◌else◌, ◌==◌, List, [], ◌∷◌, ◌++◌, Option, Some, None, unwrap_or, ℤ, pos, negsuc, ◌-ℤ◌, codes}
+-- The simple tests of an element, and whether it passes them.
+use Rattle.std.specs.Prelude.{ℕ, Bool, true, false, not, ◌&&◌, ◌||◌, if◌then◌else◌, ◌==◌, List, [], ◌∷◌, ◌++◌, Option, Some, None, unwrap_or, pos, codes}
 use Rattle.std.specs.Option.{option_map}
 use Rattle.std.specs.Str.{bytes_eq}
 use Rattle.std.specs.List.{list_any, starts_with, ends_with, slice_split}
@@ -7,7 +7,7 @@ use Rattle.lol_base.specs.Names.{same_name, lowercased}
 use Rattle.lol_base.specs.StartTags.{Attribute, StartTag}
 use Rattle.lol_base.specs.declared.namespace.Namespace.{Namespace}
 use Rattle.lol_base.specs.declared.namespace.Namespace.TheVariants.{Html, Svg, MathML}
-use Rattle.lol_css.specs.Progression.{Progression}
+use Rattle.lol_css.specs.Progression.{Progression, has_index}
 use Rattle.lol_css.specs.declared.attribute.AttrSelectorOperator.{AttrSelectorOperator}
 use Rattle.lol_css.specs.declared.attribute.AttrSelectorOperator.TheVariants.{Equal, Includes, DashMatch, Prefix, Substring, Suffix}
 use Rattle.lol_css.specs.declared.attribute.ParsedCaseSensitivity.{ParsedCaseSensitivity}
@@ -38,31 +38,14 @@ pub data AttributeTest : Type 0 where
   HasAttribute : (name : List ℕ) → AttributeTest
   Compares : (name : List ℕ) (operator : AttrSelectorOperator) (operand : List ℕ) (case : ParsedCaseSensitivity) → AttributeTest
 
--- A test, or its opposite (Selectors 4, "The Negation Pseudo-class").
-pub record Signed (T : Type 0) : Type 0 where
-  pub test : T
-  pub negated : Bool
-
 -- 2. Truth of a name test
-
--- Whether a whole number is step * n for some whole number n from 0.
-abbrev pub is_multiple : ℤ → ℤ → Bool
-is_multiple (pos zero) (pos d) = d == 0
-is_multiple (pos zero) (negsuc d) = false
-is_multiple (pos (suc step)) (pos d) = d % suc step == 0
-is_multiple (pos (suc step)) (negsuc d) = false
-is_multiple (negsuc step) (pos d) = d == 0
-is_multiple (negsuc step) (negsuc d) = suc d % suc step == 0
-
-abbrev pub has_index : Progression → ℕ → Bool
-has_index nth index = is_multiple nth.step (pos index -ℤ nth.offset)
 
 abbrev pub name_holds : NameTest → Element → Bool
 name_holds AnyName e = true
 name_holds NoName e = false
 name_holds (HasName name) e = same_name e.tag.name name
-name_holds (IsNthChild nth) e = has_index nth e.position
-name_holds (IsNthOfType nth) e = has_index nth e.typed_position
+name_holds (IsNthChild nth) e = has_index nth (pos e.position)
+name_holds (IsNthOfType nth) e = has_index nth (pos e.typed_position)
 
 -- 3. Truth of an attribute test
 
@@ -141,7 +124,3 @@ attribute_holds (HasAttribute name) e = has_value (value_of name e.tag) (λ valu
 attribute_holds (Compares name operator operand case) e =
     let ignoring = ignores_case case e.tag.namespace in
     has_value (value_of (lowercased name) e.tag) (λ value. compares operator (compared ignoring value) (compared ignoring operand))
-
--- A sign turns what its test says.
-abbrev pub signed : {T : Type 0} → (T → Element → Bool) → Element → Signed T → Bool
-signed holds e s = if s.negated then not (holds s.test e) else holds s.test e

@@ -1,11 +1,13 @@
 -- What the nodes of the tree stand for.
 use Rattle.std.specs.Prelude.{List, [], ◌∷◌, map}
 use Rattle.lol_memory.specs.Ids.{ascending}
+use Rattle.lol_css.specs.TreeViews.{compound_of}
 use Rattle.lol_css.specs.declared.selector.Combinator.{Combinator}
-use Rattle.lol_program.specs.Paths.{Compound}
+use Rattle.lol_css.specs.declared.selector.Compound as css
+use Rattle.lol_program.specs.Compounds.{Compound}
+use Rattle.lol_program.specs.Conditions.{compound_tests}
 use Rattle.lol_program.specs.Forest.{Node, Forest, none, link}
 use Rattle.lol_program.specs.Predicates.{tests_of}
-use Rattle.lol_program.specs.declared.predicate.Predicate.{Predicate}
 use Rattle.lol_program.specs.declared.ast_node.AstNode.{AstNode}
 use Rattle.lol_program.specs.declared.ast_node.AstNode.TheOpen.{AstNode-F}
 use Rattle.lol_program.specs.declared.ast_node.AstNode.TheFolds.{fold-AstNode}
@@ -31,9 +33,13 @@ node_of = fold-AstNode Node node_step
 abbrev pub forest_of : List AstNode → Forest
 forest_of nodes = linked (map node_of nodes)
 
--- further compounds, each by a step
-abbrev pub step_of : Combinator × Predicate → Combinator × Compound
-step_of step = (step.0, tests_of step.1)
+-- the tests of a compound of a selector
+abbrev pub tests_in : css.Compound → Compound
+tests_in compound = compound_tests (compound_of compound)
 
-abbrev pub steps_of : List (Combinator × Predicate) → List (Combinator × Compound)
+-- further compounds, each by a step
+abbrev pub step_of : Combinator × css.Compound → Combinator × Compound
+step_of step = (step.0, tests_in step.1)
+
+abbrev pub steps_of : List (Combinator × css.Compound) → List (Combinator × Compound)
 steps_of steps = map step_of steps

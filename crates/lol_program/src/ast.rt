@@ -5,11 +5,10 @@ ghost use Rattle.lol_program.specs.Forest.{size, SiblingsDiffer, SiblingsDiffer-
 ghost use Rattle.lol_program.specs.Views.{forest_of};
 
 use crate::ast_node::{self, AstNode};
-use crate::ast_path::{self, AstPath};
 use crate::gift::Gift;
 use crate::spare_id::SpareId;
 use crate::spare_ids::spare_ids;
-use lol_css::{Selector, SelectorList};
+use lol_css::{ComplexSelector, Selector, SelectorList};
 use lol_memory::MatchId;
 use std::alloc::{AllocError, Global};
 
@@ -91,52 +90,56 @@ impl Ast {
         ensures refused_pairs { OnErr result (SameMembers (pairs_of self.old) (pairs_of self.new)) }
         ensures refused_nodes { OnErr result (IsBetween (nodes_of self.old) (nodes_of self.new) (all_beginnings (pairs_under match_id (list_of list.now)))) }
     {
-        let paths = ast_path::paths_of(self.alloc, &list.items)?;
-        self.add_nodes(&paths)?;
-        self.add_id(&paths, match_id)
+        match list.items.as_slice() {
+            [item] => self.add_path(item, Gift::Id(match_id)),
+            items => {
+                self.add_nodes(items)?;
+                self.add_id(items, match_id)
+            }
+        }
     }
 
-    fn add_path(&mut self, path: &AstPath, gift: Gift) -> Result<(), AllocError>
-        ensures pairs { OnOk result (Joins (pairs_of self.old) (pairs_of self.new) (pairs_given (given gift) (shown path.now))) }
-        ensures nodes { OnOk result (Joins (nodes_of self.old) (nodes_of self.new) (beginnings (shown path.now))) }
-        ensures stands { OnOk result (IsIn (trees_of self.new) path.now) }
+    fn add_path(&mut self, item: &ComplexSelector, gift: Gift) -> Result<(), AllocError>
+        ensures pairs { OnOk result (Joins (pairs_of self.old) (pairs_of self.new) (pairs_given (given gift) (shown item.now))) }
+        ensures nodes { OnOk result (Joins (nodes_of self.old) (nodes_of self.new) (beginnings (shown item.now))) }
+        ensures stands { OnOk result (IsIn (trees_of self.new) item.now) }
         ensures refused_pairs { OnErr result (SameMembers (pairs_of self.old) (pairs_of self.new)) }
-        ensures refused_nodes { OnErr result (IsBetween (nodes_of self.old) (nodes_of self.new) (beginnings (shown path.now))) }
-        ensures keeps { (paths : List AstPath) → AllIn (trees_of self.old) paths → AllIn (trees_of self.new) paths }
-        ensures free { IsSpared gift → IsIn (trees_of self.old) path.now → IsOk result }
+        ensures refused_nodes { OnErr result (IsBetween (nodes_of self.old) (nodes_of self.new) (beginnings (shown item.now))) }
+        ensures keeps { (items : List ComplexSelector) → AllIn (trees_of self.old) items → AllIn (trees_of self.new) items }
+        ensures free { IsSpared gift → IsIn (trees_of self.old) item.now → IsOk result }
     {
         ast_node::add_path(
             self.alloc,
             &mut self.root,
             &mut self.cumulative_node_count,
-            &path.first,
-            &path.rest,
+            &item.first,
+            &item.rest,
             gift,
         )
     }
 
     /// Makes the nodes of paths that aren't there.
-    fn add_nodes(&mut self, paths: &[AstPath]) -> Result<(), AllocError>
+    fn add_nodes(&mut self, items: &[ComplexSelector]) -> Result<(), AllocError>
         ensures pairs { SameMembers (pairs_of self.old) (pairs_of self.new) }
-        ensures nodes { OnOk result (Joins (nodes_of self.old) (nodes_of self.new) (flat_map beginnings (map shown paths.now))) }
-        ensures stands { OnOk result (AllIn (trees_of self.new) paths.now) }
-        ensures refused_nodes { OnErr result (IsBetween (nodes_of self.old) (nodes_of self.new) (flat_map beginnings (map shown paths.now))) }
+        ensures nodes { OnOk result (Joins (nodes_of self.old) (nodes_of self.new) (flat_map beginnings (map shown items.now))) }
+        ensures stands { OnOk result (AllIn (trees_of self.new) items.now) }
+        ensures refused_nodes { OnErr result (IsBetween (nodes_of self.old) (nodes_of self.new) (flat_map beginnings (map shown items.now))) }
     {
-        for path in paths {
-            self.add_path(path, Gift::Nothing)?;
+        for item in items {
+            self.add_path(item, Gift::Nothing)?;
         }
         Ok(())
     }
 
     /// Gives an id to the last nodes of paths that stand. All that may be refused comes before the first change.
-    fn add_id(&mut self, paths: &[AstPath], match_id: MatchId) -> Result<(), AllocError>
-        requires { AllIn (trees_of self.old) paths.now }
-        ensures pairs { OnOk result (Joins (pairs_of self.old) (pairs_of self.new) (map (λ path. (shown path, match_id)) paths.now)) }
-        ensures nodes { OnOk result (Joins (nodes_of self.old) (nodes_of self.new) (flat_map beginnings (map shown paths.now))) }
+    fn add_id(&mut self, items: &[ComplexSelector], match_id: MatchId) -> Result<(), AllocError>
+        requires { AllIn (trees_of self.old) items.now }
+        ensures pairs { OnOk result (Joins (pairs_of self.old) (pairs_of self.new) (map (λ item. (shown item, match_id)) items.now)) }
+        ensures nodes { OnOk result (Joins (nodes_of self.old) (nodes_of self.new) (flat_map beginnings (map shown items.now))) }
         ensures refused_pairs { OnErr result (SameMembers (pairs_of self.old) (pairs_of self.new)) }
-        ensures refused_nodes { OnErr result (IsBetween (nodes_of self.old) (nodes_of self.new) (flat_map beginnings (map shown paths.now))) }
+        ensures refused_nodes { OnErr result (IsBetween (nodes_of self.old) (nodes_of self.new) (flat_map beginnings (map shown items.now))) }
     {
-        let Some((last, others)) = paths.split_last() else {
+        let Some((last, others)) = items.split_last() else {
             return Ok(());
         };
         let spares = spare_ids(self.alloc, match_id, others.len())?;
@@ -145,18 +148,23 @@ impl Ast {
         Ok(())
     }
     /// Gives an id to the last nodes of paths that stand, with memory that was taken for each.
-    fn add_spare_ids(&mut self, paths: &[AstPath], match_id: MatchId, mut spares: Vec<SpareId>)
-        requires stand { AllIn (trees_of self.old) paths.now }
-        requires enough { length paths.now ≤ vec_len spares }
+    fn add_spare_ids(
+        &mut self,
+        items: &[ComplexSelector],
+        match_id: MatchId,
+        mut spares: Vec<SpareId>,
+    )
+        requires stand { AllIn (trees_of self.old) items.now }
+        requires enough { length items.now ≤ vec_len spares }
         requires alike { AllSpare match_id spares.items }
-        ensures pairs { Joins (pairs_of self.old) (pairs_of self.new) (map (λ path. (shown path, match_id)) paths.now) }
-        ensures nodes { Joins (nodes_of self.old) (nodes_of self.new) (flat_map beginnings (map shown paths.now)) }
+        ensures pairs { Joins (pairs_of self.old) (pairs_of self.new) (map (λ item. (shown item, match_id)) items.now) }
+        ensures nodes { Joins (nodes_of self.old) (nodes_of self.new) (flat_map beginnings (map shown items.now)) }
     {
-        for path in paths {
+        for item in items {
             let Some(spare) = spares.pop() else {
                 unreachable!();
             };
-            let Ok(()) = self.add_path(path, Gift::Spared(spare)) else {
+            let Ok(()) = self.add_path(item, Gift::Spared(spare)) else {
                 unreachable!();
             };
         }

@@ -2,7 +2,7 @@
 
 ghost use Rattle.std.specs.Prelude.{ℕ, ◌≡◌, ◌+◌, IfOk, OnOk, OnErr, IsOk, IfSome, IfNone, [], ◌∷◌, map};
 ghost use Rattle.lol_program.specs.Predicates.{tests_of};
-ghost use Rattle.lol_program.specs.Views.{node_of, linked, forest_of, steps_of};
+ghost use Rattle.lol_program.specs.Views.{node_of, linked, forest_of, tests_in, steps_of};
 ghost use Rattle.lol_program.specs.ForestRuns.{forest_runs};
 ghost use Rattle.lol_program.specs.Forest.{size};
 ghost use Rattle.lol_program.specs.Growth.{fresh, Adds, AddsFirst, Stands};
@@ -11,11 +11,11 @@ ghost use Rattle.lol_program.specs.Places.{IsPlace, HasPlace, IsNowhere};
 
 use crate::gift::Gift;
 use crate::predicate::Predicate;
-use lol_css::Combinator;
+use lol_css::{Combinator, Compound};
 use lol_memory::DenseHashSet;
 use std::alloc::{AllocError, Global};
 
-/// A compound of the selectors that begin alike up to it, as in the crate.
+/// A compound of the selectors that begin alike up to it (lol_html's `AstNode`).
 #[derive(Debug, Drop, PartialEq, Eq)]
 pub struct AstNode {
     /// The tests of the compound.
@@ -49,67 +49,68 @@ fn fresh_node(alloc: Global, predicate: Predicate) -> AstNode
     }
 }
 
-/// The place of the first node with these tests.
-fn place_of(nodes: &[AstNode], predicate: &Predicate) -> Option<usize>
-    ensures some { IfSome result (λ i. IsPlace (tests_of predicate.now) (map node_of nodes.now) i) }
-    ensures none { IfNone result (IsNowhere (tests_of predicate.now) (map node_of nodes.now)) }
+/// The place of the first node with the tests of a compound.
+fn place_of(nodes: &[AstNode], compound: &Compound) -> Option<usize>
+    ensures some { IfSome result (λ i. IsPlace (tests_in compound.now) (map node_of nodes.now) i) }
+    ensures none { IfNone result (IsNowhere (tests_in compound.now) (map node_of nodes.now)) }
 {
     for (i, node) in nodes.iter().enumerate() {
-        if node.predicate.is_same(predicate) {
+        if node.predicate.is_of(compound) {
             return Some(i);
         }
     }
     None
 }
 
-/// The place of the node with these tests, which is made last where there is none.
+/// The place of the node with the tests of a compound, which is made last where there is none.
 fn place_for(
     alloc: Global,
     nodes: &mut Vec<AstNode>,
     count: &mut usize,
-    predicate: &Predicate,
+    compound: &Compound,
 ) -> Result<usize, AllocError>
-    ensures place { IfOk result (λ i. HasPlace (tests_of predicate.now) (map node_of nodes.old.items) (map node_of nodes.new.items) i) }
-    ensures free { OnErr result (IsNowhere (tests_of predicate.now) (map node_of nodes.old.items)) }
+    ensures place { IfOk result (λ i. HasPlace (tests_in compound.now) (map node_of nodes.old.items) (map node_of nodes.new.items) i) }
+    ensures free { OnErr result (IsNowhere (tests_in compound.now) (map node_of nodes.old.items)) }
     ensures unchanged { OnErr result (nodes.new.items ≡ nodes.old.items) }
     ensures count { count.new + size (forest_of nodes.old.items) ≡ count.old + size (forest_of nodes.new.items) }
 {
-    if let Some(place) = place_of(nodes, predicate) {
+    if let Some(place) = place_of(nodes, compound) {
         return Ok(place);
     }
     let Some(more) = count.checked_add(1) else {
         return Err(AllocError);
     };
     let place = nodes.len();
-    nodes.push(fresh_node(alloc, predicate.try_clone()?))?;
+    let predicate = Predicate::from_compound(alloc, compound)?;
+    nodes.push(fresh_node(alloc, predicate))?;
     *count = more;
     Ok(place)
 }
 
-/// Makes the nodes of a path that aren't there, in the list where it begins, and gives its last node an id or none.
+/// Makes the nodes of an item that aren't there, in the list where it begins, and gives its last node an id or none.
 pub(crate) fn add_path(
     alloc: Global,
     nodes: &mut Vec<AstNode>,
     count: &mut usize,
-    first: &Predicate,
-    rest: &[(Combinator, Predicate)],
+    first: &Compound,
+    rest: &[(Combinator, Compound)],
     gift: Gift,
 ) -> Result<(), AllocError>
-    ensures added { OnOk result (Adds (given gift) (tests_of first.now) (steps_of rest.now) (forest_of nodes.old.items) (forest_of nodes.new.items)) }
-    ensures partly { OnErr result ((k : ℕ) × AddsFirst k (tests_of first.now) (steps_of rest.now) (forest_of nodes.old.items) (forest_of nodes.new.items)) }
-    ensures free { IsSpared gift → Stands (tests_of first.now) (steps_of rest.now) (forest_of nodes.old.items) → IsOk result }
+    ensures added { OnOk result (Adds (given gift) (tests_in first.now) (steps_of rest.now) (forest_of nodes.old.items) (forest_of nodes.new.items)) }
+    ensures partly { OnErr result ((k : ℕ) × AddsFirst k (tests_in first.now) (steps_of rest.now) (forest_of nodes.old.items) (forest_of nodes.new.items)) }
+    ensures free { IsSpared gift → Stands (tests_in first.now) (steps_of rest.now) (forest_of nodes.old.items) → IsOk result }
     ensures count { count.new + size (forest_of nodes.old.items) ≡ count.old + size (forest_of nodes.new.items) }
 {
     let place = place_for(alloc, nodes, count, first)?;
     let node = &mut nodes[place];
     match rest.split_first() {
         None => gift.give_to(&mut node.match_ids),
-        Some(((combinator, predicate), rest)) => match combinator {
+        Some(((combinator, compound), rest)) => match combinator {
             Combinator::Child => {
-                add_path(alloc, &mut node.children, count, predicate, rest, gift)
+                add_path(alloc, &mut node.children, count, compound, rest, gift)
             }
             Combinator::Descendant => {
-                add_path(alloc, &mut node.descendants, count, predicate, rest, gift)
+                add_path(alloc, &mut node.descendants, count, compound, rest, gift)
             }
         },
     }

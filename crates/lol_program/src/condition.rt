@@ -1,10 +1,11 @@
 //! The tests of a selector's parts.
 
-ghost use Rattle.std.specs.Prelude.{◌≡◌, IfOk, string_bytes};
+ghost use Rattle.std.specs.Prelude.{◌≡◌, ◌↔◌, IfOk, IsTrue, string_bytes};
 ghost use Rattle.std.specs.Option.{option_map};
 ghost use Rattle.lol_css.specs.TreeViews.{part_of};
-ghost use Rattle.lol_program.specs.Conditions.{part_test};
-ghost use Rattle.lol_program.specs.Predicates.{name_test, test_shown};
+ghost use Rattle.lol_program.specs.Compounds.{OfName, OfAttributes};
+ghost use Rattle.lol_program.specs.Conditions.{plain_test, part_test};
+ghost use Rattle.lol_program.specs.Predicates.{name_test, attribute_test, condition_test};
 ghost use Rattle.lol_program.specs.Runs.{is_by_name};
 
 use lol_css::{AttrSelectorOperator, CssString, NthChild, ParsedCaseSensitivity, SimpleSelector};
@@ -12,7 +13,7 @@ use std::alloc::{AllocError, Global};
 use std::fmt;
 
 /// A test that needs no attributes, as in the crate.
-#[derive(Debug, Drop, Clone, PartialEq, Eq)]
+#[derive(Debug, Drop, PartialEq, Eq)]
 pub enum OnTagNameExpr {
     /// Every element passes.
     ExplicitAny,
@@ -37,10 +38,38 @@ impl OnTagNameExpr {
             OnTagNameExpr::NthChild(_) | OnTagNameExpr::NthOfType(_) => false,
         }
     }
+
+    /// Whether this is the test of a part.
+    pub(crate) fn is_of(&self, part: &SimpleSelector) -> bool
+        ensures { IsTrue result ↔ (OfName (name_test self.now) ≡ part_test (part_of part.now)) }
+    {
+        match self {
+            OnTagNameExpr::ExplicitAny => matches!(part, SimpleSelector::ExplicitUniversalType),
+            OnTagNameExpr::Unmatchable => matches!(part, SimpleSelector::ExplicitNoNamespace),
+            OnTagNameExpr::LocalName(name) => match part {
+                SimpleSelector::LocalName(other) => name.as_str() == other.as_str(),
+                _ => false,
+            },
+            OnTagNameExpr::NthChild(nth) => match part {
+                SimpleSelector::Nth {
+                    of_type: false,
+                    nth: other,
+                } => nth == other,
+                _ => false,
+            },
+            OnTagNameExpr::NthOfType(nth) => match part {
+                SimpleSelector::Nth {
+                    of_type: true,
+                    nth: other,
+                } => nth == other,
+                _ => false,
+            },
+        }
+    }
 }
 
 /// A test of attributes, as in the crate.
-#[derive(Debug, Drop, Clone, PartialEq, Eq)]
+#[derive(Debug, Drop, PartialEq, Eq)]
 pub enum OnAttributesExpr {
     /// The value of `id`.
     Id(String),
@@ -53,12 +82,48 @@ pub enum OnAttributesExpr {
 }
 
 /// A comparison of an attribute's value, as in the crate.
-#[derive(Drop, Clone, PartialEq, Eq)]
+#[derive(Drop, PartialEq, Eq)]
 pub struct AttributeComparisonExpr {
     pub name: String,
     pub value: String,
     pub case_sensitivity: ParsedCaseSensitivity,
     pub operator: AttrSelectorOperator,
+}
+
+impl OnAttributesExpr {
+    /// Whether this is the test of a part.
+    pub(crate) fn is_of(&self, part: &SimpleSelector) -> bool
+        ensures { IsTrue result ↔ (OfAttributes (attribute_test self.now) ≡ part_test (part_of part.now)) }
+    {
+        match self {
+            OnAttributesExpr::Id(id) => match part {
+                SimpleSelector::ID(other) => id.as_str() == other.as_str(),
+                _ => false,
+            },
+            OnAttributesExpr::Class(name) => match part {
+                SimpleSelector::Class(other) => name.as_str() == other.as_str(),
+                _ => false,
+            },
+            OnAttributesExpr::AttributeExists(name) => match part {
+                SimpleSelector::AttributeExists { name: other } => name.as_str() == other.as_str(),
+                _ => false,
+            },
+            OnAttributesExpr::AttributeComparisonExpr(test) => match part {
+                SimpleSelector::AttributeComparison {
+                    name,
+                    value,
+                    operator,
+                    case_sensitivity,
+                } => {
+                    test.name.as_str() == name.as_str()
+                        && test.value.as_str() == value.as_str()
+                        && test.operator == *operator
+                        && test.case_sensitivity == *case_sensitivity
+                }
+                _ => false,
+            },
+        }
+    }
 }
 
 impl AttributeComparisonExpr {
@@ -107,12 +172,12 @@ pub enum Condition {
 }
 
 impl Condition {
-    /// The test of a part; none for a `:not`, which has tests of its own. (The crate's `From<&Component>`.)
+    /// The test of a part; none for `:not`, `:is` and `:where`, whose tests are trees. (lol_html's `From<&Component>`.)
     pub fn from_simple(
         alloc: Global,
         part: &SimpleSelector,
     ) -> Result<Option<Condition>, AllocError>
-        ensures { IfOk result (λ condition. option_map test_shown condition ≡ part_test (part_of part.now)) }
+        ensures { IfOk result (λ condition. option_map condition_test condition ≡ plain_test (part_of part.now)) }
     {
         Ok(Some(match part {
             SimpleSelector::LocalName(name) => {
@@ -149,7 +214,9 @@ impl Condition {
             } else {
                 OnTagNameExpr::NthChild(*nth)
             }),
-            SimpleSelector::Negation(_) => return Ok(None),
+            SimpleSelector::Negation(_) | SimpleSelector::Is(_) | SimpleSelector::Where(_) => {
+                return Ok(None);
+            }
         }))
     }
 }

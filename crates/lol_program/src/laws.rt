@@ -3,7 +3,7 @@
 ghost use Rattle.std.specs.Prelude.{ℕ, List};
 ghost use Rattle.lol_program.specs.Paths.{Path, AreNodes};
 ghost use Rattle.lol_program.specs.Nodes.{nodes_of};
-ghost use Rattle.lol_program.specs.Laws.{NodesStayTheBeginnings, AreRows};
+ghost use Rattle.lol_program.specs.Laws.{NodesStayTheBeginnings, ValuesDecide, ValuesAreByNames, AreRows};
 
 /// The nodes of pairs are the beginnings of their paths, each once.
 pub fn nodes_are_the_beginnings()
@@ -13,6 +13,16 @@ pub fn nodes_are_the_beginnings()
 /// Nodes that take in what the pairs' paths bring stay their beginnings: so the nodes of a tree are, where no add was refused.
 pub fn nodes_stay_the_beginnings()
     ensures { NodesStayTheBeginnings }
+{}
+
+/// Where the value by names of a compound isn't open, it is the truth, whatever the attributes are.
+pub fn values_by_names_decide()
+    ensures { ValuesDecide }
+{}
+
+/// A value by names doesn't depend on the rest of the tag.
+pub fn values_are_by_names()
+    ensures { ValuesAreByNames }
 {}
 
 /// Worked rows: the tests of compounds.

@@ -3,10 +3,10 @@
 
 mod ast;
 mod ast_node;
-mod ast_path;
 mod condition;
 mod gift;
 pub mod laws;
+mod name_value;
 mod predicate;
 mod spare_id;
 mod spare_ids;
@@ -15,5 +15,6 @@ mod tries;
 pub use ast::Ast;
 pub use ast_node::AstNode;
 pub use condition::{AttributeComparisonExpr, Condition, OnAttributesExpr, OnTagNameExpr};
-pub use predicate::{Expr, Predicate};
+pub use name_value::NameValue;
+pub use predicate::{Predicate, Test};
 pub use tries::Tries;

@@ -1,5 +1,6 @@
 use crate::{
-    Ast, AstNode, AttributeComparisonExpr, Condition, Expr, OnAttributesExpr, OnTagNameExpr,
+    Ast, AstNode, AttributeComparisonExpr, Condition, OnAttributesExpr, OnTagNameExpr, Predicate,
+    Test,
 };
 use lol_css::{
     AttrSelectorOperator, Combinator, ComplexSelector, Compound, CssString, NthChild,
@@ -55,19 +56,18 @@ fn list(alloc: Global, item: ComplexSelector) -> Result<SelectorList, AllocError
     })
 }
 
-fn name(alloc: Global, name: &str, negation: bool) -> Result<Expr<OnTagNameExpr>, AllocError> {
-    let simple_expr = OnTagNameExpr::LocalName(String::from_str(alloc, name)?);
-    Ok(Expr {
-        simple_expr,
-        negation,
-    })
+fn name(alloc: Global, name: &str) -> Result<Test, AllocError> {
+    Ok(Test::Name(OnTagNameExpr::LocalName(String::from_str(alloc, name)?)))
 }
 
-fn attribute(simple_expr: OnAttributesExpr, negation: bool) -> Expr<OnAttributesExpr> {
-    Expr {
-        simple_expr,
-        negation,
-    }
+/// One compound of one test.
+fn alone(alloc: Global, test: Test) -> Result<Vec<Predicate>, AllocError> {
+    let tests = vec![in alloc; test]?;
+    Ok(vec![in alloc; Predicate { tests }]?)
+}
+
+fn none_of(alloc: Global, test: Test) -> Result<Test, AllocError> {
+    Ok(Test::NoneOf(alone(alloc, test)?))
 }
 
 fn node<'n>(rt: &impl Abort, nodes: &'n [AstNode], place: usize) -> &'n AstNode {
@@ -90,15 +90,13 @@ fn is_one_node(
     rt: &impl Abort,
     alloc: Global,
     parts: Parts,
-    names: &[Expr<OnTagNameExpr>],
-    attributes: &[Expr<OnAttributesExpr>],
+    tests: &[Test],
 ) -> Result<(), AllocError> {
     let mut ast = Ast::new(alloc);
     ast.add_list(&list(alloc, item(alloc, parts))?, 0)?;
     let node = node(rt, ast.root(), 0);
     assert!(rt; ast.cumulative_node_count() == 1);
-    assert!(rt; node.predicate.on_tag_name_exprs.as_slice() == names);
-    assert!(rt; node.predicate.on_attr_exprs.as_slice() == attributes);
+    assert!(rt; node.predicate.tests.as_slice() == tests);
     assert!(rt; has_ids(node, &[0]));
     Ok(())
 }
@@ -106,59 +104,62 @@ fn is_one_node(
 #[test]
 fn trees_of_one_node(rt: HostRuntime) -> Result<(), Fail> {
     let alloc = rt.alloc();
-    let any = Expr {
-        simple_expr: OnTagNameExpr::ExplicitAny,
-        negation: false,
-    };
     is_one_node(
         &rt,
         alloc,
         vec![in alloc; SimpleSelector::ExplicitUniversalType]?,
-        &[any],
-        &[],
+        &[Test::Name(OnTagNameExpr::ExplicitAny)],
     )?;
     is_one_node(
         &rt,
         alloc,
         vec![in alloc; tag(alloc, "div")?]?,
-        &[name(alloc, "div", false)?],
-        &[],
+        &[name(alloc, "div")?],
     )?;
     let div = tag(alloc, "div")?;
     is_one_node(
         &rt,
         alloc,
         vec![in alloc; not(alloc, div)?]?,
-        &[name(alloc, "div", true)?],
-        &[],
+        &[none_of(alloc, name(alloc, "div")?)?],
     )?;
     // `:not(:not(:not(div)))`
     let div = not(alloc, not(alloc, tag(alloc, "div")?)?)?;
+    let tests = none_of(alloc, none_of(alloc, name(alloc, "div")?)?)?;
     is_one_node(
         &rt,
         alloc,
         vec![in alloc; not(alloc, div)?]?,
-        &[name(alloc, "div", true)?],
-        &[],
+        &[none_of(alloc, tests)?],
     )?;
     Ok(())
 }
 
 #[test]
-fn trees_of_one_node_with_attributes(rt: HostRuntime) -> Result<(), Fail> {
+fn functions_in_functions(rt: HostRuntime) -> Result<(), Fail> {
     let alloc = rt.alloc();
-    let text = |text: &str| String::from_str(alloc, text);
     // `div:not(:not(.foo))`
     let foo = not(alloc, class(alloc, "foo")?)?;
+    let has_foo = Test::Attribute(OnAttributesExpr::Class(String::from_str(alloc, "foo")?));
     is_one_node(
         &rt,
         alloc,
         vec![in alloc; tag(alloc, "div")?, not(alloc, foo)?]?,
-        &[name(alloc, "div", false)?],
-        &[attribute(OnAttributesExpr::Class(text("foo")?), false)],
+        &[
+            none_of(alloc, none_of(alloc, has_foo)?)?,
+            name(alloc, "div")?,
+        ],
     )?;
-    // `div.foo#bar:not([baz])`
+    Ok(())
+}
+
+/// `div.foo#bar:not([baz])`
+#[test]
+fn parts_stand_from_right_to_left(rt: HostRuntime) -> Result<(), Fail> {
+    let alloc = rt.alloc();
+    let text = |text: &str| String::from_str(alloc, text);
     let baz = has(alloc, "baz")?;
+    let has_baz = Test::Attribute(OnAttributesExpr::AttributeExists(text("baz")?));
     is_one_node(
         &rt,
         alloc,
@@ -168,11 +169,11 @@ fn trees_of_one_node_with_attributes(rt: HostRuntime) -> Result<(), Fail> {
             id(alloc, "bar")?,
             not(alloc, baz)?,
         ]?,
-        &[name(alloc, "div", false)?],
         &[
-            attribute(OnAttributesExpr::AttributeExists(text("baz")?), true),
-            attribute(OnAttributesExpr::Id(text("bar")?), false),
-            attribute(OnAttributesExpr::Class(text("foo")?), false),
+            none_of(alloc, has_baz)?,
+            Test::Attribute(OnAttributesExpr::Id(text("bar")?)),
+            Test::Attribute(OnAttributesExpr::Class(text("foo")?)),
+            name(alloc, "div")?,
         ],
     )?;
     Ok(())
@@ -300,10 +301,25 @@ fn conditions(rt: HostRuntime) -> Result<(), Fail> {
     };
     let of_type = Condition::OnTagName(OnTagNameExpr::NthOfType(NthChild::new(2, 1)));
     assert!(rt; Condition::from_simple(alloc, &nth)? == Some(of_type));
+    Ok(())
+}
+
+#[test]
+fn lists_have_no_condition(rt: HostRuntime) -> Result<(), Fail> {
+    let alloc = rt.alloc();
     let div = not(alloc, tag(alloc, "div")?)?;
     assert!(rt; Condition::from_simple(alloc, &div)?.is_none());
+    let div = || list(alloc, item(alloc, vec![in alloc; tag(alloc, "div")?]?));
+    for part in [SimpleSelector::Is(div()?), SimpleSelector::Where(div()?)] {
+        assert!(rt; Condition::from_simple(alloc, &part)?.is_none());
+    }
+    Ok(())
+}
 
-    // `[foo="bar"]`
+/// `[foo="bar"]`
+#[test]
+fn comparisons_are_shown(rt: HostRuntime) -> Result<(), Fail> {
+    let alloc = rt.alloc();
     let expr = AttributeComparisonExpr::new(
         String::from_str(alloc, "foo")?,
         String::from_str(alloc, "bar")?,

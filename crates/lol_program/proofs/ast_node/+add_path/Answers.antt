@@ -1,11 +1,11 @@
+use Rattle.lol_program.specs.Predicates.{tests_of}
 use Rattle.std.proofs.Common.{arith, suc, ◌≡◌, map, refl, ap}
 use Rattle.std.specs.Prelude.{slice_set}
 use Rattle.std.proofs.lemmas.Result.{on_ok_weaker, on_err_weaker}
 use Rattle.lol_memory.specs.Ids.{Ids}
 use Rattle.lol_css.specs.declared.selector.Combinator.TheVariants.{Child, Descendant}
-use Rattle.lol_program.specs.Predicates.{tests_of}
 use Rattle.lol_program.specs.Gifts.{given}
-use Rattle.lol_program.specs.Views.{node_of, forest_of, steps_of}
+use Rattle.lol_program.specs.Views.{node_of, forest_of, steps_of, tests_in}
 use Rattle.lol_program.specs.Growth.{Adds, AddsFirst, Takes, Under, Stands, under}
 use Rattle.lol_program.specs.declared.ast_node.AstNode.TheViews.{out-AstNode, roll-AstNode}
 use Rattle.lol_program.proofs.Nodes.{shape}
@@ -15,7 +15,7 @@ use Rattle.lol_program.proofs.ast_node.+add_path.Goals as goal
 
 pub returns-in_err-place-clause-free : goal.returns-in_err-place-clause-free
 returns-in_err-place-clause-free t c spared stands =
-    absurd (stands_nowhere (tests_of c.args.first.now) (steps_of c.args.rest.now) (map node_of c.args.nodes.now.items) c.in_err-place.ensures.free stands)
+    absurd (stands_nowhere (tests_in c.args.first.now) (steps_of c.args.rest.now) (map node_of c.args.nodes.now.items) c.in_err-place.ensures.free stands)
 
 pub returns-in-None-clause-added : goal.returns-in-None-clause-added
 returns-in-None-clause-added t c =
@@ -23,7 +23,7 @@ returns-in-None-clause-added t c =
     let old = c.args.nodes.now.items in
     let mid = c.place_for.new.nodes.items in
     let i = c.in_ok-place.place in
-    let fc = tests_of c.args.first.now in
+    let fc = tests_in c.args.first.now in
     let at = c.in_ok-place.ensures.place in
     let is = c.index_mut-node.ensures.value in
     let id = given c.args.gift in
@@ -38,7 +38,7 @@ returns-in-None-clause-partly t c =
     let old = c.args.nodes.now.items in
     let mid = c.place_for.new.nodes.items in
     let i = c.in_ok-place.place in
-    let fc = tests_of c.args.first.now in
+    let fc = tests_in c.args.first.now in
     let at = c.in_ok-place.ensures.place in
     let is = c.index_mut-node.ensures.value in
     on_err_weaker c.give_to.result
@@ -56,7 +56,7 @@ returns-in-None-clause-count t c =
     let old = c.args.nodes.now.items in
     let mid = c.place_for.new.nodes.items in
     let i = c.in_ok-place.place in
-    let fc = tests_of c.args.first.now in
+    let fc = tests_in c.args.first.now in
     let at = c.in_ok-place.ensures.place in
     let is = c.index_mut-node.ensures.value in
     omega (arith, size_set mid i n (record { predicate = (out-AstNode n).predicate; children = (out-AstNode n).children; descendants = (out-AstNode n).descendants; match_ids = c.give_to.new.ids }) (place_within fc old mid i at) is, c.in_ok-place.ensures.count)
@@ -67,13 +67,13 @@ returns-in-Child-clause-added t c =
     let old = c.args.nodes.now.items in
     let mid = c.place_for.new.nodes.items in
     let i = c.in_ok-place.place in
-    let fc = tests_of c.args.first.now in
+    let fc = tests_in c.args.first.now in
     let at = c.in_ok-place.ensures.place in
     let is = c.index_mut-node.ensures.value in
     let id = given c.args.gift in
     on_ok_weaker c.add_path.result
     (λ a. adds_some id fc c.args.rest.now c.in-Some.rest.now c.in-Some.field-0-0.now Child (forest_of old) (forest_of (slice_set mid i (roll-AstNode (record { predicate = (out-AstNode n).predicate; children = c.add_path.new.nodes; descendants = (out-AstNode n).descendants; match_ids = (out-AstNode n).match_ids })))) c.in-Some.ensures.cases.0 c.in-Child.is
-    (set_place fc (Under Child (Adds id (tests_of c.in-Some.field-0-0.now.1) (steps_of c.in-Some.rest.now))) old mid i n (record { predicate = (out-AstNode n).predicate; children = c.add_path.new.nodes; descendants = (out-AstNode n).descendants; match_ids = (out-AstNode n).match_ids }) at is (forest_of c.add_path.new.nodes.items, a, refl)))
+    (set_place fc (Under Child (Adds id (tests_in c.in-Some.field-0-0.now.1) (steps_of c.in-Some.rest.now))) old mid i n (record { predicate = (out-AstNode n).predicate; children = c.add_path.new.nodes; descendants = (out-AstNode n).descendants; match_ids = (out-AstNode n).match_ids }) at is (forest_of c.add_path.new.nodes.items, a, refl)))
     c.add_path.ensures.added
 
 pub returns-in-Child-clause-partly : goal.returns-in-Child-clause-partly
@@ -82,14 +82,14 @@ returns-in-Child-clause-partly t c =
     let old = c.args.nodes.now.items in
     let mid = c.place_for.new.nodes.items in
     let i = c.in_ok-place.place in
-    let fc = tests_of c.args.first.now in
+    let fc = tests_in c.args.first.now in
     let at = c.in_ok-place.ensures.place in
     let is = c.index_mut-node.ensures.value in
     on_err_weaker c.add_path.result
     (λ a. (
       suc a.0,
       first_some a.0 fc c.args.rest.now c.in-Some.rest.now c.in-Some.field-0-0.now Child (forest_of old) (forest_of (slice_set mid i (roll-AstNode (record { predicate = (out-AstNode n).predicate; children = c.add_path.new.nodes; descendants = (out-AstNode n).descendants; match_ids = (out-AstNode n).match_ids })))) c.in-Some.ensures.cases.0 c.in-Child.is
-          (set_place fc (Under Child (AddsFirst a.0 (tests_of c.in-Some.field-0-0.now.1) (steps_of c.in-Some.rest.now))) old mid i n (record { predicate = (out-AstNode n).predicate; children = c.add_path.new.nodes; descendants = (out-AstNode n).descendants; match_ids = (out-AstNode n).match_ids }) at is (forest_of c.add_path.new.nodes.items, a.1, refl)),
+          (set_place fc (Under Child (AddsFirst a.0 (tests_in c.in-Some.field-0-0.now.1) (steps_of c.in-Some.rest.now))) old mid i n (record { predicate = (out-AstNode n).predicate; children = c.add_path.new.nodes; descendants = (out-AstNode n).descendants; match_ids = (out-AstNode n).match_ids }) at is (forest_of c.add_path.new.nodes.items, a.1, refl)),
     ))
     c.add_path.ensures.partly
 
@@ -99,11 +99,11 @@ returns-in-Child-clause-free t c spared stands =
     let old = c.args.nodes.now.items in
     let mid = c.place_for.new.nodes.items in
     let i = c.in_ok-place.place in
-    let fc = tests_of c.args.first.now in
+    let fc = tests_in c.args.first.now in
     let at = c.in_ok-place.ensures.place in
     let is = c.index_mut-node.ensures.value in
     let inside = stands_some fc c.args.rest.now c.in-Some.rest.now c.in-Some.field-0-0.now Child (forest_of old) c.in-Some.ensures.cases.0 c.in-Child.is stands in
-    c.add_path.ensures.free spared (stands_at fc (λ m. Stands (tests_of c.in-Some.field-0-0.now.1) (steps_of c.in-Some.rest.now) (under Child m)) old mid i n at is inside)
+    c.add_path.ensures.free spared (stands_at fc (λ m. Stands (tests_in c.in-Some.field-0-0.now.1) (steps_of c.in-Some.rest.now) (under Child m)) old mid i n at is inside)
 
 pub returns-in-Child-clause-count : goal.returns-in-Child-clause-count
 returns-in-Child-clause-count t c =
@@ -111,7 +111,7 @@ returns-in-Child-clause-count t c =
     let old = c.args.nodes.now.items in
     let mid = c.place_for.new.nodes.items in
     let i = c.in_ok-place.place in
-    let fc = tests_of c.args.first.now in
+    let fc = tests_in c.args.first.now in
     let at = c.in_ok-place.ensures.place in
     let is = c.index_mut-node.ensures.value in
     omega (arith, size_set mid i n (record { predicate = (out-AstNode n).predicate; children = c.add_path.new.nodes; descendants = (out-AstNode n).descendants; match_ids = (out-AstNode n).match_ids }) (place_within fc old mid i at) is, c.in_ok-place.ensures.count, c.add_path.ensures.count)
@@ -122,13 +122,13 @@ returns-in-Descendant-clause-added t c =
     let old = c.args.nodes.now.items in
     let mid = c.place_for.new.nodes.items in
     let i = c.in_ok-place.place in
-    let fc = tests_of c.args.first.now in
+    let fc = tests_in c.args.first.now in
     let at = c.in_ok-place.ensures.place in
     let is = c.index_mut-node.ensures.value in
     let id = given c.args.gift in
     on_ok_weaker c.add_path-in-Descendant.result
     (λ a. adds_some id fc c.args.rest.now c.in-Some.rest.now c.in-Some.field-0-0.now Descendant (forest_of old) (forest_of (slice_set mid i (roll-AstNode (record { predicate = (out-AstNode n).predicate; children = (out-AstNode n).children; descendants = c.add_path-in-Descendant.new.nodes; match_ids = (out-AstNode n).match_ids })))) c.in-Some.ensures.cases.0 c.in-Descendant.is
-    (set_place fc (Under Descendant (Adds id (tests_of c.in-Some.field-0-0.now.1) (steps_of c.in-Some.rest.now))) old mid i n (record { predicate = (out-AstNode n).predicate; children = (out-AstNode n).children; descendants = c.add_path-in-Descendant.new.nodes; match_ids = (out-AstNode n).match_ids }) at is (forest_of c.add_path-in-Descendant.new.nodes.items, a, refl)))
+    (set_place fc (Under Descendant (Adds id (tests_in c.in-Some.field-0-0.now.1) (steps_of c.in-Some.rest.now))) old mid i n (record { predicate = (out-AstNode n).predicate; children = (out-AstNode n).children; descendants = c.add_path-in-Descendant.new.nodes; match_ids = (out-AstNode n).match_ids }) at is (forest_of c.add_path-in-Descendant.new.nodes.items, a, refl)))
     c.add_path-in-Descendant.ensures.added
 
 pub returns-in-Descendant-clause-partly : goal.returns-in-Descendant-clause-partly
@@ -137,14 +137,14 @@ returns-in-Descendant-clause-partly t c =
     let old = c.args.nodes.now.items in
     let mid = c.place_for.new.nodes.items in
     let i = c.in_ok-place.place in
-    let fc = tests_of c.args.first.now in
+    let fc = tests_in c.args.first.now in
     let at = c.in_ok-place.ensures.place in
     let is = c.index_mut-node.ensures.value in
     on_err_weaker c.add_path-in-Descendant.result
     (λ a. (
       suc a.0,
       first_some a.0 fc c.args.rest.now c.in-Some.rest.now c.in-Some.field-0-0.now Descendant (forest_of old) (forest_of (slice_set mid i (roll-AstNode (record { predicate = (out-AstNode n).predicate; children = (out-AstNode n).children; descendants = c.add_path-in-Descendant.new.nodes; match_ids = (out-AstNode n).match_ids })))) c.in-Some.ensures.cases.0 c.in-Descendant.is
-          (set_place fc (Under Descendant (AddsFirst a.0 (tests_of c.in-Some.field-0-0.now.1) (steps_of c.in-Some.rest.now))) old mid i n (record { predicate = (out-AstNode n).predicate; children = (out-AstNode n).children; descendants = c.add_path-in-Descendant.new.nodes; match_ids = (out-AstNode n).match_ids }) at is (forest_of c.add_path-in-Descendant.new.nodes.items, a.1, refl)),
+          (set_place fc (Under Descendant (AddsFirst a.0 (tests_in c.in-Some.field-0-0.now.1) (steps_of c.in-Some.rest.now))) old mid i n (record { predicate = (out-AstNode n).predicate; children = (out-AstNode n).children; descendants = c.add_path-in-Descendant.new.nodes; match_ids = (out-AstNode n).match_ids }) at is (forest_of c.add_path-in-Descendant.new.nodes.items, a.1, refl)),
     ))
     c.add_path-in-Descendant.ensures.partly
 
@@ -154,11 +154,11 @@ returns-in-Descendant-clause-free t c spared stands =
     let old = c.args.nodes.now.items in
     let mid = c.place_for.new.nodes.items in
     let i = c.in_ok-place.place in
-    let fc = tests_of c.args.first.now in
+    let fc = tests_in c.args.first.now in
     let at = c.in_ok-place.ensures.place in
     let is = c.index_mut-node.ensures.value in
     let inside = stands_some fc c.args.rest.now c.in-Some.rest.now c.in-Some.field-0-0.now Descendant (forest_of old) c.in-Some.ensures.cases.0 c.in-Descendant.is stands in
-    c.add_path-in-Descendant.ensures.free spared (stands_at fc (λ m. Stands (tests_of c.in-Some.field-0-0.now.1) (steps_of c.in-Some.rest.now) (under Descendant m)) old mid i n at is inside)
+    c.add_path-in-Descendant.ensures.free spared (stands_at fc (λ m. Stands (tests_in c.in-Some.field-0-0.now.1) (steps_of c.in-Some.rest.now) (under Descendant m)) old mid i n at is inside)
 
 pub returns-in-Descendant-clause-count : goal.returns-in-Descendant-clause-count
 returns-in-Descendant-clause-count t c =
@@ -166,7 +166,7 @@ returns-in-Descendant-clause-count t c =
     let old = c.args.nodes.now.items in
     let mid = c.place_for.new.nodes.items in
     let i = c.in_ok-place.place in
-    let fc = tests_of c.args.first.now in
+    let fc = tests_in c.args.first.now in
     let at = c.in_ok-place.ensures.place in
     let is = c.index_mut-node.ensures.value in
     omega (arith, size_set mid i n (record { predicate = (out-AstNode n).predicate; children = (out-AstNode n).children; descendants = c.add_path-in-Descendant.new.nodes; match_ids = (out-AstNode n).match_ids }) (place_within fc old mid i at) is, c.in_ok-place.ensures.count, c.add_path-in-Descendant.ensures.count)

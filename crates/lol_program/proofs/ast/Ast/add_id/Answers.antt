@@ -10,7 +10,7 @@ use Rattle.lol_program.proofs.ast.Ast.add_id.Goals as goal
 
 pub returns-in_err-add_path-clause-refused_nodes : goal.returns-in_err-add_path-clause-refused_nodes
 returns-in_err-add_path-clause-refused_nodes c =
-    let paths = c.args.paths.now in
+    let paths = c.args.items.now in
     let others = c.in-Some.others.now in
     let last = c.in-Some.last.now in
     on_err c.from_residual-in_err-add_path.result
@@ -21,19 +21,19 @@ returns-in_err-add_path-clause-refused_nodes c =
 pub add_spare_ids-requires-clause-stand : goal.add_spare_ids-requires-clause-stand
 add_spare_ids-requires-clause-stand c =
     AllIn-front (trees_of c.add_path.new.self) c.in-Some.others.now (c.in-Some.last.now ∷ [])
-    (subst (AllIn (trees_of c.add_path.new.self)) c.in-Some.ensures.cases.0 (c.add_path.ensures.keeps c.args.paths.now c.requires))
+    (subst (AllIn (trees_of c.add_path.new.self)) c.in-Some.ensures.cases.0 (c.add_path.ensures.keeps c.args.items.now c.requires))
 
 pub returns-clause-pairs : goal.returns-clause-pairs
 returns-clause-pairs c =
     let others = c.in-Some.others.now in
     let last = c.in-Some.last.now in
     let id = c.args.match_id in
-    subst (Joins (pairs_of c.args.self.now) (pairs_of c.add_spare_ids.new.self)) (sym (pairs_for-last id c.args.paths.now others last c.in-Some.ensures.cases.0))
+    subst (Joins (pairs_of c.args.self.now) (pairs_of c.add_spare_ids.new.self)) (sym (pairs_for-last id c.args.items.now others last c.in-Some.ensures.cases.0))
     (Joins-flipped (pairs_of c.args.self.now) (pairs_of c.add_path.new.self) (pairs_of c.add_spare_ids.new.self) ((shown last, id) ∷ []) (pairs_for id others) c.in_ok-add_path.ensures.pairs c.add_spare_ids.ensures.pairs)
 
 pub returns-clause-nodes : goal.returns-clause-nodes
 returns-clause-nodes c =
     let others = c.in-Some.others.now in
     let last = c.in-Some.last.now in
-    subst (Joins (nodes_of c.args.self.now) (nodes_of c.add_spare_ids.new.self)) (sym (all_of-last c.args.paths.now others last c.in-Some.ensures.cases.0))
+    subst (Joins (nodes_of c.args.self.now) (nodes_of c.add_spare_ids.new.self)) (sym (all_of-last c.args.items.now others last c.in-Some.ensures.cases.0))
     (Joins-flipped (nodes_of c.args.self.now) (nodes_of c.add_path.new.self) (nodes_of c.add_spare_ids.new.self) (beginnings (shown last)) (all_of others) c.in_ok-add_path.ensures.nodes c.add_spare_ids.ensures.nodes)

@@ -6,9 +6,9 @@ use Rattle.lol_program.specs.Sets.{Joins, SameMembers}
 use Rattle.lol_program.specs.Asts.{trees_of, nodes_of, pairs_of}
 use Rattle.lol_program.proofs.ast.Ast.add_nodes.Given as goal
 
-abbrev pub invariant-loop-path : goal.invariant-loop-path
-invariant-loop-path l = record {
+abbrev pub invariant-loop-item : goal.invariant-loop-item
+invariant-loop-item l = record {
   pairs : SameMembers (pairs_of l.fn.self) (pairs_of l.self);
-  nodes : Joins (nodes_of l.fn.self) (nodes_of l.self) (flat_map beginnings (map shown (take l.path-index l.paths)));
-  stand : AllIn (trees_of l.self) (take l.path-index l.paths);
+  nodes : Joins (nodes_of l.fn.self) (nodes_of l.self) (flat_map beginnings (map shown (take l.item-index l.items)));
+  stand : AllIn (trees_of l.self) (take l.item-index l.items);
 }

@@ -1,11 +1,11 @@
+use Rattle.lol_css.specs.declared.selector.SimpleSelector.TheViews.{out-ComplexSelector}
 use Rattle.std.proofs.Common.{List, arith, subst}
 use Rattle.std.proofs.lemmas.Result.{on_ok_weaker, on_err_weaker}
 use Rattle.lol_css.specs.declared.selector.Combinator.{Combinator}
-use Rattle.lol_program.specs.Predicates.{tests_of}
 use Rattle.lol_program.specs.Gifts.{given}
-use Rattle.lol_program.specs.Views.{forest_of, steps_of}
+use Rattle.lol_program.specs.Views.{forest_of, steps_of, tests_in}
 use Rattle.lol_program.specs.Growth.{Adds, AddsFirst}
-use Rattle.lol_program.specs.declared.predicate.Predicate.{Predicate}
+use Rattle.lol_css.specs.declared.selector.Compound as css
 use Rattle.lol_program.proofs.Adding.{added_pairs, added_nodes, first_pairs, first_nodes, keeps_either, keeps_all}
 use Rattle.lol_program.proofs.Placed.{differ_after}
 use Rattle.lol_program.proofs.Standing.{adds_stands}
@@ -15,49 +15,49 @@ pub invariant_of-self : goal.invariant_of-self
 invariant_of-self c =
     record {
       counted = omega (arith, c.add_path.ensures.count, c.args.self.now.counted);
-      siblings = differ_after c.add_path.result (given c.args.gift) (tests_of c.args.path.now.first) (steps_of c.deref.result.now) (forest_of c.args.self.now.root.items) (forest_of c.add_path.new.nodes.items) c.add_path.ensures.added c.add_path.ensures.partly c.args.self.now.siblings;
+      siblings = differ_after c.add_path.result (given c.args.gift) (tests_in (out-ComplexSelector c.args.item.now).first) (steps_of c.deref.result.now) (forest_of c.args.self.now.root.items) (forest_of c.add_path.new.nodes.items) c.add_path.ensures.added c.add_path.ensures.partly c.args.self.now.siblings;
     }
 
 pub returns-clause-pairs : goal.returns-clause-pairs
 returns-clause-pairs c =
     let old = forest_of c.args.self.now.root.items in
     let new = forest_of c.add_path.new.nodes.items in
-    let first = tests_of c.args.path.now.first in
+    let first = tests_in (out-ComplexSelector c.args.item.now).first in
     let id = given c.args.gift in
-    on_ok_weaker c.add_path.result (λ h. added_pairs first (steps_of c.args.path.now.rest.items) old new id (subst (λ (r : List (Combinator × Predicate)). Adds id first (steps_of r) old new) c.deref.ensures.value h)) c.add_path.ensures.added
+    on_ok_weaker c.add_path.result (λ h. added_pairs first (steps_of (out-ComplexSelector c.args.item.now).rest.items) old new id (subst (λ (r : List (Combinator × css.Compound)). Adds id first (steps_of r) old new) c.deref.ensures.value h)) c.add_path.ensures.added
 
 pub returns-clause-nodes : goal.returns-clause-nodes
 returns-clause-nodes c =
     let old = forest_of c.args.self.now.root.items in
     let new = forest_of c.add_path.new.nodes.items in
-    let first = tests_of c.args.path.now.first in
+    let first = tests_in (out-ComplexSelector c.args.item.now).first in
     let id = given c.args.gift in
-    on_ok_weaker c.add_path.result (λ h. added_nodes first (steps_of c.args.path.now.rest.items) old new id (subst (λ (r : List (Combinator × Predicate)). Adds id first (steps_of r) old new) c.deref.ensures.value h)) c.add_path.ensures.added
+    on_ok_weaker c.add_path.result (λ h. added_nodes first (steps_of (out-ComplexSelector c.args.item.now).rest.items) old new id (subst (λ (r : List (Combinator × css.Compound)). Adds id first (steps_of r) old new) c.deref.ensures.value h)) c.add_path.ensures.added
 
 pub returns-clause-stands : goal.returns-clause-stands
 returns-clause-stands c =
     let old = forest_of c.args.self.now.root.items in
     let new = forest_of c.add_path.new.nodes.items in
-    let first = tests_of c.args.path.now.first in
+    let first = tests_in (out-ComplexSelector c.args.item.now).first in
     let id = given c.args.gift in
-    on_ok_weaker c.add_path.result (λ h. adds_stands id first (steps_of c.args.path.now.rest.items) old new (subst (λ (r : List (Combinator × Predicate)). Adds id first (steps_of r) old new) c.deref.ensures.value h)) c.add_path.ensures.added
+    on_ok_weaker c.add_path.result (λ h. adds_stands id first (steps_of (out-ComplexSelector c.args.item.now).rest.items) old new (subst (λ (r : List (Combinator × css.Compound)). Adds id first (steps_of r) old new) c.deref.ensures.value h)) c.add_path.ensures.added
 
 pub returns-clause-refused_pairs : goal.returns-clause-refused_pairs
 returns-clause-refused_pairs c =
     let old = forest_of c.args.self.now.root.items in
     let new = forest_of c.add_path.new.nodes.items in
-    let first = tests_of c.args.path.now.first in
+    let first = tests_in (out-ComplexSelector c.args.item.now).first in
     on_err_weaker c.add_path.result (λ h. first_pairs first (steps_of c.deref.result.now) old new h.0 h.1) c.add_path.ensures.partly
 
 pub returns-clause-refused_nodes : goal.returns-clause-refused_nodes
 returns-clause-refused_nodes c =
     let old = forest_of c.args.self.now.root.items in
     let new = forest_of c.add_path.new.nodes.items in
-    let first = tests_of c.args.path.now.first in
-    on_err_weaker c.add_path.result (λ h. first_nodes first (steps_of c.args.path.now.rest.items) old new h.0 (subst (λ (r : List (Combinator × Predicate)). AddsFirst h.0 first (steps_of r) old new) c.deref.ensures.value h.1)) c.add_path.ensures.partly
+    let first = tests_in (out-ComplexSelector c.args.item.now).first in
+    on_err_weaker c.add_path.result (λ h. first_nodes first (steps_of (out-ComplexSelector c.args.item.now).rest.items) old new h.0 (subst (λ (r : List (Combinator × css.Compound)). AddsFirst h.0 first (steps_of r) old new) c.deref.ensures.value h.1)) c.add_path.ensures.partly
 
 pub returns-clause-keeps : goal.returns-clause-keeps
 returns-clause-keeps c =
     let old = forest_of c.args.self.now.root.items in
     let new = forest_of c.add_path.new.nodes.items in
-    keeps_all old new (keeps_either (tests_of c.args.path.now.first) (steps_of c.deref.result.now) old new c.add_path.result (given c.args.gift) c.add_path.ensures.added c.add_path.ensures.partly)
+    keeps_all old new (keeps_either (tests_in (out-ComplexSelector c.args.item.now).first) (steps_of c.deref.result.now) old new c.add_path.result (given c.args.gift) c.add_path.ensures.added c.add_path.ensures.partly)

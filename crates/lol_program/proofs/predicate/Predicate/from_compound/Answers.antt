@@ -1,23 +1,21 @@
-use Rattle.std.proofs.Common.{false, map, sym, ap, ◌∙◌, Bor}
+use Rattle.std.proofs.Common.{[], ◌∷◌, ◌++◌, map, sym, ap, ◌∙◌, Bor}
 use Rattle.std.proofs.lemmas.List.{map-append}
 use Rattle.std.proofs.lemmas.Iterator.Adapters.{YieldsList-from_rev_slice}
 use Rattle.std.proofs.lemmas.Iterator.Consumers.{YieldsList-end}
 use Rattle.lol_css.specs.declared.selector.SimpleSelector.{SimpleSelector}
-use Rattle.lol_css.specs.TreeViews.{part_of}
-use Rattle.lol_program.specs.Paths.{Compound}
-use Rattle.lol_program.specs.Conditions.{joined, part_tests}
-use Rattle.lol_program.proofs.RightToLeft.{taken, taken-push, taken-reverse}
+use Rattle.lol_program.specs.Compounds.{all_of}
+use Rattle.lol_program.specs.Predicates.{test_shown}
+use Rattle.lol_program.proofs.Tests.{test_in, reverse-map, compound_tests-parts}
 use Rattle.lol_program.proofs.predicate.Predicate.from_compound.Goals as goal
 
 pub loop-part-preserved : goal.loop-part-preserved
 loop-part-preserved c =
     let now = λ (part : Bor SimpleSelector). part.now in
-    let part = c.in-Some.part.now in
-    c.in_ok-add_part.ensures ∙ ap (λ (a : Compound). joined a (part_tests false (part_of part))) c.loop-part.invariant
-    ∙ sym (ap taken (map-append now c.loop-part.yielded _) ∙ taken-push (map now c.loop-part.yielded) part)
+    ap (map test_shown) c.in_ok-push.ensures.items ∙ map-append test_shown c.loop-part.tests.items _ ∙ (λ i. c.loop-part.invariant i ++ c.in_ok-from_part.ensures i ∷ [])
+    ∙ sym (ap (map test_in) (map-append now c.loop-part.yielded _) ∙ map-append test_in (map now c.loop-part.yielded) _)
 
 pub returns : goal.returns
 returns c =
     let parts = c.args.compound.now.parts.items in
     let all = YieldsList-end (YieldsList-from_rev_slice parts (cc)) c.loop-part.yielded _ c.loop-part.yielded_by _ _ c.in-None.is c.next.ensures.steps in
-    c.loop-part.invariant ∙ ap taken all.0 ∙ taken-reverse parts
+    ap all_of (c.loop-part.invariant ∙ ap (map test_in) all.0 ∙ sym (reverse-map test_in parts)) ∙ sym (compound_tests-parts parts)
