@@ -1,6 +1,7 @@
 //! Borrowed input and places in it.
 
-ghost use Rattle.std.specs.Prelude.{◌≡◌};
+ghost use Rattle.std.specs.Prelude.{◌≡◌, ◌↔◌, IsTrue};
+ghost use Rattle.std.specs.Option.{option_map, ForSome};
 
 /// Borrowed bytes of the input.
 #[derive(Clone, Copy)]
@@ -9,7 +10,7 @@ pub struct Bytes<'i> {
 }
 
 impl<'i> Bytes<'i> {
-    ghost use Rattle.lol_base.specs.StartTags.{bytes_of};
+    ghost use Rattle.lol_base.specs.StartTags.{bytes_of, bytes_at, IsInside};
 
     /// These bytes.
     pub fn new(bytes: &'i [u8]) -> Self
@@ -24,6 +25,22 @@ impl<'i> Bytes<'i> {
     {
         self.bytes
     }
+
+    /// The bytes of a range that lies inside.
+    pub fn slice(&self, range: Range) -> Bytes<'i>
+        requires { IsInside (bytes_of self.now) range }
+        ensures { bytes_of result ≡ bytes_at (bytes_of self.now) range }
+    {
+        Bytes::new(&self.bytes[range.start..range.end])
+    }
+
+    /// The bytes of a range that lies inside, where there is a range.
+    pub fn opt_slice(&self, range: Option<Range>) -> Option<Bytes<'i>>
+        requires { ForSome range (IsInside (bytes_of self.now)) }
+        ensures { option_map bytes_of result ≡ option_map (bytes_at (bytes_of self.now)) range }
+    {
+        Some(self.slice(range?))
+    }
 }
 
 /// The bytes from `start` up to `end`. It lies inside an input if `start <= end <= length`.
@@ -31,4 +48,15 @@ impl<'i> Bytes<'i> {
 pub struct Range {
     pub start: usize,
     pub end: usize,
+}
+
+impl Range {
+    ghost use Rattle.lol_base.specs.StartTags.{IsInside};
+
+    // Whether it lies inside these bytes.
+    pub(crate) fn is_inside(&self, bytes: &[u8]) -> bool
+        ensures { IsTrue result ↔ IsInside bytes.now self.now }
+    {
+        self.start <= self.end && self.end <= bytes.len()
+    }
 }
