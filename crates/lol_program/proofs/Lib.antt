@@ -20,3 +20,4 @@ pub mod Running
 pub mod TestRows
 pub mod Values
 pub mod RunningTests
+mod AttributeValues

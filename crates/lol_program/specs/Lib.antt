@@ -17,3 +17,6 @@ pub mod Asts
 pub mod Runs
 pub mod ForestRuns
 pub mod Laws
+pub mod Attributes
+pub mod Matchers
+pub mod Substrings

@@ -3,6 +3,8 @@
 
 mod ast;
 mod ast_node;
+mod attribute_matcher;
+mod attribute_value;
 mod condition;
 mod gift;
 pub mod laws;
@@ -14,6 +16,7 @@ mod tries;
 
 pub use ast::Ast;
 pub use ast_node::AstNode;
+pub use attribute_matcher::{AttrExprOperands, AttributeMatcher};
 pub use condition::{AttributeComparisonExpr, Condition, OnAttributesExpr, OnTagNameExpr};
 pub use name_value::NameValue;
 pub use predicate::{Predicate, Test};

@@ -1,0 +1,107 @@
+//! How the value of an attribute stands to an operand.
+
+ghost use Rattle.std.specs.Prelude.{◌≡◌, ◌∷◌};
+ghost use Rattle.std.specs.Option.{option_copied};
+ghost use Rattle.lol_css.specs.declared.attribute.AttrSelectorOperator.TheVariants.{Equal, Includes, DashMatch, Prefix, Substring, Suffix};
+ghost use Rattle.lol_program.specs.Tests.{is_white};
+ghost use Rattle.lol_program.specs.Attributes.{value_holds};
+ghost use Rattle.lol_program.specs.Substrings.{stands_in_caseless, IsAfterLetter};
+
+use lol_css::CaseSensitivity;
+use memchr::{memchr2, memmem};
+
+/// Whether a byte is ASCII white space (HTML Standard, "ASCII whitespace").
+#[inline]
+pub(crate) fn is_white_space(byte: u8) -> bool
+    ensures { result ≡ is_white byte }
+{
+    matches!(byte, b' ' | b'\n' | b'\r' | b'\t' | b'\x0c')
+}
+
+/// Whether a value is the operand.
+pub(crate) fn is_equal(value: &[u8], operand: &[u8], case: CaseSensitivity) -> bool
+    ensures { result ≡ value_holds Equal case value.now operand.now }
+{
+    case.eq(value, operand)
+}
+
+/// Whether some word of a value is the operand.
+pub(crate) fn has_word(value: &[u8], operand: &[u8], case: CaseSensitivity) -> bool
+    ensures { result ≡ value_holds Includes case value.now operand.now }
+{
+    let mut start = 0;
+    for (end, byte) in value.iter().enumerate() {
+        if is_white_space(*byte) {
+            if is_equal(&value[start..end], operand, case) {
+                return true;
+            }
+            start = end + 1;
+        }
+    }
+    is_equal(&value[start..], operand, case)
+}
+
+/// Whether a value begins with the operand.
+pub(crate) fn has_prefix(value: &[u8], operand: &[u8], case: CaseSensitivity) -> bool
+    ensures { result ≡ value_holds Prefix case value.now operand.now }
+{
+    value.len() >= operand.len() && is_equal(operand, &value[..operand.len()], case)
+}
+
+/// Whether a value ends with the operand.
+pub(crate) fn has_suffix(value: &[u8], operand: &[u8], case: CaseSensitivity) -> bool
+    ensures { result ≡ value_holds Suffix case value.now operand.now }
+{
+    value.len() >= operand.len() && is_equal(operand, &value[value.len() - operand.len()..], case)
+}
+
+/// Whether a value is the operand, or begins with the operand and a hyphen.
+pub(crate) fn has_dash_match(value: &[u8], operand: &[u8], case: CaseSensitivity) -> bool
+    ensures { result ≡ value_holds DashMatch case value.now operand.now }
+{
+    if value.len() <= operand.len() {
+        is_equal(value, operand, case)
+    } else {
+        value[operand.len()] == b'-' && is_equal(operand, &value[..operand.len()], case)
+    }
+}
+
+/// Whether an operand that isn't empty stands in a value. With case the search is linear. Without, it takes at worst as many steps as the
+/// product of the two lengths, and the operand is the choice of the selector's author.
+pub(crate) fn has_substring(value: &[u8], operand: &[u8], case: CaseSensitivity) -> bool
+    ensures { result ≡ value_holds Substring case value.now operand.now }
+{
+    let Some((first, rest)) = operand.split_first() else {
+        return false;
+    };
+    match case {
+        CaseSensitivity::CaseSensitive => memmem::find(value, operand).is_some(),
+        CaseSensitivity::AsciiCaseInsensitive => has_caseless_substring(value, *first, rest),
+    }
+}
+
+// Whether a byte and the rest of an operand stand in a value, without ASCII case.
+fn has_caseless_substring(value: &[u8], first: u8, rest: &[u8]) -> bool
+    ensures { result ≡ stands_in_caseless value.now (first ∷ rest.now) }
+{
+    let mut left = value;
+    while let Some(after) = after_letter(left, first) {
+        if has_prefix(after, rest, CaseSensitivity::AsciiCaseInsensitive) {
+            return true;
+        }
+        left = after;
+    }
+    false
+}
+
+// What is left of a value after the first place of a letter, without ASCII case.
+fn after_letter(value: &[u8], letter: u8) -> Option<&[u8]>
+    ensures { IsAfterLetter letter value.now (option_copied result) }
+{
+    let place = memchr2(
+        letter.to_ascii_lowercase(),
+        letter.to_ascii_uppercase(),
+        value,
+    )?;
+    Some(&value[place + 1..])
+}
