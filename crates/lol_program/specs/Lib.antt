@@ -4,6 +4,7 @@ pub mod Paths
 pub mod Same
 pub mod Nodes
 pub mod Tries
+pub mod Counters
 pub mod Conditions
 pub mod Predicates
 pub mod Forest
