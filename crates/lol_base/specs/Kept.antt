@@ -21,13 +21,18 @@ name_of_code code = bytes_before 12 code []
 abbrev pub spelled_name : List ℕ → Name
 spelled_name bytes = record { lowercased = lowercased bytes; spelling = Some bytes }
 
-abbrev pub name_of : Kept → Name
-name_of (Hash code) = record { lowercased = name_of_code code; spelling = None }
-name_of (Borrowed bytes) = spelled_name bytes.now
-name_of (Owned bytes) = spelled_name bytes.items
+-- the name that is kept, and its code
+abbrev pub name_of : ℕ → Kept → Name
+name_of code Hash = record { lowercased = name_of_code code; spelling = None }
+name_of code (Borrowed bytes) = spelled_name bytes.now
+name_of code (Owned bytes) = spelled_name bytes.items
+
+-- these bytes are no hash, and have the code that stands for none
+abbrev pub IsSpelled : ℕ → List ℕ → Type 0
+IsSpelled code bytes = (code ≡ 18446744073709551615) × (name_code (lowercased bytes) ≡ None)
 
 -- a code is that of its name, and what is spelled is no hash
-abbrev pub IsKeptRight : Kept → Type 0
-IsKeptRight (Hash code) = name_code (name_of_code code) ≡ Some code
-IsKeptRight (Borrowed bytes) = name_code (lowercased bytes.now) ≡ None
-IsKeptRight (Owned bytes) = name_code (lowercased bytes.items) ≡ None
+abbrev pub IsKeptRight : ℕ → Kept → Type 0
+IsKeptRight code Hash = name_code (name_of_code code) ≡ Some code
+IsKeptRight code (Borrowed bytes) = IsSpelled code bytes.now
+IsKeptRight code (Owned bytes) = IsSpelled code bytes.items

@@ -1,9 +1,12 @@
 -- Names of elements, as contracts see a `LocalName`.
-use Rattle.std.specs.Prelude.{ℕ, Bool, false, ◌&&◌, ◌||◌, not, nat_lt, nat_le, ◌==◌, ◌+◌, ◌-◌, ◌*◌, if◌then◌else◌, List, [], ◌∷◌, length, fold, Option, Some, None}
+use Rattle.std.specs.Prelude.{ℕ, Bool, false, ◌&&◌, ◌||◌, not, nat_lt, nat_le, ◌==◌, ◌+◌, ◌-◌, ◌*◌, if◌then◌else◌, List, [], ◌∷◌, length, fold, Option, Some, None, unwrap_or}
 use Rattle.std.specs.List.{list_all}
 use Rattle.std.specs.Str.{bytes_eq}
 use Rattle.std.specs.Hash as fed
 use Rattle.std.specs.Hash.{HashWrites}
+use Rattle.std.specs.declared.cmp.Ordering.{Ordering}
+use Rattle.std.specs.Ordering.{nat_cmp, on, then_cmp}
+use Rattle.std.specs.Cmp.Lexicographic.{slice_cmp}
 use Rattle.lol_base.specs.Names.{lowercased as in_lower_case}
 
 -- A name: its bytes in lower case and, where it isn't a hash, its bytes as they are spelled.
@@ -45,6 +48,14 @@ local_name bytes =
 -- whether two names are the same: their bytes in lower case are
 abbrev pub same_local_name : Name → Name → Bool
 same_local_name a b = bytes_eq a.lowercased b.lowercased
+
+-- the code of a hash, and 2^64 - 1 for any other name, which no hash has
+abbrev pub code_or_last : Name → ℕ
+code_or_last n = unwrap_or (name_code n.lowercased) 18446744073709551615
+
+-- The order of names: the hashes by their codes, and behind them the others by their bytes in lower case.
+abbrev pub local_name_cmp : Name → Name → Ordering
+local_name_cmp = then_cmp (on code_or_last nat_cmp) (on (λ n. n.lowercased) (slice_cmp nat_cmp))
 
 -- what a name in lower case feeds a hasher: its code, or its bytes where it has none
 abbrev pub writes_of : Option ℕ → List ℕ → HashWrites

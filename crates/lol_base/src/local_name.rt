@@ -4,27 +4,35 @@ ghost use Rattle.std.specs.Prelude.{◌≡◌, ◌↔◌, IsTrue, IsNone, IfSome
 ghost use Rattle.std.specs.Option.{option_copied};
 ghost use Rattle.std.specs.Char.{to_ascii_lowercase};
 ghost use Rattle.lol_base.specs.Names.{lowercased};
-ghost use Rattle.lol_base.specs.LocalNames.{name_code, local_name, is_hash, bits_of};
+ghost use Rattle.std.specs.Ordering.{nat_cmp};
+ghost use Rattle.std.specs.Cmp.Lexicographic.{slice_cmp};
+ghost use Rattle.lol_base.specs.LocalNames.{name_code, code_or_last, local_name, is_hash, bits_of};
 
 use crate::tag::Tag;
 use std::alloc::{AllocError, Global};
+use std::cmp::Ordering;
 use std::hash::{Hash, Hasher};
 use std::marker::Model;
 
 /// The greatest number of bytes of a name that is a hash.
 const MAX_HASH_LEN: usize = 12;
 
-/// A name of an element, which is known by its bytes without ASCII case (the crate's `LocalName`). A name of 1 to 12 ASCII letters and
+/// What a name that isn't a hash has in place of a code. No hash has it.
+const NO_CODE: u64 = u64::MAX;
+
+/// A name of an element, which is known by its bytes without ASCII case (lol_html's `LocalName`). A name of 1 to 12 ASCII letters and
 /// digits from 1 to 6 that doesn't begin with 1 is a hash: it is kept as one number and takes no memory. Any other keeps its bytes as
-/// they are spelled.
+/// they are spelled. In the order of names the hashes come first, by their codes, and then the others, by their bytes in lower case.
 #[derive(Drop)]
 pub struct LocalName<'i> {
+    // The code of a hash, or `NO_CODE`: most names are told apart by it alone.
+    code: u64,
     kept: Kept<'i>,
 }
 
 #[derive(Drop)]
 enum Kept<'i> {
-    Hash(u64),
+    Hash,
     Borrowed(&'i [u8]),
     Owned(Vec<u8>),
 }
@@ -36,33 +44,49 @@ impl<'i> Model for LocalName<'i> {
 
     ghost use Rattle.lol_base.specs.Kept.{name_of, IsKeptRight};
 
-    ghost view = { λ n. name_of n.kept };
+    ghost view = { λ n. name_of n.code n.kept };
 
-    ghost invariant = { λ n. IsKeptRight n.kept };
+    ghost invariant = { λ n. IsKeptRight n.code n.kept };
 }
 
 impl<'i> LocalName<'i> {
     ghost use Rattle.lol_base.specs.Tags.{tag_name};
 
     /// The name that these bytes spell. It borrows them where it isn't a hash, and takes no memory.
+    #[inline]
     pub fn new(bytes: &'i [u8]) -> Self
         ensures { result ≡ local_name bytes.now }
     {
-        let kept = match code_of(bytes) {
-            Some(code) => Kept::Hash(code),
-            None => Kept::Borrowed(bytes),
-        };
-        LocalName { kept }
+        match code_of(bytes) {
+            Some(code) => LocalName {
+                code,
+                kept: Kept::Hash,
+            },
+            None => LocalName {
+                code: NO_CODE,
+                kept: Kept::Borrowed(bytes),
+            },
+        }
     }
 
     /// The code of a hash: five bits for each byte, the first byte highest; 0 to 5 stand for the digits 1 to 6, and 6 to 31 for the letters.
+    #[inline]
     pub fn code(&self) -> Option<u64>
         ensures { result ≡ name_code self.now.lowercased }
     {
-        match &self.kept {
-            Kept::Hash(code) => Some(*code),
-            Kept::Borrowed(_) | Kept::Owned(_) => None,
+        if self.code == NO_CODE {
+            None
+        } else {
+            Some(self.code)
         }
+    }
+
+    /// The code of a hash, and `NO_CODE` for any other name.
+    #[inline]
+    fn code_or_last(&self) -> u64
+        ensures { result ≡ code_or_last self.now }
+    {
+        self.code
     }
 
     /// The bytes as they were spelled, where the name isn't a hash.
@@ -72,7 +96,7 @@ impl<'i> LocalName<'i> {
         ensures spelled { IfSome self.now.spelling (λ bytes. lowercased bytes ≡ self.now.lowercased) }
     {
         match &self.kept {
-            Kept::Hash(_) => None,
+            Kept::Hash => None,
             Kept::Borrowed(bytes) => Some(bytes),
             Kept::Owned(bytes) => Some(bytes.as_slice()),
         }
@@ -83,7 +107,7 @@ impl<'i> LocalName<'i> {
         ensures { IsNone (name_code self.now.lowercased) → lowercased result.now ≡ self.now.lowercased }
     {
         match &self.kept {
-            Kept::Hash(_) => &[],
+            Kept::Hash => &[],
             Kept::Borrowed(bytes) => bytes,
             Kept::Owned(bytes) => bytes.as_slice(),
         }
@@ -101,13 +125,13 @@ impl<'i> LocalName<'i> {
         ensures same { IfOk result (λ name. name ≡ self.entry) }
         ensures free { IsNone self.entry.spelling → IsOk result }
     {
-        let LocalName { kept } = self;
+        let LocalName { code, kept } = self;
         let kept = match kept {
-            Kept::Hash(code) => Kept::Hash(code),
+            Kept::Hash => Kept::Hash,
             Kept::Borrowed(bytes) => Kept::Owned(bytes.to_vec(alloc)?),
             Kept::Owned(bytes) => Kept::Owned(bytes),
         };
-        Ok(LocalName { kept })
+        Ok(LocalName { code, kept })
     }
 
     /// The same name once more, which borrows nothing (for Rust's `Clone`). A hash takes no memory.
@@ -116,11 +140,14 @@ impl<'i> LocalName<'i> {
         ensures free { IsNone self.now.spelling → IsOk result }
     {
         let kept = match &self.kept {
-            Kept::Hash(code) => Kept::Hash(*code),
+            Kept::Hash => Kept::Hash,
             Kept::Borrowed(bytes) => Kept::Owned(bytes.to_vec(alloc)?),
             Kept::Owned(bytes) => Kept::Owned(bytes.as_slice().to_vec(alloc)?),
         };
-        Ok(LocalName { kept })
+        Ok(LocalName {
+            code: self.code,
+            kept,
+        })
     }
 }
 
@@ -132,12 +159,13 @@ impl<'i> PartialEq for LocalName<'i> {
 
     ghost laws = { same_local_name_partial };
 
+    #[inline]
     fn eq(&self, other: &LocalName<'i>) -> bool {
-        match (self.code(), other.code()) {
-            (Some(code), Some(other_code)) => code == other_code,
-            (None, None) => self.spelled().eq_ignore_ascii_case(other.spelled()),
-            _ => false,
+        let code = self.code_or_last();
+        if code != other.code_or_last() {
+            return false;
         }
+        code != NO_CODE || self.spelled().eq_ignore_ascii_case(other.spelled())
     }
 }
 
@@ -145,6 +173,45 @@ impl<'i> Eq for LocalName<'i> {
     ghost use Rattle.lol_base.specs.NameLaws.{same_local_name_equivalence};
 
     ghost laws = { same_local_name_equivalence };
+}
+
+impl<'i> PartialOrd for LocalName<'i> {
+    ghost use Rattle.std.specs.Ordering.{as_partial_cmp};
+    ghost use Rattle.lol_base.specs.LocalNames.{local_name_cmp};
+    ghost use Rattle.lol_base.specs.NameLaws.{local_name_partial_order};
+
+    ghost partial_cmp = { as_partial_cmp local_name_cmp };
+
+    ghost laws = { local_name_partial_order };
+
+    fn partial_cmp(&self, other: &LocalName<'i>) -> Option<Ordering> {
+        Some(self.cmp(other))
+    }
+}
+
+impl<'i> Ord for LocalName<'i> {
+    ghost use Rattle.std.specs.Prelude.{refl};
+    ghost use Rattle.lol_base.specs.LocalNames.{local_name_cmp};
+    ghost use Rattle.lol_base.specs.NameLaws.{local_name_total_order, same_local_name-ties};
+
+    ghost cmp = { local_name_cmp };
+
+    ghost total = { local_name_total_order };
+
+    ghost matches_partial_cmp = { λ a b. refl };
+
+    ghost matches_eq = { same_local_name-ties };
+
+    #[inline]
+    fn cmp(&self, other: &LocalName<'i>) -> Ordering {
+        let code = self.code_or_last();
+        let by_code = code.cmp(&other.code_or_last());
+        if by_code == Ordering::Equal && code == NO_CODE {
+            cmp_ignore_ascii_case(self.spelled(), other.spelled())
+        } else {
+            by_code
+        }
+    }
 }
 
 impl<'i> Hash for LocalName<'i> {
@@ -193,4 +260,19 @@ fn five_bits(byte: u8) -> Option<u64>
         b'A'..=b'Z' => Some(u64::from(byte - b'A' + 6)),
         _ => None,
     }
+}
+
+/// Compares bytes in lower case: the first that differ decide, and else the lengths do.
+fn cmp_ignore_ascii_case(bytes: &[u8], others: &[u8]) -> Ordering
+    ensures { result ≡ slice_cmp nat_cmp (lowercased bytes.now) (lowercased others.now) }
+{
+    for at in 0..bytes.len().min(others.len()) {
+        let order = bytes[at]
+            .to_ascii_lowercase()
+            .cmp(&others[at].to_ascii_lowercase());
+        if order != Ordering::Equal {
+            return order;
+        }
+    }
+    bytes.len().cmp(&others.len())
 }
