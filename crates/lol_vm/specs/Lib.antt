@@ -9,3 +9,8 @@ pub mod Rows
 pub mod OpenNames
 pub mod Views
 pub mod Laws
+pub mod RangesOf
+pub mod Lending
+pub mod WithRange
+pub mod Calls
+pub mod Contexts

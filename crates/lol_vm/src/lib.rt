@@ -1,14 +1,21 @@
 //! The selector matching machine: which selectors match each start tag of a document, as its tags come.
 #![tactic(auto)]
 
+mod address_ranges;
+mod element_data;
 mod events;
+mod execution_ctx;
 pub mod laws;
 mod matching;
 pub mod rows;
 mod run;
+mod stack_item;
 mod void;
 
+pub use address_ranges::AddressRanges;
+pub use element_data::ElementData;
 pub use events::{RunCause, RunRefusal, TagEvent, TagReport};
+pub use execution_ctx::ExecutionCtx;
 pub use lol_base::{
     AttributeBuffer, AttributeOutline, AuxStartTagInfo, Bytes, LocalName, Namespace, Range, Tag,
 };
@@ -22,7 +29,8 @@ pub use lol_memory::{
     MemoryLimitExceededError, PushError, SharedMemoryLimiter,
 };
 pub use lol_program::{
-    Ast, AstNode, AttributeComparisonExpr, Condition, Expr, OnAttributesExpr, OnTagNameExpr,
-    Predicate, Tries,
+    AddressRange, Ast, AstNode, AttributeComparisonExpr, ChildCounter, Condition, ExecutionBranch,
+    Expr, OnAttributesExpr, OnTagNameExpr, Predicate, SelectorState, Tries,
 };
 pub use run::match_events;
+pub use stack_item::{StackDirective, StackItem, StackItemOf};
