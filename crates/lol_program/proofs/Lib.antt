@@ -21,3 +21,4 @@ pub mod TestRows
 pub mod Values
 pub mod RunningTests
 mod AttributeValues
+pub mod Closed

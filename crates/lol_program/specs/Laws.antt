@@ -6,7 +6,10 @@ use Rattle.lol_base.specs.StartTags.{Attribute}
 use Rattle.lol_program.specs.Tests.{Element, NoName, HasName, HasId, HasClass, HasAttribute}
 use Rattle.lol_program.specs.Compounds.{Test, OfName, OfAttributes, NoneOf, SomeOf, Compound, NoTests, AndTest, all_of, any_of, all_hold, by_names, with_rest, Decides}
 use Rattle.lol_program.specs.Same.{same_compound}
-use Rattle.lol_program.specs.Paths.{Path, AreNodes, all_beginnings}
+use Rattle.lol_program.specs.Paths.{Path, Selectors, AreNodes, all_beginnings}
+use Rattle.lol_program.specs.Programs.{AreClosed}
+use Rattle.lol_program.specs.Asts.{pairs_of, nodes_of}
+use Rattle.lol_program.specs.declared.ast.Ast.{Ast}
 use Rattle.lol_program.specs.Conditions.{compound_tests}
 use Rattle.lol_program.specs.Sets.{Joins}
 
@@ -15,6 +18,14 @@ abbrev pub NodesStayTheBeginnings : Type 0
 NodesStayTheBeginnings =
     (pairs more_pairs added : List (Path × ℕ)) (nodes more_nodes : List Path) → AreNodes pairs nodes → Joins pairs more_pairs added → Joins nodes more_nodes (all_beginnings added)
     → AllPairs (λ a b. a ≢ b) more_nodes → AreNodes more_pairs more_nodes
+
+-- The pairs and nodes of every tree of selectors are closed, also where an addition was refused.
+abbrev pub TreesAreClosed : Type 0
+TreesAreClosed = (ast : Ast) → AreClosed (record { pairs = pairs_of ast; nodes = nodes_of ast })
+
+-- So are those of pairs alone, where nothing was refused.
+abbrev pub BeginningsAreClosed : Type 0
+BeginningsAreClosed = (s : Selectors) → AreNodes s.pairs s.nodes → AreClosed s
 
 -- Where the value by names of a compound isn't open, it is the truth, whatever the attributes are.
 abbrev pub ValuesDecide : Type 0

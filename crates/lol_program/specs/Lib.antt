@@ -17,6 +17,7 @@ pub mod Sets
 pub mod Asts
 pub mod Runs
 pub mod ForestRuns
+pub mod Programs
 pub mod Laws
 pub mod Attributes
 pub mod Matchers

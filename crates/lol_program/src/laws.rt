@@ -3,7 +3,7 @@
 ghost use Rattle.std.specs.Prelude.{ℕ, List};
 ghost use Rattle.lol_program.specs.Paths.{Path, AreNodes};
 ghost use Rattle.lol_program.specs.Nodes.{nodes_of};
-ghost use Rattle.lol_program.specs.Laws.{NodesStayTheBeginnings, ValuesDecide, ValuesAreByNames, AreRows};
+ghost use Rattle.lol_program.specs.Laws.{NodesStayTheBeginnings, TreesAreClosed, BeginningsAreClosed, ValuesDecide, ValuesAreByNames, AreRows};
 
 /// The nodes of pairs are the beginnings of their paths, each once.
 pub fn nodes_are_the_beginnings()
@@ -13,6 +13,16 @@ pub fn nodes_are_the_beginnings()
 /// Nodes that take in what the pairs' paths bring stay their beginnings: so the nodes of a tree are, where no add was refused.
 pub fn nodes_stay_the_beginnings()
     ensures { NodesStayTheBeginnings }
+{}
+
+/// The nodes of every tree of selectors differ, and hold what each of them stands under and the path of each pair.
+pub fn trees_are_closed()
+    ensures { TreesAreClosed }
+{}
+
+/// So do those of pairs alone, where nothing was refused.
+pub fn beginnings_are_closed()
+    ensures { BeginningsAreClosed }
 {}
 
 /// Where the value by names of a compound isn't open, it is the truth, whatever the attributes are.
