@@ -74,7 +74,7 @@ fn output(alloc: Global, bytes: &[u8]) -> Result<(Vec<u8>, Status), AllocError>
     match read_script(alloc, bytes, &none) {
         Err(Stop::Memory) => Err(AllocError),
         Err(Stop::Bad(bad)) => Ok((bad_text(alloc, bad)?, Status::BadLine)),
-        Ok(script) => Ok((good_text(alloc, &script)?, Status::Good)),
+        Ok(script) => Ok((good_text(alloc, script)?, Status::Good)),
     }
 }
 
@@ -86,17 +86,18 @@ fn bad_text(alloc: Global, bad: BadLine) -> Result<Vec<u8>, AllocError>
     Ok(text)
 }
 
-fn good_text(alloc: Global, script: &Script) -> Result<Vec<u8>, AllocError>
-    requires { (s : scripts.Script) × IsReading script.now s }
-    ensures { IfOk result (λ text. (s : scripts.Script) → IsReading script.now s → text.items ≡ (first_output_of (Ok s)).text) }
+fn good_text(alloc: Global, script: Script) -> Result<Vec<u8>, AllocError>
+    requires { (s : scripts.Script) × IsReading script s }
+    ensures { IfOk result (λ text. (s : scripts.Script) → IsReading script.entry s → text.items ≡ (first_output_of (Ok s)).text) }
 {
+    let Script { ast, events } = script;
     let mut limiter = SharedMemoryLimiter::new(usize::MAX);
     let Ok(reports) = match_events(
         alloc,
-        &script.ast,
+        ast,
         ITEM_BYTES,
         false,
-        &script.events,
+        &events,
         &mut limiter,
     ) else {
         return Err(AllocError);

@@ -1,7 +1,6 @@
-pub mod Simulated
 pub mod Reports
 pub mod Orders
-pub mod Ids
+pub mod Passing
 pub mod Plain
 pub mod Visits
 pub mod Trees

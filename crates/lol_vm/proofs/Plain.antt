@@ -1,26 +1,22 @@
 -- What the plain matcher looks at.
-use Rattle.std.proofs.Common.{◌≡◌, ℕ, cond, Bool, true, false, ◌&&◌, ◌||◌, not, List, [], ◌∷◌, ◌++◌, map, reverse, length, refl, sym, ap, ◌∙◌, subst}
-use Rattle.std.specs.Prelude.{string_bytes}
+use Rattle.std.proofs.Common.{◌≡◌, ℕ, zero, suc, ◌+◌, ◌-◌, ◌<◌, ◌≤◌, arith, take, get_or, Bool, true, false, ◌&&◌, ◌||◌, not, List, [], ◌∷◌, ◌++◌, map, reverse, length, refl, sym, ap, ◌∙◌, subst}
 use Rattle.std.specs.Str.{bytes_eq}
-use Rattle.std.specs.List.{list_all}
-use Rattle.std.proofs.lemmas.List.{reverse-append, length-reverse, nil_from_length}
+use Rattle.std.proofs.lemmas.List.{take_more, reverse-append, length-reverse, nil_from_length}
+use denote.Enum.Bare.{sameb}
+use Rattle.lol_css.specs.contracts.selector.Combinator.{the_type}
 use Rattle.lol_base.specs.Names.{lowercased}
 use Rattle.lol_base.specs.LocalNames.{Name}
 use Rattle.lol_css.specs.declared.selector.Combinator.{Combinator}
 use Rattle.lol_css.specs.declared.selector.Combinator.TheVariants.{Child, Descendant}
-use Rattle.lol_program.specs.Tests.{Element, Signed, AttributeTest, name_holds, attribute_holds, signed}
-use Rattle.lol_program.specs.Paths.{Compound, all_hold, some_test}
-use Rattle.lol_program.specs.Predicates.{name_test, signed_name_test, tests_of}
-use Rattle.lol_program.specs.declared.condition.OnTagNameExpr.{OnTagNameExpr}
-use Rattle.lol_program.specs.declared.condition.OnTagNameExpr.TheVariants.{ExplicitAny, Unmatchable, LocalName, NthChild, NthOfType}
-use Rattle.lol_program.specs.declared.predicate.Expr.{Expr}
-use Rattle.lol_program.specs.declared.predicate.Predicate.{Predicate}
-use Rattle.lol_program.specs.Runs.{is_by_name, compound_runs}
+use Rattle.lol_program.specs.Tests.{Element, NameTest, AnyName, NoName, HasName, IsNthChild, IsNthOfType, name_holds}
+use Rattle.lol_program.specs.Compounds.{Test, OfName, OfAttributes, NoneOf, SomeOf, Compound, NoTests, AndTest, Compounds, NoCompounds, OrCompound, holds, all_hold, some_hold}
+use Rattle.lol_program.specs.Predicates.{tests_of}
+use Rattle.lol_program.specs.Runs.{is_by_name, test_runs, compound_runs, all_run}
 use Rattle.lol_program.specs.ForestRuns.{forest_runs}
 use Rattle.lol_program.specs.Forest.{Forest, more}
 use Rattle.lol_program.proofs.Running.{both}
 use Rattle.lol_vm.specs.Matching.{matches, step_reaches, some_ancestor_passes}
-use Rattle.lol_vm.specs.OpenNames.{Spells, AreNamed, StepsRun, names_of, simple_passes, expr_passes, path_up}
+use Rattle.lol_vm.specs.OpenNames.{Spells, AreNamed, StepsRun, names_of, name_passes, test_passes, compound_passes, some_passes, path_up}
 use Rattle.lol_vm.specs.declared.matching.OpenElement.{OpenElement}
 use Rattle.lol_vm.specs.declared.matching.Step.{Step}
 
@@ -40,29 +36,31 @@ runs_parts c ids children descendants rest h =
 -- 1. Tests by the name
 
 module _ (name : Name) (e : Element) (spelled : Spells name e.tag.name) where
-  simple_is_test : (test : OnTagNameExpr) → is_by_name (name_test test) ≡ true → simple_passes name test ≡ name_holds (name_test test) e
-  simple_is_test ExplicitAny h = refl
-  simple_is_test Unmatchable h = refl
-  simple_is_test (LocalName wanted) h = ap (λ n. bytes_eq n (lowercased (string_bytes wanted))) (sym spelled)
-  simple_is_test (NthChild nth) h = cc
-  simple_is_test (NthOfType nth) h = cc
+  name_is_test : (test : NameTest) → is_by_name test ≡ true → name_passes name test ≡ name_holds test e
+  name_is_test AnyName h = refl
+  name_is_test NoName h = refl
+  name_is_test (HasName wanted) h = ap (λ n. bytes_eq n (lowercased wanted)) (sym spelled)
+  name_is_test (IsNthChild nth) h = cc
+  name_is_test (IsNthOfType nth) h = cc
 
-  exprs_are_tests : (exprs : List (Expr OnTagNameExpr)) → list_all (λ s. is_by_name s.test) (map signed_name_test exprs) ≡ true
-      → list_all (expr_passes name) exprs ≡ list_all (signed name_holds e) (map signed_name_test exprs)
-  exprs_are_tests [] h = refl
-  exprs_are_tests (expr ∷ exprs) h =
-      let parts = both _ _ h in
-      λ i. cond expr.negation (not (simple_is_test expr.simple_expr parts.0 i)) (simple_is_test expr.simple_expr parts.0 i) && exprs_are_tests exprs parts.1 i
+  mutual
+    test_is : (test : Test) → test_runs test ≡ true → test_passes name test ≡ holds test e
+    test_is (OfName test) h = name_is_test test h
+    test_is (OfAttributes test) h = cc
+    test_is (NoneOf compounds) h = ap not (some_is compounds h)
+    test_is (SomeOf compounds) h = some_is compounds h
 
-  none_fail : (tests : List (Signed AttributeTest)) → not (some_test tests) ≡ true → list_all (signed attribute_holds e) tests ≡ true
-  none_fail [] h = refl
-  none_fail (test ∷ tests) h = cc
+    pub compound_is : (c : Compound) → compound_runs c ≡ true → compound_passes name c ≡ all_hold c e
+    compound_is NoTests h = refl
+    compound_is (AndTest test tests) h =
+        let parts = both _ _ h in
+        λ i. test_is test parts.0 i && compound_is tests parts.1 i
 
-  pub predicate_is_compound : (p : Predicate) → compound_runs (tests_of p) ≡ true → list_all (expr_passes name) p.on_tag_name_exprs.items ≡ all_hold (tests_of p) e
-  predicate_is_compound p runs =
-      let parts = both _ _ runs in
-      exprs_are_tests p.on_tag_name_exprs.items parts.1
-      ∙ (sym (and-true _) ∙ ap (λ b. list_all (signed name_holds e) (tests_of p).name_tests && b) (sym (none_fail (tests_of p).attribute_tests parts.0)))
+    some_is : (cs : Compounds) → all_run cs ≡ true → some_passes name cs ≡ some_hold cs e
+    some_is NoCompounds h = refl
+    some_is (OrCompound c cs) h =
+        let parts = both _ _ h in
+        λ i. compound_is c parts.0 i || some_is cs parts.1 i
 
 -- 2. Paths, by their last step
 
@@ -77,11 +75,11 @@ module _ (name : Name) (e : Element) (spelled : Spells name e.tag.name) (outer :
 
   -- a way of one step
   pub matches_first : (path front : List Step) (last : Step) → path ≡ front ++ last ∷ [] → length front ≡ 0 → StepsRun (reverse path)
-      → list_all (expr_passes name) last.predicate.now.on_tag_name_exprs.items ≡ matches (path_up (reverse path)) e outer
+      → compound_passes name (tests_of last.predicate.now) ≡ matches (path_up (reverse path)) e outer
   matches_first path front last is none runs =
       let one : path ≡ last ∷ [] = is ∙ ap (λ steps. steps ++ last ∷ []) (nil_from_length front none) in
       let runs' = subst (λ steps. StepsRun (reverse steps)) one runs in
-      predicate_is_compound name e spelled last.predicate.now runs'.0
+      compound_is name e spelled (tests_of last.predicate.now) runs'.0
       ∙ (sym (and-true _) ∙ ap (λ steps. matches (path_up (reverse steps)) e outer) (sym one))
 
   -- a way of more steps
@@ -93,17 +91,17 @@ module _ (name : Name) (e : Element) (spelled : Spells name e.tag.name) (outer :
   runs_front path front last is runs = subst StepsRun (ap reverse is ∙ reverse-append front (last ∷ [])) runs
 
   pub matches_push : (path front : List Step) (last : Step) → path ≡ front ++ last ∷ [] → (length front ≡ 0 → ⊥) → StepsRun (reverse path)
-      → (list_all (expr_passes name) last.predicate.now.on_tag_name_exprs.items && step_reaches last.combinator (matches (path_up (reverse front))) outer) ≡ matches (path_up (reverse path)) e outer
+      → (compound_passes name (tests_of last.predicate.now) && step_reaches last.combinator (matches (path_up (reverse front))) outer) ≡ matches (path_up (reverse path)) e outer
   matches_push path front last is some runs =
-      ap (λ b. b && step_reaches last.combinator (matches (path_up (reverse front))) outer) (predicate_is_compound name e spelled last.predicate.now (runs_front path front last is runs).0)
+      ap (λ b. b && step_reaches last.combinator (matches (path_up (reverse front))) outer) (compound_is name e spelled (tests_of last.predicate.now) (runs_front path front last is runs).0)
       ∙ (sym (further last (reverse front) (λ none. some (sym (length-reverse front) ∙ none)))
       ∙ ap (λ up. matches (path_up up) e outer) (sym (ap reverse is ∙ reverse-append front (last ∷ []))))
 
   -- a way whose last step fails
   pub matches_fails : (path front : List Step) (last : Step) → path ≡ front ++ last ∷ [] → StepsRun (reverse path)
-      → list_all (expr_passes name) last.predicate.now.on_tag_name_exprs.items ≡ false → false ≡ matches (path_up (reverse path)) e outer
+      → compound_passes name (tests_of last.predicate.now) ≡ false → false ≡ matches (path_up (reverse path)) e outer
   matches_fails path front last is runs fails =
-      let none : all_hold (tests_of last.predicate.now) e ≡ false = sym (predicate_is_compound name e spelled last.predicate.now (runs_front path front last is runs).0) ∙ fails in
+      let none : all_hold (tests_of last.predicate.now) e ≡ false = sym (compound_is name e spelled (tests_of last.predicate.now) (runs_front path front last is runs).0) ∙ fails in
       by_up (reverse front) none ∙ ap (λ up. matches (path_up up) e outer) (sym (ap reverse is ∙ reverse-append front (last ∷ [])))
     where
       by_up : (up : List Step) → all_hold (tests_of last.predicate.now) e ≡ false → false ≡ matches (path_up (last ∷ up)) e outer
@@ -125,6 +123,27 @@ innermost elements front last outer is named = by_list outer (sym (ap (map (λ (
     by_list : (outer : List Element) → (last.name.lowercased ∷ names_of front) ≡ map (λ (e : Element). lowercased e.tag.name) outer → Innermost front last outer
     by_list [] h = cc
     by_list (parent ∷ around) h = record { parent = parent; around = around; is = refl; spelled = cc; named = cc }
+
+-- the innermost of those up to a place
+pub innermost_at : (elements : List OpenElement) (place : ℕ) (last : OpenElement) (outer : List Element) → 0 < place → place ≤ length elements → last ≡ get_or elements (place - 1) last → AreNamed (take place elements) outer
+    → Innermost (take (place - 1) elements) last outer
+innermost_at elements place last outer some within at named =
+    let more : place ≡ (place - 1) + 1 = omega (arith, some) in
+    let split : take place elements ≡ take (place - 1) elements ++ last ∷ [] =
+    ap (λ k. take k elements) more ∙ take_more elements (place - 1) last (omega (arith, some, within)) ∙ ap (λ (x : OpenElement). take (place - 1) elements ++ x ∷ []) (sym at) in
+    innermost (take place elements) (take (place - 1) elements) last outer split named
+
+pub none_left : (elements : List OpenElement) (place : ℕ) → place ≤ 0 → length (take place elements) ≡ 0
+none_left elements zero h = refl
+none_left elements (suc place) h = absurd (omega (arith, h))
+
+pub not_child : (step : Combinator) → sameb the_type step Child ≡ false → step ≡ Descendant
+not_child Child h = cc
+not_child Descendant h = refl
+
+pub is_child : (step : Combinator) → sameb the_type step Child ≡ true → step ≡ Child
+is_child Child h = refl
+is_child Descendant h = cc
 
 pub none_around : (elements : List OpenElement) (outer : List Element) → length elements ≡ 0 → AreNamed elements outer → outer ≡ []
 none_around elements outer none named = by_list outer (ap names_of (sym (nil_from_length elements none)) ∙ named)

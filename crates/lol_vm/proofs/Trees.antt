@@ -10,16 +10,21 @@ use Rattle.lol_memory.specs.Ids as ids
 use Rattle.lol_memory.specs.Ids.{Ids, has, no_ids}
 use Rattle.lol_memory.specs.SetLaws.{has-no_ids}
 use Rattle.lol_memory.proofs.LawLemmas.{ascending_rises}
-use Rattle.lol_program.specs.Tests.{Element, is_html}
-use Rattle.lol_program.specs.Paths.{Compound, Path, First, Then, last_compound, names_hold, has_attribute_tests}
+use Rattle.lol_program.specs.Tests.{Element, is_html, name_holds}
+use Rattle.lol_program.specs.Compounds.{Test, OfName, OfAttributes, NoneOf, SomeOf, Compound, NoTests, AndTest, Compounds, NoCompounds, OrCompound, value_of_bool, opposite, either, test_by_names, by_names, some_by_names, is_open}
+use Rattle.lol_program.specs.Compounds as compounds
+use Rattle.lol_program.specs.Paths.{Path, First, Then, last_compound}
+use Rattle.lol_program.specs.declared.name_value.NameValue.{NameValue}
+use Rattle.lol_program.specs.declared.name_value.NameValue.TheVariants.{True, False, Open}
 use Rattle.lol_program.specs.Forest.{Forest, none, more, tops, below, nodes_in, pairs_in}
-use Rattle.lol_program.specs.Runs.{compound_runs}
+use Rattle.lol_program.specs.Runs.{test_runs, compound_runs, all_run}
 use Rattle.lol_program.specs.ForestRuns.{forest_runs}
 use Rattle.lol_program.proofs.Members.{Among, among_front, among_back, among_either, among_from_contains, contains_from_among}
 use Rattle.lol_program.specs.Runs.{path_runs}
 use Rattle.lol_program.proofs.IdSets.{listed, held}
 use Rattle.lol_program.proofs.Listed.{nodes_listed}
-use Rattle.lol_program.proofs.Running.{all_run, both}
+use Rattle.lol_program.proofs.Running as running
+use Rattle.lol_program.proofs.Running.{both}
 use Rattle.lol_program.specs.Asts.{nodes_of, trees_of}
 use Rattle.lol_program.specs.declared.ast.Ast.{Ast}
 use Rattle.lol_program.proofs.Once.{AllPairs-from_Distinct, nodes_distinct}
@@ -98,30 +103,61 @@ gained_ids make f e outer found gains =
 
 -- 2. No attributes are asked for
 
-and_false : (a b c : Bool) → c ≡ false → (a && (b && c)) ≡ false
-and_false true true c h = h
-and_false true false c h = refl
-and_false false b c h = refl
+closed_bool : (b : Bool) → is_open (value_of_bool b) ≡ false
+closed_bool true = refl
+closed_bool false = refl
 
-not_true : (b : Bool) → not b ≡ true → b ≡ false
-not_true true h = absurd (true≢false (sym h))
-not_true false h = refl
+closed_opposite : (v : NameValue) → is_open v ≡ false → is_open (opposite v) ≡ false
+closed_opposite True h = refl
+closed_opposite False h = refl
+closed_opposite Open h = h
 
-no_tests : (c : Compound) → compound_runs c ≡ true → has_attribute_tests c ≡ false
-no_tests c runs = not_true _ (both _ _ runs).0
+closed_both : (v w : NameValue) → is_open v ≡ false → is_open w ≡ false → is_open (compounds.both v w) ≡ false
+closed_both True w h g = g
+closed_both False w h g = refl
+closed_both Open w h g = cc
+
+closed_either : (v w : NameValue) → is_open v ≡ false → is_open w ≡ false → is_open (either v w) ≡ false
+closed_either True w h g = refl
+closed_either False w h g = g
+closed_either Open w h g = cc
+
+module _ (e : Element) where
+  mutual
+    test_closed : (test : Test) → test_runs test ≡ true → is_open (test_by_names test e) ≡ false
+    test_closed (OfName test) h = closed_bool (name_holds test e)
+    test_closed (OfAttributes test) h = cc
+    test_closed (NoneOf compounds) h = closed_opposite (some_by_names compounds e) (some_closed compounds h)
+    test_closed (SomeOf compounds) h = some_closed compounds h
+
+    compound_closed : (c : Compound) → compound_runs c ≡ true → is_open (by_names c e) ≡ false
+    compound_closed NoTests h = refl
+    compound_closed (AndTest test tests) h =
+        let parts = both _ _ h in
+        closed_both (test_by_names test e) (by_names tests e) (test_closed test parts.0) (compound_closed tests parts.1)
+
+    some_closed : (cs : Compounds) → all_run cs ≡ true → is_open (some_by_names cs e) ≡ false
+    some_closed NoCompounds h = refl
+    some_closed (OrCompound c cs) h =
+        let parts = both _ _ h in
+        closed_either (by_names c e) (some_by_names cs e) (compound_closed c parts.0) (some_closed cs parts.1)
+
+and_false : (a b : Bool) → b ≡ false → (a && b) ≡ false
+and_false true b h = h
+and_false false b h = refl
 
 neither : (a b : Bool) → a ≡ false → b ≡ false → (a || b) ≡ false
 neither a b ha hb = λ i. ha i || hb i
 
 module _ (e : Element) (outer : List Element) where
-  needs_none : (node : Path) → has_attribute_tests (last_compound node) ≡ false → needs_attributes e outer node ≡ false
-  needs_none node h = and_false (left_matches node outer) (names_hold (last_compound node) e) _ h
+  needs_none : (node : Path) → compound_runs (last_compound node) ≡ true → needs_attributes e outer node ≡ false
+  needs_none node h = and_false (left_matches node outer) _ (compound_closed e (last_compound node) h)
 
   tops_need_none : (make : Compound → Path) → ((c : Compound) → last_compound (make c) ≡ c) → (f : Forest) → forest_runs f ≡ true → list_any (needs_attributes e outer) (tops make f) ≡ false
   tops_need_none make last none runs = refl
   tops_need_none make last (more c own children descendants rest) runs =
       let parts = runs_parts c own children descendants rest runs in
-      neither _ _ (needs_none (make c) (ap has_attribute_tests (last c) ∙ no_tests c parts.0)) (tops_need_none make last rest parts.3)
+      neither _ _ (needs_none (make c) (ap compound_runs (last c) ∙ parts.0)) (tops_need_none make last rest parts.3)
 
   nodes_need_none : (make : Compound → Path) → ((c : Compound) → last_compound (make c) ≡ c) → (f : Forest) → forest_runs f ≡ true
       → list_any (needs_attributes e outer) (below make f) ≡ false → list_any (needs_attributes e outer) (nodes_in make f) ≡ false
@@ -142,7 +178,7 @@ module _ (e : Element) (outer : List Element) where
 -- 3. What runs
 
 pub runs_forest : (f : Forest) → ((path : Path) → Contains (nodes_in First f) path → path_runs path ≡ true) → forest_runs f ≡ true
-runs_forest f h = all_run First (λ c e. e) f (λ path n. h path ((nodes_listed First f path).1 n))
+runs_forest f h = running.all_run First (λ c e. e) f (λ path n. h path ((nodes_listed First f path).1 n))
 
 -- 4. Trees with the same members
 

@@ -6,7 +6,8 @@ use Rattle.lol_css.specs.declared.selector.Combinator.TheVariants.{Child, Descen
 use Rattle.lol_memory.specs.Ids.{Ids, has, union, ascending}
 use Rattle.lol_memory.specs.SetLaws.{has-union}
 use Rattle.lol_program.specs.Tests.{Element}
-use Rattle.lol_program.specs.Paths.{Compound, Path, Then}
+use Rattle.lol_program.specs.Compounds.{Compound}
+use Rattle.lol_program.specs.Paths.{Path, Then}
 use Rattle.lol_program.specs.Forest.{Node}
 use Rattle.lol_program.specs.Views.{node_of, forest_of, linked}
 use Rattle.lol_program.specs.Runs.{compound_runs}

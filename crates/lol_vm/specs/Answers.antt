@@ -2,7 +2,8 @@
 use Rattle.std.specs.Prelude.{ℕ, Bool, not, ◌&&◌, ◌||◌, if◌then◌else◌, ◌==◌, nat_lt, List, [], ◌∷◌, map, filter, count_by}
 use Rattle.std.specs.List.{list_any}
 use Rattle.lol_program.specs.Tests.{Element, is_html}
-use Rattle.lol_program.specs.Paths.{Path, Selectors, last_compound, names_hold, has_attribute_tests}
+use Rattle.lol_program.specs.Compounds.{by_names, is_open}
+use Rattle.lol_program.specs.Paths.{Path, Selectors, last_compound}
 use Rattle.lol_vm.specs.Events.{Event, Start, End, has_content}
 use Rattle.lol_vm.specs.Documents.{Document, empty, element_of, closed, after_start, after_end}
 use Rattle.lol_vm.specs.Matching.{left_matches, matches}
@@ -44,10 +45,9 @@ report s esi e outer = map (λ id. record { id = id; with_content = has_content 
 abbrev pub name_tries : List Path → List Element → ℕ
 name_tries nodes outer = count_by (λ node. left_matches node outer) nodes
 
--- It needs attributes where its name tests hold too and it has attribute tests.
+-- It needs attributes where its value by names is open too.
 abbrev pub needs_attributes : Element → List Element → Path → Bool
-needs_attributes e outer node =
-    left_matches node outer && (names_hold (last_compound node) e && has_attribute_tests (last_compound node))
+needs_attributes e outer node = left_matches node outer && is_open (by_names (last_compound node) e)
 
 abbrev pub attribute_tries : List Path → Element → List Element → ℕ
 attribute_tries nodes e outer = count_by (needs_attributes e outer) nodes

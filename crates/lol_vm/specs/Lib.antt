@@ -3,8 +3,6 @@ pub mod Documents
 pub mod Matching
 pub mod Answers
 pub mod Refusals
-pub mod Machine
-pub mod Simulation
 pub mod Rows
 pub mod OpenNames
 pub mod Views

@@ -1,5 +1,5 @@
 -- The plain matcher's list of open elements, of which it keeps the names and the numbers, and what it finds in the tree.
-use Rattle.std.specs.Prelude.{ℕ, ◌≡◌, ◌⊎◌, ◌↔◌, Bool, true, false, not, List, [], ◌∷◌, map, reverse, Contains, string_bytes, if◌then◌else◌}
+use Rattle.std.specs.Prelude.{ℕ, ◌≡◌, ◌⊎◌, ◌↔◌, Bool, true, false, not, ◌&&◌, ◌||◌, List, [], ◌∷◌, map, reverse, Contains}
 use Rattle.std.specs.Str.{bytes_eq}
 use Rattle.lol_base.specs.Names.{lowercased}
 use Rattle.lol_base.specs.LocalNames.{Name}
@@ -8,15 +8,13 @@ use Rattle.lol_base.specs.declared.namespace.Namespace.TheVariants.{Html}
 use Rattle.lol_css.specs.declared.selector.Combinator.{Combinator}
 use Rattle.lol_css.specs.declared.selector.Combinator.TheVariants.{Child, Descendant}
 use Rattle.lol_memory.specs.Ids.{Ids, has}
-use Rattle.lol_program.specs.Tests.{Element}
-use Rattle.lol_program.specs.Paths.{Compound, Path, First, Then}
+use Rattle.lol_program.specs.Tests.{Element, NameTest, AnyName, NoName, HasName, IsNthChild, IsNthOfType}
+use Rattle.lol_program.specs.Compounds.{Test, OfName, OfAttributes, NoneOf, SomeOf, Compound, NoTests, AndTest, Compounds, NoCompounds, OrCompound}
+use Rattle.lol_program.specs.Paths.{Path, First, Then}
 use Rattle.lol_program.specs.Predicates.{tests_of}
 use Rattle.lol_program.specs.Forest.{Forest, none, more, Node}
 use Rattle.lol_program.specs.Runs.{compound_runs}
 use Rattle.lol_program.specs.ForestRuns.{forest_runs}
-use Rattle.lol_program.specs.declared.predicate.Expr.{Expr}
-use Rattle.lol_program.specs.declared.condition.OnTagNameExpr.{OnTagNameExpr}
-use Rattle.lol_program.specs.declared.condition.OnTagNameExpr.TheVariants.{ExplicitAny, Unmatchable, LocalName, NthChild, NthOfType}
 use Rattle.lol_vm.specs.Documents.{Document}
 use Rattle.lol_vm.specs.Matching.{matches}
 use Rattle.lol_vm.specs.declared.matching.OpenElement.{OpenElement}
@@ -45,20 +43,32 @@ shown e = (e.name.lowercased, e.number)
 abbrev pub Stands : List OpenElement → Document → Type 0
 Stands elements d = map shown (reverse elements) ≡ map (λ e. (lowercased e.tag.name, e.number)) d.open_elements
 
--- what a test says of a name; a position isn't known
-abbrev pub simple_passes : Name → OnTagNameExpr → Bool
-simple_passes name ExplicitAny = true
-simple_passes name Unmatchable = false
-simple_passes name (LocalName wanted) = bytes_eq name.lowercased (lowercased (string_bytes wanted))
-simple_passes name (NthChild nth) = false
-simple_passes name (NthOfType nth) = false
+-- What a test says of a name. Of a position and of attributes nothing is known.
+abbrev pub name_passes : Name → NameTest → Bool
+name_passes name AnyName = true
+name_passes name NoName = false
+name_passes name (HasName wanted) = bytes_eq name.lowercased (lowercased wanted)
+name_passes name (IsNthChild nth) = false
+name_passes name (IsNthOfType nth) = false
 
-abbrev pub expr_passes : Name → Expr OnTagNameExpr → Bool
-expr_passes name expr = if expr.negation then not (simple_passes name expr.simple_expr) else simple_passes name expr.simple_expr
+abbrev mutual
+  pub test_passes : Name → Test → Bool
+  test_passes name (OfName test) = name_passes name test
+  test_passes name (OfAttributes test) = false
+  test_passes name (NoneOf compounds) = not (some_passes name compounds)
+  test_passes name (SomeOf compounds) = some_passes name compounds
+
+  pub compound_passes : Name → Compound → Bool
+  compound_passes name NoTests = true
+  compound_passes name (AndTest test tests) = test_passes name test && compound_passes name tests
+
+  pub some_passes : Name → Compounds → Bool
+  some_passes name NoCompounds = false
+  some_passes name (OrCompound compound compounds) = compound_passes name compound || some_passes name compounds
 
 -- the path of some steps, the last of them first
 abbrev pub path_up : List Step → Path
-path_up [] = First (record { name_tests = []; attribute_tests = [] })
+path_up [] = First NoTests
 path_up (step ∷ []) = First (tests_of step.predicate.now)
 path_up (step ∷ before ∷ others) = Then (path_up (before ∷ others)) step.combinator (tests_of step.predicate.now)
 

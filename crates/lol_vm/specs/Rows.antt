@@ -1,13 +1,17 @@
 -- Worked rows: what some selectors answer to some tags, to compute the definitions on.
-use Rattle.std.specs.Prelude.{ℕ, ◌≡◌, Bool, true, false, List, [], ◌∷◌, replicate, Option, Some, codes, pos}
+use Rattle.std.specs.Prelude.{ℕ, ◌≡◌, Bool, true, false, List, [], ◌∷◌, replicate, Option, Some, None, codes, pos, negsuc}
 use Rattle.lol_base.specs.StartTags.{Attribute}
 use Rattle.lol_base.specs.declared.namespace.Namespace.{Namespace}
-use Rattle.lol_base.specs.declared.namespace.Namespace.TheVariants.{Html, Svg}
-use Rattle.lol_css.specs.declared.attribute.AttrSelectorOperator.TheVariants.{Equal, Substring}
+use Rattle.lol_base.specs.declared.namespace.Namespace.TheVariants.{Html, Svg, MathML}
+use Rattle.lol_css.specs.declared.attribute.AttrSelectorOperator.{AttrSelectorOperator}
+use Rattle.lol_css.specs.declared.attribute.AttrSelectorOperator.TheVariants.{Equal, Includes, DashMatch, Prefix, Substring, Suffix}
 use Rattle.lol_css.specs.declared.attribute.ParsedCaseSensitivity.TheVariants.{CaseSensitive, AsciiCaseInsensitiveIfInHtmlElementInHtmlDocument}
 use Rattle.lol_css.specs.declared.selector.Combinator.TheVariants.{Child, Descendant}
-use Rattle.lol_program.specs.Tests.{Signed, NameTest, AnyName, HasName, IsNthChild, IsNthOfType, AttributeTest, HasClass, HasAttribute, Compares}
-use Rattle.lol_program.specs.Paths.{Compound, Path, First, Then}
+use Rattle.lol_program.specs.Tests.{Element, AnyName, NoName, HasName, IsNthChild, IsNthOfType, HasId, HasClass, HasAttribute, Compares, attribute_holds}
+use Rattle.lol_program.specs.Compounds.{Test, OfName, OfAttributes, NoneOf, SomeOf, Compound, all_of, any_of, by_names}
+use Rattle.lol_program.specs.Paths.{Path, First, Then}
+use Rattle.lol_program.specs.declared.name_value.NameValue.{NameValue}
+use Rattle.lol_program.specs.declared.name_value.NameValue.TheVariants.{True, False, Open}
 use Rattle.lol_program.specs.Nodes.{selectors_of}
 use Rattle.lol_vm.specs.Events.{Event, Start, End}
 use Rattle.lol_vm.specs.Answers.{Answer, Started, Dropped, Ended, Match, answers}
@@ -23,17 +27,28 @@ pub record Row : Type 0 where
 abbrev pub Holds : Row → Type 0
 Holds row = answers (selectors_of row.pairs) row.esi row.events ≡ row.answers
 
-abbrev plain : {T : Type 0} → T → Signed T
-plain test = record { test = test; negated = false }
+-- a compound of some tests, and of one
+abbrev compound : List Test → Compound
+compound tests = all_of tests
 
-abbrev negated : {T : Type 0} → T → Signed T
-negated test = record { test = test; negated = true }
+abbrev alone : Test → Compound
+alone test = compound (test ∷ [])
 
-abbrev compound : List (Signed NameTest) → List (Signed AttributeTest) → Compound
-compound names attributes = record { name_tests = names; attribute_tests = attributes }
+abbrev name : List ℕ → Test
+name bytes = OfName (HasName bytes)
 
 abbrev named : List ℕ → Compound
-named name = compound (plain (HasName name) ∷ []) []
+named bytes = alone (name bytes)
+
+abbrev class : List ℕ → Test
+class bytes = OfAttributes (HasClass bytes)
+
+-- `:not` and `:is` of some compounds
+abbrev none_of : List Compound → Test
+none_of compounds = NoneOf (any_of compounds)
+
+abbrev some_of : List Compound → Test
+some_of compounds = SomeOf (any_of compounds)
 
 abbrev start_in : Namespace → List ℕ → List Attribute → Bool → Bool → Event
 start_in namespace name attributes self_closing finish =
@@ -65,7 +80,7 @@ descendant_and_child =
 abbrev pub class_above : Row
 class_above =
     record {
-      pairs = (Then (First (compound [] (plain (HasClass (codes "a")) ∷ []))) Descendant (named (codes "p")), 0) ∷ (First (named (codes "p")), 1) ∷ [];
+      pairs = (Then (First (alone (class (codes "a")))) Descendant (named (codes "p")), 0) ∷ (First (named (codes "p")), 1) ∷ [];
       esi = false;
       events = start_with (codes "div") (codes "class") (codes "a") ∷ start (codes "p") ∷ [];
       answers = Started [] true 2 1 ∷ Started (full 0 ∷ full 1 ∷ []) true 3 1 ∷ [];
@@ -81,14 +96,84 @@ nested_divs =
       answers = Started [] false 1 0 ∷ Started (full 0 ∷ []) false 2 0 ∷ Started (full 0 ∷ []) false 2 0 ∷ Ended (2 ∷ []) ∷ Started (full 0 ∷ []) false 2 0 ∷ [];
     }
 
--- `:not(div.foo)` under 0, each test negated by itself
-abbrev pub negated_tests : Row
-negated_tests =
+-- `:not(div.foo)` under 0: attributes are asked for where the name fits
+abbrev pub not_a_compound : Row
+not_a_compound =
     record {
-      pairs = (First (compound (negated (HasName (codes "div")) ∷ []) (negated (HasClass (codes "foo")) ∷ [])), 0) ∷ [];
+      pairs = (First (alone (none_of (compound (name (codes "div") ∷ class (codes "foo") ∷ []) ∷ []))), 0) ∷ [];
+      esi = false;
+      events = start (codes "div") ∷ start (codes "p") ∷ start_with (codes "div") (codes "class") (codes "foo") ∷ [];
+      answers = Started (full 0 ∷ []) true 1 1 ∷ Started (full 0 ∷ []) false 1 0 ∷ Started [] true 1 1 ∷ [];
+    }
+
+-- `:not(:not(a, b))` under 0
+abbrev pub not_neither : Row
+not_neither =
+    record {
+      pairs = (First (alone (none_of (alone (none_of (named (codes "a") ∷ named (codes "b") ∷ [])) ∷ []))), 0) ∷ [];
+      esi = false;
+      events = start (codes "a") ∷ start (codes "b") ∷ start (codes "c") ∷ [];
+      answers = Started (full 0 ∷ []) false 1 0 ∷ Started (full 0 ∷ []) false 1 0 ∷ Started [] false 1 0 ∷ [];
+    }
+
+-- `:not(.a, p)` under 0
+abbrev pub neither_class_nor_name : Row
+neither_class_nor_name =
+    record {
+      pairs = (First (alone (none_of (alone (class (codes "a")) ∷ named (codes "p") ∷ []))), 0) ∷ [];
+      esi = false;
+      events = start (codes "p") ∷ start_with (codes "div") (codes "class") (codes "b") ∷ [];
+      answers = Started [] false 1 0 ∷ Started (full 0 ∷ []) true 1 1 ∷ [];
+    }
+
+-- `div:not([a*=""])` under 0
+abbrev pub not_an_empty_substring : Row
+not_an_empty_substring =
+    record {
+      pairs = (First (compound (none_of (alone (OfAttributes (Compares (codes "a") Substring [] CaseSensitive)) ∷ []) ∷ name (codes "div") ∷ [])), 0) ∷ [];
       esi = false;
       events = start (codes "div") ∷ start (codes "p") ∷ [];
-      answers = Started [] false 1 0 ∷ Started (full 0 ∷ []) true 1 1 ∷ [];
+      answers = Started (full 0 ∷ []) true 1 1 ∷ Started [] false 1 0 ∷ [];
+    }
+
+-- `:not(*)` under 0 and `:not(|a)` under 1
+abbrev pub nothing_and_anything : Row
+nothing_and_anything =
+    record {
+      pairs = (First (alone (none_of (alone (OfName AnyName) ∷ []))), 0) ∷ (First (alone (none_of (compound (name (codes "a") ∷ OfName NoName ∷ []) ∷ []))), 1) ∷ [];
+      esi = false;
+      events = start (codes "a") ∷ [];
+      answers = Started (full 1 ∷ []) false 2 0 ∷ [];
+    }
+
+-- `:is(a.x, p)` under 0
+abbrev pub some_compound : Row
+some_compound =
+    record {
+      pairs = (First (alone (some_of (compound (name (codes "a") ∷ class (codes "x") ∷ []) ∷ named (codes "p") ∷ []))), 0) ∷ [];
+      esi = false;
+      events = start (codes "p") ∷ start_with (codes "a") (codes "class") (codes "x") ∷ start (codes "div") ∷ [];
+      answers = Started (full 0 ∷ []) false 1 0 ∷ Started (full 0 ∷ []) true 1 1 ∷ Started [] false 1 0 ∷ [];
+    }
+
+-- `:not(:is(a, b))` under 0
+abbrev pub none_of_some : Row
+none_of_some =
+    record {
+      pairs = (First (alone (none_of (alone (some_of (named (codes "a") ∷ named (codes "b") ∷ [])) ∷ []))), 0) ∷ [];
+      esi = false;
+      events = start (codes "a") ∷ start (codes "c") ∷ [];
+      answers = Started [] false 1 0 ∷ Started (full 0 ∷ []) false 1 0 ∷ [];
+    }
+
+-- `:is(h1, h2) > a` under 0
+abbrev pub child_of_some : Row
+child_of_some =
+    record {
+      pairs = (Then (First (alone (some_of (named (codes "h1") ∷ named (codes "h2") ∷ [])))) Child (named (codes "a")), 0) ∷ [];
+      esi = false;
+      events = start (codes "h1") ∷ start (codes "a") ∷ End (codes "h1") ∷ start (codes "p") ∷ start (codes "a") ∷ [];
+      answers = Started [] false 1 0 ∷ Started (full 0 ∷ []) false 2 0 ∷ Ended (0 ∷ 1 ∷ []) ∷ Started [] false 1 0 ∷ Started [] false 1 0 ∷ [];
     }
 
 -- `br:first-child` under 0 and `p:nth-child(2)` under 1: an element without content counts
@@ -96,8 +181,8 @@ abbrev pub second_child : Row
 second_child =
     record {
       pairs =
-          (First (compound (plain (IsNthChild (record { step = pos 0; offset = pos 1 })) ∷ plain (HasName (codes "br")) ∷ []) []), 0)
-          ∷ (First (compound (plain (IsNthChild (record { step = pos 0; offset = pos 2 })) ∷ plain (HasName (codes "p")) ∷ []) []), 1) ∷ [];
+          (First (compound (OfName (IsNthChild (record { step = pos 0; offset = pos 1 })) ∷ name (codes "br") ∷ [])), 0)
+          ∷ (First (compound (OfName (IsNthChild (record { step = pos 0; offset = pos 2 })) ∷ name (codes "p") ∷ [])), 1) ∷ [];
       esi = false;
       events = start (codes "br") ∷ start (codes "p") ∷ [];
       answers = Started (void 0 ∷ []) false 2 0 ∷ Started (full 1 ∷ []) false 2 0 ∷ [];
@@ -107,7 +192,7 @@ second_child =
 abbrev pub second_span : Row
 second_span =
     record {
-      pairs = (First (compound (plain (IsNthOfType (record { step = pos 0; offset = pos 2 })) ∷ plain (HasName (codes "span")) ∷ []) []), 0) ∷ [];
+      pairs = (First (compound (OfName (IsNthOfType (record { step = pos 0; offset = pos 2 })) ∷ name (codes "span") ∷ [])), 0) ∷ [];
       esi = false;
       events = start (codes "div") ∷ start (codes "span") ∷ End (codes "span") ∷ start (codes "SPAN") ∷ [];
       answers = Started [] false 1 0 ∷ Started [] false 1 0 ∷ Ended (1 ∷ []) ∷ Started (full 0 ∷ []) false 1 0 ∷ [];
@@ -117,7 +202,7 @@ second_span =
 abbrev pub caseless_in_html : Row
 caseless_in_html =
     record {
-      pairs = (First (compound [] (plain (Compares (codes "type") Equal (codes "TEXT") AsciiCaseInsensitiveIfInHtmlElementInHtmlDocument) ∷ [])), 0) ∷ [];
+      pairs = (First (alone (OfAttributes (Compares (codes "type") Equal (codes "TEXT") AsciiCaseInsensitiveIfInHtmlElementInHtmlDocument))), 0) ∷ [];
       esi = false;
       events = start_with (codes "input") (codes "type") (codes "text")
           ∷ start_in Svg (codes "input") (record { name = codes "type"; value = Some (codes "text") } ∷ []) false true ∷ [];
@@ -128,7 +213,8 @@ caseless_in_html =
 abbrev pub empty_operand : Row
 empty_operand =
     record {
-      pairs = (First (compound [] (plain (Compares (codes "a") Substring [] CaseSensitive) ∷ [])), 0) ∷ (First (compound [] (negated (Compares (codes "a") Substring [] CaseSensitive) ∷ [])), 1) ∷ [];
+      pairs = (First (alone (OfAttributes (Compares (codes "a") Substring [] CaseSensitive))), 0)
+          ∷ (First (alone (none_of (alone (OfAttributes (Compares (codes "a") Substring [] CaseSensitive)) ∷ []))), 1) ∷ [];
       esi = false;
       events = start_with (codes "p") (codes "a") (codes "x") ∷ [];
       answers = Started (full 1 ∷ []) true 2 2 ∷ [];
@@ -138,7 +224,7 @@ empty_operand =
 abbrev pub esi_names : Row
 esi_names =
     record {
-      pairs = (First (compound (plain AnyName ∷ []) []), 0) ∷ [];
+      pairs = (First (alone (OfName AnyName)), 0) ∷ [];
       esi = true;
       events = start (codes "esi:include") ∷ start (codes "ESI:INCLUDE") ∷ End (codes "esi:include") ∷ [];
       answers = Started (void 0 ∷ []) false 1 0 ∷ Started (full 0 ∷ []) false 1 0 ∷ Ended (1 ∷ []) ∷ [];
@@ -148,7 +234,7 @@ esi_names =
 abbrev pub dropped_tag : Row
 dropped_tag =
     record {
-      pairs = (First (compound (plain (IsNthChild (record { step = pos 0; offset = pos 2 })) ∷ []) []), 0) ∷ [];
+      pairs = (First (alone (OfName (IsNthChild (record { step = pos 0; offset = pos 2 })))), 0) ∷ [];
       esi = false;
       events = start_in Svg (codes "g") [] false false ∷ start (codes "p") ∷ End (codes "g") ∷ [];
       answers = Dropped ∷ Started (full 0 ∷ []) false 1 0 ∷ Ended [] ∷ [];
@@ -168,14 +254,83 @@ self_closing_tag =
 abbrev pub links : Row
 links =
     record {
-      pairs = (First (compound (plain (HasName (codes "a")) ∷ []) (plain (HasAttribute (codes "href")) ∷ [])), 0) ∷ [];
+      pairs = (First (compound (OfAttributes (HasAttribute (codes "href")) ∷ name (codes "a") ∷ [])), 0) ∷ [];
       esi = false;
       events = start_with (codes "a") (codes "href") (codes "http://example.com") ∷ start (codes "a") ∷ start (codes "div") ∷ [];
       answers = Started (full 0 ∷ []) true 1 1 ∷ Started [] true 1 1 ∷ Started [] false 1 0 ∷ [];
     }
 
+-- `:nth-child(-2n+3)` under 0: the first and the third, and an `html` tag that closes itself is opened
+abbrev pub negative_step : Row
+negative_step =
+    record {
+      pairs = (First (alone (OfName (IsNthChild (record { step = negsuc 1; offset = pos 3 })))), 0) ∷ [];
+      esi = false;
+      events = start_in Html (codes "a") [] true true ∷ End (codes "a") ∷ start (codes "b") ∷ End (codes "b") ∷ start (codes "c") ∷ End (codes "c") ∷ start (codes "d") ∷ [];
+      answers = Started (full 0 ∷ []) false 1 0 ∷ Ended (0 ∷ []) ∷ Started [] false 1 0 ∷ Ended (2 ∷ []) ∷ Started (full 0 ∷ []) false 1 0 ∷ Ended (4 ∷ []) ∷ Started [] false 1 0 ∷ [];
+    }
+
+-- `mi` under 0 in MathML: asked for, and opened unless the tag closes itself
+abbrev pub of_mathml : Row
+of_mathml =
+    record {
+      pairs = (First (named (codes "mi")), 0) ∷ [];
+      esi = false;
+      events = start_in MathML (codes "mi") [] true true ∷ start_in MathML (codes "mi") [] false true ∷ End (codes "mi") ∷ start_in MathML (codes "mi") [] false false ∷ [];
+      answers = Started (void 0 ∷ []) true 1 0 ∷ Started (full 0 ∷ []) true 1 0 ∷ Ended (1 ∷ []) ∷ Dropped ∷ [];
+    }
+
+-- An HTML element with these attributes, at a third place that is the second of its name
+abbrev pub with_attributes : List Attribute → Element
+with_attributes attributes =
+    record { number = 0; tag = record { name = codes "P"; namespace = Html; attributes = attributes; self_closing = false; finish = true }; position = 3; typed_position = 2 }
+
+abbrev pub written : List ℕ → List ℕ → Attribute
+written attribute value = record { name = attribute; value = Some value }
+
+abbrev pub unwritten : List ℕ → Attribute
+unwritten attribute = record { name = attribute; value = None }
+
+-- whether a value stands to an operand, byte by byte
+abbrev pub stands : AttrSelectorOperator → List ℕ → List ℕ → Bool
+stands operator operand value = attribute_holds (Compares (codes "a") operator operand CaseSensitive) (with_attributes (written (codes "a") value ∷ []))
+
+-- the same for each operator: Equal, Includes, DashMatch, Prefix, Substring, Suffix
+abbrev pub all_stand : List ℕ → List ℕ → List Bool
+all_stand operand value =
+    stands Equal operand value ∷ stands Includes operand value ∷ stands DashMatch operand value ∷ stands Prefix operand value ∷ stands Substring operand value ∷ stands Suffix operand value ∷ []
+
+-- whether an element has an id, and a class, of this name
+abbrev pub has_id : List ℕ → List Attribute → Bool
+has_id id attributes = attribute_holds (HasId id) (with_attributes attributes)
+
+abbrev pub has_class : List ℕ → List ℕ → Bool
+has_class class value = attribute_holds (HasClass class) (with_attributes (written (codes "class") value ∷ []))
+
+-- the value by names of a test at the element
+abbrev pub value_at : Test → NameValue
+value_at test = by_names (alone test) (with_attributes [])
+
+-- The value by names of each kind of test.
+pub record AreValues : Type 0 where
+  pub any : value_at (OfName AnyName) ≡ True
+  pub none : value_at (OfName NoName) ≡ False
+  pub same_name : value_at (name (codes "p")) ≡ True
+  pub other_name : value_at (name (codes "q")) ≡ False
+  pub third : value_at (OfName (IsNthChild (record { step = pos 0; offset = pos 3 }))) ≡ True
+  pub second_of_type : value_at (OfName (IsNthOfType (record { step = pos 2; offset = pos 0 }))) ≡ True
+  pub attribute : value_at (class (codes "a")) ≡ Open
+  pub never : value_at (OfAttributes (Compares (codes "a") Prefix [] CaseSensitive)) ≡ Open
+  pub none_of_open : value_at (none_of (alone (class (codes "a")) ∷ [])) ≡ Open
+  pub none_of_true : value_at (none_of (alone (class (codes "a")) ∷ named (codes "p") ∷ [])) ≡ False
+  pub none_of_false : value_at (none_of (named (codes "q") ∷ [])) ≡ True
+  pub some_of_open : value_at (some_of (named (codes "q") ∷ alone (class (codes "a")) ∷ [])) ≡ Open
+  pub some_of_true : value_at (some_of (alone (class (codes "a")) ∷ named (codes "p") ∷ [])) ≡ True
+  pub some_of_none : value_at (some_of []) ≡ False
+  pub false_and_open : value_at (some_of (compound (class (codes "a") ∷ name (codes "q") ∷ []) ∷ [])) ≡ False
+
 -- `*` under 0, over so many nested `d`, with items of 64 bytes and a fresh limiter of this maximum: what is refused
 abbrev pub refused_at : ℕ → ℕ → Option (ℕ × Cause)
 refused_at maximum depth =
-    refused (selectors_of ((First (compound (plain AnyName ∷ []) []), 0) ∷ [])) false (record { item_bytes = 64; maximum = maximum; usage = 0 })
+    refused (selectors_of ((First (alone (OfName AnyName)), 0) ∷ [])) false (record { item_bytes = 64; maximum = maximum; usage = 0 })
     (replicate depth (start (codes "d")))

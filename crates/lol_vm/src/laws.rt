@@ -4,7 +4,6 @@ ghost use Rattle.std.specs.Prelude.{Bool, List};
 ghost use Rattle.lol_program.specs.Tests.{Element};
 ghost use Rattle.lol_program.specs.Paths.{Selectors};
 ghost use Rattle.lol_vm.specs.Laws.{IsReport, AscendingIsDetermined, OrderChangesNothing, TreesAnswerAlike, StrayEndChangesNothing};
-ghost use Rattle.lol_vm.specs.Simulation.{RunsLeftMatches};
 
 /// A report is strictly ascending and has exactly the ids under which a path matches.
 pub fn reports_are_ascending_and_exact()
@@ -29,9 +28,4 @@ pub fn trees_answer_alike()
 /// An end tag whose name isn't open changes nothing.
 pub fn stray_end_changes_nothing()
     ensures { StrayEndChangesNothing }
-{}
-
-/// The ranges that a machine runs for a start tag hold the place of each node whose left part matches, and no other.
-pub fn ranges_are_left_matches()
-    ensures { RunsLeftMatches }
 {}

@@ -29,8 +29,9 @@ pub use lol_memory::{
     MemoryLimitExceededError, PushError, SharedMemoryLimiter,
 };
 pub use lol_program::{
-    AddressRange, Ast, AstNode, AttributeComparisonExpr, ChildCounter, Condition, ExecutionBranch,
-    Expr, OnAttributesExpr, OnTagNameExpr, Predicate, SelectorState, Tries,
+    AddressRange, Ast, AstNode, AttrExprOperands, AttributeComparisonExpr, AttributeMatcher,
+    ChildCounter, Condition, ExecutionBranch, NameValue, OnAttributesExpr, OnTagNameExpr, Predicate,
+    SelectorState, Test, Tries,
 };
 pub use run::match_events;
 pub use stack_item::{StackDirective, StackItem, StackItemOf};

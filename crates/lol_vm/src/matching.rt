@@ -1,17 +1,19 @@
 //! Whether a node of the tree matches, read from the right over the open elements.
 
 ghost use Rattle.std.specs.Prelude.{◌≡◌, true, List, reverse, OnOk, map};
-ghost use Rattle.std.specs.List.{list_all};
 ghost use Rattle.lol_program.specs.ForestRuns.{forest_runs};
 ghost use Rattle.lol_program.specs.Views.{node_of, forest_of};
 ghost use Rattle.lol_program.specs.Tests.{Element};
 ghost use Rattle.lol_vm.specs.Matching.{matches, step_reaches};
-ghost use Rattle.lol_vm.specs.OpenNames.{Spells, AreNamed, StepsRun, NodeRuns, Reports, ReportsIn, Gains, expr_passes, path_up, path_to};
+ghost use Rattle.lol_program.specs.Compounds.{any_of};
+ghost use Rattle.lol_program.specs.Predicates.{name_test, test_shown, tests_of};
+ghost use Rattle.lol_vm.specs.OpenNames as passing;
+ghost use Rattle.lol_vm.specs.OpenNames.{Spells, AreNamed, StepsRun, NodeRuns, Reports, ReportsIn, Gains, compound_passes, path_up, path_to};
 
 use lol_base::LocalName;
 use lol_css::Combinator;
 use lol_memory::DenseHashSet;
-use lol_program::{AstNode, Expr, OnTagNameExpr, Predicate};
+use lol_program::{AstNode, OnTagNameExpr, Predicate, Test};
 use std::alloc::AllocError;
 
 /// An open element: its name, and the number of its start tag's event.
@@ -28,25 +30,54 @@ pub(crate) struct Step<'t> {
     pub predicate: &'t Predicate,
 }
 
-fn expr_holds(expr: &Expr<OnTagNameExpr>, name: &LocalName) -> bool
-    ensures { result ≡ expr_passes name.now expr.now }
+fn name_passes(test: &OnTagNameExpr, name: &LocalName) -> bool
+    ensures { result ≡ passing.name_passes name.now (name_test test.now) }
 {
-    let holds = match &expr.simple_expr {
+    match test {
         OnTagNameExpr::ExplicitAny => true,
         OnTagNameExpr::LocalName(wanted) => *name == LocalName::new(wanted.as_bytes()),
         OnTagNameExpr::Unmatchable | OnTagNameExpr::NthChild(_) | OnTagNameExpr::NthOfType(_) =>
             false,
-    };
-    holds != expr.negation
+    }
 }
 
-fn predicate_holds(predicate: &Predicate, name: &LocalName) -> bool
-    ensures { result ≡ list_all (expr_passes name.now) predicate.now.on_tag_name_exprs.items }
+/// Whether a name passes a test. A test of positions or attributes it doesn't pass.
+#[cycle(passing)]
+fn test_passes(test: &Test, name: &LocalName) -> bool
+    ensures { result ≡ passing.test_passes name.now (test_shown test.now) }
 {
-    predicate
-        .on_tag_name_exprs
-        .iter()
-        .all(|expr| expr_holds(expr, name))
+    match test {
+        Test::Name(test) => name_passes(test, name),
+        Test::Attribute(_) => false,
+        Test::NoneOf(predicates) => !some_passes(predicates, name),
+        Test::SomeOf(predicates) => some_passes(predicates, name),
+    }
+}
+
+/// Whether a name passes all tests.
+#[cycle(passing)]
+fn predicate_passes(predicate: &Predicate, name: &LocalName) -> bool
+    ensures { result ≡ compound_passes name.now (tests_of predicate.now) }
+{
+    for test in &predicate.tests {
+        if !test_passes(test, name) {
+            return false;
+        }
+    }
+    true
+}
+
+/// Whether a name passes all tests of one of several.
+#[cycle(passing)]
+fn some_passes(predicates: &[Predicate], name: &LocalName) -> bool
+    ensures { result ≡ passing.some_passes name.now (any_of (map tests_of predicates.now)) }
+{
+    for predicate in predicates {
+        if predicate_passes(predicate, name) {
+            return true;
+        }
+    }
+    false
 }
 
 /// Whether the node at the end of a way matches an element of this name inside these open ones, the outermost first.
@@ -58,7 +89,7 @@ fn path_matches(path: &[Step], name: &LocalName, elements: &[OpenElement]) -> bo
     match path.split_last() {
         None => true,
         Some((last, front)) => {
-            predicate_holds(last.predicate, name)
+            predicate_passes(last.predicate, name)
                 && (front.is_empty() || step_is_reached(front, last.combinator, elements))
         }
     }
@@ -70,14 +101,15 @@ fn step_is_reached(front: &[Step], combinator: Combinator, elements: &[OpenEleme
     ensures { (outer : List Element) → StepsRun (reverse front.now) → AreNamed elements.now outer
         → result ≡ step_reaches combinator (matches (path_up (reverse front.now))) outer }
 {
-    match elements.split_last() {
-        None => false,
-        Some((last, outer)) => {
-            path_matches(front, &last.name, outer)
-                || (combinator == Combinator::Descendant
-                    && step_is_reached(front, combinator, outer))
+    for place in (0..elements.len()).rev() {
+        if path_matches(front, &elements[place].name, &elements[..place]) {
+            return true;
+        }
+        if combinator == Combinator::Child {
+            return false;
         }
     }
+    false
 }
 
 /// Adds the ids of each of these nodes, and of those under them, that matches an element of this name.

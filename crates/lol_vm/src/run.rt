@@ -47,7 +47,7 @@ fn refused(reports: Vec<TagReport>, event: usize) -> RunRefusal
 /// `Memory` where memory was refused, with the reports of the tags before.
 pub fn match_events(
     alloc: Global,
-    ast: &Ast,
+    ast: Ast,
     item_bytes: usize,
     enable_esi_tags: bool,
     events: &[TagEvent],
@@ -57,12 +57,12 @@ pub fn match_events(
     requires ranges { All HasRangesInside events.now }
     requires no_esi { enable_esi_tags ≡ false }
     requires html { All IsPlainHtml events.now }
-    requires runs { (path : Path) → Contains (nodes_of ast.now) path → IsTrue (path_runs path) }
-    ensures ok { IfOk result (λ reports. map answer_of reports.items ≡ map without_tries (answers (selectors ast.now) enable_esi_tags (map event_of events.now))) }
+    requires runs { (path : Path) → Contains (nodes_of ast) path → IsTrue (path_runs path) }
+    ensures ok { IfOk result (λ reports. map answer_of reports.items ≡ map without_tries (answers (selectors ast) enable_esi_tags (map event_of events.now))) }
 
     // A refused run answers what came before the refused event, and memory is the one cause.
     ensures refused { IfErr result (λ refusal.
-        map answer_of refusal.reports.items ≡ map without_tries (answers (selectors ast.now) enable_esi_tags (map event_of (take refusal.event events.now)))) }
+        map answer_of refusal.reports.items ≡ map without_tries (answers (selectors ast) enable_esi_tags (map event_of (take refusal.event events.now)))) }
     ensures event { IfErr result (λ refusal. (refusal.event ≡ 0) ⊎ (refusal.event < length events.now)) }
     ensures cause { IfErr result (λ refusal. refusal.cause ≡ Memory) }
     ensures usage { limiter.new ≡ limiter.old }
@@ -70,7 +70,7 @@ pub fn match_events(
     let mut elements = Vec::new(alloc);
     let mut reports = Vec::new(alloc);
     for (number, event) in events.iter().enumerate() {
-        let Ok(report) = answer(alloc, ast, &mut elements, number, event) else {
+        let Ok(report) = answer(alloc, &ast, &mut elements, number, event) else {
             return Err(refused(reports, number));
         };
         if reports.push(report).is_err() {

@@ -16,7 +16,7 @@ match_events-requires-clause-runs c = c.requires.1.runs
 
 pub returns : goal.returns
 returns c = λ s reading.
-    let ast = c.args.script.now.ast in
+    let ast = c.args.script.ast in
     let are = nodes_of-AreNodes s.pairs in
     let same = order_changes_nothing (selectors ast) (selectors_of s.pairs)
     (record {

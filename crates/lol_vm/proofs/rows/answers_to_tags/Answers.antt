@@ -8,7 +8,6 @@ returns c = record {
   descendant_and_child = refl;
   class_above = refl;
   nested_divs = refl;
-  negated_tests = refl;
   second_child = refl;
   second_span = refl;
   caseless_in_html = refl;

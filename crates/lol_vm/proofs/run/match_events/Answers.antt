@@ -25,18 +25,18 @@ loop-number-preserved c =
     let front = front_more all n event c.loop-number-test.true c.index-events-number.is in
     record {
       told =
-          let s = selectors c.args.ast.now in
+          let s = selectors c.args.ast in
           let pushed = c.push.ensures.items ∙ ap (λ ok. if ok then c.loop-number.reports.items ++ c.in-Ok.report ∷ [] else c.loop-number.reports.items) c.if-is_err.ensures.negation in
           ap (map answer_of) pushed
           ∙ (map_push answer_of c.loop-number.reports.items c.in-Ok.report
           ∙ ((λ i. c.loop-number.invariant.told i ++ c.in-Ok.ensures.answer (document s false before) c.loop-number.invariant.stands i ∷ [])
           ∙ sym (ap (λ es. map without_tries (answers s false es)) front ∙ (ap (map without_tries) (answers_push s false empty before (event_of event)) ∙ map_push without_tries (answers s false before) (answer s false (document s false before) (event_of event))))));
       stands =
-          let s = selectors c.args.ast.now in
+          let s = selectors c.args.ast in
           let count : (document s false before).events ≡ n = omega (arith, events-document s false empty before, length-map (take n all) event_of, length-take-le n all (omega arith)) in
           subst (Stands c.answer.new.elements.items) (sym (ap (document s false) front ∙ document_push s false empty before (event_of event)))
           (c.in-Ok.ensures.stands (document s false before) c.loop-number.invariant.stands count);
     }
 
 pub answer-requires-clause-runs : goal.answer-requires-clause-runs
-answer-requires-clause-runs c = runs_forest (trees_of c.args.ast.now) c.requires.runs
+answer-requires-clause-runs c = runs_forest (trees_of c.args.ast) c.requires.runs
