@@ -64,7 +64,7 @@ fn answers_tags(rt: HostRuntime) -> Result<(), Fail> {
     ];
     assert!(rt; ast.runs_now());
     let mut limiter = SharedMemoryLimiter::new(100);
-    let reports = match_events(alloc, &ast, 64, false, &events, &mut limiter);
+    let reports = match_events(alloc, ast, 64, false, &events, &mut limiter);
     assert_eq!(rt; limiter.current_usage(), 0);
 
     let Ok(reports) = reports else {
