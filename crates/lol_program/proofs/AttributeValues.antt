@@ -93,6 +93,11 @@ has_word_in-Includes case value operand = any_word (ignores case) value (λ word
 abbrev pub NoWhite : List ℕ → ℕ → ℕ → Type 0
 NoWhite value start end = (k : ℕ) → start ≤ k → k < end → is_white (get_or value k 0) ≡ false
 
+-- one byte more that isn't
+pub none_more : (value : List ℕ) (start end : ℕ) → NoWhite value start end → is_white (get_or value end 0) ≡ false → NoWhite value start (end + 1)
+none_more value start end none black k low high =
+    ⊎_elim (λ last. ap (λ (i : ℕ). is_white (get_or value i 0)) last ∙ black) (λ before. none k low (omega arith)) (cases_eq k end)
+
 no_white_between : (value : List ℕ) (start end : ℕ) → NoWhite value start end → All (λ b. is_white b ≡ false) (slice_range value start end)
 no_white_between value start end none =
     All-from_get_or (λ (b : ℕ). is_white b ≡ false) (slice_range value start end) 0
@@ -138,10 +143,7 @@ module _ (case : CaseSensitivity) (value operand : List ℕ) (start end : ℕ) (
   }
 
   pub SoFar-more : is_white (get_or value end 0) ≡ false → SoFar case value operand start (end + 1)
-  SoFar-more black = record { ordered = omega arith; none = below_more_from black; same = far.same }
-    where
-      below_more_from : is_white (get_or value end 0) ≡ false → NoWhite value start (end + 1)
-      below_more_from not_white k low high = ⊎_elim (λ same_place. ap (λ (i : ℕ). is_white (get_or value i 0)) same_place ∙ not_white) (λ before. far.none k low (omega arith)) (cases_eq k end)
+  SoFar-more black = record { ordered = omega arith; none = none_more value start end far.none black; same = far.same }
 
   pub SoFar-end : length value ≤ end → end ≤ length value → value_holds Equal case (slice_range value start (length value)) operand ≡ value_holds Includes case value operand
   SoFar-end last within =

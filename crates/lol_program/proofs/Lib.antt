@@ -22,3 +22,5 @@ pub mod Values
 pub mod RunningTests
 mod AttributeValues
 pub mod Closed
+mod MarkLemmas
+mod MatcherLemmas

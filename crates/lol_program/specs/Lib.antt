@@ -22,3 +22,4 @@ pub mod Laws
 pub mod Attributes
 pub mod Matchers
 pub mod Substrings
+pub mod Marks

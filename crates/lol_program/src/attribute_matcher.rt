@@ -1,18 +1,21 @@
 //! Tests of attributes over borrowed input.
 
-ghost use Rattle.std.specs.Prelude.{◌≡◌, ◌==◌, true, [], All, map, unwrap_or, codes};
-ghost use Rattle.std.specs.Option.{option_copied};
+ghost use Rattle.std.specs.Prelude.{◌≡◌, ◌==◌, true, [], ◌∷◌, All, map, length, unwrap_or, codes};
+ghost use Rattle.std.specs.Option.{option_copied, option_or};
 ghost use Rattle.std.specs.Char.{to_ascii_lowercase};
 ghost use Rattle.std.specs.Str.{bytes_eq};
+ghost use Rattle.std.specs.Bool.{OnTrue};
 ghost use Rattle.lol_base.specs.Names.{lowercased};
 ghost use Rattle.lol_base.specs.StartTags.{bytes_of, attribute_of, OutlineIsInside};
 ghost use Rattle.lol_css.specs.declared.attribute.AttrSelectorOperator.TheVariants.{Equal, Includes, DashMatch, Prefix, Substring, Suffix};
 ghost use Rattle.lol_program.specs.Tests.{has_value, ignores_case, operator_holds};
 ghost use Rattle.lol_program.specs.Attributes.{value_among, value_in, ignores, operands_hold};
+ghost use Rattle.lol_program.specs.Marks.{LacksOne};
 
 use crate::attribute_value::{
     has_dash_match, has_prefix, has_substring, has_suffix, has_word, is_equal,
 };
+use crate::marks::Marks;
 use lol_base::{AttributeBuffer, AttributeOutline, Bytes, Namespace};
 use lol_css::{CaseSensitivity, ParsedCaseSensitivity};
 use std::marker::Model;
@@ -37,6 +40,7 @@ pub struct AttributeMatcher<'i> {
     id: Option<&'i [u8]>,
     class: Option<&'i [u8]>,
     namespace: Namespace,
+    marks: Marks,
 }
 
 impl<'i> Model for AttributeMatcher<'i> {
@@ -59,12 +63,22 @@ impl<'i> AttributeMatcher<'i> {
         ensures { result ≡ record { attributes = map (attribute_of (bytes_of input.entry)) attributes.now.items; namespace = ns } }
     {
         let input = input.as_slice();
+        let mut marks = Marks::none();
+        let mut id = None;
+        let mut class = None;
+        for outline in attributes {
+            let name = &input[outline.name.start..outline.name.end];
+            marks = marks.with(Marks::of_name(name));
+            id = first_value(id, input, outline, b"id");
+            class = first_value(class, input, outline, b"class");
+        }
         AttributeMatcher {
             input,
             attributes,
-            id: find_value(input, attributes, b"id"),
-            class: find_value(input, attributes, b"class"),
+            id,
+            class,
             namespace: ns,
+            marks: marks.with_id(id).with_words(class),
         }
     }
 
@@ -156,6 +170,14 @@ impl<'i> AttributeMatcher<'i> {
         }
     }
 
+    /// Whether the attributes lack something that is needed: no attribute test of some mark of `needs` holds. It may be false all the same.
+    #[inline(always)]
+    pub(crate) fn lacks(&self, needs: Marks) -> bool
+        ensures { OnTrue result (LacksOne needs self.now) }
+    {
+        self.marks.lack(needs)
+    }
+
     fn value_of(&self, name: &[u8]) -> Option<&'i [u8]>
         ensures { option_copied result ≡ value_in name.now self.now }
     {
@@ -194,6 +216,24 @@ fn find_value<'i>(input: &'i [u8], attributes: &[AttributeOutline], name: &[u8])
     None
 }
 
+// The value that was found, or else that of this attribute if it has the name.
+#[inline(always)]
+fn first_value<'i>(
+    found: Option<&'i [u8]>,
+    input: &'i [u8],
+    outline: &AttributeOutline,
+    name: &[u8],
+) -> Option<&'i [u8]>
+    requires { OutlineIsInside input.now outline.now }
+    ensures { option_copied result ≡ option_or (option_copied found.entry) (value_among name.now (attribute_of input.now outline.now ∷ [])) }
+{
+    if found.is_none() && is_lowercased(&input[outline.name.start..outline.name.end], name) {
+        Some(value_at(input, outline))
+    } else {
+        found
+    }
+}
+
 // The value of an attribute, which is empty where none is written.
 fn value_at<'i>(input: &'i [u8], outline: &AttributeOutline) -> &'i [u8]
     requires { OutlineIsInside input.now outline.now }
@@ -206,12 +246,17 @@ fn value_at<'i>(input: &'i [u8], outline: &AttributeOutline) -> &'i [u8]
 }
 
 // Whether the name of an attribute in lower case is the name that is asked for.
+#[inline(always)]
 fn is_lowercased(actual: &[u8], name: &[u8]) -> bool
     ensures { result ≡ bytes_eq (lowercased actual.now) name.now }
 {
-    if actual.len() != name.len() {
-        return false;
-    }
+    actual.len() == name.len() && has_lowercased(actual, name)
+}
+
+fn has_lowercased(actual: &[u8], name: &[u8]) -> bool
+    requires { length actual.now ≡ length name.now }
+    ensures { result ≡ bytes_eq (lowercased actual.now) name.now }
+{
     for (at, byte) in actual.iter().enumerate() {
         if !is_lower_case_of(name[at], *byte) {
             return false;

@@ -11,6 +11,7 @@ mod execution_branch;
 mod gift;
 pub mod laws;
 mod name_value;
+mod marks;
 mod predicate;
 mod selector_state;
 mod spare_id;

@@ -1,3 +1,4 @@
+use crate::marks::Marks;
 use crate::{AttrExprOperands, AttributeMatcher};
 use lol_base::{AttributeBuffer, AttributeOutline, AuxStartTagInfo, Bytes, Namespace, Range};
 use lol_css::ParsedCaseSensitivity;
@@ -187,5 +188,43 @@ fn case_by_namespace(rt: HostRuntime) -> Result<(), Fail> {
     assert!(rt; tag.matcher(&rt, Namespace::Html).attr_eq(&text));
     assert!(rt; !tag.matcher(&rt, Namespace::Svg).attr_eq(&text));
     assert!(rt; !tag.matcher(&rt, Namespace::MathML).attr_eq(&text));
+    Ok(())
+}
+
+#[test]
+fn long_values(rt: HostRuntime) -> Result<(), Fail> {
+    let alloc = rt.alloc();
+    let value = "aa bb cc dd ee ff gg hh ii jj kk ll mm nn oo pp qq rr ss tt uu vv ww xx yy zz";
+    let tag = Attributes::new(alloc, &[("class", Some(value))])?;
+    let tag = tag.matcher(&rt, Namespace::Html);
+    assert!(rt; tag.has_class(b"aa"));
+    assert!(rt; tag.has_class(b"mm"));
+    assert!(rt; tag.has_class(b"zz"));
+    assert!(rt; !tag.has_class(b"a"));
+    assert!(rt; !tag.has_class(b"aa bb"));
+    assert!(rt; !tag.has_class(b"MM"));
+    assert!(rt; !tag.has_class(b""));
+    let caseless = operand(
+        alloc,
+        "class",
+        "MM",
+        ParsedCaseSensitivity::AsciiCaseInsensitive,
+    )?;
+    assert!(rt; tag.matches_splitted_by_whitespace(&caseless));
+    Ok(())
+}
+
+#[test]
+fn what_is_lacked(rt: HostRuntime) -> Result<(), Fail> {
+    let alloc = rt.alloc();
+    let written = [("ID", Some("i")), ("Lang", None), ("class", Some("a b"))];
+    let tag = Attributes::new(alloc, &written)?;
+    let tag = tag.matcher(&rt, Namespace::Html);
+    let there = Marks::of_name(b"lang").with(Marks::of_id(b"i"));
+    assert!(rt; !tag.lacks(Marks::none()));
+    assert!(rt; !tag.lacks(there.with(Marks::of_class(b"b"))));
+    assert!(rt; tag.lacks(Marks::of_name(b"href")));
+    assert!(rt; tag.lacks(there.with(Marks::of_id(b"other"))));
+    assert!(rt; tag.lacks(there.with(Marks::of_class(b"c"))));
     Ok(())
 }

@@ -1,7 +1,7 @@
 use Rattle.std.proofs.Common.{◌≡◌, length, drop}
 use Rattle.std.specs.Str.{bytes_eq}
 use Rattle.lol_base.specs.Names.{lowercased}
-use Rattle.lol_program.proofs.attribute_matcher.is_lowercased.Given as goal
+use Rattle.lol_program.proofs.attribute_matcher.has_lowercased.Given as goal
 
 -- the bytes so far are the same
 abbrev pub invariant-loop-at : goal.invariant-loop-at
