@@ -4,3 +4,6 @@ pub mod NameLaws
 pub mod Kept
 pub mod Tags
 pub mod StartTags
+pub mod BoolLaws
+pub mod ListLaws
+pub mod MemberLaws

@@ -7,7 +7,7 @@ use Rattle.lol_css.specs.Trees.{Items}
 use Rattle.lol_css.specs.declared.error.SelectorError.{SelectorError}
 use Rattle.lol_program.specs.Sets.{Joins, SameMembers}
 use Rattle.lol_program.specs.Runs.{path_runs}
-use Rattle.lol_program.proofs.Members.{contains-append}
+use Rattle.lol_base.specs.MemberLaws.{contains-append}
 use Rattle.lol_vm.specs.Events.{Event}
 use Rattle.lol_match.specs.Script.{Line}
 use Rattle.lol_match.specs.First.{line_at}

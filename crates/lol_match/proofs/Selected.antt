@@ -1,23 +1,23 @@
 -- What a selector brings, and whether it runs.
-use Rattle.std.proofs.Common.{◌≡◌, ℕ, Bool, true, false, ◌&&◌, List, [], ◌∷◌, Contains, inl, inr, ⊎_elim, refl, subst}
+use Rattle.lol_base.specs.BoolLaws.{and_parts}
+use Rattle.std.proofs.Common.{◌≡◌, ℕ, true, ◌&&◌, List, [], ◌∷◌, Contains, inl, inr, ⊎_elim, refl, subst}
 use Rattle.std.specs.List.{list_all}
 use Rattle.lol_program.specs.Paths.{Path, First, Then, beginnings, all_beginnings}
 use Rattle.lol_program.specs.Runs.{path_runs}
 use Rattle.lol_program.specs.Sets.{Joins}
-use Rattle.lol_program.proofs.Running.{both}
-use Rattle.lol_program.proofs.Members.{Among, among_either, among_from_contains, contains_from_among}
+use Rattle.lol_base.specs.MemberLaws.{Among, among_either, among_from_contains, contains_from_among}
 
 -- each beginning of a path that runs
 beginning_runs : (path : Path) → path_runs path ≡ true → (node : Path) → Among (beginnings path) node → path_runs node ≡ true
 beginning_runs (First c) h node (inl is) = subst (λ (p : Path). path_runs p ≡ true) is h
 beginning_runs (First c) h node (inr none) = absurd none
 beginning_runs (Then front step c) h node (inl is) = subst (λ (p : Path). path_runs p ≡ true) is h
-beginning_runs (Then front step c) h node (inr a) = beginning_runs front (both (path_runs front) _ h).0 node a
+beginning_runs (Then front step c) h node (inr a) = beginning_runs front (and_parts (path_runs front) _ h).0 node a
 
 beginnings_run : (pairs : List (Path × ℕ)) → list_all (λ pair. path_runs pair.0) pairs ≡ true → (node : Path) → Among (all_beginnings pairs) node → path_runs node ≡ true
 beginnings_run [] h node none = absurd none
 beginnings_run (pair ∷ pairs) h node a =
-    let parts = both (path_runs pair.0) _ h in
+    let parts = and_parts (path_runs pair.0) _ h in
     ⊎_elim
     (λ (b : Among (beginnings pair.0) node). beginning_runs pair.0 parts.0 node b)
     (λ (b : Among (all_beginnings pairs) node). beginnings_run pairs parts.1 node b)
@@ -39,7 +39,3 @@ nodes_run old new added joins before h node at =
     (λ (a : Contains old node). before node a)
     (λ (b : Contains (all_beginnings added) node). beginnings_run added h node (among_from_contains (all_beginnings added) node b))
     ((joins node).0 at)
-
-pub not_true : (b : Bool) → (b ≡ true → ⊥) → b ≡ false
-not_true true h = absurd (h refl)
-not_true false h = refl

@@ -12,9 +12,9 @@ use Rattle.lol_program.specs.Sets.{Joins, SameMembers, IsBetween}
 use Rattle.lol_program.specs.AstPaths.{AllIn}
 use Rattle.lol_program.specs.Views.{steps_of, tests_in}
 use Rattle.lol_css.specs.declared.selector.ComplexSelector.{ComplexSelector}
-use Rattle.lol_program.proofs.Having.{HasNode, HasPair, BringsNode, BringsPair, BringsFirst}
+use Rattle.lol_program.specs.NodeMemberLaws.{HasNode, HasPair, BringsNode, BringsPair, BringsFirst}
 use Rattle.lol_program.proofs.Grown.{has_added, has_added_first}
-use Rattle.lol_program.proofs.Listed.{nodes_listed, pairs_listed, brings_beginnings, first_brings, brings_given}
+use Rattle.lol_program.specs.NodeListLaws.{nodes_listed, pairs_listed, brings_beginnings, first_brings, brings_given}
 use Rattle.lol_program.proofs.Standing.{Keeps, adds_keeps, first_keeps}
 
 module _ (c : Compound) (rest : List (Combinator × Compound)) (old new : Forest) where

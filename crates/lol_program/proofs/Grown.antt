@@ -7,7 +7,7 @@ use Rattle.lol_program.specs.Compounds.{Compound}
 use Rattle.lol_program.specs.Paths.{Path, Then}
 use Rattle.lol_program.specs.Forest.{Forest, none, more, Node, link, SiblingsDiffer, HasTop}
 use Rattle.lol_program.specs.Growth.{fresh, AtRoot, Takes, Under, Adds, AddsFirst}
-use Rattle.lol_program.proofs.Having.{Has, HasIn, IsAt, IsPair, HasNode, HasPair, BringsNode, BringsPair, BringsFirst, HasAdded, HasAddedFirst}
+use Rattle.lol_program.specs.NodeMemberLaws.{Has, HasIn, IsAt, IsPair, HasNode, HasPair, BringsNode, BringsPair, BringsFirst, HasAdded, HasAddedFirst}
 
 of_rest : {A B N : Type 0} → B ⊎ N → (A ⊎ B) ⊎ N
 of_rest (inl b) = inl (inr b)

@@ -1,4 +1,5 @@
 -- Which nodes can be run so far.
+use Rattle.lol_base.specs.BoolLaws.{and_parts, and_of}
 use Rattle.std.proofs.Common.{◌≡◌, inl, inr, ℕ, ◌+◌, ◌<◌, zero, suc, Bool, true, false, ◌&&◌, List, [], ◌∷◌, ◌++◌, map, take, get_or, length, arith, refl, sym, ap, subst, ◌∙◌}
 use Rattle.std.proofs.lemmas.List.{take_more, map-append}
 use Rattle.lol_css.specs.declared.selector.Combinator.TheVariants.{Child, Descendant}
@@ -9,19 +10,7 @@ use Rattle.lol_program.specs.Runs.{compound_runs, path_runs}
 use Rattle.lol_program.specs.ForestRuns.{forest_runs}
 use Rattle.lol_program.specs.declared.ast_node.AstNode.{AstNode}
 use Rattle.lol_program.specs.Views.{linked, node_of, forest_of}
-use Rattle.lol_program.proofs.Having.{HasNode, HasPair}
-
-no : {A : Type 0} → false ≡ true → A
-no h = cc
-
--- both sides of a conjunction
-pub both : (a b : Bool) → (a && b) ≡ true → (a ≡ true) × (b ≡ true)
-both true true h = (refl, refl)
-both true false h = no h
-both false b h = no h
-
-join : (a b : Bool) → a ≡ true → b ≡ true → (a && b) ≡ true
-join a b p q = λ i. p i && q i
+use Rattle.lol_program.specs.NodeMemberLaws.{HasNode}
 
 -- 1. Nodes one after another
 
@@ -38,7 +27,7 @@ pub runs_more : (nodes : List AstNode) (i : ℕ) (node : AstNode) → i < length
     → forest_runs (forest_of (take (i + 1) nodes)) ≡ true
 runs_more nodes i node within at before here =
     ap (λ (l : List AstNode). forest_runs (forest_of l)) (take_more nodes i node within ∙ ap (λ (n : AstNode). take i nodes ++ n ∷ []) (sym at))
-    ∙ ap (λ (l : List Node). forest_runs (linked l)) (map-append node_of (take i nodes) (node ∷ [])) ∙ runs_front (map node_of (take i nodes)) (node_of node ∷ []) ∙ join _ _ before here
+    ∙ ap (λ (l : List Node). forest_runs (linked l)) (map-append node_of (take i nodes) (node ∷ [])) ∙ runs_front (map node_of (take i nodes)) (node_of node ∷ []) ∙ and_of _ _ before here
 
 false_right : (a b : Bool) → b ≡ false → (a && b) ≡ false
 false_right true b h = h
@@ -60,35 +49,27 @@ runs_not (n ∷ nodes) (suc i) node within at h =
 pub runs_all : (make : Compound → Path) → ((c : Compound) → compound_runs c ≡ true → path_runs (make c) ≡ true) → (f : Forest) → forest_runs f ≡ true → (path : Path) → HasNode make f path → path_runs path ≡ true
 runs_all make law none h path n = absurd n
 runs_all make law (more c ids children descendants rest) h path (inl (inl is)) =
-    let here = both (compound_runs c) _ (both _ (forest_runs rest) h).0 in
+    let here = and_parts (compound_runs c) _ (and_parts _ (forest_runs rest) h).0 in
     subst (λ (p : Path). path_runs p ≡ true) is (law c here.0)
 runs_all make law (more c ids children descendants rest) h path (inl (inr (inl n))) =
-    let here = both (compound_runs c) _ (both _ (forest_runs rest) h).0 in
-    let under = both (forest_runs children) (forest_runs descendants) here.1 in
-    runs_all (Then (make c) Child) (λ d e. join (path_runs (make c)) (compound_runs d) (law c here.0) e) children under.0 path n
+    let here = and_parts (compound_runs c) _ (and_parts _ (forest_runs rest) h).0 in
+    let under = and_parts (forest_runs children) (forest_runs descendants) here.1 in
+    runs_all (Then (make c) Child) (λ d e. and_of (path_runs (make c)) (compound_runs d) (law c here.0) e) children under.0 path n
 runs_all make law (more c ids children descendants rest) h path (inl (inr (inr n))) =
-    let here = both (compound_runs c) _ (both _ (forest_runs rest) h).0 in
-    let under = both (forest_runs children) (forest_runs descendants) here.1 in
-    runs_all (Then (make c) Descendant) (λ d e. join (path_runs (make c)) (compound_runs d) (law c here.0) e) descendants under.1 path n
-runs_all make law (more c ids children descendants rest) h path (inr n) = runs_all make law rest (both _ (forest_runs rest) h).1 path n
+    let here = and_parts (compound_runs c) _ (and_parts _ (forest_runs rest) h).0 in
+    let under = and_parts (forest_runs children) (forest_runs descendants) here.1 in
+    runs_all (Then (make c) Descendant) (λ d e. and_of (path_runs (make c)) (compound_runs d) (law c here.0) e) descendants under.1 path n
+runs_all make law (more c ids children descendants rest) h path (inr n) = runs_all make law rest (and_parts _ (forest_runs rest) h).1 path n
 
 pub all_run : (make : Compound → Path) → ((c : Compound) → path_runs (make c) ≡ true → compound_runs c ≡ true) → (f : Forest) → ((path : Path) → HasNode make f path → path_runs path ≡ true) → forest_runs f ≡ true
 all_run make law none h = refl
 all_run make law (more c ids children descendants rest) h =
-    join _ (forest_runs rest)
-    (join (compound_runs c) _ (law c (h (make c) (inl (inl refl))))
-    (join (forest_runs children) (forest_runs descendants)
-    (all_run (Then (make c) Child) (λ d e. (both (path_runs (make c)) (compound_runs d) e).1) children (λ path n. h path (inl (inr (inl n)))))
-    (all_run (Then (make c) Descendant) (λ d e. (both (path_runs (make c)) (compound_runs d) e).1) descendants (λ path n. h path (inl (inr (inr n)))))))
+    and_of _ (forest_runs rest)
+    (and_of (compound_runs c) _ (law c (h (make c) (inl (inl refl))))
+    (and_of (forest_runs children) (forest_runs descendants)
+    (all_run (Then (make c) Child) (λ d e. (and_parts (path_runs (make c)) (compound_runs d) e).1) children (λ path n. h path (inl (inr (inl n)))))
+    (all_run (Then (make c) Descendant) (λ d e. (and_parts (path_runs (make c)) (compound_runs d) e).1) descendants (λ path n. h path (inl (inr (inr n)))))))
     (all_run make law rest (λ path n. h path (inr n)))
-
--- a pair's path is that of a node
-pub pair_at_node : (make : Compound → Path) (f : Forest) (path : Path) (id : ℕ) → HasPair make f path id → HasNode make f path
-pair_at_node make none path id h = absurd h
-pair_at_node make (more c ids children descendants rest) path id (inl (inl own)) = inl (inl own.0)
-pair_at_node make (more c ids children descendants rest) path id (inl (inr (inl h))) = inl (inr (inl (pair_at_node (Then (make c) Child) children path id h)))
-pair_at_node make (more c ids children descendants rest) path id (inl (inr (inr h))) = inl (inr (inr (pair_at_node (Then (make c) Descendant) descendants path id h)))
-pair_at_node make (more c ids children descendants rest) path id (inr h) = inr (pair_at_node make rest path id h)
 
 pub empty_from : {A : Type 0} (xs : List A) → length xs ≡ 0 → xs ≡ []
 empty_from [] h = refl

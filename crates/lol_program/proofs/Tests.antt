@@ -1,7 +1,6 @@
 -- The tests of parts and the compounds of items, one after another.
-use Rattle.std.proofs.Common.{◌≡◌, ℕ, zero, suc, ◌+◌, ◌-◌, ◌<◌, ◌≤◌, arith, List, [], ◌∷◌, ◌++◌, length, get_or, take, map, reverse, refl, sym, ap, ◌∙◌, ⊎_elim, append_assoc, append-nil}
-use Rattle.std.proofs.lemmas.List.{take_more, take_all, map-append, length-map, get_or-map, reverse-append}
-use Rattle.std.proofs.lemmas.Bool.{cases_lt}
+use Rattle.std.proofs.Common.{◌≡◌, ℕ, ◌-◌, ◌≤◌, arith, List, [], ◌∷◌, ◌++◌, length, get_or, map, reverse, refl, sym, ap, ◌∙◌, append_assoc, append-nil}
+use Rattle.std.proofs.lemmas.List.{reverse-append}
 use Rattle.lol_css.specs.Trees as trees
 use Rattle.lol_css.specs.declared.selector.SimpleSelector.{SimpleSelector}
 use Rattle.lol_css.specs.declared.selector.ComplexSelector.{ComplexSelector}
@@ -80,51 +79,7 @@ items_compounds-items items = items-front trees.NoItems [] items refl
 pub items_compounds-list : (list : SelectorList) → items_compounds (list_of list) ≡ items_compounds (with_item_list trees.NoItems (out-SelectorList list).items.items)
 items_compounds-list list = ap items_compounds (list_of-out list)
 
--- 3. Two lists that agree, element by element
-
-pub agreed : {A B C : Type 0} (f : A → C) (g : B → C) (xs : List A) (ys : List B) → length xs ≡ length ys → ((k : ℕ) (a : A) (b : B) → k < length xs → f (get_or xs k a) ≡ g (get_or ys k b)) → map f xs ≡ map g ys
-agreed f g [] [] len h = refl
-agreed f g [] (y ∷ ys) len h = absurd (omega (arith, len))
-agreed f g (x ∷ xs) [] len h = absurd (omega (arith, len))
-agreed f g (x ∷ xs) (y ∷ ys) len h = λ i. h 0 x y (omega arith) i ∷ agreed f g xs ys (omega (arith, len)) (λ k a b within. h (suc k) a b (omega (arith, within))) i
-
-pub at_place : {A B C : Type 0} (f : A → C) (g : B → C) (xs : List A) (ys : List B) (k : ℕ) (a : A) (b : B) → map f xs ≡ map g ys → k < length xs → f (get_or xs k a) ≡ g (get_or ys k b)
-at_place f g xs ys k a b same within =
-    let len : length xs ≡ length ys = sym (length-map xs f) ∙ ap length same ∙ length-map ys g in
-    let there : k < length ys = omega (arith, len, within) in
-    sym (get_or-map f xs k a (f a) within) ∙ ap (λ l. get_or l k (f a)) same ∙ get_or-map g ys k b (f a) there
-
-pub same_length : {A B C : Type 0} (f : A → C) (g : B → C) (xs : List A) (ys : List B) → map f xs ≡ map g ys → length xs ≡ length ys
-same_length f g xs ys same = sym (length-map xs f) ∙ ap length same ∙ length-map ys g
-
--- one element more
-pub mapped_more : {A B : Type 0} (f : A → B) (xs : List A) (i : ℕ) (x : A) → i < length xs → x ≡ get_or xs i x → map f (take (i + 1) xs) ≡ map f (take i xs) ++ f x ∷ []
-mapped_more f xs i x within at = ap (map f) (take_more xs i x within) ∙ map-append f (take i xs) (get_or xs i x ∷ []) ∙ ap (λ y. map f (take i xs) ++ f y ∷ []) (sym at)
-
-pub mapped_all : {A B : Type 0} (f : A → B) (xs : List A) (i : ℕ) → length xs ≤ i → map f (take i xs) ≡ map f xs
-mapped_all f xs i h = ap (map f) (take_all i xs h)
-
-get_or-any : {X : Type 0} (xs : List X) (i : ℕ) (d e : X) → i < length xs → get_or xs i d ≡ get_or xs i e
-get_or-any [] i d e h = absurd (omega (arith, h))
-get_or-any (x ∷ xs) zero d e h = refl
-get_or-any (x ∷ xs) (suc i) d e h = get_or-any xs i d e (omega (arith, h))
-
--- one element more that agrees
-pub agreed_more : {A B C : Type 0} (f : A → C) (g : B → C) (xs : List A) (ys : List B) (i : ℕ) (x : A) (y : B) → i < length xs → length xs ≡ length ys → x ≡ get_or xs i x → y ≡ get_or ys i y → f x ≡ g y
-    → ((k : ℕ) (a : A) (b : B) → k < i → f (get_or xs k a) ≡ g (get_or ys k b)) → (k : ℕ) (a : A) (b : B) → k < i + 1 → f (get_or xs k a) ≡ g (get_or ys k b)
-agreed_more f g xs ys i x y within len at at' here before k a b h = ⊎_elim (λ (lt : k < i). before k a b lt) (λ (le : i ≤ k). there (omega (arith, le, h))) (cases_lt k i)
-  where
-    there : k ≡ i → f (get_or xs k a) ≡ g (get_or ys k b)
-    there e =
-        let inside : i < length ys = omega (arith, within, len) in
-        ap (λ (j : ℕ). f (get_or xs j a)) e ∙ ap f (get_or-any xs i a x within ∙ sym at) ∙ here ∙ ap g (at' ∙ get_or-any ys i y b inside) ∙ ap (λ (j : ℕ). g (get_or ys j b)) (sym e)
-
-pub reverse-map : {A B : Type 0} (f : A → B) (xs : List A) → reverse (map f xs) ≡ map f (reverse xs)
-reverse-map f [] = refl
-reverse-map f (x ∷ xs) =
-    reverse-append (f x ∷ []) (map f xs) ∙ ap (λ l. l ++ f x ∷ []) (reverse-map f xs) ∙ sym (map-append f (reverse xs) (x ∷ [])) ∙ ap (map f) (sym (reverse-append (x ∷ []) xs))
-
--- 4. The compound of an item is its last one
+-- 3. The compound of an item is its last one
 
 last_counts : (front : trees.Item) (next : Combinator × css.Compound) (others : List (Combinator × css.Compound)) (d : Combinator × css.Compound)
     → item_compound (with_compound_list front (next ∷ others)) ≡ written_tests (compound_of (get_or (next ∷ others) (length others) d).1)

@@ -23,3 +23,9 @@ pub mod Attributes
 pub mod Matchers
 pub mod Substrings
 pub mod Marks
+pub mod NodeMemberLaws
+pub mod NodeListLaws
+pub mod NodeOnceLaws
+pub mod SamePathLaws
+pub mod PairNodeLaws
+pub mod ClosedLaws

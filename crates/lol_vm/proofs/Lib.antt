@@ -1,5 +1,3 @@
-pub mod Reports
-pub mod Orders
 pub mod Passing
 pub mod Plain
 pub mod Visits

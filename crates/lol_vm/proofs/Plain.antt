@@ -1,4 +1,5 @@
 -- What the plain matcher looks at.
+use Rattle.lol_base.specs.BoolLaws.{and_parts, and-true}
 use Rattle.std.proofs.Common.{◌≡◌, ℕ, zero, suc, ◌+◌, ◌-◌, ◌<◌, ◌≤◌, arith, take, get_or, Bool, true, false, ◌&&◌, ◌||◌, not, List, [], ◌∷◌, ◌++◌, map, reverse, length, refl, sym, ap, ◌∙◌, subst}
 use Rattle.std.specs.Str.{bytes_eq}
 use Rattle.std.proofs.lemmas.List.{take_more, reverse-append, length-reverse, nil_from_length}
@@ -14,23 +15,18 @@ use Rattle.lol_program.specs.Predicates.{tests_of}
 use Rattle.lol_program.specs.Runs.{is_by_name, test_runs, compound_runs, all_run}
 use Rattle.lol_program.specs.ForestRuns.{forest_runs}
 use Rattle.lol_program.specs.Forest.{Forest, more}
-use Rattle.lol_program.proofs.Running.{both}
 use Rattle.lol_vm.specs.Matching.{matches, step_reaches, some_ancestor_passes}
 use Rattle.lol_vm.specs.OpenNames.{Spells, AreNamed, StepsRun, names_of, name_passes, test_passes, compound_passes, some_passes, path_up}
 use Rattle.lol_vm.specs.declared.matching.OpenElement.{OpenElement}
 use Rattle.lol_vm.specs.declared.matching.Step.{Step}
 
-pub and-true : (b : Bool) → (b && true) ≡ b
-and-true true = refl
-and-true false = refl
-
 -- what runs of a list of trees that runs
 pub runs_parts : (c : Compound) (ids : List ℕ) (children descendants rest : Forest) → forest_runs (more c ids children descendants rest) ≡ true
     → (compound_runs c ≡ true) × (forest_runs children ≡ true) × (forest_runs descendants ≡ true) × (forest_runs rest ≡ true)
 runs_parts c ids children descendants rest h =
-    let outer = both _ _ h in
-    let own = both _ _ outer.0 in
-    let under = both _ _ own.1 in
+    let outer = and_parts _ _ h in
+    let own = and_parts _ _ outer.0 in
+    let under = and_parts _ _ own.1 in
     (own.0, under.0, under.1, outer.1)
 
 -- 1. Tests by the name
@@ -53,13 +49,13 @@ module _ (name : Name) (e : Element) (spelled : Spells name e.tag.name) where
     pub compound_is : (c : Compound) → compound_runs c ≡ true → compound_passes name c ≡ all_hold c e
     compound_is NoTests h = refl
     compound_is (AndTest test tests) h =
-        let parts = both _ _ h in
+        let parts = and_parts _ _ h in
         λ i. test_is test parts.0 i && compound_is tests parts.1 i
 
     some_is : (cs : Compounds) → all_run cs ≡ true → some_passes name cs ≡ some_hold cs e
     some_is NoCompounds h = refl
     some_is (OrCompound c cs) h =
-        let parts = both _ _ h in
+        let parts = and_parts _ _ h in
         λ i. compound_is c parts.0 i || some_is cs parts.1 i
 
 -- 2. Paths, by their last step

@@ -1,5 +1,6 @@
 -- Runs over the open names.
-use Rattle.std.proofs.Common.{◌≡◌, ℕ, ◌+◌, ◌-◌, ◌≤◌, Bool, true, false, ◌&&◌, ◌||◌, not, cond, List, [], ◌∷◌, ◌++◌, map, reverse, take, drop, length, position, Some, None, refl, sym, ap, ◌∙◌, arith}
+use Rattle.lol_base.specs.BoolLaws.{and-true, or-false}
+use Rattle.std.proofs.Common.{◌≡◌, ℕ, ◌+◌, ◌-◌, ◌≤◌, Bool, false, ◌&&◌, not, cond, List, [], ◌∷◌, ◌++◌, map, reverse, take, drop, length, position, Some, None, refl, sym, ap, ◌∙◌, arith}
 use Rattle.std.specs.List.{position_or_len}
 use Rattle.std.specs.Prelude.{nat_lt, if◌then◌else◌}
 use Rattle.std.specs.Str.{bytes_eq}
@@ -10,7 +11,7 @@ use Rattle.lol_base.specs.StartTags.{StartTag}
 use Rattle.lol_base.specs.declared.namespace.Namespace.TheVariants.{Html}
 use Rattle.lol_program.specs.Tests.{Element}
 use Rattle.lol_program.specs.Paths.{Selectors}
-use Rattle.lol_program.proofs.Members.{map-map}
+use Rattle.lol_base.specs.MemberLaws.{map-map}
 use Rattle.lol_vm.specs.Events as events
 use Rattle.lol_vm.specs.Events.{Event, has_content, has_content_in}
 use Rattle.lol_vm.specs.Documents.{Document, element_of, closed, after_start, after_end, place_of, inner_part, outer_part}
@@ -19,7 +20,6 @@ use Rattle.lol_vm.specs.Answers.{Answer, answer, after, answers_from, document_f
 use Rattle.lol_vm.specs.Views.{without_tries}
 use Rattle.lol_vm.specs.OpenNames.{Spells, AreNamed, Stands, shown}
 use Rattle.lol_vm.specs.declared.matching.OpenElement.{OpenElement}
-use Rattle.lol_vm.proofs.Plain.{and-true}
 
 -- 1. An answer without attributes
 
@@ -100,10 +100,6 @@ module _ (elements : List OpenElement) (d : Document) (stands : Stands elements 
           ap (map shown) (sym (drop-reverse (back + 1) elements within))
           ∙ (sym (drop-map shown (back + 1) (reverse elements)) ∙ (ap (drop (back + 1)) stands ∙ (drop-map kept_of (back + 1) d.open_elements
           ∙ ap (λ place. map kept_of (outer_part place d.open_elements)) (sym (sym place-stands ∙ found)))))
-
-or-false : (b : Bool) → (b || false) ≡ b
-or-false true = refl
-or-false false = refl
 
 -- without ESI an HTML tag has content unless its name is void
 pub content_by_name : (tag : StartTag) → tag.namespace ≡ Html → has_content false tag ≡ not (is_void tag.name)

@@ -1,6 +1,7 @@
 -- What the nodes of the tree report, and that they need no attributes.
-use Rattle.std.proofs.Common.{◌≡◌, ℕ, Bool, true, false, ◌&&◌, ◌||◌, not, List, [], ◌∷◌, ◌++◌, map, ◌⊎◌, inl, inr, ⊎_elim, refl, sym, ap, ◌∙◌, true≢false}
-use Rattle.std.specs.Prelude.{Contains, AllPairs, ◌≢◌}
+use Rattle.lol_base.specs.BoolLaws.{and_parts, and-right_false, or_neither}
+use Rattle.std.proofs.Common.{◌≡◌, ℕ, Bool, true, false, ◌||◌, not, List, [], ◌∷◌, ◌++◌, map, ◌⊎◌, inl, inr, ⊎_elim, refl, sym, ap, ◌∙◌, true≢false}
+use Rattle.std.specs.Prelude.{Contains}
 use Rattle.std.specs.List.{list_any}
 use Rattle.std.proofs.lemmas.List.Folds.{list_any-append}
 use Rattle.std.proofs.lemmas.List.Kept.{AllPairs-from_increasing}
@@ -19,23 +20,20 @@ use Rattle.lol_program.specs.declared.name_value.NameValue.TheVariants.{True, Fa
 use Rattle.lol_program.specs.Forest.{Forest, none, more, tops, below, nodes_in, pairs_in}
 use Rattle.lol_program.specs.Runs.{test_runs, compound_runs, all_run}
 use Rattle.lol_program.specs.ForestRuns.{forest_runs}
-use Rattle.lol_program.proofs.Members.{Among, among_front, among_back, among_either, among_from_contains, contains_from_among}
+use Rattle.lol_base.specs.MemberLaws.{Among, among_front, among_back, among_either, among_from_contains, contains_from_among}
 use Rattle.lol_program.specs.Runs.{path_runs}
 use Rattle.lol_program.proofs.IdSets.{listed, held}
-use Rattle.lol_program.proofs.Listed.{nodes_listed}
+use Rattle.lol_program.specs.NodeListLaws.{nodes_listed}
 use Rattle.lol_program.proofs.Running as running
-use Rattle.lol_program.proofs.Running.{both}
-use Rattle.lol_program.specs.Asts.{nodes_of, trees_of}
-use Rattle.lol_program.specs.declared.ast.Ast.{Ast}
-use Rattle.lol_program.proofs.Once.{AllPairs-from_Distinct, nodes_distinct}
+use Rattle.lol_program.specs.ClosedLaws.{trees_are_closed}
 use Rattle.lol_vm.specs.Views.{selectors}
 use Rattle.lol_vm.specs.Laws.{TreesAnswerAlike}
 use Rattle.lol_vm.specs.Matching.{matches, left_matches}
 use Rattle.lol_vm.specs.Answers.{matching_ids, asks, needs_attributes}
 use Rattle.lol_vm.specs.OpenNames.{Reports, Gains}
 use Rattle.lol_vm.proofs.Plain.{runs_parts}
-use Rattle.lol_vm.proofs.Orders.{order_changes_nothing}
-use Rattle.lol_vm.proofs.Reports.{among_matching_ids, matching_ids_among, matching_ids_ascend, ascending_is_determined}
+use Rattle.lol_vm.specs.OrderLaws.{order_changes_nothing}
+use Rattle.lol_vm.specs.ReportLaws.{among_matching_ids, matching_ids_among, matching_ids_ascend, ascending_is_determined}
 
 -- 1. The pairs
 
@@ -133,44 +131,37 @@ module _ (e : Element) where
     compound_closed : (c : Compound) → compound_runs c ≡ true → is_open (by_names c e) ≡ false
     compound_closed NoTests h = refl
     compound_closed (AndTest test tests) h =
-        let parts = both _ _ h in
+        let parts = and_parts _ _ h in
         closed_both (test_by_names test e) (by_names tests e) (test_closed test parts.0) (compound_closed tests parts.1)
 
     some_closed : (cs : Compounds) → all_run cs ≡ true → is_open (some_by_names cs e) ≡ false
     some_closed NoCompounds h = refl
     some_closed (OrCompound c cs) h =
-        let parts = both _ _ h in
+        let parts = and_parts _ _ h in
         closed_either (by_names c e) (some_by_names cs e) (compound_closed c parts.0) (some_closed cs parts.1)
-
-and_false : (a b : Bool) → b ≡ false → (a && b) ≡ false
-and_false true b h = h
-and_false false b h = refl
-
-neither : (a b : Bool) → a ≡ false → b ≡ false → (a || b) ≡ false
-neither a b ha hb = λ i. ha i || hb i
 
 module _ (e : Element) (outer : List Element) where
   needs_none : (node : Path) → compound_runs (last_compound node) ≡ true → needs_attributes e outer node ≡ false
-  needs_none node h = and_false (left_matches node outer) _ (compound_closed e (last_compound node) h)
+  needs_none node h = and-right_false (left_matches node outer) _ (compound_closed e (last_compound node) h)
 
   tops_need_none : (make : Compound → Path) → ((c : Compound) → last_compound (make c) ≡ c) → (f : Forest) → forest_runs f ≡ true → list_any (needs_attributes e outer) (tops make f) ≡ false
   tops_need_none make last none runs = refl
   tops_need_none make last (more c own children descendants rest) runs =
       let parts = runs_parts c own children descendants rest runs in
-      neither _ _ (needs_none (make c) (ap compound_runs (last c) ∙ parts.0)) (tops_need_none make last rest parts.3)
+      or_neither _ _ (needs_none (make c) (ap compound_runs (last c) ∙ parts.0)) (tops_need_none make last rest parts.3)
 
   nodes_need_none : (make : Compound → Path) → ((c : Compound) → last_compound (make c) ≡ c) → (f : Forest) → forest_runs f ≡ true
       → list_any (needs_attributes e outer) (below make f) ≡ false → list_any (needs_attributes e outer) (nodes_in make f) ≡ false
-  nodes_need_none make last f runs under = list_any-append (needs_attributes e outer) (tops make f) (below make f) ∙ neither _ _ (tops_need_none make last f runs) under
+  nodes_need_none make last f runs under = list_any-append (needs_attributes e outer) (tops make f) (below make f) ∙ or_neither _ _ (tops_need_none make last f runs) under
 
   below_need_none : (make : Compound → Path) (f : Forest) → forest_runs f ≡ true → list_any (needs_attributes e outer) (below make f) ≡ false
   below_need_none make none runs = refl
   below_need_none make (more c own children descendants rest) runs =
       let parts = runs_parts c own children descendants rest runs in
       list_any-append (needs_attributes e outer) (nodes_in (Then (make c) Child) children) _
-      ∙ neither _ _ (nodes_need_none (Then (make c) Child) (λ d. refl) children parts.1 (below_need_none (Then (make c) Child) children parts.1))
+      ∙ or_neither _ _ (nodes_need_none (Then (make c) Child) (λ d. refl) children parts.1 (below_need_none (Then (make c) Child) children parts.1))
       (list_any-append (needs_attributes e outer) (nodes_in (Then (make c) Descendant) descendants) _
-      ∙ neither _ _ (nodes_need_none (Then (make c) Descendant) (λ d. refl) descendants parts.2 (below_need_none (Then (make c) Descendant) descendants parts.2)) (below_need_none make rest parts.3))
+      ∙ or_neither _ _ (nodes_need_none (Then (make c) Descendant) (λ d. refl) descendants parts.2 (below_need_none (Then (make c) Descendant) descendants parts.2)) (below_need_none make rest parts.3))
 
   pub asks_nothing : (f : Forest) → forest_runs f ≡ true → e.tag.namespace ≡ Html → asks (record { pairs = pairs_in First f; nodes = nodes_in First f }) e outer ≡ false
   asks_nothing f runs html = λ i. not (is_html (html i)) || nodes_need_none First (λ c. refl) f runs (below_need_none First f runs) i
@@ -182,9 +173,6 @@ runs_forest f h = running.all_run First (λ c e. e) f (λ path n. h path ((nodes
 
 -- 4. Trees with the same members
 
-once : (ast : Ast) → AllPairs (λ a b. a ≢ b) (nodes_of ast)
-once ast = AllPairs-from_Distinct (nodes_of ast) (nodes_distinct (trees_of ast) ast.siblings)
-
 pub trees_answer_alike : TreesAnswerAlike
 trees_answer_alike a b pairs nodes esi events =
-    (order_changes_nothing (selectors a) (selectors b) (record { pairs = pairs; nodes = nodes; each_once = once a; each_once' = once b }) esi events).0
+    (order_changes_nothing (selectors a) (selectors b) (record { pairs = pairs; nodes = nodes; each_once = (trees_are_closed a).once; each_once' = (trees_are_closed b).once }) esi events).0

@@ -1,4 +1,5 @@
 -- What visiting the tree finds.
+use Rattle.lol_base.specs.BoolLaws.{or_parts, or_of}
 use Rattle.std.proofs.Common.{◌≡◌, ℕ, zero, suc, ◌+◌, ◌<◌, take, get_or, Bool, true, false, ◌||◌, List, [], ◌∷◌, ◌++◌, map, reverse, length, ◌⊎◌, ◌↔◌, inl, inr, ⊎_elim, refl, sym, ap, ◌∙◌, arith, subst, true≢false}
 use Rattle.std.specs.Prelude.{Contains}
 use Rattle.std.proofs.lemmas.List.{take_more, map_push, reverse-append, get_or-map, length-map}
@@ -45,19 +46,11 @@ gains_same r s P Q same gains id = (
   λ h. (gains id).1 (⊎_elim (λ (a : has r id ≡ true). inl a) (λ (q : Q id). inr ((same id).1 q)) h),
 )
 
-either : (a b : Bool) → (a || b) ≡ true → (a ≡ true) ⊎ (b ≡ true)
-either true b h = inl refl
-either false b h = inr h
-
-or_of : (a b : Bool) → (a ≡ true) ⊎ (b ≡ true) → (a || b) ≡ true
-or_of true b h = refl
-or_of false b h = ⊎_elim (λ (x : false ≡ true). absurd (true≢false (sym x))) (λ (y : b ≡ true). y) h
-
 -- the ids of a node that matches
 pub gains_ids : (r s ids : Ids) (matched : Bool) → matched ≡ true → s ≡ union r ids → Gains r s (λ id. Contains (ascending ids) id × (matched ≡ true))
 gains_ids r s ids matched holds is id =
     let same : has s id ≡ (has r id || has ids id) = ap (λ (x : Ids). has x id) is ∙ has-union r ids id in (
-      λ h. ⊎_elim (λ (a : has r id ≡ true). inl a) (λ (b : has ids id ≡ true). inr (listed ids id b, holds)) (either _ _ (sym same ∙ h)),
+      λ h. ⊎_elim (λ (a : has r id ≡ true). inl a) (λ (b : has ids id ≡ true). inr (listed ids id b, holds)) (or_parts _ _ (sym same ∙ h)),
       λ h. same ∙ or_of _ _ (⊎_elim (λ (a : has r id ≡ true). inl a) (λ (b : Contains (ascending ids) id × (matched ≡ true)). inr (held ids id b.0)) h),
     )
 

@@ -12,3 +12,5 @@ pub mod Lending
 pub mod WithRange
 pub mod Calls
 pub mod Contexts
+pub mod OrderLaws
+pub mod ReportLaws

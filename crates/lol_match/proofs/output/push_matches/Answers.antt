@@ -1,5 +1,5 @@
 use Rattle.std.proofs.Common.{◌++◌, arith, ap, sym, ◌∙◌}
-use Rattle.lol_program.proofs.Members.{map-map}
+use Rattle.lol_base.specs.MemberLaws.{map-map}
 use Rattle.lol_vm.specs.Views.{match_of}
 use Rattle.lol_match.specs.Output.{listed, shown_match}
 use Rattle.lol_match.proofs.Lists.{list_written}

@@ -1,12 +1,10 @@
 use Rattle.std.proofs.Common.{◌++◌, false, map, ap, ◌∙◌}
-use Rattle.lol_program.specs.Asts.{pairs_of, trees_of}
 use Rattle.lol_program.specs.Nodes.{selectors_of}
-use Rattle.lol_program.specs.Asts as tree
-use Rattle.lol_program.proofs.NodeLists.{nodes_of-AreNodes}
-use Rattle.lol_program.proofs.Once.{AllPairs-from_Distinct, nodes_distinct}
+use Rattle.lol_program.specs.ClosedLaws.{trees_are_closed}
+use Rattle.lol_program.specs.PairNodeLaws.{nodes_of-AreNodes}
 use Rattle.lol_vm.specs.Answers.{answers}
 use Rattle.lol_vm.specs.Views.{answer_of, event_of, selectors}
-use Rattle.lol_vm.proofs.Orders.{order_changes_nothing}
+use Rattle.lol_vm.specs.OrderLaws.{order_changes_nothing}
 use Rattle.lol_match.specs.Output.{shown_answer, lines_of}
 use Rattle.lol_match.proofs.Texts.{lines_of_reports}
 use Rattle.lol_match.proofs.program.good_text.Goals as goal
@@ -22,7 +20,7 @@ returns c = λ s reading.
     (record {
       pairs = reading.pairs;
       nodes = λ node. (λ h. (are.members node).1 ((reading.nodes node).0 h), λ h. (reading.nodes node).1 ((are.members node).0 h));
-      each_once = AllPairs-from_Distinct (tree.nodes_of ast) (nodes_distinct (trees_of ast) ast.siblings);
+      each_once = (trees_are_closed ast).once;
       each_once' = are.each_once;
     }) false s.events in
     c.in_ok-push_reports.ensures

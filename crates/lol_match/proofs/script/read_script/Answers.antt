@@ -9,7 +9,7 @@ use Rattle.std.proofs.lemmas.List.{length_push}
 use Rattle.std.proofs.lemmas.List.FromFn.{length-enumerate_from}
 use Rattle.std.proofs.lemmas.List.Elements.{All-nil}
 use Rattle.lol_program.specs.Paths.{Path}
-use Rattle.lol_program.proofs.Members.{among_from_contains}
+use Rattle.lol_base.specs.MemberLaws.{among_from_contains}
 use Rattle.lol_vm.specs.Views.{IsPlainHtml, HasRangesInside, event_of}
 use Rattle.lol_program.specs.Runs.{path_runs}
 use Rattle.lol_match.specs.First.{line_at}

@@ -1,3 +1,4 @@
+use Rattle.lol_base.specs.BoolLaws.{not_true}
 use Rattle.std.proofs.Common.{◌≡◌, [], ◌++◌, List, ℕ, Bool, true, false, map, sym, ap, ◌∙◌, subst, arith, true≢false}
 use Rattle.std.specs.Prelude.{Result, Ok, Err, if◌then◌else◌}
 use Rattle.std.specs.List.{list_all}
@@ -19,7 +20,7 @@ use Rattle.lol_match.specs.Readings.{Stops}
 use Rattle.lol_match.specs.declared.bad_line.BadLine.{BadLine}
 use Rattle.lol_match.specs.declared.bad_line.Cause.TheVariants.{Selector}
 use Rattle.lol_match.proofs.Scripts.{selector_taken, joined}
-use Rattle.lol_match.proofs.Selected.{added_run, nodes_run, not_true}
+use Rattle.lol_match.proofs.Selected.{added_run, nodes_run}
 use Rattle.lol_match.proofs.script.take_selector.Goals as goal
 
 -- what a selector that was read gives

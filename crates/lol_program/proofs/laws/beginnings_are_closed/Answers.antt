@@ -1,4 +1,4 @@
-use Rattle.lol_program.proofs.Closed.{beginnings_are_closed}
+use Rattle.lol_program.specs.ClosedLaws.{beginnings_are_closed}
 use Rattle.lol_program.proofs.laws.beginnings_are_closed.Goals as goal
 
 pub returns : goal.returns

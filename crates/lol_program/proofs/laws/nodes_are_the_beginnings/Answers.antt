@@ -1,4 +1,4 @@
-use Rattle.lol_program.proofs.NodeLists.{nodes_of-AreNodes}
+use Rattle.lol_program.specs.PairNodeLaws.{nodes_of-AreNodes}
 use Rattle.lol_program.proofs.laws.nodes_are_the_beginnings.Goals as goal
 
 pub returns : goal.returns

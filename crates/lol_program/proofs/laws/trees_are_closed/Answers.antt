@@ -1,4 +1,4 @@
-use Rattle.lol_program.proofs.Closed.{trees_are_closed}
+use Rattle.lol_program.specs.ClosedLaws.{trees_are_closed}
 use Rattle.lol_program.proofs.laws.trees_are_closed.Goals as goal
 
 pub returns : goal.returns

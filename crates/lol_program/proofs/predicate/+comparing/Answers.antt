@@ -1,3 +1,4 @@
+use Rattle.lol_base.specs.ListLaws.{agreed, agreed_more, at_place, same_length}
 use Rattle.std.proofs.Common.{◌≡◌, ◌≤◌, ◌-◌, ⊎_elim, true≢false, refl, arith, length, get_or, map, ap, sym, ◌∙◌, List}
 use Rattle.lol_css.specs.declared.selector.SimpleSelector.TheViews.{out-ComplexSelector}
 use Rattle.lol_css.specs.declared.selector.Combinator.{Combinator}
@@ -10,7 +11,7 @@ use Rattle.lol_program.specs.Compounds.{all_of, any_of}
 use Rattle.lol_program.specs.declared.predicate.Test.{Test}
 use Rattle.lol_program.specs.Conditions.{part_test, item_compound, written_tests}
 use Rattle.lol_program.specs.Predicates.{test_shown, tests_of}
-use Rattle.lol_program.proofs.Tests.{test_in, compound_in, agreed, agreed_more, at_place, same_length, all_of-equal, any_of-equal, written_tests-parts, items_compounds-items, counts_first, counts_last}
+use Rattle.lol_program.proofs.Tests.{test_in, compound_in, all_of-equal, any_of-equal, written_tests-parts, items_compounds-items, counts_first, counts_last}
 use Rattle.lol_program.proofs.TestRows.{test_shown-NoneOf, test_shown-SomeOf, same_lists}
 use Rattle.lol_program.proofs.predicate.+comparing.Goals as goal
 use Rattle.lol_program.proofs.predicate.+comparing.Goals.{Predicate::is_of_item-in-empty, Predicate::is_of_item-in-len1-up}

@@ -1,3 +1,4 @@
+use Rattle.lol_base.specs.ListLaws.{mapped_more, mapped_all}
 use Rattle.std.proofs.Common.{◌≡◌, ◌≤◌, ◌-◌, ◌∷◌, [], ◌++◌, arith, length, get_or, map, ap, sym, ◌∙◌, ⊎_elim, List}
 use Rattle.std.proofs.lemmas.List.{map-append}
 use Rattle.lol_css.specs.declared.selector.SimpleSelector.TheViews.{out-ComplexSelector}
@@ -9,7 +10,7 @@ use Rattle.lol_program.specs.Compounds.{NoneOf, SomeOf, all_of, any_of}
 use Rattle.lol_program.specs.Conditions.{part_test, written_tests}
 use Rattle.lol_program.specs.Predicates.{test_shown, tests_of}
 use Rattle.lol_program.proofs.TestRows.{test_shown-NoneOf, test_shown-SomeOf}
-use Rattle.lol_program.proofs.Tests.{test_in, compound_in, mapped_more, mapped_all, written_tests-parts, items_compounds-items, items_compounds-list, counts_first, counts_last}
+use Rattle.lol_program.proofs.Tests.{test_in, compound_in, written_tests-parts, items_compounds-items, items_compounds-list, counts_first, counts_last}
 use Rattle.lol_program.proofs.predicate.+parts.Goals as goal
 use Rattle.lol_program.proofs.predicate.+parts.Goals.{Predicate::from_item-in-empty, Predicate::from_item-in-len1-up}
 

@@ -1,3 +1,4 @@
+use Rattle.lol_base.specs.ListLaws.{passes_more, passes_not, passes_all}
 use Rattle.std.proofs.Common.{map, List, ⊎_elim, sym, ap, ◌∙◌}
 use Rattle.lol_program.specs.Compounds.{all_of, any_of}
 use Rattle.lol_program.specs.Predicates.{test_shown, tests_of}
@@ -5,7 +6,7 @@ use Rattle.lol_program.specs.Runs.{test_runs, compound_runs, all_run}
 use Rattle.lol_program.specs.declared.predicate.Test.{Test}
 use Rattle.lol_program.proofs.TestRows.{test_shown-NoneOf, test_shown-SomeOf}
 use Rattle.lol_program.specs.declared.predicate.Predicate.{Predicate}
-use Rattle.lol_program.proofs.RunningTests.{code_test_runs, predicate_runs, compound_runs-list, all_run-list, passes_more, passes_not, passes_all}
+use Rattle.lol_program.proofs.RunningTests.{code_test_runs, predicate_runs, compound_runs-list, all_run-list}
 use Rattle.lol_program.proofs.predicate.+running.Goals as goal
 
 pub Test::runs_now-returns-in-NoneOf : goal.Test::runs_now-returns-in-NoneOf

@@ -1,9 +1,10 @@
+use Rattle.lol_base.specs.ListLaws.{agreed, agreed_more, at_place, same_length, reverse-map}
 use Rattle.std.proofs.Common.{◌≡◌, ℕ, ◌-◌, ◌<◌, List, true≢false, refl, arith, length, get_or, reverse, ap, sym, ◌∙◌}
 use Rattle.lol_css.specs.declared.selector.SimpleSelector.{SimpleSelector}
 use Rattle.std.proofs.lemmas.List.{length-reverse, get_or-reverse}
 use Rattle.lol_program.specs.Compounds.{all_of}
 use Rattle.lol_program.specs.Predicates.{test_shown}
-use Rattle.lol_program.proofs.Tests.{test_in, agreed, agreed_more, at_place, same_length, all_of-equal, reverse-map, compound_tests-parts}
+use Rattle.lol_program.proofs.Tests.{test_in, all_of-equal, compound_tests-parts}
 use Rattle.lol_program.proofs.predicate.are_of_reversed.Goals as goal
 
 -- the part that is compared at i is the one at i from the right

@@ -1,12 +1,12 @@
+use Rattle.lol_base.specs.ListLaws.{passes_more, passes_not, passes_all, fails_more, passes_some, fails_all}
 use Rattle.std.proofs.Common.{map, not, List, sym, ap, ◌∙◌}
 use Rattle.lol_program.specs.Compounds.{all_of, any_of}
 use Rattle.lol_program.specs.Predicates.{test_shown, tests_of}
 use Rattle.lol_program.specs.declared.predicate.Test.{Test}
 use Rattle.lol_program.specs.declared.predicate.Predicate.{Predicate}
 use Rattle.lol_program.proofs.TestRows.{test_shown-NoneOf, test_shown-SomeOf}
-use Rattle.lol_program.proofs.RunningTests.{passes_more, passes_not, passes_all}
 use Rattle.lol_vm.specs.OpenNames.{test_passes, compound_passes, some_passes}
-use Rattle.lol_vm.proofs.Passing.{code_test_passes, code_predicate_passes, compound_passes-list, some_passes-list, fails_more, passes_some, fails_all}
+use Rattle.lol_vm.proofs.Passing.{code_test_passes, code_predicate_passes, compound_passes-list, some_passes-list}
 use Rattle.lol_vm.proofs.matching.+passing.Goals as goal
 
 pub test_passes-returns-in-NoneOf : goal.test_passes-returns-in-NoneOf

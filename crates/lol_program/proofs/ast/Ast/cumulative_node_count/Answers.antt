@@ -1,8 +1,8 @@
 use Rattle.std.proofs.Common.{sym, ◌∙◌}
 use Rattle.lol_program.specs.Paths.{First}
 use Rattle.lol_program.specs.Asts.{trees_of, nodes_of}
-use Rattle.lol_program.proofs.Listed.{size-nodes}
-use Rattle.lol_program.proofs.Once.{nodes_distinct, AllPairs-from_Distinct}
+use Rattle.lol_program.specs.NodeListLaws.{size-nodes}
+use Rattle.lol_program.specs.NodeOnceLaws.{nodes_distinct, AllPairs-from_Distinct}
 use Rattle.lol_program.proofs.ast.Ast.cumulative_node_count.Goals as goal
 
 pub returns-clause-count : goal.returns-clause-count

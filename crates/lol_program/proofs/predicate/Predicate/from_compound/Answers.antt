@@ -1,3 +1,4 @@
+use Rattle.lol_base.specs.ListLaws.{reverse-map}
 use Rattle.std.proofs.Common.{[], ◌∷◌, ◌++◌, map, sym, ap, ◌∙◌, Bor}
 use Rattle.std.proofs.lemmas.List.{map-append}
 use Rattle.std.proofs.lemmas.Iterator.Adapters.{YieldsList-from_rev_slice}
@@ -5,7 +6,7 @@ use Rattle.std.proofs.lemmas.Iterator.Consumers.{YieldsList-end}
 use Rattle.lol_css.specs.declared.selector.SimpleSelector.{SimpleSelector}
 use Rattle.lol_program.specs.Compounds.{all_of}
 use Rattle.lol_program.specs.Predicates.{test_shown}
-use Rattle.lol_program.proofs.Tests.{test_in, reverse-map, compound_tests-parts}
+use Rattle.lol_program.proofs.Tests.{test_in, compound_tests-parts}
 use Rattle.lol_program.proofs.predicate.Predicate.from_compound.Goals as goal
 
 pub loop-part-preserved : goal.loop-part-preserved

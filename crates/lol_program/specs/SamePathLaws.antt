@@ -1,5 +1,6 @@
 -- The test on paths decides whether they are equal.
-use Rattle.std.proofs.Common.{◌≡◌, ℕ, Bool, true, false, ◌&&◌, List, refl, sym, ap, ◌∙◌}
+use Rattle.lol_base.specs.BoolLaws.{and_parts, and_of}
+use Rattle.std.proofs.Common.{◌≡◌, ℕ, Bool, true, false, List, refl, sym, ap, ◌∙◌}
 use Rattle.std.specs.Bool.{Decides}
 use Rattle.std.specs.Str.{bytes_eq}
 use Rattle.std.proofs.lemmas.Bool.Decides.{Decides-int_eq}
@@ -19,14 +20,6 @@ use Rattle.lol_program.specs.Same.{same_progression, same_name_test, same_operat
 no : {A : Type 0} → false ≡ true → A
 no h = cc
 
-both : (a b : Bool) → (a && b) ≡ true → (a ≡ true) × (b ≡ true)
-both true true h = (refl, refl)
-both true false h = no h
-both false b h = no h
-
-join : (a b : Bool) → a ≡ true → b ≡ true → (a && b) ≡ true
-join a b p q = λ i. p i && q i
-
 -- 1. What is the same is equal
 
 agrees_bytes : (a b : List ℕ) → bytes_eq a b ≡ true → a ≡ b
@@ -34,7 +27,7 @@ agrees_bytes a b h = (bytes_eq-Decides a b).0 h
 
 agrees_progression : (a b : Progression) → same_progression a b ≡ true → a ≡ b
 agrees_progression a b h =
-    let h2 = both _ _ h in
+    let h2 = and_parts _ _ h in
     λ i. record { step = (Decides-int_eq a.step b.step).0 h2.0 i; offset = (Decides-int_eq a.offset b.offset).0 h2.1 i }
 
 agrees_name_test : (a b : NameTest) → same_name_test a b ≡ true → a ≡ b
@@ -66,9 +59,9 @@ agrees_attribute_test (HasId a) (HasId b) h = ap HasId (agrees_bytes a b h)
 agrees_attribute_test (HasClass a) (HasClass b) h = ap HasClass (agrees_bytes a b h)
 agrees_attribute_test (HasAttribute a) (HasAttribute b) h = ap HasAttribute (agrees_bytes a b h)
 agrees_attribute_test (Compares a operator operand case) (Compares b operator' operand' case') h =
-    let h2 = both _ _ h in
-    let texts = both _ _ h2.0 in
-    let kinds = both _ _ h2.1 in
+    let h2 = and_parts _ _ h in
+    let texts = and_parts _ _ h2.0 in
+    let kinds = and_parts _ _ h2.1 in
     λ i. Compares (agrees_bytes a b texts.0 i) (agrees_operator operator operator' kinds.0 i) (agrees_bytes operand operand' texts.1 i) (agrees_case case case' kinds.1 i)
 agrees_attribute_test _ _ h = no h
 
@@ -83,8 +76,8 @@ itself_name_test : (a : NameTest) → same_name_test a a ≡ true
 itself_name_test AnyName = refl
 itself_name_test NoName = refl
 itself_name_test (HasName a) = (bytes_eq-Decides a a).1 refl
-itself_name_test (IsNthChild a) = join _ _ ((Decides-int_eq a.step a.step).1 refl) ((Decides-int_eq a.offset a.offset).1 refl)
-itself_name_test (IsNthOfType a) = join _ _ ((Decides-int_eq a.step a.step).1 refl) ((Decides-int_eq a.offset a.offset).1 refl)
+itself_name_test (IsNthChild a) = and_of _ _ ((Decides-int_eq a.step a.step).1 refl) ((Decides-int_eq a.offset a.offset).1 refl)
+itself_name_test (IsNthOfType a) = and_of _ _ ((Decides-int_eq a.step a.step).1 refl) ((Decides-int_eq a.offset a.offset).1 refl)
 
 itself_operator : (a : AttrSelectorOperator) → same_operator a a ≡ true
 itself_operator Equal = refl
@@ -105,7 +98,7 @@ itself_attribute_test (HasId a) = (bytes_eq-Decides a a).1 refl
 itself_attribute_test (HasClass a) = (bytes_eq-Decides a a).1 refl
 itself_attribute_test (HasAttribute a) = (bytes_eq-Decides a a).1 refl
 itself_attribute_test (Compares a operator operand case) =
-    join _ _ (join _ _ ((bytes_eq-Decides a a).1 refl) ((bytes_eq-Decides operand operand).1 refl)) (join _ _ (itself_operator operator) (itself_case case))
+    and_of _ _ (and_of _ _ ((bytes_eq-Decides a a).1 refl) ((bytes_eq-Decides operand operand).1 refl)) (and_of _ _ (itself_operator operator) (itself_case case))
 
 itself_step : (a : Combinator) → same_step a a ≡ true
 itself_step Child = refl
@@ -127,14 +120,14 @@ mutual
   agrees_compound : (a b : Compound) → same_compound a b ≡ true → a ≡ b
   agrees_compound NoTests NoTests h = refl
   agrees_compound (AndTest a rest) (AndTest b rest') h =
-      let h2 = both _ _ h in
+      let h2 = and_parts _ _ h in
       λ i. AndTest (agrees_test a b h2.0 i) (agrees_compound rest rest' h2.1 i)
   agrees_compound _ _ h = no h
 
   agrees_compounds : (a b : Compounds) → same_compounds a b ≡ true → a ≡ b
   agrees_compounds NoCompounds NoCompounds h = refl
   agrees_compounds (OrCompound a rest) (OrCompound b rest') h =
-      let h2 = both _ _ h in
+      let h2 = and_parts _ _ h in
       λ i. OrCompound (agrees_compound a b h2.0 i) (agrees_compounds rest rest' h2.1 i)
   agrees_compounds _ _ h = no h
 
@@ -147,11 +140,11 @@ mutual
 
   itself_compound : (a : Compound) → same_compound a a ≡ true
   itself_compound NoTests = refl
-  itself_compound (AndTest a rest) = join _ _ (itself_test a) (itself_compound rest)
+  itself_compound (AndTest a rest) = and_of _ _ (itself_test a) (itself_compound rest)
 
   itself_compounds : (a : Compounds) → same_compounds a a ≡ true
   itself_compounds NoCompounds = refl
-  itself_compounds (OrCompound a rest) = join _ _ (itself_compound a) (itself_compounds rest)
+  itself_compounds (OrCompound a rest) = and_of _ _ (itself_compound a) (itself_compounds rest)
 
 pub decides_compound : (a b : Compound) → Decides (same_compound a b) (a ≡ b)
 decides_compound = decides same_compound agrees_compound itself_compound
@@ -159,14 +152,14 @@ decides_compound = decides same_compound agrees_compound itself_compound
 agrees_path : (a b : Path) → same_path a b ≡ true → a ≡ b
 agrees_path (First a) (First b) h = ap First ((decides_compound a b).0 h)
 agrees_path (Then front step a) (Then front' step' b) h =
-    let h2 = both _ _ h in
-    let h3 = both _ _ h2.0 in
+    let h2 = and_parts _ _ h in
+    let h3 = and_parts _ _ h2.0 in
     λ i. Then (agrees_path front front' h3.0 i) (agrees_step step step' h3.1 i) ((decides_compound a b).0 h2.1 i)
 agrees_path _ _ h = no h
 
 itself_path : (a : Path) → same_path a a ≡ true
 itself_path (First a) = (decides_compound a a).1 refl
-itself_path (Then front step a) = join _ _ (join _ _ (itself_path front) (itself_step step)) ((decides_compound a a).1 refl)
+itself_path (Then front step a) = and_of _ _ (and_of _ _ (itself_path front) (itself_step step)) ((decides_compound a a).1 refl)
 
 -- Two paths are the same exactly if they are equal.
 pub same_path-Decides : (a b : Path) → Decides (same_path a b) (a ≡ b)

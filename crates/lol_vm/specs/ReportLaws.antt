@@ -7,7 +7,7 @@ use Rattle.std.proofs.lemmas.List.Elements.{All-from_recursion}
 use Rattle.std.proofs.lemmas.List.Kept.{AllPairs-cons}
 use Rattle.lol_program.specs.Tests.{Element}
 use Rattle.lol_program.specs.Paths.{Path, Selectors}
-use Rattle.lol_program.proofs.Members.{Among, among_from_contains, contains_from_among}
+use Rattle.lol_base.specs.MemberLaws.{Among, among_from_contains, contains_from_among}
 use Rattle.lol_vm.specs.Matching.{matches}
 use Rattle.lol_vm.specs.Answers.{with_number, ascending, matching_ids, report}
 use Rattle.lol_vm.specs.Laws.{IsStrictlyAscending, AscendingIsDetermined, IsReport, ids_of}

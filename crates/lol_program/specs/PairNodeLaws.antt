@@ -7,8 +7,8 @@ use Rattle.lol_program.specs.Paths.{Path, AreNodes, beginnings, all_beginnings}
 use Rattle.lol_program.specs.Same.{same_path}
 use Rattle.lol_program.specs.Nodes.{each_once, nodes_of}
 use Rattle.lol_program.specs.Sets.{Joins}
-use Rattle.lol_program.proofs.Members.{Among, among_from_contains, contains_from_among, among_front, among_back, among_either}
-use Rattle.lol_program.proofs.SamePaths.{same_path-Decides}
+use Rattle.lol_base.specs.MemberLaws.{Among, among_from_contains, contains_from_among, among_front, among_back, among_either}
+use Rattle.lol_program.specs.SamePathLaws.{same_path-Decides}
 
 -- a test that finds a path
 found : (path : Path) (paths : List Path) → list_any (same_path path) paths ≡ true → Among paths path

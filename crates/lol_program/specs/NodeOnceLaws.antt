@@ -7,9 +7,9 @@ use Rattle.lol_css.specs.declared.selector.Combinator.TheVariants.{Child, Descen
 use Rattle.lol_program.specs.Compounds.{Compound}
 use Rattle.lol_program.specs.Paths.{Path, First, Then, beginnings}
 use Rattle.lol_program.specs.Forest.{Forest, none, more, tops, below, nodes_in, HasTop, SiblingsDiffer}
-use Rattle.lol_program.proofs.Having.{HasNode}
-use Rattle.lol_program.proofs.Listed.{among_below, node_of_list}
-use Rattle.lol_program.proofs.Members.{Among, Distinct, among_from_contains, among_either}
+use Rattle.lol_program.specs.NodeMemberLaws.{HasNode}
+use Rattle.lol_program.specs.NodeListLaws.{among_below, node_of_list}
+use Rattle.lol_base.specs.MemberLaws.{Among, Distinct, among_from_contains, among_either}
 
 -- 1. Lists
 

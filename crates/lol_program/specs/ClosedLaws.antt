@@ -1,6 +1,6 @@
 -- Nodes hold what their members stand under.
 use Rattle.std.proofs.Common.{◌≡◌, ℕ, ◌⊎◌, inl, inr, refl, sym, subst, List, [], ◌∷◌}
-use Rattle.std.specs.Prelude.{Contains, flat_map}
+use Rattle.std.specs.Prelude.{flat_map}
 use Rattle.lol_css.specs.declared.selector.Combinator.{Combinator}
 use Rattle.lol_css.specs.declared.selector.Combinator.TheVariants.{Child, Descendant}
 use Rattle.lol_program.specs.Compounds.{Compound}
@@ -8,11 +8,10 @@ use Rattle.lol_program.specs.Paths.{Path, First, Then, beginnings, all_beginning
 use Rattle.lol_program.specs.Forest.{Forest, none, more}
 use Rattle.lol_program.specs.Asts.{trees_of, nodes_of}
 use Rattle.lol_program.specs.Laws.{TreesAreClosed, BeginningsAreClosed}
-use Rattle.lol_program.proofs.Having.{HasNode, HasPair}
-use Rattle.lol_program.proofs.Listed.{nodes_listed, pairs_listed}
-use Rattle.lol_program.proofs.Members.{Among, among_from_contains, contains_from_among, among_front, among_back, among_either}
-use Rattle.lol_program.proofs.Once.{nodes_distinct, AllPairs-from_Distinct}
-use Rattle.lol_program.proofs.Running.{pair_at_node}
+use Rattle.lol_program.specs.NodeMemberLaws.{HasNode, HasPair}
+use Rattle.lol_program.specs.NodeListLaws.{nodes_listed, pairs_listed}
+use Rattle.lol_base.specs.MemberLaws.{Among, among_from_contains, contains_from_among, among_front, among_back, among_either}
+use Rattle.lol_program.specs.NodeOnceLaws.{nodes_distinct, AllPairs-from_Distinct}
 
 -- 1. Trees
 
@@ -32,6 +31,14 @@ front_in make B own (more c ids children descendants rest) front step d (inl (in
     ]
 front_in make B own (more c ids children descendants rest) front step d (inr h) =
     elim (front_in make B own rest front step d h) [ inl b ↦ inl b | inr later ↦ inr (inr later) ]
+
+-- a pair's path is that of a node
+pub pair_at_node : (make : Compound → Path) (f : Forest) (path : Path) (id : ℕ) → HasPair make f path id → HasNode make f path
+pair_at_node make none path id h = absurd h
+pair_at_node make (more c ids children descendants rest) path id (inl (inl own)) = inl (inl own.0)
+pair_at_node make (more c ids children descendants rest) path id (inl (inr (inl h))) = inl (inr (inl (pair_at_node (Then (make c) Child) children path id h)))
+pair_at_node make (more c ids children descendants rest) path id (inl (inr (inr h))) = inl (inr (inr (pair_at_node (Then (make c) Descendant) descendants path id h)))
+pair_at_node make (more c ids children descendants rest) path id (inr h) = inr (pair_at_node make rest path id h)
 
 no_front : (c d : Compound) (front : Path) (step : Combinator) → First c ≡ Then front step d → ⊥
 no_front c d front step e = cc

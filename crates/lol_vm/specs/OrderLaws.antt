@@ -4,14 +4,14 @@ use Rattle.std.specs.Prelude.{max, nat_lt, Some, None, count_by}
 use Rattle.std.specs.List.{list_any}
 use Rattle.lol_program.specs.Tests.{Element, is_html}
 use Rattle.lol_program.specs.Paths.{Path, Selectors}
-use Rattle.lol_program.proofs.Members.{Among, among_from_contains, contains_from_among, distinct_from_pairs, same_count}
+use Rattle.lol_base.specs.MemberLaws.{Among, among_from_contains, contains_from_among, distinct_from_pairs, same_count}
 use Rattle.lol_vm.specs.Events.{Event, Start, End, has_content}
 use Rattle.lol_vm.specs.Documents.{Document, empty, element_of, after_start}
 use Rattle.lol_vm.specs.Matching.{left_matches}
 use Rattle.lol_vm.specs.Answers.{Started, Dropped, matching_ids, needs_attributes, asks, answer, after, answers_from}
 use Rattle.lol_vm.specs.Refusals.{Allowance, Limit, Counter, exceeds, greatest_count, refusal, or_later, refused_from}
 use Rattle.lol_vm.specs.Laws.{SameSelectors, OrderChangesNothing}
-use Rattle.lol_vm.proofs.Reports.{matching_ids-same}
+use Rattle.lol_vm.specs.ReportLaws.{matching_ids-same}
 
 -- a test that some element passes
 passed : {T : Type 0} (p : T → Bool) (xs : List T) (x : T) → Among xs x → p x ≡ true → list_any p xs ≡ true
