@@ -5,7 +5,7 @@ use Rattle.std.specs.Str.{bytes_eq}
 use Rattle.std.specs.Char.{to_ascii_lowercase, to_ascii_uppercase}
 use Rattle.std.proofs.lemmas.Slice.Eq.{bytes_eq-Decides}
 use Rattle.std.proofs.lemmas.Grind.{common_steps}
-use Rattle.std.proofs.lemmas.List.{take-map, drop-map, length-map, drop_more, take_more, take_rest, length_push, length-take, length-take-le, get_or-map}
+use Rattle.std.proofs.lemmas.List.{take-map, drop-map, length-map, drop_more, take_more, take_rest, length_push, length-take, length-take-le, get_or-map, get_or-drop}
 use Rattle.std.proofs.lemmas.List.Elements.{All-from_get_or}
 use Rattle.std.proofs.lemmas.List.Folds.{drop_split}
 use Rattle.std.proofs.lemmas.List.Splits.{slice_split_at, slice_split_none}
@@ -15,11 +15,13 @@ use Rattle.std.proofs.Math.Bool.{or-false, or-true, and-true, and_assoc}
 use Rattle.lol_base.specs.Names.{lowercased}
 use Rattle.lol_css.specs.declared.attribute.AttrSelectorOperator.TheVariants.{Equal, Includes, DashMatch, Prefix, Substring, Suffix}
 use Rattle.lol_css.specs.declared.attribute.CaseSensitivity.{CaseSensitivity}
-use Rattle.lol_css.specs.declared.attribute.CaseSensitivity.TheVariants.{CaseSensitive}
+use Rattle.lol_css.specs.declared.attribute.CaseSensitivity.TheVariants.{CaseSensitive, AsciiCaseInsensitive}
 use Rattle.memchr.specs.Find.{FindsNeedle, IsFirstByte, OccursAt, Nowhere, Passes, is_byte2}
 use Rattle.memchr.proofs.lemmas.MatchLemmas.{OccursAt-part, OccursAt-from_part}
 use Rattle.lol_program.specs.Tests.{compared, words, is_white, is_empty, stands_in}
 use Rattle.lol_program.specs.Attributes.{ignores, value_holds}
+use Rattle.memchr.proofs.lemmas.FindLemmas.{IsFirst-agree}
+use Rattle.lol_program.specs.Words.{is_letter, NoLetter, IsLetterEnd}
 use Rattle.lol_program.specs.Substrings.{stands_in_caseless, IsAfterLetter}
 
 -- 1. What is compared of a part is that part of what is compared
@@ -55,7 +57,7 @@ suffix_holds case value operand part is =
 
 -- 3. Words
 
-white_stays : (b : ℕ) → is_white (to_ascii_lowercase b) ≡ is_white b
+pub white_stays : (b : ℕ) → is_white (to_ascii_lowercase b) ≡ is_white b
 white_stays b = grind (arith, nat_tests)
 
 -- a byte that is put before the first piece
@@ -247,16 +249,26 @@ substring_found value operand rest first r is found =
 
 -- 6. Substrings without case
 
+abbrev pub IsLetterAt : ℕ → List ℕ → ℕ → Type 0
+IsLetterAt first hay at = Passes (is_letter AsciiCaseInsensitive first) hay at
+
 same_letter : (a b : ℕ) → is_byte2 (to_ascii_lowercase b) (to_ascii_uppercase b) a ≡ eqb (to_ascii_lowercase b) (to_ascii_lowercase a)
 same_letter a b = grind (arith, nat_tests)
 
-abbrev pub IsLetterAt : ℕ → List ℕ → ℕ → Type 0
-IsLetterAt first hay at = Passes (is_byte2 (to_ascii_lowercase first) (to_ascii_uppercase first)) hay at
+-- a byte and its other case are a letter
+pub caseless_letter : (letter lower upper : ℕ) (value : List ℕ) (r : Option ℕ) → lower ≡ to_ascii_lowercase letter → upper ≡ to_ascii_uppercase letter
+    → IsFirstByte (is_byte2 lower upper) value r → IsFirstByte (is_letter AsciiCaseInsensitive letter) value r
+caseless_letter letter lower upper value r low up found =
+    let both : IsFirstByte (is_byte2 (to_ascii_lowercase letter) (to_ascii_uppercase letter)) value r = rw (← low, ← up) found in
+    IsFirst-agree (Passes (is_byte2 (to_ascii_lowercase letter) (to_ascii_uppercase letter)) value) (IsLetterAt letter value) 0 (length value)
+    (λ k below passes. sym (same_letter (get_or value k 0) letter) ∙ passes)
+    (λ k below passes. same_letter (get_or value k 0) letter ∙ passes)
+    r both
 
 -- a byte that is another letter begins no occurrence
 other_letter : (first b : ℕ) (hay rest : List ℕ) → ¬ IsLetterAt first (b ∷ hay) 0 → stands_in_caseless (b ∷ hay) (first ∷ rest) ≡ stands_in_caseless hay (first ∷ rest)
 other_letter first b hay rest other =
-    let differs : eqb (to_ascii_lowercase first) (to_ascii_lowercase b) ≡ false = sym (same_letter b first) ∙ ⊎_elim (λ yes. absurd (other yes)) (λ no. no) (cases_Bool (is_byte2 (to_ascii_lowercase first) (to_ascii_uppercase first) b)) in
+    let differs : eqb (to_ascii_lowercase first) (to_ascii_lowercase b) ≡ false = ⊎_elim (λ yes. absurd (other yes)) (λ no. no) (cases_Bool (eqb (to_ascii_lowercase first) (to_ascii_lowercase b))) in
     ap (λ (t : Bool). (t && starts_with nat_eq (lowercased hay) (lowercased rest)) || stands_in_caseless hay (first ∷ rest)) differs
 
 later_letter : (first b : ℕ) (hay : List ℕ) (end : ℕ) → Nowhere (IsLetterAt first (b ∷ hay)) 0 (suc end) → Nowhere (IsLetterAt first hay) 0 end
@@ -271,22 +283,37 @@ letter_here : (first : ℕ) (hay rest : List ℕ) (at : ℕ) → at < length hay
     → stands_in_caseless hay (first ∷ rest) ≡ (starts_with nat_eq (lowercased (drop (suc at) hay)) (lowercased rest) || stands_in_caseless (drop (suc at) hay) (first ∷ rest))
 letter_here first [] rest at within none passes = absurd (omega arith)
 letter_here first (b ∷ hay) rest zero within none passes =
-    ap (λ (t : Bool). (t && starts_with nat_eq (lowercased hay) (lowercased rest)) || stands_in_caseless hay (first ∷ rest)) (sym (same_letter b first) ∙ passes)
+    ap (λ (t : Bool). (t && starts_with nat_eq (lowercased hay) (lowercased rest)) || stands_in_caseless hay (first ∷ rest)) passes
 letter_here first (b ∷ hay) rest (suc at) within none passes =
     other_letter first b hay rest (none 0 (omega arith) (omega arith)) ∙ letter_here first hay rest at (omega arith) (later_letter first b hay at none) passes
 
-pub letter_missed : (first lower upper : ℕ) (value : List ℕ) → lower ≡ to_ascii_lowercase first → upper ≡ to_ascii_uppercase first
-    → IsFirstByte (is_byte2 lower upper) value None → IsAfterLetter first value None
-letter_missed first lower upper value low up found =
-    let at_letter : IsFirstByte (is_byte2 (to_ascii_lowercase first) (to_ascii_uppercase first)) value None = rw (← low, ← up) found in
-    λ rest. letter_none first value rest at_letter
-
-pub letter_found : (first lower upper place : ℕ) (value left : List ℕ) → lower ≡ to_ascii_lowercase first → upper ≡ to_ascii_uppercase first
-    → IsFirstByte (is_byte2 lower upper) value (Some place) → left ≡ drop (place + 1) value → IsAfterLetter first value (Some left)
-letter_found first lower upper place value left low up found left_is =
-    let at_letter : IsFirstByte (is_byte2 (to_ascii_lowercase first) (to_ascii_uppercase first)) value (Some place) = rw (← low, ← up) found in
+pub letter_found : (first place : ℕ) (value left : List ℕ) → IsFirstByte (is_letter AsciiCaseInsensitive first) value (Some place) → left ≡ drop (place + 1) value → IsAfterLetter first value (Some left)
+letter_found first place value left found left_is =
     let left_after : left ≡ drop (suc place) value = left_is ∙ ap (λ (n : ℕ). drop n value) (add-one place) in
-    let high = at_letter.0.high in (
+    let high = found.0.high in (
       omega (arith, ap length left_after, length-drop (suc place) value),
-      λ rest. rw left_after (letter_here first value rest place high at_letter.0.before at_letter.1),
+      λ rest. rw left_after (letter_here first value rest place high found.0.before found.1),
     )
+
+-- 7. The place of a letter in what is left
+
+no_letter_before : (case : CaseSensitivity) (value : List ℕ) (letter from place to : ℕ) → Nowhere (Passes (is_letter case letter) (drop from value)) 0 place → to ≤ from + place → NoLetter case value letter from to
+no_letter_before case value letter from place to none within k low high =
+    let at : from + (k - from) ≡ k = omega arith in
+    ⊎_elim
+    (λ yes. absurd (none (k - from) (omega arith) (omega arith) (ap (is_letter case letter) (get_or-drop from value (k - from) 0 ∙ ap (λ (i : ℕ). get_or value i 0) at) ∙ yes)))
+    (λ no. no)
+    (cases_Bool (is_letter case letter (get_or value k 0)))
+
+pub no_letter_left : (case : CaseSensitivity) (value : List ℕ) (letter from : ℕ) → IsFirstByte (is_letter case letter) (drop from value) None → from ≤ length value → NoLetter case value letter from (length value)
+no_letter_left case value letter from none within = no_letter_before case value letter from (length (drop from value)) (length value) none (omega (arith, length-drop from value))
+
+pub letter_left : (case : CaseSensitivity) (value : List ℕ) (letter from place : ℕ) → IsFirstByte (is_letter case letter) (drop from value) (Some place) → from ≤ length value → IsLetterEnd case value letter from (from + place + 1)
+letter_left case value letter from place found within =
+    let high = found.0.high in
+    let low : place < length value - from = omega (arith, length-drop from value) in
+    record {
+      after = omega arith;
+      within = omega arith;
+      before = no_letter_before case value letter from place (from + place + 1 - 1) found.0.before (omega arith);
+    }

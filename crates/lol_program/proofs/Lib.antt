@@ -17,3 +17,4 @@ pub mod RunningTests
 mod AttributeValues
 mod MarkLemmas
 mod MatcherLemmas
+mod WordPlaces

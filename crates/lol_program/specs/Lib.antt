@@ -29,3 +29,4 @@ pub mod NodeOnceLaws
 pub mod SamePathLaws
 pub mod PairNodeLaws
 pub mod ClosedLaws
+pub mod Words

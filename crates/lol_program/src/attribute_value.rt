@@ -1,14 +1,20 @@
 //! How the value of an attribute stands to an operand.
 
-ghost use Rattle.std.specs.Prelude.{◌≡◌, ◌∷◌};
+ghost use Rattle.std.specs.Prelude.{◌≡◌, ◌↔◌, ◌<◌, ◌≤◌, ◌∷◌, false, length, IsTrue, MatchOption};
+ghost use Rattle.std.specs.List.{list_any};
 ghost use Rattle.std.specs.Option.{option_copied};
 ghost use Rattle.lol_css.specs.declared.attribute.AttrSelectorOperator.TheVariants.{Equal, Includes, DashMatch, Prefix, Substring, Suffix};
 ghost use Rattle.lol_program.specs.Tests.{is_white};
 ghost use Rattle.lol_program.specs.Attributes.{value_holds};
+ghost use Rattle.memchr.specs.Find.{IsFirstByte};
+ghost use Rattle.lol_program.specs.Words.{is_letter, NoLetter, IsLetterEnd, IsWordBefore};
 ghost use Rattle.lol_program.specs.Substrings.{stands_in_caseless, IsAfterLetter};
 
 use lol_css::CaseSensitivity;
-use memchr::{memchr2, memmem};
+use memchr::{memchr, memchr2, memmem};
+
+/// The longest value whose words are looked at one by one.
+const MAX_SPLIT_LEN: usize = 32;
 
 /// Whether a byte is ASCII white space (HTML Standard, "ASCII whitespace").
 #[inline]
@@ -29,6 +35,23 @@ pub(crate) fn is_equal(value: &[u8], operand: &[u8], case: CaseSensitivity) -> b
 pub(crate) fn has_word(value: &[u8], operand: &[u8], case: CaseSensitivity) -> bool
     ensures { result ≡ value_holds Includes case value.now operand.now }
 {
+    if value.len() <= MAX_SPLIT_LEN || operand.is_empty() || has_white_space(operand) {
+        has_word_split(value, operand, case)
+    } else {
+        has_word_by_last(value, operand, case)
+    }
+}
+
+fn has_white_space(bytes: &[u8]) -> bool
+    ensures { result ≡ list_any is_white bytes.now }
+{
+    bytes.iter().any(|byte| is_white_space(*byte))
+}
+
+// Whether some word of a value is the operand: each word is looked at.
+fn has_word_split(value: &[u8], operand: &[u8], case: CaseSensitivity) -> bool
+    ensures { result ≡ value_holds Includes case value.now operand.now }
+{
     let mut start = 0;
     for (end, byte) in value.iter().enumerate() {
         if is_white_space(*byte) {
@@ -39,6 +62,61 @@ pub(crate) fn has_word(value: &[u8], operand: &[u8], case: CaseSensitivity) -> b
         }
     }
     is_equal(&value[start..], operand, case)
+}
+
+// Whether some word of a value is the operand: the places of its last byte are looked at.
+fn has_word_by_last(value: &[u8], operand: &[u8], case: CaseSensitivity) -> bool
+    requires some { 0 < length operand.now }
+    requires black { list_any is_white operand.now ≡ false }
+    ensures { result ≡ value_holds Includes case value.now operand.now }
+{
+    let last = operand[operand.len() - 1];
+    let mut from = 0;
+    while let Some(end) = letter_end(value, from, last, case) {
+        if is_word_before(value, operand, end, case) {
+            return true;
+        }
+        from = end;
+    }
+    false
+}
+
+// Whether the word that ends at a place is the operand.
+fn is_word_before(value: &[u8], operand: &[u8], end: usize, case: CaseSensitivity) -> bool
+    requires { end ≤ length value.now }
+    ensures { IsTrue result ↔ IsWordBefore case value.now operand.now end }
+{
+    let Some(start) = end.checked_sub(operand.len()) else {
+        return false;
+    };
+    (end == value.len() || is_white_space(value[end]))
+        && (start == 0 || is_white_space(value[start - 1]))
+        && is_equal(&value[start..end], operand, case)
+}
+
+// The end of a letter's first place from another place on.
+fn letter_end(value: &[u8], from: usize, letter: u8, case: CaseSensitivity) -> Option<usize>
+    requires { from ≤ length value.now }
+    ensures { MatchOption result (NoLetter case value.now letter from (length value.now)) (IsLetterEnd case value.now letter from) }
+{
+    let place = next_letter(&value[from..], letter, case)?;
+    Some(from + place + 1)
+}
+
+// A letter's first place.
+fn next_letter(value: &[u8], letter: u8, case: CaseSensitivity) -> Option<usize>
+    ensures { IsFirstByte (is_letter case letter) value.now result }
+{
+    match case {
+        CaseSensitivity::CaseSensitive => memchr(letter, value),
+        CaseSensitivity::AsciiCaseInsensitive => {
+            memchr2(
+                letter.to_ascii_lowercase(),
+                letter.to_ascii_uppercase(),
+                value,
+            )
+        }
+    }
 }
 
 /// Whether a value begins with the operand.
@@ -98,10 +176,6 @@ fn has_caseless_substring(value: &[u8], first: u8, rest: &[u8]) -> bool
 fn after_letter(value: &[u8], letter: u8) -> Option<&[u8]>
     ensures { IsAfterLetter letter value.now (option_copied result) }
 {
-    let place = memchr2(
-        letter.to_ascii_lowercase(),
-        letter.to_ascii_uppercase(),
-        value,
-    )?;
+    let place = next_letter(value, letter, CaseSensitivity::AsciiCaseInsensitive)?;
     Some(&value[place + 1..])
 }

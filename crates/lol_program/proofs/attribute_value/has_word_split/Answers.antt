@@ -1,7 +1,7 @@
 use Rattle.std.proofs.Common.{sym, ◌∙◌, arith}
 use Rattle.lol_program.proofs.AttributeValues.{SoFar-init, SoFar-found, SoFar-next, SoFar-more, SoFar-end}
-use Rattle.lol_program.proofs.attribute_value.has_word.Goals as goal
-use Rattle.lol_program.proofs.attribute_value.has_word.Goals.{then-is_white_space+else-is_equal, else-is_white_space}
+use Rattle.lol_program.proofs.attribute_value.has_word_split.Goals as goal
+use Rattle.lol_program.proofs.attribute_value.has_word_split.Goals.{then-is_white_space+else-is_equal, else-is_white_space}
 
 pub loop-end-init : goal.loop-end-init
 loop-end-init c = SoFar-init c.args.case c.args.value.now c.args.operand.now
