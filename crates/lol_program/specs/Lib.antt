@@ -30,3 +30,4 @@ pub mod SamePathLaws
 pub mod PairNodeLaws
 pub mod ClosedLaws
 pub mod Words
+pub mod AttributeLaws
