@@ -3,3 +3,7 @@ pub mod Plain
 pub mod Visits
 pub mod Trees
 pub mod Runs
+pub mod CounterLevels
+pub mod NameMaps
+pub mod Refusals
+pub mod TypedLists

@@ -14,3 +14,8 @@ pub mod Calls
 pub mod Contexts
 pub mod OrderLaws
 pub mod ReportLaws
+pub mod Levels
+pub mod TypedCounts
+pub mod TypedViews
+pub mod CounterLists
+pub mod CounterMaps

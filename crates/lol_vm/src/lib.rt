@@ -2,6 +2,7 @@
 #![tactic(auto)]
 
 mod address_ranges;
+mod counters;
 mod element_data;
 mod events;
 mod execution_ctx;
@@ -13,6 +14,7 @@ mod stack_item;
 mod void;
 
 pub use address_ranges::AddressRanges;
+pub use counters::{CounterItem, CounterList, TypedChildCounterMap};
 pub use element_data::ElementData;
 pub use events::{RunCause, RunRefusal, TagEvent, TagReport};
 pub use execution_ctx::ExecutionCtx;
