@@ -19,3 +19,6 @@ pub mod TypedCounts
 pub mod TypedViews
 pub mod CounterLists
 pub mod CounterMaps
+pub mod Active
+pub mod OpenPlaces
+pub mod StackLending

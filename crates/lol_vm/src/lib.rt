@@ -1,6 +1,7 @@
 //! The selector matching machine: which selectors match each start tag of a document, as its tags come.
 #![tactic(auto)]
 
+mod active_ranges;
 mod address_ranges;
 mod counters;
 mod element_data;
@@ -8,8 +9,10 @@ mod events;
 mod execution_ctx;
 pub mod laws;
 mod matching;
+mod open_names;
 pub mod rows;
 mod run;
+mod stack;
 mod stack_item;
 mod void;
 
@@ -36,4 +39,5 @@ pub use lol_program::{
     SelectorState, Test, Tries,
 };
 pub use run::match_events;
+pub use stack::{AddChildError, Stack, StackNames, StackOf};
 pub use stack_item::{StackDirective, StackItem, StackItemOf};

@@ -1,0 +1,92 @@
+//! Ranges that hold for all elements inside the open ones.
+
+ghost use Rattle.std.specs.Prelude.{◌≡◌, ℕ, ◌+◌, ◌≤◌, length, filter, take, nat_lt, vec_len, vec_capacity, OnOk, OnErr, []};
+ghost use Rattle.lol_vm.specs.Active.{activated, is_active};
+
+use lol_program::AddressRange;
+use std::alloc::{AllocError, Global};
+use std::marker::Model;
+
+/// The distinct hereditary ranges of the open elements, in the order in which they first came, each with the place of the first element
+/// that has it.
+#[derive(Drop)]
+pub(crate) struct ActiveRanges {
+    ranges: Vec<(AddressRange, usize)>,
+}
+
+impl Model for ActiveRanges {
+    ghost use Rattle.std.specs.Prelude.{List, ℕ};
+    ghost use Rattle.std.specs.declared.ops.Range.{Range};
+
+    ghost Value = { List (Range ℕ × ℕ) };
+
+    ghost view = { λ a. a.ranges.items };
+}
+
+impl ActiveRanges {
+    pub(crate) fn new(alloc: Global) -> Self
+        ensures { result ≡ [] }
+    {
+        ActiveRanges {
+            ranges: Vec::new(alloc),
+        }
+    }
+
+    pub(crate) fn as_slice(&self) -> &[(AddressRange, usize)]
+        ensures { result.now ≡ self.now }
+    {
+        self.ranges.as_slice()
+    }
+
+    pub(crate) fn len(&self) -> usize
+        ensures { result ≡ length self.now }
+    {
+        self.ranges.len()
+    }
+
+    /// Adds those of an element's ranges that aren't there yet, with its place: all of them, or refused none. It walks the active ranges
+    /// once for each range.
+    pub(crate) fn activate(
+        &mut self,
+        ranges: &[AddressRange],
+        place: usize,
+    ) -> Result<(), AllocError>
+        ensures ok { OnOk result (self.new ≡ activated self.old place ranges.now) }
+        ensures err { OnErr result (self.new ≡ self.old) }
+    {
+        self.ranges.reserve(ranges.len())?;
+        add_missing(&mut self.ranges, ranges, place);
+        Ok(())
+    }
+
+    /// Drops all but the first `len` ranges.
+    pub(crate) fn truncate(&mut self, len: usize)
+        ensures { self.new ≡ take len self.old }
+    {
+        self.ranges.truncate(len);
+    }
+
+    /// Drops the ranges of the elements from `place` on.
+    pub(crate) fn cut(&mut self, place: usize)
+        ensures { self.new ≡ filter (λ a. nat_lt a.1 place) self.old }
+    {
+        self.ranges.retain(move |active| active.1 < place);
+    }
+}
+
+fn add_missing(active: &mut Vec<(AddressRange, usize)>, ranges: &[AddressRange], place: usize)
+    requires { vec_len active.old + length ranges.now ≤ vec_capacity active.old }
+    ensures { active.new.items ≡ activated active.old.items place ranges.now }
+{
+    for range in ranges {
+        if !contains(active, range) {
+            active.push_reserved((range.start..range.end, place));
+        }
+    }
+}
+
+fn contains(active: &[(AddressRange, usize)], range: &AddressRange) -> bool
+    ensures { result ≡ is_active active.now range.now }
+{
+    active.iter().any(|(other, _)| other.start == range.start && other.end == range.end)
+}
