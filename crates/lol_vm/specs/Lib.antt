@@ -22,3 +22,4 @@ pub mod CounterMaps
 pub mod Active
 pub mod OpenPlaces
 pub mod StackLending
+pub mod Stacks
