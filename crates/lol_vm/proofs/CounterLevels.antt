@@ -1,5 +1,5 @@
 -- The levels of a name's counters.
-use Rattle.std.proofs.Common.{◌≡◌, ◌≢◌, ◌∙◌, sym, ap, refl, ℕ, Bool, true, false, nat_eq, Some, None, List, [], ◌∷◌, ◌++◌, arith, ◌+◌, ◌<◌}
+use Rattle.std.proofs.Common.{◌≡◌, ◌≢◌, ap, refl, ℕ, true, false, nat_eq, Some, None, List, [], ◌∷◌, ◌++◌, arith, ◌+◌, ◌<◌}
 use Rattle.std.proofs.lemmas.Bool.Decides.{nat_tests}
 use Rattle.std.specs.Bool.{if◌then◌else◌}
 use Rattle.lol_program.specs.Counters.{full_count}

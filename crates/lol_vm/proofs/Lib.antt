@@ -7,3 +7,4 @@ pub mod CounterLevels
 pub mod NameMaps
 pub mod Refusals
 pub mod TypedLists
+pub mod StackLists

@@ -1,9 +1,9 @@
 -- What a stack keeps of the open elements.
-use Rattle.std.specs.Prelude.{ℕ, ◌≡◌, ◌<◌, ◌+◌, ◌-◌, Bool, if◌then◌else◌, nat_lt, List, [], ◌∷◌, ◌++◌, length, map, filter, take, drop, slice_get, slice_set, Option, Some, None}
+use Rattle.std.specs.Prelude.{ℕ, ◌≡◌, ◌+◌, ◌-◌, if◌then◌else◌, nat_lt, List, [], ◌∷◌, ◌++◌, length, map, filter, take, drop, slice_get, slice_set, Option, Some, None}
 use Rattle.std.specs.Option.{option_map}
 use Rattle.std.specs.declared.ops.Range.{Range}
 use Rattle.lol_base.specs.LocalNames.{Name, same_local_name}
-use Rattle.lol_memory.specs.LimitedVec.{LimitedVec, pushed, with_items}
+use Rattle.lol_memory.specs.LimitedVec.{pushed, with_items}
 use Rattle.lol_vm.specs.Active.{activated}
 use Rattle.lol_vm.specs.Levels.{without_last}
 use Rattle.lol_vm.specs.TypedCounts.{TypedCount, counted, cut_to, count_at}

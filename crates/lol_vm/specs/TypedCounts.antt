@@ -1,8 +1,7 @@
 -- Counts of children by type.
-use Rattle.std.specs.Prelude.{ℕ, ◌+◌, ◌≡◌, ◌<◌, Bool, if◌then◌else◌, nat_lt, ◌==◌, List, [], ◌∷◌, ◌++◌, map, filter, Option, Some, None, MatchBool}
+use Rattle.std.specs.Prelude.{ℕ, ◌≡◌, ◌<◌, Bool, if◌then◌else◌, nat_lt, List, [], ◌∷◌, ◌++◌, map, filter, Option, MatchBool}
 use Rattle.std.specs.List.{list_any, list_all}
 use Rattle.lol_base.specs.LocalNames.{Name, same_local_name}
-use Rattle.lol_program.specs.Counters.{full_count}
 use Rattle.lol_vm.specs.Levels.{one_more, is_at, count_if_at}
 
 -- A counter of the children of one name that an element has had: its level (how many elements were open), the name, the count.

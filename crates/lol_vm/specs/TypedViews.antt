@@ -1,5 +1,5 @@
 -- What a `TypedChildCounterMap` keeps.
-use Rattle.std.specs.Prelude.{ℕ, ◌≡◌, ◌-◌, if◌then◌else◌, List, [], ◌∷◌, drop}
+use Rattle.std.specs.Prelude.{ℕ, ◌≡◌, if◌then◌else◌, List, [], ◌∷◌, drop}
 use Rattle.lol_base.specs.LocalNames.{Name, same_local_name}
 use Rattle.lol_vm.specs.TypedCounts.{TypedCount, levels_of}
 

@@ -1,6 +1,6 @@
 //! The open elements.
 
-ghost use Rattle.std.specs.Prelude.{◌≡◌, ◌*◌, ◌<◌, ◌≤◌, ◌-◌, ◌↔◌, length, OnOk, OnErr, IsSome, IsErrOf, Ok, Err, Some, None, List, [], ℕ, drop, take, map, if◌then◌else◌};
+ghost use Rattle.std.specs.Prelude.{◌≡◌, ◌*◌, ◌<◌, ◌≤◌, ◌-◌, ◌↔◌, length, OnOk, OnErr, IsSome, IfSome, IsErrOf, Ok, Err, Some, None, List, [], ℕ, drop, take, map, if◌then◌else◌};
 ghost use Rattle.std.specs.Option.{option_copied};
 ghost use Rattle.std.specs.Borrow.{sem};
 ghost use Rattle.lol_base.specs.LocalNames.{Name, local_name};
@@ -9,6 +9,7 @@ ghost use Rattle.lol_memory.specs.LimitedVec.{with_items, grown_slots, IsLimited
 ghost use Rattle.lol_program.specs.Counters.{full_count};
 ghost use Rattle.lol_vm.specs.Calls.{IsCalledAtEach};
 ghost use Rattle.lol_vm.specs.StackLending.{lends_current};
+ghost use Rattle.lol_vm.specs.OpenPlaces.{places_of};
 ghost use Rattle.lol_vm.specs.Stacks.{items_in, slots_in, active_in, last_count, child_counted, typed_in, places_in, typed_count, counted_in, element_data_of, closed_from, place_to_close, IsSame, IsPushed, IsClosed, IsEnded, without_places};
 
 use crate::active_ranges::ActiveRanges;
@@ -152,6 +153,91 @@ impl<E> StackOf<LocalName<'static>, StackNames, E> {
         }
     }
 
+    /// Opens an element: it comes last, and the slots that are wanted are charged. It is refused with `Limit` only where these can't be
+    /// charged, and with `Memory` only where memory isn't there. Refused, stack and limiter are as before, and the element is dropped.
+    pub fn push_item(
+        &mut self,
+        item: StackItem<'static, E>,
+        limiter: &mut SharedMemoryLimiter,
+    ) -> Result<(), PushError>
+    where
+        E: Drop,
+        ensures ok { OnOk result (IsPushed self.old item.entry self.new) }
+        ensures charged { OnOk result (limiter.new ≡ charged limiter.old (grown_slots self.old.items * self.old.items.item_bytes)) }
+        ensures limited { IsErrOf result (PushError.Limit (record {})) → IsLimited self.old.items limiter.old }
+        ensures unlimited { OnOk result (IsLimited self.old.items limiter.old → ⊥) }
+        ensures err { OnErr result (IsSame self.old self.new) }
+        ensures err_limiter { OnErr result (limiter.new ≡ limiter.old) }
+    {
+        let place = self.items.len();
+        let active = self.active_hereditary_jumps.len();
+        let name = match item.local_name.try_clone(self.names.alloc) {
+            Ok(name) => name,
+            Err(error) => return Err(PushError::Memory(error)),
+        };
+        let ranges = item.hereditary_jumps.as_slice();
+        if let Err(error) = self.active_hereditary_jumps.activate(ranges, place) {
+            return Err(PushError::Memory(error));
+        }
+        if let Err(error) = self.names.open.add(&name, place) {
+            self.active_hereditary_jumps.truncate(active);
+            return Err(PushError::Memory(error));
+        }
+        if let Err(error) = self.items.push(item, limiter) {
+            self.names.open.remove(&name);
+            self.active_hereditary_jumps.truncate(active);
+            return Err(error);
+        }
+        Ok(())
+    }
+
+    /// The place of the last open element of a name.
+    fn place_to_close(&self, name: &LocalName<'_>) -> Option<usize>
+        ensures value { result ≡ place_to_close self.now name.now }
+        ensures within { IfSome result (λ place. place < length (items_in self.now)) }
+    {
+        let (place, _) = self.names.open.places(name).split_last()?;
+        if *place < self.items.len() {
+            Some(*place)
+        } else {
+            None
+        }
+    }
+
+    /// Closes the last open element of a name and all inside it, and calls the handler with their data, the outermost first. Where no
+    /// element of the name is open, nothing changes. It takes no memory; a stray end tag costs one look-up.
+    pub fn pop_up_to<F: FnMut(E)>(&mut self, local_name: LocalName<'_>, handler: &mut F)
+    where
+        E: Drop,
+        requires { F.IsAlwaysCallable handler.old }
+        ensures again { F.IsAlwaysCallable handler.new }
+        ensures ended { IsEnded self.old local_name.entry self.new }
+        ensures called { IsCalledAtEach F.step handler.old (element_data_of (closed_from (place_to_close self.old local_name.entry) (items_in self.old))) handler.new }
+    {
+        let Some(place) = self.place_to_close(&local_name) else {
+            return;
+        };
+        self.names.close(&self.items.as_slice()[place..], place);
+        self.active_hereditary_jumps.cut(place);
+        hand_out(&mut self.items, place, handler);
+    }
+
+    /// Drops the elements, and lowers the usage by the charge of the slots. (Not in lol_html.)
+    pub fn release(self, limiter: &mut SharedMemoryLimiter)
+    where
+        E: Drop,
+        requires { self.items.slots * self.items.item_bytes ≤ limiter.old.usage }
+        ensures { limiter.new ≡ record limiter.old { usage = limiter.old.usage - self.entry.items.slots * self.entry.items.item_bytes } }
+    {
+        let StackOf {
+            root_child_counter: _,
+            items,
+            active_hereditary_jumps: _,
+            names: _,
+        } = self;
+        items.release(limiter);
+    }
+
     /// The places of the open elements of a name, ascending, from 0. It takes no memory. (Not in lol_html.)
     pub fn open_places<'s, 'i: 's>(&'s self, name: &LocalName<'i>) -> &'s [usize]
         ensures { result.now ≡ places_in self.now name.now }
@@ -163,7 +249,7 @@ impl<E> StackOf<LocalName<'static>, StackNames, E> {
 impl StackNames {
     ghost use Rattle.std.specs.Prelude.{OnOk};
     ghost use Rattle.std.specs.Option.{option_map};
-    ghost use Rattle.lol_vm.specs.TypedCounts.{counted};
+    ghost use Rattle.lol_vm.specs.TypedCounts.{counted, cut_to};
     ghost use Rattle.lol_vm.specs.Stacks.{count_by_type};
     ghost use Rattle.lol_vm.specs.OpenPlaces.{places_of};
 
@@ -194,6 +280,17 @@ impl StackNames {
         }
     }
 
+    /// Takes the places of closed elements off, and drops the counters by type of the levels above `place`.
+    fn close<E>(&mut self, closed: &[StackItem<'static, E>], place: usize)
+        ensures typed { self.new.typed_child_counters ≡ option_map (cut_to place) self.old.typed_child_counters }
+        ensures places { (q : Name) → places_of self.new.open q ≡ without_places closed.now q (places_of self.old.open q) }
+    {
+        if let Some(counters) = &mut self.typed_child_counters {
+            counters.pop_to(place);
+        }
+        remove_names(&mut self.open, closed);
+    }
+
     fn typed_counter<'s, 'i: 's>(
         &'s self,
         name: &LocalName<'i>,
@@ -205,5 +302,33 @@ impl StackNames {
             Some(counters) => counters.get(name, level),
             None => None,
         }
+    }
+}
+
+/// Takes the last place of each element's name off, in the order of the elements.
+fn remove_names<E>(open: &mut OpenNames, closed: &[StackItem<'static, E>])
+    ensures { (q : Name) → places_of open.new q ≡ without_places closed.now q (places_of open.old q) }
+{
+    for item in closed {
+        open.remove(&item.local_name);
+    }
+}
+
+/// Takes the elements from a place on out, and calls the handler with their data, in order.
+fn hand_out<N: Drop, E: Drop, F: FnMut(E)>(
+    items: &mut LimitedVec<StackItemOf<N, E>>,
+    place: usize,
+    handler: &mut F,
+)
+    requires callable { F.IsAlwaysCallable handler.old }
+    requires inside { place ≤ length items.old.items }
+    ensures again { F.IsAlwaysCallable handler.new }
+    ensures kept { items.new ≡ with_items items.old (take place items.old.items) }
+    ensures called { IsCalledAtEach F.step handler.old (element_data_of (drop place items.old.items)) handler.new }
+{
+    let end = items.len();
+    for item in items.drain(place..end) {
+        let StackItemOf { element_data, .. } = item;
+        handler(element_data);
     }
 }

@@ -1,5 +1,4 @@
-use Rattle.std.proofs.Common.{◌≡◌, ◌∙◌, sym, ap, refl, map}
-use Rattle.std.specs.Bool.{if◌then◌else◌}
+use Rattle.std.proofs.Common.{refl, map}
 use Rattle.lol_vm.specs.CounterLists.{level_of}
 use Rattle.lol_vm.proofs.CounterLevels.{count_if_at-append, other_level, same_level}
 use Rattle.lol_vm.proofs.counters.CounterList.counter_at.Goals as goal

@@ -1,5 +1,4 @@
-use Rattle.std.proofs.Common.{sym, ap, ◌∙◌, is_some, Some, subst, true, false}
-use Rattle.std.specs.Bool.{MatchBool}
+use Rattle.std.proofs.Common.{sym, ap, ◌∙◌, is_some, Some}
 use Rattle.lol_vm.specs.Levels.{without_last}
 use Rattle.lol_vm.specs.CounterLists.{levels_if}
 use Rattle.lol_vm.proofs.NameMaps.{read-updated, read-removed}

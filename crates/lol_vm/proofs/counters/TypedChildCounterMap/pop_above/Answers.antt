@@ -1,4 +1,4 @@
-use Rattle.std.proofs.Common.{◌≡◌, ◌<◌, ◌∙◌, ℕ, sym, ap, subst, ◌++◌, ◌∷◌, [], refl, arith}
+use Rattle.std.proofs.Common.{◌≡◌, ◌∙◌, ℕ, sym, ap, subst, ◌++◌, ◌∷◌, [], refl, arith}
 use Rattle.std.specs.Bool.{if◌then◌else◌}
 use Rattle.lol_base.specs.LocalNames.{Name, same_local_name}
 use Rattle.lol_vm.specs.Levels.{without_last}
