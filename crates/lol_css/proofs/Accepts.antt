@@ -9,7 +9,7 @@ use Rattle.lol_css.specs.Rules.{Read, giving, Outside}
 use Rattle.lol_css.specs.Reading.{selector, list, inner_list}
 use Rattle.lol_css.specs.Accepting.{judged, accept}
 use Rattle.lol_css.specs.Judging.{Judged}
-use Rattle.lol_css.specs.Views.{Fails, seen}
+use Rattle.lol_css.specs.Views.{FailsUnlessMemory, seen}
 use Rattle.lol_css.specs.TreeViews.{list_of}
 use Rattle.lol_css.specs.declared.selector.SelectorList.{SelectorList}
 use Rattle.lol_css.specs.declared.error.SelectorError.{SelectorError}
@@ -28,7 +28,7 @@ accept_fails_of : (text : List ℕ) (cause : SelectorError) → (cause ≡ Memor
 accept_fails_of text cause (inl e) = inl e
 accept_fails_of text cause (inr e) = inr (accept_err text cause (giving-err (judged false) (list (inner_list 128) Outside (tokens_of (preprocessed (chars text)))) cause e))
 
-pub accept-fails : (text : List ℕ) (cause : SelectorError) → Fails cause (read_whole text) → (cause ≡ Memory) ⊎ (accept text ≡ Err cause)
+pub accept-fails : (text : List ℕ) (cause : SelectorError) → FailsUnlessMemory cause (read_whole text) → (cause ≡ Memory) ⊎ (accept text ≡ Err cause)
 accept-fails text cause h = accept_fails_of text cause (fails_cases cause (read_whole text) h)
 
 accept_read : (text : List ℕ) (draft : Items) (rest : List Token) (found : Judged trees.Items) → list (inner_list 128) Outside (tokens_of (preprocessed (chars text))) ≡ Ok (draft, rest) → judged false draft ≡ found → accept text ≡ found

@@ -8,7 +8,7 @@ use Rattle.lol_css.specs.Rules.{Read, ◌>>=◌, giving, skip_space, Place, InFu
 use Rattle.lol_css.specs.Reading.{class_name, pseudo, part, parts_at_most, more_parts, type_part, is_nothing, compound, next_step, further, item, items_at_most, list, inner_list}
 use Rattle.lol_css.specs.Accepting.{judged_step, combined, judged_part, judged_compound, judged_item, judged}
 use Rattle.lol_css.specs.Judging.{Judged, with_part, alone, with_compound, with_item, judged_parts_at_most, judged_parts, judged_further, judged_items_at_most, is_empty}
-use Rattle.lol_css.specs.Views.{Fails}
+use Rattle.lol_css.specs.Views.{FailsUnlessMemory}
 use Rattle.lol_css.specs.declared.selector.Combinator.{Combinator}
 use Rattle.lol_css.specs.declared.logical.LogicalCombination.{LogicalCombination}
 use Rattle.lol_css.specs.declared.error.SelectorError.{SelectorError}
@@ -18,7 +18,7 @@ use Rattle.lol_css.proofs.Spaces.{fails, then-fails}
 
 -- ---- causes
 
-pub fails_cases : {A : Type 0} (cause : SelectorError) (read : Result A SelectorError) → Fails cause read → (cause ≡ errors.Memory) ⊎ (read ≡ Err cause)
+pub fails_cases : {A : Type 0} (cause : SelectorError) (read : Result A SelectorError) → FailsUnlessMemory cause read → (cause ≡ errors.Memory) ⊎ (read ≡ Err cause)
 fails_cases errors.Memory read h = inl refl
 fails_cases errors.UnexpectedToken read h = inr h
 fails_cases errors.UnexpectedEnd read h = inr h
@@ -34,15 +34,15 @@ fails_cases errors.EmptyNegation read h = inr h
 fails_cases (errors.UnsupportedCombinator c) read h = inr h
 fails_cases errors.UnsupportedSyntax read h = inr h
 
-memory_fails : {A : Type 0} (cause : SelectorError) (read : Result A SelectorError) → cause ≡ errors.Memory → Fails cause read
+memory_fails : {A : Type 0} (cause : SelectorError) (read : Result A SelectorError) → cause ≡ errors.Memory → FailsUnlessMemory cause read
 memory_fails cause read e = rw e tt
 
-fails_on : {A B : Type 0} (cause : SelectorError) (read : Result A SelectorError) (total : Result B SelectorError) → (read ≡ Err cause → total ≡ Err cause) → (cause ≡ errors.Memory) ⊎ (read ≡ Err cause) → Fails cause total
+fails_on : {A B : Type 0} (cause : SelectorError) (read : Result A SelectorError) (total : Result B SelectorError) → (read ≡ Err cause → total ≡ Err cause) → (cause ≡ errors.Memory) ⊎ (read ≡ Err cause) → FailsUnlessMemory cause total
 fails_on cause read total h (inl e) = memory_fails cause total e
 fails_on cause read total h (inr e) = fails cause total (h e)
 
 -- what fails where this fails
-pub fails-along : {A B : Type 0} (cause : SelectorError) (read : Result A SelectorError) (total : Result B SelectorError) → (read ≡ Err cause → total ≡ Err cause) → Fails cause read → Fails cause total
+pub fails-along : {A B : Type 0} (cause : SelectorError) (read : Result A SelectorError) (total : Result B SelectorError) → (read ≡ Err cause → total ≡ Err cause) → FailsUnlessMemory cause read → FailsUnlessMemory cause total
 fails-along cause read total h f = fails_on cause read total h (fails_cases cause read f)
 
 -- ---- what is changed as it is read
@@ -161,7 +161,7 @@ parts_err_of zero inner place parts [] cause l e = absurd cc
 parts_err_of zero inner place parts (token ∷ tokens) cause l e = absurd (omega arith)
 parts_err_of (suc n) inner place parts tokens cause l e = rw e refl
 
-pub parts-fail : (inner : List Token → Read Items) (place : Place) (parts : Judged trees.Compound) (tokens : List Token) (cause : SelectorError) → Fails cause (giving (option_map judged_part) (part inner place tokens)) → Fails cause (judged_parts inner place parts tokens)
+pub parts-fail : (inner : List Token → Read Items) (place : Place) (parts : Judged trees.Compound) (tokens : List Token) (cause : SelectorError) → FailsUnlessMemory cause (giving (option_map judged_part) (part inner place tokens)) → FailsUnlessMemory cause (judged_parts inner place parts tokens)
 parts-fail inner place parts tokens cause h =
     fails-along cause (giving (option_map judged_part) (part inner place tokens)) (judged_parts inner place parts tokens) (λ e. parts_err_of (length tokens) inner place parts tokens cause refl (giving-err (option_map judged_part) (part inner place tokens) cause e)) h
 
@@ -217,7 +217,7 @@ compound_err : (inner : List Token → Read Items) (place : Place) (empty : Sele
 unfolding compound
 compound_err inner place empty tokens cause e = rw e refl
 
-pub compound-fails : (inner : List Token → Read Items) (place : Place) (empty : SelectorError) (tokens : List Token) (cause : SelectorError) → Fails cause (giving (option_map judged_compound) (type_part place tokens)) → Fails cause (giving judged_compound (compound inner place empty tokens))
+pub compound-fails : (inner : List Token → Read Items) (place : Place) (empty : SelectorError) (tokens : List Token) (cause : SelectorError) → FailsUnlessMemory cause (giving (option_map judged_compound) (type_part place tokens)) → FailsUnlessMemory cause (giving judged_compound (compound inner place empty tokens))
 compound-fails inner place empty tokens cause h =
     fails-along cause (giving (option_map judged_compound) (type_part place tokens)) (giving judged_compound (compound inner place empty tokens)) (λ e. compound_err inner place empty tokens cause (giving-err (option_map judged_compound) (type_part place tokens) cause e)) h
 
@@ -252,7 +252,7 @@ item_err : (inner : List Token → Read Items) (place : Place) (inside : Bool) (
 unfolding item
 item_err inner place inside tokens cause e = rw e refl
 
-pub item-fails : (inner : List Token → Read Items) (place : Place) (inside : Bool) (tokens : List Token) (cause : SelectorError) → Fails cause (giving judged_compound (compound inner place errors.EmptySelector (skip_space tokens))) → Fails cause (giving (judged_item inside) (item inner place tokens))
+pub item-fails : (inner : List Token → Read Items) (place : Place) (inside : Bool) (tokens : List Token) (cause : SelectorError) → FailsUnlessMemory cause (giving judged_compound (compound inner place errors.EmptySelector (skip_space tokens))) → FailsUnlessMemory cause (giving (judged_item inside) (item inner place tokens))
 item-fails inner place inside tokens cause h =
     fails-along cause (giving judged_compound (compound inner place errors.EmptySelector (skip_space tokens))) (giving (judged_item inside) (item inner place tokens)) (λ e. item_err inner place inside tokens cause (giving-err judged_compound (compound inner place errors.EmptySelector (skip_space tokens)) cause e)) h
 
@@ -276,9 +276,8 @@ unfolding judged_further
 further_err zero inner place inside front tokens cause e = rw e refl
 further_err (suc room) inner place inside front tokens cause e = rw e refl
 
-pub further-fails : (room : ℕ) (inner : List Token → Read Items) (place : Place) (inside : Bool) (front : Judged trees.Item) (tokens : List Token) (cause : SelectorError) → Fails cause (giving (option_map (judged_step inside)) (next_step place tokens)) → Fails cause (judged_further room inner place inside front tokens)
-further-fails room inner place inside front tokens cause h =
-    fails-along cause (giving (option_map (judged_step inside)) (next_step place tokens)) (judged_further room inner place inside front tokens) (λ e. further_err room inner place inside front tokens cause (giving-err (option_map (judged_step inside)) (next_step place tokens) cause e)) h
+pub further-fails : (room : ℕ) (inner : List Token → Read Items) (place : Place) (inside : Bool) (front : Judged trees.Item) (tokens : List Token) (cause : SelectorError) → giving (option_map (judged_step inside)) (next_step place tokens) ≡ Err cause → judged_further room inner place inside front tokens ≡ Err cause
+further-fails room inner place inside front tokens cause e = further_err room inner place inside front tokens cause (giving-err (option_map (judged_step inside)) (next_step place tokens) cause e)
 
 -- a step was read
 pub record StepRead (place : Place) (inside : Bool) (tokens : List Token) (step : Judged Combinator) (rest : List Token) : Type 0 where
@@ -316,7 +315,7 @@ further_compound_err : (room : ℕ) (inner : List Token → Read Items) (place :
 unfolding judged_further
 further_compound_err room inner place inside front tokens step rest s cause e = rw (s.is, e) refl
 
-pub further-compound-fails : (room : ℕ) (inner : List Token → Read Items) (place : Place) (inside : Bool) (front : Judged trees.Item) (tokens : List Token) (step : Judged Combinator) (rest : List Token) → StepRead place inside tokens step rest → (cause : SelectorError) → ¬ (room ≡ 0) → Fails cause (giving judged_compound (compound inner place errors.DanglingCombinator rest)) → Fails cause (judged_further room inner place inside front tokens)
+pub further-compound-fails : (room : ℕ) (inner : List Token → Read Items) (place : Place) (inside : Bool) (front : Judged trees.Item) (tokens : List Token) (step : Judged Combinator) (rest : List Token) → StepRead place inside tokens step rest → (cause : SelectorError) → ¬ (room ≡ 0) → FailsUnlessMemory cause (giving judged_compound (compound inner place errors.DanglingCombinator rest)) → FailsUnlessMemory cause (judged_further room inner place inside front tokens)
 further-compound-fails zero inner place inside front tokens step rest s cause n h = absurd (n refl)
 further-compound-fails (suc room) inner place inside front tokens step rest s cause n h =
     fails-along cause (giving judged_compound (compound inner place errors.DanglingCombinator rest)) (judged_further (suc room) inner place inside front tokens) (λ e. further_compound_err room inner place inside front tokens step rest s cause (giving-err judged_compound (compound inner place errors.DanglingCombinator rest) cause e)) h
@@ -349,7 +348,7 @@ list_err : (inner : List Token → Read Items) (place : Place) (inside : Bool) (
 unfolding list
 list_err inner place inside tokens cause e = rw e refl
 
-pub list-fails : (inner : List Token → Read Items) (place : Place) (inside : Bool) (tokens : List Token) (cause : SelectorError) → Fails cause (giving (judged_item inside) (item inner place tokens)) → Fails cause (giving (judged inside) (list inner place tokens))
+pub list-fails : (inner : List Token → Read Items) (place : Place) (inside : Bool) (tokens : List Token) (cause : SelectorError) → FailsUnlessMemory cause (giving (judged_item inside) (item inner place tokens)) → FailsUnlessMemory cause (giving (judged inside) (list inner place tokens))
 list-fails inner place inside tokens cause h =
     fails-along cause (giving (judged_item inside) (item inner place tokens)) (giving (judged inside) (list inner place tokens)) (λ e. list_err inner place inside tokens cause (giving-err (judged_item inside) (item inner place tokens) cause e)) h
 
@@ -405,7 +404,7 @@ items_err : (n : ℕ) (inner : List Token → Read Items) (place : Place) (insid
 unfolding judged_items_at_most
 items_err n inner place inside items tokens cause e is = rw (e, is) refl
 
-pub items-fail : (inner : List Token → Read Items) (place : Place) (inside : Bool) (items : Judged trees.Items) (tokens : List Token) (cause : SelectorError) → at_end place tokens ≡ false → Fails cause (giving (judged_item inside) (item inner place (drop 1 tokens))) → Fails cause (judged_items_at_most (length tokens + 1) inner place inside items tokens)
+pub items-fail : (inner : List Token → Read Items) (place : Place) (inside : Bool) (items : Judged trees.Items) (tokens : List Token) (cause : SelectorError) → at_end place tokens ≡ false → FailsUnlessMemory cause (giving (judged_item inside) (item inner place (drop 1 tokens))) → FailsUnlessMemory cause (judged_items_at_most (length tokens + 1) inner place inside items tokens)
 items-fail inner place inside items tokens cause e h =
     let n : length tokens + 1 ≡ suc (length tokens) = omega arith in
     rw n (fails-along cause (giving (judged_item inside) (item inner place (drop 1 tokens))) (judged_items_at_most (suc (length tokens)) inner place inside items tokens) (λ is. items_err (length tokens) inner place inside items tokens cause e (giving-err (judged_item inside) (item inner place (drop 1 tokens)) cause is)) h)
@@ -430,13 +429,13 @@ logical-read combination read found rest e =
 giving_err : {A B : Type 0} (f : A → B) (read : Read A) (cause : SelectorError) → read ≡ Err cause → giving f read ≡ Err cause
 giving_err f read cause e = rw e refl
 
-pub logical-fails : (combination : LogicalCombination) (read : Read Items) (cause : SelectorError) → Fails cause (giving (judged true) read) → Fails cause (giving judged_part (giving (λ items. Logical combination items) read))
+pub logical-fails : (combination : LogicalCombination) (read : Read Items) (cause : SelectorError) → FailsUnlessMemory cause (giving (judged true) read) → FailsUnlessMemory cause (giving judged_part (giving (λ items. Logical combination items) read))
 logical-fails combination read cause h =
     fails-along cause (giving (judged true) read) (giving judged_part (giving (λ items. Logical combination items) read)) (λ e. giving_err judged_part (giving (λ items. Logical combination items) read) cause (giving_err (λ items. Logical combination items) read cause (giving-err (judged true) read cause e))) h
 
 -- ---- what the code's answers cite
 
-pub not_empty-fails : (empty : SelectorError) (read : Read (Judged trees.Compound)) (cause : SelectorError) → Fails cause read → Fails cause (not_empty empty read)
+pub not_empty-fails : (empty : SelectorError) (read : Read (Judged trees.Compound)) (cause : SelectorError) → FailsUnlessMemory cause read → FailsUnlessMemory cause (not_empty empty read)
 not_empty-fails empty read cause h = then-fails cause read (λ x. cond (is_empty x.0) (Err empty) (Ok x)) h
 
 pub not_empty-refused : (empty : SelectorError) (read : Read (Judged trees.Compound)) (parts : Judged trees.Compound) (rest : List Token) → read ≡ Ok (parts, rest) → is_empty parts ≡ true → not_empty empty read ≡ Err empty
@@ -449,7 +448,7 @@ part_pseudo_err : (inner : List Token → Read Items) (place : Place) (rest : Li
 unfolding part
 part_pseudo_err inner place rest cause e = rw e refl
 
-pub part-pseudo-fails : (inner : List Token → Read Items) (place : Place) (tokens rest : List Token) (cause : SelectorError) → tokens ≡ Delim 58 ∷ rest → Fails cause (giving judged_part (pseudo inner place rest)) → Fails cause (giving (option_map judged_part) (part inner place tokens))
+pub part-pseudo-fails : (inner : List Token → Read Items) (place : Place) (tokens rest : List Token) (cause : SelectorError) → tokens ≡ Delim 58 ∷ rest → FailsUnlessMemory cause (giving judged_part (pseudo inner place rest)) → FailsUnlessMemory cause (giving (option_map judged_part) (part inner place tokens))
 part-pseudo-fails inner place tokens rest cause e h =
     rw e (fails-along cause (giving judged_part (pseudo inner place rest)) (giving (option_map judged_part) (part inner place (Delim 58 ∷ rest))) (λ is. part_pseudo_err inner place rest cause (giving-err judged_part (pseudo inner place rest) cause is)) h)
 
@@ -457,6 +456,6 @@ part_class_err : (inner : List Token → Read Items) (place : Place) (rest : Lis
 unfolding part
 part_class_err inner place rest cause e = rw e refl
 
-pub part-class-fails : (inner : List Token → Read Items) (place : Place) (tokens rest : List Token) (cause : SelectorError) → tokens ≡ Delim 46 ∷ rest → Fails cause (giving (λ part. trees.Plain part) (class_name place rest)) → Fails cause (giving (option_map judged_part) (part inner place tokens))
+pub part-class-fails : (inner : List Token → Read Items) (place : Place) (tokens rest : List Token) (cause : SelectorError) → tokens ≡ Delim 46 ∷ rest → FailsUnlessMemory cause (giving (λ part. trees.Plain part) (class_name place rest)) → FailsUnlessMemory cause (giving (option_map judged_part) (part inner place tokens))
 part-class-fails inner place tokens rest cause e h =
     rw e (fails-along cause (giving (λ part. trees.Plain part) (class_name place rest)) (giving (option_map judged_part) (part inner place (Delim 46 ∷ rest))) (λ is. part_class_err inner place rest cause (giving-err (λ part. trees.Plain part) (class_name place rest) cause is)) h)

@@ -2,7 +2,7 @@
 use Rattle.std.proofs.Common.{◌≡◌, List, [], ◌∷◌, false, refl}
 use Rattle.lol_css.specs.Tokens.{Token, Space}
 use Rattle.lol_css.specs.Rules.{skip_space, is_space, ◌>>=◌}
-use Rattle.lol_css.specs.Views.{Fails}
+use Rattle.lol_css.specs.Views.{FailsUnlessMemory}
 use Rattle.lol_css.specs.declared.error.SelectorError.{SelectorError}
 use Rattle.lol_css.specs.declared.error.SelectorError.TheVariants as errors
 use Rattle.std.specs.Prelude.{Result, Err}
@@ -21,7 +21,7 @@ skip-end = refl
 
 pub ruleset space_steps = (skip-space, skip-other, skip-end)
 
-pub fails : {Y : Type 0} (e : SelectorError) (read : Result Y SelectorError) → read ≡ Err e → Fails e read
+pub fails : {Y : Type 0} (e : SelectorError) (read : Result Y SelectorError) → read ≡ Err e → FailsUnlessMemory e read
 fails errors.Memory read h = tt
 fails errors.UnexpectedToken read h = h
 fails errors.UnexpectedEnd read h = h
@@ -38,7 +38,7 @@ fails (errors.UnsupportedCombinator c) read h = h
 fails errors.UnsupportedSyntax read h = h
 
 -- what fails at first fails at last
-pub then-fails : {A B : Type 0} (cause : SelectorError) (read : Result A SelectorError) (f : A → Result B SelectorError) → Fails cause read → Fails cause (read >>= f)
+pub then-fails : {A B : Type 0} (cause : SelectorError) (read : Result A SelectorError) (f : A → Result B SelectorError) → FailsUnlessMemory cause read → FailsUnlessMemory cause (read >>= f)
 then-fails errors.Memory read f h = tt
 then-fails errors.UnexpectedToken read f h = rw h refl
 then-fails errors.UnexpectedEnd read f h = rw h refl

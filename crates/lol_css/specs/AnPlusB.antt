@@ -49,7 +49,7 @@ behind_n (Number n ∷ tokens) =
     ]
 behind_n (token ∷ tokens) = Ok (pos 0, token ∷ tokens)
 
--- `n-` and digits, one at least
+-- `n-`, and after it nothing but digits
 abbrev pub is_n_and_digits : List ℕ → Bool
 is_n_and_digits name = says (codes "n-") (take 2 name) && list_all is_decimal (drop 2 name)
 

@@ -55,15 +55,20 @@ abbrev pub IsFirst : {A : Type 0} → List A → Option A → List A → Type 0
 IsFirst whole None rest = (whole ≡ []) × (rest ≡ [])
 IsFirst whole (Some x) rest = whole ≡ x ∷ rest
 
--- a cause, and what reading gives: want of memory says nothing of it
-abbrev pub Fails : {Y : Type 0} → SelectorError → Result Y SelectorError → Type 0
-Fails Memory read = Unit {0}
-Fails cause read = read ≡ Err cause
-
--- what a reader answered, seen by view, with the tokens that are left, is what reading gives
+-- what a rule answered, seen by view, with the tokens that are left, is what reading gives
 abbrev pub Reads : {X Y : Type 0} → (X → Y) → Result X SelectorError → List tokens.Token → Read Y → Type 0
 Reads view (Ok x) rest read = read ≡ Ok (view x, rest)
-Reads view (Err cause) rest read = Fails cause read
+Reads view (Err cause) rest read = read ≡ Err cause
+
+-- a cause is what reading gives, unless it is out of memory
+abbrev pub FailsUnlessMemory : {Y : Type 0} → SelectorError → Result Y SelectorError → Type 0
+FailsUnlessMemory Memory read = Unit {0}
+FailsUnlessMemory cause read = read ≡ Err cause
+
+-- the same as `Reads`, but that a rule that allocates may be out of memory
+abbrev pub ReadsUnlessMemory : {X Y : Type 0} → (X → Y) → Result X SelectorError → List tokens.Token → Read Y → Type 0
+ReadsUnlessMemory view (Ok x) rest read = read ≡ Ok (view x, rest)
+ReadsUnlessMemory view (Err cause) rest read = FailsUnlessMemory cause read
 
 abbrev pub place_of : Place → rules.Place
 place_of Outside = rules.Outside

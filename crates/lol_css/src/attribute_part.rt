@@ -9,7 +9,7 @@ ghost use Rattle.lol_css.specs.Rules.{wanted, giving, InBrackets};
 ghost use Rattle.lol_css.specs.Reading.{attribute_name, operator_of, value_of, flag_of, flag_named, unflagged, case_sensitivity, comparison, attribute, utf8};
 ghost use Rattle.lol_css.specs.Accepting.{judged_part};
 ghost use Rattle.lol_css.specs.declared.error.SelectorError.TheVariants.{UnexpectedToken, UnexpectedTokenInAttribute};
-ghost use Rattle.lol_css.specs.Views.{Reads, points_of, seen};
+ghost use Rattle.lol_css.specs.Views.{Reads, ReadsUnlessMemory, points_of, seen};
 ghost use Rattle.lol_css.specs.TreeViews.{part_of};
 
 use crate::attribute::{AttrSelectorOperator, ParsedCaseSensitivity};
@@ -81,7 +81,7 @@ fn operator(reader: &mut Reader<'_>) -> Result<AttrSelectorOperator, SelectorErr
 
 #[tactic(auto, unfolding(crate::specs::Rules::wanted))]
 fn value(alloc: Global, reader: &mut Reader<'_>) -> Result<CssString, SelectorError>
-    ensures { Reads (λ s. s) result reader.new (giving utf8 (wanted InBrackets value_of UnexpectedTokenInAttribute reader.old)) }
+    ensures { ReadsUnlessMemory (λ s. s) result reader.new (giving utf8 (wanted InBrackets value_of UnexpectedTokenInAttribute reader.old)) }
 {
     if reader.is_at_end(Place::InBrackets) {
         return Err(SelectorError::UnexpectedEnd);
@@ -215,7 +215,7 @@ fn comparison(
     name: CssString,
     reader: &mut Reader<'_>,
 ) -> Result<SimpleSelector, SelectorError>
-    ensures { Reads part_of result reader.new (giving trees.Plain (comparison name reader.old)) }
+    ensures { ReadsUnlessMemory part_of result reader.new (giving trees.Plain (comparison name reader.old)) }
 {
     if reader.is_at_end(Place::InBrackets) {
         reader.advance();
@@ -240,7 +240,7 @@ pub(crate) fn attribute(
     alloc: Global,
     reader: &mut Reader<'_>,
 ) -> Result<Judged<SimpleSelector>, SelectorError>
-    ensures { Reads (seen part_of) result reader.new (giving judged_part (attribute reader.old)) }
+    ensures { ReadsUnlessMemory (seen part_of) result reader.new (giving judged_part (attribute reader.old)) }
 {
     reader.skip_space();
     let (name, any_namespace) = attribute_name(reader)?;

@@ -19,7 +19,7 @@ const MAX_NESTING: u32 = 128;
 pub struct SelectorsParser;
 
 impl SelectorsParser {
-    /// The selector that a text stands for: a list of one item or more. Its time is linear in the text's length.
+    /// The selector that a text stands for: a list of one item or more.
     ///
     /// # Errors
     ///

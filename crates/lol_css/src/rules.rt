@@ -9,7 +9,7 @@ ghost use Rattle.lol_css.specs.Reading.{class_name, function_part, ident_part, i
 ghost use Rattle.lol_css.specs.Accepting.{judged_step, judged_part, judged_compound, judged_item, judged};
 ghost use Rattle.lol_css.specs.Judging as judging;
 ghost use Rattle.lol_css.specs.Judging.{judged_parts, is_empty};
-ghost use Rattle.lol_css.specs.Views.{Reads, points_of, place_of, is_inside, seen};
+ghost use Rattle.lol_css.specs.Views.{Reads, ReadsUnlessMemory, points_of, place_of, is_inside, seen};
 ghost use Rattle.lol_css.specs.TreeViews.{part_of, compound_of, item_of, list_of};
 
 use crate::an_plus_b::an_plus_b;
@@ -33,7 +33,7 @@ fn class_name(
     reader: &mut Reader<'_>,
     place: Place,
 ) -> Result<SimpleSelector, SelectorError>
-    ensures { Reads part_of result reader.new (giving trees.Plain (class_name (place_of place) reader.old)) }
+    ensures { ReadsUnlessMemory part_of result reader.new (giving trees.Plain (class_name (place_of place) reader.old)) }
 {
     if reader.is_at_stop(place) {
         return Err(SelectorError::UnexpectedEnd);
@@ -111,7 +111,7 @@ fn behind_bar(
     reader: &mut Reader<'_>,
     place: Place,
 ) -> Result<Option<SimpleSelector>, SelectorError>
-    ensures { Reads (option_map part_of) result reader.new (giving (option_map trees.Plain) (behind_bar (place_of place) reader.old)) }
+    ensures { ReadsUnlessMemory (option_map part_of) result reader.new (giving (option_map trees.Plain) (behind_bar (place_of place) reader.old)) }
 {
     if reader.is_at_stop(place) {
         return Ok(None);
@@ -140,7 +140,7 @@ fn any_namespace(
     reader: &mut Reader<'_>,
     place: Place,
 ) -> Result<Option<Compound>, SelectorError>
-    ensures { Reads (option_map (λ start. Ok (compound_of start))) result reader.new (giving (option_map judged_compound) (giving (option_map any_namespace) (behind_bar (place_of place) reader.old))) }
+    ensures { ReadsUnlessMemory (option_map (λ start. Ok (compound_of start))) result reader.new (giving (option_map judged_compound) (giving (option_map any_namespace) (behind_bar (place_of place) reader.old))) }
 {
     match behind_bar(alloc, reader, place)? {
         Some(name) => Ok(Some(single(alloc, name)?)),
@@ -155,7 +155,7 @@ fn no_namespace(
     reader: &mut Reader<'_>,
     place: Place,
 ) -> Result<Option<Compound>, SelectorError>
-    ensures { Reads (option_map (λ start. Ok (compound_of start))) result reader.new (giving (option_map judged_compound) (giving (option_map no_namespace) (behind_bar (place_of place) reader.old))) }
+    ensures { ReadsUnlessMemory (option_map (λ start. Ok (compound_of start))) result reader.new (giving (option_map judged_compound) (giving (option_map no_namespace) (behind_bar (place_of place) reader.old))) }
 {
     match behind_bar(alloc, reader, place)? {
         Some(name) => {
@@ -174,7 +174,7 @@ fn type_part(
     reader: &mut Reader<'_>,
     place: Place,
 ) -> Result<Option<Compound>, SelectorError>
-    ensures { Reads (option_map (λ start. Ok (compound_of start))) result reader.new (giving (option_map judged_compound) (type_part (place_of place) reader.old)) }
+    ensures { ReadsUnlessMemory (option_map (λ start. Ok (compound_of start))) result reader.new (giving (option_map judged_compound) (type_part (place_of place) reader.old)) }
 {
     match reader.peek() {
         Some(Token::Ident(name)) => {
@@ -312,7 +312,7 @@ fn part(
     place: Place,
     room: u32,
 ) -> Result<Option<Judged<SimpleSelector>>, SelectorError>
-    ensures { Reads (option_map (seen part_of)) result reader.new (giving (option_map judged_part) (part (inner_list room) (place_of place) reader.old)) }
+    ensures { ReadsUnlessMemory (option_map (seen part_of)) result reader.new (giving (option_map judged_part) (part (inner_list room) (place_of place) reader.old)) }
 {
     match reader.peek() {
         Some(Token::Hash(name, true)) => {
@@ -344,7 +344,7 @@ fn pseudo(
     place: Place,
     room: u32,
 ) -> Result<Judged<SimpleSelector>, SelectorError>
-    ensures { Reads (seen part_of) result reader.new (giving judged_part (pseudo (inner_list room) (place_of place) reader.old)) }
+    ensures { ReadsUnlessMemory (seen part_of) result reader.new (giving judged_part (pseudo (inner_list room) (place_of place) reader.old)) }
 {
     if reader.is_at_stop(place) {
         return Err(SelectorError::UnexpectedEnd);
@@ -369,7 +369,7 @@ fn logical_part(
     room: u32,
     combination: LogicalCombination,
 ) -> Result<Judged<SimpleSelector>, SelectorError>
-    ensures { Reads (seen part_of) result reader.new (giving judged_part (giving (drafts.Logical combination) (inner_list room reader.old))) }
+    ensures { ReadsUnlessMemory (seen part_of) result reader.new (giving judged_part (giving (drafts.Logical combination) (inner_list room reader.old))) }
 {
     if room == 0 {
         return Err(SelectorError::UnsupportedSyntax);
@@ -389,7 +389,7 @@ fn more_parts(
     room: u32,
     start: Compound,
 ) -> Result<Judged<Compound>, SelectorError>
-    ensures { Reads (seen compound_of) result reader.new (judged_parts (inner_list room) (place_of place) (Ok (compound_of start)) reader.old) }
+    ensures { ReadsUnlessMemory (seen compound_of) result reader.new (judged_parts (inner_list room) (place_of place) (Ok (compound_of start)) reader.old) }
 {
     let mut parts = Ok(start);
     'parts: while let Some(found) = part(alloc, reader, place, room)? {
@@ -407,7 +407,7 @@ fn compound(
     room: u32,
     empty: SelectorError,
 ) -> Result<Judged<Compound>, SelectorError>
-    ensures { Reads (seen compound_of) result reader.new (giving judged_compound (compound (inner_list room) (place_of place) empty reader.old)) }
+    ensures { ReadsUnlessMemory (seen compound_of) result reader.new (giving judged_compound (compound (inner_list room) (place_of place) empty reader.old)) }
 {
     let Some(start) = type_part(alloc, reader, place)? else {
         return Err(empty);
@@ -436,7 +436,7 @@ fn item(
     place: Place,
     room: u32,
 ) -> Result<Judged<ComplexSelector>, SelectorError>
-    ensures { Reads (seen item_of) result reader.new (giving (judged_item (is_inside place)) (item (inner_list room) (place_of place) reader.old)) }
+    ensures { ReadsUnlessMemory (seen item_of) result reader.new (giving (judged_item (is_inside place)) (item (inner_list room) (place_of place) reader.old)) }
 {
     reader.skip_space();
     let first = compound(alloc, reader, place, room, SelectorError::EmptySelector)?;
@@ -481,7 +481,7 @@ pub(crate) fn list(
     place: Place,
     room: u32,
 ) -> Result<Judged<SelectorList>, SelectorError>
-    ensures { Reads (seen list_of) result reader.new (giving (judged (is_inside place)) (list (inner_list room) (place_of place) reader.old)) }
+    ensures { ReadsUnlessMemory (seen list_of) result reader.new (giving (judged (is_inside place)) (list (inner_list room) (place_of place) reader.old)) }
 {
     let first = item(alloc, reader, place, room)?;
     let nothing = SelectorList {

@@ -1,8 +1,8 @@
 //! Printed texts, the bounds of the grammar, and each call that takes memory once.
 
 use crate::{
-    Combinator, ComplexSelector, Compound, CssString, Selector, SelectorError, SelectorList,
-    SelectorsParser, SimpleSelector,
+    CaseSensitivity, Combinator, ComplexSelector, Compound, CssString, NthChild, Selector,
+    SelectorError, SelectorList, SelectorsParser, SimpleSelector,
 };
 use std::alloc::{AllocError, Global};
 use std::test::Fail;
@@ -130,6 +130,74 @@ fn a_text_is_copied(rt: HostRuntime) -> Result<(), Fail> {
     assert_eq!(rt; text.to_boxed_slice(rt.alloc())?.as_str(), "div");
     let printed = format!(in rt.alloc(); "{text:?}")?;
     assert_eq!(rt; printed.as_str(), "\"div\"");
+    Ok(())
+}
+
+#[test]
+fn indices_lie_on_a_progression(rt: HostRuntime) -> Result<(), Fail> {
+    for (step, offset, index, answer) in [
+        (1, -2_147_483_647, 1, true),
+        (2, 1, 1, true),
+        (2, 1, 2, false),
+        (2, 1, 3, true),
+        (-1, 3, 3, true),
+        (-1, 3, 4, false),
+        (2, 0, 1, false),
+        (2, 0, 2, true),
+        (0, 1, 1, true),
+        (0, 1, 2, false),
+        (0, 1, 3, false),
+    ] {
+        assert_eq!(rt; NthChild::new(step, offset).has_index(index), answer);
+    }
+    Ok(())
+}
+
+#[test]
+fn letters_compare_with_and_without_case(rt: HostRuntime) -> Result<(), Fail> {
+    for (a, b, with_case, without_case) in [
+        ("div", "div", true, true),
+        ("div", "DIV", false, true),
+        ("div", "di", false, false),
+        ("[", "{", false, false),
+        ("\u{e9}", "\u{c9}", false, false),
+        ("", "", true, true),
+    ] {
+        let (a, b) = (a.as_bytes(), b.as_bytes());
+        assert_eq!(rt; CaseSensitivity::CaseSensitive.eq(a, b), with_case);
+        assert_eq!(rt;
+            CaseSensitivity::AsciiCaseInsensitive.eq(a, b),
+            without_case
+        );
+    }
+    Ok(())
+}
+
+/// Each of these texts is refused where a rule that takes no memory reads it.
+#[test]
+fn refusals_are_not_for_memory(rt: HostRuntime) -> Result<(), Fail> {
+    for (text, cause) in [
+        ("[a=b 1]", SelectorError::UnexpectedToken),
+        ("[a=b x]", SelectorError::UnexpectedToken),
+        ("[a=b i j]", SelectorError::UnexpectedToken),
+        ("[a~/**/=b]", SelectorError::UnexpectedTokenInAttribute),
+        ("[a=1]", SelectorError::UnexpectedTokenInAttribute),
+        ("[a=", SelectorError::UnexpectedEnd),
+        ("[=a]", SelectorError::MissingAttributeName),
+        ("[a|b]", SelectorError::NamespacedSelector),
+        (":nth-child(2147483648)", SelectorError::UnexpectedToken),
+        (":nth-child(n 1)", SelectorError::UnexpectedToken),
+        (":nth-child(+)", SelectorError::UnexpectedEnd),
+        (":hover", SelectorError::UnsupportedPseudoClassOrElement),
+        ("a]", SelectorError::UnexpectedToken),
+        ("a + b", SelectorError::UnsupportedCombinator('+')),
+    ] {
+        assert_eq!(rt;
+            SelectorsParser::parse(rt.alloc(), text).err(),
+            Some(cause),
+            "{text}"
+        );
+    }
     Ok(())
 }
 

@@ -56,7 +56,7 @@ item-steps-init t c =
 pub item-returns-in_err-step : goal.item-returns-in_err-step
 item-returns-in_err-step t c =
     let p = err_from_is_err_and c.from_residual-in_err-step.result c.from_residual-in_err-step.ensures.1 in
-    rw (p.1, p.2, ← c.steps.invariant) (further-fails c.steps.left (inner_list c.args.room) (place_of c.args.place) (is_inside c.args.place) (seen item_of c.steps.item) c.steps.reader c.in_err-step.field-0.0 c.in_err-step.ensures)
+    rw (p.1, p.2, ← c.steps.invariant) (fails c.in_err-step.field-0.0 _ (further-fails c.steps.left (inner_list c.args.room) (place_of c.args.place) (is_inside c.args.place) (seen item_of c.steps.item) c.steps.reader c.in_err-step.field-0.0 c.in_err-step.ensures))
 
 pub item-returns-then-left-eq0 : goal.item-returns-then-left-eq0
 item-returns-then-left-eq0 t c =
