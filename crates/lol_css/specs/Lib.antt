@@ -12,4 +12,5 @@ pub mod Progression
 pub mod Judging
 pub mod Views
 pub mod TreeViews
+pub mod TreeLaws
 pub mod WorkedRows
