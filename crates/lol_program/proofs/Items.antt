@@ -10,7 +10,7 @@ use Rattle.lol_program.specs.Paths.{Path, extended}
 use Rattle.lol_program.specs.Conditions.{path_of, paths_of}
 use Rattle.lol_program.specs.Views.{steps_of}
 use Rattle.lol_program.specs.AstPaths.{shown}
-use Rattle.lol_css.proofs.TreeRows.{item_of-out}
+use Rattle.lol_css.specs.TreeLaws.{item_of-out}
 
 path_of-steps : (front : trees.Item) (others : List (Combinator × css.Compound)) → path_of (with_compound_list front others) ≡ extended (path_of front) (steps_of others)
 path_of-steps front [] = refl

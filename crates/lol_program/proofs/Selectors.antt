@@ -8,7 +8,7 @@ use Rattle.lol_css.specs.TreeViews.{list_of}
 use Rattle.lol_program.specs.Paths.{Path, beginnings, all_beginnings}
 use Rattle.lol_program.specs.Conditions.{paths_of, pairs_under}
 use Rattle.lol_program.specs.AstPaths.{shown}
-use Rattle.lol_css.proofs.TreeRows.{list_of-out}
+use Rattle.lol_css.specs.TreeLaws.{list_of-out}
 use Rattle.lol_program.proofs.Items.{paths_of-items}
 use Rattle.lol_base.specs.MemberLaws.{map-map}
 use Rattle.lol_program.proofs.PathLists.{all_of, pairs_for, beginnings_under}

@@ -11,7 +11,7 @@ use Rattle.lol_css.specs.declared.selector.SimpleSelector.TheViews.{out-Selector
 use Rattle.lol_css.specs.TreeViews.{part_of, item_of, list_of, compound_of, with_part_list, with_item_list, with_compound_list}
 use Rattle.lol_program.specs.Compounds.{Test, Compound, AndTest, Compounds, OrCompound, all_of, any_of, with_test, with_compound}
 use Rattle.lol_program.specs.Conditions.{part_test, items_compounds, item_compound, written_tests, compound_tests}
-use Rattle.lol_css.proofs.TreeRows.{list_of-out, item_of-out}
+use Rattle.lol_css.specs.TreeLaws.{list_of-out, item_of-out}
 
 -- 1. Rows of tests, and of compounds
 
