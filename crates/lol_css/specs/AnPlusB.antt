@@ -2,6 +2,7 @@
 -- Departures: A and B lie in i32, and each refusal has a cause.
 use Rattle.std.specs.Prelude.{ℕ, Bool, ◌&&◌, ◌==◌, nat_le, if◌then◌else◌, List, [], ◌∷◌, drop, take, Option, Some, None, Ok, Err, ℤ, pos, negsuc, neg_ℤ, codes}
 use Rattle.std.specs.List.{list_all}
+use Rattle.std.specs.Str.{byte}
 use Rattle.lol_css.specs.Points.{is, front, is_decimal, decimal}
 use Rattle.lol_css.specs.Tokens.{Token, Numeral, Number, Dimension, Ident, Delim}
 use Rattle.lol_css.specs.Rules.{Read, ◌>>=◌, giving, skip_space, InFunction, wanted, closed, says, ident_of}
@@ -14,7 +15,7 @@ minus n = neg_ℤ (pos n)
 abbrev pub integer_value : Numeral → Option ℤ
 integer_value n = elim n.integer [
   | None ↦ None
-  | Some digits ↦ Some (elim n.sign [ None ↦ pos digits | Some c ↦ if c == 45 then minus digits else pos digits ])
+  | Some digits ↦ Some (elim n.sign [ None ↦ pos digits | Some c ↦ if c == byte "-" then minus digits else pos digits ])
 ]
 
 -- an integer without a sign
@@ -40,8 +41,8 @@ digits_of_b signed tokens = do
 unfoldable pub behind_n : List Token → Read ℤ
 behind_n [] = Ok (pos 0, [])
 behind_n (Delim c ∷ tokens) =
-    if c == 43 then digits_of_b pos tokens
-    else (if c == 45 then digits_of_b minus tokens else Ok (pos 0, Delim c ∷ tokens))
+    if c == byte "+" then digits_of_b pos tokens
+    else (if c == byte "-" then digits_of_b minus tokens else Ok (pos 0, Delim c ∷ tokens))
 behind_n (Number n ∷ tokens) =
     elim n.sign [
       | None ↦ Ok (pos 0, Number n ∷ tokens)
@@ -77,11 +78,11 @@ unfoldable pub an_plus_b_of : Token → List Token → Read (ℤ × ℤ)
 an_plus_b_of (Ident name) tokens =
     if says (codes "even") name then Ok ((pos 2, pos 0), tokens)
     else (if says (codes "odd") name then Ok ((pos 2, pos 1), tokens)
-    else (if front (is 45) name then with_step (minus 1) (rest_of (drop 1 name) tokens) else with_step (pos 1) (rest_of name tokens)))
+    else (if front (is (byte "-")) name then with_step (minus 1) (rest_of (drop 1 name) tokens) else with_step (pos 1) (rest_of name tokens)))
 an_plus_b_of (Number n) tokens = with_step (pos 0) (integer n tokens)
 an_plus_b_of (Dimension n unit) tokens = scaled n unit tokens
 an_plus_b_of (Delim c) tokens =
-    if c == 43 then (wanted InFunction ident_of UnexpectedToken tokens >>= λ name. with_step (pos 1) (rest_of name.0 name.1))
+    if c == byte "+" then (wanted InFunction ident_of UnexpectedToken tokens >>= λ name. with_step (pos 1) (rest_of name.0 name.1))
     else Err UnexpectedToken
 an_plus_b_of _ tokens = Err UnexpectedToken
 

@@ -1,7 +1,7 @@
 -- Texts as lists of code points: preprocessing, escapes, and what a place starts (CSS Syntax 3, sections 3.3 and 4.3).
 use Rattle.std.specs.Prelude.{ℕ, zero, suc, ◌+◌, ◌-◌, ◌*◌, Bool, false, not, ◌&&◌, ◌||◌, ◌==◌, nat_le, if◌then◌else◌, List, [], ◌∷◌, ◌++◌, map, length, drop, Option, Some, None}
 use Rattle.std.specs.Char.{digit_value, is_digit}
-use Rattle.std.specs.Str.{all_scalars}
+use Rattle.std.specs.Str.{all_scalars, byte}
 
 -- ---- lists
 
@@ -45,38 +45,50 @@ None or other = other
 
 -- ---- code points (section 4.2)
 
+abbrev pub tab : ℕ
+tab = 9
+
+abbrev pub line_feed : ℕ
+line_feed = 10
+
+abbrev pub form_feed : ℕ
+form_feed = 12
+
+abbrev pub carriage_return : ℕ
+carriage_return = 13
+
 abbrev pub is_newline : ℕ → Bool
-is_newline c = c == 10
+is_newline c = c == line_feed
 
 abbrev pub is_white_space : ℕ → Bool
-is_white_space c = c == 32 || c == 9 || c == 10
+is_white_space c = c == byte " " || c == tab || c == line_feed
 
 abbrev pub is_decimal : ℕ → Bool
-is_decimal c = nat_le 48 c && nat_le c 57
+is_decimal c = nat_le (byte "0") c && nat_le c (byte "9")
 
 abbrev pub is_letter : ℕ → Bool
-is_letter c = (nat_le 65 c && nat_le c 90) || (nat_le 97 c && nat_le c 122)
+is_letter c = (nat_le (byte "A") c && nat_le c (byte "Z")) || (nat_le (byte "a") c && nat_le c (byte "z"))
 
 -- a letter, `_`, or not ASCII
 abbrev pub is_name_start : ℕ → Bool
-is_name_start c = is_letter c || c == 95 || nat_le 128 c
+is_name_start c = is_letter c || c == byte "_" || nat_le 128 c
 
 abbrev pub is_in_name : ℕ → Bool
-is_in_name c = is_name_start c || is_decimal c || c == 45
+is_in_name c = is_name_start c || is_decimal c || c == byte "-"
 
 -- `+` or `-`
 abbrev pub is_sign : ℕ → Bool
-is_sign c = c == 43 || c == 45
+is_sign c = c == byte "+" || c == byte "-"
 
 -- ---- preprocessing (section 3.3)
 
 -- CR and form feed become LF, NUL becomes U+FFFD
 abbrev pub cleaned : ℕ → ℕ
-cleaned c = if c == 13 || c == 12 then 10 else (if c == 0 then 0xFFFD else c)
+cleaned c = if c == carriage_return || c == form_feed then line_feed else (if c == 0 then 0xFFFD else c)
 
 -- what a code point becomes behind another: an LF behind CR is none of its own
 abbrev pub cleaned_behind : ℕ → ℕ → List ℕ
-cleaned_behind before c = if before == 13 && c == 10 then [] else cleaned c ∷ []
+cleaned_behind before c = if before == carriage_return && c == line_feed then [] else cleaned c ∷ []
 
 unfoldable pub preprocessed_behind : ℕ → List ℕ → List ℕ
 preprocessed_behind before [] = []
@@ -94,7 +106,7 @@ number_behind base n (d ∷ ds) = number_behind base (n * base + d) ds
 
 -- the number that decimal digits write
 abbrev pub decimal : List ℕ → ℕ
-decimal digits = number_behind 10 0 (map (λ c. c - 48) digits)
+decimal digits = number_behind 10 0 (map (λ c. c - byte "0") digits)
 
 -- a digit in this base, as its value
 abbrev pub digit : ℕ → List ℕ → Option (ℕ × List ℕ)
@@ -119,7 +131,7 @@ escaped (c ∷ cs) =
 -- a backslash begins an escape unless LF follows
 abbrev pub begins_escape : List ℕ → Bool
 begins_escape [] = false
-begins_escape (c ∷ cs) = c == 92 && not (front is_newline cs)
+begins_escape (c ∷ cs) = c == byte "\\" && not (front is_newline cs)
 
 -- ---- names and numbers (sections 4.3.9 to 4.3.11)
 
@@ -138,7 +150,7 @@ begins_name text = front is_name_start text || begins_escape text
 
 abbrev pub starts_identifier : List ℕ → Bool
 starts_identifier text =
-    begins_name text || (front (is 45) text && (front (is 45) (drop 1 text) || begins_name (drop 1 text)))
+    begins_name text || (front (is (byte "-")) text && (front (is (byte "-")) (drop 1 text) || begins_name (drop 1 text)))
 
 abbrev pub starts_number : List ℕ → Bool
-starts_number text = front is_decimal (past (is 46) (past is_sign text))
+starts_number text = front is_decimal (past (is (byte ".")) (past is_sign text))

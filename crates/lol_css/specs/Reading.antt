@@ -2,7 +2,7 @@
 use Rattle.std.specs.Prelude.{ℕ, zero, suc, ◌+◌, Bool, true, false, ◌&&◌, ◌==◌, if◌then◌else◌, List, [], ◌∷◌, length, drop, Option, Some, None, Result, Ok, Err, pos, codes}
 use Rattle.std.specs.List.{list_any}
 use Rattle.std.specs.Option.{option_map}
-use Rattle.std.specs.Str.{bytes_eq, encode_utf8_all}
+use Rattle.std.specs.Str.{bytes_eq, byte, encode_utf8_all}
 use Rattle.lol_css.specs.Points.{front}
 use Rattle.lol_css.specs.Tokens.{Token, Quoted, Hash, Function, Ident, Match, Delim}
 use Rattle.lol_css.specs.CaselessAttributes.{caseless_attributes}
@@ -31,24 +31,24 @@ abbrev pub name_behind_bar : Bool → List Token → Read (List ℕ × Bool)
 name_behind_bar any tokens = giving (λ name. (name, any)) (wanted InBrackets ident_of UnexpectedTokenInAttribute tokens)
 
 abbrev pub bar_of : Token → Option ℕ
-bar_of (Delim c) = if c == 124 then Some c else None
+bar_of (Delim c) = if c == byte "|" then Some c else None
 bar_of _ = None
 
 unfoldable pub attribute_name : List Token → Read (List ℕ × Bool)
 attribute_name [] = Err UnexpectedEnd
-attribute_name (Ident name ∷ tokens) = if front (is_delim 124) tokens then Err NamespacedSelector else Ok ((name, false), tokens)
+attribute_name (Ident name ∷ tokens) = if front (is_delim (byte "|")) tokens then Err NamespacedSelector else Ok ((name, false), tokens)
 attribute_name (Delim c ∷ tokens) =
-    if c == 93 then Err UnexpectedEnd
-    else (if c == 124 then name_behind_bar false tokens
-    else (if c == 42 then (wanted InBrackets bar_of UnexpectedTokenInAttribute tokens >>= λ bar. name_behind_bar true bar.1)
+    if c == byte "]" then Err UnexpectedEnd
+    else (if c == byte "|" then name_behind_bar false tokens
+    else (if c == byte "*" then (wanted InBrackets bar_of UnexpectedTokenInAttribute tokens >>= λ bar. name_behind_bar true bar.1)
     else Err MissingAttributeName))
 attribute_name _ = Err MissingAttributeName
 
 abbrev pub operator_of : Token → Option AttrSelectorOperator
-operator_of (Delim c) = if c == 61 then Some Equal else None
+operator_of (Delim c) = if c == byte "=" then Some Equal else None
 operator_of (Match c) =
-    if c == 126 then Some Includes
-    else (if c == 124 then Some DashMatch else (if c == 94 then Some Prefix else (if c == 36 then Some Suffix else Some Substring)))
+    if c == byte "~" then Some Includes
+    else (if c == byte "|" then Some DashMatch else (if c == byte "^" then Some Prefix else (if c == byte "$" then Some Suffix else Some Substring)))
 operator_of _ = None
 
 abbrev pub value_of : Token → Option (List ℕ)
@@ -142,7 +142,7 @@ pseudo inner place (token ∷ tokens) =
         | None ↦ function_part name tokens
         | Some combination ↦ giving (Logical combination) (inner tokens)
       ]
-      | Delim c ↦ if c == 58 && at_stop place tokens then Err UnexpectedEnd else Err UnsupportedPseudoClassOrElement
+      | Delim c ↦ if c == byte ":" && at_stop place tokens then Err UnexpectedEnd else Err UnsupportedPseudoClassOrElement
       | _ ↦ Err UnsupportedPseudoClassOrElement
     ]
 
@@ -154,9 +154,9 @@ unfoldable pub part : (List Token → Read Items) → Place → List Token → R
 part inner place [] = Ok (None, [])
 part inner place (Hash name is_id ∷ tokens) = if is_id then Ok (some (Plain (Id (utf8 name))), tokens) else Ok (None, Hash name is_id ∷ tokens)
 part inner place (Delim c ∷ tokens) =
-    if c == 46 then giving (λ found. some (Plain found)) (class_name place tokens)
-    else (if c == 91 then giving some (attribute tokens)
-    else (if c == 58 then giving some (pseudo inner place tokens)
+    if c == byte "." then giving (λ found. some (Plain found)) (class_name place tokens)
+    else (if c == byte "[" then giving some (attribute tokens)
+    else (if c == byte ":" then giving some (pseudo inner place tokens)
     else Ok (None, Delim c ∷ tokens)))
 part inner place (token ∷ tokens) = Ok (None, token ∷ tokens)
 
@@ -178,7 +178,7 @@ behind_bar place (token ∷ tokens) =
     if at_stop place (token ∷ tokens) then Ok (None, token ∷ tokens)
     else elim token [
       | Ident name ↦ Ok (Some (LocalName (utf8 name)), tokens)
-      | Delim c ↦ if c == 42 then Ok (Some AnyName, tokens) else Err UnexpectedToken
+      | Delim c ↦ if c == byte "*" then Ok (Some AnyName, tokens) else Err UnexpectedToken
       | _ ↦ Err UnexpectedToken
     ]
 
@@ -193,12 +193,12 @@ no_namespace name = With (With Nothing (Plain NoNamespace)) (Plain name)
 unfoldable pub type_part : Place → List Token → Read (Option Compound)
 type_part place [] = Ok (Some Nothing, [])
 type_part place (Ident name ∷ tokens) =
-    if front (is_delim 124) tokens then Err NamespacedSelector else Ok (Some (With Nothing (Plain (LocalName (utf8 name)))), tokens)
+    if front (is_delim (byte "|")) tokens then Err NamespacedSelector else Ok (Some (With Nothing (Plain (LocalName (utf8 name)))), tokens)
 type_part place (Delim c ∷ tokens) =
-    if c == 42 then
-    (if front (is_delim 124) tokens then giving (option_map any_namespace) (behind_bar place (drop 1 tokens))
+    if c == byte "*" then
+    (if front (is_delim (byte "|")) tokens then giving (option_map any_namespace) (behind_bar place (drop 1 tokens))
     else Ok (Some (With Nothing (Plain AnyName)), tokens))
-    else (if c == 124 then giving (option_map no_namespace) (behind_bar place tokens)
+    else (if c == byte "|" then giving (option_map no_namespace) (behind_bar place tokens)
     else Ok (Some Nothing, Delim c ∷ tokens))
 type_part place (token ∷ tokens) = Ok (Some Nothing, token ∷ tokens)
 
@@ -218,7 +218,7 @@ compound inner place empty tokens = do
 -- ---- items and lists
 
 abbrev pub step_of : Token → Option Step
-step_of (Delim c) = if c == 62 then Some (By Child) else (if c == 43 then Some (Sibling 43) else (if c == 126 then Some (Sibling 126) else None))
+step_of (Delim c) = if c == byte ">" then Some (By Child) else (if c == byte "+" then Some (Sibling 43) else (if c == byte "~" then Some (Sibling 126) else None))
 step_of _ = None
 
 -- the step, and the tokens where its compound is to be read: `>`, `+` and `~` are taken, behind white space anything else is a descendant

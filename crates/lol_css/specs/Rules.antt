@@ -1,7 +1,7 @@
 -- What the rules of the grammar are made of: each goes from a list of tokens to what is read and the tokens left, or to a cause.
 use Rattle.std.specs.Prelude.{ℕ, Bool, true, false, ◌||◌, ◌==◌, if◌then◌else◌, List, [], ◌∷◌, map, drop, Option, Some, None, Result, Ok, Err}
 use Rattle.std.specs.Char.{to_ascii_lowercase}
-use Rattle.std.specs.Str.{bytes_eq}
+use Rattle.std.specs.Str.{bytes_eq, byte}
 use Rattle.lol_css.specs.Points.{front}
 use Rattle.lol_css.specs.Tokens.{Token, Space, Ident, Delim}
 use Rattle.lol_css.specs.declared.error.SelectorError.{SelectorError}
@@ -48,8 +48,8 @@ pub data Place : Type 0 where
 -- `)` and `]` close what is open innermost
 abbrev pub closes : Place → Token → Bool
 closes Outside token = false
-closes InFunction token = is_delim 41 token
-closes InBrackets token = is_delim 93 token
+closes InFunction token = is_delim (byte ")") token
+closes InBrackets token = is_delim (byte "]") token
 
 -- End: what closes it, or the text's end, which closes everything
 abbrev pub at_end : Place → List Token → Bool
@@ -58,7 +58,7 @@ at_end place (token ∷ tokens) = closes place token
 
 -- Stop: End, or a comma of the list
 abbrev pub at_stop : Place → List Token → Bool
-at_stop place tokens = at_end place tokens || front (is_delim 44) tokens
+at_stop place tokens = at_end place tokens || front (is_delim (byte ",")) tokens
 
 -- a token of a kind that is wanted here: End is UnexpectedEnd, another token has the cause given
 unfoldable pub wanted : {A : Type 0} → Place → (Token → Option A) → SelectorError → List Token → Read A

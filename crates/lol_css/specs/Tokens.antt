@@ -5,6 +5,7 @@
 use Rattle.std.specs.Prelude.{ℕ, Bool, ◌&&◌, ◌||◌, ◌==◌, if◌then◌else◌, List, [], ◌∷◌, length, drop, Option, Some, None, codes, ◌++◌}
 use Rattle.std.specs.List.{list_any}
 use Rattle.std.specs.Option.{option_map}
+use Rattle.std.specs.Str.{byte}
 use Rattle.lol_css.specs.Points.{is, front, past, many, one, is_newline, is_white_space, is_decimal, is_sign, decimal, ◌or◌, escaped, begins_escape, is_in_name, name, starts_identifier, starts_number, preprocessed}
 
 -- a number as it is written: its sign if one stands there, and its digits' value if it has neither fraction nor exponent
@@ -34,10 +35,10 @@ Row = List ℕ → Option (Option Token × List ℕ)
 -- row 1 (4.3.2): a comment, up to `*/` or the end
 unfoldable pub in_comment : List ℕ → Option (ℕ × List ℕ)
 in_comment [] = None
-in_comment (c ∷ cs) = if c == 42 && front (is 47) cs then None else Some (c, cs)
+in_comment (c ∷ cs) = if c == byte "*" && front (is (byte "/")) cs then None else Some (c, cs)
 
 unfoldable pub comment : Row
-comment text = if front (is 47) text && front (is 42) (drop 1 text) then Some (None, drop 2 (many in_comment (drop 2 text)).1) else None
+comment text = if front (is (byte "/")) text && front (is (byte "*")) (drop 1 text) then Some (None, drop 2 (many in_comment (drop 2 text)).1) else None
 
 -- row 2: white space
 unfoldable pub space : Row
@@ -53,7 +54,7 @@ unfoldable pub string_piece : ℕ → List ℕ → Option (List ℕ × List ℕ)
 string_piece quote [] = None
 string_piece quote (c ∷ cs) =
     if c == quote || is_newline c then None
-    else (if c == 92 then Some (string_escape cs) else Some (c ∷ [], cs))
+    else (if c == byte "\\" then Some (string_escape cs) else Some (c ∷ [], cs))
 
 abbrev pub joined : List (List ℕ) → List ℕ
 joined [] = []
@@ -71,13 +72,13 @@ string_behind quote text =
 
 unfoldable pub string : Row
 string [] = None
-string (c ∷ cs) = if c == 34 || c == 39 then Some (string_behind c cs) else None
+string (c ∷ cs) = if c == byte "\"" || c == byte "'" then Some (string_behind c cs) else None
 
 -- row 4: `#` and a name
 unfoldable pub hash : Row
 hash [] = None
 hash (c ∷ cs) =
-    if c == 35 && (front is_in_name cs || begins_escape cs) then (let n = name cs in Some (Some (Hash n.0 (starts_identifier cs)), n.1))
+    if c == byte "#" && (front is_in_name cs || begins_escape cs) then (let n = name cs in Some (Some (Hash n.0 (starts_identifier cs)), n.1))
     else None
 
 -- row 5 (4.3.3 and 4.3.12): a number, alone, with a unit or with `%`
@@ -87,11 +88,11 @@ sign_of (c ∷ cs) = if is_sign c then Some c else None
 
 -- behind a fraction and behind an exponent, where one stands
 unfoldable pub behind_fraction : List ℕ → List ℕ
-behind_fraction text = if front (is 46) text && front is_decimal (drop 1 text) then (many (one is_decimal) (drop 1 text)).1 else text
+behind_fraction text = if front (is (byte ".")) text && front is_decimal (drop 1 text) then (many (one is_decimal) (drop 1 text)).1 else text
 
 unfoldable pub behind_exponent : List ℕ → List ℕ
 behind_exponent text =
-    if front (λ c. c == 69 || c == 101) text && front is_decimal (past is_sign (drop 1 text)) then (many (one is_decimal) (past is_sign (drop 1 text))).1 else text
+    if front (λ c. c == byte "E" || c == byte "e") text && front is_decimal (past is_sign (drop 1 text)) then (many (one is_decimal) (past is_sign (drop 1 text))).1 else text
 
 unfoldable pub numeral : List ℕ → Numeral × List ℕ
 numeral text =
@@ -104,24 +105,24 @@ number text =
     let n = numeral text in
     if starts_number text then
     (if starts_identifier n.1 then (let unit = name n.1 in Some (Some (Dimension n.0 unit.0), unit.1))
-    else (if front (is 37) n.1 then Some (Some Percentage, drop 1 n.1) else Some (Some (Number n.0), n.1)))
+    else (if front (is (byte "%")) n.1 then Some (Some Percentage, drop 1 n.1) else Some (Some (Number n.0), n.1)))
     else None
 
 -- row 6: `-->`
 unfoldable pub cdc : Row
-cdc text = if front (is 45) text && front (is 45) (drop 1 text) && front (is 62) (drop 2 text) then Some (Some Cdc, drop 3 text) else None
+cdc text = if front (is (byte "-")) text && front (is (byte "-")) (drop 1 text) && front (is (byte ">")) (drop 2 text) then Some (Some Cdc, drop 3 text) else None
 
 -- row 7 (4.3.4): a name, which takes a `(` directly behind it
 unfoldable pub identifier : Row
 identifier text =
     if starts_identifier text then
-    (let n = name text in if front (is 40) n.1 then Some (Some (Function n.0), drop 1 n.1) else Some (Some (Ident n.0), n.1))
+    (let n = name text in if front (is (byte "(")) n.1 then Some (Some (Function n.0), drop 1 n.1) else Some (Some (Ident n.0), n.1))
     else None
 
 -- row 8: `~=`, `|=`, `^=`, `$=`, `*=`
 unfoldable pub match_sign : Row
 match_sign [] = None
-match_sign (c ∷ cs) = if list_any (is c) (codes "~|^$*") && front (is 61) cs then Some (Some (Match c), drop 1 cs) else None
+match_sign (c ∷ cs) = if list_any (is c) (codes "~|^$*") && front (is (byte "=")) cs then Some (Some (Match c), drop 1 cs) else None
 
 -- row 9: anything else
 unfoldable pub delim : Row

@@ -2,6 +2,7 @@
 
 ghost use Rattle.std.specs.Prelude.{◌≡◌, ◌≤◌, ◌+◌, ◌-◌, ◌*◌, List, min, take, drop, codes, if◌then◌else◌, pos, Some, None, true, false, MatchOption, IfSome};
 ghost use Rattle.std.specs.List.{list_all};
+ghost use Rattle.std.specs.Str.{byte};
 ghost use Rattle.lol_css.specs.Points.{decimal, is_decimal, front, is};
 ghost use Rattle.lol_css.specs.Tokens as tokens;
 ghost use Rattle.lol_css.specs.Rules.{says};
@@ -20,7 +21,7 @@ const TOO_LARGE: u64 = 2_147_483_649;
 /// The number with one more digit behind it, or `TOO_LARGE`.
 fn with_digit(number: u64, digit: char) -> u64
     requires { number ≤ TOO_LARGE }
-    ensures { result ≡ min (number * 10 + (digit - 48)) TOO_LARGE }
+    ensures { result ≡ min (number * 10 + (digit - byte "0")) TOO_LARGE }
 {
     let digit = u64::from(u32::from(digit).saturating_sub(u32::from('0')));
     (number * 10 + digit).min(TOO_LARGE)
@@ -168,7 +169,7 @@ fn rest_of(name: Name<'_>, reader: &mut Reader<'_>) -> Result<i32, SelectorError
 
 /// What follows `-` in a name.
 fn behind_minus(name: Name<'_>) -> Option<Name<'_>>
-    ensures { MatchOption result (front (is 45) (points_of name.entry) ≡ false) (λ rest. (front (is 45) (points_of name.entry) ≡ true) × (points_of rest ≡ drop 1 (points_of name.entry))) }
+    ensures { MatchOption result (front (is (byte "-")) (points_of name.entry) ≡ false) (λ rest. (front (is (byte "-")) (points_of name.entry) ≡ true) × (points_of rest ≡ drop 1 (points_of name.entry))) }
 {
     match name.split_first() {
         Some(('-', rest)) => Some(rest),
