@@ -1,9 +1,11 @@
 -- Numbers that are cut off at a limit.
-use Rattle.std.proofs.Common.{◌≡◌, ℕ, zero, suc, Bool, true, false, cond, nat_le, length, get_or, drop, Err, pos, Option, Some, None, codes, ◌+◌, ◌-◌, ◌*◌, ◌≤◌, min, List, [], ◌∷◌, map, refl, sym, ap, ◌∙◌, arith, ◌<◌, ◌⊎◌, inl, inr}
+use Rattle.std.proofs.Common.{◌≡◌, ℕ, zero, suc, Bool, true, false, cond, nat_le, length, get_or, drop, Err, Option, Some, None, codes, ◌+◌, ◌-◌, ◌*◌, ◌≤◌, min, List, [], ◌∷◌, map, refl, sym, ap, ◌∙◌, arith, ◌<◌, ◌⊎◌, inl, inr}
 use Rattle.std.proofs.lemmas.Bool.{cases_lt, lt-leb}
 use Rattle.std.proofs.lemmas.List.{drop_more}
 use Rattle.lol_css.specs.Tokens.{Token}
-use Rattle.lol_css.specs.AnPlusB.{fitting, minus, is_n_and_digits, rest_of}
+use Rattle.lol_css.specs.declared.tokens.Sign.{Sign}
+use Rattle.lol_css.specs.declared.tokens.Sign.TheVariants.{Plus, Minus}
+use Rattle.lol_css.specs.AnPlusB.{fitting, signed, is_n_and_digits, rest_of}
 use Rattle.lol_css.specs.Rules.{says}
 use Rattle.lol_css.specs.declared.error.SelectorError.TheVariants.{UnexpectedToken}
 use Rattle.lol_css.specs.Points.{number_behind, decimal}
@@ -32,28 +34,28 @@ magnitude-next limit n i d r xs h e q =
     rw q (capped limit (n * 10 + (d - 48)) (map (λ c. c - 48) (drop (i + 1) xs)) ∙ sym (rw (← e) at whole))
 
 -- what is cut off is outside i32
-too_large : (negative : Bool) (n : ℕ) (rest : List Token) → 2147483649 ≤ n → fitting (cond negative (minus n) (pos n)) rest ≡ Err UnexpectedToken
+too_large : (sign : Sign) (n : ℕ) (rest : List Token) → 2147483649 ≤ n → fitting (signed sign n) rest ≡ Err UnexpectedToken
 unfolding fitting
-too_large false n rest h = let e : nat_le n 2147483647 ≡ false = lt-leb n 2147483647 (omega arith) in rw e refl
-too_large true zero rest h = absurd (omega arith)
-too_large true (suc m) rest h = let e : nat_le m 2147483647 ≡ false = lt-leb m 2147483647 (omega arith) in rw e refl
+too_large Plus n rest h = let e : nat_le n 2147483647 ≡ false = lt-leb n 2147483647 (omega arith) in rw e refl
+too_large Minus zero rest h = absurd (omega arith)
+too_large Minus (suc m) rest h = let e : nat_le m 2147483647 ≡ false = lt-leb m 2147483647 (omega arith) in rw e refl
 
-fitting_capped_of : (negative : Bool) (n : ℕ) (rest : List Token) → (n < 2147483649) ⊎ (2147483649 ≤ n) → fitting (cond negative (minus (min n 2147483649)) (pos (min n 2147483649))) rest ≡ fitting (cond negative (minus n) (pos n)) rest
-fitting_capped_of negative n rest (inl h) = let e : min n 2147483649 ≡ n = omega arith in rw e refl
-fitting_capped_of negative n rest (inr h) =
+fitting_capped_of : (sign : Sign) (n : ℕ) (rest : List Token) → (n < 2147483649) ⊎ (2147483649 ≤ n) → fitting (signed sign (min n 2147483649)) rest ≡ fitting (signed sign n) rest
+fitting_capped_of sign n rest (inl h) = let e : min n 2147483649 ≡ n = omega arith in rw e refl
+fitting_capped_of sign n rest (inr h) =
     let e : min n 2147483649 ≡ 2147483649 = omega arith in
-    rw e (too_large negative 2147483649 rest (omega arith) ∙ sym (too_large negative n rest h))
+    rw e (too_large sign 2147483649 rest (omega arith) ∙ sym (too_large sign n rest h))
 
-pub fitting-capped : (negative : Bool) (n : ℕ) (rest : List Token) → fitting (cond negative (minus (min n 2147483649)) (pos (min n 2147483649))) rest ≡ fitting (cond negative (minus n) (pos n)) rest
-fitting-capped negative n rest = fitting_capped_of negative n rest (cases_lt n 2147483649)
+pub fitting-capped : (sign : Sign) (n : ℕ) (rest : List Token) → fitting (signed sign (min n 2147483649)) rest ≡ fitting (signed sign n) rest
+fitting-capped sign n rest = fitting_capped_of sign n rest (cases_lt n 2147483649)
 
 some_if : (b : Bool) (m v : ℕ) → Some m ≡ cond {A = Option ℕ} b (Some v) None → (b ≡ true) × (m ≡ v)
 some_if true m v e = (refl, cc)
 some_if false m v e = absurd cc
 
 -- `n-` and digits
-pub rest_of-digits : (name : List ℕ) (tokens : List Token) (m : ℕ) → says (codes "n") name ≡ false → says (codes "n-") name ≡ false → Some m ≡ cond {A = Option ℕ} (is_n_and_digits name) (Some (min (decimal (drop 2 name)) 2147483649)) None → rest_of name tokens ≡ fitting (minus m) tokens
+pub rest_of-digits : (name : List ℕ) (tokens : List Token) (m : ℕ) → says (codes "n") name ≡ false → says (codes "n-") name ≡ false → Some m ≡ cond {A = Option ℕ} (is_n_and_digits name) (Some (min (decimal (drop 2 name)) 2147483649)) None → rest_of name tokens ≡ fitting (signed Minus m) tokens
 unfolding rest_of
 rest_of-digits name tokens m a b e =
     let s = some_if (is_n_and_digits name) m (min (decimal (drop 2 name)) 2147483649) e in
-    rw (a, b, s.0, s.1) (sym (fitting-capped true (decimal (drop 2 name)) tokens))
+    rw (a, b, s.0, s.1) (sym (fitting-capped Minus (decimal (drop 2 name)) tokens))

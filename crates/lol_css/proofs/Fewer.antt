@@ -1,6 +1,6 @@
 -- A text has no more tokens than code points.
 use Rattle.std.proofs.Common.{◌≡◌, ℕ, zero, suc, ◌+◌, ◌≤◌, Bool, true, false, cond, eqb, ◌&&◌, List, [], ◌∷◌, length, Option, Some, None, refl, arith, length-append}
-use Rattle.lol_css.specs.Points.{took, at_most, preprocessed_behind, cleaned, cleaned_behind, preprocessed}
+use Rattle.lol_css.specs.Points.{line_feed, carriage_return, took, at_most, preprocessed_behind, cleaned, cleaned_behind, preprocessed}
 use Rattle.lol_css.specs.Tokens.{Token, next, somes, with_first, tokens_of, tokens}
 use Rattle.lol_css.proofs.Many.{Shrinks}
 use Rattle.lol_css.proofs.Streams.{next-shrinks}
@@ -31,7 +31,7 @@ preprocessed_fewer : (before : ℕ) (text : List ℕ) → length (preprocessed_b
 unfolding preprocessed_behind
 preprocessed_fewer before [] = omega arith
 preprocessed_fewer before (c ∷ cs) =
-    omega (arith, length-append (cleaned_behind before c) (preprocessed_behind c cs), cleaned_fewer (eqb before 13 && eqb c 10) c, preprocessed_fewer c cs)
+    omega (arith, length-append (cleaned_behind before c) (preprocessed_behind c cs), cleaned_fewer (eqb before carriage_return && eqb c line_feed) c, preprocessed_fewer c cs)
 
 pub tokens-fewer : (text : List ℕ) → length (tokens text) ≤ length text
 unfolding tokens_of

@@ -1,6 +1,7 @@
 -- To judge what is read as it is read is to read first and to judge then; and one round of each loop.
 use Rattle.std.proofs.Common.{◌≡◌, ℕ, zero, suc, ◌+◌, ◌-◌, ◌<◌, ◌≤◌, Bool, true, false, cond, ◌⊎◌, inl, inr, List, [], ◌∷◌, length, drop, Option, Some, None, Result, Ok, Err, refl, sym, ap, ◌∙◌, arith, length-drop}
 use Rattle.std.specs.Option.{option_map}
+use Rattle.std.specs.Str.{byte}
 use Rattle.lol_css.specs.Tokens.{Token, Delim}
 use Rattle.lol_css.specs.Trees as trees
 use Rattle.lol_css.specs.Drafts.{Step, Part, Logical, Compound, Nothing, With, Item, First, Then, Items, NoItems, And}
@@ -444,18 +445,18 @@ not_empty-refused empty read parts rest e h = rw (e, h) refl
 pub not_empty-kept : (empty : SelectorError) (read : Read (Judged trees.Compound)) (parts : Judged trees.Compound) (rest : List Token) → read ≡ Ok (parts, rest) → is_empty parts ≡ false → not_empty empty read ≡ Ok (parts, rest)
 not_empty-kept empty read parts rest e h = rw (e, h) refl
 
-part_pseudo_err : (inner : List Token → Read Items) (place : Place) (rest : List Token) (cause : SelectorError) → pseudo inner place rest ≡ Err cause → giving (option_map judged_part) (part inner place (Delim 58 ∷ rest)) ≡ Err cause
+part_pseudo_err : (inner : List Token → Read Items) (place : Place) (rest : List Token) (cause : SelectorError) → pseudo inner place rest ≡ Err cause → giving (option_map judged_part) (part inner place (Delim (byte ":") ∷ rest)) ≡ Err cause
 unfolding part
 part_pseudo_err inner place rest cause e = rw e refl
 
-pub part-pseudo-fails : (inner : List Token → Read Items) (place : Place) (tokens rest : List Token) (cause : SelectorError) → tokens ≡ Delim 58 ∷ rest → FailsUnlessMemory cause (giving judged_part (pseudo inner place rest)) → FailsUnlessMemory cause (giving (option_map judged_part) (part inner place tokens))
+pub part-pseudo-fails : (inner : List Token → Read Items) (place : Place) (tokens rest : List Token) (cause : SelectorError) → tokens ≡ Delim (byte ":") ∷ rest → FailsUnlessMemory cause (giving judged_part (pseudo inner place rest)) → FailsUnlessMemory cause (giving (option_map judged_part) (part inner place tokens))
 part-pseudo-fails inner place tokens rest cause e h =
-    rw e (fails-along cause (giving judged_part (pseudo inner place rest)) (giving (option_map judged_part) (part inner place (Delim 58 ∷ rest))) (λ is. part_pseudo_err inner place rest cause (giving-err judged_part (pseudo inner place rest) cause is)) h)
+    rw e (fails-along cause (giving judged_part (pseudo inner place rest)) (giving (option_map judged_part) (part inner place (Delim (byte ":") ∷ rest))) (λ is. part_pseudo_err inner place rest cause (giving-err judged_part (pseudo inner place rest) cause is)) h)
 
-part_class_err : (inner : List Token → Read Items) (place : Place) (rest : List Token) (cause : SelectorError) → class_name place rest ≡ Err cause → giving (option_map judged_part) (part inner place (Delim 46 ∷ rest)) ≡ Err cause
+part_class_err : (inner : List Token → Read Items) (place : Place) (rest : List Token) (cause : SelectorError) → class_name place rest ≡ Err cause → giving (option_map judged_part) (part inner place (Delim (byte ".") ∷ rest)) ≡ Err cause
 unfolding part
 part_class_err inner place rest cause e = rw e refl
 
-pub part-class-fails : (inner : List Token → Read Items) (place : Place) (tokens rest : List Token) (cause : SelectorError) → tokens ≡ Delim 46 ∷ rest → FailsUnlessMemory cause (giving (λ part. trees.Plain part) (class_name place rest)) → FailsUnlessMemory cause (giving (option_map judged_part) (part inner place tokens))
+pub part-class-fails : (inner : List Token → Read Items) (place : Place) (tokens rest : List Token) (cause : SelectorError) → tokens ≡ Delim (byte ".") ∷ rest → FailsUnlessMemory cause (giving (λ part. trees.Plain part) (class_name place rest)) → FailsUnlessMemory cause (giving (option_map judged_part) (part inner place tokens))
 part-class-fails inner place tokens rest cause e h =
-    rw e (fails-along cause (giving (λ part. trees.Plain part) (class_name place rest)) (giving (option_map judged_part) (part inner place (Delim 46 ∷ rest))) (λ is. part_class_err inner place rest cause (giving-err (λ part. trees.Plain part) (class_name place rest) cause is)) h)
+    rw e (fails-along cause (giving (λ part. trees.Plain part) (class_name place rest)) (giving (option_map judged_part) (part inner place (Delim (byte ".") ∷ rest))) (λ is. part_class_err inner place rest cause (giving-err (λ part. trees.Plain part) (class_name place rest) cause is)) h)

@@ -1,5 +1,6 @@
 -- The loops of the tokens.
 use Rattle.std.proofs.Common.{◌≡◌, ℕ, zero, suc, ◌-◌, ◌<◌, Bool, true, false, cond, eqb, ◌&&◌, List, [], ◌∷◌, ◌++◌, length, length-append, take, Option, Some, None, refl, sym, ap, ◌∙◌, arith}
+use Rattle.std.specs.Str.{byte}
 use Rattle.lol_css.specs.Points.{is, front, took, at_most, many, one, is_white_space, is_decimal, name, name_point}
 use Rattle.lol_css.specs.Tokens.{in_comment}
 use Rattle.lol_css.proofs.Many.{Shrinks, many-some, many-none, one_shorter, some_same, name_point-shrinks}
@@ -18,7 +19,7 @@ in_comment_shorter_of false c cs x rest e = let same : cs ≡ rest = ap (λ (p :
 in_comment_shorter : (text : List ℕ) (x : ℕ) (rest : List ℕ) → in_comment text ≡ Some (x, rest) → length rest < length text
 unfolding in_comment
 in_comment_shorter [] x rest e = absurd cc
-in_comment_shorter (c ∷ cs) x rest e = in_comment_shorter_of (eqb c 42 && front (is 47) cs) c cs x rest e
+in_comment_shorter (c ∷ cs) x rest e = in_comment_shorter_of (eqb c (byte "*") && front (is (byte "/")) cs) c cs x rest e
 
 pub in_comment-shrinks : Shrinks in_comment
 in_comment-shrinks = record { shorter = in_comment_shorter }

@@ -1,13 +1,16 @@
 -- No rule leaves more tokens than it was given, and a part takes one.
 use Rattle.std.proofs.Common.{◌≡◌, ℕ, zero, suc, ◌+◌, ◌<◌, ◌≤◌, Bool, true, false, cond, eqb, ◌&&◌, List, [], ◌∷◌, length, drop, Option, Some, None, Result, Ok, Err, ℤ, pos, codes, refl, ap, arith, length-drop}
 use Rattle.std.specs.Option.{option_map}
+use Rattle.std.specs.Str.{byte}
 use Rattle.lol_css.specs.Points.{front, is, decimal}
-use Rattle.lol_css.specs.Tokens.{Token, Numeral, Space, Quoted, BadString, Hash, Number, Dimension, Percentage, Cdc, Function, Ident, Match, Delim}
+use Rattle.lol_css.specs.Tokens.{Token, Numeral, sign_of, Space, Quoted, BadString, Hash, Number, Dimension, Percentage, Cdc, Function, Ident, Match, Delim}
 use Rattle.lol_css.specs.Trees.{Simple, LocalName, AnyName, Id, Class, Exists, Compares, Nth}
 use Rattle.lol_css.specs.Drafts.{By, Part, Plain, LatePseudoClass, LateNamespace, Logical, Compound, Nothing, With, Item, First, Then, Items, NoItems, And}
 use Rattle.lol_css.specs.Rules.{Read, ◌>>=◌, giving, keeping, is_delim, is_space, skip_space, Place, InFunction, InBrackets, closes, at_end, at_stop, wanted, closed, says, lowered, ident_of}
-use Rattle.lol_css.specs.AnPlusB.{minus, integer_value, unsigned, in_i32, fitting, digits_of_b, behind_n, is_n_and_digits, rest_of, with_step, integer, scaled, an_plus_b_of, an_plus_b}
+use Rattle.lol_css.specs.AnPlusB.{signed, integer_value, unsigned, in_i32, fitting, digits_of_b, behind_n, is_n_and_digits, rest_of, with_step, integer, scaled, an_plus_b_of, an_plus_b}
 use Rattle.lol_css.specs.Reading.{utf8, combination_named, name_behind_bar, bar_of, attribute_name, operator_of, value_of, flag_of, unflagged, case_sensitivity, comparison, attribute, class_name, is_one_of, function_part, ident_part, pseudo, some, part, parts_at_most, more_parts, behind_bar, any_namespace, no_namespace, type_part, is_nothing, compound, step_of, step, next_step, further, item, items_at_most, list, inner_list}
+use Rattle.lol_css.specs.declared.tokens.Sign.{Sign}
+use Rattle.lol_css.specs.declared.tokens.Sign.TheVariants.{Minus}
 use Rattle.lol_css.specs.declared.error.SelectorError.{SelectorError}
 use Rattle.lol_css.specs.declared.error.SelectorError.TheVariants as errors
 use Rattle.lol_css.specs.declared.selector.Combinator.TheVariants.{Descendant}
@@ -89,10 +92,10 @@ fitting-leaves : (x : ℤ) (tokens : List Token) (n : ℕ) → length tokens ≤
 unfolding fitting
 fitting-leaves x tokens n l = if_leaves (in_i32 x) (Ok (x, tokens)) (Err errors.UnexpectedToken) n (ok_leaves x tokens n l) (err_leaves errors.UnexpectedToken n)
 
-digits_of_b-leaves : (signed : ℕ → ℤ) (tokens : List Token) → Leaves (digits_of_b signed tokens) (length tokens)
+digits_of_b-leaves : (sign : Sign) (tokens : List Token) → Leaves (digits_of_b sign tokens) (length tokens)
 unfolding digits_of_b
-digits_of_b-leaves signed tokens =
-    then_leaves (wanted InFunction unsigned errors.UnexpectedToken (skip_space tokens)) (λ digits. fitting (signed digits.0) digits.1) (length tokens) (length tokens) (wanted_behind InFunction unsigned errors.UnexpectedToken tokens) (λ x rest l. fitting-leaves (signed x) rest (length tokens) l)
+digits_of_b-leaves sign tokens =
+    then_leaves (wanted InFunction unsigned errors.UnexpectedToken (skip_space tokens)) (λ digits. fitting (signed sign digits.0) digits.1) (length tokens) (length tokens) (wanted_behind InFunction unsigned errors.UnexpectedToken tokens) (λ x rest l. fitting-leaves (signed sign x) rest (length tokens) l)
 
 same_leaves : {A : Type 0} (x : A) (tokens : List Token) → Leaves {A = A} (Ok (x, tokens)) (length tokens)
 same_leaves x tokens = ok_leaves x tokens (length tokens) (omega arith)
@@ -100,7 +103,7 @@ same_leaves x tokens = ok_leaves x tokens (length tokens) (omega arith)
 longer : {A : Type 0} (read : Read A) (token : Token) (tokens : List Token) → Leaves read (length tokens) → Leaves read (length (token ∷ tokens))
 longer read token tokens l = weaker read (length tokens) (length (token ∷ tokens)) l (omega arith)
 
-behind_number-leaves : (n : Numeral) (tokens : List Token) (sign : Option ℕ) → Leaves (elim sign [
+behind_number-leaves : (n : Numeral) (tokens : List Token) (sign : Option Sign) → Leaves (elim sign [
   | None ↦ Ok (pos 0, Number n ∷ tokens)
   | Some c ↦ elim (integer_value n) [ None ↦ Ok (pos 0, Number n ∷ tokens) | Some b ↦ fitting b tokens ]
 ]) (length (Number n ∷ tokens))
@@ -112,8 +115,7 @@ behind_n-leaves : (tokens : List Token) → Leaves (behind_n tokens) (length tok
 unfolding behind_n
 behind_n-leaves [] = same_leaves (pos 0) []
 behind_n-leaves (Delim c ∷ tokens) =
-    if_leaves (eqb c 43) (digits_of_b pos tokens) (cond (eqb c 45) (digits_of_b minus tokens) (Ok (pos 0, Delim c ∷ tokens))) (length (Delim c ∷ tokens)) (longer (digits_of_b pos tokens) (Delim c) tokens (digits_of_b-leaves pos tokens))
-    (if_leaves (eqb c 45) (digits_of_b minus tokens) (Ok (pos 0, Delim c ∷ tokens)) (length (Delim c ∷ tokens)) (longer (digits_of_b minus tokens) (Delim c) tokens (digits_of_b-leaves minus tokens)) (same_leaves (pos 0) (Delim c ∷ tokens)))
+    option_leaves (sign_of c) (Ok (pos 0, Delim c ∷ tokens)) (λ sign. digits_of_b sign tokens) (length (Delim c ∷ tokens)) (same_leaves (pos 0) (Delim c ∷ tokens)) (λ sign. longer (digits_of_b sign tokens) (Delim c) tokens (digits_of_b-leaves sign tokens))
 behind_n-leaves (Number n ∷ tokens) = behind_number-leaves n tokens n.sign
 behind_n-leaves (Space ∷ tokens) = same_leaves (pos 0) (Space ∷ tokens)
 behind_n-leaves (Quoted text ∷ tokens) = same_leaves (pos 0) (Quoted text ∷ tokens)
@@ -129,12 +131,12 @@ behind_n-leaves (Match c ∷ tokens) = same_leaves (pos 0) (Match c ∷ tokens)
 rest_of-leaves : (name : List ℕ) (tokens : List Token) → Leaves (rest_of name tokens) (length tokens)
 unfolding rest_of
 rest_of-leaves name tokens =
-    if_leaves (says (codes "n") name) (behind_n (skip_space tokens)) (cond (says (codes "n-") name) (digits_of_b minus tokens) (cond (is_n_and_digits name) (fitting (minus (decimal (drop 2 name))) tokens) (Err errors.UnexpectedToken))) (length tokens)
+    if_leaves (says (codes "n") name) (behind_n (skip_space tokens)) (cond (says (codes "n-") name) (digits_of_b Minus tokens) (cond (is_n_and_digits name) (fitting (signed Minus (decimal (drop 2 name))) tokens) (Err errors.UnexpectedToken))) (length tokens)
     (weaker (behind_n (skip_space tokens)) (length (skip_space tokens)) (length tokens) (behind_n-leaves (skip_space tokens)) (skip_space-shorter tokens))
-    (if_leaves (says (codes "n-") name) (digits_of_b minus tokens) (cond (is_n_and_digits name) (fitting (minus (decimal (drop 2 name))) tokens) (Err errors.UnexpectedToken)) (length tokens)
-    (digits_of_b-leaves minus tokens)
-    (if_leaves (is_n_and_digits name) (fitting (minus (decimal (drop 2 name))) tokens) (Err errors.UnexpectedToken) (length tokens)
-    (fitting-leaves (minus (decimal (drop 2 name))) tokens (length tokens) (omega arith)) (err_leaves errors.UnexpectedToken (length tokens))))
+    (if_leaves (says (codes "n-") name) (digits_of_b Minus tokens) (cond (is_n_and_digits name) (fitting (signed Minus (decimal (drop 2 name))) tokens) (Err errors.UnexpectedToken)) (length tokens)
+    (digits_of_b-leaves Minus tokens)
+    (if_leaves (is_n_and_digits name) (fitting (signed Minus (decimal (drop 2 name))) tokens) (Err errors.UnexpectedToken) (length tokens)
+    (fitting-leaves (signed Minus (decimal (drop 2 name))) tokens (length tokens) (omega arith)) (err_leaves errors.UnexpectedToken (length tokens))))
 
 step-leaves : (a : ℤ) (name : List ℕ) (tokens : List Token) (n : ℕ) → length tokens ≤ n → Leaves (with_step a (rest_of name tokens)) n
 step-leaves a name tokens n l = giving_leaves (λ x. (a, x)) (rest_of name tokens) n (weaker (rest_of name tokens) (length tokens) n (rest_of-leaves name tokens) l)
@@ -151,16 +153,16 @@ scaled-leaves n unit tokens =
 an_plus_b_of-leaves : (token : Token) (tokens : List Token) → Leaves (an_plus_b_of token tokens) (length tokens)
 unfolding an_plus_b_of
 an_plus_b_of-leaves (Ident name) tokens =
-    if_leaves (says (codes "even") name) (Ok ((pos 2, pos 0), tokens)) (cond (says (codes "odd") name) (Ok ((pos 2, pos 1), tokens)) (cond (front (is 45) name) (with_step (minus 1) (rest_of (drop 1 name) tokens)) (with_step (pos 1) (rest_of name tokens)))) (length tokens)
+    if_leaves (says (codes "even") name) (Ok ((pos 2, pos 0), tokens)) (cond (says (codes "odd") name) (Ok ((pos 2, pos 1), tokens)) (cond (front (is (byte "-")) name) (with_step (signed Minus 1) (rest_of (drop 1 name) tokens)) (with_step (pos 1) (rest_of name tokens)))) (length tokens)
     (same_leaves (pos 2, pos 0) tokens)
-    (if_leaves (says (codes "odd") name) (Ok ((pos 2, pos 1), tokens)) (cond (front (is 45) name) (with_step (minus 1) (rest_of (drop 1 name) tokens)) (with_step (pos 1) (rest_of name tokens))) (length tokens)
+    (if_leaves (says (codes "odd") name) (Ok ((pos 2, pos 1), tokens)) (cond (front (is (byte "-")) name) (with_step (signed Minus 1) (rest_of (drop 1 name) tokens)) (with_step (pos 1) (rest_of name tokens))) (length tokens)
     (same_leaves (pos 2, pos 1) tokens)
-    (if_leaves (front (is 45) name) (with_step (minus 1) (rest_of (drop 1 name) tokens)) (with_step (pos 1) (rest_of name tokens)) (length tokens)
-    (step-leaves (minus 1) (drop 1 name) tokens (length tokens) (omega arith)) (step-leaves (pos 1) name tokens (length tokens) (omega arith))))
+    (if_leaves (front (is (byte "-")) name) (with_step (signed Minus 1) (rest_of (drop 1 name) tokens)) (with_step (pos 1) (rest_of name tokens)) (length tokens)
+    (step-leaves (signed Minus 1) (drop 1 name) tokens (length tokens) (omega arith)) (step-leaves (pos 1) name tokens (length tokens) (omega arith))))
 an_plus_b_of-leaves (Number n) tokens = giving_leaves (λ x. (pos 0, x)) (integer n tokens) (length tokens) (integer-leaves n tokens)
 an_plus_b_of-leaves (Dimension n unit) tokens = scaled-leaves n unit tokens
 an_plus_b_of-leaves (Delim c) tokens =
-    if_leaves (eqb c 43) (wanted InFunction ident_of errors.UnexpectedToken tokens >>= λ name. with_step (pos 1) (rest_of name.0 name.1)) (Err errors.UnexpectedToken) (length tokens)
+    if_leaves (eqb c (byte "+")) (wanted InFunction ident_of errors.UnexpectedToken tokens >>= λ name. with_step (pos 1) (rest_of name.0 name.1)) (Err errors.UnexpectedToken) (length tokens)
     (then_leaves (wanted InFunction ident_of errors.UnexpectedToken tokens) (λ name. with_step (pos 1) (rest_of name.0 name.1)) (length tokens) (length tokens) (wanted-leaves InFunction ident_of errors.UnexpectedToken tokens) (λ name rest l. step-leaves (pos 1) name rest (length tokens) l)) (err_leaves errors.UnexpectedToken (length tokens))
 an_plus_b_of-leaves Space tokens = err_leaves errors.UnexpectedToken (length tokens)
 an_plus_b_of-leaves (Quoted text) tokens = err_leaves errors.UnexpectedToken (length tokens)
@@ -189,15 +191,15 @@ attribute_name-leaves : (tokens : List Token) → Leaves (attribute_name tokens)
 unfolding attribute_name
 attribute_name-leaves [] = err_leaves errors.UnexpectedEnd 0
 attribute_name-leaves (Ident name ∷ tokens) =
-    if_leaves (front (is_delim 124) tokens) (Err errors.NamespacedSelector) (Ok ((name, false), tokens)) (length (Ident name ∷ tokens)) (err_leaves errors.NamespacedSelector (length (Ident name ∷ tokens))) (ok_leaves (name, false) tokens (length (Ident name ∷ tokens)) (omega arith))
+    if_leaves (front (is_delim (byte "|")) tokens) (Err errors.NamespacedSelector) (Ok ((name, false), tokens)) (length (Ident name ∷ tokens)) (err_leaves errors.NamespacedSelector (length (Ident name ∷ tokens))) (ok_leaves (name, false) tokens (length (Ident name ∷ tokens)) (omega arith))
 attribute_name-leaves (Delim c ∷ tokens) =
     let n = length (Delim c ∷ tokens) in
     let any = wanted InBrackets bar_of errors.UnexpectedTokenInAttribute tokens >>= λ bar. name_behind_bar true bar.1 in
-    if_leaves (eqb c 93) (Err errors.UnexpectedEnd) (cond (eqb c 124) (name_behind_bar false tokens) (cond (eqb c 42) any (Err errors.MissingAttributeName))) n
+    if_leaves (eqb c (byte "]")) (Err errors.UnexpectedEnd) (cond (eqb c (byte "|")) (name_behind_bar false tokens) (cond (eqb c (byte "*")) any (Err errors.MissingAttributeName))) n
     (err_leaves errors.UnexpectedEnd n)
-    (if_leaves (eqb c 124) (name_behind_bar false tokens) (cond (eqb c 42) any (Err errors.MissingAttributeName)) n
+    (if_leaves (eqb c (byte "|")) (name_behind_bar false tokens) (cond (eqb c (byte "*")) any (Err errors.MissingAttributeName)) n
     (behind_bar_name-leaves false tokens n (omega arith))
-    (if_leaves (eqb c 42) any (Err errors.MissingAttributeName) n
+    (if_leaves (eqb c (byte "*")) any (Err errors.MissingAttributeName) n
     (then_leaves (wanted InBrackets bar_of errors.UnexpectedTokenInAttribute tokens) (λ bar. name_behind_bar true bar.1) (length tokens) n (wanted-leaves InBrackets bar_of errors.UnexpectedTokenInAttribute tokens) (λ bar rest l. behind_bar_name-leaves true rest n (omega arith)))
     (err_leaves errors.MissingAttributeName n)))
 attribute_name-leaves (Space ∷ tokens) = err_leaves errors.MissingAttributeName (length (Space ∷ tokens))
@@ -278,7 +280,7 @@ pseudo_of-leaves : (inner : List Token → Read Items) → InnerLeaves inner →
     | None ↦ function_part name tokens
     | Some combination ↦ giving (Logical combination) (inner tokens)
   ]
-  | Delim c ↦ cond (eqb c 58 && at_stop place tokens) (Err errors.UnexpectedEnd) (Err errors.UnsupportedPseudoClassOrElement)
+  | Delim c ↦ cond (eqb c (byte ":") && at_stop place tokens) (Err errors.UnexpectedEnd) (Err errors.UnsupportedPseudoClassOrElement)
   | _ ↦ Err errors.UnsupportedPseudoClassOrElement
 ]) (length (token ∷ tokens))
 pseudo_of-leaves inner h place (Ident name) tokens = keeping_leaves (ident_part name) tokens (length (Ident name ∷ tokens)) (omega arith)
@@ -286,7 +288,7 @@ pseudo_of-leaves inner h place (Function name) tokens =
     option_leaves (combination_named name) (function_part name tokens) (λ combination. giving (λ items. Logical combination items) (inner tokens)) (length (Function name ∷ tokens))
     (longer (function_part name tokens) (Function name) tokens (function_part-leaves name tokens))
     (λ combination. giving_leaves (λ items. Logical combination items) (inner tokens) (length (Function name ∷ tokens)) (longer (inner tokens) (Function name) tokens (h.each tokens)))
-pseudo_of-leaves inner h place (Delim c) tokens = refused_leaves (eqb c 58 && at_stop place tokens) (length (Delim c ∷ tokens))
+pseudo_of-leaves inner h place (Delim c) tokens = refused_leaves (eqb c (byte ":") && at_stop place tokens) (length (Delim c ∷ tokens))
 pseudo_of-leaves inner h place Space tokens = err_leaves errors.UnsupportedPseudoClassOrElement (length (Space ∷ tokens))
 pseudo_of-leaves inner h place (Quoted text) tokens = err_leaves errors.UnsupportedPseudoClassOrElement (length (Quoted text ∷ tokens))
 pseudo_of-leaves inner h place BadString tokens = err_leaves errors.UnsupportedPseudoClassOrElement (length (BadString ∷ tokens))
@@ -343,11 +345,11 @@ part-takes inner h place (Hash name is_id ∷ tokens) =
     (nothing_takes (Hash name is_id ∷ tokens))
 part-takes inner h place (Delim c ∷ tokens) =
     let n = length (Delim c ∷ tokens) in
-    if_takes (eqb c 46) (giving (λ found. some (Plain found)) (class_name place tokens)) (cond (eqb c 91) (giving some (attribute tokens)) (cond (eqb c 58) (giving some (pseudo inner place tokens)) (Ok (None, Delim c ∷ tokens)))) n
+    if_takes (eqb c (byte ".")) (giving (λ found. some (Plain found)) (class_name place tokens)) (cond (eqb c (byte "[")) (giving some (attribute tokens)) (cond (eqb c (byte ":")) (giving some (pseudo inner place tokens)) (Ok (None, Delim c ∷ tokens)))) n
     (some_takes (λ (s : Simple). Plain s) (class_name place tokens) (Delim c) tokens (class_name-leaves place tokens))
-    (if_takes (eqb c 91) (giving some (attribute tokens)) (cond (eqb c 58) (giving some (pseudo inner place tokens)) (Ok (None, Delim c ∷ tokens))) n
+    (if_takes (eqb c (byte "[")) (giving some (attribute tokens)) (cond (eqb c (byte ":")) (giving some (pseudo inner place tokens)) (Ok (None, Delim c ∷ tokens))) n
     (some_takes (λ (p : Part). p) (attribute tokens) (Delim c) tokens (attribute-leaves tokens))
-    (if_takes (eqb c 58) (giving some (pseudo inner place tokens)) (Ok (None, Delim c ∷ tokens)) n
+    (if_takes (eqb c (byte ":")) (giving some (pseudo inner place tokens)) (Ok (None, Delim c ∷ tokens)) n
     (some_takes (λ (p : Part). p) (pseudo inner place tokens) (Delim c) tokens (pseudo-leaves inner h place tokens)) (nothing_takes (Delim c ∷ tokens))))
 part-takes inner h place (Space ∷ tokens) = nothing_takes (Space ∷ tokens)
 part-takes inner h place (Quoted text ∷ tokens) = nothing_takes (Quoted text ∷ tokens)
@@ -380,12 +382,12 @@ parts-leaves (suc n) inner h place parts tokens =
 
 behind_bar_of-leaves : (token : Token) (tokens : List Token) → Leaves (elim token [
   | Ident name ↦ Ok (Some (LocalName (utf8 name)), tokens)
-  | Delim c ↦ cond (eqb c 42) (Ok (Some AnyName, tokens)) (Err errors.UnexpectedToken)
+  | Delim c ↦ cond (eqb c (byte "*")) (Ok (Some AnyName, tokens)) (Err errors.UnexpectedToken)
   | _ ↦ Err errors.UnexpectedToken
 ]) (length (token ∷ tokens))
 behind_bar_of-leaves (Ident name) tokens = ok_leaves (Some (LocalName (utf8 name))) tokens (length (Ident name ∷ tokens)) (omega arith)
 behind_bar_of-leaves (Delim c) tokens =
-    if_leaves (eqb c 42) (Ok (Some AnyName, tokens)) (Err errors.UnexpectedToken) (length (Delim c ∷ tokens)) (ok_leaves (Some AnyName) tokens (length (Delim c ∷ tokens)) (omega arith)) (err_leaves errors.UnexpectedToken (length (Delim c ∷ tokens)))
+    if_leaves (eqb c (byte "*")) (Ok (Some AnyName, tokens)) (Err errors.UnexpectedToken) (length (Delim c ∷ tokens)) (ok_leaves (Some AnyName) tokens (length (Delim c ∷ tokens)) (omega arith)) (err_leaves errors.UnexpectedToken (length (Delim c ∷ tokens)))
 behind_bar_of-leaves Space tokens = err_leaves errors.UnexpectedToken (length (Space ∷ tokens))
 behind_bar_of-leaves (Quoted text) tokens = err_leaves errors.UnexpectedToken (length (Quoted text ∷ tokens))
 behind_bar_of-leaves BadString tokens = err_leaves errors.UnexpectedToken (length (BadString ∷ tokens))
@@ -407,16 +409,16 @@ type_part-leaves : (place : Place) (tokens : List Token) → Leaves (type_part p
 unfolding type_part
 type_part-leaves place [] = same_leaves (Some Nothing) []
 type_part-leaves place (Ident name ∷ tokens) =
-    if_leaves (front (is_delim 124) tokens) (Err errors.NamespacedSelector) (Ok (Some (With Nothing (Plain (LocalName (utf8 name)))), tokens)) (length (Ident name ∷ tokens)) (err_leaves errors.NamespacedSelector (length (Ident name ∷ tokens))) (ok_leaves (Some (With Nothing (Plain (LocalName (utf8 name))))) tokens (length (Ident name ∷ tokens)) (omega arith))
+    if_leaves (front (is_delim (byte "|")) tokens) (Err errors.NamespacedSelector) (Ok (Some (With Nothing (Plain (LocalName (utf8 name)))), tokens)) (length (Ident name ∷ tokens)) (err_leaves errors.NamespacedSelector (length (Ident name ∷ tokens))) (ok_leaves (Some (With Nothing (Plain (LocalName (utf8 name))))) tokens (length (Ident name ∷ tokens)) (omega arith))
 type_part-leaves place (Delim c ∷ tokens) =
     let n = length (Delim c ∷ tokens) in
     let any = giving (option_map any_namespace) (behind_bar place (drop 1 tokens)) in
     let none = giving (option_map no_namespace) (behind_bar place tokens) in
-    if_leaves (eqb c 42) (cond (front (is_delim 124) tokens) any (Ok (Some (With Nothing (Plain AnyName)), tokens))) (cond (eqb c 124) none (Ok (Some Nothing, Delim c ∷ tokens))) n
-    (if_leaves (front (is_delim 124) tokens) any (Ok (Some (With Nothing (Plain AnyName)), tokens)) n
+    if_leaves (eqb c (byte "*")) (cond (front (is_delim (byte "|")) tokens) any (Ok (Some (With Nothing (Plain AnyName)), tokens))) (cond (eqb c (byte "|")) none (Ok (Some Nothing, Delim c ∷ tokens))) n
+    (if_leaves (front (is_delim (byte "|")) tokens) any (Ok (Some (With Nothing (Plain AnyName)), tokens)) n
     (giving_leaves (option_map any_namespace) (behind_bar place (drop 1 tokens)) n (weaker (behind_bar place (drop 1 tokens)) (length (drop 1 tokens)) n (behind_bar-leaves place (drop 1 tokens)) (omega (arith, length-drop 1 tokens))))
     (ok_leaves (Some (With Nothing (Plain AnyName))) tokens n (omega arith)))
-    (if_leaves (eqb c 124) none (Ok (Some Nothing, Delim c ∷ tokens)) n
+    (if_leaves (eqb c (byte "|")) none (Ok (Some Nothing, Delim c ∷ tokens)) n
     (giving_leaves (option_map no_namespace) (behind_bar place tokens) n (longer (behind_bar place tokens) (Delim c) tokens (behind_bar-leaves place tokens)))
     (same_leaves (Some Nothing) (Delim c ∷ tokens)))
 type_part-leaves place (Space ∷ tokens) = same_leaves (Some Nothing) (Space ∷ tokens)

@@ -4,11 +4,11 @@ use Rattle.std.proofs.lemmas.List.{append-nil}
 use Rattle.std.proofs.lemmas.Bool.{eqb-true}
 use Rattle.std.proofs.lemmas.Str.{encodes-append}
 use Rattle.std.specs.Str.{encode_utf8_all}
-use Rattle.std.specs.List.{list_any}
 use Rattle.std.specs.Option.{option_map}
-use Rattle.std.specs.Prelude.{codes}
 use Rattle.lol_css.specs.Points.{is, front, past, many, one, ◌or◌, is_decimal, is_sign, is_in_name, is_name_start, is_newline, is_white_space, begins_escape, begins_name, starts_identifier, starts_number, escaped, name, name_point}
-use Rattle.lol_css.specs.Tokens.{Token, Space, Quoted, BadString, Hash, Number, Dimension, Percentage, Function, Ident, Match, Delim, Cdc, comment, in_comment, space, string_escape, string_piece, string_text, string_behind, string, hash, behind_fraction, behind_exponent, numeral, number, cdc, identifier, match_sign, delim, next, somes, with_first, tokens_of, joined}
+use Rattle.std.specs.Str.{byte}
+use Rattle.lol_css.specs.declared.tokens.MatchOperator.{MatchOperator}
+use Rattle.lol_css.specs.Tokens.{match_operator, Token, Space, Quoted, BadString, Hash, Number, Dimension, Percentage, Function, Ident, Match, Delim, Cdc, comment, in_comment, space, string_escape, string_piece, string_text, string_behind, string, hash, behind_fraction, behind_exponent, numeral, number, cdc, identifier, match_sign, delim, next, somes, with_first, tokens_of, joined}
 use Rattle.lol_css.proofs.Many.{Shrinks, many-some, many-none, some_same, at_most-shorter, past-shorter, escaped-shorter, name_point-shrinks, name-first}
 use Rattle.lol_css.proofs.Loops.{one-shrinks, in_comment-shrinks}
 
@@ -47,7 +47,7 @@ comment_leaves : (text : List ℕ) → Leaves (comment text) (length text)
 unfolding comment
 comment_leaves [] = none_leaves 0
 comment_leaves (c ∷ cs) =
-    if_leaves (eqb c 47 && front (is 42) cs) (Some (None, drop 2 (many in_comment (drop 1 cs)).1)) None (length (c ∷ cs))
+    if_leaves (eqb c (byte "/") && front (is (byte "*")) cs) (Some (None, drop 2 (many in_comment (drop 1 cs)).1)) None (length (c ∷ cs))
     (some_leaves None (drop 2 (many in_comment (drop 1 cs)).1) (length (c ∷ cs)) (omega (arith, length-drop 2 (many in_comment (drop 1 cs)).1, behind_many in_comment in_comment-shrinks (drop 1 cs), length-drop 1 cs)))
     (none_leaves (length (c ∷ cs)))
 
@@ -86,7 +86,7 @@ string_piece_shorter_of false false c cs points rest e =
 string_piece_shorter : (quote : ℕ) (text points rest : List ℕ) → string_piece quote text ≡ Some (points, rest) → length rest < length text
 unfolding string_piece
 string_piece_shorter quote [] points rest e = absurd cc
-string_piece_shorter quote (c ∷ cs) points rest e = string_piece_shorter_of (eqb c quote || is_newline c) (eqb c 92) c cs points rest e
+string_piece_shorter quote (c ∷ cs) points rest e = string_piece_shorter_of (eqb c quote || is_newline c) (eqb c (byte "\\")) c cs points rest e
 
 pub string_piece-shrinks : (quote : ℕ) → Shrinks (string_piece quote)
 string_piece-shrinks quote = record { shorter = string_piece_shorter quote }
@@ -103,13 +103,13 @@ string_leaves : (text : List ℕ) → Leaves (string text) (length text)
 unfolding string
 string_leaves [] = none_leaves 0
 string_leaves (c ∷ cs) =
-    if_leaves (eqb c 34 || eqb c 39) (Some (string_behind c cs)) None (length (c ∷ cs)) (string_leaves_of c cs (front is_newline (string_text c cs).1)) (none_leaves (length (c ∷ cs)))
+    if_leaves (eqb c (byte "\"") || eqb c (byte "'")) (Some (string_behind c cs)) None (length (c ∷ cs)) (string_leaves_of c cs (front is_newline (string_text c cs).1)) (none_leaves (length (c ∷ cs)))
 
 hash_leaves : (text : List ℕ) → Leaves (hash text) (length text)
 unfolding hash
 hash_leaves [] = none_leaves 0
 hash_leaves (c ∷ cs) =
-    if_leaves (eqb c 35 && (front is_in_name cs || begins_escape cs)) (Some (Some (Hash (name cs).0 (starts_identifier cs)), (name cs).1)) None (length (c ∷ cs))
+    if_leaves (eqb c (byte "#") && (front is_in_name cs || begins_escape cs)) (Some (Some (Hash (name cs).0 (starts_identifier cs)), (name cs).1)) None (length (c ∷ cs))
     (some_leaves (Some (Hash (name cs).0 (starts_identifier cs))) (name cs).1 (length (c ∷ cs)) (omega (arith, behind_many name_point name_point-shrinks cs)))
     (none_leaves (length (c ∷ cs)))
 
@@ -125,16 +125,16 @@ if_shorter false l r n p q = q
 behind_fraction-shorter : (text : List ℕ) → length (behind_fraction text) ≤ length text
 unfolding behind_fraction
 behind_fraction-shorter text =
-    if_shorter (front (is 46) text && front is_decimal (drop 1 text)) (many (one is_decimal) (drop 1 text)).1 text (length text) (omega (arith, behind_one-shorter is_decimal (drop 1 text), length-drop 1 text)) (omega arith)
+    if_shorter (front (is (byte ".")) text && front is_decimal (drop 1 text)) (many (one is_decimal) (drop 1 text)).1 text (length text) (omega (arith, behind_one-shorter is_decimal (drop 1 text), length-drop 1 text)) (omega arith)
 
 behind_exponent-shorter : (text : List ℕ) → length (behind_exponent text) ≤ length text
 unfolding behind_exponent
 behind_exponent-shorter text =
-    if_shorter (front (λ c. eqb c 69 || eqb c 101) text && front is_decimal (past is_sign (drop 1 text))) (many (one is_decimal) (past is_sign (drop 1 text))).1 text (length text)
+    if_shorter (front (λ c. eqb c (byte "E") || eqb c (byte "e")) text && front is_decimal (past is_sign (drop 1 text))) (many (one is_decimal) (past is_sign (drop 1 text))).1 text (length text)
     (omega (arith, behind_one-shorter is_decimal (past is_sign (drop 1 text)), past-shorter is_sign (drop 1 text), length-drop 1 text)) (omega arith)
 
 -- digits, or a point with digits, take something
-point_shrinks : (cs : List ℕ) → front is_decimal cs ≡ true → length (behind_fraction (46 ∷ cs)) < length (46 ∷ cs)
+point_shrinks : (cs : List ℕ) → front is_decimal cs ≡ true → length (behind_fraction (byte "." ∷ cs)) < length (byte "." ∷ cs)
 unfolding behind_fraction
 point_shrinks cs h = rw h (omega (arith, behind_one-shorter is_decimal cs))
 
@@ -143,14 +143,14 @@ digits_shrink c cs h =
     let taken : one is_decimal (c ∷ cs) ≡ Some (c, cs) = rw h refl in
     rw (many-some (one is_decimal) (one-shrinks is_decimal) (c ∷ cs) c cs taken) (omega (arith, behind_one-shorter is_decimal cs))
 
-unsigned_shrinks_of : (b : Bool) (c : ℕ) (cs : List ℕ) → eqb c 46 ≡ b → front is_decimal (cond b cs (c ∷ cs)) ≡ true → length (behind_fraction (many (one is_decimal) (c ∷ cs)).1) < length (c ∷ cs)
+unsigned_shrinks_of : (b : Bool) (c : ℕ) (cs : List ℕ) → eqb c (byte ".") ≡ b → front is_decimal (cond b cs (c ∷ cs)) ≡ true → length (behind_fraction (many (one is_decimal) (c ∷ cs)).1) < length (c ∷ cs)
 unsigned_shrinks_of true c cs e h =
-    rw (eqb-true c 46 e) (rw (many-none (one is_decimal) (46 ∷ cs) refl) (point_shrinks cs h))
+    rw (eqb-true c (byte ".") e) (rw (many-none (one is_decimal) (byte "." ∷ cs) refl) (point_shrinks cs h))
 unsigned_shrinks_of false c cs e h = omega (arith, behind_fraction-shorter (many (one is_decimal) (c ∷ cs)).1, digits_shrink c cs h)
 
-unsigned_shrinks : (text : List ℕ) → front is_decimal (past (is 46) text) ≡ true → length (behind_fraction (many (one is_decimal) text).1) < length text
+unsigned_shrinks : (text : List ℕ) → front is_decimal (past (is (byte ".")) text) ≡ true → length (behind_fraction (many (one is_decimal) text).1) < length text
 unsigned_shrinks [] h = absurd cc
-unsigned_shrinks (c ∷ cs) h = unsigned_shrinks_of (eqb c 46) c cs refl h
+unsigned_shrinks (c ∷ cs) h = unsigned_shrinks_of (eqb c (byte ".")) c cs refl h
 
 numeral_shrinks : (text : List ℕ) → starts_number text ≡ true → length (numeral text).1 < length text
 unfolding numeral
@@ -162,12 +162,12 @@ unfolding number
 number_leaves text =
     let n = numeral text in
     if_leaves_at (starts_number text)
-    (cond (starts_identifier n.1) (Some (Some (Dimension n.0 (name n.1).0), (name n.1).1)) (cond (front (is 37) n.1) (Some (Some Percentage, drop 1 n.1)) (Some (Some (Number n.0), n.1))))
+    (cond (starts_identifier n.1) (Some (Some (Dimension n.0 (name n.1).0), (name n.1).1)) (cond (front (is (byte "%")) n.1) (Some (Some Percentage, drop 1 n.1)) (Some (Some (Number n.0), n.1))))
     None (length text)
     (λ h.
-    if_leaves (starts_identifier n.1) (Some (Some (Dimension n.0 (name n.1).0), (name n.1).1)) (cond (front (is 37) n.1) (Some (Some Percentage, drop 1 n.1)) (Some (Some (Number n.0), n.1))) (length text)
+    if_leaves (starts_identifier n.1) (Some (Some (Dimension n.0 (name n.1).0), (name n.1).1)) (cond (front (is (byte "%")) n.1) (Some (Some Percentage, drop 1 n.1)) (Some (Some (Number n.0), n.1))) (length text)
     (some_leaves (Some (Dimension n.0 (name n.1).0)) (name n.1).1 (length text) (omega (arith, numeral_shrinks text h, behind_many name_point name_point-shrinks n.1)))
-    (if_leaves (front (is 37) n.1) (Some (Some Percentage, drop 1 n.1)) (Some (Some (Number n.0), n.1)) (length text)
+    (if_leaves (front (is (byte "%")) n.1) (Some (Some Percentage, drop 1 n.1)) (Some (Some (Number n.0), n.1)) (length text)
     (some_leaves (Some Percentage) (drop 1 n.1) (length text) (omega (arith, numeral_shrinks text h, length-drop 1 n.1)))
     (some_leaves (Some (Number n.0)) n.1 (length text) (numeral_shrinks text h))))
     (none_leaves (length text))
@@ -176,7 +176,7 @@ cdc_leaves : (text : List ℕ) → Leaves (cdc text) (length text)
 unfolding cdc
 cdc_leaves [] = none_leaves 0
 cdc_leaves (c ∷ cs) =
-    if_leaves (eqb c 45 && front (is 45) cs && front (is 62) (drop 1 cs)) (Some (Some Cdc, drop 2 cs)) None (length (c ∷ cs))
+    if_leaves (eqb c (byte "-") && front (is (byte "-")) cs && front (is (byte ">")) (drop 1 cs)) (Some (Some Cdc, drop 2 cs)) None (length (c ∷ cs))
     (some_leaves (Some Cdc) (drop 2 cs) (length (c ∷ cs)) (omega (arith, length-drop 2 cs)))
     (none_leaves (length (c ∷ cs)))
 
@@ -195,7 +195,7 @@ identifier_takes_of false false false false more c cs h = absurd cc
 identifier_takes : (text : List ℕ) → starts_identifier text ≡ true → Takes (name_point text)
 unfolding name_point
 identifier_takes [] h = absurd cc
-identifier_takes (c ∷ cs) h = identifier_takes_of (is_name_start c) (is_decimal c) (eqb c 45) (begins_escape (c ∷ cs)) (front (is 45) cs || begins_name cs) c cs h
+identifier_takes (c ∷ cs) h = identifier_takes_of (is_name_start c) (is_decimal c) (eqb c (byte "-")) (begins_escape (c ∷ cs)) (front (is (byte "-")) cs || begins_name cs) c cs h
 
 identifier_shrinks : (text : List ℕ) → starts_identifier text ≡ true → length (name text).1 < length text
 identifier_shrinks text h =
@@ -207,19 +207,23 @@ identifier_leaves : (text : List ℕ) → Leaves (identifier text) (length text)
 unfolding identifier
 identifier_leaves text =
     let n = name text in
-    if_leaves_at (starts_identifier text) (cond (front (is 40) n.1) (Some (Some (Function n.0), drop 1 n.1)) (Some (Some (Ident n.0), n.1))) None (length text)
+    if_leaves_at (starts_identifier text) (cond (front (is (byte "(")) n.1) (Some (Some (Function n.0), drop 1 n.1)) (Some (Some (Ident n.0), n.1))) None (length text)
     (λ h.
-    if_leaves (front (is 40) n.1) (Some (Some (Function n.0), drop 1 n.1)) (Some (Some (Ident n.0), n.1)) (length text)
+    if_leaves (front (is (byte "(")) n.1) (Some (Some (Function n.0), drop 1 n.1)) (Some (Some (Ident n.0), n.1)) (length text)
     (some_leaves (Some (Function n.0)) (drop 1 n.1) (length text) (omega (arith, identifier_shrinks text h, length-drop 1 n.1)))
     (some_leaves (Some (Ident n.0)) n.1 (length text) (identifier_shrinks text h)))
     (none_leaves (length text))
+
+operator_leaves : (o : Option MatchOperator) (c : ℕ) (cs : List ℕ) → Leaves (option_map (λ operator. (Some (Match operator), drop 1 cs)) o) (length (c ∷ cs))
+operator_leaves None c cs = none_leaves (length (c ∷ cs))
+operator_leaves (Some operator) c cs = some_leaves (Some (Match operator)) (drop 1 cs) (length (c ∷ cs)) (omega (arith, length-drop 1 cs))
 
 match_sign_leaves : (text : List ℕ) → Leaves (match_sign text) (length text)
 unfolding match_sign
 match_sign_leaves [] = none_leaves 0
 match_sign_leaves (c ∷ cs) =
-    if_leaves (list_any (is c) (codes "~|^$*") && front (is 61) cs) (Some (Some (Match c), drop 1 cs)) None (length (c ∷ cs))
-    (some_leaves (Some (Match c)) (drop 1 cs) (length (c ∷ cs)) (omega (arith, length-drop 1 cs)))
+    if_leaves (front (is (byte "=")) cs) (option_map (λ operator. (Some (Match operator), drop 1 cs)) (match_operator c)) None (length (c ∷ cs))
+    (operator_leaves (match_operator c) c cs)
     (none_leaves (length (c ∷ cs)))
 
 delim_leaves : (text : List ℕ) → Leaves (delim text) (length text)

@@ -1,9 +1,9 @@
 -- The late walk, and what is accepted.
 use Rattle.std.specs.Prelude.{ℕ, Bool, true, false, List, Result, Ok, Err}
-use Rattle.std.specs.Str.{chars}
+use Rattle.std.specs.Str.{chars, byte}
 use Rattle.lol_css.specs.Tokens.{tokens}
 use Rattle.lol_css.specs.Trees as trees
-use Rattle.lol_css.specs.Drafts.{Step, By, Sibling, Part, Plain, LatePseudoClass, LateNamespace, Logical, Compound, Nothing, With, Item, First, Then, Items, NoItems, And}
+use Rattle.lol_css.specs.Drafts.{Step, By, NextSibling, SubsequentSibling, Part, Plain, LatePseudoClass, LateNamespace, Logical, Compound, Nothing, With, Item, First, Then, Items, NoItems, And}
 use Rattle.lol_css.specs.Rules.{◌>>=◌}
 use Rattle.lol_css.specs.Reading.{selector}
 use Rattle.lol_css.specs.declared.selector.Combinator.{Combinator}
@@ -18,7 +18,8 @@ use Rattle.lol_css.specs.declared.error.SelectorError.TheVariants.{UnsupportedPs
 abbrev pub judged_step : Bool → Step → Result Combinator SelectorError
 judged_step true step = Err UnsupportedPseudoClassOrElement
 judged_step false (By combinator) = Ok combinator
-judged_step false (Sibling sign) = Err (UnsupportedCombinator sign)
+judged_step false NextSibling = Err (UnsupportedCombinator (byte "+"))
+judged_step false SubsequentSibling = Err (UnsupportedCombinator (byte "~"))
 
 -- what a combination of a list is kept as
 abbrev pub combined : LogicalCombination → trees.Items → trees.Part

@@ -1,26 +1,28 @@
 -- An+B: the tokens between the parentheses of `:nth-child(` and its kin (CSS Syntax 3, section 6.2).
 -- Departures: A and B lie in i32, and each refusal has a cause.
-use Rattle.std.specs.Prelude.{ℕ, Bool, ◌&&◌, ◌==◌, nat_le, if◌then◌else◌, List, [], ◌∷◌, drop, take, Option, Some, None, Ok, Err, ℤ, pos, negsuc, neg_ℤ, codes}
+use Rattle.std.specs.Prelude.{ℕ, Bool, ◌&&◌, ◌==◌, nat_le, if◌then◌else◌, List, [], ◌∷◌, drop, take, Option, Some, None, Ok, Err, ℤ, pos, negsuc, neg_ℤ, unwrap_or, codes}
 use Rattle.std.specs.List.{list_all}
+use Rattle.std.specs.Option.{option_map}
 use Rattle.std.specs.Str.{byte}
 use Rattle.lol_css.specs.Points.{is, front, is_decimal, decimal}
-use Rattle.lol_css.specs.Tokens.{Token, Numeral, Number, Dimension, Ident, Delim}
+use Rattle.lol_css.specs.Tokens.{Token, Numeral, sign_of, Number, Dimension, Ident, Delim}
 use Rattle.lol_css.specs.Rules.{Read, ◌>>=◌, giving, skip_space, InFunction, wanted, closed, says, ident_of}
+use Rattle.lol_css.specs.declared.tokens.Sign.{Sign}
+use Rattle.lol_css.specs.declared.tokens.Sign.TheVariants.{Plus, Minus}
 use Rattle.lol_css.specs.declared.error.SelectorError.TheVariants.{UnexpectedToken}
 
-abbrev pub minus : ℕ → ℤ
-minus n = neg_ℤ (pos n)
+-- a number with its sign
+abbrev pub signed : Sign → ℕ → ℤ
+signed Plus n = pos n
+signed Minus n = neg_ℤ (pos n)
 
--- the value of an integer with its sign; none of what has a fraction or an exponent
+-- the value of an integer; none of what has a fraction or an exponent
 abbrev pub integer_value : Numeral → Option ℤ
-integer_value n = elim n.integer [
-  | None ↦ None
-  | Some digits ↦ Some (elim n.sign [ None ↦ pos digits | Some c ↦ if c == byte "-" then minus digits else pos digits ])
-]
+integer_value n = option_map (signed (unwrap_or n.sign Plus)) n.integer
 
 -- an integer without a sign
 abbrev pub unsigned : Token → Option ℕ
-unsigned (Number n) = elim n.sign [ None ↦ n.integer | Some c ↦ None ]
+unsigned (Number n) = elim n.sign [ None ↦ n.integer | Some sign ↦ None ]
 unsigned _ = None
 
 abbrev pub in_i32 : ℤ → Bool
@@ -32,21 +34,19 @@ unfoldable pub fitting : ℤ → List Token → Read ℤ
 fitting x tokens = if in_i32 x then Ok (x, tokens) else Err UnexpectedToken
 
 -- white space and a number without a sign, of which B is made
-unfoldable pub digits_of_b : (ℕ → ℤ) → List Token → Read ℤ
-digits_of_b signed tokens = do
+unfoldable pub digits_of_b : Sign → List Token → Read ℤ
+digits_of_b sign tokens = do
   digits ← wanted InFunction unsigned UnexpectedToken (skip_space tokens)
-  fitting (signed digits.0) digits.1
+  fitting (signed sign digits.0) digits.1
 
 -- B behind `n` and white space: a sign and a number, a number with a sign, or nothing
 unfoldable pub behind_n : List Token → Read ℤ
 behind_n [] = Ok (pos 0, [])
-behind_n (Delim c ∷ tokens) =
-    if c == byte "+" then digits_of_b pos tokens
-    else (if c == byte "-" then digits_of_b minus tokens else Ok (pos 0, Delim c ∷ tokens))
+behind_n (Delim c ∷ tokens) = elim (sign_of c) [ None ↦ Ok (pos 0, Delim c ∷ tokens) | Some sign ↦ digits_of_b sign tokens ]
 behind_n (Number n ∷ tokens) =
     elim n.sign [
       | None ↦ Ok (pos 0, Number n ∷ tokens)
-      | Some c ↦ elim (integer_value n) [ None ↦ Ok (pos 0, Number n ∷ tokens) | Some b ↦ fitting b tokens ]
+      | Some sign ↦ elim (integer_value n) [ None ↦ Ok (pos 0, Number n ∷ tokens) | Some b ↦ fitting b tokens ]
     ]
 behind_n (token ∷ tokens) = Ok (pos 0, token ∷ tokens)
 
@@ -58,8 +58,8 @@ is_n_and_digits name = says (codes "n-") (take 2 name) && list_all is_decimal (d
 unfoldable pub rest_of : List ℕ → List Token → Read ℤ
 rest_of name tokens =
     if says (codes "n") name then behind_n (skip_space tokens)
-    else (if says (codes "n-") name then digits_of_b minus tokens
-    else (if is_n_and_digits name then fitting (minus (decimal (drop 2 name))) tokens
+    else (if says (codes "n-") name then digits_of_b Minus tokens
+    else (if is_n_and_digits name then fitting (signed Minus (decimal (drop 2 name))) tokens
     else Err UnexpectedToken))
 
 abbrev pub with_step : ℤ → Read ℤ → Read (ℤ × ℤ)
@@ -78,7 +78,7 @@ unfoldable pub an_plus_b_of : Token → List Token → Read (ℤ × ℤ)
 an_plus_b_of (Ident name) tokens =
     if says (codes "even") name then Ok ((pos 2, pos 0), tokens)
     else (if says (codes "odd") name then Ok ((pos 2, pos 1), tokens)
-    else (if front (is (byte "-")) name then with_step (minus 1) (rest_of (drop 1 name) tokens) else with_step (pos 1) (rest_of name tokens)))
+    else (if front (is (byte "-")) name then with_step (signed Minus 1) (rest_of (drop 1 name) tokens) else with_step (pos 1) (rest_of name tokens)))
 an_plus_b_of (Number n) tokens = with_step (pos 0) (integer n tokens)
 an_plus_b_of (Dimension n unit) tokens = scaled n unit tokens
 an_plus_b_of (Delim c) tokens =

@@ -1,13 +1,13 @@
 -- What is read: the trees of selectors, and in them what is refused only after the whole list was read.
-use Rattle.std.specs.Prelude.{ℕ}
 use Rattle.lol_css.specs.Trees.{Simple}
 use Rattle.lol_css.specs.declared.selector.Combinator.{Combinator}
 use Rattle.lol_css.specs.declared.logical.LogicalCombination.{LogicalCombination}
 
--- how a compound stands to the one before it; `+` and `~` are refused late
+-- how a compound stands to the one before it; the two to siblings are refused late
 pub data Step : Type 0 where
   By : Combinator → Step
-  Sibling : ℕ → Step
+  NextSibling : Step  -- `+`
+  SubsequentSibling : Step  -- `~`
 
 mutual
   pub data Part : Type 0 where

@@ -7,9 +7,10 @@ use Rattle.lol_css.specs.Points.{front}
 use Rattle.lol_css.specs.Tokens.{Token, Quoted, Hash, Function, Ident, Match, Delim}
 use Rattle.lol_css.specs.CaselessAttributes.{caseless_attributes}
 use Rattle.lol_css.specs.Trees.{Simple, LocalName, AnyName, NoNamespace, Id, Class, Exists, Compares, Nth}
-use Rattle.lol_css.specs.Drafts.{Step, By, Sibling, Part, Plain, LatePseudoClass, LateNamespace, Logical, Compound, Nothing, With, Item, First, Then, Items, NoItems, And}
+use Rattle.lol_css.specs.Drafts.{Step, By, NextSibling, SubsequentSibling, Part, Plain, LatePseudoClass, LateNamespace, Logical, Compound, Nothing, With, Item, First, Then, Items, NoItems, And}
 use Rattle.lol_css.specs.Rules.{Read, ◌>>=◌, giving, keeping, is_delim, is_space, skip_space, Place, Outside, InFunction, InBrackets, at_end, at_stop, wanted, closed, lowered, says, ident_of}
 use Rattle.lol_css.specs.AnPlusB.{an_plus_b}
+use Rattle.lol_css.specs.declared.tokens.MatchOperator.TheVariants as operators
 use Rattle.lol_css.specs.declared.attribute.AttrSelectorOperator.{AttrSelectorOperator}
 use Rattle.lol_css.specs.declared.attribute.AttrSelectorOperator.TheVariants.{Equal, Includes, DashMatch, Prefix, Substring, Suffix}
 use Rattle.lol_css.specs.declared.attribute.ParsedCaseSensitivity.{ParsedCaseSensitivity}
@@ -46,9 +47,11 @@ attribute_name _ = Err MissingAttributeName
 
 abbrev pub operator_of : Token → Option AttrSelectorOperator
 operator_of (Delim c) = if c == byte "=" then Some Equal else None
-operator_of (Match c) =
-    if c == byte "~" then Some Includes
-    else (if c == byte "|" then Some DashMatch else (if c == byte "^" then Some Prefix else (if c == byte "$" then Some Suffix else Some Substring)))
+operator_of (Match operators.Include) = Some Includes
+operator_of (Match operators.Dash) = Some DashMatch
+operator_of (Match operators.Prefix) = Some Prefix
+operator_of (Match operators.Suffix) = Some Suffix
+operator_of (Match operators.Substring) = Some Substring
 operator_of _ = None
 
 abbrev pub value_of : Token → Option (List ℕ)
@@ -218,7 +221,9 @@ compound inner place empty tokens = do
 -- ---- items and lists
 
 abbrev pub step_of : Token → Option Step
-step_of (Delim c) = if c == byte ">" then Some (By Child) else (if c == byte "+" then Some (Sibling 43) else (if c == byte "~" then Some (Sibling 126) else None))
+step_of (Delim c) =
+    if c == byte ">" then Some (By Child)
+    else (if c == byte "+" then Some NextSibling else (if c == byte "~" then Some SubsequentSibling else None))
 step_of _ = None
 
 -- the step, and the tokens where its compound is to be read: `>`, `+` and `~` are taken, behind white space anything else is a descendant

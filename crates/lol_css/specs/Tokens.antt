@@ -2,15 +2,18 @@
 -- Departures from the standard: `~=`, `|=`, `^=`, `$=` and `*=` are tokens of their own (row 8); `<!--`, `@` with a name,
 -- colon, semicolon, comma, brackets, parentheses and braces have none, so each of their signs is a Delim (row 9);
 -- `url(` is an ordinary Function.
-use Rattle.std.specs.Prelude.{ℕ, Bool, ◌&&◌, ◌||◌, ◌==◌, if◌then◌else◌, List, [], ◌∷◌, length, drop, Option, Some, None, codes, ◌++◌}
-use Rattle.std.specs.List.{list_any}
+use Rattle.std.specs.Prelude.{ℕ, Bool, ◌&&◌, ◌||◌, ◌==◌, if◌then◌else◌, List, [], ◌∷◌, length, drop, Option, Some, None, ◌++◌}
 use Rattle.std.specs.Option.{option_map}
 use Rattle.std.specs.Str.{byte}
+use Rattle.lol_css.specs.declared.tokens.Sign.{Sign}
+use Rattle.lol_css.specs.declared.tokens.Sign.TheVariants.{Plus, Minus}
+use Rattle.lol_css.specs.declared.tokens.MatchOperator.{MatchOperator}
+use Rattle.lol_css.specs.declared.tokens.MatchOperator.TheVariants.{Include, Dash, Prefix, Suffix, Substring}
 use Rattle.lol_css.specs.Points.{is, front, past, many, one, is_newline, is_white_space, is_decimal, is_sign, decimal, ◌or◌, escaped, begins_escape, is_in_name, name, starts_identifier, starts_number, preprocessed}
 
 -- a number as it is written: its sign if one stands there, and its digits' value if it has neither fraction nor exponent
 pub record Numeral : Type 0 where
-  pub sign : Option ℕ
+  pub sign : Option Sign
   pub integer : Option ℕ
 
 -- names and texts are lists of code points
@@ -25,7 +28,7 @@ pub data Token : Type 0 where
   Cdc : Token
   Function : List ℕ → Token
   Ident : List ℕ → Token
-  Match : ℕ → Token  -- `~=` and the like, by the first sign
+  Match : MatchOperator → Token  -- `~=` and the like
   Delim : ℕ → Token
 
 -- what a row gives: nothing where it doesn't fit, else its token (none for a comment) and what is left
@@ -82,9 +85,12 @@ hash (c ∷ cs) =
     else None
 
 -- row 5 (4.3.3 and 4.3.12): a number, alone, with a unit or with `%`
-abbrev pub sign_of : List ℕ → Option ℕ
-sign_of [] = None
-sign_of (c ∷ cs) = if is_sign c then Some c else None
+abbrev pub sign_of : ℕ → Option Sign
+sign_of c = if c == byte "+" then Some Plus else (if c == byte "-" then Some Minus else None)
+
+abbrev pub leading_sign : List ℕ → Option Sign
+leading_sign [] = None
+leading_sign (c ∷ cs) = sign_of c
 
 -- behind a fraction and behind an exponent, where one stands
 unfoldable pub behind_fraction : List ℕ → List ℕ
@@ -98,7 +104,7 @@ unfoldable pub numeral : List ℕ → Numeral × List ℕ
 numeral text =
     let digits = many (one is_decimal) (past is_sign text) in
     let rest = behind_exponent (behind_fraction digits.1) in
-    (record { sign = sign_of text; integer = if length rest == length digits.1 then Some (decimal digits.0) else None }, rest)
+    (record { sign = leading_sign text; integer = if length rest == length digits.1 then Some (decimal digits.0) else None }, rest)
 
 unfoldable pub number : Row
 number text =
@@ -120,9 +126,17 @@ identifier text =
     else None
 
 -- row 8: `~=`, `|=`, `^=`, `$=`, `*=`
+abbrev pub match_operator : ℕ → Option MatchOperator
+match_operator c =
+    if c == byte "~" then Some Include
+    else (if c == byte "|" then Some Dash
+    else (if c == byte "^" then Some Prefix
+    else (if c == byte "$" then Some Suffix
+    else (if c == byte "*" then Some Substring else None))))
+
 unfoldable pub match_sign : Row
 match_sign [] = None
-match_sign (c ∷ cs) = if list_any (is c) (codes "~|^$*") && front (is (byte "=")) cs then Some (Some (Match c), drop 1 cs) else None
+match_sign (c ∷ cs) = if front (is (byte "=")) cs then option_map (λ operator. (Some (Match operator), drop 1 cs)) (match_operator c) else None
 
 -- row 9: anything else
 unfoldable pub delim : Row

@@ -47,7 +47,7 @@ token_of Percentage = tokens.Percentage
 token_of Cdc = tokens.Cdc
 token_of (Function name) = tokens.Function (points_of name)
 token_of (Ident name) = tokens.Ident (points_of name)
-token_of (Match c) = tokens.Match c
+token_of (Match operator) = tokens.Match operator
 token_of (Delim c) = tokens.Delim c
 
 -- a list, what stands first in it, and the rest

@@ -1,5 +1,6 @@
 -- Texts and what they stand for, worked by hand.
 use Rattle.std.specs.Prelude.{ℕ, zero, suc, true, false, List, [], ◌∷◌, ◌++◌, pos, negsuc, codes}
+use Rattle.std.specs.Str.{byte}
 use Rattle.lol_css.specs.Trees.{LocalName, AnyName, NoNamespace, Id, Class, Exists, Compares, Nth, Part, Plain, Not, Is, Where, Compound, Nothing, With, Item, First, Then, Items, NoItems, And}
 use Rattle.lol_css.specs.declared.attribute.AttrSelectorOperator.TheVariants.{Equal, Includes, DashMatch, Prefix, Substring, Suffix}
 use Rattle.lol_css.specs.declared.attribute.ParsedCaseSensitivity.TheVariants.{ExplicitCaseSensitive, AsciiCaseInsensitive, CaseSensitive, AsciiCaseInsensitiveIfInHtmlElementInHtmlDocument}
@@ -107,8 +108,8 @@ refused_rows =
     ∷ refused UnexpectedTokenInAttribute (codes "div[foo~\"bar\"]" ∷ codes "[a=1]" ∷ codes "[a~/**/=b]" ∷ codes "[a=\"x\ny\"]" ∷ [])
     ∷ refused NamespacedSelector (codes "svg|img" ∷ codes "[*|Foo]" ∷ codes "[*|Foo=bar]" ∷ codes "[a|b]" ∷ codes ":not(a [*|b])" ∷ codes ":is(a [*|b])" ∷ codes ":where([*|b], a > c)" ∷ [])
     ∷ refused InvalidClassName (codes ".foo()" ∷ [])
-    ∷ refused (UnsupportedCombinator 43) (codes "div + span" ∷ [])
-    ∷ refused (UnsupportedCombinator 126) (codes "div ~ span" ∷ codes "div + span ~ p" ∷ codes "a + b c ~ d" ∷ [])
+    ∷ refused (UnsupportedCombinator (byte "+")) (codes "div + span" ∷ [])
+    ∷ refused (UnsupportedCombinator (byte "~")) (codes "div ~ span" ∷ codes "div + span ~ p" ∷ codes "a + b c ~ d" ∷ [])
     ∷ refused UnsupportedPseudoClassOrElement (codes "a: b" ∷ codes ":not/**/(a)" ∷ codes ":not(foo bar)" ∷ codes ":not(foo > bar)" ∷ codes ":not(* > .x)" ∷ codes ":not([*|b] a)" ∷ codes ":not(:nth-last-child(even))" ∷ codes ":is(:nth-last-child(1))" ∷ codes ":is(a > b)" ∷ codes ":where(a b)" ∷ codes ":is(a, [*|b] c)" ∷ codes ":where(a + b)" ∷ codes ":is" ∷ codes ":where" ∷ codes "::is(a)" ∷ codes "::where(a)" ∷ codes ":is/**/(a)" ∷ [])
     ∷ []
 

@@ -1,19 +1,19 @@
 //! An+B (CSS Syntax 3, section 6), behind the parenthesis of `:nth-child(` and its kin.
 
-ghost use Rattle.std.specs.Prelude.{◌≡◌, ◌≤◌, ◌+◌, ◌-◌, ◌*◌, List, min, take, drop, codes, if◌then◌else◌, pos, Some, None, true, false, MatchOption, IfSome};
+ghost use Rattle.std.specs.Prelude.{◌≡◌, ◌≤◌, ◌+◌, ◌-◌, ◌*◌, List, min, take, drop, codes, if◌then◌else◌, Some, None, true, false, MatchOption, IfSome};
 ghost use Rattle.std.specs.List.{list_all};
 ghost use Rattle.std.specs.Str.{byte};
 ghost use Rattle.lol_css.specs.Points.{decimal, is_decimal, front, is};
 ghost use Rattle.lol_css.specs.Tokens as tokens;
 ghost use Rattle.lol_css.specs.Rules.{says};
-ghost use Rattle.lol_css.specs.AnPlusB.{integer, an_plus_b, an_plus_b_of, rest_of, scaled, behind_n, digits_of_b, fitting, minus, is_n_and_digits};
+ghost use Rattle.lol_css.specs.AnPlusB.{integer, an_plus_b, an_plus_b_of, rest_of, scaled, behind_n, digits_of_b, fitting, signed, is_n_and_digits};
 ghost use Rattle.lol_css.specs.Views.{Reads, numeral_of, token_of, points_of};
 
 use crate::error::SelectorError;
 use crate::nth::NthChild;
 use crate::reader::{Place, Reader};
 use crate::texts::Name;
-use crate::tokens::{Numeral, Token};
+use crate::tokens::{Numeral, Sign, Token};
 
 /// One more than the magnitude of the least `i32`.
 const TOO_LARGE: u64 = 2_147_483_649;
@@ -58,12 +58,15 @@ fn name_magnitude(name: Name<'_>) -> Option<u64>
 
 /// A magnitude with its sign: `UnexpectedToken` outside `i32`.
 #[tactic(auto, unfolding(crate::specs::AnPlusB::fitting))]
-fn fitting(negative: bool, magnitude: u64) -> Result<i32, SelectorError>
+fn fitting(sign: Sign, magnitude: u64) -> Result<i32, SelectorError>
     requires { magnitude ≤ TOO_LARGE }
-    ensures { (rest : List tokens.Token) → Reads (λ x. x) result rest (fitting (if negative then minus magnitude else pos magnitude) rest) }
+    ensures { (rest : List tokens.Token) → Reads (λ x. x) result rest (fitting (signed sign magnitude) rest) }
 {
     let magnitude = magnitude as i64;
-    let number = if negative { -magnitude } else { magnitude };
+    let number = match sign {
+        Sign::Plus => magnitude,
+        Sign::Minus => -magnitude,
+    };
     match i32::try_from(number) {
         Ok(number) => Ok(number),
         Err(_) => Err(SelectorError::UnexpectedToken),
@@ -71,16 +74,16 @@ fn fitting(negative: bool, magnitude: u64) -> Result<i32, SelectorError>
 }
 
 /// The value of a number of these digits: `UnexpectedToken` outside `i32`.
-fn value(negative: bool, digits: &[char]) -> Result<i32, SelectorError>
-    ensures { (rest : List tokens.Token) → Reads (λ x. x) result rest (fitting (if negative then minus (decimal digits.now) else pos (decimal digits.now)) rest) }
+fn value(sign: Sign, digits: &[char]) -> Result<i32, SelectorError>
+    ensures { (rest : List tokens.Token) → Reads (λ x. x) result rest (fitting (signed sign (decimal digits.now)) rest) }
 {
-    fitting(negative, magnitude(digits))
+    fitting(sign, magnitude(digits))
 }
 
 /// White space and a number without a sign, which gets this one.
 #[tactic(auto, unfolding(crate::specs::AnPlusB::digits_of_b, crate::specs::Rules::wanted))]
-fn digits_of_b(negative: bool, reader: &mut Reader<'_>) -> Result<i32, SelectorError>
-    ensures { Reads (λ x. x) result reader.new (digits_of_b (λ n. if negative then minus n else pos n) reader.old) }
+fn digits_of_b(sign: Sign, reader: &mut Reader<'_>) -> Result<i32, SelectorError>
+    ensures { Reads (λ x. x) result reader.new (digits_of_b sign reader.old) }
 {
     reader.skip_space();
     if reader.is_at_end(Place::InFunction) {
@@ -94,7 +97,7 @@ fn digits_of_b(negative: bool, reader: &mut Reader<'_>) -> Result<i32, SelectorE
                     integer: Some(digits),
                 },
             ),
-        ) => value(negative, digits),
+        ) => value(sign, digits),
         _ => Err(SelectorError::UnexpectedToken),
     }
 }
@@ -107,11 +110,11 @@ fn behind_n(reader: &mut Reader<'_>) -> Result<i32, SelectorError>
     match reader.peek() {
         Some(Token::Delim('+')) => {
             reader.advance();
-            digits_of_b(false, reader)
+            digits_of_b(Sign::Plus, reader)
         }
         Some(Token::Delim('-')) => {
             reader.advance();
-            digits_of_b(true, reader)
+            digits_of_b(Sign::Minus, reader)
         }
         Some(
             Token::Number(
@@ -122,7 +125,7 @@ fn behind_n(reader: &mut Reader<'_>) -> Result<i32, SelectorError>
             ),
         ) => {
             reader.advance();
-            value(sign == '-', digits)
+            value(sign, digits)
         }
         _ => Ok(0),
     }
@@ -159,10 +162,10 @@ fn rest_of(name: Name<'_>, reader: &mut Reader<'_>) -> Result<i32, SelectorError
         return behind_n(reader);
     }
     if name.is_word("n-") {
-        return digits_of_b(true, reader);
+        return digits_of_b(Sign::Minus, reader);
     }
     match digits_behind_n(name) {
-        Some(magnitude) => fitting(true, magnitude),
+        Some(magnitude) => fitting(Sign::Minus, magnitude),
         None => Err(SelectorError::UnexpectedToken),
     }
 }
@@ -200,7 +203,7 @@ fn integer(number: Numeral<'_>) -> Result<i32, SelectorError>
     ensures { (rest : List tokens.Token) → Reads (λ x. x) result rest (integer (numeral_of number.entry) rest) }
 {
     match number.integer {
-        Some(digits) => value(number.sign == Some('-'), digits),
+        Some(digits) => value(number.sign.unwrap_or(Sign::Plus), digits),
         None => Err(SelectorError::UnexpectedToken),
     }
 }

@@ -18,7 +18,7 @@ use crate::judged::Judged;
 use crate::reader::{Place, Reader};
 use crate::selector::{CssString, SimpleSelector};
 use crate::texts::Name;
-use crate::tokens::Token;
+use crate::tokens::{MatchOperator, Token};
 use std::alloc::Global;
 
 /// The name, and whether `*|` stands before it.
@@ -70,11 +70,11 @@ fn operator(reader: &mut Reader<'_>) -> Result<AttrSelectorOperator, SelectorErr
     }
     match reader.next() {
         Some(Token::Delim('=')) => Ok(AttrSelectorOperator::Equal),
-        Some(Token::Match('~')) => Ok(AttrSelectorOperator::Includes),
-        Some(Token::Match('|')) => Ok(AttrSelectorOperator::DashMatch),
-        Some(Token::Match('^')) => Ok(AttrSelectorOperator::Prefix),
-        Some(Token::Match('$')) => Ok(AttrSelectorOperator::Suffix),
-        Some(Token::Match(_)) => Ok(AttrSelectorOperator::Substring),
+        Some(Token::Match(MatchOperator::Include)) => Ok(AttrSelectorOperator::Includes),
+        Some(Token::Match(MatchOperator::Dash)) => Ok(AttrSelectorOperator::DashMatch),
+        Some(Token::Match(MatchOperator::Prefix)) => Ok(AttrSelectorOperator::Prefix),
+        Some(Token::Match(MatchOperator::Suffix)) => Ok(AttrSelectorOperator::Suffix),
+        Some(Token::Match(MatchOperator::Substring)) => Ok(AttrSelectorOperator::Substring),
         _ => Err(SelectorError::UnexpectedTokenInAttribute),
     }
 }

@@ -218,9 +218,8 @@ fn next_step(
     }
     let step = match reader.peek() {
         Some(Token::Delim('>')) => Some(Ok(Combinator::Child)),
-        Some(Token::Delim(sign @ ('+' | '~'))) => Some(Err(SelectorError::UnsupportedCombinator(
-            sign,
-        ))),
+        Some(Token::Delim('+')) => Some(Err(SelectorError::UnsupportedCombinator('+'))),
+        Some(Token::Delim('~')) => Some(Err(SelectorError::UnsupportedCombinator('~'))),
         _ => None,
     };
     if step.is_some() {

@@ -3,7 +3,7 @@
 ghost use Rattle.std.specs.Prelude.{◌≡◌, ◌<◌, ◌≤◌, length, drop, IfSome};
 ghost use Rattle.std.specs.Option.{option_map};
 ghost use Rattle.lol_css.specs.Points.{many, one, is_white_space, is_decimal, is_sign, past, name};
-ghost use Rattle.lol_css.specs.Tokens.{comment, in_comment, space, hash, cdc, identifier, match_sign, delim, next, numeral, number, string, sign_of, behind_fraction, behind_exponent, tokens_of};
+ghost use Rattle.lol_css.specs.Tokens.{comment, in_comment, space, hash, cdc, identifier, match_operator, match_sign, delim, next, numeral, number, string, leading_sign, behind_fraction, behind_exponent, tokens_of};
 ghost use Rattle.lol_css.specs.Views.{Took, IsFirst, token_of, numeral_of};
 
 use crate::points::{
@@ -12,11 +12,35 @@ use crate::points::{
 };
 use crate::texts::{Name, Quoted, behind_string};
 
+/// The sign of a number.
+#[derive(Clone, Copy)]
+pub(crate) enum Sign {
+    /// `+`
+    Plus,
+    /// `-`
+    Minus,
+}
+
+/// An operator of two signs between an attribute's name and its value.
+#[derive(Clone, Copy)]
+pub(crate) enum MatchOperator {
+    /// `~=`
+    Include,
+    /// `|=`
+    Dash,
+    /// `^=`
+    Prefix,
+    /// `$=`
+    Suffix,
+    /// `*=`
+    Substring,
+}
+
 /// A number as it is written.
 #[derive(Clone, Copy)]
 pub(crate) struct Numeral<'a> {
     /// The sign, if one is written.
-    pub sign: Option<char>,
+    pub sign: Option<Sign>,
     /// The digits, if there are neither fraction nor exponent.
     pub integer: Option<&'a [char]>,
 }
@@ -40,8 +64,8 @@ pub(crate) enum Token<'a> {
     /// A name with `(` behind it.
     Function(Name<'a>),
     Ident(Name<'a>),
-    /// `~=` and the like, by the first sign.
-    Match(char),
+    /// `~=` and the like.
+    Match(MatchOperator),
     Delim(char),
 }
 
@@ -207,12 +231,13 @@ fn behind_exponent(text: &[char]) -> &[char]
 }
 
 /// The sign here, and what is left.
-fn split_sign(text: &[char]) -> (Option<char>, &[char])
-    ensures sign { result.0 ≡ sign_of text.now }
+fn split_sign(text: &[char]) -> (Option<Sign>, &[char])
+    ensures sign { result.0 ≡ leading_sign text.now }
     ensures rest { result.1.now ≡ past is_sign text.now }
 {
     match text {
-        [sign @ ('+' | '-'), rest @ ..] => (Some(*sign), rest),
+        ['+', rest @ ..] => (Some(Sign::Plus), rest),
+        ['-', rest @ ..] => (Some(Sign::Minus), rest),
         _ => (None, text),
     }
 }
@@ -275,14 +300,28 @@ fn identifier(text: &[char]) -> Found<'_>
     }
 }
 
+/// The operator that begins with this sign.
+fn match_operator(sign: char) -> Option<MatchOperator>
+    ensures { result ≡ match_operator sign }
+{
+    match sign {
+        '~' => Some(MatchOperator::Include),
+        '|' => Some(MatchOperator::Dash),
+        '^' => Some(MatchOperator::Prefix),
+        '$' => Some(MatchOperator::Suffix),
+        '*' => Some(MatchOperator::Substring),
+        _ => None,
+    }
+}
+
 #[tactic(auto, unfolding(crate::specs::Tokens::match_sign))]
 fn match_sign(text: &[char]) -> Found<'_>
     ensures { Took (λ x. (option_map token_of x.0, x.1.now)) result (match_sign text.now) }
 {
-    match text {
-        [c @ ('~' | '|' | '^' | '$' | '*'), '=', rest @ ..] => Some((Some(Token::Match(*c)), rest)),
-        _ => None,
-    }
+    let [sign, '=', rest @ ..] = text else {
+        return None;
+    };
+    Some((Some(Token::Match(match_operator(*sign)?)), rest))
 }
 
 #[tactic(auto, unfolding(crate::specs::Tokens::delim))]

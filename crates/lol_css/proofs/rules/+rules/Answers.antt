@@ -1,5 +1,6 @@
 use Rattle.std.proofs.Common.{◌≡◌, ◌∷◌, ◌∙◌, ◌-◌, sym, refl, drop, true, false, Ok, Err}
 use Rattle.std.proofs.lemmas.Result.{err_from_is_err_and}
+use Rattle.std.specs.Str.{byte}
 use Rattle.lol_css.specs.Tokens.{Delim}
 use Rattle.lol_css.specs.Rules.{at_end, InFunction}
 use Rattle.lol_css.specs.Reading.{inner_list, list}
@@ -147,7 +148,7 @@ logical_part-returns-in_err-list t c =
 pub part-returns-in_err-pseudo-in-Some-Delim-eq58 : goal.part-returns-in_err-pseudo-in-Some-Delim-eq58
 part-returns-in_err-pseudo-in-Some-Delim-eq58 t c =
     let p = err_from_is_err_and c.from_residual-in_err-pseudo-in-Some-Delim-eq58.result c.from_residual-in_err-pseudo-in-Some-Delim-eq58.ensures.1 in
-    let first : c.args.reader.now ≡ Delim 58 ∷ drop 1 c.args.reader.now = cc c.in-Some-Delim-eq58.ensures in
+    let first : c.args.reader.now ≡ Delim (byte ":") ∷ drop 1 c.args.reader.now = cc c.in-Some-Delim-eq58.ensures in
     rw (p.1, p.2) (part-pseudo-fails (inner_list c.args.room) (place_of c.args.place) c.args.reader.now (drop 1 c.args.reader.now) c.in_err-pseudo-in-Some-Delim-eq58.field-0.0 first (rw c.advance-in-Some-Delim-eq58.ensures at c.in_err-pseudo-in-Some-Delim-eq58.ensures))
 
 pub logical_part-returns-in-Ok : goal.logical_part-returns-in-Ok
@@ -163,5 +164,5 @@ logical_part-returns-in-Err t c =
 pub part-returns-in_err-class_name-in-Some-Delim-eq46 : goal.part-returns-in_err-class_name-in-Some-Delim-eq46
 part-returns-in_err-class_name-in-Some-Delim-eq46 t c =
     let p = err_from_is_err_and c.from_residual-in_err-class_name-in-Some-Delim-eq46.result c.from_residual-in_err-class_name-in-Some-Delim-eq46.ensures.1 in
-    let first : c.args.reader.now ≡ Delim 46 ∷ drop 1 c.args.reader.now = cc c.in-Some-Delim-eq46.ensures in
+    let first : c.args.reader.now ≡ Delim (byte ".") ∷ drop 1 c.args.reader.now = cc c.in-Some-Delim-eq46.ensures in
     rw (p.1, p.2) (part-class-fails (inner_list c.args.room) (place_of c.args.place) c.args.reader.now (drop 1 c.args.reader.now) c.in_err-class_name-in-Some-Delim-eq46.field-0.0 first (rw c.advance-in-Some-Delim-eq46.ensures at c.in_err-class_name-in-Some-Delim-eq46.ensures))
