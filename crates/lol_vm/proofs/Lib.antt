@@ -8,3 +8,12 @@ pub mod NameMaps
 pub mod Refusals
 pub mod TypedLists
 pub mod StackLists
+pub mod Bools
+pub mod Lists
+pub mod Held
+pub mod Counted
+pub mod Gathered
+pub mod Stops
+pub mod Kept
+pub mod Answered
+pub mod Whole

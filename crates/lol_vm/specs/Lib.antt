@@ -23,3 +23,7 @@ pub mod Active
 pub mod OpenPlaces
 pub mod StackLending
 pub mod Stacks
+pub mod Machines
+pub mod PlaceRuns
+pub mod MachineLaws
+pub mod Standing

@@ -8,6 +8,7 @@ mod element_data;
 mod events;
 mod execution_ctx;
 pub mod laws;
+pub mod machine_laws;
 mod matching;
 mod open_names;
 pub mod rows;
@@ -35,8 +36,8 @@ pub use lol_memory::{
 };
 pub use lol_program::{
     AddressRange, Ast, AstNode, AttrExprOperands, AttributeComparisonExpr, AttributeMatcher,
-    ChildCounter, Condition, ExecutionBranch, NameValue, OnAttributesExpr, OnTagNameExpr, Predicate,
-    SelectorState, Test, Tries,
+    ChildCounter, Condition, ExecutionBranch, NameValue, OnAttributesExpr, OnTagNameExpr,
+    Predicate, SelectorState, Test, Tries,
 };
 pub use run::match_events;
 pub use stack::{AddChildError, Stack, StackNames, StackOf};

@@ -1,0 +1,53 @@
+-- What a machine that stands for events answers.
+use Rattle.std.proofs.Common.{◌≡◌, ℕ, true, List, [], ◌∷◌, ◌↔◌, inl, inr, sym, ap, subst, Contains}
+use Rattle.std.specs.Prelude.{◌||◌, not}
+use Rattle.lol_program.specs.Tests.{Element, is_html}
+use Rattle.lol_program.specs.Paths.{Selectors}
+use Rattle.lol_program.proofs.Members.{Among}
+use Rattle.lol_vm.specs.Documents.{element_of}
+use Rattle.lol_vm.specs.Answers.{document, with_number, ascending, matching_ids}
+use Rattle.lol_vm.proofs.Reports.{ascending_is_determined, ascending_ascends, pairs_from_ascends, matching_ids_ascend, among_with_number, number_among, others_among}
+use Rattle.lol_program.specs.Programs.{all_places}
+use Rattle.lol_vm.specs.Machines.{HoldOnce, LeftMatches, ranges_to_run}
+use Rattle.lol_vm.specs.PlaceRuns.{context_of}
+use Rattle.lol_vm.specs.Standing.{StartsAnswer}
+use Rattle.lol_vm.proofs.Lists.{to_contains, to_among}
+use Rattle.lol_vm.proofs.Held.{ranges_hold_left_matches}
+use Rattle.lol_vm.proofs.Counted.{places_count_tries}
+use Rattle.lol_vm.proofs.Gathered.{runs_give_reports}
+use Rattle.lol_vm.proofs.Stops.{stopped_starts_are_whole}
+
+among_ascending : (ns : List ℕ) (m : ℕ) → Among (ascending ns) m → Among ns m
+among_ascending [] m h = h
+among_ascending (n ∷ ns) m h = let more = among_ascending ns m in elim (among_with_number n (ascending ns) m h) [ inl is ↦ inl is | inr a ↦ inr (more a) ]
+
+ascending_among : (ns : List ℕ) (m : ℕ) → Among ns m → Among (ascending ns) m
+ascending_among [] m h = h
+ascending_among (n ∷ ns) m (inl is) = subst (Among (with_number n (ascending ns))) is (number_among n (ascending ns))
+ascending_among (n ∷ ns) m (inr a) = others_among n (ascending ns) m (ascending_among ns m a)
+
+-- a list with the members of a report, put in order, is the report
+in_order : (ids : List ℕ) (s : Selectors) (e : Element) (outer : List Element) → ((id : ℕ) → Contains ids id ↔ Contains (matching_ids s.pairs e outer) id) → ascending ids ≡ matching_ids s.pairs e outer
+in_order ids s e outer same =
+    ascending_is_determined (ascending ids) (matching_ids s.pairs e outer) (pairs_from_ascends (ascending ids) (ascending_ascends ids)) (matching_ids_ascend e outer s.pairs)
+    (λ id. (
+      λ h. (same id).0 (to_contains ids id (among_ascending ids id (to_among (ascending ids) id h))),
+      λ h. to_contains (ascending ids) id (ascending_among ids id (to_among ids id ((same id).1 h))),
+    ))
+
+pub starts_answer : StartsAnswer
+starts_answer s esi paths m events tag closed stands =
+    let d = document s esi events in
+    let e = element_of d tag in
+    let ranges = ranges_to_run m.program m.items m.active in
+    let held = subst (λ active. HoldOnce paths (ranges_to_run m.program m.items active) (LeftMatches d.open_elements)) (sym stands.active)
+    (ranges_hold_left_matches s paths m.program m.items d.open_elements closed stands.program stands.items) in
+    let tries = places_count_tries s paths m.program ranges e d.open_elements closed stands.program held in
+    let report = runs_give_reports s paths m.program ranges e d.open_elements closed stands.program held in
+    let whole = stopped_starts_are_whole s paths m.program ranges e d.open_elements true closed stands.program held in
+    record {
+      asked = ap (λ b. not (is_html e.tag.namespace) || b) whole.asks;
+      matched = in_order (context_of m.program true e (all_places ranges)).ids s e d.open_elements report.ids;
+      names = tries.names;
+      attributes = tries.attributes;
+    }

@@ -1,0 +1,317 @@
+-- The places that ranges hold.
+use Rattle.std.proofs.Common.{◌≡◌, ℕ, ◌-◌, ◌<◌, Bool, true, not, List, [], ◌∷◌, ◌++◌, length, map, filter, Option, Some, None, ◌⊎◌, ◌↔◌, inl, inr, refl, sym, ap, ◌∙◌, subst, arith, Contains}
+use Rattle.std.specs.Prelude.{◌==◌}
+use Rattle.std.proofs.lemmas.List.{map-append, append-nil}
+use Rattle.std.proofs.lemmas.Grind.{flat_map-append}
+use Rattle.std.proofs.lemmas.Bool.Decides.{Decides-eqb}
+use Rattle.lol_css.specs.declared.selector.Combinator.{Combinator}
+use Rattle.lol_css.specs.declared.selector.Combinator.TheVariants.{Child, Descendant}
+use Rattle.lol_program.specs.Tests.{Element}
+use Rattle.lol_program.specs.Paths.{Path, First, Then, Selectors}
+use Rattle.lol_program.proofs.Members.{Among, Distinct, among_front, among_back, among_either}
+use Rattle.lol_vm.specs.Matching.{matches, left_matches, parent_passes, some_ancestor_passes}
+use Rattle.lol_vm.proofs.Bools.{and_both, both_and, not_true, true_or_not, either, left_or, right_or}
+use Rattle.lol_program.specs.Programs.{Range, Instruction, Program, IsWithin, IsAt, HoldsPlaces, IsRangeOf, IsProgramOf, IsInstruction, AreClosed, above, range_by, places, all_places}
+use Rattle.lol_vm.specs.Machines.{Item, IsReached, HasRanges, IsItem, AreItems, Matches, HoldOnce, LeftMatches, active_of, is_active, same_range, last_jumps, ranges_of, jumps_of, hereditary_jumps_of}
+use Rattle.lol_vm.specs.MachineLaws.{RangesAreApart, RangesHoldLeftMatches, PlacesAreWithin}
+use Rattle.lol_vm.proofs.Lists.{to_contains, to_among, to_once, to_distinct, distinct_append, at_among, among_at, same_at, one_place, at_within, within_at, among_flat_map, flat_map_among, distinct_flat_map, among_range, range_among, distinct_range, among_map, map_among, among_filter, filter_among, distinct_filter, any_among, among_any}
+
+-- 1. Ranges and the places in them
+
+pub within_places : (r : Range) (place : ℕ) → Among (places r) place → IsWithin place r
+within_places r place h = let at = among_range r.start (r.end - r.start) place h in (at.0, omega (arith, at.0, at.1))
+
+pub places_within : (r : Range) (place : ℕ) → IsWithin place r → Among (places r) place
+places_within r place h = range_among r.start (r.end - r.start) place h.0 (omega (arith, h.0, h.1))
+
+abbrev front_or : Path → Option (Path × Combinator) → Path
+front_or d None = d
+front_or d (Some u) = u.0
+
+abbrev step_or : Combinator → Option (Path × Combinator) → Combinator
+step_or d None = d
+step_or d (Some u) = u.1
+
+abbrev under : Path → Combinator → Option (Path × Combinator)
+under a x = Some (a, x)
+
+pub same_front : (a b : Path) (x y : Combinator) → under a x ≡ under b y → a ≡ b
+same_front a b x y h = ap (front_or a) h
+
+pub same_step : (a b : Path) (x y : Combinator) → under a x ≡ under b y → x ≡ y
+same_step a b x y h = ap (step_or x) h
+
+not_child : Child ≡ Descendant → ⊥
+not_child h = cc
+
+-- 2. What a program says of its places
+
+module _ (s : Selectors) (paths : List Path) (p : Program) (program : IsProgramOf s paths p) where
+  pub paths_once : Distinct paths
+  paths_once = to_distinct paths program.once
+
+  pub instruction_at : (place : ℕ) (path : Path) → IsAt paths place path → (i : Instruction) × IsAt p.instructions place i
+  instruction_at place path at = within_at p.instructions place (omega (arith, at_within paths place path at, program.count))
+
+  pub path_at : (place : ℕ) (i : Instruction) → IsAt p.instructions place i → (path : Path) × IsAt paths place path
+  path_at place i at = within_at paths place (omega (arith, at_within p.instructions place i at, program.count))
+
+  pub place_of_node : (path : Path) → Contains s.nodes path → (place : ℕ) × IsAt paths place path
+  place_of_node path h = among_at paths path (to_among paths path ((program.same path).1 h))
+
+  module _ (closed : AreClosed s) where
+    pub front_at : (place : ℕ) (path front : Path) (step : Combinator) → IsAt paths place path → above path ≡ Some (front, step) → (k : ℕ) × IsAt paths k front
+    front_at place (First c) front step at is = cc
+    front_at place (Then other step' c) front step at is =
+        let node : Contains s.nodes (Then other step' c) = (program.same (Then other step' c)).0 (to_contains paths (Then other step' c) (at_among paths place (Then other step' c) at)) in
+        subst (λ f. (k : ℕ) × IsAt paths k f) (same_front other front step' step is) (place_of_node other (closed.fronts other step' c node))
+
+    -- 3. Ranges that instructions give hold their places once
+
+    module _ (which : Instruction → Option Range) (step : Combinator)
+        (has : (place : ℕ) (path : Path) (i : Instruction) → IsAt paths place path → IsAt p.instructions place i → IsRangeOf paths (which i) (Some (path, step))) where
+      pub range_of_reached : (place : ℕ) (path : Path) (i : Instruction) (r : Range) → IsAt paths place path → IsAt p.instructions place i → which i ≡ Some r → HoldsPlaces paths r (Some (path, step)) × (r.start < r.end)
+      range_of_reached place path i r at at' is = subst (λ o. IsRangeOf paths o (Some (path, step))) is (has place path i at at')
+
+      -- a range belongs to one place
+      pub one_owner : (j k : ℕ) (a b : Path) (x y : Instruction) (r r' : Range) (place : ℕ) → IsAt paths j a → IsAt paths k b → IsAt p.instructions j x → IsAt p.instructions k y → which x ≡ Some r → which y ≡ Some r'
+          → IsWithin place r → IsWithin place r' → j ≡ k
+      one_owner j k a b x y r r' place at_a at_b at_x at_y is_x is_y within_r within_r' =
+          let under = ((range_of_reached j a x r at_a at_x is_x).0.members place).0 within_r in
+          let under' = ((range_of_reached k b y r' at_b at_y is_y).0.members place).0 within_r' in
+          let same : under.0 ≡ under'.0 = same_at paths place under.0 under'.0 under.1 under'.1 in
+          let front : a ≡ b = same_front a b step step (sym under.2 ∙ (ap above same ∙ under'.2)) in
+          one_place paths paths_once j k b (at_a ∙ ap Some front) at_b
+
+      module _ (P : Path → Type 0) (ranges : List Range) (h : HasRanges which paths p P ranges) where
+        reached : (r : Range) → Among ranges r → IsReached which paths p P r
+        reached r a = (h.members r).0 (to_contains ranges r a)
+
+        apart : (r r' : Range) (place : ℕ) → Among ranges r → Among ranges r' → Among (places r) place → Among (places r') place → r ≡ r'
+        apart r r' place a a' in_r in_r' =
+            let m = reached r a in
+            let m' = reached r' a' in
+            let same : m.0 ≡ m'.0 = one_owner m.0 m'.0 m.1 m'.1 m.2 m'.2 r r' place m.3 m'.3 m.4 m'.4 m.5 m'.5 (within_places r place in_r) (within_places r' place in_r') in
+            let instruction : m.2 ≡ m'.2 = same_at p.instructions m'.0 m.2 m'.2 (subst (λ k. IsAt p.instructions k m.2) same m.4) m'.4 in
+            some_same (sym m.5 ∙ (ap which instruction ∙ m'.5))
+          where
+            some_same : {A : Type 0} {x y : A} → Some x ≡ Some y → x ≡ y
+            some_same is = cc
+
+        pub hold_under : HoldOnce paths ranges (λ path. (front : Path) × (above path ≡ Some (front, step)) × P front)
+        hold_under = record {
+          once = to_once (all_places ranges) (distinct_flat_map places ranges (to_distinct ranges h.once) (λ r a. distinct_range r.start (r.end - r.start)) apart);
+          members = λ place. (
+            λ c. let at = among_flat_map places ranges place (to_among (all_places ranges) place c) in
+                let m = reached at.0 at.1 in
+                let under = ((range_of_reached m.0 m.1 m.2 at.0 m.3 m.4 m.5).0.members place).0 (within_places at.0 place at.2) in
+                (under.0, under.1, (m.1, under.2, m.6)),
+            λ x. let k = front_at place x.0 x.2.0 step x.1 x.2.1 in
+                let i = instruction_at k.0 x.2.0 k.1 in
+                found place x.0 x.2.0 x.1 x.2.1 x.2.2 k.0 i.0 k.1 i.1 (which i.0) refl (has k.0 x.2.0 i.0 k.1 i.1),
+          );
+        }
+          where
+            found : (place : ℕ) (path front : Path) → IsAt paths place path → above path ≡ Some (front, step) → P front → (k : ℕ) (i : Instruction) → IsAt paths k front → IsAt p.instructions k i
+                → (o : Option Range) → which i ≡ o → IsRangeOf paths o (Some (front, step)) → Contains (all_places ranges) place
+            found place path front at under fits k i at_k at_i None is range = absurd (range place path at under)
+            found place path front at under fits k i at_k at_i (Some r) is range =
+                let a : Among ranges r = to_among ranges r ((h.members r).1 (k, front, i, at_k, at_i, is, fits)) in
+                to_contains (all_places ranges) place (flat_map_among places ranges r place a (places_within r place ((range.0.members place).1 (path, at, under))))
+
+-- 4. The active ranges
+
+pub range_is : (a b : Range) → same_range a b ≡ true → a ≡ b
+range_is a b h =
+    let both = and_both (a.start == b.start) (a.end == b.end) h in
+    let start : a.start ≡ b.start = (Decides-eqb a.start b.start).0 both.0 in
+    let end : a.end ≡ b.end = (Decides-eqb a.end b.end).0 both.1 in
+    λ i. record { start = start i; end = end i }
+
+pub range_same : (a b : Range) → a ≡ b → same_range a b ≡ true
+range_same a b is = both_and (a.start == b.start) (a.end == b.end) ((Decides-eqb a.start b.start).1 (ap (λ (r : Range). r.start) is)) ((Decides-eqb a.end b.end).1 (ap (λ (r : Range). r.end) is))
+
+pub active_among : (active : List (Range × ℕ)) (r : Range) → is_active active r ≡ true → Among (ranges_of active) r
+active_among active r h =
+    let at = among_any (λ (a : Range × ℕ). same_range a.0 r) active h in
+    subst (Among (ranges_of active)) (range_is at.0.0 r at.2) (map_among (λ (a : Range × ℕ). a.0) active at.0 at.1)
+
+pub among_active : (active : List (Range × ℕ)) (r : Range) → Among (ranges_of active) r → is_active active r ≡ true
+among_active active r h =
+    let at = among_map (λ (a : Range × ℕ). a.0) active r h in
+    any_among (λ (a : Range × ℕ). same_range a.0 r) active at.0 at.1 (range_same at.0.0 r at.2)
+
+abbrev new_ranges : List (Range × ℕ) → List Range → List Range
+new_ranges active ranges = filter (λ r. not (is_active active r)) ranges
+
+placed : (place : ℕ) (ranges : List Range) → ranges_of (map (λ (r : Range). (r, place)) ranges) ≡ ranges
+placed place [] = refl
+placed place (r ∷ ranges) = ap (λ rs. r ∷ rs) (placed place ranges)
+
+active_more : (item : Item) (outer : List Item) → ranges_of (active_of (item ∷ outer)) ≡ ranges_of (active_of outer) ++ new_ranges (active_of outer) item.hereditary_jumps
+active_more item outer =
+    map-append (λ (a : Range × ℕ). a.0) (active_of outer) _ ∙ ap (λ rs. ranges_of (active_of outer) ++ rs) (placed (length outer) _)
+
+abbrev SomeAncestorMatches : List Element → Path → Type 0
+SomeAncestorMatches elements path = some_ancestor_passes (matches path) elements ≡ true
+
+abbrev ParentMatches : List Element → Path → Type 0
+ParentMatches elements path = parent_passes (matches path) elements ≡ true
+
+module _ (paths : List Path) (p : Program) where
+  abbrev ActiveAre : List Item → List Element → Type 0
+  ActiveAre items elements = Distinct (ranges_of (active_of items)) × ((r : Range) → Among (ranges_of (active_of items)) r ↔ IsReached hereditary_jumps_of paths p (SomeAncestorMatches elements) r)
+
+  reached_by : (which : Instruction → Option Range) (P Q : Path → Type 0) → ((path : Path) → P path → Q path) → (r : Range) → IsReached which paths p P r → IsReached which paths p Q r
+  reached_by which P Q f r h = (h.0, h.1, h.2, h.3, h.4, h.5, f h.1 h.6)
+
+  active_are : (items : List Item) (elements : List Element) → AreItems paths p items elements → ActiveAre items elements
+  active_are [] [] are = (tt, λ r. (λ h. absurd h, λ h. let e = h.6 in cc))
+  active_are [] (e ∷ outer) are = absurd are
+  active_are (item ∷ items) [] are = absurd are
+  active_are (item ∷ items) (e ∷ outer) are = more item items e outer are.0 (active_are items outer are.1)
+    where
+      more : (item : Item) (items : List Item) (e : Element) (outer : List Element) → IsItem paths p item e outer → ActiveAre items outer → ActiveAre (item ∷ items) (e ∷ outer)
+      more item items e outer is before =
+          let old : List (Range × ℕ) = active_of items in
+          let test : Range → Bool = λ r. not (is_active old r) in (
+            subst Distinct (sym (active_more item items)) (distinct_append (ranges_of old) (filter test item.hereditary_jumps) before.0
+                (distinct_filter test item.hereditary_jumps (to_distinct item.hereditary_jumps is.hereditary_jumps.once))
+                (λ r in_old in_new. not_true (is_active old r) (among_filter test item.hereditary_jumps r in_new).1 (among_active old r in_old))),
+            λ r. (
+              λ h. elim (among_either (ranges_of old) (filter test item.hereditary_jumps) r (subst (λ rs. Among rs r) (active_more item items) h)) [
+                | inl a ↦ reached_by hereditary_jumps_of (SomeAncestorMatches outer) (SomeAncestorMatches (e ∷ outer)) (λ path fits. right_or (matches path e outer) _ fits) r ((before.1 r).0 a)
+                | inr a ↦ reached_by hereditary_jumps_of (Matches e outer) (SomeAncestorMatches (e ∷ outer)) (λ path fits. left_or (matches path e outer) _ fits) r
+                    ((is.hereditary_jumps.members r).0 (to_contains item.hereditary_jumps r (among_filter test item.hereditary_jumps r a).0))
+              ],
+              λ h. subst (λ rs. Among rs r) (sym (active_more item items)) (elim (either (matches h.1 e outer) _ h.6) [
+                | inl fits ↦ elim (true_or_not (is_active old r)) [
+                  | inl is_old ↦ among_front (ranges_of old) (filter test item.hereditary_jumps) r (active_among old r is_old)
+                  | inr is_new ↦ among_back (ranges_of old) (filter test item.hereditary_jumps) r (filter_among test item.hereditary_jumps r
+                      (to_among item.hereditary_jumps r ((is.hereditary_jumps.members r).1 (h.0, h.1, h.2, h.3, h.4, h.5, fits))) is_new)
+                ]
+                | inr fits ↦ among_front (ranges_of old) (filter test item.hereditary_jumps) r ((before.1 r).1 (h.0, h.1, h.2, h.3, h.4, h.5, fits))
+              ]),
+            ),
+          )
+
+  active_have : (items : List Item) (elements : List Element) → AreItems paths p items elements → HasRanges hereditary_jumps_of paths p (SomeAncestorMatches elements) (ranges_of (active_of items))
+  active_have items elements are =
+      let all = active_are items elements are in
+      record {
+        once = to_once (ranges_of (active_of items)) all.0;
+        members = λ r. (λ h. (all.1 r).0 (to_among (ranges_of (active_of items)) r h), λ h. to_contains (ranges_of (active_of items)) r ((all.1 r).1 h));
+      }
+
+  -- 5. The last item's jumps
+
+  last_have : (items : List Item) (elements : List Element) → AreItems paths p items elements → HasRanges jumps_of paths p (ParentMatches elements) (last_jumps items)
+  last_have [] [] are = record {
+    once = to_once [] tt;
+    members = λ r. (λ h. absurd (to_among [] r h), λ h. let e = h.6 in cc);
+  }
+  last_have [] (e ∷ outer) are = absurd are
+  last_have (item ∷ items) [] are = absurd are
+  last_have (item ∷ items) (e ∷ outer) are = are.0.jumps
+
+-- 6. All of them
+
+-- what a path stands under reaches it
+abbrev Under : Combinator → (Path → Type 0) → Path → Type 0
+Under step P path = (front : Path) × (above path ≡ Some (front, step)) × P front
+
+module _ (elements : List Element) where
+  left_of : (path : Path) → left_matches path elements ≡ true → (above path ≡ None) ⊎ (Under Child (ParentMatches elements) path ⊎ Under Descendant (SomeAncestorMatches elements) path)
+  left_of (First c) h = inl refl
+  left_of (Then front Child c) h = inr (inl (front, refl, h))
+  left_of (Then front Descendant c) h = inr (inr (front, refl, h))
+
+  none_left : (path : Path) → above path ≡ None → left_matches path elements ≡ true
+  none_left (First c) h = refl
+  none_left (Then front step c) h = cc
+
+  child_left : (path : Path) → Under Child (ParentMatches elements) path → left_matches path elements ≡ true
+  child_left (First c) h = let e = h.1 in cc
+  child_left (Then front Child c) h = subst (ParentMatches elements) (sym (same_front front h.0 Child Child h.1)) h.2
+  child_left (Then front Descendant c) h = absurd (not_child (sym (same_step front h.0 Descendant Child h.1)))
+
+  descendant_left : (path : Path) → Under Descendant (SomeAncestorMatches elements) path → left_matches path elements ≡ true
+  descendant_left (First c) h = let e = h.1 in cc
+  descendant_left (Then front Child c) h = absurd (not_child (same_step front h.0 Child Descendant h.1))
+  descendant_left (Then front Descendant c) h = subst (SomeAncestorMatches elements) (sym (same_front front h.0 Descendant Descendant h.1)) h.2
+
+module _ (paths : List Path) where
+  entry_holds : (r : Range) → HoldsPlaces paths r None → HoldOnce paths (r ∷ []) (λ path. above path ≡ None)
+  entry_holds r h = record {
+    once = to_once (all_places (r ∷ [])) (subst Distinct (sym (append-nil (places r))) (distinct_range r.start (r.end - r.start)));
+    members = λ place. (
+      λ c. (h.members place).0 (within_places r place (subst (λ ps. Among ps place) (append-nil (places r)) (to_among (all_places (r ∷ [])) place c))),
+      λ x. to_contains (all_places (r ∷ [])) place (subst (λ ps. Among ps place) (sym (append-nil (places r))) (places_within r place ((h.members place).1 x))),
+    );
+  }
+
+  -- two lists of ranges that hold the places of different paths
+  joined : (rs qs : List Range) (P Q R : Path → Type 0) → HoldOnce paths rs P → HoldOnce paths qs Q → ((path : Path) → P path → Q path → ⊥) → ((path : Path) → R path ↔ (P path ⊎ Q path)) → HoldOnce paths (rs ++ qs) R
+  joined rs qs P Q R first second apart both =
+      let whole : all_places (rs ++ qs) ≡ all_places rs ++ all_places qs = flat_map-append places rs qs in
+      record {
+        once = to_once (all_places (rs ++ qs)) (subst Distinct (sym whole) (distinct_append (all_places rs) (all_places qs) (to_distinct (all_places rs) first.once) (to_distinct (all_places qs) second.once)
+            (λ place a b.
+            let x = (first.members place).0 (to_contains (all_places rs) place a) in
+            let y = (second.members place).0 (to_contains (all_places qs) place b) in
+            apart x.0 x.2 (subst Q (same_at paths place y.0 x.0 y.1 x.1) y.2))));
+        members = λ place. (
+          λ c. elim (among_either (all_places rs) (all_places qs) place (subst (λ ps. Among ps place) whole (to_among (all_places (rs ++ qs)) place c))) [
+            | inl a ↦ let x = (first.members place).0 (to_contains (all_places rs) place a) in (x.0, x.1, (both x.0).1 (inl x.2))
+            | inr b ↦ let y = (second.members place).0 (to_contains (all_places qs) place b) in (y.0, y.1, (both y.0).1 (inr y.2))
+          ],
+          λ x. to_contains (all_places (rs ++ qs)) place (subst (λ ps. Among ps place) (sym whole) (elim ((both x.0).0 x.2) [
+            | inl fits ↦ among_front (all_places rs) (all_places qs) place (to_among (all_places rs) place ((first.members place).1 (x.0, x.1, fits)))
+            | inr fits ↦ among_back (all_places rs) (all_places qs) place (to_among (all_places qs) place ((second.members place).1 (x.0, x.1, fits)))
+          ])),
+        );
+      }
+
+steps_differ : (path : Path) (P Q : Path → Type 0) → Under Child P path → Under Descendant Q path → ⊥
+steps_differ path P Q a b = not_child (same_step a.0 b.0 Child Descendant (sym a.1 ∙ b.1))
+
+none_under : (path : Path) (step : Combinator) (P : Path → Type 0) → above path ≡ None → Under step P path → ⊥
+none_under path step P none under = let e = under.1 in cc
+
+pub ranges_hold_left_matches : RangesHoldLeftMatches
+ranges_hold_left_matches s paths p items elements closed program are =
+    let jumps = hold_under s paths p program closed jumps_of Child (λ place path i at at'. (program.each place path i at at').jumps) (ParentMatches elements) (last_jumps items) (last_have paths p items elements are) in
+    let active = hold_under s paths p program closed hereditary_jumps_of Descendant (λ place path i at at'. (program.each place path i at at').hereditary_jumps) (SomeAncestorMatches elements) (ranges_of (active_of items))
+    (active_have paths p items elements are) in
+    let below = joined paths (last_jumps items) (ranges_of (active_of items)) (Under Child (ParentMatches elements)) (Under Descendant (SomeAncestorMatches elements))
+    (λ path. Under Child (ParentMatches elements) path ⊎ Under Descendant (SomeAncestorMatches elements) path) jumps active (λ path. steps_differ path (ParentMatches elements) (SomeAncestorMatches elements)) (λ path. (λ h. h, λ h. h)) in
+    joined paths (p.entry ∷ []) (last_jumps items ++ ranges_of (active_of items)) (λ path. above path ≡ None) (λ path. Under Child (ParentMatches elements) path ⊎ Under Descendant (SomeAncestorMatches elements) path) (LeftMatches elements)
+    (entry_holds paths p.entry program.entry) below
+    (λ path none either_. elim either_ [ inl h ↦ none_under path Child (ParentMatches elements) none h | inr h ↦ none_under path Descendant (SomeAncestorMatches elements) none h ])
+    (λ path. (left_of elements path, λ h. elim h [ inl none ↦ none_left elements path none | inr (inl c) ↦ child_left elements path c | inr (inr d) ↦ descendant_left elements path d ]))
+
+pub places_are_within : PlacesAreWithin
+places_are_within s paths p ranges outer program held place c =
+    let x = (held.members place).0 c in
+    omega (arith, at_within paths place x.0 x.1, program.count)
+
+pub ranges_are_apart : RangesAreApart
+ranges_are_apart s paths p program j k x y step step' r r' place at at' is is' in_r in_r' =
+    let a = path_at s paths p program j x at in
+    let b = path_at s paths p program k y at' in
+    let under = ((range_there a.0 x step r (program.each j a.0 x a.1 at) is).members place).0 in_r in
+    let under' = ((range_there b.0 y step' r' (program.each k b.0 y b.1 at') is').members place).0 in_r' in
+    let both = sym under.2 ∙ (ap above (same_at paths place under.0 under'.0 under.1 under'.1) ∙ under'.2) in (
+      one_place paths (to_distinct paths program.once) j k b.0 (a.1 ∙ ap Some (same_front a.0 b.0 step step' both)) b.1,
+      same_step a.0 b.0 step step' both,
+      λ in_entry.
+          let first = (program.entry.members place).0 in_entry in
+          none_some (sym first.2 ∙ (ap above (same_at paths place first.0 under.0 first.1 under.1) ∙ under.2)),
+    )
+  where
+    none_some : {A : Type 0} {x : A} → None ≡ Some x → ⊥
+    none_some e = cc
+
+    range_there : (path : Path) (i : Instruction) (way : Combinator) (q : Range) → IsInstruction s paths path i → range_by way i ≡ Some q → HoldsPlaces paths q (Some (path, way))
+    range_there path i Child q h e = (subst (λ o. IsRangeOf paths o (Some (path, Child))) e h.jumps).0
+    range_there path i Descendant q h e = (subst (λ o. IsRangeOf paths o (Some (path, Descendant))) e h.hereditary_jumps).0

@@ -1,0 +1,584 @@
+-- A machine that stands for events, one event on.
+use Rattle.std.proofs.Common.{◌≡◌, ℕ, zero, suc, ◌+◌, ◌*◌, ◌<◌, ◌≤◌, Bool, true, false, cond, not, List, [], ◌∷◌, ◌++◌, length, map, filter, drop, take, reverse, position, Option, Some, None, ◌⊎◌, inl, inr, refl, sym, ap, ◌∙◌, subst, arith}
+use Rattle.std.specs.Prelude.{nat_lt, nat_le, max, ◌&&◌, ◌==◌, if◌then◌else◌}
+use Rattle.std.proofs.lemmas.Bool.Decides.{Decides-eqb, Decides-ltb, nat_tests}
+use Rattle.std.proofs.lemmas.List.{append-nil, length-drop, drop-map, take-map}
+use Rattle.std.proofs.lemmas.List.Elements.{filter-append}
+use Rattle.std.proofs.lemmas.Slice.Eq.{bytes_eq-Decides}
+use Rattle.std.specs.Str.{bytes_eq}
+use Rattle.lol_base.specs.Names.{same_name, lowercased}
+use Rattle.lol_base.specs.StartTags.{StartTag}
+use Rattle.lol_memory.specs.Slots.{slots, minimum_slots, doubled_to}
+use Rattle.lol_program.specs.Tests.{Element}
+use Rattle.lol_program.specs.Paths.{Path, Selectors}
+use Rattle.lol_program.proofs.Members.{count_by-cons}
+use Rattle.lol_vm.specs.Events.{Event, Start, End, has_content}
+use Rattle.lol_vm.specs.Documents.{Document, Child, empty, element_of, parent_of, same_parent, children_of, typed_children_of, place_of, inner_part, outer_part, after_start, after_end}
+use Rattle.lol_vm.specs.Answers.{document, document_from, after, is_dropped, asks}
+use Rattle.lol_vm.specs.Refusals.{longest, longest_from}
+use Rattle.lol_vm.proofs.Runs.{document_push, position-map}
+use Rattle.lol_vm.proofs.Bools.{is_false}
+use Rattle.lol_program.specs.Programs.{Range, Program, AreClosed, all_places}
+use Rattle.lol_vm.specs.Machines.{Item, AreItems, HasRanges, Matches, HoldOnce, LeftMatches, active_of, newly_active, is_active, ranges_to_run, jumps_of, hereditary_jumps_of}
+use Rattle.lol_vm.specs.PlaceRuns.{Context, context_of, run}
+use Rattle.lol_vm.specs.Standing.{Machine, AreTyped, TypedStand, AreCounted, StandsOn, StandsFor, counted_root, counted_last, counted_typed, counted, slots_after, opened, cut, closes, ended, started, machine_after, Descend, IsOrdered, DocumentsAreOrdered, SlotsGrow, NewStands, StandingIsKept, EndsKeepItems, unfinished, finished, RequestsStand, FinishingIsKept, EndsHandOut, CountersArePlaces, or_root}
+use Rattle.lol_vm.proofs.Held.{ranges_hold_left_matches}
+use Rattle.lol_vm.proofs.Gathered.{runs_give_reports}
+use Rattle.lol_vm.proofs.Stops.{requests_finish, asks_by_names}
+
+-- 1. Slots
+
+abbrev doubles : ℕ → ℕ → ℕ
+doubles n d = cond (nat_le (suc n) d) d (2 * d)
+
+enough_doubled : (n size times : ℕ) → 1 ≤ size → n ≤ size + times → n ≤ doubled_to n size times
+enough_doubled n size zero some h = omega (arith, h)
+enough_doubled n size (suc times) some h = by_test (enough_doubled n (2 * size) times (omega (arith, some)) (omega (arith, some, h)))
+  where
+    by_test : n ≤ doubled_to n (2 * size) times → n ≤ cond (nat_le n size) size (doubled_to n (2 * size) times)
+    by_test later = grind (arith, nat_tests)
+
+doubled_more : (n size times : ℕ) → 1 ≤ size → n ≤ size + times → doubled_to (suc n) size (suc times) ≡ doubles n (doubled_to n size times)
+doubled_more n size zero some h = refl
+doubled_more n size (suc times) some h = by_test (doubled_more n (2 * size) times (omega (arith, some)) (omega (arith, some, h)))
+  where
+    by_test : doubled_to (suc n) (2 * size) (suc times) ≡ doubles n (doubled_to n (2 * size) times)
+        → doubled_to (suc n) size (suc (suc times)) ≡ doubles n (cond (nat_le n size) size (doubled_to n (2 * size) times))
+    by_test later = grind (arith, nat_tests)
+
+some_minimum : (item_bytes : ℕ) → 1 ≤ minimum_slots item_bytes
+some_minimum item_bytes = omega arith
+
+slots_enough : (item_bytes n : ℕ) → n ≤ slots item_bytes n
+slots_enough item_bytes zero = omega arith
+slots_enough item_bytes (suc n) = enough_doubled (suc n) (minimum_slots item_bytes) (suc n) (some_minimum item_bytes) (omega arith)
+
+minimum_kept : (n size times : ℕ) → 1 ≤ size → size ≤ doubled_to n size times
+minimum_kept n size zero some = omega arith
+minimum_kept n size (suc times) some = by_test (minimum_kept n (2 * size) times (omega (arith, some)))
+  where
+    by_test : 2 * size ≤ doubled_to n (2 * size) times → size ≤ cond (nat_le n size) size (doubled_to n (2 * size) times)
+    by_test later = grind (arith, nat_tests)
+
+grown : (item_bytes most : ℕ) → slots_after item_bytes (slots item_bytes most) most ≡ slots item_bytes (most + 1)
+grown item_bytes zero = first (minimum_slots item_bytes) (some_minimum item_bytes)
+  where
+    first : (m : ℕ) → 1 ≤ m → cond (nat_lt 0 0) 0 (0 + max 0 m) ≡ cond (nat_le 1 m) m (2 * m)
+    first m some = grind (arith, nat_tests)
+grown item_bytes (suc n) =
+    let d = doubled_to (suc n) (minimum_slots item_bytes) (suc n) in
+    let m = minimum_slots item_bytes in
+    let sizes : suc (suc n) ≡ suc n + 1 = omega arith in
+    by_size d m (enough_doubled (suc n) m (suc n) (some_minimum item_bytes) (omega arith)) (minimum_kept (suc n) m (suc n) (some_minimum item_bytes))
+    ∙ (sym (doubled_more (suc n) m (suc n) (some_minimum item_bytes) (omega arith)) ∙ ap (slots item_bytes) sizes)
+  where
+    by_size : (d m : ℕ) → suc n ≤ d → m ≤ d → cond (nat_lt (suc n) d) d (d + max d m) ≡ doubles (suc n) d
+    by_size d m enough least = grind (arith, nat_tests)
+
+pub slots_grow : SlotsGrow
+slots_grow item_bytes items most within = by_cases (split items most within)
+  where
+    split : (a b : ℕ) → a ≤ b → (a ≡ b) ⊎ (a < b)
+    split a b h = grind arith
+
+    kept : (a b : ℕ) → a < b → (s m : ℕ) → b ≤ s → cond (nat_lt a s) s (s + m) ≡ s
+    kept a b below s m enough = grind (arith, nat_tests)
+
+    by_cases : (items ≡ most) ⊎ (items < most) → slots_after item_bytes (slots item_bytes most) items ≡ slots item_bytes (max most (items + 1))
+    by_cases (inl is) = let sizes : most + 1 ≡ max most (items + 1) = omega (arith, is) in ap (slots_after item_bytes (slots item_bytes most)) is ∙ (grown item_bytes most ∙ ap (slots item_bytes) sizes)
+    by_cases (inr below) =
+        let sizes : most ≡ max most (items + 1) = omega (arith, below) in
+        kept items most below (slots item_bytes most) (max (slots item_bytes most) (minimum_slots item_bytes)) (slots_enough item_bytes most) ∙ ap (slots item_bytes) sizes
+
+-- 2. Numbers and parents
+
+same_number : (n : ℕ) → (n == n) ≡ true
+same_number n = (Decides-eqb n n).1 refl
+
+numbers_differ : (m n : ℕ) → (m ≡ n → ⊥) → (m == n) ≡ false
+numbers_differ m n h = is_false (m == n) (λ e. h ((Decides-eqb m n).0 e))
+
+abbrev kid : List Element → List ℕ → Child
+kid outer name = record { parent = parent_of outer; name = name }
+
+children-cons : (parent : Option ℕ) (c : Child) (cs : List Child) → children_of parent (c ∷ cs) ≡ cond (same_parent parent c.parent) 1 0 + children_of parent cs
+children-cons parent c cs = count_by-cons (λ (c : Child). same_parent parent c.parent) c cs
+
+typed-cons : (parent : Option ℕ) (name : List ℕ) (c : Child) (cs : List Child) → typed_children_of parent name (c ∷ cs) ≡ cond (same_parent parent c.parent && same_name name c.name) 1 0 + typed_children_of parent name cs
+typed-cons parent name c cs = count_by-cons (λ (c : Child). same_parent parent c.parent && same_name name c.name) c cs
+
+not_parent : (bound n : ℕ) (outer : List Element) → Descend bound outer → bound ≤ n → same_parent (Some n) (parent_of outer) ≡ false
+not_parent bound n [] h above = refl
+not_parent bound n (e ∷ outer) h above = numbers_differ n e.number (λ is. omega (arith, h.0, above, is))
+
+-- who isn't the parent has as many children as before
+other_children : (parent : Option ℕ) (outer : List Element) (name : List ℕ) (cs : List Child) → same_parent parent (parent_of outer) ≡ false → children_of parent (kid outer name ∷ cs) ≡ children_of parent cs
+other_children parent outer name cs h =
+    let e : children_of parent (kid outer name ∷ cs) ≡ cond (same_parent parent (parent_of outer)) 1 0 + children_of parent cs = children-cons parent (kid outer name) cs in
+    e ∙ (ap (λ b. cond b 1 0 + children_of parent cs) h ∙ omega arith)
+
+other_typed : (parent : Option ℕ) (outer : List Element) (name n : List ℕ) (cs : List Child) → same_parent parent (parent_of outer) ≡ false → typed_children_of parent n (kid outer name ∷ cs) ≡ typed_children_of parent n cs
+other_typed parent outer name n cs h =
+    typed-cons parent n (kid outer name) cs ∙ (ap (λ b. cond (b && same_name n name) 1 0 + typed_children_of parent n cs) h ∙ omega arith)
+
+own_children : (parent : Option ℕ) (outer : List Element) (name : List ℕ) (cs : List Child) → same_parent parent (parent_of outer) ≡ true → children_of parent (kid outer name ∷ cs) ≡ children_of parent cs + 1
+own_children parent outer name cs h =
+    children-cons parent (kid outer name) cs ∙ (ap (λ b. cond b 1 0 + children_of parent cs) h ∙ omega arith)
+
+own_typed : (parent : Option ℕ) (outer : List Element) (name n : List ℕ) (cs : List Child) → same_parent parent (parent_of outer) ≡ true → typed_children_of parent n (kid outer name ∷ cs) ≡ cond (same_name n name) (typed_children_of parent n cs + 1) (typed_children_of parent n cs)
+own_typed parent outer name n cs h =
+    typed-cons parent n (kid outer name) cs ∙ (ap (λ b. cond (b && same_name n name) 1 0 + typed_children_of parent n cs) h ∙ by_test (same_name n name) (typed_children_of parent n cs))
+  where
+    by_test : (b : Bool) (k : ℕ) → cond b 1 0 + k ≡ cond b (k + 1) k
+    by_test true k = omega arith
+    by_test false k = omega arith
+
+-- 3. Documents
+
+descend_lower : (a b : ℕ) (outer : List Element) → a ≤ b → Descend a outer → Descend b outer
+descend_lower a b [] h d = tt
+descend_lower a b (e ∷ outer) h d = (omega (arith, h, d.0), d.1)
+
+descend_drop : (n bound : ℕ) (outer : List Element) → Descend bound outer → Descend bound (drop n outer)
+descend_drop zero bound outer d = d
+descend_drop (suc n) bound [] d = tt
+descend_drop (suc n) bound (e ∷ outer) d = let below = d.0 in descend_drop n bound outer (descend_lower e.number bound outer (omega (arith, below)) d.1)
+
+pub outer_is : (o : Option ℕ) (xs : List Element) → outer_part o xs ≡ drop (closes o) xs
+outer_is None xs = refl
+outer_is (Some k) xs = refl
+
+ordered_start : (d : Document) (most : ℕ) (tag : StartTag) (opens : Bool) → IsOrdered d most → IsOrdered (after_start d tag opens) (length (after_start d tag opens).open_elements)
+ordered_start d most tag opens h = record {
+  numbers = numbers opens;
+  fresh = λ n above. (
+    other_children (Some n) d.open_elements tag.name d.children (not_parent d.events n d.open_elements h.numbers (omega (arith, above))) ∙ (h.fresh n (omega (arith, above))).0,
+    λ name. other_typed (Some n) d.open_elements tag.name name d.children (not_parent d.events n d.open_elements h.numbers (omega (arith, above))) ∙ (h.fresh n (omega (arith, above))).1 name,
+  );
+  enough = omega arith;
+}
+  where
+    numbers : (b : Bool) → Descend (d.events + 1) (cond b (element_of d tag ∷ d.open_elements) d.open_elements)
+    numbers true = (omega arith, h.numbers)
+    numbers false = descend_lower d.events (d.events + 1) d.open_elements (omega arith) h.numbers
+
+ordered_end : (d : Document) (most : ℕ) (name : List ℕ) → IsOrdered d most → IsOrdered (after_end d name) (length (after_end d name).open_elements)
+ordered_end d most name h =
+    let place = place_of name d.open_elements in
+    record {
+      numbers = descend_lower d.events (d.events + 1) (outer_part place d.open_elements) (omega arith)
+          (subst (Descend d.events) (sym (outer_is place d.open_elements)) (descend_drop (closes place) d.events d.open_elements h.numbers));
+      fresh = λ n above. h.fresh n (omega (arith, above));
+      enough = omega arith;
+    }
+
+module _ (s : Selectors) (esi : Bool) where
+  ordered_after : (d : Document) (most : ℕ) (event : Event) → IsOrdered d most → IsOrdered (after s esi d event) (length (after s esi d event).open_elements)
+  ordered_after d most (Start tag) h = ordered_start d most tag (has_content esi tag && not (is_dropped s (element_of d tag) d.open_elements)) h
+  ordered_after d most (End name) h = ordered_end d most name h
+
+  ordered_from : (d : Document) (events : List Event) → IsOrdered d (length d.open_elements) → IsOrdered (document_from s esi d events) (longest_from s esi d events)
+  ordered_from d [] h = h
+  ordered_from d (event ∷ events) h =
+      let later = ordered_from (after s esi d event) events (ordered_after d (length d.open_elements) event h) in
+      let enough = later.enough in
+      record { numbers = later.numbers; fresh = later.fresh; enough = omega (arith, enough) }
+
+  longest_push : (d : Document) (events : List Event) (event : Event) → longest_from s esi d (events ++ event ∷ []) ≡ max (longest_from s esi d events) (length (after s esi (document_from s esi d events) event).open_elements)
+  longest_push d [] event = refl
+  longest_push d (e ∷ events) event =
+      ap (max (length d.open_elements)) (longest_push (after s esi d e) events event) ∙ omega arith
+
+pub documents_are_ordered : DocumentsAreOrdered
+documents_are_ordered s esi events = ordered_from s esi empty events (record { numbers = tt; fresh = λ n above. (refl, λ name. refl); enough = omega arith })
+
+-- 4. Items
+
+module _ (paths : List Path) (p : Program) where
+  items_length : (items : List Item) (elements : List Element) → AreItems paths p items elements → length items ≡ length elements
+  items_length [] [] h = refl
+  items_length [] (e ∷ outer) h = absurd h
+  items_length (item ∷ items) [] h = absurd h
+  items_length (item ∷ items) (e ∷ outer) h = ap suc (items_length items outer h.1)
+
+  items_drop : (n : ℕ) (items : List Item) (elements : List Element) → AreItems paths p items elements → AreItems paths p (drop n items) (drop n elements)
+  items_drop zero items elements h = h
+  items_drop (suc n) [] [] h = tt
+  items_drop (suc n) [] (e ∷ outer) h = absurd h
+  items_drop (suc n) (item ∷ items) [] h = absurd h
+  items_drop (suc n) (item ∷ items) (e ∷ outer) h = items_drop n items outer h.1
+
+  same_names : (items : List Item) (elements : List Element) → AreItems paths p items elements → map (λ (item : Item). lowercased item.name) items ≡ map (λ (e : Element). lowercased e.tag.name) elements
+  same_names [] [] h = refl
+  same_names [] (e ∷ outer) h = absurd h
+  same_names (item ∷ items) [] h = absurd h
+  same_names (item ∷ items) (e ∷ outer) h = λ i. (bytes_eq-Decides (lowercased item.name) (lowercased e.tag.name)).0 h.0.name i ∷ same_names items outer h.1 i
+
+  same_place : (name : List ℕ) (items : List Item) (elements : List Element) → AreItems paths p items elements → position (λ (item : Item). same_name item.name name) items ≡ place_of name elements
+  same_place name items elements h =
+      sym (position-map (λ n. bytes_eq n (lowercased name)) (λ (item : Item). lowercased item.name) items)
+      ∙ (ap (position (λ n. bytes_eq n (lowercased name))) (same_names items elements h)
+      ∙ position-map (λ n. bytes_eq n (lowercased name)) (λ (e : Element). lowercased e.tag.name) elements)
+
+pub ends_keep_items : EndsKeepItems
+ends_keep_items paths m d name h =
+    let place = position (λ (item : Item). same_name item.name name) m.items in
+    subst (AreItems paths m.program (drop (closes place) m.items))
+    (ap (λ o. drop (closes o) d.open_elements) (same_place paths m.program name m.items d.open_elements h) ∙ sym (outer_is (place_of name d.open_elements) d.open_elements))
+    (items_drop paths m.program (closes place) m.items d.open_elements h)
+
+-- 5. Active ranges of fewer items
+
+abbrev kept_active : ℕ → List (Range × ℕ) → List (Range × ℕ)
+kept_active n active = filter (λ (a : Range × ℕ). nat_lt a.1 n) active
+
+place_below : (n place : ℕ) → n ≤ place → nat_lt place n ≡ false
+place_below n place h = is_false (nat_lt place n) (λ e. let below = (Decides-ltb place n).0 e in omega (arith, h, below))
+
+below_kept : (n place : ℕ) → place < n → nat_lt place n ≡ true
+below_kept n place h = (Decides-ltb place n).1 h
+
+none_kept : (n place : ℕ) (ranges : List Range) → n ≤ place → kept_active n (map (λ (r : Range). (r, place)) ranges) ≡ []
+none_kept n place [] h = refl
+none_kept n place (r ∷ ranges) h = λ i. cond (place_below n place h i) ((r, place) ∷ kept_active n (map (λ (r : Range). (r, place)) ranges)) (none_kept n place ranges h i)
+
+all_kept : (n place : ℕ) (ranges : List Range) → place < n → kept_active n (map (λ (r : Range). (r, place)) ranges) ≡ map (λ (r : Range). (r, place)) ranges
+all_kept n place [] h = refl
+all_kept n place (r ∷ ranges) h = λ i. cond (below_kept n place h i) ((r, place) ∷ all_kept n place ranges h i) (kept_active n (map (λ (r : Range). (r, place)) ranges))
+
+whole_kept : (n : ℕ) (items : List Item) → length items ≤ n → kept_active n (active_of items) ≡ active_of items
+whole_kept n [] h = refl
+whole_kept n (item ∷ items) h =
+    filter-append (λ (a : Range × ℕ). nat_lt a.1 n) (active_of items) (newly_active (active_of items) (length items) item.hereditary_jumps)
+    ∙ (λ i. whole_kept n items (omega (arith, h)) i ++ all_kept n (length items) (filter (λ r. not (is_active (active_of items) r)) item.hereditary_jumps) (omega (arith, h)) i)
+
+drop_shorter : {A : Type 0} (n : ℕ) (xs : List A) → length (drop n xs) ≤ length xs
+drop_shorter n xs = omega (arith, length-drop n xs)
+
+pub active_drop : (n : ℕ) (items : List Item) → kept_active (length (drop n items)) (active_of items) ≡ active_of (drop n items)
+active_drop zero items = whole_kept (length items) items (omega arith)
+active_drop (suc n) [] = refl
+active_drop (suc n) (item ∷ items) =
+    let m = length (drop n items) in
+    filter-append (λ (a : Range × ℕ). nat_lt a.1 m) (active_of items) (newly_active (active_of items) (length items) item.hereditary_jumps)
+    ∙ ((λ i. active_drop n items i ++ none_kept m (length items) (filter (λ r. not (is_active (active_of items) r)) item.hereditary_jumps) (drop_shorter n items) i)
+    ∙ append-nil (active_of (drop n items)))
+
+-- 6. Counters
+
+abbrev counts : List Child → List Element → List ℕ
+counts cs outer = map (λ (e : Element). children_of (Some e.number) cs) outer
+
+-- elements further out than the parent have as many children as before
+outer_counts : (e : Element) (around : List Element) (name : List ℕ) (cs : List Child) (outer : List Element) → Descend e.number outer → counts (kid (e ∷ around) name ∷ cs) outer ≡ counts cs outer
+outer_counts e around name cs [] d = refl
+outer_counts e around name cs (x ∷ outer) d =
+    let below = d.0 in
+    λ i. other_children (Some x.number) (e ∷ around) name cs (numbers_differ x.number e.number (λ is. omega (arith, below, is))) i
+    ∷ outer_counts e around name cs outer (descend_lower x.number e.number outer (omega (arith, below)) d.1) i
+
+module _ (name : List ℕ) (cs : List Child) where
+  root_counted : (outer : List Element) → counted_root (counts cs outer) (children_of None cs) ≡ children_of None (kid outer name ∷ cs)
+  root_counted [] = sym (own_children None [] name cs refl)
+  root_counted (e ∷ outer) = sym (other_children None (e ∷ outer) name cs refl)
+
+  last_counted : (bound : ℕ) (outer : List Element) → Descend bound outer → counted_last (counts cs outer) ≡ counts (kid outer name ∷ cs) outer
+  last_counted bound [] d = refl
+  last_counted bound (e ∷ outer) d =
+      λ i. sym (own_children (Some e.number) (e ∷ outer) name cs (same_number e.number)) i ∷ sym (outer_counts e outer name cs outer d.1) i
+
+  module _ (typed : ℕ → List ℕ → ℕ) where
+    other_level : (level l : ℕ) (n : List ℕ) → (l ≡ level → ⊥) → counted_typed typed level name l n ≡ typed l n
+    other_level level l n differ = λ i. cond (numbers_differ l level differ i && same_name n name) (typed l n + 1) (typed l n)
+
+    own_level : (level : ℕ) (n : List ℕ) → counted_typed typed level name level n ≡ cond (same_name n name) (typed level n + 1) (typed level n)
+    own_level level n = λ i. cond (same_number level i && same_name n name) (typed level n + 1) (typed level n)
+
+    typed_outer : (level : ℕ) (e : Element) (around : List Element) (outer : List Element) → length outer < level → Descend e.number outer → AreTyped typed cs outer → AreTyped (counted_typed typed level name) (kid (e ∷ around) name ∷ cs) outer
+    typed_outer level e around [] short d h = λ n. other_level level 0 n (λ is. omega (arith, short, is)) ∙ (h n ∙ sym (other_typed None (e ∷ around) name n cs refl))
+    typed_outer level e around (x ∷ outer) short d h =
+        let below = d.0 in (
+          λ n. other_level level (suc (length outer)) n (λ is. omega (arith, short, is)) ∙ (h.0 n ∙ sym (other_typed (Some x.number) (e ∷ around) name n cs (numbers_differ x.number e.number (λ is. omega (arith, below, is))))),
+          typed_outer level e around outer (omega (arith, short)) (descend_lower x.number e.number outer (omega (arith, below)) d.1) h.1,
+        )
+
+    typed_counted : (bound : ℕ) (outer : List Element) → Descend bound outer → AreTyped typed cs outer → AreTyped (counted_typed typed (length outer) name) (kid outer name ∷ cs) outer
+    typed_counted bound [] d h = λ n. own_level 0 n ∙ (ap (λ k. cond (same_name n name) (k + 1) k) (h n) ∙ sym (own_typed None [] name n cs refl))
+    typed_counted bound (e ∷ outer) d h = (
+      λ n. own_level (suc (length outer)) n ∙ (ap (λ k. cond (same_name n name) (k + 1) k) (h.0 n) ∙ sym (own_typed (Some e.number) (e ∷ outer) name n cs (same_number e.number))),
+      typed_outer (suc (length outer)) e outer outer (omega arith) d.1 h.1,
+    )
+
+typed_drop : (typed : ℕ → List ℕ → ℕ) (cs : List Child) (n : ℕ) (outer : List Element) → AreTyped typed cs outer → AreTyped typed cs (drop n outer)
+typed_drop typed cs zero outer h = h
+typed_drop typed cs (suc n) [] h = h
+typed_drop typed cs (suc n) (e ∷ outer) h = typed_drop typed cs n outer h.1
+
+typed_same : (typed typed' : ℕ → List ℕ → ℕ) (cs : List Child) (outer : List Element) → ((l : ℕ) (n : List ℕ) → l ≤ length outer → typed' l n ≡ typed l n) → AreTyped typed cs outer → AreTyped typed' cs outer
+typed_same typed typed' cs [] same h = λ n. same 0 n (omega arith) ∙ h n
+typed_same typed typed' cs (e ∷ outer) same h = (λ n. same (suc (length outer)) n (omega arith) ∙ h.0 n, typed_same typed typed' cs outer (λ l n within. same l n (omega (arith, within))) h.1)
+
+-- 7. One event
+
+-- A machine that has counted an element opens it.
+module _ (s : Selectors) (esi : Bool) (paths : List Path) (d : Document) (longest_so_far : ℕ) (ordered : IsOrdered d longest_so_far) where
+  opened_on : (m : Machine) (most : ℕ) → length d.open_elements ≤ most → (tag : StartTag) → StandsOn s esi paths m (after_start d tag false) most → (context : Context)
+      → HasRanges jumps_of paths m.program (Matches (element_of d tag) d.open_elements) context.jumps
+      → HasRanges hereditary_jumps_of paths m.program (Matches (element_of d tag) d.open_elements) context.hereditary_jumps
+      → StandsOn s esi paths (opened m tag.name context) (after_start d tag true) (max most (length (element_of d tag ∷ d.open_elements)))
+  opened_on m most enough tag stands context jumps hereditary = record {
+    program = stands.program;
+    items = (record { name = (bytes_eq-Decides (lowercased tag.name) (lowercased tag.name)).1 refl; jumps = jumps; hereditary_jumps = hereditary }, stands.items);
+    counted = record {
+      root = stands.counted.root;
+      children = λ i. sym no_children i ∷ stands.counted.children i;
+      typed = λ by_type. typed_stand (stands.counted.typed by_type);
+    };
+    active = λ i. stands.active i ++ newly_active (stands.active i) (length m.items) context.hereditary_jumps;
+    charged = (λ i. slots_after m.item_bytes (stands.charged i) (items_length paths m.program m.items d.open_elements stands.items i)) ∙ (slots_grow m.item_bytes (length d.open_elements) most enough ∙ ap (slots m.item_bytes) sizes);
+    switch = stands.switch;
+    never_refused = stands.never_refused;
+  }
+    where
+      fresh_parent : same_parent (Some d.events) (parent_of d.open_elements) ≡ false
+      fresh_parent = not_parent d.events d.events d.open_elements ordered.numbers (omega arith)
+
+      no_children : children_of (Some d.events) (kid d.open_elements tag.name ∷ d.children) ≡ 0
+      no_children = other_children (Some d.events) d.open_elements tag.name d.children fresh_parent ∙ (ordered.fresh d.events (omega arith)).0
+
+      sizes : max most (length d.open_elements + 1) ≡ max most (suc (length d.open_elements))
+      sizes = omega arith
+
+      typed_stand : TypedStand m.typed (after_start d tag false) → TypedStand m.typed (after_start d tag true)
+      typed_stand h = record {
+        levels = (
+          λ n. h.above (suc (length d.open_elements)) n (omega arith)
+              ∙ sym (other_typed (Some d.events) d.open_elements tag.name n d.children fresh_parent ∙ (ordered.fresh d.events (omega arith)).1 n),
+          h.levels,
+        );
+        above = λ l n high. h.above l n (omega (arith, high));
+      }
+
+module _ (s : Selectors) (esi : Bool) (paths : List Path) (m : Machine) (d : Document) (most : ℕ) (ordered : IsOrdered d most) (stands : StandsOn s esi paths m d most) where
+  as_many : length m.items ≡ length d.open_elements
+  as_many = items_length paths m.program m.items d.open_elements stands.items
+
+  counted_stand : (tag : StartTag) → AreCounted (counted m tag.name) (after_start d tag false)
+  counted_stand tag = record {
+    root = (λ i. counted_root (stands.counted.children i) (stands.counted.root i)) ∙ root_counted tag.name d.children d.open_elements;
+    children = ap counted_last stands.counted.children ∙ last_counted tag.name d.children d.events d.open_elements ordered.numbers;
+    typed = λ by_type. subst (λ level. TypedStand (counted_typed m.typed level tag.name) (after_start d tag false)) (sym as_many) (typed_stand (stands.counted.typed by_type));
+  }
+    where
+      typed_stand : TypedStand m.typed d → TypedStand (counted_typed m.typed (length d.open_elements) tag.name) (after_start d tag false)
+      typed_stand h = record {
+        levels = typed_counted tag.name d.children m.typed d.events d.open_elements ordered.numbers h.levels;
+        above = λ l n high. other_level tag.name d.children m.typed (length d.open_elements) l n (λ is. omega (arith, high, is)) ∙ h.above l n high;
+      }
+
+  same_slots : (n : ℕ) → n ≤ length d.open_elements → m.slots ≡ slots m.item_bytes (max most n)
+  same_slots n h = let within = ordered.enough in let sizes : most ≡ max most n = omega (arith, h, within) in stands.charged ∙ ap (slots m.item_bytes) sizes
+
+  counted_stands : (tag : StartTag) → StandsOn s esi paths (counted m tag.name) (after_start d tag false) (max most (length d.open_elements))
+  counted_stands tag = record {
+    program = stands.program;
+    items = stands.items;
+    counted = counted_stand tag;
+    active = stands.active;
+    charged = same_slots (length d.open_elements) (omega arith);
+    switch = stands.switch;
+    never_refused = stands.never_refused;
+  }
+
+  opened_stands : (tag : StartTag) (context : Context)
+      → HasRanges jumps_of paths m.program (Matches (element_of d tag) d.open_elements) context.jumps
+      → HasRanges hereditary_jumps_of paths m.program (Matches (element_of d tag) d.open_elements) context.hereditary_jumps
+      → StandsOn s esi paths (opened (counted m tag.name) tag.name context) (after_start d tag true) (max (max most (length d.open_elements)) (length (element_of d tag ∷ d.open_elements)))
+  opened_stands tag context jumps hereditary =
+      opened_on s esi paths d most ordered (counted m tag.name) (max most (length d.open_elements)) (omega arith) tag (counted_stands tag) context jumps hereditary
+
+  cut_stands : (n : ℕ) → StandsOn s esi paths (cut n m) (record { events = d.events + 1; children = d.children; open_elements = drop n d.open_elements }) (max most (length (drop n d.open_elements)))
+  cut_stands n = record {
+    program = stands.program;
+    items = items_drop paths m.program n m.items d.open_elements stands.items;
+    counted = record {
+      root = stands.counted.root;
+      children = ap (drop n) stands.counted.children ∙ drop-map (λ (e : Element). children_of (Some e.number) d.children) n d.open_elements;
+      typed = λ by_type. subst (λ level. TypedStand (cut_typed level) (record { events = d.events + 1; children = d.children; open_elements = drop n d.open_elements })) (sym fewer) (typed_stand (stands.counted.typed by_type));
+    };
+    active = ap (kept_active (length (drop n m.items))) stands.active ∙ active_drop n m.items;
+    charged = same_slots (length (drop n d.open_elements)) (drop_shorter n d.open_elements);
+    switch = stands.switch;
+    never_refused = stands.never_refused;
+  }
+    where
+      fewer : length (drop n m.items) ≡ length (drop n d.open_elements)
+      fewer = items_length paths m.program (drop n m.items) (drop n d.open_elements) (items_drop paths m.program n m.items d.open_elements stands.items)
+
+      cut_typed : ℕ → ℕ → List ℕ → ℕ
+      cut_typed highest level name = if nat_le level highest then m.typed level name else 0
+
+      at_most : (l highest : ℕ) (k : ℕ) → l ≤ highest → cond (nat_le l highest) k 0 ≡ k
+      at_most l highest k h = grind (arith, nat_tests)
+
+      too_high : (l highest : ℕ) (k : ℕ) → highest < l → cond (nat_le l highest) k 0 ≡ 0
+      too_high l highest k h = grind (arith, nat_tests)
+
+      typed_stand : TypedStand m.typed d → TypedStand (cut_typed (length (drop n d.open_elements))) (record { events = d.events + 1; children = d.children; open_elements = drop n d.open_elements })
+      typed_stand h = record {
+        levels = typed_same m.typed (cut_typed (length (drop n d.open_elements))) d.children (drop n d.open_elements) (λ l name within. at_most l (length (drop n d.open_elements)) (m.typed l name) within)
+            (typed_drop m.typed d.children n d.open_elements h.levels);
+        above = λ l name high. too_high l (length (drop n d.open_elements)) (m.typed l name) high;
+      }
+
+  ended_stands : (name : List ℕ) → StandsOn s esi paths (ended m name) (after_end d name) (max most (length (after_end d name).open_elements))
+  ended_stands name =
+      let place = position (λ (item : Item). same_name item.name name) m.items in
+      let rest : drop (closes place) d.open_elements ≡ outer_part (place_of name d.open_elements) d.open_elements =
+      ap (λ o. drop (closes o) d.open_elements) (same_place paths m.program name m.items d.open_elements stands.items) ∙ sym (outer_is (place_of name d.open_elements) d.open_elements) in
+      subst (λ xs. StandsOn s esi paths (ended m name) (record { events = d.events + 1; children = d.children; open_elements = xs }) (max most (length xs))) rest (cut_stands (closes place))
+
+  started_stands : AreClosed s → (tag : StartTag) (opens : Bool) → StandsOn s esi paths (started m opens (element_of d tag)) (after_start d tag opens) (max most (length (after_start d tag opens).open_elements))
+  started_stands closed tag false = counted_stands tag
+  started_stands closed tag true =
+      let held = subst (λ active. HoldOnce paths (ranges_to_run m.program m.items active) (LeftMatches d.open_elements)) (sym stands.active)
+      (ranges_hold_left_matches s paths m.program m.items d.open_elements closed stands.program stands.items) in
+      let report = runs_give_reports s paths m.program (ranges_to_run m.program m.items m.active) (element_of d tag) d.open_elements closed stands.program held in
+      let sizes : max (max most (length d.open_elements)) (suc (length d.open_elements)) ≡ max most (suc (length d.open_elements)) = omega arith in
+      subst (StandsOn s esi paths (opened (counted m tag.name) tag.name (context_of m.program true (element_of d tag) (all_places (ranges_to_run m.program m.items m.active)))) (after_start d tag true)) sizes
+      (opened_stands tag (context_of m.program true (element_of d tag) (all_places (ranges_to_run m.program m.items m.active))) report.jumps report.hereditary_jumps)
+
+  one_more : AreClosed s → (event : Event) → StandsOn s esi paths (machine_after s m d event) (after s esi d event) (max most (length (after s esi d event).open_elements))
+  one_more closed (End name) = ended_stands name
+  one_more closed (Start tag) =
+      let opens : Bool → Bool = λ switch. has_content switch tag && not (is_dropped s (element_of d tag) d.open_elements) in
+      subst (λ switch. StandsOn s esi paths (started m (opens switch) (element_of d tag)) (after_start d tag (opens esi)) (max most (length (after_start d tag (opens esi)).open_elements))) (sym stands.switch)
+      (started_stands closed tag (opens esi))
+
+pub new_stands : NewStands
+new_stands s esi paths p item_bytes program = record {
+  program = program;
+  items = tt;
+  counted = record { root = refl; children = refl; typed = λ by_type. record { levels = λ name. refl; above = λ level name high. refl } };
+  active = refl;
+  charged = refl;
+  switch = refl;
+  never_refused = refl;
+}
+
+pub standing_is_kept : StandingIsKept
+standing_is_kept s esi paths m events event closed stands =
+    let d = document s esi events in
+    let m' = machine_after s m d event in
+    subst (StandsOn s esi paths m' (document s esi (events ++ event ∷ []))) (sym (longest_push s esi empty events event))
+    (subst (λ d'. StandsOn s esi paths m' d' (max (longest s esi events) (length (after s esi d event).open_elements))) (sym (document_push s esi empty events event))
+    (one_more s esi paths m d (longest s esi events) (documents_are_ordered s esi events) stands closed event))
+
+-- 8. Counters as places
+
+position_counted : (name : List ℕ) (cs : List Child) (outer : List Element) → or_root (counted_last (counts cs outer)) (counted_root (counts cs outer) (children_of None cs)) ≡ children_of (parent_of outer) cs + 1
+position_counted name cs [] = refl
+position_counted name cs (e ∷ outer) = refl
+
+typed_here : (typed : ℕ → List ℕ → ℕ) (cs : List Child) (outer : List Element) (name : List ℕ) → AreTyped typed cs outer → typed (length outer) name ≡ typed_children_of (parent_of outer) name cs
+typed_here typed cs [] name h = h name
+typed_here typed cs (e ∷ outer) name h = h.0 name
+
+pub counters_are_places : CountersArePlaces
+counters_are_places m d tag are as_many = (
+  (λ i. or_root (counted_last (are.children i)) (counted_root (are.children i) (are.root i))) ∙ position_counted tag.name d.children d.open_elements,
+  λ by_type.
+      own_level tag.name d.children m.typed (length m.items) tag.name
+      ∙ ((λ i. cond ((bytes_eq-Decides (lowercased tag.name) (lowercased tag.name)).1 refl i) (m.typed (as_many i) tag.name + 1) (m.typed (as_many i) tag.name))
+      ∙ ap (λ n. n + 1) (typed_here m.typed d.children d.open_elements tag.name (are.typed by_type).levels)),
+)
+
+-- 9. Requests
+
+module _ (s : Selectors) (esi : Bool) (events : List Event) (tag : StartTag) where
+  abbrev before : Document
+  before = document s esi events
+
+  abbrev asked_for : Type 0
+  asked_for = asks s (element_of before tag) before.open_elements ≡ true
+
+  and_not : (a b : Bool) → a ≡ true → (b && not (a && true)) ≡ false
+  and_not a b h = ap (λ c. b && not (c && true)) h ∙ and_false b
+    where
+      and_false : (b : Bool) → (b && false) ≡ false
+      and_false true = refl
+      and_false false = refl
+
+  and_asked : (a b finish : Bool) → finish ≡ true → (b && not (a && not finish)) ≡ b
+  and_asked a b finish h = ap (λ f. b && not (a && not f)) h ∙ not_dropped a b
+    where
+      not_dropped : (a b : Bool) → (b && not (a && false)) ≡ b
+      not_dropped true true = refl
+      not_dropped true false = refl
+      not_dropped false true = refl
+      not_dropped false false = refl
+
+  -- the document after the event as dropped
+  after_unfinished : asked_for → document s esi (events ++ Start (unfinished tag) ∷ []) ≡ after_start before tag false
+  after_unfinished h = document_push s esi empty events (Start (unfinished tag)) ∙ ap (after_start before (unfinished tag)) (and_not (asks s (element_of before (unfinished tag)) before.open_elements) (has_content esi (unfinished tag)) (asks_by_names (element_of before tag) tag.attributes tag.self_closing false before.open_elements s ∙ h))
+
+  after_finished : tag.finish ≡ true → document s esi (events ++ Start tag ∷ []) ≡ after_start before tag (has_content esi tag)
+  after_finished h = document_push s esi empty events (Start tag) ∙ ap (after_start before tag) (and_asked (asks s (element_of before tag) before.open_elements) (has_content esi tag) tag.finish h)
+
+  longest_after : (event : Event) → longest s esi (events ++ event ∷ []) ≡ max (longest s esi events) (length (document s esi (events ++ event ∷ [])).open_elements)
+  longest_after event = longest_push s esi empty events event ∙ ap (λ (d : Document). max (longest s esi events) (length d.open_elements)) (sym (document_push s esi empty events event))
+
+  longest_as : (event : Event) (d : Document) → document s esi (events ++ event ∷ []) ≡ d → longest s esi (events ++ event ∷ []) ≡ max (longest s esi events) (length d.open_elements)
+  longest_as event d is = longest_after event ∙ ap (λ (d : Document). max (longest s esi events) (length d.open_elements)) is
+
+  -- standing for one event more is standing on its document
+  for_on : (paths : List Path) (m : Machine) (event : Event) (d : Document) → document s esi (events ++ event ∷ []) ≡ d → StandsOn s esi paths m d (max (longest s esi events) (length d.open_elements)) → StandsFor s esi paths m (events ++ event ∷ [])
+  for_on paths m event d is h =
+      subst (StandsOn s esi paths m (document s esi (events ++ event ∷ []))) (sym (longest_as event d is))
+      (subst (λ d'. StandsOn s esi paths m d' (max (longest s esi events) (length d.open_elements))) (sym is) h)
+
+  on_for : (paths : List Path) (m : Machine) (event : Event) (d : Document) → document s esi (events ++ event ∷ []) ≡ d → StandsFor s esi paths m (events ++ event ∷ []) → StandsOn s esi paths m d (max (longest s esi events) (length d.open_elements))
+  on_for paths m event d is h =
+      subst (λ d'. StandsOn s esi paths m d' (max (longest s esi events) (length d.open_elements))) is
+      (subst (StandsOn s esi paths m (document s esi (events ++ event ∷ []))) (longest_as event d is) h)
+
+pub requests_stand : RequestsStand
+requests_stand s esi paths m events tag stands h =
+    for_on s esi events tag paths (counted m tag.name) (Start (unfinished tag)) (after_start (document s esi events) tag false) (after_unfinished s esi events tag h)
+    (counted_stands s esi paths m (document s esi events) (longest s esi events) (documents_are_ordered s esi events) stands tag)
+
+pub finishing_is_kept : FinishingIsKept
+finishing_is_kept s esi paths m events tag context left closed finish h stands request =
+    let d = document s esi events in
+    let e = element_of d tag in
+    let ordered = documents_are_ordered s esi events in
+    let here = on_for s esi events tag paths m (Start (unfinished tag)) (after_start d tag false) (after_unfinished s esi events tag h) stands in
+    let held = subst (λ active. HoldOnce paths (ranges_to_run m.program m.items active) (LeftMatches d.open_elements)) (sym here.active)
+    (ranges_hold_left_matches s paths m.program m.items d.open_elements closed here.program here.items) in
+    let report = runs_give_reports s paths m.program (ranges_to_run m.program m.items m.active) e d.open_elements closed here.program held in
+    let whole : run m.program true e context left ≡ context_of m.program true e (all_places (ranges_to_run m.program m.items m.active)) =
+    requests_finish m.program true e (ranges_to_run m.program m.items m.active) context left request tag.attributes tag.self_closing tag.finish in
+    let enough = ordered.enough in
+    for_on s esi events tag paths (finished m (has_content esi tag) tag.name (run m.program true e context left)) (Start tag) (after_start d tag (has_content esi tag)) (after_finished s esi events tag finish)
+    (subst (λ c. StandsOn s esi paths (finished m (has_content esi tag) tag.name c) (after_start d tag (has_content esi tag)) (max (longest s esi events) (length (after_start d tag (has_content esi tag)).open_elements))) (sym whole)
+    (by_content s esi paths d (longest s esi events) ordered m tag here (context_of m.program true e (all_places (ranges_to_run m.program m.items m.active))) report.jumps report.hereditary_jumps (has_content esi tag)))
+  where
+    by_content : (s : Selectors) (esi : Bool) (paths : List Path) (d : Document) (most : ℕ) (ordered : IsOrdered d most) (m : Machine) (tag : StartTag) (here : StandsOn s esi paths m (after_start d tag false) (max most (length d.open_elements))) (c : Context)
+        → HasRanges jumps_of paths m.program (Matches (element_of d tag) d.open_elements) c.jumps
+        → HasRanges hereditary_jumps_of paths m.program (Matches (element_of d tag) d.open_elements) c.hereditary_jumps
+        → (b : Bool) → StandsOn s esi paths (finished m b tag.name c) (after_start d tag b) (max most (length (after_start d tag b).open_elements))
+    by_content s esi paths d most ordered m tag here c jumps hereditary false = here
+    by_content s esi paths d most ordered m tag here c jumps hereditary true =
+        let sizes : max (max most (length d.open_elements)) (suc (length d.open_elements)) ≡ max most (suc (length d.open_elements)) = omega arith in
+        subst (StandsOn s esi paths (opened m tag.name c) (after_start d tag true)) sizes
+        (opened_on s esi paths d most ordered m (max most (length d.open_elements)) (omega arith) tag here c jumps hereditary)
+
+pub ends_hand_out : EndsHandOut
+ends_hand_out paths m d name numbers are is =
+    ap reverse (ap (take (closes (position (λ (item : Item). same_name item.name name) m.items))) is
+    ∙ (take-map (λ (e : Element). e.number) (closes (position (λ (item : Item). same_name item.name name) m.items)) d.open_elements
+    ∙ ap (map (λ (e : Element). e.number)) (ap (λ o. take (closes o) d.open_elements) (same_place paths m.program name m.items d.open_elements are) ∙ inner_is (place_of name d.open_elements) d.open_elements)))
+  where
+    inner_is : (o : Option ℕ) (xs : List Element) → take (closes o) xs ≡ inner_part o xs
+    inner_is None xs = refl
+    inner_is (Some k) xs = refl

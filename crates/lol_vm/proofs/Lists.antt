@@ -1,0 +1,254 @@
+-- Lists: what they hold, and each once.
+use Rattle.std.proofs.Common.{◌≡◌, ◌≢◌, ℕ, zero, suc, ◌+◌, ◌<◌, ◌≤◌, Bool, true, false, cond, List, [], ◌∷◌, ◌++◌, length, map, filter, Some, ◌⊎◌, inl, inr, refl, sym, ap, ◌∙◌, subst, arith, Contains, AllPairs}
+use Rattle.std.specs.Prelude.{slice_get, flat_map, count_by}
+use Rattle.std.specs.List.{range_with_len, list_any}
+use Rattle.lol_program.proofs.Members.{Among, Distinct, among_from_contains, contains_from_among, among_front, among_back, among_either, distinct_from_pairs, same_count, count_by-cons}
+use Rattle.lol_vm.proofs.Bools.{either, left_or, right_or}
+use Rattle.lol_program.proofs.Once.{AllPairs-from_Distinct}
+
+module _ {A : Type 0} where
+  pub to_contains : (xs : List A) (x : A) → Among xs x → Contains xs x
+  to_contains xs x h = contains_from_among xs x h
+
+  pub to_among : (xs : List A) (x : A) → Contains xs x → Among xs x
+  to_among xs x h = among_from_contains xs x h
+
+  pub to_once : (xs : List A) → Distinct xs → AllPairs (λ a b. a ≢ b) xs
+  to_once xs h = AllPairs-from_Distinct xs h
+
+  pub to_distinct : (xs : List A) → AllPairs (λ a b. a ≢ b) xs → Distinct xs
+  to_distinct xs h = distinct_from_pairs xs h
+
+  -- 1. Appended lists
+
+  pub distinct_append : (xs ys : List A) → Distinct xs → Distinct ys → ((x : A) → Among xs x → Among ys x → ⊥) → Distinct (xs ++ ys)
+  distinct_append [] ys dx dy apart = dy
+  distinct_append (x ∷ xs) ys dx dy apart = (
+    λ again. elim (among_either xs ys x again) [ inl h ↦ dx.0 h | inr h ↦ apart x (inl refl) h ],
+    distinct_append xs ys dx.1 dy (λ y h. apart y (inr h)),
+  )
+
+  -- 2. Places
+
+  pub at_among : (xs : List A) (k : ℕ) (x : A) → slice_get xs k ≡ Some x → Among xs x
+  at_among [] k x at = cc
+  at_among (y ∷ xs) zero x at = inl cc
+  at_among (y ∷ xs) (suc k) x at = inr (at_among xs k x at)
+
+  pub among_at : (xs : List A) (x : A) → Among xs x → (k : ℕ) × (slice_get xs k ≡ Some x)
+  among_at [] x h = absurd h
+  among_at (y ∷ xs) x (inl is) = (0, ap Some is)
+  among_at (y ∷ xs) x (inr h) = let rest = among_at xs x h in (suc rest.0, rest.1)
+
+  pub same_at : (xs : List A) (k : ℕ) (x y : A) → slice_get xs k ≡ Some x → slice_get xs k ≡ Some y → x ≡ y
+  same_at xs k x y a b = cc
+
+  pub one_place : (xs : List A) → Distinct xs → (j k : ℕ) (x : A) → slice_get xs j ≡ Some x → slice_get xs k ≡ Some x → j ≡ k
+  one_place [] d j k x a b = cc
+  one_place (y ∷ xs) d zero zero x a b = refl
+  one_place (y ∷ xs) d zero (suc k) x a b = let is : y ≡ x = cc in absurd (d.0 (subst (Among xs) (sym is) (at_among xs k x b)))
+  one_place (y ∷ xs) d (suc j) zero x a b = let is : y ≡ x = cc in absurd (d.0 (subst (Among xs) (sym is) (at_among xs j x a)))
+  one_place (y ∷ xs) d (suc j) (suc k) x a b = ap suc (one_place xs d.1 j k x a b)
+
+  pub at_within : (xs : List A) (k : ℕ) (x : A) → slice_get xs k ≡ Some x → k < length xs
+  at_within [] k x at = cc
+  at_within (y ∷ xs) zero x at = omega arith
+  at_within (y ∷ xs) (suc k) x at = omega (arith, at_within xs k x at)
+
+  pub within_at : (xs : List A) (k : ℕ) → k < length xs → (x : A) × (slice_get xs k ≡ Some x)
+  within_at [] k h = absurd (omega (arith, h))
+  within_at (y ∷ xs) zero h = (y, refl)
+  within_at (y ∷ xs) (suc k) h = within_at xs k (omega (arith, h))
+
+  -- 3. Counts
+
+  pub all_counted : (xs : List A) → count_by (λ x. true) xs ≡ length xs
+  all_counted [] = refl
+  all_counted (x ∷ xs) = count_by-cons (λ x. true) x xs ∙ omega (arith, all_counted xs)
+
+  pub same_length : (xs ys : List A) → Distinct xs → Distinct ys → ((x : A) → Among xs x → Among ys x) → ((x : A) → Among ys x → Among xs x) → length xs ≡ length ys
+  same_length xs ys dx dy to from = sym (all_counted xs) ∙ (same_count (λ x. true) xs ys dx dy to from ∙ all_counted ys)
+
+  module _ (p : A → Bool) where
+    among_cond : (b : Bool) (y : A) (ys : List A) (x : A) → Among (cond b (y ∷ ys) ys) x → ((b ≡ true) × (y ≡ x)) ⊎ Among ys x
+    among_cond true y ys x (inl is) = inl (refl, is)
+    among_cond true y ys x (inr h) = inr h
+    among_cond false y ys x h = inr h
+
+    cond_front : (b : Bool) (y : A) (ys : List A) → b ≡ true → Among (cond b (y ∷ ys) ys) y
+    cond_front true y ys h = inl refl
+    cond_front false y ys h = cc
+
+    cond_back : (b : Bool) (y : A) (ys : List A) (x : A) → Among ys x → Among (cond b (y ∷ ys) ys) x
+    cond_back true y ys x h = inr h
+    cond_back false y ys x h = h
+
+    pub among_filter : (xs : List A) (x : A) → Among (filter p xs) x → Among xs x × (p x ≡ true)
+    among_filter [] x h = absurd h
+    among_filter (y ∷ xs) x h = elim (among_cond (p y) y (filter p xs) x h) [
+      | inl here ↦ (inl here.1, subst (λ z. p z ≡ true) here.1 here.0)
+      | inr later ↦ let rest = among_filter xs x later in (inr rest.0, rest.1)
+    ]
+
+    pub filter_among : (xs : List A) (x : A) → Among xs x → p x ≡ true → Among (filter p xs) x
+    filter_among [] x h fits = absurd h
+    filter_among (y ∷ xs) x (inl is) fits = subst (λ z. Among (filter p (y ∷ xs)) z) is (cond_front (p y) y (filter p xs) (ap p is ∙ fits))
+    filter_among (y ∷ xs) x (inr h) fits = cond_back (p y) y (filter p xs) x (filter_among xs x h fits)
+
+    distinct_cond : (b : Bool) (y : A) (ys : List A) → (Among ys y → ⊥) → Distinct ys → Distinct (cond b (y ∷ ys) ys)
+    distinct_cond true y ys fresh d = (fresh, d)
+    distinct_cond false y ys fresh d = d
+
+    pub distinct_filter : (xs : List A) → Distinct xs → Distinct (filter p xs)
+    distinct_filter [] d = tt
+    distinct_filter (y ∷ xs) d = distinct_cond (p y) y (filter p xs) (λ h. d.0 (among_filter xs y h).0) (distinct_filter xs d.1)
+
+    length_cond : (b : Bool) (y : A) (ys : List A) → length (cond b (y ∷ ys) ys) ≡ cond b 1 0 + length ys
+    length_cond true y ys = omega arith
+    length_cond false y ys = omega arith
+
+    pub count-filter : (xs : List A) → count_by p xs ≡ length (filter p xs)
+    count-filter [] = refl
+    count-filter (x ∷ xs) = count_by-cons p x xs ∙ (ap (λ n. cond (p x) 1 0 + n) (count-filter xs) ∙ sym (length_cond (p x) x (filter p xs)))
+
+    pub any_among : (xs : List A) (x : A) → Among xs x → p x ≡ true → list_any p xs ≡ true
+    any_among [] x h fits = absurd h
+    any_among (y ∷ xs) x (inl is) fits = left_or (p y) (list_any p xs) (ap p is ∙ fits)
+    any_among (y ∷ xs) x (inr h) fits = right_or (p y) (list_any p xs) (any_among xs x h fits)
+
+    pub among_any : (xs : List A) → list_any p xs ≡ true → (x : A) × Among xs x × (p x ≡ true)
+    among_any [] h = cc
+    among_any (y ∷ xs) h = elim (either (p y) (list_any p xs) h) [
+      | inl fits ↦ (y, inl refl, fits)
+      | inr later ↦ let rest = among_any xs later in (rest.0, inr rest.1, rest.2)
+    ]
+
+    -- those that pass, of two lists that share them, each once, are as many
+    pub same_passing : (xs ys : List A) → Distinct xs → Distinct ys → ((x : A) → p x ≡ true → Among xs x → Among ys x) → ((x : A) → p x ≡ true → Among ys x → Among xs x) → count_by p xs ≡ count_by p ys
+    same_passing xs ys dx dy to from =
+        count-filter xs
+        ∙ (same_length (filter p xs) (filter p ys) (distinct_filter xs dx) (distinct_filter ys dy)
+        (λ x h. let at = among_filter xs x h in filter_among ys x (to x at.1 at.0) at.1)
+        (λ x h. let at = among_filter ys x h in filter_among xs x (from x at.1 at.0) at.1)
+        ∙ sym (count-filter ys))
+
+-- 4. Lists of lists
+
+module _ {A B : Type 0} (f : A → List B) where
+  pub among_flat_map : (xs : List A) (y : B) → Among (flat_map f xs) y → (x : A) × Among xs x × Among (f x) y
+  among_flat_map [] y h = absurd h
+  among_flat_map (x ∷ xs) y h = elim (among_either (f x) (flat_map f xs) y h) [
+    | inl here ↦ (x, inl refl, here)
+    | inr later ↦ let rest = among_flat_map xs y later in (rest.0, inr rest.1, rest.2)
+  ]
+
+  pub flat_map_among : (xs : List A) (x : A) (y : B) → Among xs x → Among (f x) y → Among (flat_map f xs) y
+  flat_map_among [] x y h at = absurd h
+  flat_map_among (z ∷ xs) x y (inl is) at = among_front (f z) (flat_map f xs) y (subst (λ w. Among (f w) y) (sym is) at)
+  flat_map_among (z ∷ xs) x y (inr h) at = among_back (f z) (flat_map f xs) y (flat_map_among xs x y h at)
+
+  -- Lists that are distinct by themselves, of which no two share an element, are so together.
+  pub distinct_flat_map : (xs : List A) → Distinct xs → ((x : A) → Among xs x → Distinct (f x)) → ((x x' : A) (y : B) → Among xs x → Among xs x' → Among (f x) y → Among (f x') y → x ≡ x') → Distinct (flat_map f xs)
+  distinct_flat_map [] d each apart = tt
+  distinct_flat_map (x ∷ xs) d each apart =
+      distinct_append (f x) (flat_map f xs) (each x (inl refl))
+      (distinct_flat_map xs d.1 (λ z h. each z (inr h)) (λ z z' y h h' a a'. apart z z' y (inr h) (inr h') a a'))
+      (λ y here later. let at = among_flat_map xs y later in d.0 (subst (Among xs) (sym (apart x at.0 y (inl refl) (inr at.1) here at.2)) at.1))
+
+module _ {A B : Type 0} (f : A → B) where
+  pub among_map : (xs : List A) (y : B) → Among (map f xs) y → (x : A) × Among xs x × (f x ≡ y)
+  among_map [] y h = absurd h
+  among_map (x ∷ xs) y (inl is) = (x, inl refl, is)
+  among_map (x ∷ xs) y (inr h) = let rest = among_map xs y h in (rest.0, inr rest.1, rest.2)
+
+  pub map_among : (xs : List A) (x : A) → Among xs x → Among (map f xs) (f x)
+  map_among [] x h = absurd h
+  map_among (y ∷ xs) x (inl is) = inl (ap f is)
+  map_among (y ∷ xs) x (inr h) = inr (map_among xs x h)
+
+-- 5. Consecutive numbers
+
+pub among_range : (a n k : ℕ) → Among (range_with_len a n) k → (a ≤ k) × (k < a + n)
+among_range a zero k h = absurd h
+among_range a (suc n) k (inl is) = (omega (arith, is), omega (arith, is))
+among_range a (suc n) k (inr h) = let rest = among_range (a + 1) n k h in (omega (arith, rest.0), omega (arith, rest.1))
+
+pub range_among : (a n k : ℕ) → a ≤ k → k < a + n → Among (range_with_len a n) k
+range_among a zero k low high = absurd (omega (arith, low, high))
+range_among a (suc n) k low high = first_or (split a k low) (λ above. range_among (a + 1) n k above (omega (arith, high)))
+  where
+    split : (a k : ℕ) → a ≤ k → (a ≡ k) ⊎ (a + 1 ≤ k)
+    split a k low = grind arith
+
+    first_or : (a ≡ k) ⊎ (a + 1 ≤ k) → (a + 1 ≤ k → Among (range_with_len (a + 1) n) k) → Among (range_with_len a (suc n)) k
+    first_or (inl is) later = inl is
+    first_or (inr above) later = inr (later above)
+
+pub distinct_range : (a n : ℕ) → Distinct (range_with_len a n)
+distinct_range a zero = tt
+distinct_range a (suc n) = (λ again. let at = among_range (a + 1) n a again in omega (arith, at.0), distinct_range (a + 1) n)
+
+-- 6. A list by its places
+
+pub is_at : {A : Type 0} → (A → Bool) → List A → ℕ → Bool
+is_at q [] k = false
+is_at q (x ∷ xs) zero = q x
+is_at q (x ∷ xs) (suc k) = is_at q xs k
+
+module _ {A : Type 0} (q : A → Bool) where
+  pub is_at_of : (xs : List A) (k : ℕ) → is_at q xs k ≡ true → (x : A) × (slice_get xs k ≡ Some x) × (q x ≡ true)
+  unfolding is_at
+  is_at_of [] k h = cc
+  is_at_of (x ∷ xs) zero h = (x, refl, h)
+  is_at_of (x ∷ xs) (suc k) h = is_at_of xs k h
+
+  pub is_at_is : (xs : List A) (k : ℕ) (x : A) → slice_get xs k ≡ Some x → is_at q xs k ≡ q x
+  unfolding is_at
+  is_at_is [] k x at = cc
+  is_at_is (y ∷ xs) zero x at = let is : y ≡ x = cc in ap q is
+  is_at_is (y ∷ xs) (suc k) x at = is_at_is xs k x at
+
+-- the numbers below n
+pub below : ℕ → List ℕ
+below zero = []
+below (suc n) = zero ∷ map suc (below n)
+
+pub among_below : (n k : ℕ) → k < n → Among (below n) k
+unfolding below
+among_below zero k h = absurd (omega (arith, h))
+among_below (suc n) zero h = inl refl
+among_below (suc n) (suc k) h = inr (map_among suc (below n) k (among_below n k (omega (arith, h))))
+
+distinct_map : {A B : Type 0} (f : A → B) → ((x y : A) → f x ≡ f y → x ≡ y) → (xs : List A) → Distinct xs → Distinct (map f xs)
+distinct_map f one [] d = tt
+distinct_map f one (x ∷ xs) d = (λ again. let at = among_map f xs (f x) again in d.0 (subst (Among xs) (one at.0 x at.2) at.1), distinct_map f one xs d.1)
+
+zero_not_suc : (ns : List ℕ) → Among (map suc ns) zero → ⊥
+zero_not_suc ns h = let at = among_map suc ns zero h in omega (arith, at.2)
+
+pub distinct_below : (n : ℕ) → Distinct (below n)
+unfolding below
+distinct_below zero = tt
+distinct_below (suc n) = (zero_not_suc (below n), distinct_map suc (λ x y h. omega (arith, h)) (below n) (distinct_below n))
+
+count-map : {A B : Type 0} (p : B → Bool) (f : A → B) (xs : List A) → count_by p (map f xs) ≡ count_by (λ x. p (f x)) xs
+count-map p f [] = refl
+count-map p f (x ∷ xs) = count_by-cons p (f x) (map f xs) ∙ (ap (λ n. cond (p (f x)) 1 0 + n) (count-map p f xs) ∙ sym (count_by-cons (λ y. p (f y)) x xs))
+
+pub count_by_places : {A : Type 0} (q : A → Bool) (xs : List A) → count_by q xs ≡ count_by (is_at q xs) (below (length xs))
+unfolding below is_at
+count_by_places q [] = refl
+count_by_places q (x ∷ xs) =
+    count_by-cons q x xs
+    ∙ (ap (λ n. cond (q x) 1 0 + n) (count_by_places q xs ∙ sym (count-map (is_at q (x ∷ xs)) suc (below (length xs))))
+    ∙ sym (count_by-cons (is_at q (x ∷ xs)) zero (map suc (below (length xs)))))
+
+pub count_same : {A : Type 0} (p r : A → Bool) (xs : List A) → ((x : A) → Among xs x → p x ≡ r x) → count_by p xs ≡ count_by r xs
+count_same p r [] h = refl
+count_same p r (x ∷ xs) h =
+    count_by-cons p x xs
+    ∙ ((λ i. cond (h x (inl refl) i) 1 0 + count_same p r xs (λ y a. h y (inr a)) i)
+    ∙ sym (count_by-cons r x xs))
+
+pub count_all : {A : Type 0} (p : A → Bool) (xs : List A) → ((x : A) → Among xs x → p x ≡ true) → count_by p xs ≡ length xs
+count_all p xs h = count_same p (λ x. true) xs h ∙ all_counted xs

@@ -1,0 +1,282 @@
+-- Runs that stop and go on.
+use Rattle.std.proofs.Common.{◌≡◌, ℕ, suc, ◌+◌, ◌-◌, ◌<◌, Bool, true, false, cond, not, List, [], ◌∷◌, ◌++◌, length, drop, Option, Some, None, inl, inr, refl, sym, ap, ◌∙◌, subst, arith, append_assoc}
+use Rattle.std.specs.Prelude.{slice_get, count_by, option_to_list, ◌&&◌, ◌||◌}
+use Rattle.std.specs.List.{list_any}
+use Rattle.std.proofs.lemmas.List.{append-nil, append_cancel_right, length-append, drop_more}
+use Rattle.std.proofs.lemmas.List.Concat.{length-flat_map}
+use Rattle.std.proofs.lemmas.List.FromFn.{length-range_with_len, get_or-range_with_len}
+use Rattle.std.specs.Option.{option_map}
+use Rattle.lol_base.specs.StartTags.{Attribute}
+use Rattle.lol_program.specs.Tests.{Element, is_html}
+use Rattle.lol_program.specs.Paths.{Path, Selectors, last_compound}
+use Rattle.lol_program.proofs.Members.{count_by-cons, Among, among_from_contains, contains_from_among}
+use Rattle.lol_vm.specs.Matching.{left_matches}
+use Rattle.lol_vm.specs.Answers.{needs_attributes, asks}
+use Rattle.lol_vm.proofs.Bools.{right_or}
+use Rattle.lol_program.specs.Compounds.{is_open, Decides, by_names, with_rest}
+use Rattle.lol_program.specs.Programs.{Range, Instruction, Program, IsAt, IsProgramOf, places, all_places}
+use Rattle.lol_program.specs.declared.name_value.NameValue.{NameValue}
+use Rattle.lol_program.specs.declared.name_value.NameValue.TheVariants.{True, False, Open}
+use Rattle.lol_program.proofs.Values.{values_decide, values_are_by_names}
+use Rattle.lol_vm.specs.PlaceRuns.{Context, no_context, Stop, given, gathered, context_of, branch, step_with_attributes, step_by_names, run, run_by_names, value_of, value_at, is_open_at, stop_in, stop_or, first_open, ids_of, jumps_list, hereditary_jumps_list}
+use Rattle.lol_vm.proofs.Held.{path_at}
+use Rattle.lol_vm.proofs.Counted.{places_count_tries}
+use Rattle.lol_vm.specs.MachineLaws.{RunsDontSeeTheRest, StoppedStartsAreWhole, StopsAreRequests, ForeignTagsAsk, RequestsFinish, RunsGather, joined, ValuesDecideAt, IsStop, starts_open, left_from, RunsStopWhereAsked, StopsAreOffsets, OffsetsGoOn}
+
+-- 1. Runs gather
+
+nothing_more : {A : Type 0} (b : Bool) (xs ys : List A) → ys ≡ [] → xs ≡ xs ++ cond b ys ys
+nothing_more true xs ys h = sym (append-nil xs) ∙ ap (λ zs. xs ++ zs) (sym h)
+nothing_more false xs ys h = sym (append-nil xs) ∙ ap (λ zs. xs ++ zs) (sym h)
+
+if_more : {A : Type 0} (b : Bool) (xs ys zs : List A) → cond b (xs ++ ys) xs ++ cond b zs [] ≡ xs ++ cond b (ys ++ zs) []
+if_more true xs ys zs = append_assoc xs ys zs
+if_more false xs ys zs = refl
+
+-- one place more in front
+gather_one : (content : Bool) (e : Element) (context : Context) (o : Option Instruction) (ids : List ℕ) (jumps hereditary : List Range) →
+    joined (step_with_attributes content e context o) (record { ids = ids; jumps = cond content jumps []; hereditary_jumps = cond content hereditary [] })
+    ≡ joined context (record { ids = given ids_of e o ++ ids; jumps = cond content (given jumps_list e o ++ jumps) []; hereditary_jumps = cond content (given hereditary_jumps_list e o ++ hereditary) [] })
+gather_one content e context None ids jumps hereditary = refl
+gather_one content e context (Some i) ids jumps hereditary = by_test (i.holds e)
+  where
+    by_test : (b : Bool) → joined (cond b (branch content context i) context) (record { ids = ids; jumps = cond content jumps []; hereditary_jumps = cond content hereditary [] })
+        ≡ joined context (record { ids = cond b i.ids [] ++ ids; jumps = cond content (cond b (option_to_list i.jumps) [] ++ jumps) []; hereditary_jumps = cond content (cond b (option_to_list i.hereditary_jumps) [] ++ hereditary) [] })
+    by_test true = λ k. record {
+      ids = append_assoc context.ids i.ids ids k;
+      jumps = if_more content context.jumps (option_to_list i.jumps) jumps k;
+      hereditary_jumps = if_more content context.hereditary_jumps (option_to_list i.hereditary_jumps) hereditary k;
+    }
+    by_test false = refl
+
+none_if : {A : Type 0} (b : Bool) (xs : List A) → xs ≡ xs ++ cond b [] []
+none_if true xs = sym (append-nil xs)
+none_if false xs = sym (append-nil xs)
+
+pub runs_gather : RunsGather
+runs_gather p content e context [] = λ k. record {
+  ids = sym (append-nil context.ids) k;
+  jumps = none_if content context.jumps k;
+  hereditary_jumps = none_if content context.hereditary_jumps k;
+}
+runs_gather p content e context (place ∷ ps) =
+    runs_gather p content e (step_with_attributes content e context (slice_get p.instructions place)) ps
+    ∙ gather_one content e context (slice_get p.instructions place) (gathered ids_of p e ps) (gathered jumps_list p e ps) (gathered hereditary_jumps_list p e ps)
+
+pub run-append : (p : Program) (content : Bool) (e : Element) (context : Context) (ps qs : List ℕ) → run p content e context (ps ++ qs) ≡ run p content e (run p content e context ps) qs
+run-append p content e context [] qs = refl
+run-append p content e context (place ∷ ps) qs = run-append p content e (step_with_attributes content e context (slice_get p.instructions place)) ps qs
+
+-- 2. Stops
+
+-- at a place that isn't open both steps are the same
+same_step : (content : Bool) (e : Element) (context : Context) (o : Option Instruction) → is_open (value_of e o) ≡ false → ((i : Instruction) → o ≡ Some i → Decides (i.value e) (i.holds e))
+    → step_by_names content context (value_of e o) o ≡ step_with_attributes content e context o
+same_step content e context None not_open decides = refl
+same_step content e context (Some i) not_open decides = by_value (i.value e) (i.holds e) not_open (decides i refl)
+  where
+    by_value : (v : NameValue) (b : Bool) → is_open v ≡ false → Decides v b → step_by_names content context v (Some i) ≡ cond b (branch content context i) context
+    by_value False b shut d = ap (λ c. cond c (branch content context i) context) (sym d)
+    by_value True b shut d = ap (λ c. cond c (branch content context i) context) (sym d)
+    by_value Open b shut d = cc
+
+abbrev next : Program → Bool → Element → Context → ℕ → Context
+next p content e context place = step_by_names content context (value_at p e place) (slice_get p.instructions place)
+
+module _ (p : Program) (content : Bool) (e : Element) (context : Context) (place : ℕ) (ps : List ℕ) where
+  abbrev Later : Type 0
+  Later = IsStop p content e (next p content e context place) ps (run_by_names p content e (next p content e context place) ps)
+
+  abbrev Here : Bool → Type 0
+  Here b = IsStop p content e context (place ∷ ps) (cond b (record { context = context; left = place ∷ ps }) (run_by_names p content e (next p content e context place) ps))
+
+  at_place : (b : Bool) → is_open_at p e place ≡ b → ValuesDecideAt p e (place ∷ ps) → Later → Here b
+  at_place true is decides later = record {
+    before = [];
+    parts = refl;
+    closed = λ k h. absurd (among_from_contains [] k h);
+    ran = refl;
+    stops = (λ i. is i || list_any (is_open_at p e) ps) ∙ sym is;
+    goes_on = refl;
+  }
+  at_place false is decides later =
+      let same : next p content e context place ≡ step_with_attributes content e context (slice_get p.instructions place) =
+      same_step content e context (slice_get p.instructions place) is (λ i at. decides place i (contains_from_among (place ∷ ps) place (inl refl)) at) in
+      record {
+        before = place ∷ later.before;
+        parts = ap (λ qs. place ∷ qs) later.parts;
+        closed = λ k h. shut k (among_from_contains (place ∷ later.before) k h);
+        ran = later.ran ∙ ap (λ c. run p content e c later.before) same;
+        stops = (λ i. is i || list_any (is_open_at p e) ps) ∙ later.stops;
+        goes_on = later.goes_on ∙ ap (λ c. run p content e c ps) same;
+      }
+    where
+      shut : (k : ℕ) → Among (place ∷ later.before) k → is_open_at p e k ≡ false
+      shut k (inl at) = subst (λ n. is_open_at p e n ≡ false) at is
+      shut k (inr a) = later.closed k (contains_from_among later.before k a)
+
+pub runs_stop_where_asked : RunsStopWhereAsked
+runs_stop_where_asked p content e context [] decides = record {
+  before = [];
+  parts = refl;
+  closed = λ place h. absurd (among_from_contains [] place h);
+  ran = refl;
+  stops = refl;
+  goes_on = refl;
+}
+runs_stop_where_asked p content e context (place ∷ ps) decides =
+    at_place p content e context place ps (is_open_at p e place) refl decides
+    (runs_stop_where_asked p content e (next p content e context place) ps (λ k i h at. decides k i (contains_from_among (place ∷ ps) k (inr (among_from_contains ps k h))) at))
+
+-- 3. Stops as offsets
+
+module _ (p : Program) (e : Element) where
+  left_of : List ℕ → List ℕ
+  left_of [] = []
+  left_of (place ∷ ps) = cond (is_open_at p e place) (place ∷ ps) (left_of ps)
+
+  left_is : (content : Bool) (context : Context) (ps : List ℕ) → (run_by_names p content e context ps).left ≡ left_of ps
+  unfolding left_of
+  left_is content context [] = refl
+  left_is content context (place ∷ ps) = by_test (is_open_at p e place) (left_is content (next p content e context place) ps)
+    where
+      by_test : (b : Bool) → (run_by_names p content e (next p content e context place) ps).left ≡ left_of ps
+          → (cond b (record { context = context; left = place ∷ ps }) (run_by_names p content e (next p content e context place) ps)).left ≡ cond b (place ∷ ps) (left_of ps)
+      by_test true h = refl
+      by_test false h = h
+
+  or_drop : Option ℕ → List ℕ → List ℕ → List ℕ
+  or_drop None ps qs = left_of qs
+  or_drop (Some k) ps qs = drop k ps ++ qs
+
+  left_append : (ps qs : List ℕ) → left_of (ps ++ qs) ≡ or_drop (first_open p e ps) ps qs
+  unfolding left_of or_drop
+  left_append [] qs = refl
+  left_append (place ∷ ps) qs = by_test (is_open_at p e place) (left_append ps qs)
+    where
+      later : (o : Option ℕ) → or_drop o ps qs ≡ or_drop (option_map suc o) (place ∷ ps) qs
+      later None = refl
+      later (Some k) = refl
+
+      by_test : (b : Bool) → left_of (ps ++ qs) ≡ or_drop (first_open p e ps) ps qs
+          → cond b (place ∷ (ps ++ qs)) (left_of (ps ++ qs)) ≡ or_drop (cond b (Some 0) (option_map suc (first_open p e ps))) (place ∷ ps) qs
+      by_test true h = refl
+      by_test false h = h ∙ later (first_open p e ps)
+
+  left_ranges : (ranges : List Range) → left_of (all_places ranges) ≡ left_from (stop_in p e ranges)
+  unfolding left_of or_drop
+  left_ranges [] = refl
+  left_ranges (r ∷ ranges) = left_append (places r) (all_places ranges) ∙ by_offset (first_open p e (places r)) (left_ranges ranges)
+    where
+      by_offset : (o : Option ℕ) → left_of (all_places ranges) ≡ left_from (stop_in p e ranges) → or_drop o (places r) (all_places ranges) ≡ left_from (stop_or o r ranges (stop_in p e ranges))
+      by_offset None h = h
+      by_offset (Some k) h = refl
+
+pub stops_are_offsets : StopsAreOffsets
+stops_are_offsets p content e context ranges = left_is p e content context (all_places ranges) ∙ left_ranges p e ranges
+
+pub offsets_go_on : OffsetsGoOn
+offsets_go_on offset r ranges within =
+    let n = r.end - r.start in
+    let below : offset < n = omega (arith, within) in
+    let here : drop offset (places r) ≡ (r.start + offset) ∷ drop (offset + 1) (places r) =
+    drop_more (places r) offset 0 (omega (arith, below, length-range_with_len r.start n)) ∙ ap (λ k. k ∷ drop (offset + 1) (places r)) (get_or-range_with_len r.start n offset 0 below) in
+    ap (λ ps. ps ++ all_places ranges) here
+
+-- 4. Programs of selectors
+
+module _ (s : Selectors) (paths : List Path) (p : Program) (program : IsProgramOf s paths p) where
+  decides_at : (e : Element) (place : ℕ) (i : Instruction) → IsAt p.instructions place i → Decides (i.value e) (i.holds e)
+  decides_at e place i at =
+      let path = path_at s paths p program place i at in
+      let means = (program.each place path.0 i path.1 at).means e in
+      subst (λ v. Decides v (i.holds e)) (sym means.0) (subst (λ b. Decides (by_names (last_compound path.0) e) b) (sym means.1) (values_decide (last_compound path.0) e e.tag.attributes e.tag.self_closing e.tag.finish))
+
+  module _ (e : Element) (attributes : List Attribute) (self_closing finish : Bool) where
+    abbrev other : Element
+    other = with_rest e attributes self_closing finish
+
+    same_value : (place : ℕ) (o : Option Instruction) → slice_get p.instructions place ≡ o → value_of other o ≡ value_of e o
+    same_value place None at = refl
+    same_value place (Some i) at =
+        let path = path_at s paths p program place i at in
+        let each = program.each place path.0 i path.1 at in
+        (each.means other).0 ∙ (values_are_by_names (last_compound path.0) e attributes self_closing finish ∙ sym (each.means e).0)
+
+    same_stop : (content : Bool) (context : Context) (ps : List ℕ) → run_by_names p content other context ps ≡ run_by_names p content e context ps
+    same_stop content context [] = refl
+    same_stop content context (place ∷ ps) =
+        let same : value_at p other place ≡ value_at p e place = same_value place (slice_get p.instructions place) refl in
+        (λ i. cond (is_open (same i)) (record { context = context; left = place ∷ ps }) (run_by_names p content other (step_by_names content context (same i) (slice_get p.instructions place)) ps))
+        ∙ ap (λ later. cond (is_open_at p e place) (record { context = context; left = place ∷ ps }) later) (same_stop content (next p content e context place) ps)
+
+pub runs_dont_see_the_rest : RunsDontSeeTheRest
+runs_dont_see_the_rest s paths p e attributes self_closing finish content context ps program = same_stop s paths p program e attributes self_closing finish content context ps
+
+left_counted : (test : ℕ → Bool) (before left : List ℕ) → ((place : ℕ) → Among before place → test place ≡ false) → count_by test left ≡ count_by test (before ++ left)
+left_counted test [] left h = refl
+left_counted test (place ∷ before) left h =
+    left_counted test before left (λ k a. h k (inr a))
+    ∙ sym (count_by-cons test place (before ++ left) ∙ (ap (λ b. cond b 1 0 + count_by test (before ++ left)) (h place (inl refl)) ∙ omega arith))
+
+pub stopped_starts_are_whole : StoppedStartsAreWhole
+stopped_starts_are_whole s paths p ranges e outer content closed program held =
+    let stop = runs_stop_where_asked p content e no_context (all_places ranges) (λ place i h at. decides_at s paths p program e place i at) in
+    let tries = places_count_tries s paths p ranges e outer closed program held in
+    let left = (run_by_names p content e no_context (all_places ranges)).left in
+    let lengths : length stop.before + length left ≡ length (all_places ranges) = sym (ap length stop.parts ∙ length-append stop.before left) in
+    record {
+      stop = stop;
+      asks = sym stop.stops ∙ (places_count_tries s paths p ranges e outer closed program held).asks;
+      whole = stop.goes_on ∙ runs_gather p content e no_context (all_places ranges);
+      names = lengths ∙ (length-flat_map places ranges ∙ tries.names);
+      attributes = left_counted (is_open_at p e) stop.before left (λ place a. stop.closed place (contains_from_among stop.before place a)) ∙ (ap (count_by (is_open_at p e)) (sym stop.parts) ∙ tries.attributes);
+    }
+
+pub stops_are_requests : StopsAreRequests
+stops_are_requests s paths p content e ranges program asks =
+    let stop = λ (x : Element). runs_stop_where_asked p content x no_context (all_places ranges) (λ place i h at. decides_at s paths p program x place i at) in
+    let here = stop e in
+    record {
+      before = here.before;
+      parts = here.parts;
+      closed = here.closed;
+      asks = right_or (not (is_html e.tag.namespace)) _ asks;
+      gathered = λ attributes self_closing finish.
+          let x = with_rest e attributes self_closing finish in
+          let same = same_stop s paths p program e attributes self_closing finish content no_context (all_places ranges) in
+          let fronts : (stop x).before ≡ here.before = append_cancel_right (stop x).before here.before _ (sym (stop x).parts ∙ (here.parts ∙ ap (λ left. here.before ++ left) (sym (ap (λ (y : Stop). y.left) same)))) in
+          sym (ap (λ (y : Stop). y.context) same) ∙ ((stop x).ran ∙ (runs_gather p content x no_context (stop x).before ∙ ap (context_of p content x) fronts));
+    }
+
+pub foreign_tags_ask : ForeignTagsAsk
+foreign_tags_ask p content e ranges foreign = record {
+  before = [];
+  parts = refl;
+  closed = λ place h. absurd (among_from_contains [] place h);
+  asks = λ i. not (foreign i) || starts_open p e (all_places ranges);
+  gathered = λ attributes self_closing finish. nothing content;
+}
+  where
+    nothing : (b : Bool) → no_context ≡ record { ids = []; jumps = cond b [] []; hereditary_jumps = cond b [] [] }
+    nothing true = refl
+    nothing false = refl
+
+pub requests_finish : RequestsFinish
+requests_finish p content e ranges context left request attributes self_closing finish =
+    let x = with_rest e attributes self_closing finish in
+    let before : context ≡ run p content x no_context request.before = request.gathered attributes self_closing finish ∙ sym (runs_gather p content x no_context request.before) in
+    ap (λ c. run p content x c left) before
+    ∙ (sym (run-append p content x no_context request.before left)
+    ∙ (ap (run p content x no_context) (sym request.parts) ∙ runs_gather p content x no_context (all_places ranges)))
+
+-- 5. What is asked for depends on names and places alone
+
+module _ (e : Element) (attributes : List Attribute) (self_closing finish : Bool) (outer : List Element) where
+  any_needs : (nodes : List Path) → list_any (needs_attributes (with_rest e attributes self_closing finish) outer) nodes ≡ list_any (needs_attributes e outer) nodes
+  any_needs [] = refl
+  any_needs (node ∷ nodes) =
+      λ i. (left_matches node outer && is_open (values_are_by_names (last_compound node) e attributes self_closing finish i)) || any_needs nodes i
+
+  pub asks_by_names : (s : Selectors) → asks s (with_rest e attributes self_closing finish) outer ≡ asks s e outer
+  asks_by_names s = ap (λ b. not (is_html e.tag.namespace) || b) (any_needs s.nodes)

@@ -1,0 +1,168 @@
+-- What a program of selectors does when it is run for a start tag.
+use Rattle.std.specs.Prelude.{ℕ, ◌+◌, ◌<◌, ◌≡◌, ◌↔◌, ◌||◌, not, Bool, true, false, List, [], ◌∷◌, ◌++◌, length, count_by, Option, Some, None, Contains}
+use Rattle.std.specs.List.{list_any, sum_by}
+use Rattle.lol_base.specs.StartTags.{Attribute}
+use Rattle.lol_css.specs.declared.selector.Combinator.{Combinator}
+use Rattle.lol_program.specs.Tests.{Element, is_html}
+use Rattle.lol_program.specs.Compounds.{Decides, with_rest}
+use Rattle.lol_program.specs.Paths.{Path, Selectors}
+use Rattle.lol_program.specs.Programs.{Range, Program, Instruction, AreClosed, IsProgramOf, IsAt, IsWithin, range_by, places, all_places}
+use Rattle.lol_vm.specs.Answers.{name_tries, attribute_tries, needs_attributes, matching_ids}
+use Rattle.lol_vm.specs.Machines.{Item, AreItems, HasRanges, Matches, HoldOnce, LeftMatches, active_of, ranges_to_run, jumps_of, hereditary_jumps_of}
+use Rattle.lol_vm.specs.PlaceRuns.{Context, Stop, no_context, is_open_at, context_of, run, run_by_names, stop_in, places_from}
+
+-- 1. Which places are run
+
+-- Two ranges that share a place are those of one instruction by one step, and the entry range shares no place with either.
+abbrev pub RangesAreApart : Type 0
+RangesAreApart =
+    (s : Selectors) (paths : List Path) (p : Program) → IsProgramOf s paths p
+    → (j k : ℕ) (x y : Instruction) (step step' : Combinator) (r r' : Range) (place : ℕ)
+    → IsAt p.instructions j x → IsAt p.instructions k y → range_by step x ≡ Some r → range_by step' y ≡ Some r' → IsWithin place r → IsWithin place r'
+    → (j ≡ k) × (step ≡ step') × (IsWithin place p.entry → ⊥)
+
+-- The ranges that are run for a start tag hold the place of each node whose left part matches exactly once, and no other place.
+abbrev pub RangesHoldLeftMatches : Type 0
+RangesHoldLeftMatches =
+    (s : Selectors) (paths : List Path) (p : Program) (items : List Item) (elements : List Element)
+    → AreClosed s → IsProgramOf s paths p → AreItems paths p items elements
+    → HoldOnce paths (ranges_to_run p items (active_of items)) (LeftMatches elements)
+
+-- Such ranges hold places of instructions alone.
+abbrev pub PlacesAreWithin : Type 0
+PlacesAreWithin =
+    (s : Selectors) (paths : List Path) (p : Program) (ranges : List Range) (outer : List Element)
+    → IsProgramOf s paths p → HoldOnce paths ranges (LeftMatches outer) → (place : ℕ) → Contains (all_places ranges) place → place < length p.instructions
+
+abbrev pub sum_of_lengths : List Range → ℕ
+sum_of_lengths ranges = sum_by (λ r. length (places r)) ranges
+
+-- The sum of the ranges' lengths is the number of tries by names, the number of their open places that of tries by attributes; a place
+-- is open exactly if some node needs attributes.
+pub record TriesAreExact (s : Selectors) (p : Program) (ranges : List Range) (e : Element) (outer : List Element) : Type 0 where
+  pub names : sum_of_lengths ranges ≡ name_tries s.nodes outer
+  pub attributes : count_by (is_open_at p e) (all_places ranges) ≡ attribute_tries s.nodes e outer
+  pub asks : list_any (is_open_at p e) (all_places ranges) ≡ list_any (needs_attributes e outer) s.nodes
+
+abbrev pub PlacesCountTries : Type 0
+PlacesCountTries =
+    (s : Selectors) (paths : List Path) (p : Program) (ranges : List Range) (e : Element) (outer : List Element)
+    → AreClosed s → IsProgramOf s paths p → HoldOnce paths ranges (LeftMatches outer) → TriesAreExact s p ranges e outer
+
+-- 2. What they give
+
+-- the ids of the report, and the ranges of the element's item
+pub record GivesReport (s : Selectors) (paths : List Path) (p : Program) (context : Context) (e : Element) (outer : List Element) : Type 0 where
+  pub ids : (id : ℕ) → Contains context.ids id ↔ Contains (matching_ids s.pairs e outer) id
+  pub jumps : HasRanges jumps_of paths p (Matches e outer) context.jumps
+  pub hereditary_jumps : HasRanges hereditary_jumps_of paths p (Matches e outer) context.hereditary_jumps
+
+abbrev pub RunsGiveReports : Type 0
+RunsGiveReports =
+    (s : Selectors) (paths : List Path) (p : Program) (ranges : List Range) (e : Element) (outer : List Element)
+    → AreClosed s → IsProgramOf s paths p → HoldOnce paths ranges (LeftMatches outer)
+    → GivesReport s paths p (context_of p true e (all_places ranges)) e outer
+
+-- what one context gathered, and then the other
+abbrev pub joined : Context → Context → Context
+joined a b = record { ids = a.ids ++ b.ids; jumps = a.jumps ++ b.jumps; hereditary_jumps = a.hereditary_jumps ++ b.hereditary_jumps }
+
+-- A run place by place gathers what its places give, in their order.
+abbrev pub RunsGather : Type 0
+RunsGather =
+    (p : Program) (content : Bool) (e : Element) (context : Context) (ps : List ℕ) → run p content e context ps ≡ joined context (context_of p content e ps)
+
+-- 3. Runs by names, which stop
+
+-- every place is that of an instruction whose value by names decides, at this element
+abbrev pub ValuesDecideAt : Program → Element → List ℕ → Type 0
+ValuesDecideAt p e ps = (place : ℕ) (i : Instruction) → Contains ps place → IsAt p.instructions place i → Decides (i.value e) (i.holds e)
+
+-- whether there is a first place, which is open
+abbrev pub starts_open : Program → Element → List ℕ → Bool
+starts_open p e [] = false
+starts_open p e (place ∷ ps) = is_open_at p e place
+
+-- Where a run by names stops: no place before the stop is open, and the context is what those places give with the attributes, whichever
+-- they are; no place is left, or the first that is left is open. Going on from there gives what a whole run gives.
+pub record IsStop (p : Program) (content : Bool) (e : Element) (context : Context) (ps : List ℕ) (stop : Stop) : Type 0 where
+  pub before : List ℕ
+  pub parts : ps ≡ before ++ stop.left
+  pub closed : (place : ℕ) → Contains before place → is_open_at p e place ≡ false
+  pub ran : stop.context ≡ run p content e context before
+  pub stops : list_any (is_open_at p e) ps ≡ starts_open p e stop.left
+  pub goes_on : run p content e stop.context stop.left ≡ run p content e context ps
+
+abbrev pub RunsStopWhereAsked : Type 0
+RunsStopWhereAsked =
+    (p : Program) (content : Bool) (e : Element) (context : Context) (ps : List ℕ) → ValuesDecideAt p e ps → IsStop p content e context ps (run_by_names p content e context ps)
+
+-- the places from a stop on, none where there is no stop
+abbrev pub left_from : Option (ℕ × List Range) → List ℕ
+left_from None = []
+left_from (Some stop) = places_from stop.0 stop.1
+
+-- A run by names over ranges stops at an offset in a range: what is left are the places from there on.
+abbrev pub StopsAreOffsets : Type 0
+StopsAreOffsets =
+    (p : Program) (content : Bool) (e : Element) (context : Context) (ranges : List Range)
+    → (run_by_names p content e context (all_places ranges)).left ≡ left_from (stop_in p e ranges)
+
+-- From an offset in a range there come its own place, and then the places from the next offset on.
+abbrev pub OffsetsGoOn : Type 0
+OffsetsGoOn =
+    (offset : ℕ) (r : Range) (ranges : List Range) → r.start + offset < r.end → places_from offset (r ∷ ranges) ≡ (r.start + offset) ∷ places_from (offset + 1) (r ∷ ranges)
+
+-- A run by names of a program of selectors doesn't depend on the rest of the tag.
+abbrev pub RunsDontSeeTheRest : Type 0
+RunsDontSeeTheRest =
+    (s : Selectors) (paths : List Path) (p : Program) (e : Element) (attributes : List Attribute) (self_closing finish : Bool) (content : Bool) (context : Context) (ps : List ℕ)
+    → IsProgramOf s paths p → run_by_names p content (with_rest e attributes self_closing finish) context ps ≡ run_by_names p content e context ps
+
+-- the run by names of a start tag over these ranges
+abbrev pub started_by_names : Program → Bool → Element → List Range → Stop
+started_by_names p content e ranges = run_by_names p content e no_context (all_places ranges)
+
+-- A start tag that stops and goes on: it stops exactly if some node needs attributes, and gives what a run with attributes gives.
+pub record WholeStart (s : Selectors) (p : Program) (ranges : List Range) (e : Element) (outer : List Element) (content : Bool) : Type 0 where
+  pub stop : IsStop p content e no_context (all_places ranges) (started_by_names p content e ranges)
+  pub asks : starts_open p e (started_by_names p content e ranges).left ≡ list_any (needs_attributes e outer) s.nodes
+  pub whole : run p content e (started_by_names p content e ranges).context (started_by_names p content e ranges).left ≡ context_of p content e (all_places ranges)
+  -- the tries by names are the places before the stop and those that are left, those by attributes the open ones of the latter
+  pub names : length stop.before + length (started_by_names p content e ranges).left ≡ name_tries s.nodes outer
+  pub attributes : count_by (is_open_at p e) (started_by_names p content e ranges).left ≡ attribute_tries s.nodes e outer
+
+abbrev pub StoppedStartsAreWhole : Type 0
+StoppedStartsAreWhole =
+    (s : Selectors) (paths : List Path) (p : Program) (ranges : List Range) (e : Element) (outer : List Element) (content : Bool)
+    → AreClosed s → IsProgramOf s paths p → HoldOnce paths ranges (LeftMatches outer) → WholeStart s p ranges e outer content
+
+-- 4. Requests
+
+-- A request for the rest of a tag: what is left to run, and the context so far, which is what the places before give, whatever that rest
+-- is. None of those is open; the first that is left is open, or the tag isn't of HTML.
+pub record IsRequest (p : Program) (content : Bool) (e : Element) (ranges : List Range) (context : Context) (left : List ℕ) : Type 0 where
+  pub before : List ℕ
+  pub parts : all_places ranges ≡ before ++ left
+  pub closed : (place : ℕ) → Contains before place → is_open_at p e place ≡ false
+  pub asks : (not (is_html e.tag.namespace) || starts_open p e left) ≡ true
+  pub gathered : (attributes : List Attribute) (self_closing finish : Bool) → context ≡ context_of p content (with_rest e attributes self_closing finish) before
+
+-- A run by names that stops gives a request.
+abbrev pub StopsAreRequests : Type 0
+StopsAreRequests =
+    (s : Selectors) (paths : List Path) (p : Program) (content : Bool) (e : Element) (ranges : List Range)
+    → IsProgramOf s paths p → starts_open p e (started_by_names p content e ranges).left ≡ true
+    → IsRequest p content e ranges (started_by_names p content e ranges).context (started_by_names p content e ranges).left
+
+-- Outside HTML a request is made before any place is run.
+abbrev pub ForeignTagsAsk : Type 0
+ForeignTagsAsk =
+    (p : Program) (content : Bool) (e : Element) (ranges : List Range) → is_html e.tag.namespace ≡ false → IsRequest p content e ranges no_context (all_places ranges)
+
+-- A request that is finished, with whatever rest of the tag, gives what a whole run gives.
+abbrev pub RequestsFinish : Type 0
+RequestsFinish =
+    (p : Program) (content : Bool) (e : Element) (ranges : List Range) (context : Context) (left : List ℕ) → IsRequest p content e ranges context left
+    → (attributes : List Attribute) (self_closing finish : Bool)
+    → run p content (with_rest e attributes self_closing finish) context left ≡ context_of p content (with_rest e attributes self_closing finish) (all_places ranges)

@@ -1,0 +1,90 @@
+-- What a machine keeps of the open elements.
+use Rattle.std.specs.Prelude.{ℕ, ◌≡◌, ◌↔◌, ◌&&◌, ◌==◌, not, Bool, true, List, [], ◌∷◌, ◌++◌, map, filter, length, reverse, Option, Some, Contains}
+use Rattle.std.specs.List.{list_any}
+use Rattle.lol_base.specs.Names.{same_name}
+use Rattle.lol_program.specs.Tests.{Element}
+use Rattle.lol_program.specs.Paths.{Path}
+use Rattle.lol_vm.specs.Matching.{matches, left_matches}
+use Rattle.lol_program.specs.Programs.{Range, Instruction, Program, IsAt, Once, all_places}
+
+-- An open element: its name, and the ranges that it gives to elements right inside it, and to all inside it.
+pub record Item : Type 0 where
+  pub name : List ℕ
+  pub jumps : List Range
+  pub hereditary_jumps : List Range
+
+-- some place has a path with P, and an instruction with this range
+abbrev pub IsReached : (Instruction → Option Range) → List Path → Program → (Path → Type 0) → Range → Type 0
+IsReached which paths p P r =
+    (place : ℕ) × (path : Path) × (i : Instruction) × IsAt paths place path × IsAt p.instructions place i × (which i ≡ Some r) × P path
+
+-- the ranges of the paths with P, each once
+pub record HasRanges (which : Instruction → Option Range) (paths : List Path) (p : Program) (P : Path → Type 0) (ranges : List Range) : Type 0 where
+  pub once : Once ranges
+  pub members : (r : Range) → Contains ranges r ↔ IsReached which paths p P r
+
+abbrev pub Matches : Element → List Element → Path → Type 0
+Matches e outer path = matches path e outer ≡ true
+
+abbrev pub jumps_of : Instruction → Option Range
+jumps_of i = i.jumps
+
+abbrev pub hereditary_jumps_of : Instruction → Option Range
+hereditary_jumps_of i = i.hereditary_jumps
+
+-- the item of an element inside these ones
+pub record IsItem (paths : List Path) (p : Program) (item : Item) (e : Element) (outer : List Element) : Type 0 where
+  pub name : same_name item.name e.tag.name ≡ true
+  pub jumps : HasRanges jumps_of paths p (Matches e outer) item.jumps
+  pub hereditary_jumps : HasRanges hereditary_jumps_of paths p (Matches e outer) item.hereditary_jumps
+
+-- The items, the innermost first, are those of the open elements. This part alone survives a refusal.
+abbrev pub AreItems : List Path → Program → List Item → List Element → Type 0
+AreItems paths p [] [] = Unit {0}
+AreItems paths p (item ∷ items) (e ∷ outer) = IsItem paths p item e outer × AreItems paths p items outer
+AreItems paths p [] (e ∷ outer) = ⊥
+AreItems paths p (item ∷ items) [] = ⊥
+
+-- The active ranges
+
+abbrev pub same_range : Range → Range → Bool
+same_range a b = (a.start == b.start) && (a.end == b.end)
+
+abbrev pub is_active : List (Range × ℕ) → Range → Bool
+is_active active r = list_any (λ a. same_range a.0 r) active
+
+-- ranges that one more item makes active, at its place
+abbrev pub newly_active : List (Range × ℕ) → ℕ → List Range → List (Range × ℕ)
+newly_active active place ranges = map (λ r. (r, place)) (filter (λ r. not (is_active active r)) ranges)
+
+-- The distinct hereditary ranges of the items by first appearance, from the outermost item on, each with the place of the first
+-- item that has it, counted from the outermost, which is 0.
+abbrev pub active_of : List Item → List (Range × ℕ)
+active_of [] = []
+active_of (item ∷ outer) = active_of outer ++ newly_active (active_of outer) (length outer) item.hereditary_jumps
+
+-- What is run for a start tag: the entry points, the last open item's jumps, the active ranges.
+
+abbrev pub last_jumps : List Item → List Range
+last_jumps [] = []
+last_jumps (item ∷ outer) = item.jumps
+
+abbrev pub ranges_of : List (Range × ℕ) → List Range
+ranges_of active = map (λ a. a.0) active
+
+abbrev pub ranges_to_run : Program → List Item → List (Range × ℕ) → List Range
+ranges_to_run p items active = p.entry ∷ (last_jumps items ++ ranges_of active)
+
+-- ranges that hold the place of each path with P once, and no other place
+pub record HoldOnce (paths : List Path) (ranges : List Range) (P : Path → Type 0) : Type 0 where
+  pub once : Once (all_places ranges)
+  pub members : (place : ℕ) → Contains (all_places ranges) place ↔ ((path : Path) × IsAt paths place path × P path)
+
+abbrev pub LeftMatches : List Element → Path → Type 0
+LeftMatches outer path = left_matches path outer ≡ true
+
+-- Items that are kept the outermost first: one more at the end makes its new ranges active, at its place.
+abbrev pub PushedItemsAreActive : Type 0
+PushedItemsAreActive =
+    (items : List Item) (item : Item)
+    → active_of (reverse (items ++ item ∷ [])) ≡ active_of (reverse items) ++ newly_active (active_of (reverse items)) (length items) item.hereditary_jumps

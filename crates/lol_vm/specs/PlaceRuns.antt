@@ -1,0 +1,111 @@
+-- What the places of a program give, run for a start tag.
+use Rattle.std.specs.Prelude.{ℕ, Bool, if◌then◌else◌, List, [], ◌∷◌, ◌++◌, flat_map, drop, slice_get, Option, Some, None, option_to_list, suc}
+use Rattle.std.specs.Option.{option_map}
+use Rattle.lol_program.specs.Tests.{Element}
+use Rattle.lol_program.specs.Compounds.{is_open}
+use Rattle.lol_program.specs.Programs.{Range, Instruction, Program, places, all_places}
+use Rattle.lol_program.specs.declared.name_value.NameValue.{NameValue}
+use Rattle.lol_program.specs.declared.name_value.NameValue.TheVariants.{True, False}
+
+-- 1. What all places give
+
+-- What a start tag has gathered: ids, and ranges for the elements inside.
+pub record Context : Type 0 where
+  pub ids : List ℕ
+  pub jumps : List Range
+  pub hereditary_jumps : List Range
+
+abbrev pub no_context : Context
+no_context = record { ids = []; jumps = []; hereditary_jumps = [] }
+
+-- what the instruction at a place gives, where it holds
+abbrev pub given : {A : Type 0} → (Instruction → List A) → Element → Option Instruction → List A
+given what e None = []
+given what e (Some i) = if i.holds e then what i else []
+
+abbrev pub gathered : {A : Type 0} → (Instruction → List A) → Program → Element → List ℕ → List A
+gathered what p e ps = flat_map (λ place. given what e (slice_get p.instructions place)) ps
+
+abbrev pub ids_of : Instruction → List ℕ
+ids_of i = i.ids
+
+abbrev pub jumps_list : Instruction → List Range
+jumps_list i = option_to_list i.jumps
+
+abbrev pub hereditary_jumps_list : Instruction → List Range
+hereditary_jumps_list i = option_to_list i.hereditary_jumps
+
+-- What is gathered from places, in their order; ranges only for an element with content.
+abbrev pub context_of : Program → Bool → Element → List ℕ → Context
+context_of p content e ps =
+    record {
+      ids = gathered ids_of p e ps;
+      jumps = if content then gathered jumps_list p e ps else [];
+      hereditary_jumps = if content then gathered hereditary_jumps_list p e ps else [];
+    }
+
+-- 2. Place by place
+
+abbrev pub branch : Bool → Context → Instruction → Context
+branch content context i =
+    record {
+      ids = context.ids ++ i.ids;
+      jumps = if content then context.jumps ++ option_to_list i.jumps else context.jumps;
+      hereditary_jumps = if content then context.hereditary_jumps ++ option_to_list i.hereditary_jumps else context.hereditary_jumps;
+    }
+
+abbrev pub step_with_attributes : Bool → Element → Context → Option Instruction → Context
+step_with_attributes content e context None = context
+step_with_attributes content e context (Some i) = if i.holds e then branch content context i else context
+
+-- Runs places with attributes.
+abbrev pub run : Program → Bool → Element → Context → List ℕ → Context
+run p content e context [] = context
+run p content e context (place ∷ ps) = run p content e (step_with_attributes content e context (slice_get p.instructions place)) ps
+
+abbrev pub value_of : Element → Option Instruction → NameValue
+value_of e None = False
+value_of e (Some i) = i.value e
+
+-- the value by names of the instruction at a place
+abbrev pub value_at : Program → Element → ℕ → NameValue
+value_at p e place = value_of e (slice_get p.instructions place)
+
+abbrev pub is_open_at : Program → Element → ℕ → Bool
+is_open_at p e place = is_open (value_at p e place)
+
+-- Where a run without attributes ends: what it gathered, and the places that are left. None are left, or the first of them is open.
+pub record Stop : Type 0 where
+  pub context : Context
+  pub left : List ℕ
+
+abbrev pub step_by_names : Bool → Context → NameValue → Option Instruction → Context
+step_by_names content context True (Some i) = branch content context i
+step_by_names content context _ _ = context
+
+-- Runs places without attributes, up to the first whose value by names is open.
+abbrev pub run_by_names : Program → Bool → Element → Context → List ℕ → Stop
+run_by_names p content e context [] = record { context = context; left = [] }
+run_by_names p content e context (place ∷ ps) =
+    if is_open_at p e place then record { context = context; left = place ∷ ps }
+    else run_by_names p content e (step_by_names content context (value_at p e place) (slice_get p.instructions place)) ps
+
+-- 3. The rest of ranges from an offset in the first of them
+
+abbrev pub places_from : ℕ → List Range → List ℕ
+places_from offset [] = []
+places_from offset (r ∷ ranges) = drop offset (places r) ++ all_places ranges
+
+-- how many places stand before the first open one
+abbrev pub first_open : Program → Element → List ℕ → Option ℕ
+first_open p e [] = None
+first_open p e (place ∷ ps) = if is_open_at p e place then Some 0 else option_map suc (first_open p e ps)
+
+abbrev pub stop_or : Option ℕ → Range → List Range → Option (ℕ × List Range) → Option (ℕ × List Range)
+stop_or None r ranges later = later
+stop_or (Some offset) r ranges later = Some (offset, r ∷ ranges)
+
+-- The offset of the first open place in its range, with that range and those after it.
+abbrev pub stop_in : Program → Element → List Range → Option (ℕ × List Range)
+stop_in p e [] = None
+stop_in p e (r ∷ ranges) = stop_or (first_open p e (places r)) r ranges (stop_in p e ranges)

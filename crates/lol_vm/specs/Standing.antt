@@ -1,0 +1,243 @@
+-- When a machine stands for events.
+use Rattle.std.specs.Prelude.{ℕ, suc, ◌+◌, ◌≡◌, ◌≤◌, ◌<◌, ◌&&◌, ◌||◌, count_by, ◌==◌, not, Bool, true, false, if◌then◌else◌, nat_lt, nat_le, max, List, [], ◌∷◌, ◌++◌, map, filter, drop, take, reverse, length, position, Option, Some, None}
+use Rattle.lol_base.specs.Names.{same_name}
+use Rattle.lol_base.specs.StartTags.{StartTag}
+use Rattle.lol_memory.specs.Slots.{slots, minimum_slots}
+use Rattle.lol_program.specs.Tests.{Element, is_html}
+use Rattle.lol_program.specs.Paths.{Path, Selectors}
+use Rattle.lol_vm.specs.Events.{Event, Start, End, has_content}
+use Rattle.lol_vm.specs.Documents.{Document, Child, empty, element_of, children_of, typed_children_of, after_end, closed}
+use Rattle.lol_vm.specs.Answers.{document, after, is_dropped, asks, ascending, matching_ids, name_tries, attribute_tries}
+use Rattle.lol_vm.specs.Refusals.{longest}
+use Rattle.lol_program.specs.Programs.{Range, Program, IsProgramOf, AreClosed, all_places}
+use Rattle.lol_vm.specs.Machines.{Item, AreItems, active_of, newly_active, ranges_to_run}
+use Rattle.lol_vm.specs.PlaceRuns.{Context, context_of, is_open_at, run}
+use Rattle.lol_vm.specs.MachineLaws.{IsRequest, starts_open, started_by_names, sum_of_lengths}
+
+-- A machine: its program, the ESI switch, its open items, the innermost first, with the active ranges; how many children the root and
+-- each open element had, and of each name, by level (0 is the root's, then from the outermost element on); the size and number of its
+-- slots; whether an event was refused.
+pub record Machine : Type 0 where
+  pub program : Program
+  pub esi : Bool
+  pub items : List Item
+  pub active : List (Range × ℕ)
+  pub root_children : ℕ
+  pub children : List ℕ
+  pub typed : ℕ → List ℕ → ℕ
+  pub item_bytes : ℕ
+  pub slots : ℕ
+  pub refused : Bool
+
+-- 1. Counters
+
+-- the counts by type of the root and of each open level
+abbrev pub AreTyped : (ℕ → List ℕ → ℕ) → List Child → List Element → Type 0
+AreTyped typed children [] = (name : List ℕ) → typed 0 name ≡ typed_children_of None name children
+AreTyped typed children (e ∷ outer) = ((name : List ℕ) → typed (suc (length outer)) name ≡ typed_children_of (Some e.number) name children) × AreTyped typed children outer
+
+-- and none above the open levels
+pub record TypedStand (typed : ℕ → List ℕ → ℕ) (d : Document) : Type 0 where
+  pub levels : AreTyped typed d.children d.open_elements
+  pub above : (level : ℕ) (name : List ℕ) → length d.open_elements < level → typed level name ≡ 0
+
+pub record AreCounted (m : Machine) (d : Document) : Type 0 where
+  pub root : m.root_children ≡ children_of None d.children
+  pub children : m.children ≡ map (λ e. children_of (Some e.number) d.children) d.open_elements
+  pub typed : m.program.by_type ≡ true → TypedStand m.typed d
+
+-- 2. Standing, part by part
+
+-- A machine stands on a document; `most` is the most elements that were open at a time.
+pub record StandsOn (s : Selectors) (esi : Bool) (paths : List Path) (m : Machine) (d : Document) (most : ℕ) : Type 0 where
+  pub program : IsProgramOf s paths m.program
+  pub items : AreItems paths m.program m.items d.open_elements
+  pub counted : AreCounted m d
+  pub active : m.active ≡ active_of m.items
+  pub charged : m.slots ≡ slots m.item_bytes most
+  pub switch : m.esi ≡ esi
+  pub never_refused : m.refused ≡ false
+
+-- A machine stands for events, where the places of its program are those of these paths.
+abbrev pub StandsFor : Selectors → Bool → List Path → Machine → List Event → Type 0
+StandsFor s esi paths m events = StandsOn s esi paths m (document s esi events) (longest s esi events)
+
+-- 3. What a machine does
+
+abbrev pub new_machine : Program → Bool → ℕ → Machine
+new_machine p esi item_bytes =
+    record { program = p; esi = esi; items = []; active = []; root_children = 0; children = []; typed = λ level name. 0; item_bytes = item_bytes; slots = 0; refused = false }
+
+abbrev pub counted_root : List ℕ → ℕ → ℕ
+counted_root [] root = root + 1
+counted_root (c ∷ children) root = root
+
+abbrev pub counted_last : List ℕ → List ℕ
+counted_last [] = []
+counted_last (c ∷ children) = (c + 1) ∷ children
+
+abbrev pub counted_typed : (ℕ → List ℕ → ℕ) → ℕ → List ℕ → ℕ → List ℕ → ℕ
+counted_typed typed level name l n = if (l == level) && same_name n name then typed l n + 1 else typed l n
+
+-- a start tag is counted
+abbrev pub counted : Machine → List ℕ → Machine
+counted m name =
+    record m {
+      root_children = counted_root m.children m.root_children;
+      children = counted_last m.children;
+      typed = counted_typed m.typed (length m.items) name;
+    }
+
+-- the slots after one more item is pushed
+abbrev pub slots_after : ℕ → ℕ → ℕ → ℕ
+slots_after item_bytes slots items = if nat_lt items slots then slots else slots + max slots (minimum_slots item_bytes)
+
+-- an element is opened, with what it gathered
+abbrev pub opened : Machine → List ℕ → Context → Machine
+opened m name context =
+    record m {
+      items = record { name = name; jumps = context.jumps; hereditary_jumps = context.hereditary_jumps } ∷ m.items;
+      active = m.active ++ newly_active m.active (length m.items) context.hereditary_jumps;
+      children = 0 ∷ m.children;
+      slots = slots_after m.item_bytes m.slots (length m.items);
+    }
+
+-- so many items are closed, from the innermost on
+abbrev pub cut : ℕ → Machine → Machine
+cut n m =
+    record m {
+      items = drop n m.items;
+      active = filter (λ a. nat_lt a.1 (length (drop n m.items))) m.active;
+      children = drop n m.children;
+      typed = λ level name. if nat_le level (length (drop n m.items)) then m.typed level name else 0;
+    }
+
+-- how many items an end tag closes, by the place of the first of its name
+abbrev pub closes : Option ℕ → ℕ
+closes None = 0
+closes (Some place) = place + 1
+
+-- an end tag closes the innermost item of its name and all inside it
+abbrev pub ended : Machine → List ℕ → Machine
+ended m name = cut (closes (position (λ item. same_name item.name name) m.items)) m
+
+-- the ranges that are run for a start tag
+abbrev pub ranges_of_machine : Machine → List Range
+ranges_of_machine m = ranges_to_run m.program m.items m.active
+
+-- a start tag, which is counted; where it opens an element, that has all that the ranges give
+abbrev pub started : Machine → Bool → Element → Machine
+started m opens e =
+    if opens then opened (counted m e.tag.name) e.tag.name (context_of m.program true e (all_places (ranges_of_machine m)))
+    else counted m e.tag.name
+
+abbrev pub machine_after : Selectors → Machine → Document → Event → Machine
+machine_after s m d (Start tag) = started m (has_content m.esi tag && not (is_dropped s (element_of d tag) d.open_elements)) (element_of d tag)
+machine_after s m d (End name) = ended m name
+
+-- 4. Over events
+
+-- the numbers of open elements fall from the innermost outward, and are below a bound
+abbrev pub Descend : ℕ → List Element → Type 0
+Descend bound [] = Unit {0}
+Descend bound (e ∷ outer) = (e.number < bound) × Descend e.number outer
+
+-- What is so of every document of events.
+pub record IsOrdered (d : Document) (most : ℕ) : Type 0 where
+  pub numbers : Descend d.events d.open_elements
+  pub fresh : (n : ℕ) → d.events ≤ n → (children_of (Some n) d.children ≡ 0) × ((name : List ℕ) → typed_children_of (Some n) name d.children ≡ 0)
+  pub enough : length d.open_elements ≤ most
+
+abbrev pub DocumentsAreOrdered : Type 0
+DocumentsAreOrdered = (s : Selectors) (esi : Bool) (events : List Event) → IsOrdered (document s esi events) (longest s esi events)
+
+abbrev pub SlotsGrow : Type 0
+SlotsGrow = (item_bytes items most : ℕ) → items ≤ most → slots_after item_bytes (slots item_bytes most) items ≡ slots item_bytes (max most (items + 1))
+
+-- The new machine stands for no events.
+abbrev pub NewStands : Type 0
+NewStands = (s : Selectors) (esi : Bool) (paths : List Path) (p : Program) (item_bytes : ℕ) → IsProgramOf s paths p → StandsFor s esi paths (new_machine p esi item_bytes) []
+
+-- A machine that stands for events stands for them with one more, whichever it is.
+abbrev pub StandingIsKept : Type 0
+StandingIsKept =
+    (s : Selectors) (esi : Bool) (paths : List Path) (m : Machine) (events : List Event) (event : Event) → AreClosed s
+    → StandsFor s esi paths m events → StandsFor s esi paths (machine_after s m (document s esi events) event) (events ++ event ∷ [])
+
+-- An end tag needs and keeps the open items alone: also after a refusal.
+abbrev pub EndsKeepItems : Type 0
+EndsKeepItems =
+    (paths : List Path) (m : Machine) (d : Document) (name : List ℕ)
+    → AreItems paths m.program m.items d.open_elements → AreItems paths m.program (ended m name).items (after_end d name).open_elements
+
+abbrev pub or_root : List ℕ → ℕ → ℕ
+or_root [] root = root
+or_root (c ∷ children) root = c
+
+-- the counter of the innermost open element, or the root's
+abbrev pub last_count : Machine → ℕ
+last_count m = or_root m.children m.root_children
+
+-- The counters of a counted start tag are its element's places.
+abbrev pub CountersArePlaces : Type 0
+CountersArePlaces =
+    (m : Machine) (d : Document) (tag : StartTag) → AreCounted m d → length m.items ≡ length d.open_elements
+    → (last_count (counted m tag.name) ≡ (element_of d tag).position)
+    × (m.program.by_type ≡ true → (counted m tag.name).typed (length m.items) tag.name ≡ (element_of d tag).typed_position)
+
+-- What a machine answers to a start tag: what it asks, reports and counts is what the definition says.
+pub record AnswersStart (s : Selectors) (m : Machine) (e : Element) (outer : List Element) : Type 0 where
+  pub asked :
+      (not (is_html e.tag.namespace) || starts_open m.program e (started_by_names m.program true e (ranges_of_machine m)).left)
+      ≡ asks s e outer
+  pub matched : ascending (context_of m.program true e (all_places (ranges_of_machine m))).ids ≡ matching_ids s.pairs e outer
+  pub names : sum_of_lengths (ranges_of_machine m) ≡ name_tries s.nodes outer
+  pub attributes : count_by (is_open_at m.program e) (all_places (ranges_of_machine m)) ≡ attribute_tries s.nodes e outer
+
+abbrev pub StartsAnswer : Type 0
+StartsAnswer =
+    (s : Selectors) (esi : Bool) (paths : List Path) (m : Machine) (events : List Event) (tag : StartTag) → AreClosed s → StandsFor s esi paths m events
+    → AnswersStart s m (element_of (document s esi events) tag) (document s esi events).open_elements
+
+-- 5. Requests
+
+-- the tag as the event of a request that isn't finished
+abbrev pub unfinished : StartTag → StartTag
+unfinished tag = record { name = tag.name; namespace = tag.namespace; attributes = tag.attributes; self_closing = tag.self_closing; finish = false }
+
+-- A call that answers a request has counted the tag, and leaves the machine standing for the list with the event as dropped.
+abbrev pub RequestsStand : Type 0
+RequestsStand =
+    (s : Selectors) (esi : Bool) (paths : List Path) (m : Machine) (events : List Event) (tag : StartTag)
+    → StandsFor s esi paths m events → asks s (element_of (document s esi events) tag) (document s esi events).open_elements ≡ true
+    → StandsFor s esi paths (counted m tag.name) (events ++ Start (unfinished tag) ∷ [])
+
+abbrev pub finished : Machine → Bool → List ℕ → Context → Machine
+finished m opens name context = if opens then opened m name context else m
+
+-- Finishing a request on that machine puts the finished event in its place.
+abbrev pub FinishingIsKept : Type 0
+FinishingIsKept =
+    (s : Selectors) (esi : Bool) (paths : List Path) (m : Machine) (events : List Event) (tag : StartTag) (context : Context) (left : List ℕ)
+    → AreClosed s → tag.finish ≡ true → asks s (element_of (document s esi events) tag) (document s esi events).open_elements ≡ true
+    → StandsFor s esi paths m (events ++ Start (unfinished tag) ∷ [])
+    → IsRequest m.program true (element_of (document s esi events) tag) (ranges_of_machine m) context left
+    → StandsFor s esi paths (finished m (has_content esi tag) tag.name (run m.program true (element_of (document s esi events) tag) context left)) (events ++ Start tag ∷ [])
+
+-- The machine over events, from what has come before.
+abbrev pub machine_from : Selectors → Bool → Machine → Document → List Event → Machine
+machine_from s esi m d [] = m
+machine_from s esi m d (event ∷ events) = machine_from s esi (machine_after s m d event) (after s esi d event) events
+
+-- The new machine of a program of selectors, over any events, stands for them.
+abbrev pub MachinesStand : Type 0
+MachinesStand =
+    (s : Selectors) (esi : Bool) (paths : List Path) (p : Program) (item_bytes : ℕ) (events : List Event) → AreClosed s → IsProgramOf s paths p
+    → StandsFor s esi paths (machine_from s esi (new_machine p esi item_bytes) empty events) events
+
+-- What is handed out at an end tag: of any data of the open items, the innermost first, those of the closed ones, the outermost first.
+abbrev pub EndsHandOut : Type 0
+EndsHandOut =
+    (paths : List Path) (m : Machine) (d : Document) (name : List ℕ) (numbers : List ℕ)
+    → AreItems paths m.program m.items d.open_elements → numbers ≡ map (λ e. e.number) d.open_elements
+    → reverse (take (closes (position (λ item. same_name item.name name) m.items)) numbers) ≡ closed name d

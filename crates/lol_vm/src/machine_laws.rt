@@ -1,0 +1,143 @@
+//! Laws of the machine over the definitions, each the contract of an empty function.
+
+ghost use Rattle.lol_vm.specs.MachineLaws.{ForeignTagsAsk, OffsetsGoOn, PlacesAreWithin, PlacesCountTries, RangesAreApart, RangesHoldLeftMatches, RequestsFinish, RunsDontSeeTheRest, RunsGather, RunsGiveReports, RunsStopWhereAsked, StoppedStartsAreWhole, StopsAreOffsets, StopsAreRequests};
+ghost use Rattle.lol_vm.specs.Machines.{PushedItemsAreActive};
+ghost use Rattle.lol_vm.specs.Standing.{CountersArePlaces, DocumentsAreOrdered, EndsHandOut, EndsKeepItems, FinishingIsKept, MachinesStand, NewStands, RequestsStand, SlotsGrow, StandingIsKept, StartsAnswer};
+
+/// Two ranges of a program that share a place are those of one instruction by one step, and the
+/// entry range shares no place with them.
+pub fn ranges_are_apart()
+    ensures { RangesAreApart }
+{}
+
+/// The ranges that are run for a start tag hold the place of each node whose left part matches
+/// exactly once, and no other place.
+pub fn ranges_hold_left_matches()
+    ensures { RangesHoldLeftMatches }
+{}
+
+/// Their places are places of instructions.
+pub fn places_are_within()
+    ensures { PlacesAreWithin }
+{}
+
+/// Their places are as many as the tries by names, and the open ones as many as the tries by
+/// attributes.
+pub fn places_count_tries()
+    ensures { PlacesCountTries }
+{}
+
+/// Running them all gives the ids of the report, and the ranges of the element's item.
+pub fn runs_give_reports()
+    ensures { RunsGiveReports }
+{}
+
+/// A run place by place gathers what its places give, in their order.
+pub fn runs_gather()
+    ensures { RunsGather }
+{}
+
+/// A run by names stops at the first open place, and going on from there gives what a whole run
+/// gives.
+pub fn runs_stop_where_asked()
+    ensures { RunsStopWhereAsked }
+{}
+
+/// The place of a stop is an offset in a range, before the ranges after it.
+pub fn stops_are_offsets()
+    ensures { StopsAreOffsets }
+{}
+
+/// The stop's own place comes first, then the places after it.
+pub fn offsets_go_on()
+    ensures { OffsetsGoOn }
+{}
+
+/// A run by names is the same whatever the attributes and the end of the tag are.
+pub fn runs_dont_see_the_rest()
+    ensures { RunsDontSeeTheRest }
+{}
+
+/// A start tag's run that stops and goes on asks exactly where some node needs attributes, tries
+/// each node as often as it is to be tried, and gives what a whole run gives.
+pub fn stopped_starts_are_whole()
+    ensures { StoppedStartsAreWhole }
+{}
+
+/// A run by names that stops gives a request.
+pub fn stops_are_requests()
+    ensures { StopsAreRequests }
+{}
+
+/// Outside HTML a request is made before anything is run.
+pub fn foreign_tags_ask()
+    ensures { ForeignTagsAsk }
+{}
+
+/// A request that is finished, with whatever rest of the tag, gives what a whole run gives.
+pub fn requests_finish()
+    ensures { RequestsFinish }
+{}
+
+/// Where items are kept the outermost first, one more at the end makes its new ranges active.
+pub fn pushed_items_are_active()
+    ensures { PushedItemsAreActive }
+{}
+
+/// The slots after one more item are those of the new greatest number of open elements.
+pub fn slots_grow()
+    ensures { SlotsGrow }
+{}
+
+/// In the document of any events the numbers of open elements fall from the innermost outward, and
+/// numbers to come have no children yet.
+pub fn documents_are_ordered()
+    ensures { DocumentsAreOrdered }
+{}
+
+/// The counters after a start tag is counted are its element's places among its siblings.
+pub fn counters_are_places()
+    ensures { CountersArePlaces }
+{}
+
+/// The new machine of a program of selectors stands for no events.
+pub fn new_stands()
+    ensures { NewStands }
+{}
+
+/// A machine that stands for events stands for them with one more, whichever it is.
+pub fn standing_is_kept()
+    ensures { StandingIsKept }
+{}
+
+/// What a machine that stands for events asks, reports and counts at a start tag is what the
+/// definition says.
+pub fn starts_answer()
+    ensures { StartsAnswer }
+{}
+
+/// A call that answers a request leaves the machine standing for the list with the event as
+/// dropped.
+pub fn requests_stand()
+    ensures { RequestsStand }
+{}
+
+/// Finishing a request on that machine puts the finished event in its place.
+pub fn finishing_is_kept()
+    ensures { FinishingIsKept }
+{}
+
+/// An end tag needs and keeps the open items alone, also after a refusal.
+pub fn ends_keep_items()
+    ensures { EndsKeepItems }
+{}
+
+/// What is handed out at an end tag are the data of the closed elements, the outermost first.
+pub fn ends_hand_out()
+    ensures { EndsHandOut }
+{}
+
+/// The new machine of a program of selectors, over any events, stands for them.
+pub fn machines_stand()
+    ensures { MachinesStand }
+{}
