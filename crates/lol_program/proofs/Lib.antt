@@ -18,3 +18,6 @@ mod AttributeValues
 mod MarkLemmas
 mod MatcherLemmas
 mod WordPlaces
+pub mod Closed
+pub mod CompiledRows
+pub mod CompiledValues

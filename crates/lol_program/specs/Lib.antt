@@ -31,3 +31,4 @@ pub mod PairNodeLaws
 pub mod ClosedLaws
 pub mod Words
 pub mod AttributeLaws
+pub mod Compiled

@@ -1,7 +1,7 @@
 //! Counts of children.
 
 ghost use Rattle.std.specs.Prelude.{◌≡◌, ◌<◌, ◌≤◌, ◌+◌, ◌↔◌, IsTrue, pos, ◌≤ℤ◌};
-ghost use Rattle.lol_css.specs.Progression.{Has};
+ghost use Rattle.lol_css.specs.Progression.{Has, has_index};
 ghost use Rattle.lol_program.specs.Counters.{full_count};
 
 use lol_css::NthChild;
@@ -50,7 +50,8 @@ impl ChildCounter {
 
     /// Whether the child that was counted last is the An+Bth one.
     pub fn is_nth(&self, nth: NthChild) -> bool
-        ensures { IsTrue result ↔ Has nth (pos self.now) }
+        ensures member { IsTrue result ↔ Has nth (pos self.now) }
+        ensures computed { result ≡ has_index nth (pos self.now) }
     {
         nth.has_index(self.cumulative)
     }

@@ -6,6 +6,8 @@ mod ast_node;
 mod attribute_matcher;
 mod attribute_value;
 mod child_counter;
+mod compiled_expr;
+mod compiled_predicate;
 mod condition;
 mod execution_branch;
 mod gift;
@@ -22,6 +24,10 @@ pub use ast::Ast;
 pub use ast_node::AstNode;
 pub use attribute_matcher::{AttrExprOperands, AttributeMatcher};
 pub use child_counter::ChildCounter;
+pub use compiled_expr::{
+    AttributeExprTest, CompiledAttributeExpr, CompiledLocalNameExpr, LocalNameExprTest,
+};
+pub use compiled_predicate::{CompiledPredicate, CompiledTest};
 pub use condition::{AttributeComparisonExpr, Condition, OnAttributesExpr, OnTagNameExpr};
 pub use execution_branch::{AddressRange, ExecutionBranch};
 pub use name_value::NameValue;

@@ -1,5 +1,8 @@
 //! What is known of a compound before attributes are.
 
+ghost use Rattle.std.specs.Prelude.{◌≡◌};
+ghost use Rattle.lol_program.specs.Compounds.{value_of_bool, opposite};
+
 /// What an element's name and place alone say of whether it passes a test or a compound.
 #[derive(Debug, Clone, Copy, PartialEq, Eq)]
 pub enum NameValue {
@@ -9,4 +12,29 @@ pub enum NameValue {
     False,
     /// That is known with its attributes alone.
     Open,
+}
+
+impl NameValue {
+    /// The value of a test that names and places alone decide.
+    #[inline(always)]
+    pub(crate) fn of_test(passes: bool) -> Self
+        ensures { result ≡ value_of_bool passes }
+    {
+        if passes {
+            NameValue::True
+        } else {
+            NameValue::False
+        }
+    }
+
+    /// The value of the opposite, which is open where this is.
+    pub(crate) fn opposite(self) -> Self
+        ensures { result ≡ opposite self }
+    {
+        match self {
+            NameValue::True => NameValue::False,
+            NameValue::False => NameValue::True,
+            NameValue::Open => NameValue::Open,
+        }
+    }
 }
