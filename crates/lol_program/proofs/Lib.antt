@@ -18,6 +18,5 @@ mod AttributeValues
 mod MarkLemmas
 mod MatcherLemmas
 mod WordPlaces
-pub mod Closed
 pub mod CompiledRows
 pub mod CompiledValues

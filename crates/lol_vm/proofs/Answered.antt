@@ -3,10 +3,10 @@ use Rattle.std.proofs.Common.{◌≡◌, ℕ, true, List, [], ◌∷◌, ◌↔�
 use Rattle.std.specs.Prelude.{◌||◌, not}
 use Rattle.lol_program.specs.Tests.{Element, is_html}
 use Rattle.lol_program.specs.Paths.{Selectors}
-use Rattle.lol_program.proofs.Members.{Among}
+use Rattle.lol_base.specs.MemberLaws.{Among}
 use Rattle.lol_vm.specs.Documents.{element_of}
 use Rattle.lol_vm.specs.Answers.{document, with_number, ascending, matching_ids}
-use Rattle.lol_vm.proofs.Reports.{ascending_is_determined, ascending_ascends, pairs_from_ascends, matching_ids_ascend, among_with_number, number_among, others_among}
+use Rattle.lol_vm.specs.ReportLaws.{ascending_is_determined, ascending_ascends, pairs_from_ascends, matching_ids_ascend, among_with_number, number_among, others_among}
 use Rattle.lol_program.specs.Programs.{all_places}
 use Rattle.lol_vm.specs.Machines.{HoldOnce, LeftMatches, ranges_to_run}
 use Rattle.lol_vm.specs.PlaceRuns.{context_of}

@@ -5,7 +5,7 @@ use Rattle.std.specs.List.{list_any}
 use Rattle.std.proofs.lemmas.List.Concat.{length-flat_map}
 use Rattle.lol_program.specs.Tests.{Element}
 use Rattle.lol_program.specs.Paths.{Path, Selectors}
-use Rattle.lol_program.proofs.Members.{Among, same_count}
+use Rattle.lol_base.specs.MemberLaws.{Among, same_count}
 use Rattle.lol_vm.specs.Matching.{left_matches}
 use Rattle.lol_vm.specs.Answers.{name_tries, attribute_tries, needs_attributes}
 use Rattle.lol_vm.proofs.Bools.{and_both, and_true, same_bool}

@@ -6,10 +6,10 @@ use Rattle.lol_css.specs.declared.selector.Combinator.TheVariants.{Child, Descen
 use Rattle.lol_program.specs.Tests.{Element}
 use Rattle.lol_program.specs.Compounds.{all_hold}
 use Rattle.lol_program.specs.Paths.{Path, Selectors, last_compound}
-use Rattle.lol_program.proofs.Members.{Among, Distinct}
+use Rattle.lol_base.specs.MemberLaws.{Among, Distinct}
 use Rattle.lol_vm.specs.Matching.{left_matches, matches}
 use Rattle.lol_vm.specs.Answers.{matching_ids}
-use Rattle.lol_vm.proofs.Reports.{among_matching_ids, matching_ids_among}
+use Rattle.lol_vm.specs.ReportLaws.{among_matching_ids, matching_ids_among}
 use Rattle.lol_vm.proofs.Bools.{and_both, both_and}
 use Rattle.lol_program.specs.Programs.{Range, Instruction, Program, IsAt, IsRangeOf, IsProgramOf, AreClosed, all_places}
 use Rattle.lol_vm.specs.Machines.{HasRanges, Matches, HoldOnce, LeftMatches, jumps_of, hereditary_jumps_of}

@@ -8,7 +8,7 @@ use Rattle.lol_css.specs.declared.selector.Combinator.{Combinator}
 use Rattle.lol_css.specs.declared.selector.Combinator.TheVariants.{Child, Descendant}
 use Rattle.lol_program.specs.Tests.{Element}
 use Rattle.lol_program.specs.Paths.{Path, First, Then, Selectors}
-use Rattle.lol_program.proofs.Members.{Among, Distinct, among_front, among_back, among_either}
+use Rattle.lol_base.specs.MemberLaws.{Among, Distinct, among_front, among_back, among_either}
 use Rattle.lol_vm.specs.Matching.{matches, left_matches, parent_passes, some_ancestor_passes}
 use Rattle.lol_vm.proofs.Bools.{and_both, both_and, not_true, true_or_not, either, left_or, right_or}
 use Rattle.lol_program.specs.Programs.{Range, Instruction, Program, IsWithin, IsAt, HoldsPlaces, IsRangeOf, IsProgramOf, IsInstruction, AreClosed, above, range_by, places, all_places}

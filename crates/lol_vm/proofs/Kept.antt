@@ -11,7 +11,7 @@ use Rattle.lol_base.specs.StartTags.{StartTag}
 use Rattle.lol_memory.specs.Slots.{slots, minimum_slots, doubled_to}
 use Rattle.lol_program.specs.Tests.{Element}
 use Rattle.lol_program.specs.Paths.{Path, Selectors}
-use Rattle.lol_program.proofs.Members.{count_by-cons}
+use Rattle.lol_base.specs.MemberLaws.{count_by-cons}
 use Rattle.lol_vm.specs.Events.{Event, Start, End, has_content}
 use Rattle.lol_vm.specs.Documents.{Document, Child, empty, element_of, parent_of, same_parent, children_of, typed_children_of, place_of, inner_part, outer_part, after_start, after_end}
 use Rattle.lol_vm.specs.Answers.{document, document_from, after, is_dropped, asks}

@@ -2,9 +2,9 @@
 use Rattle.std.proofs.Common.{◌≡◌, ◌≢◌, ℕ, zero, suc, ◌+◌, ◌<◌, ◌≤◌, Bool, true, false, cond, List, [], ◌∷◌, ◌++◌, length, map, filter, Some, ◌⊎◌, inl, inr, refl, sym, ap, ◌∙◌, subst, arith, Contains, AllPairs}
 use Rattle.std.specs.Prelude.{slice_get, flat_map, count_by}
 use Rattle.std.specs.List.{range_with_len, list_any}
-use Rattle.lol_program.proofs.Members.{Among, Distinct, among_from_contains, contains_from_among, among_front, among_back, among_either, distinct_from_pairs, same_count, count_by-cons}
+use Rattle.lol_base.specs.MemberLaws.{Among, Distinct, among_from_contains, contains_from_among, among_front, among_back, among_either, distinct_from_pairs, same_count, count_by-cons}
 use Rattle.lol_vm.proofs.Bools.{either, left_or, right_or}
-use Rattle.lol_program.proofs.Once.{AllPairs-from_Distinct}
+use Rattle.lol_program.specs.NodeOnceLaws.{AllPairs-from_Distinct}
 
 module _ {A : Type 0} where
   pub to_contains : (xs : List A) (x : A) → Among xs x → Contains xs x

@@ -9,7 +9,7 @@ use Rattle.std.specs.Option.{option_map}
 use Rattle.lol_base.specs.StartTags.{Attribute}
 use Rattle.lol_program.specs.Tests.{Element, is_html}
 use Rattle.lol_program.specs.Paths.{Path, Selectors, last_compound}
-use Rattle.lol_program.proofs.Members.{count_by-cons, Among, among_from_contains, contains_from_among}
+use Rattle.lol_base.specs.MemberLaws.{count_by-cons, Among, among_from_contains, contains_from_among}
 use Rattle.lol_vm.specs.Matching.{left_matches}
 use Rattle.lol_vm.specs.Answers.{needs_attributes, asks}
 use Rattle.lol_vm.proofs.Bools.{right_or}
