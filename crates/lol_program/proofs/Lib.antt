@@ -20,3 +20,4 @@ mod MatcherLemmas
 mod WordPlaces
 pub mod CompiledRows
 pub mod CompiledValues
+pub mod CompiledLists

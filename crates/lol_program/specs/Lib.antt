@@ -32,3 +32,4 @@ pub mod ClosedLaws
 pub mod Words
 pub mod AttributeLaws
 pub mod Compiled
+pub mod Compiling

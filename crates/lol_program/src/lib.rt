@@ -6,6 +6,7 @@ mod ast_node;
 mod attribute_matcher;
 mod attribute_value;
 mod child_counter;
+mod compilable;
 mod compiled_expr;
 mod compiled_predicate;
 mod condition;
@@ -24,6 +25,7 @@ pub use ast::Ast;
 pub use ast_node::AstNode;
 pub use attribute_matcher::{AttrExprOperands, AttributeMatcher};
 pub use child_counter::ChildCounter;
+pub use compilable::Compilable;
 pub use compiled_expr::{
     AttributeExprTest, CompiledAttributeExpr, CompiledLocalNameExpr, LocalNameExprTest,
 };

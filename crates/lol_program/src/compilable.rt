@@ -1,0 +1,176 @@
+//! From tests to compiled tests.
+
+ghost use Rattle.std.specs.Prelude.{◌≡◌, ◌||◌, IfOk, OnOk, IsTrue, map, string_bytes};
+ghost use Rattle.lol_program.specs.Compounds.{is_by_type, test_has_type, has_test_by_type, some_has_type, all_of, any_of};
+ghost use Rattle.lol_program.specs.Tests.{Compares};
+ghost use Rattle.lol_program.specs.Predicates.{name_test, attribute_test, test_shown, tests_of};
+ghost use Rattle.lol_program.specs.Compiling.{IsCompiledName, IsCompiledAttribute, IsCompiledTest, AreCompiledTests, AreCompiledPredicates};
+
+use crate::attribute_matcher::AttrExprOperands;
+use crate::compiled_expr::{
+    AttributeExprTest, CompiledAttributeExpr, CompiledLocalNameExpr, LocalNameExprTest,
+};
+use crate::compiled_predicate::{CompiledPredicate, CompiledTest};
+use crate::condition::{AttributeComparisonExpr, OnAttributesExpr, OnTagNameExpr};
+use crate::predicate::{Predicate, Test};
+use lol_base::LocalName;
+use lol_css::AttrSelectorOperator;
+use std::alloc::{AllocError, Global};
+
+/// What compiles to a test (lol_html's `Compilable`).
+pub trait Compilable {
+    /// The compiled test. The flag is set where a test by type is in it, at any depth, and isn't changed otherwise. It is refused where
+    /// memory is.
+    fn compile(
+        self,
+        alloc: Global,
+        enable_nth_of_type: &mut bool,
+    ) -> Result<CompiledTest, AllocError>;
+}
+
+impl Compilable for Test {
+    /// The compiled test, into which operands move. A comparison's name is kept in ASCII lower case, and that of a test that an attribute is
+    /// there as it is, so that with a capital in it no attribute has it. `~=`, `^=`, `$=` and `*=` with an empty operand become a test of
+    /// attributes that no element passes.
+    fn compile(
+        self,
+        alloc: Global,
+        enable_nth_of_type: &mut bool,
+    ) -> Result<CompiledTest, AllocError>
+        ensures test { IfOk result (λ compiled. IsCompiledTest compiled (test_shown self)) }
+        ensures flag { OnOk result (enable_nth_of_type.new ≡ (enable_nth_of_type.old || test_has_type (test_shown self))) }
+        ensures stays { IsTrue enable_nth_of_type.old → IsTrue enable_nth_of_type.new }
+    {
+        compile_test(alloc, self, enable_nth_of_type)
+    }
+}
+
+#[cycle(compiling)]
+fn compile_test(
+    alloc: Global,
+    test: Test,
+    enable_nth_of_type: &mut bool,
+) -> Result<CompiledTest, AllocError>
+    ensures test { IfOk result (λ compiled. IsCompiledTest compiled (test_shown test)) }
+    ensures flag { OnOk result (enable_nth_of_type.new ≡ (enable_nth_of_type.old || test_has_type (test_shown test))) }
+    ensures stays { IsTrue enable_nth_of_type.old → IsTrue enable_nth_of_type.new }
+{
+    match test {
+        Test::Name(expr) => {
+            let test = compile_name(alloc, expr, enable_nth_of_type)?;
+            Ok(CompiledTest::Name(CompiledLocalNameExpr { test }))
+        }
+        Test::Attribute(expr) => Ok(CompiledTest::Attribute(CompiledAttributeExpr {
+            test: compile_attribute(expr),
+        })),
+        Test::NoneOf(predicates) => Ok(CompiledTest::NoneOf(compile_predicates(
+            alloc,
+            predicates,
+            enable_nth_of_type,
+        )?)),
+        Test::SomeOf(predicates) => Ok(CompiledTest::SomeOf(compile_predicates(
+            alloc,
+            predicates,
+            enable_nth_of_type,
+        )?)),
+    }
+}
+
+/// The tests of a compound, in order.
+#[cycle(compiling)]
+pub(crate) fn compile_tests(
+    alloc: Global,
+    tests: Vec<Test>,
+    enable_nth_of_type: &mut bool,
+) -> Result<Vec<CompiledTest>, AllocError>
+    ensures tests { IfOk result (λ compiled. AreCompiledTests compiled.items (all_of (map test_shown tests.items))) }
+    ensures flag { OnOk result (enable_nth_of_type.new ≡ (enable_nth_of_type.old || has_test_by_type (all_of (map test_shown tests.items)))) }
+    ensures stays { IsTrue enable_nth_of_type.old → IsTrue enable_nth_of_type.new }
+{
+    let mut compiled = Vec::new(alloc);
+    for test in tests {
+        compiled.push(compile_test(alloc, test, enable_nth_of_type)?)?;
+    }
+    Ok(compiled)
+}
+
+/// The compounds of a list, in order.
+#[cycle(compiling)]
+fn compile_predicates(
+    alloc: Global,
+    predicates: Vec<Predicate>,
+    enable_nth_of_type: &mut bool,
+) -> Result<Vec<CompiledPredicate>, AllocError>
+    ensures predicates { IfOk result (λ compiled. AreCompiledPredicates compiled.items (any_of (map tests_of predicates.items))) }
+    ensures flag { OnOk result (enable_nth_of_type.new ≡ (enable_nth_of_type.old || some_has_type (any_of (map tests_of predicates.items)))) }
+    ensures stays { IsTrue enable_nth_of_type.old → IsTrue enable_nth_of_type.new }
+{
+    let mut compiled = Vec::new(alloc);
+    for predicate in predicates {
+        let tests = compile_tests(alloc, predicate.tests, enable_nth_of_type)?;
+        compiled.push(CompiledPredicate::new(tests))?;
+    }
+    Ok(compiled)
+}
+
+fn compile_name(
+    alloc: Global,
+    expr: OnTagNameExpr,
+    enable_nth_of_type: &mut bool,
+) -> Result<LocalNameExprTest, AllocError>
+    ensures test { IfOk result (λ compiled. IsCompiledName compiled (name_test expr)) }
+    ensures flag { OnOk result (enable_nth_of_type.new ≡ (enable_nth_of_type.old || is_by_type (name_test expr))) }
+    ensures stays { IsTrue enable_nth_of_type.old → IsTrue enable_nth_of_type.new }
+{
+    match expr {
+        OnTagNameExpr::ExplicitAny => Ok(LocalNameExprTest::Any),
+        OnTagNameExpr::Unmatchable => Ok(LocalNameExprTest::Never),
+        OnTagNameExpr::LocalName(name) => {
+            let name = LocalName::new(name.as_str().as_bytes()).into_owned(alloc)?;
+            Ok(LocalNameExprTest::LocalName(name))
+        }
+        OnTagNameExpr::NthChild(nth) => Ok(LocalNameExprTest::NthChild(nth)),
+        OnTagNameExpr::NthOfType(nth) => {
+            *enable_nth_of_type = true;
+            Ok(LocalNameExprTest::NthOfType(nth))
+        }
+    }
+}
+
+fn compile_attribute(expr: OnAttributesExpr) -> AttributeExprTest
+    ensures { IsCompiledAttribute result (attribute_test expr) }
+{
+    match expr {
+        OnAttributesExpr::Id(id) => AttributeExprTest::Id(id.into_bytes()),
+        OnAttributesExpr::Class(name) => AttributeExprTest::Class(name.into_bytes()),
+        OnAttributesExpr::AttributeExists(name) => AttributeExprTest::Exists(name.into_bytes()),
+        OnAttributesExpr::AttributeComparisonExpr(expr) => compile_comparison(expr),
+    }
+}
+
+fn compile_comparison(expr: AttributeComparisonExpr) -> AttributeExprTest
+    ensures { IsCompiledAttribute result (Compares (string_bytes expr.name) expr.operator (string_bytes expr.value) expr.case_sensitivity) }
+{
+    let AttributeComparisonExpr {
+        mut name,
+        value,
+        case_sensitivity,
+        operator,
+    } = expr;
+    name.make_ascii_lowercase();
+    let is_empty = value.is_empty();
+    let operands = AttrExprOperands {
+        name: name.into_bytes(),
+        value: value.into_bytes(),
+        case_sensitivity,
+    };
+    match operator {
+        AttrSelectorOperator::Equal => AttributeExprTest::Equal(operands),
+        AttrSelectorOperator::DashMatch => AttributeExprTest::DashMatch(operands),
+        _ if is_empty => AttributeExprTest::Never,
+        AttrSelectorOperator::Includes => AttributeExprTest::Includes(operands),
+        AttrSelectorOperator::Prefix => AttributeExprTest::Prefix(operands),
+        AttrSelectorOperator::Suffix => AttributeExprTest::Suffix(operands),
+        AttrSelectorOperator::Substring => AttributeExprTest::Substring(operands),
+    }
+}
