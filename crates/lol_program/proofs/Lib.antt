@@ -21,3 +21,4 @@ mod WordPlaces
 pub mod CompiledRows
 pub mod CompiledValues
 pub mod CompiledLists
+pub mod CompiledDecides

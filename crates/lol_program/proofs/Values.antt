@@ -37,16 +37,16 @@ values_are_by_names c e attributes self_closing finish = compound-rest e attribu
 
 -- 2. What isn't open decides
 
-decides_bool : (b : Bool) → Decides (value_of_bool b) b
+pub decides_bool : (b : Bool) → Decides (value_of_bool b) b
 decides_bool true = refl
 decides_bool false = refl
 
-decides_opposite : (v : NameValue) (b : Bool) → Decides v b → Decides (opposite v) (not b)
+pub decides_opposite : (v : NameValue) (b : Bool) → Decides v b → Decides (opposite v) (not b)
 decides_opposite True b d = ap not d
 decides_opposite False b d = ap not d
 decides_opposite Open b d = tt
 
-decides_both : (v w : NameValue) (a b : Bool) → Decides v a → Decides w b → Decides (both v w) (a && b)
+pub decides_both : (v w : NameValue) (a b : Bool) → Decides v a → Decides w b → Decides (both v w) (a && b)
 decides_both False w a b d e = ap (λ (x : Bool). x && b) d
 decides_both True True a b d e = λ i. d i && e i
 decides_both True False a b d e = λ i. d i && e i
@@ -56,7 +56,7 @@ decides_both Open False true b d e = e
 decides_both Open False false b d e = refl
 decides_both Open Open a b d e = tt
 
-decides_either : (v w : NameValue) (a b : Bool) → Decides v a → Decides w b → Decides (either v w) (a || b)
+pub decides_either : (v w : NameValue) (a b : Bool) → Decides v a → Decides w b → Decides (either v w) (a || b)
 decides_either True w a b d e = ap (λ (x : Bool). x || b) d
 decides_either False True a b d e = λ i. d i || e i
 decides_either False False a b d e = λ i. d i || e i

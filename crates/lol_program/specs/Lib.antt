@@ -33,3 +33,4 @@ pub mod Words
 pub mod AttributeLaws
 pub mod Compiled
 pub mod Compiling
+pub mod Running

@@ -1,6 +1,6 @@
 //! How many nodes were tried.
 
-ghost use Rattle.std.specs.Prelude.{◌≡◌};
+ghost use Rattle.std.specs.Prelude.{◌≡◌, ◌<◌, ◌+◌};
 
 /// How many nodes were tried for a start tag by their name tests, and how many by their attribute tests. (Not in the crate.)
 #[derive(Debug, Clone, Copy, PartialEq, Eq)]
@@ -35,5 +35,25 @@ impl Tries {
         ensures { result ≡ attribute_tries self.now }
     {
         self.attributes
+    }
+
+    /// Counts a node more by its name tests.
+    #[inline(always)]
+    pub(crate) fn add_name(&mut self)
+        requires { name_tries self.old < u64.MAX }
+        ensures names { name_tries self.new ≡ name_tries self.old + 1 }
+        ensures attributes { attribute_tries self.new ≡ attribute_tries self.old }
+    {
+        self.names += 1;
+    }
+
+    /// Counts a node more by its attribute tests.
+    #[inline(always)]
+    pub(crate) fn add_attributes(&mut self)
+        requires { attribute_tries self.old < u64.MAX }
+        ensures names { name_tries self.new ≡ name_tries self.old }
+        ensures attributes { attribute_tries self.new ≡ attribute_tries self.old + 1 }
+    {
+        self.attributes += 1;
     }
 }

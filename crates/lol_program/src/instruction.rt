@@ -1,0 +1,129 @@
+//! Instructions of a program, and how one is run.
+
+ghost use Rattle.std.specs.Prelude.{◌≡◌, ◌<◌, ◌+◌, [], None, if◌then◌else◌};
+ghost use Rattle.std.specs.Option.{option_copied};
+ghost use Rattle.lol_memory.specs.Ids.{no_ids};
+ghost use Rattle.lol_program.specs.Tries.{name_tries, attribute_tries};
+ghost use Rattle.lol_program.specs.Compiled.{sight, tests_in, predicate_value, predicate_holds};
+ghost use Rattle.lol_program.specs.Running.{Answers, branch_if, tries_of_attributes};
+
+use crate::attribute_matcher::AttributeMatcher;
+use crate::compiled_predicate::CompiledPredicate;
+use crate::execution_branch::ExecutionBranch;
+use crate::name_value::NameValue;
+use crate::selector_state::SelectorState;
+use crate::tries::Tries;
+use lol_base::LocalName;
+use lol_memory::DenseHashSet;
+use std::alloc::Global;
+
+/// What is known of an element before its attributes are (lol_html's `TryExecResult`).
+#[derive(Drop)]
+pub enum TryExecResult<'p> {
+    /// It passes, and gets this.
+    Branch(&'p ExecutionBranch),
+    /// That is known with its attributes alone.
+    AttributesRequired,
+    /// It doesn't pass.
+    Fail,
+}
+
+/// The tests of a node, and what an element gets that passes them (lol_html's `Instruction`). The calls that run it take no memory, and
+/// nothing else changes a count of tries.
+#[derive(Drop)]
+pub struct Instruction {
+    pub associated_branch: ExecutionBranch,
+    pub predicate: CompiledPredicate,
+}
+
+impl Instruction {
+    /// An instruction without tests, ids and ranges, which every element passes. It takes no memory.
+    pub fn noop(alloc: Global) -> Self
+        ensures tests { tests_in result.predicate ≡ [] }
+        ensures ids { result.associated_branch.matched_ids ≡ no_ids }
+        ensures jumps { result.associated_branch.jumps ≡ None }
+        ensures hereditary_jumps { result.associated_branch.hereditary_jumps ≡ None }
+    {
+        Instruction {
+            associated_branch: ExecutionBranch {
+                matched_ids: DenseHashSet::new(alloc),
+                jumps: None,
+                hereditary_jumps: None,
+            },
+            predicate: CompiledPredicate::new(Vec::new(alloc)),
+        }
+    }
+
+    /// Tries an element by its name and its counters. It counts one try by names; fewer than `u64::MAX` were counted.
+    #[inline(always)]
+    pub fn try_exec_without_attrs(
+        &self,
+        state: &SelectorState<'_>,
+        local_name: &LocalName<'_>,
+        tries: &mut Tries,
+    ) -> TryExecResult<'_>
+        requires names_fit { name_tries tries.old < u64.MAX }
+        requires attributes_fit { attribute_tries tries.old < u64.MAX }
+        ensures answer { Answers result (predicate_value self.now.predicate (sight state.now local_name.now)) self.now.associated_branch }
+        ensures names { name_tries tries.new ≡ name_tries tries.old + 1 }
+        ensures attributes { attribute_tries tries.new ≡ attribute_tries tries.old }
+    {
+        tries.add_name();
+        match self.predicate.by_names(state, local_name) {
+            NameValue::True => TryExecResult::Branch(&self.associated_branch),
+            NameValue::False => TryExecResult::Fail,
+            NameValue::Open => TryExecResult::AttributesRequired,
+        }
+    }
+
+    /// Tries an element with its attributes that was tried without. It counts one try by attributes exactly if these were required; fewer
+    /// than `u64::MAX` were counted.
+    #[inline(always)]
+    pub fn complete_exec_with_attrs(
+        &self,
+        state: &SelectorState<'_>,
+        local_name: &LocalName<'_>,
+        matcher: &AttributeMatcher<'_>,
+        tries: &mut Tries,
+    ) -> Option<&ExecutionBranch>
+        requires names_fit { name_tries tries.old < u64.MAX }
+        requires attributes_fit { attribute_tries tries.old < u64.MAX }
+        ensures answer { option_copied result ≡ branch_if (predicate_holds self.now.predicate (sight state.now local_name.now) matcher.now) self.now.associated_branch }
+        ensures names { name_tries tries.new ≡ name_tries tries.old }
+        ensures attributes { attribute_tries tries.new ≡ attribute_tries tries.old + tries_of_attributes (predicate_value self.now.predicate (sight state.now local_name.now)) }
+    {
+        match self.predicate.by_names(state, local_name) {
+            NameValue::True => Some(&self.associated_branch),
+            NameValue::False => None,
+            NameValue::Open => {
+                tries.add_attributes();
+                if self.predicate.eval(state, local_name, matcher) {
+                    Some(&self.associated_branch)
+                } else {
+                    None
+                }
+            }
+        }
+    }
+
+    /// Tries an element with its attributes at once. It counts one try by names, and one by attributes exactly if name and counters leave
+    /// open whether it passes; of both fewer than `u64::MAX` were counted.
+    #[inline(always)]
+    pub fn exec(
+        &self,
+        state: &SelectorState<'_>,
+        local_name: &LocalName<'_>,
+        matcher: &AttributeMatcher<'_>,
+        tries: &mut Tries,
+    ) -> Option<&ExecutionBranch>
+        requires names_fit { name_tries tries.old < u64.MAX }
+        requires attributes_fit { attribute_tries tries.old < u64.MAX }
+        ensures answer { option_copied result ≡ branch_if (predicate_holds self.now.predicate (sight state.now local_name.now) matcher.now) self.now.associated_branch }
+        ensures names { name_tries tries.new ≡ name_tries tries.old + 1 }
+        ensures attributes { attribute_tries tries.new ≡ attribute_tries tries.old + tries_of_attributes (predicate_value self.now.predicate (sight state.now local_name.now)) }
+    {
+        let branch = self.complete_exec_with_attrs(state, local_name, matcher, tries);
+        tries.add_name();
+        branch
+    }
+}
