@@ -22,3 +22,7 @@ pub mod CompiledRows
 pub mod CompiledValues
 pub mod CompiledLists
 pub mod CompiledDecides
+pub mod ListPlaces
+pub mod Apart
+pub mod ByType
+pub mod Laid

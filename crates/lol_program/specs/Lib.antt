@@ -34,3 +34,6 @@ pub mod AttributeLaws
 pub mod Compiled
 pub mod Compiling
 pub mod Running
+pub mod Layouts
+pub mod ProgramViews
+pub mod Laying

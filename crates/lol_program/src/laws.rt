@@ -4,6 +4,7 @@ ghost use Rattle.std.specs.Prelude.{ℕ, List};
 ghost use Rattle.lol_program.specs.Paths.{Path, AreNodes};
 ghost use Rattle.lol_program.specs.Nodes.{nodes_of};
 ghost use Rattle.lol_program.specs.Laws.{NodesStayTheBeginnings, TreesAreClosed, BeginningsAreClosed, ValuesDecide, ValuesAreByNames, AreRows};
+ghost use Rattle.lol_program.specs.Layouts.{LayoutsArePrograms, RangesAreApart, WorkedLayout};
 
 /// The nodes of pairs are the beginnings of their paths, each once.
 pub fn nodes_are_the_beginnings()
@@ -38,4 +39,19 @@ pub fn values_are_by_names()
 /// Worked rows: the tests of compounds.
 pub fn worked_compounds()
     ensures { AreRows }
+{}
+
+/// The layout of a tree of selectors is a program of them, whose places are those of its nodes in their order.
+pub fn layouts_are_programs()
+    ensures { LayoutsArePrograms }
+{}
+
+/// The ranges of a program of selectors share no place.
+pub fn ranges_are_apart()
+    ensures { RangesAreApart }
+{}
+
+/// Worked row: where `div p` under 0 and `div > p` under 1 stand.
+pub fn worked_layout()
+    ensures { WorkedLayout }
 {}
