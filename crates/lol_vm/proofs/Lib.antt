@@ -17,3 +17,7 @@ pub mod Stops
 pub mod Kept
 pub mod Answered
 pub mod Whole
+pub mod ContentMarks
+pub mod Closings
+pub mod OneId
+pub mod Unasked

@@ -27,3 +27,4 @@ pub mod Machines
 pub mod PlaceRuns
 pub mod MachineLaws
 pub mod Standing
+pub mod RunLaws

@@ -13,6 +13,7 @@ mod matching;
 mod open_names;
 pub mod rows;
 mod run;
+pub mod run_laws;
 mod stack;
 mod stack_item;
 mod void;

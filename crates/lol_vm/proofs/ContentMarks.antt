@@ -1,0 +1,58 @@
+-- Content marks, and what end tags close.
+use Rattle.std.proofs.Common.{◌≡◌, ◌≢◌, ℕ, Bool, true, false, ◌||◌, not, cond, ◌⊎◌, ◌↔◌, inl, inr, refl, sym, ap, ◌∙◌, subst, Contains}
+use Rattle.std.specs.Prelude.{◌&&◌}
+use Rattle.lol_base.specs.Names.{is_void, is_esi}
+use Rattle.lol_base.specs.StartTags.{StartTag}
+use Rattle.lol_base.specs.declared.namespace.Namespace.{Namespace}
+use Rattle.lol_base.specs.declared.namespace.Namespace.TheVariants.{Html, Svg, MathML}
+use Rattle.lol_vm.specs.Events.{has_content, has_content_in}
+use Rattle.lol_vm.specs.Documents.{element_of}
+use Rattle.lol_vm.specs.Answers.{Match, Started, Dropped, is_dropped, asks, report, matching_ids, name_tries, attribute_tries}
+use Rattle.lol_vm.specs.RunLaws.{MarksTellContent}
+use Rattle.lol_vm.proofs.Bools.{and_both, either, left_or, right_or}
+use Rattle.lol_vm.proofs.Lists.{to_among, among_map}
+
+abbrev NoContentIn : Namespace → Bool → StartTag → Type 0
+NoContentIn namespace esi tag =
+    ((namespace ≡ Html) × ((is_void tag.name ≡ true) ⊎ ((esi ≡ true) × (is_esi tag.name ≡ true))))
+    ⊎ ((namespace ≢ Html) × (tag.self_closing ≡ true))
+
+not_false : (b : Bool) → not b ≡ false → b ≡ true
+not_false true h = refl
+not_false false h = cc
+
+void_or_esi : (void esi named : Bool) → (void || (esi && named)) ≡ true → (void ≡ true) ⊎ ((esi ≡ true) × (named ≡ true))
+void_or_esi void esi named h = elim (either void (esi && named) h) [ inl v ↦ inl v | inr both ↦ inr (and_both esi named both) ]
+
+is_void_or_esi : (void esi named : Bool) → (void ≡ true) ⊎ ((esi ≡ true) × (named ≡ true)) → not (void || (esi && named)) ≡ false
+is_void_or_esi void esi named (inl v) = ap not (left_or void (esi && named) v)
+is_void_or_esi void esi named (inr both) = ap not (right_or void (esi && named) ((λ i. both.0 i && named) ∙ both.1))
+
+foreign : (namespace : Namespace) (esi : Bool) (tag : StartTag) → namespace ≢ Html → (not tag.self_closing ≡ false) ↔ NoContentIn namespace esi tag
+foreign namespace esi tag other = (
+  λ h. inr (other, not_false tag.self_closing h),
+  λ h. elim h [ inl html ↦ absurd (other html.0) | inr closes ↦ ap not closes.1 ],
+)
+
+no_content : (namespace : Namespace) (esi : Bool) (tag : StartTag) → (has_content_in namespace esi tag ≡ false) ↔ NoContentIn namespace esi tag
+no_content Html esi tag = (
+  λ h. inl (refl, void_or_esi (is_void tag.name) esi (is_esi tag.name) (not_false (is_void tag.name || (esi && is_esi tag.name)) h)),
+  λ h. elim h [ inl html ↦ is_void_or_esi (is_void tag.name) esi (is_esi tag.name) html.1 | inr other ↦ absurd (other.0 refl) ],
+)
+no_content Svg esi tag = foreign Svg esi tag (λ h. cc)
+no_content MathML esi tag = foreign MathML esi tag (λ h. cc)
+
+pub marks_tell_content : MarksTellContent
+marks_tell_content s esi d tag matched asked names attributes is m h =
+    let e = element_of d tag in
+    let all : report s esi e d.open_elements ≡ matched = by_test (is_dropped s e d.open_elements) is in
+    let at = among_map (λ (id : ℕ). record { id = id; with_content = has_content esi tag }) (matching_ids s.pairs e d.open_elements) m
+    (to_among (report s esi e d.open_elements) m (subst (λ ms. Contains ms m) (sym all) h)) in
+    let mark : has_content esi tag ≡ m.with_content = ap (λ (x : Match). x.with_content) at.2 in
+    subst (λ b. (b ≡ false) ↔ NoContentIn tag.namespace esi tag) mark (no_content tag.namespace esi tag)
+  where
+    by_test : (dropped : Bool)
+        → cond dropped Dropped (Started (report s esi (element_of d tag) d.open_elements) (asks s (element_of d tag) d.open_elements) (name_tries s.nodes d.open_elements) (attribute_tries s.nodes (element_of d tag) d.open_elements))
+        ≡ Started matched asked names attributes → report s esi (element_of d tag) d.open_elements ≡ matched
+    by_test true e = cc
+    by_test false e = cc
