@@ -5,7 +5,7 @@ use Rattle.lol_css.specs.declared.selector.Combinator.TheVariants.{Child, Descen
 use Rattle.lol_program.specs.Paths.{Path, Selectors}
 use Rattle.lol_program.specs.Programs.{Range, Instruction, Program, IsAt, HoldsPlaces, IsRangeOf, IsProgramOf, IsInstruction, above, range_by}
 use Rattle.lol_program.specs.Layouts.{RangesAreApart}
-use Rattle.lol_program.proofs.Members.{distinct_from_pairs}
+use Rattle.lol_base.specs.MemberLaws.{distinct_from_pairs}
 use Rattle.lol_program.proofs.ListPlaces.{same_at, one_place, at_within, within_at}
 
 abbrev front_or : Path → Option (Path × Combinator) → Path

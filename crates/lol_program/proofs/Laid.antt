@@ -7,10 +7,10 @@ use Rattle.lol_css.specs.declared.selector.Combinator.TheVariants.{Child, Descen
 use Rattle.lol_program.specs.Compounds.{Compound, has_test_by_type}
 use Rattle.lol_program.specs.Paths.{Path, First, Then, last_compound}
 use Rattle.lol_program.specs.Forest.{Forest, none, more, size, tops, below, nodes_in, SiblingsDiffer}
-use Rattle.lol_program.proofs.Having.{HasPair}
-use Rattle.lol_program.proofs.Listed.{pairs_listed}
-use Rattle.lol_program.proofs.Members.{Among, Distinct, among_front, among_back, among_either}
-use Rattle.lol_program.proofs.Once.{nodes_distinct, AllPairs-from_Distinct}
+use Rattle.lol_program.specs.NodeMemberLaws.{HasPair}
+use Rattle.lol_program.specs.NodeListLaws.{pairs_listed}
+use Rattle.lol_base.specs.MemberLaws.{Among, Distinct, among_front, among_back, among_either}
+use Rattle.lol_program.specs.NodeOnceLaws.{nodes_distinct, AllPairs-from_Distinct}
 use Rattle.lol_program.specs.Programs.{Range, Instruction, IsWithin, IsAt, HoldsPlaces, IsRangeOf, IsInstruction, IsProgramOf, above}
 use Rattle.lol_program.specs.Layouts.{width, range_of, instruction_of, Entry, laid_tops, laid_below, laid, selectors_in, program_of, LayoutsArePrograms, WorkedLayout}
 use Rattle.lol_program.proofs.ListPlaces.{at_among, same_at, one_place, at_within, at_map, map_at}

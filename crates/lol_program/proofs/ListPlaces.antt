@@ -2,7 +2,7 @@
 use Rattle.std.proofs.Common.{◌≡◌, ℕ, zero, suc, ◌<◌, List, [], ◌∷◌, length, map, Some, inl, inr, refl, sym, ap, subst, arith}
 use Rattle.std.specs.Prelude.{slice_get}
 use Rattle.std.specs.Option.{option_map}
-use Rattle.lol_program.proofs.Members.{Among, Distinct}
+use Rattle.lol_base.specs.MemberLaws.{Among, Distinct}
 
 module _ {A : Type 0} where
   pub at_among : (xs : List A) (k : ℕ) (x : A) → slice_get xs k ≡ Some x → Among xs x
