@@ -1,4 +1,4 @@
--- A step of the search for an operand without ASCII case.
+-- A step of the search for an operand without ASCII case. No public clause speaks of it.
 use Rattle.std.specs.Prelude.{◌≡◌, ℕ, ◌<◌, Bool, false, ◌||◌, ◌==◌, List, ◌∷◌, length, Option, MatchOption}
 use Rattle.std.specs.List.{starts_with}
 use Rattle.lol_base.specs.Names.{lowercased}

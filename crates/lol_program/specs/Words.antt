@@ -1,4 +1,4 @@
--- Words of a value by their places.
+-- Words of a value by their places, as they are searched for. No public clause speaks of them.
 use Rattle.std.specs.Prelude.{◌≡◌, ℕ, ◌-◌, ◌<◌, ◌≤◌, Bool, true, false, ◌==◌, ◌⊎◌, List, length, slice_index, slice_range}
 use Rattle.std.specs.Char.{to_ascii_lowercase}
 use Rattle.lol_css.specs.declared.attribute.AttrSelectorOperator.TheVariants.{Equal}

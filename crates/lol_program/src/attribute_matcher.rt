@@ -31,8 +31,9 @@ pub struct AttrExprOperands {
     pub case_sensitivity: ParsedCaseSensitivity,
 }
 
-/// The attributes of a start tag, which answers whether they pass tests, as lol_html's `AttributeMatcher`. An attribute's value is that of the
-/// first attribute whose name in ASCII lower case is the name that is asked for; it is empty where none is written. No call takes memory.
+/// Tests of the attributes of a start tag, as lol_html's `AttributeMatcher`. An attribute's value is that of the first attribute whose name in
+/// ASCII lower case is the name that is asked for; it is empty where none is written. A look-up takes a step for each attribute before that
+/// one; those of `id` and `class` are made with the matcher. No call takes memory.
 #[derive(Drop)]
 pub struct AttributeMatcher<'i> {
     input: &'i [u8],
@@ -56,8 +57,8 @@ impl<'i> Model for AttributeMatcher<'i> {
 }
 
 impl<'i> AttributeMatcher<'i> {
-    /// The attributes that stand at these places of the input, for an element of this namespace. Each name range and each value range lies
-    /// inside the input.
+    /// The attributes that stand at these places of the input, of an element in this namespace. Each name range and each value range lies
+    /// inside the input. They are walked over once.
     pub fn new(input: Bytes<'i>, attributes: &'i AttributeBuffer, ns: Namespace) -> Self
         requires { All (OutlineIsInside (bytes_of input)) attributes.now.items }
         ensures { result ≡ record { attributes = map (attribute_of (bytes_of input.entry)) attributes.now.items; namespace = ns } }
@@ -235,6 +236,7 @@ fn first_value<'i>(
 }
 
 // The value of an attribute, which is empty where none is written.
+#[inline(always)]
 fn value_at<'i>(input: &'i [u8], outline: &AttributeOutline) -> &'i [u8]
     requires { OutlineIsInside input.now outline.now }
     ensures { result.now ≡ unwrap_or (attribute_of input.now outline.now).value [] }

@@ -64,7 +64,7 @@ fn has_word_split(value: &[u8], operand: &[u8], case: CaseSensitivity) -> bool
     is_equal(&value[start..], operand, case)
 }
 
-// Whether some word of a value is the operand: the places of its last byte are looked at.
+// Whether some word of a value is the operand: only the places of its last byte are looked at.
 fn has_word_by_last(value: &[u8], operand: &[u8], case: CaseSensitivity) -> bool
     requires some { 0 < length operand.now }
     requires black { list_any is_white operand.now ≡ false }
