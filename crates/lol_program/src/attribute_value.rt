@@ -17,18 +17,19 @@ use memchr::{memchr, memchr2, memmem};
 const MAX_SPLIT_LEN: usize = 32;
 
 /// Whether a byte is ASCII white space (HTML Standard, "ASCII whitespace").
-#[inline]
+#[inline(always)]
 pub(crate) fn is_white_space(byte: u8) -> bool
     ensures { result ≡ is_white byte }
 {
-    matches!(byte, b' ' | b'\n' | b'\r' | b'\t' | b'\x0c')
+    byte <= b' ' && matches!(byte, b' ' | b'\n' | b'\r' | b'\t' | b'\x0c')
 }
 
 /// Whether a value is the operand.
+#[inline(always)]
 pub(crate) fn is_equal(value: &[u8], operand: &[u8], case: CaseSensitivity) -> bool
     ensures { result ≡ value_holds Equal case value.now operand.now }
 {
-    case.eq(value, operand)
+    value.len() == operand.len() && case.eq(value, operand)
 }
 
 /// Whether some word of a value is the operand.
