@@ -18,6 +18,7 @@ use Rattle.lol_program.specs.Tests.{HasId, HasClass, HasAttribute, Compares, fin
 use Rattle.lol_program.specs.Attributes.{TagAttributes, value_among, value_in}
 use Rattle.lol_program.specs.Marks.{mark_sum, mark_of, is_marked, KeepsMarks, AreMarked}
 use Rattle.lol_program.specs.declared.marks.Marks.{Marks}
+use Rattle.lol_program.proofs.MarkLemmas.{IsWordMarked}
 
 -- 1. The value among attributes in two parts
 
@@ -123,20 +124,17 @@ id_marked : (marks : Marks) (id : List ℕ) (value : Option (List ℕ)) → IfSo
 id_marked marks id None marked holds = absurd (false≢true holds)
 id_marked marks id (Some v) marked holds = ap (λ (b : List ℕ). is_marked marks (mark_of (HasId b))) (sym ((bytes_eq-Decides v id).0 holds)) ∙ marked
 
-abbrev IsClassMarked : Marks → List ℕ → Type 0
-IsClassMarked marks word = is_marked marks (mark_of (HasClass word)) ≡ true
-
-word_marked : (marks : Marks) (name : List ℕ) (pieces : List (List ℕ)) → All (IsClassMarked marks) pieces → list_any (λ word. bytes_eq word name) pieces ≡ true → IsClassMarked marks name
+word_marked : (marks : Marks) (name : List ℕ) (pieces : List (List ℕ)) → All (IsWordMarked marks) pieces → list_any (λ word. bytes_eq word name) pieces ≡ true → IsWordMarked marks name
 word_marked marks name [] marked holds = absurd (false≢true holds)
 word_marked marks name (word ∷ pieces) marked holds =
     ⊎_elim
-    (λ yes. ap (λ (w : List ℕ). is_marked marks (mark_of (HasClass w))) (sym ((bytes_eq-Decides word name).0 yes)) ∙ All-head (IsClassMarked marks) word pieces marked)
+    (λ yes. ap (λ (w : List ℕ). is_marked marks (mark_of (HasClass w))) (sym ((bytes_eq-Decides word name).0 yes)) ∙ All-head (IsWordMarked marks) word pieces marked)
     (λ no.
-    word_marked marks name pieces (All-tail (IsClassMarked marks) word pieces marked) (ap (λ (t : Bool). t || list_any (λ w. bytes_eq w name) pieces) (sym no) ∙ holds))
+    word_marked marks name pieces (All-tail (IsWordMarked marks) word pieces marked) (ap (λ (t : Bool). t || list_any (λ w. bytes_eq w name) pieces) (sym no) ∙ holds))
     (cases_Bool (bytes_eq word name))
 
-class_marked : (marks : Marks) (name : List ℕ) (value : Option (List ℕ)) → IfSome value (λ v. All (IsClassMarked marks) (words v))
-    → has_value value (λ v. list_any (λ word. bytes_eq word name) (words v)) ≡ true → IsClassMarked marks name
+class_marked : (marks : Marks) (name : List ℕ) (value : Option (List ℕ)) → IfSome value (λ v. All (IsWordMarked marks) (words v))
+    → has_value value (λ v. list_any (λ word. bytes_eq word name) (words v)) ≡ true → IsWordMarked marks name
 class_marked marks name None marked holds = absurd (false≢true holds)
 class_marked marks name (Some v) marked holds = word_marked marks name (words v) marked holds
 
@@ -146,7 +144,7 @@ module _ (input : List ℕ) (outlines : List AttributeOutline) (namespace : Name
 
   pub are_marked : All (IsNameMarked input marks) outlines
       → IfSome (value_in (codes "id") seen_of) (λ v. is_marked marks (mark_of (HasId v)) ≡ true)
-      → IfSome (value_in (codes "class") seen_of) (λ v. All (IsClassMarked marks) (words v))
+      → IfSome (value_in (codes "class") seen_of) (λ v. All (IsWordMarked marks) (words v))
       → AreMarked marks seen_of
   are_marked names id class (HasId value) e same holds =
       id_marked marks value (value_in (codes "id") seen_of) id (ap (λ (s : TagAttributes). has_value (value_in (codes "id") s) (λ v. bytes_eq v value)) (sym same) ∙ holds)
@@ -167,9 +165,9 @@ module _ (input : List ℕ) (outlines : List AttributeOutline) (namespace : Name
   -- once the values of `id` and `class` are marked too
   pub walked_marked : (names with_id : Marks) (id class : Option (List ℕ)) → Walked input outlines names id class
       → KeepsMarks names with_id → IfSome id (λ v. is_marked with_id (mark_of (HasId v)) ≡ true)
-      → KeepsMarks with_id marks → IfSome class (λ v. All (IsClassMarked marks) (words v)) → AreMarked marks seen_of
+      → KeepsMarks with_id marks → IfSome class (λ v. All (IsWordMarked marks) (words v)) → AreMarked marks seen_of
   walked_marked names with_id id class walked keeps_names id_there keeps class_there =
       are_marked
       (All-weaker (IsNameMarked input names) (IsNameMarked input marks) (λ o marked. keeps _ (keeps_names _ marked)) outlines walked.names)
       (subst (λ (value : Option (List ℕ)). IfSome value (λ v. is_marked marks (mark_of (HasId v)) ≡ true)) walked.id_value (kept_id with_id id keeps id_there))
-      (subst (λ (value : Option (List ℕ)). IfSome value (λ v. All (IsClassMarked marks) (words v))) walked.class_value class_there)
+      (subst (λ (value : Option (List ℕ)). IfSome value (λ v. All (IsWordMarked marks) (words v))) walked.class_value class_there)
