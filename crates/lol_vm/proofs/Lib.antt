@@ -21,3 +21,7 @@ pub mod ContentMarks
 pub mod Closings
 pub mod OneId
 pub mod Unasked
+pub mod EsiNames
+pub mod SoundPlaces
+pub mod SoundRanges
+pub mod SoundLemmas

@@ -28,3 +28,5 @@ pub mod PlaceRuns
 pub mod MachineLaws
 pub mod Standing
 pub mod RunLaws
+pub mod Directives
+pub mod SoundStacks

@@ -4,6 +4,7 @@
 mod active_ranges;
 mod address_ranges;
 mod counters;
+mod directive;
 mod element_data;
 mod events;
 mod execution_ctx;
@@ -16,6 +17,7 @@ mod run;
 pub mod run_laws;
 mod stack;
 mod stack_item;
+pub mod stack_laws;
 mod void;
 
 pub use address_ranges::AddressRanges;

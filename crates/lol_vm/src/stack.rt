@@ -9,14 +9,16 @@ ghost use Rattle.lol_memory.specs.LimitedVec.{with_items, grown_slots, IsLimited
 ghost use Rattle.lol_program.specs.Counters.{full_count};
 ghost use Rattle.lol_vm.specs.Calls.{IsCalledAtEach};
 ghost use Rattle.lol_vm.specs.StackLending.{lends_current};
+ghost use Rattle.lol_vm.specs.Directives.{directive_in};
 ghost use Rattle.lol_vm.specs.OpenPlaces.{places_of};
 ghost use Rattle.lol_vm.specs.Stacks.{items_in, slots_in, active_in, last_count, child_counted, typed_in, places_in, typed_count, counted_in, element_data_of, closed_from, place_to_close, IsSame, IsPushed, IsClosed, IsEnded, without_places};
 
 use crate::active_ranges::ActiveRanges;
 use crate::counters::TypedChildCounterMap;
+use crate::directive::directive_of;
 use crate::open_names::OpenNames;
-use crate::stack_item::{StackItem, StackItemOf};
-use lol_base::LocalName;
+use crate::stack_item::{StackDirective, StackItem, StackItemOf};
+use lol_base::{LocalName, Namespace};
 use lol_memory::{LimitedVec, PushError, SharedMemoryLimiter};
 use lol_program::{AddressRange, ChildCounter, SelectorState};
 use std::alloc::{AllocError, Global};
@@ -236,6 +238,17 @@ impl<E> StackOf<LocalName<'static>, StackNames, E> {
             names: _,
         } = self;
         items.release(limiter);
+    }
+
+    /// What becomes of an element by its name and namespace, before it is known whether its tag closes itself. It takes no memory.
+    pub fn get_stack_directive(
+        item: &StackItem<'_, E>,
+        ns: Namespace,
+        enable_esi_tags: bool,
+    ) -> StackDirective
+        ensures { (bytes : List ℕ) → item.now.local_name ≡ local_name bytes → result ≡ directive_in ns enable_esi_tags bytes }
+    {
+        directive_of(&item.local_name, ns, enable_esi_tags)
     }
 
     /// The places of the open elements of a name, ascending, from 0. It takes no memory. (Not in lol_html.)
