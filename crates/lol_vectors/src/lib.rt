@@ -2,6 +2,8 @@
 #![tactic(auto)]
 
 #[cfg(test)]
+mod counters;
+#[cfg(test)]
 mod limits;
 #[cfg(test)]
 mod names;
@@ -11,5 +13,7 @@ mod readings;
 mod runs;
 #[cfg(test)]
 mod sets;
+#[cfg(test)]
+mod stacks;
 #[cfg(test)]
 mod trees;

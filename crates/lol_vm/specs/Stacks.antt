@@ -3,7 +3,7 @@ use Rattle.std.specs.Prelude.{ℕ, ◌≡◌, ◌+◌, ◌-◌, if◌then◌else
 use Rattle.std.specs.Option.{option_map}
 use Rattle.std.specs.declared.ops.Range.{Range}
 use Rattle.lol_base.specs.LocalNames.{Name, same_local_name}
-use Rattle.lol_memory.specs.LimitedVec.{pushed, with_items}
+use Rattle.lol_memory.specs.LimitedVec.{LimitedVec, pushed, with_items}
 use Rattle.lol_vm.specs.Active.{activated}
 use Rattle.lol_vm.specs.Levels.{without_last}
 use Rattle.lol_vm.specs.TypedCounts.{TypedCount, counted, cut_to, count_at}
@@ -31,9 +31,24 @@ module _ {N M E : Type 0} where
   abbrev pub items_in : StackOf N M E → List (StackItemOf N E)
   items_in s = s.items.items
 
-  -- the slots that are charged
+  -- the open elements as a list with charged slots
+  abbrev pub list_in : StackOf N M E → LimitedVec (StackItemOf N E)
+  list_in s = s.items
+
+  -- the slots that are charged, and the bytes that each is charged for
   abbrev pub slots_in : StackOf N M E → ℕ
   slots_in s = s.items.slots
+
+  abbrev pub item_bytes_in : StackOf N M E → ℕ
+  item_bytes_in s = s.items.item_bytes
+
+  -- the children of the root
+  abbrev pub root_count : StackOf N M E → ℕ
+  root_count s = s.root_child_counter
+
+  -- no more slots are charged, nor fewer
+  abbrev pub KeepsSlots : StackOf N M E → StackOf N M E → Type 0
+  KeepsSlots old new = (slots_in new ≡ slots_in old) × (item_bytes_in new ≡ item_bytes_in old)
 
   -- the active hereditary ranges, each with the place of the first element that has it
   abbrev pub active_in : StackOf N M E → List (Range ℕ × ℕ)
@@ -82,16 +97,16 @@ counted_in s name = child_counted (with_typed s (option_map (λ ts. counted ts (
 
 -- What stays the same.
 pub record IsSame {E : Type 0} (old new : StackOf Name StackNames E) : Type 0 where
-  pub root : new.root_child_counter ≡ old.root_child_counter
-  pub items : new.items ≡ old.items
+  pub root : root_count new ≡ root_count old
+  pub items : list_in new ≡ list_in old
   pub active : active_in new ≡ active_in old
   pub typed : typed_in new ≡ typed_in old
   pub places : (q : Name) → places_in new q ≡ places_in old q
 
 -- An element is opened: it stands last, with its ranges and its name.
 pub record IsPushed {E : Type 0} (old : StackOf Name StackNames E) (item : StackItemOf Name E) (new : StackOf Name StackNames E) : Type 0 where
-  pub root : new.root_child_counter ≡ old.root_child_counter
-  pub items : new.items ≡ pushed old.items item
+  pub root : root_count new ≡ root_count old
+  pub items : list_in new ≡ pushed (list_in old) item
   pub active : active_in new ≡ activated (active_in old) (length (items_in old)) item.hereditary_jumps
   pub typed : typed_in new ≡ typed_in old
   pub places :
@@ -104,8 +119,8 @@ without_places (item ∷ items) q places = without_places items q (if same_local
 
 -- The elements from a place on are closed: their ranges, counters by type and places go.
 pub record IsClosed {E : Type 0} (place : ℕ) (old new : StackOf Name StackNames E) : Type 0 where
-  pub root : new.root_child_counter ≡ old.root_child_counter
-  pub items : new.items ≡ with_items old.items (take place (items_in old))
+  pub root : root_count new ≡ root_count old
+  pub items : list_in new ≡ with_items (list_in old) (take place (items_in old))
   pub active : active_in new ≡ filter (λ a. nat_lt a.1 place) (active_in old)
   pub typed : typed_in new ≡ option_map (cut_to place) (typed_in old)
   pub places : (q : Name) → places_in new q ≡ without_places (drop place (items_in old)) q (places_in old q)

@@ -11,7 +11,7 @@ ghost use Rattle.lol_vm.specs.Calls.{IsCalledAtEach};
 ghost use Rattle.lol_vm.specs.StackLending.{lends_current};
 ghost use Rattle.lol_vm.specs.Directives.{directive_in};
 ghost use Rattle.lol_vm.specs.OpenPlaces.{places_of};
-ghost use Rattle.lol_vm.specs.Stacks.{items_in, slots_in, active_in, last_count, child_counted, typed_in, places_in, typed_count, counted_in, element_data_of, closed_from, place_to_close, IsSame, IsPushed, IsClosed, IsEnded, without_places};
+ghost use Rattle.lol_vm.specs.Stacks.{items_in, list_in, slots_in, item_bytes_in, root_count, active_in, last_count, child_counted, typed_in, places_in, typed_count, counted_in, element_data_of, closed_from, place_to_close, IsSame, IsPushed, IsEnded, KeepsSlots, without_places};
 
 use crate::active_ranges::ActiveRanges;
 use crate::counters::TypedChildCounterMap;
@@ -112,8 +112,8 @@ impl<E> StackOf<LocalName<'static>, StackNames, E> {
     /// No open elements, and no slots. It takes no memory. Children are counted by type too if `enable_nth_of_type` is true.
     pub fn new(alloc: Global, item_bytes: usize, enable_nth_of_type: bool) -> Self
         requires { 0 < item_bytes }
-        ensures items { result.items ≡ record { items = []; slots = 0; item_bytes = item_bytes } }
-        ensures root { result.root_child_counter ≡ 0 }
+        ensures items { list_in result ≡ record { items = []; slots = 0; item_bytes = item_bytes } }
+        ensures root { root_count result ≡ 0 }
         ensures active { active_in result ≡ [] }
         ensures typed { typed_in result ≡ (if enable_nth_of_type then Some [] else None) }
         ensures places { (q : Name) → places_in result q ≡ [] }
@@ -130,6 +130,7 @@ impl<E> StackOf<LocalName<'static>, StackNames, E> {
     /// full, and `Memory` only where the memory for a counter by type isn't there. Refused, nothing has changed.
     pub fn add_child(&mut self, name: &LocalName<'_>) -> Result<(), AddChildError>
         ensures ok { OnOk result (self.new ≡ counted_in self.old name.now) }
+        ensures slots { KeepsSlots self.old self.new }
         ensures full { (result ≡ Err AddChildError.CounterFull) ↔ (last_count self.old ≡ full_count) }
         ensures err { OnErr result (self.new ≡ self.old) }
     {
@@ -165,9 +166,9 @@ impl<E> StackOf<LocalName<'static>, StackNames, E> {
     where
         E: Drop,
         ensures ok { OnOk result (IsPushed self.old item.entry self.new) }
-        ensures charged { OnOk result (limiter.new ≡ charged limiter.old (grown_slots self.old.items * self.old.items.item_bytes)) }
-        ensures limited { IsErrOf result (PushError.Limit (record {})) → IsLimited self.old.items limiter.old }
-        ensures unlimited { OnOk result (IsLimited self.old.items limiter.old → ⊥) }
+        ensures charged { OnOk result (limiter.new ≡ charged limiter.old (grown_slots (list_in self.old) * item_bytes_in self.old)) }
+        ensures limited { IsErrOf result (PushError.Limit (record {})) → IsLimited (list_in self.old) limiter.old }
+        ensures unlimited { OnOk result (IsLimited (list_in self.old) limiter.old → ⊥) }
         ensures err { OnErr result (IsSame self.old self.new) }
         ensures err_limiter { OnErr result (limiter.new ≡ limiter.old) }
     {
@@ -214,6 +215,7 @@ impl<E> StackOf<LocalName<'static>, StackNames, E> {
         requires { F.IsAlwaysCallable handler.old }
         ensures again { F.IsAlwaysCallable handler.new }
         ensures ended { IsEnded self.old local_name.entry self.new }
+        ensures slots { KeepsSlots self.old self.new }
         ensures called { IsCalledAtEach F.step handler.old (element_data_of (closed_from (place_to_close self.old local_name.entry) (items_in self.old))) handler.new }
     {
         let Some(place) = self.place_to_close(&local_name) else {
@@ -228,8 +230,8 @@ impl<E> StackOf<LocalName<'static>, StackNames, E> {
     pub fn release(self, limiter: &mut SharedMemoryLimiter)
     where
         E: Drop,
-        requires { self.items.slots * self.items.item_bytes ≤ limiter.old.usage }
-        ensures { limiter.new ≡ record limiter.old { usage = limiter.old.usage - self.entry.items.slots * self.entry.items.item_bytes } }
+        requires { slots_in self * item_bytes_in self ≤ limiter.old.usage }
+        ensures { limiter.new ≡ record limiter.old { usage = limiter.old.usage - slots_in self.entry * item_bytes_in self.entry } }
     {
         let StackOf {
             root_child_counter: _,

@@ -1,0 +1,335 @@
+//! Open elements.
+
+ghost use Rattle.std.specs.Prelude.{◌≡◌, refl};
+ghost use Rattle.lol_vm.specs.Stacks.{item_bytes_in};
+
+use lol_vm::{
+    AddChildError, AddressRange, ChildCounter, DenseHashSet, ElementData, LocalName, Namespace,
+    NthChild, PushError, SharedMemoryLimiter, Stack, StackDirective, StackItem, StackItemOf,
+};
+use std::alloc::{AllocError, Global};
+use std::process::Abort;
+
+/// Data that know their element's number.
+#[derive(Drop)]
+pub(crate) struct Numbered {
+    ids: DenseHashSet,
+    pub number: usize,
+}
+
+impl ElementData for Numbered {
+    ghost ids = { λ d. d.ids };
+
+    ghost with_ids = { λ d w. record d { ids = w } };
+
+    ghost ids_of_changed = { λ d w. refl };
+
+    ghost same_ids_change_nothing = { λ d. refl };
+
+    fn new(alloc: Global) -> Self {
+        Numbered {
+            ids: DenseHashSet::new(alloc),
+            number: 0,
+        }
+    }
+
+    fn matched_ids_mut(&mut self) -> &mut DenseHashSet {
+        &mut self.ids
+    }
+}
+
+/// An element of this name and number, with these hereditary ranges.
+pub(crate) fn item(
+    alloc: Global,
+    name: &[u8],
+    number: usize,
+    ranges: &[AddressRange],
+) -> Result<StackItem<'static, Numbered>, AllocError> {
+    let item: StackItem<Numbered> = StackItemOf::new(alloc, LocalName::new(name));
+    let mut item = item.into_owned(alloc)?;
+    item.element_data.number = number;
+    for range in ranges {
+        item.hereditary_jumps.push(alloc, range.start..range.end)?;
+    }
+    Ok(item)
+}
+
+/// Opens an element.
+pub(crate) fn open(
+    alloc: Global,
+    stack: &mut Stack<Numbered>,
+    name: &[u8],
+    number: usize,
+    ranges: &[AddressRange],
+    limiter: &mut SharedMemoryLimiter,
+) -> Result<(), PushError>
+    ensures { item_bytes_in stack.new ≡ item_bytes_in stack.old }
+{
+    match item(alloc, name, number, ranges) {
+        Ok(item) => stack.push_item(item, limiter),
+        Err(error) => Err(PushError::Memory(error)),
+    }
+}
+
+/// Closes elements, and gives their numbers as they are handed out.
+pub(crate) fn close(
+    rt: &impl Abort,
+    alloc: Global,
+    stack: &mut Stack<Numbered>,
+    name: &[u8],
+) -> Vec<usize>
+    ensures { item_bytes_in stack.new ≡ item_bytes_in stack.old }
+{
+    let mut closed = Closed {
+        numbers: Vec::new(alloc),
+        refused: false,
+    };
+    let mut handler = |data: Numbered| {
+        closed.keep(data);
+    };
+    stack.pop_up_to(LocalName::new(name), &mut handler);
+    let Closed { numbers, refused } = closed;
+    assert!(rt; !refused);
+    numbers
+}
+
+/// The numbers of elements that were closed, and whether memory for one was refused.
+#[derive(Drop)]
+struct Closed {
+    numbers: Vec<usize>,
+    refused: bool,
+}
+
+impl Closed {
+    fn keep(&mut self, data: Numbered) {
+        if self.numbers.push(data.number).is_err() {
+            self.refused = true;
+        }
+    }
+}
+
+/// Whether a name has these places.
+fn has_places(stack: &Stack<Numbered>, name: &[u8], places: &[usize]) -> bool {
+    stack.open_places(&LocalName::new(name)) == places
+}
+
+/// Whether no child of a name was counted by type.
+fn is_uncounted(stack: &Stack<Numbered>, name: &[u8]) -> bool {
+    stack.build_state(&LocalName::new(name)).typed.is_none()
+}
+
+/// Releases a stack whose slots are charged for `item_bytes` each.
+pub(crate) fn release(
+    rt: &impl Abort,
+    stack: Stack<Numbered>,
+    item_bytes: usize,
+    limiter: &mut SharedMemoryLimiter,
+)
+    requires { item_bytes_in stack ≡ item_bytes }
+{
+    let charge = stack.charged_slots().checked_mul(item_bytes);
+    let charge = charge.expect(rt, "a charge that fits");
+    assert!(rt; charge <= limiter.current_usage());
+    stack.release(limiter);
+}
+
+#[test]
+fn keep_the_active_ranges(rt: HostRuntime) {
+    let alloc = rt.alloc();
+    let mut limiter = SharedMemoryLimiter::new(2048);
+    let mut stack = Stack::new(alloc, 64, false);
+    assert!(rt; open(alloc, &mut stack, b"a", 0, &[], &mut limiter).is_ok());
+    assert!(rt; stack.active_hereditary_jumps().is_empty());
+    assert!(rt; open(alloc, &mut stack, b"b", 1, &[0..1], &mut limiter).is_ok());
+    assert_eq!(rt; stack.active_hereditary_jumps(), [(0..1, 1)].as_slice());
+    assert!(rt; open(alloc, &mut stack, b"c", 2, &[0..1, 2..4], &mut limiter).is_ok());
+    assert_eq!(rt;
+        stack.active_hereditary_jumps(),
+        [(0..1, 1), (2..4, 2)].as_slice()
+    );
+    assert!(rt; open(alloc, &mut stack, b"d", 3, &[], &mut limiter).is_ok());
+    assert_eq!(rt;
+        stack.active_hereditary_jumps(),
+        [(0..1, 1), (2..4, 2)].as_slice()
+    );
+    assert_eq!(rt;
+        close(&rt, alloc, &mut stack, b"c").as_slice(),
+        [2, 3].as_slice()
+    );
+    assert_eq!(rt; stack.active_hereditary_jumps(), [(0..1, 1)].as_slice());
+    assert_eq!(rt;
+        close(&rt, alloc, &mut stack, b"a").as_slice(),
+        [0, 1].as_slice()
+    );
+    assert!(rt; stack.active_hereditary_jumps().is_empty());
+    release(&rt, stack, 64, &mut limiter);
+    assert_eq!(rt; limiter.current_usage(), 0);
+}
+
+#[test]
+fn close_the_last_of_a_name(rt: HostRuntime) {
+    let alloc = rt.alloc();
+    let mut limiter = SharedMemoryLimiter::new(2048);
+    let mut stack = Stack::new(alloc, 64, false);
+    assert!(rt; close(&rt, alloc, &mut stack, b"div").is_empty());
+    assert!(rt; open(alloc, &mut stack, b"a", 0, &[], &mut limiter).is_ok());
+    assert!(rt; open(alloc, &mut stack, b"b", 1, &[], &mut limiter).is_ok());
+    assert!(rt; open(alloc, &mut stack, b"A", 2, &[], &mut limiter).is_ok());
+    assert!(rt; close(&rt, alloc, &mut stack, b"c").is_empty());
+    assert_eq!(rt; stack.items().len(), 3);
+    assert_eq!(rt;
+        close(&rt, alloc, &mut stack, b"a").as_slice(),
+        [2].as_slice()
+    );
+    assert_eq!(rt;
+        close(&rt, alloc, &mut stack, b"a").as_slice(),
+        [0, 1].as_slice()
+    );
+    assert!(rt; close(&rt, alloc, &mut stack, b"a").is_empty());
+    release(&rt, stack, 64, &mut limiter);
+}
+
+#[test]
+fn close_all_inside(rt: HostRuntime) {
+    for (name, first) in [
+        ("span", 4),
+        ("div", 3),
+        ("body", 1),
+        ("html", 0),
+        ("table", 5),
+    ] {
+        let alloc = rt.alloc();
+        let mut limiter = SharedMemoryLimiter::new(2048);
+        let mut stack = Stack::new(alloc, 64, false);
+        assert!(rt; open(alloc, &mut stack, b"html", 0, &[], &mut limiter).is_ok());
+        assert!(rt; open(alloc, &mut stack, b"body", 1, &[], &mut limiter).is_ok());
+        assert!(rt; open(alloc, &mut stack, b"div", 2, &[], &mut limiter).is_ok());
+        assert!(rt; open(alloc, &mut stack, b"div", 3, &[], &mut limiter).is_ok());
+        assert!(rt; open(alloc, &mut stack, b"span", 4, &[], &mut limiter).is_ok());
+        let numbers = close(&rt, alloc, &mut stack, name.as_bytes());
+        assert_eq!(rt; numbers.as_slice(), &[0, 1, 2, 3, 4][first..]);
+        assert_eq!(rt; stack.items().len(), first);
+        release(&rt, stack, 64, &mut limiter);
+    }
+}
+
+#[test]
+fn know_the_places_of_a_name(rt: HostRuntime) {
+    let alloc = rt.alloc();
+    let mut limiter = SharedMemoryLimiter::new(2048);
+    let mut stack = Stack::new(alloc, 64, false);
+    assert!(rt; open(alloc, &mut stack, b"html", 0, &[], &mut limiter).is_ok());
+    assert!(rt; open(alloc, &mut stack, b"div", 1, &[], &mut limiter).is_ok());
+    assert!(rt; open(alloc, &mut stack, b"p", 2, &[], &mut limiter).is_ok());
+    assert!(rt; open(alloc, &mut stack, b"div", 3, &[], &mut limiter).is_ok());
+    assert!(rt; open(alloc, &mut stack, b"p", 4, &[], &mut limiter).is_ok());
+    assert!(rt; has_places(&stack, b"DIV", &[1, 3]));
+    assert!(rt; has_places(&stack, b"a", &[]));
+    assert_eq!(rt;
+        close(&rt, alloc, &mut stack, b"p").as_slice(),
+        [4].as_slice()
+    );
+    assert_eq!(rt;
+        close(&rt, alloc, &mut stack, b"p").as_slice(),
+        [2, 3].as_slice()
+    );
+    assert!(rt; close(&rt, alloc, &mut stack, b"p").is_empty());
+    assert_eq!(rt;
+        close(&rt, alloc, &mut stack, b"div").as_slice(),
+        [1].as_slice()
+    );
+    assert_eq!(rt;
+        close(&rt, alloc, &mut stack, b"html").as_slice(),
+        [0].as_slice()
+    );
+    release(&rt, stack, 64, &mut limiter);
+}
+
+#[test]
+fn count_children_up_to_the_greatest(rt: HostRuntime) {
+    let alloc = rt.alloc();
+    let mut limiter = SharedMemoryLimiter::new(2048);
+    let mut stack = Stack::new(alloc, 64, true);
+    let name = LocalName::new(b"p");
+    let mut parent = item(alloc, b"div", 0, &[]).expect(&rt, "an element");
+    parent.child_counter = ChildCounter::at(2_147_483_646);
+    assert!(rt; stack.push_item(parent, &mut limiter).is_ok());
+    assert!(rt; stack.add_child(&name).is_ok());
+    for _ in 0..2u32 {
+        assert!(rt; matches!(stack.add_child(&name), Err(AddChildError::CounterFull)));
+    }
+    assert_eq!(rt; stack.items().len(), 1);
+    let state = stack.build_state(&name);
+    assert!(rt; state.cumulative.is_nth(NthChild::new(0, i32::MAX)));
+    let typed = state.typed.expect(&rt, "a counter by type");
+    assert!(rt; typed.is_nth(NthChild::new(0, 1)));
+    assert!(rt; is_uncounted(&stack, b"a"));
+    release(&rt, stack, 64, &mut limiter);
+}
+
+#[test]
+fn are_as_before_after_a_refused_push(rt: HostRuntime) {
+    let alloc = rt.alloc();
+    let mut limiter = SharedMemoryLimiter::new(511);
+    let mut stack = Stack::new(alloc, 64, false);
+    let refused = open(alloc, &mut stack, b"a", 0, &[0..1], &mut limiter);
+    assert!(rt; matches!(refused, Err(PushError::Limit(_))));
+    assert!(rt; stack.items().is_empty());
+    assert!(rt; stack.active_hereditary_jumps().is_empty());
+    assert!(rt; has_places(&stack, b"a", &[]));
+    assert_eq!(rt; (stack.charged_slots(), limiter.current_usage()), (0, 0));
+    release(&rt, stack, 64, &mut limiter);
+}
+
+#[test]
+fn lend_the_data_of_the_last_element(rt: HostRuntime) {
+    let alloc = rt.alloc();
+    let mut limiter = SharedMemoryLimiter::new(2048);
+    let mut stack = Stack::new(alloc, 64, false);
+    assert!(rt; stack.current_element_data_mut().is_none());
+    assert!(rt; open(alloc, &mut stack, b"a", 0, &[], &mut limiter).is_ok());
+    assert_eq!(rt; (stack.charged_slots(), limiter.current_usage()), (8, 512));
+    let data = stack.current_element_data_mut();
+    data.expect(&rt, "data of an open element").number = 9;
+    assert_eq!(rt;
+        close(&rt, alloc, &mut stack, b"a").as_slice(),
+        [9].as_slice()
+    );
+    release(&rt, stack, 64, &mut limiter);
+}
+
+#[test]
+fn know_what_becomes_of_an_element(rt: HostRuntime) {
+    let alloc = rt.alloc();
+    for (name, ns, esi, directive) in [
+        ("div", Namespace::Html, true, StackDirective::Push),
+        ("BR", Namespace::Html, false, StackDirective::PopImmediately),
+        (
+            "br",
+            Namespace::Svg,
+            false,
+            StackDirective::PushIfNotSelfClosing,
+        ),
+        (
+            "circle",
+            Namespace::MathML,
+            true,
+            StackDirective::PushIfNotSelfClosing,
+        ),
+        (
+            "esi:include",
+            Namespace::Html,
+            true,
+            StackDirective::PopImmediately,
+        ),
+        ("esi:include", Namespace::Html, false, StackDirective::Push),
+        ("ESI:INCLUDE", Namespace::Html, true, StackDirective::Push),
+    ] {
+        let item = item(alloc, name.as_bytes(), 0, &[]).expect(&rt, "an element");
+        assert_eq!(rt;
+            Stack::get_stack_directive(&item, ns, esi),
+            directive,
+            "{name}"
+        );
+    }
+}
