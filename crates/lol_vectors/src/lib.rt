@@ -14,6 +14,8 @@ mod runs;
 #[cfg(test)]
 mod sets;
 #[cfg(test)]
+mod stack_model;
+#[cfg(test)]
 mod stacks;
 #[cfg(test)]
 mod trees;

@@ -66,9 +66,19 @@ pub(crate) fn open(
     ensures { item_bytes_in stack.new ≡ item_bytes_in stack.old }
 {
     match item(alloc, name, number, ranges) {
-        Ok(item) => stack.push_item(item, limiter),
+        Ok(item) => push(stack, item, limiter),
         Err(error) => Err(PushError::Memory(error)),
     }
+}
+
+fn push(
+    stack: &mut Stack<Numbered>,
+    item: StackItem<'static, Numbered>,
+    limiter: &mut SharedMemoryLimiter,
+) -> Result<(), PushError>
+    ensures { item_bytes_in stack.new ≡ item_bytes_in stack.old }
+{
+    stack.push_item(item, limiter)
 }
 
 /// Closes elements, and gives their numbers as they are handed out.
@@ -111,6 +121,13 @@ impl Closed {
 /// Whether a name has these places.
 fn has_places(stack: &Stack<Numbered>, name: &[u8], places: &[usize]) -> bool {
     stack.open_places(&LocalName::new(name)) == places
+}
+
+/// Whether a child isn't counted, since its parent's counter is full.
+fn is_full(stack: &mut Stack<Numbered>, name: &LocalName) -> bool
+    ensures { item_bytes_in stack.new ≡ item_bytes_in stack.old }
+{
+    matches!(stack.add_child(name), Err(AddChildError::CounterFull))
 }
 
 /// Whether no child of a name was counted by type.
@@ -253,11 +270,10 @@ fn count_children_up_to_the_greatest(rt: HostRuntime) {
     let name = LocalName::new(b"p");
     let mut parent = item(alloc, b"div", 0, &[]).expect(&rt, "an element");
     parent.child_counter = ChildCounter::at(2_147_483_646);
-    assert!(rt; stack.push_item(parent, &mut limiter).is_ok());
+    assert!(rt; push(&mut stack, parent, &mut limiter).is_ok());
     assert!(rt; stack.add_child(&name).is_ok());
-    for _ in 0..2u32 {
-        assert!(rt; matches!(stack.add_child(&name), Err(AddChildError::CounterFull)));
-    }
+    assert!(rt; is_full(&mut stack, &name));
+    assert!(rt; is_full(&mut stack, &name));
     assert_eq!(rt; stack.items().len(), 1);
     let state = stack.build_state(&name);
     assert!(rt; state.cumulative.is_nth(NthChild::new(0, i32::MAX)));
