@@ -25,3 +25,4 @@ pub mod EsiNames
 pub mod SoundPlaces
 pub mod SoundRanges
 pub mod SoundLemmas
+pub mod TypedFunctions

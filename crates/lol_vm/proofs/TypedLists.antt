@@ -38,7 +38,7 @@ joined-keys [] levels = refl
 joined-keys (k ∷ ks) levels = ap (λ rest. k ∷ rest) (joined-keys ks (without_first k.1 levels))
 
 -- one counter before others
-levels_of-cons : (q : Name) (t : TypedCount) (ts : List TypedCount) (b : Bool) → is_of q t ≡ b → levels_of q (t ∷ ts) ≡ cond b (level_of t ∷ levels_of q ts) (levels_of q ts)
+pub levels_of-cons : (q : Name) (t : TypedCount) (ts : List TypedCount) (b : Bool) → is_of q t ≡ b → levels_of q (t ∷ ts) ≡ cond b (level_of t ∷ levels_of q ts) (levels_of q ts)
 levels_of-cons q t ts true is = ap (λ test. map level_of (cond test (t ∷ filter (is_of q) ts) (filter (is_of q) ts))) is
 levels_of-cons q t ts false is = ap (λ test. map level_of (cond test (t ∷ filter (is_of q) ts) (filter (is_of q) ts))) is
 
@@ -95,7 +95,7 @@ keys-last_counted (t ∷ ts) name =
           ]
     ]
 
-levels_of-none : (name : Name) (ts : List TypedCount) → list_any (is_of name) ts ≡ false → levels_of name ts ≡ []
+pub levels_of-none : (name : Name) (ts : List TypedCount) → list_any (is_of name) ts ≡ false → levels_of name ts ≡ []
 levels_of-none name [] none = refl
 levels_of-none name (t ∷ ts) none =
     elim (is_of name t) as (λ b. is_of name t ≡ b → (b || list_any (is_of name) ts) ≡ false → levels_of name (t ∷ ts) ≡ []) [

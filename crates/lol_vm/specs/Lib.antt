@@ -30,3 +30,4 @@ pub mod Standing
 pub mod RunLaws
 pub mod Directives
 pub mod SoundStacks
+pub mod TypedLaws

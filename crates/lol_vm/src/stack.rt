@@ -1,7 +1,7 @@
 //! The open elements.
 
-ghost use Rattle.std.specs.Prelude.{◌≡◌, ◌*◌, ◌<◌, ◌≤◌, ◌-◌, ◌↔◌, length, OnOk, OnErr, IsSome, IfSome, IsErrOf, Ok, Err, Some, None, List, [], ℕ, drop, take, map, if◌then◌else◌};
-ghost use Rattle.std.specs.Option.{option_copied};
+ghost use Rattle.std.specs.Prelude.{◌≡◌, ◌*◌, ◌<◌, ◌≤◌, ◌-◌, ◌↔◌, length, OnOk, OnErr, IsSome, IfSome, IsErrOf, slice_get, Ok, Err, Some, None, List, [], ℕ, drop, take, map, if◌then◌else◌};
+ghost use Rattle.std.specs.Option.{option_copied, option_copied_mut, option_map};
 ghost use Rattle.std.specs.Borrow.{sem};
 ghost use Rattle.lol_base.specs.LocalNames.{Name, local_name};
 ghost use Rattle.lol_memory.specs.Limiter.{charged};
@@ -56,6 +56,7 @@ impl<N, M, E> StackOf<N, M, E> {
     /// The data of the last open element, to be changed in place; none exactly if no element is open.
     pub fn current_element_data_mut(&mut self) -> Option<&mut E>
         ensures* lends { sem 𝓛 (lends_current N.row M.row E.row self.entry result) }
+        ensures value { option_copied_mut result ≡ option_map (λ item. item.element_data) (slice_get (items_in self.old) (length (items_in self.old) - 1)) }
         ensures some { IsSome result ↔ (0 < length (items_in self.old)) }
     {
         match self.items.last_mut() {
@@ -263,7 +264,6 @@ impl<E> StackOf<LocalName<'static>, StackNames, E> {
 
 impl StackNames {
     ghost use Rattle.std.specs.Prelude.{OnOk};
-    ghost use Rattle.std.specs.Option.{option_map};
     ghost use Rattle.lol_vm.specs.TypedCounts.{counted, cut_to};
     ghost use Rattle.lol_vm.specs.Stacks.{count_by_type};
     ghost use Rattle.lol_vm.specs.OpenPlaces.{places_of};

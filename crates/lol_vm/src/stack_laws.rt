@@ -1,5 +1,6 @@
 //! What holds of every stack that began empty: each function takes and gives nothing, and its contract is the law.
 
+ghost use Rattle.lol_vm.specs.TypedLaws.{CountingAddsOne, CuttingDropsAbove};
 ghost use Rattle.lol_vm.specs.SoundStacks.{NewIsSound, CountingKeepsSound, OpeningKeepsSound, ClosingKeepsSound, SameIsSound, EndsAtLast};
 
 /// The active ranges of a stack are those of its open elements, and the places of each name are theirs: so it is of a new stack, and
@@ -15,4 +16,10 @@ pub fn stacks_keep_their_lists<E>()
 /// On such a stack an end tag closes the last open element of its name, and all inside it.
 pub fn ends_close_the_last_of_their_name<E>()
     ensures { EndsAtLast E }
+{}
+
+/// Counters by type as a function of level and name: a child that is counted is one more there, and cutting drops the levels above.
+pub fn typed_counts_are_a_function()
+    ensures counting { CountingAddsOne }
+    ensures cutting { CuttingDropsAbove }
 {}
