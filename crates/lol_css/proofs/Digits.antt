@@ -3,8 +3,8 @@ use Rattle.std.proofs.Common.{◌≡◌, ℕ, zero, suc, Bool, true, false, cond
 use Rattle.std.proofs.lemmas.Bool.{cases_lt, lt-leb}
 use Rattle.std.proofs.lemmas.List.{drop_more}
 use Rattle.lol_css.specs.Tokens.{Token}
-use Rattle.lol_css.specs.declared.tokens.Sign.{Sign}
-use Rattle.lol_css.specs.declared.tokens.Sign.TheVariants.{Plus, Minus}
+use Rattle.lol_css.specs.declared.syntax.tokens.Sign.{Sign}
+use Rattle.lol_css.specs.declared.syntax.tokens.Sign.TheVariants.{Plus, Minus}
 use Rattle.lol_css.specs.AnPlusB.{fitting, signed, is_n_and_digits, rest_of}
 use Rattle.lol_css.specs.Rules.{says}
 use Rattle.lol_css.specs.declared.error.SelectorError.TheVariants.{UnexpectedToken}

@@ -11,7 +11,7 @@ use Rattle.lol_css.specs.Accepting.{judged_step, combined, judged_part, judged_c
 use Rattle.lol_css.specs.Judging.{Judged, with_part, alone, with_compound, with_item, judged_parts_at_most, judged_parts, judged_further, judged_items_at_most, is_empty}
 use Rattle.lol_css.specs.Views.{FailsUnlessMemory}
 use Rattle.lol_css.specs.declared.selector.Combinator.{Combinator}
-use Rattle.lol_css.specs.declared.logical.LogicalCombination.{LogicalCombination}
+use Rattle.lol_css.specs.declared.selectors.logical.LogicalCombination.{LogicalCombination}
 use Rattle.lol_css.specs.declared.error.SelectorError.{SelectorError}
 use Rattle.lol_css.specs.declared.error.SelectorError.TheVariants as errors
 use Rattle.lol_css.proofs.Shorter.{InnerLeaves, part-takes, item-leaves}

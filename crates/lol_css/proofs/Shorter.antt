@@ -9,8 +9,8 @@ use Rattle.lol_css.specs.Drafts.{By, Part, Plain, LatePseudoClass, LateNamespace
 use Rattle.lol_css.specs.Rules.{Read, ◌>>=◌, giving, keeping, is_delim, is_space, skip_space, Place, InFunction, InBrackets, closes, at_end, at_stop, wanted, closed, says, lowered, ident_of}
 use Rattle.lol_css.specs.AnPlusB.{signed, integer_value, unsigned, in_i32, fitting, digits_of_b, behind_n, is_n_and_digits, rest_of, with_step, integer, scaled, an_plus_b_of, an_plus_b}
 use Rattle.lol_css.specs.Reading.{utf8, combination_named, name_behind_bar, bar_of, attribute_name, operator_of, value_of, flag_of, unflagged, case_sensitivity, comparison, attribute, class_name, is_one_of, function_part, ident_part, pseudo, some, part, parts_at_most, more_parts, behind_bar, any_namespace, no_namespace, type_part, is_nothing, compound, step_of, step, next_step, further, item, items_at_most, list, inner_list}
-use Rattle.lol_css.specs.declared.tokens.Sign.{Sign}
-use Rattle.lol_css.specs.declared.tokens.Sign.TheVariants.{Minus}
+use Rattle.lol_css.specs.declared.syntax.tokens.Sign.{Sign}
+use Rattle.lol_css.specs.declared.syntax.tokens.Sign.TheVariants.{Minus}
 use Rattle.lol_css.specs.declared.error.SelectorError.{SelectorError}
 use Rattle.lol_css.specs.declared.error.SelectorError.TheVariants as errors
 use Rattle.lol_css.specs.declared.selector.Combinator.TheVariants.{Descendant}

@@ -7,7 +7,7 @@ use Rattle.std.specs.Str.{encode_utf8_all}
 use Rattle.std.specs.Option.{option_map}
 use Rattle.lol_css.specs.Points.{is, front, past, many, one, ◌or◌, is_decimal, is_sign, is_in_name, is_name_start, is_newline, is_white_space, begins_escape, begins_name, starts_identifier, starts_number, escaped, name, name_point}
 use Rattle.std.specs.Str.{byte}
-use Rattle.lol_css.specs.declared.tokens.MatchOperator.{MatchOperator}
+use Rattle.lol_css.specs.declared.syntax.tokens.MatchOperator.{MatchOperator}
 use Rattle.lol_css.specs.Tokens.{match_operator, Token, Space, Quoted, BadString, Hash, Number, Dimension, Percentage, Function, Ident, Match, Delim, Cdc, comment, in_comment, space, string_escape, string_piece, string_text, string_behind, string, hash, behind_fraction, behind_exponent, numeral, number, cdc, identifier, match_sign, delim, next, somes, with_first, tokens_of, joined}
 use Rattle.lol_css.proofs.Many.{Shrinks, many-some, many-none, some_same, at_most-shorter, past-shorter, escaped-shorter, name_point-shrinks, name-first}
 use Rattle.lol_css.proofs.Loops.{one-shrinks, in_comment-shrinks}

@@ -7,8 +7,8 @@ use Rattle.lol_css.specs.Drafts.{Step, By, NextSibling, SubsequentSibling, Part,
 use Rattle.lol_css.specs.Rules.{◌>>=◌}
 use Rattle.lol_css.specs.Reading.{selector}
 use Rattle.lol_css.specs.declared.selector.Combinator.{Combinator}
-use Rattle.lol_css.specs.declared.logical.LogicalCombination.{LogicalCombination}
-use Rattle.lol_css.specs.declared.logical.LogicalCombination.TheVariants as combinations
+use Rattle.lol_css.specs.declared.selectors.logical.LogicalCombination.{LogicalCombination}
+use Rattle.lol_css.specs.declared.selectors.logical.LogicalCombination.TheVariants as combinations
 use Rattle.lol_css.specs.declared.error.SelectorError.{SelectorError}
 use Rattle.lol_css.specs.declared.error.SelectorError.TheVariants.{UnsupportedPseudoClassOrElement, UnsupportedCombinator, NamespacedSelector}
 

@@ -7,8 +7,8 @@ use Rattle.std.specs.Str.{byte}
 use Rattle.lol_css.specs.Points.{is, front, is_decimal, decimal}
 use Rattle.lol_css.specs.Tokens.{Token, Numeral, sign_of, Number, Dimension, Ident, Delim}
 use Rattle.lol_css.specs.Rules.{Read, ◌>>=◌, giving, skip_space, InFunction, wanted, closed, says, ident_of}
-use Rattle.lol_css.specs.declared.tokens.Sign.{Sign}
-use Rattle.lol_css.specs.declared.tokens.Sign.TheVariants.{Plus, Minus}
+use Rattle.lol_css.specs.declared.syntax.tokens.Sign.{Sign}
+use Rattle.lol_css.specs.declared.syntax.tokens.Sign.TheVariants.{Plus, Minus}
 use Rattle.lol_css.specs.declared.error.SelectorError.TheVariants.{UnexpectedToken}
 
 -- a number with its sign

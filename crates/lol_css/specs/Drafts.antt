@@ -1,7 +1,7 @@
 -- What is read: the trees of selectors, and in them what is refused only after the whole list was read.
 use Rattle.lol_css.specs.Trees.{Simple}
 use Rattle.lol_css.specs.declared.selector.Combinator.{Combinator}
-use Rattle.lol_css.specs.declared.logical.LogicalCombination.{LogicalCombination}
+use Rattle.lol_css.specs.declared.selectors.logical.LogicalCombination.{LogicalCombination}
 
 -- how a compound stands to the one before it; the two to siblings are refused late
 pub data Step : Type 0 where

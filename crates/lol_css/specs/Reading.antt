@@ -10,14 +10,14 @@ use Rattle.lol_css.specs.Trees.{Simple, LocalName, AnyName, NoNamespace, Id, Cla
 use Rattle.lol_css.specs.Drafts.{Step, By, NextSibling, SubsequentSibling, Part, Plain, LatePseudoClass, LateNamespace, Logical, Compound, Nothing, With, Item, First, Then, Items, NoItems, And}
 use Rattle.lol_css.specs.Rules.{Read, ◌>>=◌, giving, keeping, is_delim, is_space, skip_space, Place, Outside, InFunction, InBrackets, at_end, at_stop, wanted, closed, lowered, says, ident_of}
 use Rattle.lol_css.specs.AnPlusB.{an_plus_b}
-use Rattle.lol_css.specs.declared.tokens.MatchOperator.TheVariants as operators
+use Rattle.lol_css.specs.declared.syntax.tokens.MatchOperator.TheVariants as operators
 use Rattle.lol_css.specs.declared.attribute.AttrSelectorOperator.{AttrSelectorOperator}
 use Rattle.lol_css.specs.declared.attribute.AttrSelectorOperator.TheVariants.{Equal, Includes, DashMatch, Prefix, Substring, Suffix}
 use Rattle.lol_css.specs.declared.attribute.ParsedCaseSensitivity.{ParsedCaseSensitivity}
 use Rattle.lol_css.specs.declared.attribute.ParsedCaseSensitivity.TheVariants.{ExplicitCaseSensitive, AsciiCaseInsensitive, CaseSensitive, AsciiCaseInsensitiveIfInHtmlElementInHtmlDocument}
 use Rattle.lol_css.specs.declared.selector.Combinator.TheVariants.{Child, Descendant}
-use Rattle.lol_css.specs.declared.logical.LogicalCombination.{LogicalCombination}
-use Rattle.lol_css.specs.declared.logical.LogicalCombination.TheVariants.{Not, Is, Where}
+use Rattle.lol_css.specs.declared.selectors.logical.LogicalCombination.{LogicalCombination}
+use Rattle.lol_css.specs.declared.selectors.logical.LogicalCombination.TheVariants.{Not, Is, Where}
 use Rattle.lol_css.specs.declared.error.SelectorError.{SelectorError}
 use Rattle.lol_css.specs.declared.error.SelectorError.TheVariants.{UnexpectedToken, UnexpectedEnd, MissingAttributeName, EmptySelector, DanglingCombinator, UnexpectedTokenInAttribute, UnsupportedPseudoClassOrElement, NamespacedSelector, InvalidClassName, UnsupportedSyntax}
 

@@ -5,10 +5,10 @@
 use Rattle.std.specs.Prelude.{ℕ, Bool, ◌&&◌, ◌||◌, ◌==◌, if◌then◌else◌, List, [], ◌∷◌, length, drop, Option, Some, None, ◌++◌}
 use Rattle.std.specs.Option.{option_map}
 use Rattle.std.specs.Str.{byte}
-use Rattle.lol_css.specs.declared.tokens.Sign.{Sign}
-use Rattle.lol_css.specs.declared.tokens.Sign.TheVariants.{Plus, Minus}
-use Rattle.lol_css.specs.declared.tokens.MatchOperator.{MatchOperator}
-use Rattle.lol_css.specs.declared.tokens.MatchOperator.TheVariants.{Include, Dash, Prefix, Suffix, Substring}
+use Rattle.lol_css.specs.declared.syntax.tokens.Sign.{Sign}
+use Rattle.lol_css.specs.declared.syntax.tokens.Sign.TheVariants.{Plus, Minus}
+use Rattle.lol_css.specs.declared.syntax.tokens.MatchOperator.{MatchOperator}
+use Rattle.lol_css.specs.declared.syntax.tokens.MatchOperator.TheVariants.{Include, Dash, Prefix, Suffix, Substring}
 use Rattle.lol_css.specs.Points.{is, front, past, many, one, is_newline, is_white_space, is_decimal, is_sign, decimal, ◌or◌, escaped, begins_escape, is_in_name, name, starts_identifier, starts_number, preprocessed}
 
 -- a number as it is written: its sign if one stands there, and its digits' value if it has neither fraction nor exponent

@@ -8,13 +8,13 @@ use Rattle.lol_css.specs.Rules as rules
 use Rattle.lol_css.specs.Rules.{Read}
 use Rattle.lol_css.specs.declared.error.SelectorError.{SelectorError}
 use Rattle.lol_css.specs.declared.error.SelectorError.TheVariants.{Memory}
-use Rattle.lol_css.specs.declared.reader.Place.{Place}
-use Rattle.lol_css.specs.declared.reader.Place.TheVariants.{Outside, InFunction, InBrackets}
-use Rattle.lol_css.specs.declared.texts.Name.{Name}
-use Rattle.lol_css.specs.declared.texts.Quoted as texts
-use Rattle.lol_css.specs.declared.tokens.Numeral.{Numeral}
-use Rattle.lol_css.specs.declared.tokens.Token.{Token}
-use Rattle.lol_css.specs.declared.tokens.Token.TheVariants.{Space, Quoted, BadString, Hash, Number, Dimension, Percentage, Cdc, Function, Ident, Match, Delim}
+use Rattle.lol_css.specs.declared.syntax.reader.Place.{Place}
+use Rattle.lol_css.specs.declared.syntax.reader.Place.TheVariants.{Outside, InFunction, InBrackets}
+use Rattle.lol_css.specs.declared.syntax.texts.Name.{Name}
+use Rattle.lol_css.specs.declared.syntax.texts.Quoted as texts
+use Rattle.lol_css.specs.declared.syntax.tokens.Numeral.{Numeral}
+use Rattle.lol_css.specs.declared.syntax.tokens.Token.{Token}
+use Rattle.lol_css.specs.declared.syntax.tokens.Token.TheVariants.{Space, Quoted, BadString, Hash, Number, Dimension, Percentage, Cdc, Function, Ident, Match, Delim}
 
 -- what was taken from the front, seen by view, is this
 abbrev pub Took : {X Y : Type 0} → (X → Y) → Option X → Option Y → Type 0

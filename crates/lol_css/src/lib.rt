@@ -1,22 +1,15 @@
 //! CSS selectors: their trees, and reading them.
 #![tactic(auto)]
 
-mod an_plus_b;
 mod attribute;
-mod attribute_part;
 mod error;
-mod judged;
 pub mod laws;
-mod logical;
 mod nth;
 mod parser;
-mod points;
-mod reader;
 pub mod rows;
-mod rules;
 mod selector;
-mod texts;
-mod tokens;
+mod selectors;
+mod syntax;
 
 pub use attribute::{AttrSelectorOperator, CaseSensitivity, ParsedCaseSensitivity};
 pub use error::SelectorError;

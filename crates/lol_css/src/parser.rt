@@ -6,10 +6,10 @@ ghost use Rattle.lol_css.specs.TreeViews.{list_of};
 ghost use Rattle.lol_css.specs.declared.error.SelectorError.TheVariants.{Memory};
 
 use crate::error::SelectorError;
-use crate::points::preprocessed;
-use crate::reader::{Place, Reader};
-use crate::rules::list;
 use crate::selector::SelectorList;
+use crate::selectors::rules::list;
+use crate::syntax::points::preprocessed;
+use crate::syntax::reader::{Place, Reader};
 use std::alloc::Global;
 
 /// How many of `:not`, `:is` and `:where` may be open at once.

@@ -1,0 +1,255 @@
+//! Attributes, behind the `[` (Selectors 4, section 6).
+
+ghost use Rattle.std.specs.Prelude.{◌≡◌};
+ghost use Rattle.std.specs.List.{list_any};
+ghost use Rattle.std.specs.Str.{bytes_eq};
+ghost use Rattle.lol_css.specs.CaselessAttributes.{caseless_attributes};
+ghost use Rattle.lol_css.specs.Trees as trees;
+ghost use Rattle.lol_css.specs.Rules.{wanted, giving, InBrackets};
+ghost use Rattle.lol_css.specs.Reading.{attribute_name, operator_of, value_of, flag_of, flag_named, unflagged, case_sensitivity, comparison, attribute, utf8};
+ghost use Rattle.lol_css.specs.Accepting.{judged_part};
+ghost use Rattle.lol_css.specs.declared.error.SelectorError.TheVariants.{UnexpectedToken, UnexpectedTokenInAttribute};
+ghost use Rattle.lol_css.specs.Views.{Reads, ReadsUnlessMemory, points_of, seen};
+ghost use Rattle.lol_css.specs.TreeViews.{part_of};
+
+use crate::attribute::{AttrSelectorOperator, ParsedCaseSensitivity};
+use crate::error::SelectorError;
+use crate::selector::{CssString, SimpleSelector};
+use crate::selectors::judged::Judged;
+use crate::syntax::reader::{Place, Reader};
+use crate::syntax::texts::Name;
+use crate::syntax::tokens::{MatchOperator, Token};
+use std::alloc::Global;
+
+/// The name, and whether `*|` stands before it.
+#[tactic(auto, unfolding(crate::specs::Reading::attribute_name, crate::specs::Rules::wanted))]
+fn attribute_name<'a>(reader: &mut Reader<'a>) -> Result<(Name<'a>, bool), SelectorError>
+    ensures { Reads (λ x. (points_of x.0, x.1)) result reader.new (attribute_name reader.old) }
+{
+    if reader.is_at_end(Place::InBrackets) {
+        return Err(SelectorError::UnexpectedEnd);
+    }
+    match reader.next() {
+        Some(Token::Ident(name)) => {
+            if reader.is_at_delim('|') {
+                return Err(SelectorError::NamespacedSelector);
+            }
+            Ok((name, false))
+        }
+        Some(Token::Delim('|')) => {
+            let name = reader.wanted_name(
+                Place::InBrackets,
+                SelectorError::UnexpectedTokenInAttribute,
+            )?;
+            Ok((name, false))
+        }
+        Some(Token::Delim('*')) => {
+            if reader.is_at_end(Place::InBrackets) {
+                return Err(SelectorError::UnexpectedEnd);
+            }
+            if !reader.is_at_delim('|') {
+                return Err(SelectorError::UnexpectedTokenInAttribute);
+            }
+            reader.advance();
+            let name = reader.wanted_name(
+                Place::InBrackets,
+                SelectorError::UnexpectedTokenInAttribute,
+            )?;
+            Ok((name, true))
+        }
+        _ => Err(SelectorError::MissingAttributeName),
+    }
+}
+
+#[tactic(auto, unfolding(crate::specs::Rules::wanted))]
+fn operator(reader: &mut Reader<'_>) -> Result<AttrSelectorOperator, SelectorError>
+    ensures { Reads (λ x. x) result reader.new (wanted InBrackets operator_of UnexpectedTokenInAttribute reader.old) }
+{
+    if reader.is_at_end(Place::InBrackets) {
+        return Err(SelectorError::UnexpectedEnd);
+    }
+    match reader.next() {
+        Some(Token::Delim('=')) => Ok(AttrSelectorOperator::Equal),
+        Some(Token::Match(MatchOperator::Include)) => Ok(AttrSelectorOperator::Includes),
+        Some(Token::Match(MatchOperator::Dash)) => Ok(AttrSelectorOperator::DashMatch),
+        Some(Token::Match(MatchOperator::Prefix)) => Ok(AttrSelectorOperator::Prefix),
+        Some(Token::Match(MatchOperator::Suffix)) => Ok(AttrSelectorOperator::Suffix),
+        Some(Token::Match(MatchOperator::Substring)) => Ok(AttrSelectorOperator::Substring),
+        _ => Err(SelectorError::UnexpectedTokenInAttribute),
+    }
+}
+
+#[tactic(auto, unfolding(crate::specs::Rules::wanted))]
+fn value(alloc: Global, reader: &mut Reader<'_>) -> Result<CssString, SelectorError>
+    ensures { ReadsUnlessMemory (λ s. s) result reader.new (giving utf8 (wanted InBrackets value_of UnexpectedTokenInAttribute reader.old)) }
+{
+    if reader.is_at_end(Place::InBrackets) {
+        return Err(SelectorError::UnexpectedEnd);
+    }
+    match reader.next() {
+        Some(Token::Ident(name)) => Ok(name.to_text(alloc)?),
+        Some(Token::Quoted(quoted)) => Ok(quoted.to_text(alloc)?),
+        _ => Err(SelectorError::UnexpectedTokenInAttribute),
+    }
+}
+
+fn flag_named(name: Name<'_>) -> Option<ParsedCaseSensitivity>
+    ensures { result ≡ flag_named (points_of name.entry) }
+{
+    if name.is_word("i") {
+        Some(ParsedCaseSensitivity::AsciiCaseInsensitive)
+    } else if name.is_word("s") {
+        Some(ParsedCaseSensitivity::ExplicitCaseSensitive)
+    } else {
+        None
+    }
+}
+
+#[tactic(auto, unfolding(crate::specs::Rules::wanted))]
+fn flag(reader: &mut Reader<'_>) -> Result<ParsedCaseSensitivity, SelectorError>
+    ensures { Reads (λ x. x) result reader.new (wanted InBrackets flag_of UnexpectedToken reader.old) }
+{
+    if reader.is_at_end(Place::InBrackets) {
+        return Err(SelectorError::UnexpectedEnd);
+    }
+    match reader.next() {
+        Some(Token::Ident(name)) => flag_named(name).ok_or(SelectorError::UnexpectedToken),
+        _ => Err(SelectorError::UnexpectedToken),
+    }
+}
+
+/// The attributes whose values compare without case on HTML elements.
+static CASELESS: [&str; 46] = [
+    "accept",
+    "accept-charset",
+    "align",
+    "alink",
+    "axis",
+    "bgcolor",
+    "charset",
+    "checked",
+    "clear",
+    "codetype",
+    "color",
+    "compact",
+    "declare",
+    "defer",
+    "dir",
+    "direction",
+    "disabled",
+    "enctype",
+    "face",
+    "frame",
+    "hreflang",
+    "http-equiv",
+    "lang",
+    "language",
+    "link",
+    "media",
+    "method",
+    "multiple",
+    "nohref",
+    "noresize",
+    "noshade",
+    "nowrap",
+    "readonly",
+    "rel",
+    "rev",
+    "rules",
+    "scope",
+    "scrolling",
+    "selected",
+    "shape",
+    "target",
+    "text",
+    "type",
+    "valign",
+    "valuetype",
+    "vlink",
+];
+
+fn is_among(name: &str, names: &[&str]) -> bool
+    ensures { result ≡ list_any (λ other. bytes_eq name.now other.now) names.now }
+{
+    names.iter().any(|other| name == *other)
+}
+
+fn is_caseless(name: &str) -> bool
+    ensures { result ≡ list_any (λ other. bytes_eq name.now other) caseless_attributes }
+{
+    is_among(name, &CASELESS)
+}
+
+/// How an attribute of this name is compared where no flag stands.
+fn unflagged(name: &CssString) -> ParsedCaseSensitivity
+    ensures { result ≡ unflagged name.now }
+{
+    if is_caseless(name.as_str()) {
+        ParsedCaseSensitivity::AsciiCaseInsensitiveIfInHtmlElementInHtmlDocument
+    } else {
+        ParsedCaseSensitivity::CaseSensitive
+    }
+}
+
+/// The flag, and the end.
+#[tactic(auto, unfolding(crate::specs::Reading::case_sensitivity))]
+fn case_sensitivity(
+    name: &CssString,
+    reader: &mut Reader<'_>,
+) -> Result<ParsedCaseSensitivity, SelectorError>
+    ensures { Reads (λ x. x) result reader.new (case_sensitivity name.now reader.old) }
+{
+    if reader.is_at_end(Place::InBrackets) {
+        reader.advance();
+        return Ok(unflagged(name));
+    }
+    let found = flag(reader)?;
+    reader.close(Place::InBrackets)?;
+    Ok(found)
+}
+
+/// What stands behind the name.
+#[tactic(auto, unfolding(crate::specs::Reading::comparison))]
+fn comparison(
+    alloc: Global,
+    name: CssString,
+    reader: &mut Reader<'_>,
+) -> Result<SimpleSelector, SelectorError>
+    ensures { ReadsUnlessMemory part_of result reader.new (giving trees.Plain (comparison name reader.old)) }
+{
+    if reader.is_at_end(Place::InBrackets) {
+        reader.advance();
+        return Ok(SimpleSelector::AttributeExists { name });
+    }
+    let operator = operator(reader)?;
+    reader.skip_space();
+    let value = value(alloc, reader)?;
+    reader.skip_space();
+    let case_sensitivity = case_sensitivity(&name, reader)?;
+    Ok(SimpleSelector::AttributeComparison {
+        name,
+        value,
+        operator,
+        case_sensitivity,
+    })
+}
+
+/// An attribute, from behind the `[`.
+#[tactic(auto, unfolding(crate::specs::Reading::attribute, crate::specs::Accepting::judged_part))]
+pub(crate) fn attribute(
+    alloc: Global,
+    reader: &mut Reader<'_>,
+) -> Result<Judged<SimpleSelector>, SelectorError>
+    ensures { ReadsUnlessMemory (seen part_of) result reader.new (giving judged_part (attribute reader.old)) }
+{
+    reader.skip_space();
+    let (name, any_namespace) = attribute_name(reader)?;
+    let name = name.to_lowercase_text(alloc)?;
+    reader.skip_space();
+    let part = comparison(alloc, name, reader)?;
+    Ok(if any_namespace {
+        Err(SelectorError::NamespacedSelector)
+    } else {
+        Ok(part)
+    })
+}

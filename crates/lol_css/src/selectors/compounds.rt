@@ -1,0 +1,163 @@
+//! Compounds: what they begin with, and one part more (Selectors 4, section 3.1).
+
+ghost use Rattle.std.specs.Prelude.{◌≡◌, Ok, IfOk};
+ghost use Rattle.std.specs.Option.{option_map};
+ghost use Rattle.lol_css.specs.Trees as trees;
+ghost use Rattle.lol_css.specs.Rules.{giving};
+ghost use Rattle.lol_css.specs.Reading.{class_name, behind_bar, any_namespace, no_namespace, type_part};
+ghost use Rattle.lol_css.specs.Accepting.{judged_compound};
+ghost use Rattle.lol_css.specs.Judging as judging;
+ghost use Rattle.lol_css.specs.Judging.{is_empty};
+ghost use Rattle.lol_css.specs.Views.{ReadsUnlessMemory, place_of, seen};
+ghost use Rattle.lol_css.specs.TreeViews.{part_of, compound_of};
+
+use crate::error::SelectorError;
+use crate::selector::{Compound, SimpleSelector};
+use crate::selectors::judged::Judged;
+use crate::syntax::reader::{Place, Reader};
+use crate::syntax::tokens::Token;
+use std::alloc::{AllocError, Global};
+
+#[tactic(auto, unfolding(crate::specs::Reading::class_name))]
+pub(crate) fn class_name(
+    alloc: Global,
+    reader: &mut Reader<'_>,
+    place: Place,
+) -> Result<SimpleSelector, SelectorError>
+    ensures { ReadsUnlessMemory part_of result reader.new (giving trees.Plain (class_name (place_of place) reader.old)) }
+{
+    if reader.is_at_stop(place) {
+        return Err(SelectorError::UnexpectedEnd);
+    }
+    let name = reader.wanted_name(place, SelectorError::InvalidClassName)?;
+    Ok(SimpleSelector::Class(name.to_text(alloc)?))
+}
+
+/// A name or `*`, directly behind a bar; nothing where the item ends.
+#[tactic(auto, unfolding(crate::specs::Reading::behind_bar))]
+fn behind_bar(
+    alloc: Global,
+    reader: &mut Reader<'_>,
+    place: Place,
+) -> Result<Option<SimpleSelector>, SelectorError>
+    ensures { ReadsUnlessMemory (option_map part_of) result reader.new (giving (option_map trees.Plain) (behind_bar (place_of place) reader.old)) }
+{
+    if reader.is_at_stop(place) {
+        return Ok(None);
+    }
+    match reader.next() {
+        Some(Token::Ident(name)) => Ok(Some(SimpleSelector::LocalName(name.to_text(alloc)?))),
+        Some(Token::Delim('*')) => Ok(Some(SimpleSelector::ExplicitUniversalType)),
+        _ => Err(SelectorError::UnexpectedToken),
+    }
+}
+
+/// A compound of one part.
+#[tactic(auto, using(crate::proofs::TreeRows::row_starts))]
+fn single(alloc: Global, part: SimpleSelector) -> Result<Compound, AllocError>
+    ensures { IfOk result (λ compound. compound_of compound ≡ trees.With trees.Nothing (part_of part)) }
+{
+    let mut parts = Vec::new(alloc);
+    parts.push(part)?;
+    Ok(Compound { parts })
+}
+
+/// A compound that begins behind `*|`; nothing where the item ends.
+#[tactic(auto, unfolding(crate::specs::Accepting::judged_compound, crate::specs::Accepting::judged_part))]
+fn any_namespace(
+    alloc: Global,
+    reader: &mut Reader<'_>,
+    place: Place,
+) -> Result<Option<Compound>, SelectorError>
+    ensures { ReadsUnlessMemory (option_map (λ start. Ok (compound_of start))) result reader.new (giving (option_map judged_compound) (giving (option_map any_namespace) (behind_bar (place_of place) reader.old))) }
+{
+    match behind_bar(alloc, reader, place)? {
+        Some(name) => Ok(Some(single(alloc, name)?)),
+        None => Ok(None),
+    }
+}
+
+/// A compound that begins behind `|`; nothing where the item ends.
+#[tactic(auto, unfolding(crate::specs::Accepting::judged_compound, crate::specs::Accepting::judged_part), using(crate::proofs::TreeRows::push_steps))]
+fn no_namespace(
+    alloc: Global,
+    reader: &mut Reader<'_>,
+    place: Place,
+) -> Result<Option<Compound>, SelectorError>
+    ensures { ReadsUnlessMemory (option_map (λ start. Ok (compound_of start))) result reader.new (giving (option_map judged_compound) (giving (option_map no_namespace) (behind_bar (place_of place) reader.old))) }
+{
+    match behind_bar(alloc, reader, place)? {
+        Some(name) => {
+            let mut compound = single(alloc, SimpleSelector::ExplicitNoNamespace)?;
+            compound.parts.push(name)?;
+            Ok(Some(compound))
+        }
+        None => Ok(None),
+    }
+}
+
+/// A compound that begins with its type part, where one stands; nothing where a bar ends the item.
+#[tactic(auto, unfolding(crate::specs::Reading::type_part, crate::specs::Accepting::judged_compound, crate::specs::Accepting::judged_part))]
+pub(crate) fn type_part(
+    alloc: Global,
+    reader: &mut Reader<'_>,
+    place: Place,
+) -> Result<Option<Compound>, SelectorError>
+    ensures { ReadsUnlessMemory (option_map (λ start. Ok (compound_of start))) result reader.new (giving (option_map judged_compound) (type_part (place_of place) reader.old)) }
+{
+    match reader.peek() {
+        Some(Token::Ident(name)) => {
+            reader.advance();
+            if reader.is_at_delim('|') {
+                return Err(SelectorError::NamespacedSelector);
+            }
+            let name = SimpleSelector::LocalName(name.to_text(alloc)?);
+            Ok(Some(single(alloc, name)?))
+        }
+        Some(Token::Delim('*')) => {
+            reader.advance();
+            if !reader.is_at_delim('|') {
+                return Ok(Some(single(alloc, SimpleSelector::ExplicitUniversalType)?));
+            }
+            reader.advance();
+            any_namespace(alloc, reader, place)
+        }
+        Some(Token::Delim('|')) => {
+            reader.advance();
+            no_namespace(alloc, reader, place)
+        }
+        _ => Ok(Some(Compound {
+            parts: Vec::new(alloc),
+        })),
+    }
+}
+
+/// A compound with one more part.
+#[tactic(auto, using(crate::proofs::TreeRows::push_steps))]
+pub(crate) fn with_part(
+    front: Judged<Compound>,
+    part: Judged<SimpleSelector>,
+) -> Result<Judged<Compound>, AllocError>
+    ensures { IfOk result (λ r. seen compound_of r ≡ judging.with_part (seen compound_of front) (seen part_of part)) }
+{
+    let mut compound = match front {
+        Ok(compound) => compound,
+        Err(cause) => return Ok(Err(cause)),
+    };
+    match part {
+        Ok(part) => {
+            compound.parts.push(part)?;
+            Ok(Ok(compound))
+        }
+        Err(cause) => Ok(Err(cause)),
+    }
+}
+
+pub(crate) fn reads_nothing(parts: &Judged<Compound>) -> bool
+    ensures { result ≡ is_empty (seen compound_of parts.now) }
+{
+    match parts {
+        Ok(compound) => compound.parts.as_slice().is_empty(),
+        Err(_) => false,
+    }
+}

@@ -1,0 +1,109 @@
+//! Items: the steps between compounds, and one compound more (Selectors 4, section 16).
+
+ghost use Rattle.std.specs.Prelude.{◌≡◌, IfOk};
+ghost use Rattle.std.specs.Option.{option_map};
+ghost use Rattle.lol_css.specs.Rules.{giving};
+ghost use Rattle.lol_css.specs.Reading.{next_step};
+ghost use Rattle.lol_css.specs.Accepting.{judged_step};
+ghost use Rattle.lol_css.specs.Judging as judging;
+ghost use Rattle.lol_css.specs.Views.{Reads, place_of, is_inside, seen};
+ghost use Rattle.lol_css.specs.TreeViews.{compound_of, item_of, list_of};
+
+use crate::error::SelectorError;
+use crate::selector::{Combinator, ComplexSelector, Compound, SelectorList};
+use crate::selectors::judged::Judged;
+use crate::syntax::reader::{Place, Reader};
+use crate::syntax::tokens::Token;
+use std::alloc::{AllocError, Global};
+
+/// The step behind a compound; nothing where the item ends.
+#[tactic(auto, unfolding(crate::specs::Reading::next_step, crate::specs::Reading::step))]
+pub(crate) fn next_step(
+    reader: &mut Reader<'_>,
+    place: Place,
+) -> Result<Option<Judged<Combinator>>, SelectorError>
+    ensures { Reads (λ step. step) result reader.new (giving (option_map (judged_step (is_inside place))) (next_step (place_of place) reader.old)) }
+{
+    let after_space = matches!(reader.peek(), Some(Token::Space));
+    reader.skip_space();
+    if reader.is_at_stop(place) {
+        return Ok(None);
+    }
+    let step = match reader.peek() {
+        Some(Token::Delim('>')) => Some(Ok(Combinator::Child)),
+        Some(Token::Delim('+')) => Some(Err(SelectorError::UnsupportedCombinator('+'))),
+        Some(Token::Delim('~')) => Some(Err(SelectorError::UnsupportedCombinator('~'))),
+        _ => None,
+    };
+    if step.is_some() {
+        reader.advance();
+        reader.skip_space();
+    } else if !after_space {
+        return Err(SelectorError::UnexpectedToken);
+    }
+    if place == Place::InFunction {
+        return Ok(Some(Err(SelectorError::UnsupportedPseudoClassOrElement)));
+    }
+    Ok(Some(step.unwrap_or(Ok(Combinator::Descendant))))
+}
+
+/// An item of one compound.
+#[tactic(auto, using(crate::proofs::TreeRows::row_starts))]
+pub(crate) fn alone(alloc: Global, first: Judged<Compound>) -> Judged<ComplexSelector>
+    ensures { seen item_of result ≡ judging.alone (seen compound_of first) }
+{
+    match first {
+        Ok(first) => Ok(ComplexSelector {
+            first,
+            rest: Vec::new(alloc),
+        }),
+        Err(cause) => Err(cause),
+    }
+}
+
+/// An item with one more compound: the last compound is judged first, and then the step.
+#[tactic(auto, using(crate::proofs::TreeRows::push_steps))]
+pub(crate) fn with_compound(
+    front: Judged<ComplexSelector>,
+    step: Judged<Combinator>,
+    compound: Judged<Compound>,
+) -> Result<Judged<ComplexSelector>, AllocError>
+    ensures { IfOk result (λ r. seen item_of r ≡ judging.with_compound (seen item_of front) step (seen compound_of compound)) }
+{
+    let compound = match compound {
+        Ok(compound) => compound,
+        Err(cause) => return Ok(Err(cause)),
+    };
+    let combinator = match step {
+        Ok(combinator) => combinator,
+        Err(cause) => return Ok(Err(cause)),
+    };
+    match front {
+        Ok(mut item) => {
+            item.rest.push((combinator, compound))?;
+            Ok(Ok(item))
+        }
+        Err(cause) => Ok(Err(cause)),
+    }
+}
+
+/// A list with one more item.
+#[tactic(auto, using(crate::proofs::TreeRows::push_steps))]
+pub(crate) fn with_item(
+    front: Judged<SelectorList>,
+    item: Judged<ComplexSelector>,
+) -> Result<Judged<SelectorList>, AllocError>
+    ensures { IfOk result (λ r. seen list_of r ≡ judging.with_item (seen list_of front) (seen item_of item)) }
+{
+    let mut list = match front {
+        Ok(list) => list,
+        Err(cause) => return Ok(Err(cause)),
+    };
+    match item {
+        Ok(item) => {
+            list.items.push(item)?;
+            Ok(Ok(list))
+        }
+        Err(cause) => Ok(Err(cause)),
+    }
+}

@@ -1,0 +1,78 @@
+//! Pseudo-classes that take no list (Selectors 4, section 14).
+
+ghost use Rattle.std.specs.Prelude.{◌≡◌};
+ghost use Rattle.lol_css.specs.Rules.{giving};
+ghost use Rattle.lol_css.specs.Reading.{function_part, ident_part, is_one_of, late_words};
+ghost use Rattle.lol_css.specs.Accepting.{judged_part};
+ghost use Rattle.lol_css.specs.Views.{Reads, points_of, seen};
+ghost use Rattle.lol_css.specs.TreeViews.{part_of};
+
+use crate::error::SelectorError;
+use crate::nth::NthChild;
+use crate::selector::SimpleSelector;
+use crate::selectors::judged::Judged;
+use crate::syntax::an_plus_b::an_plus_b;
+use crate::syntax::reader::Reader;
+use crate::syntax::texts::Name;
+
+fn is_late_word(name: Name<'_>) -> bool
+    ensures { result ≡ is_one_of late_words (points_of name.entry) }
+{
+    name.is_word("last-child")
+        || name.is_word("only-child")
+        || name.is_word("last-of-type")
+        || name.is_word("only-of-type")
+        || name.is_word("root")
+        || name.is_word("empty")
+        || name.is_word("scope")
+}
+
+/// A pseudo-class without an argument.
+#[tactic(auto, unfolding(crate::specs::Reading::ident_part, crate::specs::Accepting::judged_part))]
+pub(crate) fn ident_part(name: Name<'_>) -> Result<Judged<SimpleSelector>, SelectorError>
+    ensures { seen (seen part_of) result ≡ seen judged_part (ident_part (points_of name.entry)) }
+{
+    let first = NthChild::new(0, 1);
+    if name.is_word("first-child") {
+        return Ok(Ok(SimpleSelector::Nth {
+            of_type: false,
+            nth: first,
+        }));
+    }
+    if name.is_word("first-of-type") {
+        return Ok(Ok(SimpleSelector::Nth {
+            of_type: true,
+            nth: first,
+        }));
+    }
+    if is_late_word(name) {
+        return Ok(Err(SelectorError::UnsupportedPseudoClassOrElement));
+    }
+    Err(SelectorError::UnsupportedPseudoClassOrElement)
+}
+
+/// A pseudo-class whose argument is no list, after its parenthesis.
+#[tactic(auto, unfolding(crate::specs::Reading::function_part, crate::specs::Accepting::judged_part))]
+pub(crate) fn function_part(
+    name: Name<'_>,
+    reader: &mut Reader<'_>,
+) -> Result<Judged<SimpleSelector>, SelectorError>
+    ensures { Reads (seen part_of) result reader.new (giving judged_part (function_part (points_of name.entry) reader.old)) }
+{
+    if name.is_word("nth-child") {
+        let nth = an_plus_b(reader)?;
+        return Ok(Ok(SimpleSelector::Nth {
+            of_type: false,
+            nth,
+        }));
+    }
+    if name.is_word("nth-of-type") {
+        let nth = an_plus_b(reader)?;
+        return Ok(Ok(SimpleSelector::Nth { of_type: true, nth }));
+    }
+    if name.is_word("nth-last-child") || name.is_word("nth-last-of-type") {
+        let _ = an_plus_b(reader)?;
+        return Ok(Err(SelectorError::UnsupportedPseudoClassOrElement));
+    }
+    Err(SelectorError::UnsupportedPseudoClassOrElement)
+}

@@ -1,0 +1,251 @@
+//! An+B (CSS Syntax 3, section 6), behind the parenthesis of `:nth-child(` and its kin.
+
+ghost use Rattle.std.specs.Prelude.{◌≡◌, ◌≤◌, ◌+◌, ◌-◌, ◌*◌, List, min, take, drop, codes, if◌then◌else◌, Some, None, true, false, MatchOption, IfSome};
+ghost use Rattle.std.specs.List.{list_all};
+ghost use Rattle.std.specs.Str.{byte};
+ghost use Rattle.lol_css.specs.Points.{decimal, is_decimal, front, is};
+ghost use Rattle.lol_css.specs.Tokens as tokens;
+ghost use Rattle.lol_css.specs.Rules.{says};
+ghost use Rattle.lol_css.specs.AnPlusB.{integer, an_plus_b, an_plus_b_of, rest_of, scaled, behind_n, digits_of_b, fitting, signed, is_n_and_digits};
+ghost use Rattle.lol_css.specs.Views.{Reads, numeral_of, token_of, points_of};
+
+use crate::error::SelectorError;
+use crate::nth::NthChild;
+use crate::syntax::reader::{Place, Reader};
+use crate::syntax::texts::Name;
+use crate::syntax::tokens::{Numeral, Sign, Token};
+
+/// One more than the magnitude of the least `i32`.
+const TOO_LARGE: u64 = 2_147_483_649;
+
+/// The number with one more digit behind it, or `TOO_LARGE`.
+fn with_digit(number: u64, digit: char) -> u64
+    requires { number ≤ TOO_LARGE }
+    ensures { result ≡ min (number * 10 + (digit - byte "0")) TOO_LARGE }
+{
+    let digit = u64::from(u32::from(digit).saturating_sub(u32::from('0')));
+    (number * 10 + digit).min(TOO_LARGE)
+}
+
+/// The number that decimal digits write, or `TOO_LARGE`.
+#[tactic(auto, using(crate::proofs::Digits::capped_steps))]
+fn magnitude(digits: &[char]) -> u64
+    ensures { result ≡ min (decimal digits.now) TOO_LARGE }
+{
+    let mut number = 0;
+    for digit in digits {
+        number = with_digit(number, *digit);
+    }
+    number
+}
+
+/// The number that a name of decimal digits writes, or `TOO_LARGE`.
+#[tactic(auto, using(crate::proofs::Digits::capped_steps))]
+fn name_magnitude(name: Name<'_>) -> Option<u64>
+    ensures { result ≡ (if list_all is_decimal (points_of name.entry) then Some (min (decimal (points_of name.entry)) TOO_LARGE) else None) }
+{
+    let mut number = 0;
+    let mut rest = name;
+    while let Some((c, after)) = rest.split_first() {
+        if !c.is_ascii_digit() {
+            return None;
+        }
+        number = with_digit(number, c);
+        rest = after;
+    }
+    Some(number)
+}
+
+/// A magnitude with its sign: `UnexpectedToken` outside `i32`.
+#[tactic(auto, unfolding(crate::specs::AnPlusB::fitting))]
+fn fitting(sign: Sign, magnitude: u64) -> Result<i32, SelectorError>
+    requires { magnitude ≤ TOO_LARGE }
+    ensures { (rest : List tokens.Token) → Reads (λ x. x) result rest (fitting (signed sign magnitude) rest) }
+{
+    let magnitude = magnitude as i64;
+    let number = match sign {
+        Sign::Plus => magnitude,
+        Sign::Minus => -magnitude,
+    };
+    match i32::try_from(number) {
+        Ok(number) => Ok(number),
+        Err(_) => Err(SelectorError::UnexpectedToken),
+    }
+}
+
+/// The value of a number of these digits: `UnexpectedToken` outside `i32`.
+fn value(sign: Sign, digits: &[char]) -> Result<i32, SelectorError>
+    ensures { (rest : List tokens.Token) → Reads (λ x. x) result rest (fitting (signed sign (decimal digits.now)) rest) }
+{
+    fitting(sign, magnitude(digits))
+}
+
+/// White space and a number without a sign, which gets this one.
+#[tactic(auto, unfolding(crate::specs::AnPlusB::digits_of_b, crate::specs::Rules::wanted))]
+fn digits_of_b(sign: Sign, reader: &mut Reader<'_>) -> Result<i32, SelectorError>
+    ensures { Reads (λ x. x) result reader.new (digits_of_b sign reader.old) }
+{
+    reader.skip_space();
+    if reader.is_at_end(Place::InFunction) {
+        return Err(SelectorError::UnexpectedEnd);
+    }
+    match reader.next() {
+        Some(
+            Token::Number(
+                Numeral {
+                    sign: None,
+                    integer: Some(digits),
+                },
+            ),
+        ) => value(sign, digits),
+        _ => Err(SelectorError::UnexpectedToken),
+    }
+}
+
+/// B behind `n` and white space; 0, with nothing taken, where none stands.
+#[tactic(auto, unfolding(crate::specs::AnPlusB::behind_n))]
+fn behind_n(reader: &mut Reader<'_>) -> Result<i32, SelectorError>
+    ensures { Reads (λ x. x) result reader.new (behind_n reader.old) }
+{
+    match reader.peek() {
+        Some(Token::Delim('+')) => {
+            reader.advance();
+            digits_of_b(Sign::Plus, reader)
+        }
+        Some(Token::Delim('-')) => {
+            reader.advance();
+            digits_of_b(Sign::Minus, reader)
+        }
+        Some(
+            Token::Number(
+                Numeral {
+                    sign: Some(sign),
+                    integer: Some(digits),
+                },
+            ),
+        ) => {
+            reader.advance();
+            value(sign, digits)
+        }
+        _ => Ok(0),
+    }
+}
+
+/// What follows `n-` in a name.
+fn behind_n_minus(name: Name<'_>) -> Option<Name<'_>>
+    ensures { MatchOption result (says (codes "n-") (take 2 (points_of name.entry)) ≡ false) (λ rest. (says (codes "n-") (take 2 (points_of name.entry)) ≡ true) × (points_of rest ≡ drop 2 (points_of name.entry))) }
+{
+    let (n, rest) = name.split_first()?;
+    let (minus, rest) = rest.split_first()?;
+    if n.to_ascii_lowercase() == 'n' && minus == '-' {
+        Some(rest)
+    } else {
+        None
+    }
+}
+
+/// The digits behind `n-` in a name, as their number or `TOO_LARGE`.
+fn digits_behind_n(name: Name<'_>) -> Option<u64>
+    ensures value { result ≡ (if is_n_and_digits (points_of name.entry) then Some (min (decimal (drop 2 (points_of name.entry))) TOO_LARGE) else None) }
+    ensures small { IfSome result (λ n. n ≤ TOO_LARGE) }
+{
+    name_magnitude(behind_n_minus(name)?)
+}
+
+/// B, of which the name holds the beginning: `n`, `n-`, or `n-` with digits.
+#[tactic(auto, unfolding(crate::specs::AnPlusB::rest_of))]
+fn rest_of(name: Name<'_>, reader: &mut Reader<'_>) -> Result<i32, SelectorError>
+    ensures { Reads (λ x. x) result reader.new (rest_of (points_of name.entry) reader.old) }
+{
+    if name.is_word("n") {
+        reader.skip_space();
+        return behind_n(reader);
+    }
+    if name.is_word("n-") {
+        return digits_of_b(Sign::Minus, reader);
+    }
+    match digits_behind_n(name) {
+        Some(magnitude) => fitting(Sign::Minus, magnitude),
+        None => Err(SelectorError::UnexpectedToken),
+    }
+}
+
+/// What follows `-` in a name.
+fn behind_minus(name: Name<'_>) -> Option<Name<'_>>
+    ensures { MatchOption result (front (is (byte "-")) (points_of name.entry) ≡ false) (λ rest. (front (is (byte "-")) (points_of name.entry) ≡ true) × (points_of rest ≡ drop 1 (points_of name.entry))) }
+{
+    match name.split_first() {
+        Some(('-', rest)) => Some(rest),
+        _ => None,
+    }
+}
+
+/// A and B, of which the first token is a name.
+#[tactic(auto, unfolding(crate::specs::AnPlusB::an_plus_b_of))]
+fn named(name: Name<'_>, reader: &mut Reader<'_>) -> Result<(i32, i32), SelectorError>
+    ensures { Reads (λ x. x) result reader.new (an_plus_b_of (tokens.Ident (points_of name.entry)) reader.old) }
+{
+    if name.is_word("even") {
+        return Ok((2, 0));
+    }
+    if name.is_word("odd") {
+        return Ok((2, 1));
+    }
+    match behind_minus(name) {
+        Some(rest) => Ok((-1, rest_of(rest, reader)?)),
+        None => Ok((1, rest_of(name, reader)?)),
+    }
+}
+
+/// The value of an integer: `UnexpectedToken` where it has a fraction or an exponent, or lies outside `i32`.
+#[tactic(auto, unfolding(crate::specs::AnPlusB::integer))]
+fn integer(number: Numeral<'_>) -> Result<i32, SelectorError>
+    ensures { (rest : List tokens.Token) → Reads (λ x. x) result rest (integer (numeral_of number.entry) rest) }
+{
+    match number.integer {
+        Some(digits) => value(number.sign.unwrap_or(Sign::Plus), digits),
+        None => Err(SelectorError::UnexpectedToken),
+    }
+}
+
+/// A and B, of which the first token is a number with a unit.
+#[tactic(auto, unfolding(crate::specs::AnPlusB::scaled))]
+fn scaled(
+    number: Numeral<'_>,
+    unit: Name<'_>,
+    reader: &mut Reader<'_>,
+) -> Result<(i32, i32), SelectorError>
+    ensures { Reads (λ x. x) result reader.new (scaled (numeral_of number.entry) (points_of unit.entry) reader.old) }
+{
+    let step = integer(number)?;
+    Ok((step, rest_of(unit, reader)?))
+}
+
+/// A and B, of which this is the first token.
+#[tactic(auto, unfolding(crate::specs::AnPlusB::an_plus_b_of))]
+fn an_plus_b_of(token: Token<'_>, reader: &mut Reader<'_>) -> Result<(i32, i32), SelectorError>
+    ensures { Reads (λ x. x) result reader.new (an_plus_b_of (token_of token.entry) reader.old) }
+{
+    match token {
+        Token::Ident(name) => named(name, reader),
+        Token::Number(number) => Ok((0, integer(number)?)),
+        Token::Dimension(number, unit) => scaled(number, unit, reader),
+        Token::Delim('+') => {
+            let name = reader.wanted_name(Place::InFunction, SelectorError::UnexpectedToken)?;
+            Ok((1, rest_of(name, reader)?))
+        }
+        _ => Err(SelectorError::UnexpectedToken),
+    }
+}
+
+/// A and B, up to the parenthesis that closes them.
+#[tactic(auto, unfolding(crate::specs::AnPlusB::an_plus_b))]
+pub(crate) fn an_plus_b(reader: &mut Reader<'_>) -> Result<NthChild, SelectorError>
+    ensures { Reads (λ nth. (nth.step, nth.offset)) result reader.new (an_plus_b reader.old) }
+{
+    reader.skip_space();
+    let first = reader.wanted(Place::InFunction)?;
+    let (step, offset) = an_plus_b_of(first, reader)?;
+    reader.close(Place::InFunction)?;
+    Ok(NthChild::new(step, offset))
+}

@@ -1,0 +1,152 @@
+//! A text as tokens, with one token of look-ahead.
+
+ghost use Rattle.std.specs.Prelude.{◌≡◌, List, [], drop, None, Some};
+ghost use Rattle.std.specs.Option.{option_map};
+ghost use Rattle.lol_css.specs.Points.{front};
+ghost use Rattle.lol_css.specs.Tokens as tokens;
+ghost use Rattle.lol_css.specs.Tokens.{tokens_of, with_first};
+ghost use Rattle.lol_css.specs.Rules.{skip_space, is_delim, wanted, ident_of, at_end, at_stop, closed};
+ghost use Rattle.lol_css.specs.Views.{token_of, points_of, IsFirst, place_of, Reads};
+ghost use Rattle.lol_css.specs.declared.error.SelectorError.TheVariants.{UnexpectedToken};
+
+use crate::error::SelectorError;
+use crate::syntax::texts::Name;
+use crate::syntax::tokens::{Token, first_token};
+use std::marker::Model;
+use std::mem;
+
+/// What is open innermost.
+#[derive(Clone, Copy, Debug, PartialEq, Eq)]
+pub(crate) enum Place {
+    Outside,
+    InFunction,
+    InBrackets,
+}
+
+/// The tokens that are left.
+#[derive(Drop)]
+pub(crate) struct Reader<'a> {
+    ahead: Option<Token<'a>>,
+    text: &'a [char],
+}
+
+impl<'a> Model for Reader<'a> {
+    ghost Value = { List tokens.Token };
+
+    ghost view = { λ r. with_first (option_map token_of r.ahead) (tokens_of r.text.now) };
+
+    ghost invariant = { λ r. r.ahead ≡ None → tokens_of r.text.now ≡ [] };
+}
+
+impl<'a> Reader<'a> {
+    pub(crate) fn new(text: &'a [char]) -> Reader<'a>
+        ensures { result ≡ tokens_of text.now }
+    {
+        let (ahead, text) = first_token(text);
+        Reader { ahead, text }
+    }
+
+    /// The token that comes next, which stays.
+    pub(crate) fn peek(&self) -> Option<Token<'a>>
+        ensures { IsFirst self.now (option_map token_of result) (drop 1 self.now) }
+    {
+        self.ahead
+    }
+
+    /// Takes the next token.
+    pub(crate) fn next(&mut self) -> Option<Token<'a>>
+        ensures { IsFirst self.old (option_map token_of result) self.new }
+    {
+        let (ahead, text) = first_token(self.text);
+        self.text = text;
+        mem::replace(&mut self.ahead, ahead)
+    }
+
+    /// Passes the next token.
+    pub(crate) fn advance(&mut self)
+        ensures { self.new ≡ drop 1 self.old }
+    {
+        let _ = self.next();
+    }
+
+    /// Skips white space.
+    #[tactic(auto, using(crate::proofs::Spaces::space_steps))]
+    pub(crate) fn skip_space(&mut self)
+        ensures { self.new ≡ skip_space self.old }
+    {
+        while let Some(Token::Space) = self.peek() {
+            self.advance();
+        }
+    }
+
+    /// Whether what is open ends here.
+    pub(crate) fn is_at_end(&self, place: Place) -> bool
+        ensures { result ≡ at_end (place_of place) self.now }
+    {
+        match self.peek() {
+            None => true,
+            Some(Token::Delim(')')) => place == Place::InFunction,
+            Some(Token::Delim(']')) => place == Place::InBrackets,
+            _ => false,
+        }
+    }
+
+    /// Whether this sign comes next.
+    pub(crate) fn is_at_delim(&self, sign: char) -> bool
+        ensures { result ≡ front (is_delim sign) self.now }
+    {
+        match self.peek() {
+            Some(Token::Delim(c)) => c == sign,
+            _ => false,
+        }
+    }
+
+    /// Whether an item of a list ends here.
+    pub(crate) fn is_at_stop(&self, place: Place) -> bool
+        ensures { result ≡ at_stop (place_of place) self.now }
+    {
+        self.is_at_end(place) || self.is_at_delim(',')
+    }
+
+    /// The token that is wanted here: `UnexpectedEnd` where what is open ends.
+    #[tactic(auto, unfolding(crate::specs::Rules::wanted))]
+    pub(crate) fn wanted(&mut self, place: Place) -> Result<Token<'a>, SelectorError>
+        ensures { Reads token_of result self.new (wanted (place_of place) (λ token. Some token) UnexpectedToken self.old) }
+    {
+        if self.is_at_end(place) {
+            return Err(SelectorError::UnexpectedEnd);
+        }
+        self.next().ok_or(SelectorError::UnexpectedEnd)
+    }
+
+    /// The name that is wanted here: `UnexpectedEnd` where what is open ends, `other` at another token.
+    #[tactic(auto, unfolding(crate::specs::Rules::wanted), using(crate::proofs::Spaces::fails))]
+    pub(crate) fn wanted_name(
+        &mut self,
+        place: Place,
+        other: SelectorError,
+    ) -> Result<Name<'a>, SelectorError>
+        ensures { Reads points_of result self.new (wanted (place_of place) ident_of other self.old) }
+    {
+        if self.is_at_end(place) {
+            return Err(SelectorError::UnexpectedEnd);
+        }
+        match self.next() {
+            Some(Token::Ident(name)) => Ok(name),
+            _ => Err(other),
+        }
+    }
+
+    /// White space and the end of what is open, which is taken: `UnexpectedToken` at anything else.
+    #[tactic(auto, unfolding(crate::specs::Rules::closed))]
+    pub(crate) fn close(&mut self, place: Place) -> Result<(), SelectorError>
+        ensures { Reads (λ x. x) result self.new (closed (place_of place) self.old) }
+    {
+        self.skip_space();
+        if !self.is_at_end(place) {
+            return Err(SelectorError::UnexpectedToken);
+        }
+        self.advance();
+        Ok(())
+    }
+}
