@@ -5,9 +5,9 @@ use Rattle.lol_css.specs.Points.{decimal, name}
 use Rattle.lol_css.specs.Tokens as tokens
 use Rattle.lol_css.specs.Tokens.{string_text}
 use Rattle.lol_css.specs.Rules as rules
-use Rattle.lol_css.specs.Rules.{Read}
+use Rattle.lol_css.specs.Rules.{Read, at_end}
 use Rattle.lol_css.specs.declared.error.SelectorError.{SelectorError}
-use Rattle.lol_css.specs.declared.error.SelectorError.TheVariants.{Memory}
+use Rattle.lol_css.specs.declared.error.SelectorError.TheVariants.{UnexpectedEnd, Memory}
 use Rattle.lol_css.specs.declared.syntax.reader.Place.{Place}
 use Rattle.lol_css.specs.declared.syntax.reader.Place.TheVariants.{Outside, InFunction, InBrackets}
 use Rattle.lol_css.specs.declared.syntax.texts.Name.{Name}
@@ -69,6 +69,11 @@ FailsUnlessMemory cause read = read ≡ Err cause
 abbrev pub ReadsUnlessMemory : {X Y : Type 0} → (X → Y) → Result X SelectorError → List tokens.Token → Read Y → Type 0
 ReadsUnlessMemory view (Ok x) rest read = read ≡ Ok (view x, rest)
 ReadsUnlessMemory view (Err cause) rest read = FailsUnlessMemory cause read
+
+-- the token that is wanted was taken from the front, unless what is open innermost ends there
+abbrev pub TakesWanted : rules.Place → Result Token SelectorError → List tokens.Token → List tokens.Token → Type 0
+TakesWanted place (Ok token) old new = (at_end place old ≡ false) × (old ≡ token_of token ∷ new)
+TakesWanted place (Err cause) old new = (at_end place old ≡ true) × (cause ≡ UnexpectedEnd)
 
 abbrev pub place_of : Place → rules.Place
 place_of Outside = rules.Outside

@@ -6,7 +6,7 @@ ghost use Rattle.std.specs.Str.{bytes_eq};
 ghost use Rattle.lol_css.specs.CaselessAttributes.{caseless_attributes};
 ghost use Rattle.lol_css.specs.Trees as trees;
 ghost use Rattle.lol_css.specs.Rules.{wanted, giving, InBrackets};
-ghost use Rattle.lol_css.specs.Reading.{attribute_name, operator_of, value_of, flag_of, flag_named, unflagged, case_sensitivity, comparison, attribute, utf8};
+ghost use Rattle.lol_css.specs.Reading.{name_behind_bar, attribute_name, operator_of, value_of, flag_of, flag_named, unflagged, case_sensitivity, comparison, attribute, utf8};
 ghost use Rattle.lol_css.specs.Accepting.{judged_part};
 ghost use Rattle.lol_css.specs.declared.error.SelectorError.TheVariants.{UnexpectedToken, UnexpectedTokenInAttribute};
 ghost use Rattle.lol_css.specs.Views.{Reads, ReadsUnlessMemory, points_of, seen};
@@ -21,42 +21,30 @@ use crate::syntax::texts::Name;
 use crate::syntax::tokens::{MatchOperator, Token};
 use std::alloc::Global;
 
+/// The name after a bar, and whether `*` stands before the bar.
+fn name_behind_bar<'a>(
+    any_namespace: bool,
+    reader: &mut Reader<'a>,
+) -> Result<(Name<'a>, bool), SelectorError>
+    ensures { Reads (λ x. (points_of x.0, x.1)) result reader.new (name_behind_bar any_namespace reader.old) }
+{
+    let name = reader.wanted_name(Place::InBrackets, SelectorError::UnexpectedTokenInAttribute)?;
+    Ok((name, any_namespace))
+}
+
 /// The name, and whether `*|` stands before it.
 #[tactic(auto, unfolding(crate::specs::Reading::attribute_name, crate::specs::Rules::wanted))]
 fn attribute_name<'a>(reader: &mut Reader<'a>) -> Result<(Name<'a>, bool), SelectorError>
     ensures { Reads (λ x. (points_of x.0, x.1)) result reader.new (attribute_name reader.old) }
 {
-    if reader.is_at_end(Place::InBrackets) {
-        return Err(SelectorError::UnexpectedEnd);
-    }
-    match reader.next() {
-        Some(Token::Ident(name)) => {
-            if reader.is_at_delim('|') {
-                return Err(SelectorError::NamespacedSelector);
-            }
-            Ok((name, false))
-        }
-        Some(Token::Delim('|')) => {
-            let name = reader.wanted_name(
-                Place::InBrackets,
-                SelectorError::UnexpectedTokenInAttribute,
-            )?;
-            Ok((name, false))
-        }
-        Some(Token::Delim('*')) => {
-            if reader.is_at_end(Place::InBrackets) {
-                return Err(SelectorError::UnexpectedEnd);
-            }
-            if !reader.is_at_delim('|') {
-                return Err(SelectorError::UnexpectedTokenInAttribute);
-            }
-            reader.advance();
-            let name = reader.wanted_name(
-                Place::InBrackets,
-                SelectorError::UnexpectedTokenInAttribute,
-            )?;
-            Ok((name, true))
-        }
+    match reader.wanted(Place::InBrackets)? {
+        Token::Ident(_) if reader.is_at_delim('|') => Err(SelectorError::NamespacedSelector),
+        Token::Ident(name) => Ok((name, false)),
+        Token::Delim('|') => name_behind_bar(false, reader),
+        Token::Delim('*') => match reader.wanted(Place::InBrackets)? {
+            Token::Delim('|') => name_behind_bar(true, reader),
+            _ => Err(SelectorError::UnexpectedTokenInAttribute),
+        },
         _ => Err(SelectorError::MissingAttributeName),
     }
 }
@@ -65,16 +53,13 @@ fn attribute_name<'a>(reader: &mut Reader<'a>) -> Result<(Name<'a>, bool), Selec
 fn operator(reader: &mut Reader<'_>) -> Result<AttrSelectorOperator, SelectorError>
     ensures { Reads (λ x. x) result reader.new (wanted InBrackets operator_of UnexpectedTokenInAttribute reader.old) }
 {
-    if reader.is_at_end(Place::InBrackets) {
-        return Err(SelectorError::UnexpectedEnd);
-    }
-    match reader.next() {
-        Some(Token::Delim('=')) => Ok(AttrSelectorOperator::Equal),
-        Some(Token::Match(MatchOperator::Include)) => Ok(AttrSelectorOperator::Includes),
-        Some(Token::Match(MatchOperator::Dash)) => Ok(AttrSelectorOperator::DashMatch),
-        Some(Token::Match(MatchOperator::Prefix)) => Ok(AttrSelectorOperator::Prefix),
-        Some(Token::Match(MatchOperator::Suffix)) => Ok(AttrSelectorOperator::Suffix),
-        Some(Token::Match(MatchOperator::Substring)) => Ok(AttrSelectorOperator::Substring),
+    match reader.wanted(Place::InBrackets)? {
+        Token::Delim('=') => Ok(AttrSelectorOperator::Equal),
+        Token::Match(MatchOperator::Include) => Ok(AttrSelectorOperator::Includes),
+        Token::Match(MatchOperator::Dash) => Ok(AttrSelectorOperator::DashMatch),
+        Token::Match(MatchOperator::Prefix) => Ok(AttrSelectorOperator::Prefix),
+        Token::Match(MatchOperator::Suffix) => Ok(AttrSelectorOperator::Suffix),
+        Token::Match(MatchOperator::Substring) => Ok(AttrSelectorOperator::Substring),
         _ => Err(SelectorError::UnexpectedTokenInAttribute),
     }
 }
@@ -83,12 +68,9 @@ fn operator(reader: &mut Reader<'_>) -> Result<AttrSelectorOperator, SelectorErr
 fn value(alloc: Global, reader: &mut Reader<'_>) -> Result<CssString, SelectorError>
     ensures { ReadsUnlessMemory (λ s. s) result reader.new (giving utf8 (wanted InBrackets value_of UnexpectedTokenInAttribute reader.old)) }
 {
-    if reader.is_at_end(Place::InBrackets) {
-        return Err(SelectorError::UnexpectedEnd);
-    }
-    match reader.next() {
-        Some(Token::Ident(name)) => Ok(name.to_text(alloc)?),
-        Some(Token::Quoted(quoted)) => Ok(quoted.to_text(alloc)?),
+    match reader.wanted(Place::InBrackets)? {
+        Token::Ident(name) => Ok(name.to_text(alloc)?),
+        Token::Quoted(quoted) => Ok(quoted.to_text(alloc)?),
         _ => Err(SelectorError::UnexpectedTokenInAttribute),
     }
 }
@@ -109,11 +91,8 @@ fn flag_named(name: Name<'_>) -> Option<ParsedCaseSensitivity>
 fn flag(reader: &mut Reader<'_>) -> Result<ParsedCaseSensitivity, SelectorError>
     ensures { Reads (λ x. x) result reader.new (wanted InBrackets flag_of UnexpectedToken reader.old) }
 {
-    if reader.is_at_end(Place::InBrackets) {
-        return Err(SelectorError::UnexpectedEnd);
-    }
-    match reader.next() {
-        Some(Token::Ident(name)) => flag_named(name).ok_or(SelectorError::UnexpectedToken),
+    match reader.wanted(Place::InBrackets)? {
+        Token::Ident(name) => flag_named(name).ok_or(SelectorError::UnexpectedToken),
         _ => Err(SelectorError::UnexpectedToken),
     }
 }

@@ -86,17 +86,12 @@ fn digits_of_b(sign: Sign, reader: &mut Reader<'_>) -> Result<i32, SelectorError
     ensures { Reads (λ x. x) result reader.new (digits_of_b sign reader.old) }
 {
     reader.skip_space();
-    if reader.is_at_end(Place::InFunction) {
-        return Err(SelectorError::UnexpectedEnd);
-    }
-    match reader.next() {
-        Some(
-            Token::Number(
-                Numeral {
-                    sign: None,
-                    integer: Some(digits),
-                },
-            ),
+    match reader.wanted(Place::InFunction)? {
+        Token::Number(
+            Numeral {
+                sign: None,
+                integer: Some(digits),
+            },
         ) => value(sign, digits),
         _ => Err(SelectorError::UnexpectedToken),
     }
@@ -239,7 +234,7 @@ fn an_plus_b_of(token: Token<'_>, reader: &mut Reader<'_>) -> Result<(i32, i32),
 }
 
 /// A and B, up to the parenthesis that closes them.
-#[tactic(auto, unfolding(crate::specs::AnPlusB::an_plus_b))]
+#[tactic(auto, unfolding(crate::specs::AnPlusB::an_plus_b, crate::specs::Rules::wanted))]
 pub(crate) fn an_plus_b(reader: &mut Reader<'_>) -> Result<NthChild, SelectorError>
     ensures { Reads (λ nth. (nth.step, nth.offset)) result reader.new (an_plus_b reader.old) }
 {

@@ -6,7 +6,7 @@ ghost use Rattle.lol_css.specs.Points.{front};
 ghost use Rattle.lol_css.specs.Tokens as tokens;
 ghost use Rattle.lol_css.specs.Tokens.{tokens_of, with_first};
 ghost use Rattle.lol_css.specs.Rules.{skip_space, is_delim, wanted, ident_of, at_end, at_stop, closed};
-ghost use Rattle.lol_css.specs.Views.{token_of, points_of, IsFirst, place_of, Reads};
+ghost use Rattle.lol_css.specs.Views.{token_of, points_of, IsFirst, place_of, Reads, TakesWanted};
 ghost use Rattle.lol_css.specs.declared.error.SelectorError.TheVariants.{UnexpectedToken};
 
 use crate::error::SelectorError;
@@ -111,7 +111,7 @@ impl<'a> Reader<'a> {
     /// The token that is wanted here: `UnexpectedEnd` where what is open ends.
     #[tactic(auto, unfolding(crate::specs::Rules::wanted))]
     pub(crate) fn wanted(&mut self, place: Place) -> Result<Token<'a>, SelectorError>
-        ensures { Reads token_of result self.new (wanted (place_of place) (λ token. Some token) UnexpectedToken self.old) }
+        ensures { TakesWanted (place_of place) result self.old self.new }
     {
         if self.is_at_end(place) {
             return Err(SelectorError::UnexpectedEnd);
@@ -120,7 +120,7 @@ impl<'a> Reader<'a> {
     }
 
     /// The name that is wanted here: `UnexpectedEnd` where what is open ends, `other` at another token.
-    #[tactic(auto, unfolding(crate::specs::Rules::wanted), using(crate::proofs::Spaces::fails))]
+    #[tactic(auto, unfolding(crate::specs::Rules::wanted))]
     pub(crate) fn wanted_name(
         &mut self,
         place: Place,
@@ -128,11 +128,8 @@ impl<'a> Reader<'a> {
     ) -> Result<Name<'a>, SelectorError>
         ensures { Reads points_of result self.new (wanted (place_of place) ident_of other self.old) }
     {
-        if self.is_at_end(place) {
-            return Err(SelectorError::UnexpectedEnd);
-        }
-        match self.next() {
-            Some(Token::Ident(name)) => Ok(name),
+        match self.wanted(place)? {
+            Token::Ident(name) => Ok(name),
             _ => Err(other),
         }
     }
