@@ -9,9 +9,11 @@ use Rattle.lol_css.specs.Rules.{Read, giving, Outside}
 use Rattle.lol_css.specs.Reading.{selector, list, inner_list}
 use Rattle.lol_css.specs.Accepting.{judged, accept}
 use Rattle.lol_css.specs.Judging.{Judged}
-use Rattle.lol_css.specs.Views.{FailsUnlessMemory, seen}
+use Rattle.lol_css.specs.Views.{FailsUnlessMemory, judgement}
 use Rattle.lol_css.specs.TreeViews.{list_of}
 use Rattle.lol_css.specs.declared.selector.SelectorList.{SelectorList}
+use Rattle.lol_css.specs.declared.selectors.judged.Judged as late
+use Rattle.lol_css.specs.declared.selectors.judged.Judged.TheVariants.{Kept, Refused}
 use Rattle.lol_css.specs.declared.error.SelectorError.{SelectorError}
 use Rattle.lol_css.specs.declared.error.SelectorError.TheVariants.{Memory}
 use Rattle.lol_css.proofs.Fusing.{giving-ok, giving-err, fails_cases}
@@ -40,10 +42,10 @@ accept-read text found rest e =
     let f = giving-ok (judged false) (list (inner_list 128) Outside (tokens_of (preprocessed (chars text)))) found rest e in
     accept_read text f.x rest found f.is f.gives
 
-pub accepts : (text : List ℕ) (answer : Result SelectorList SelectorError) → accept text ≡ seen list_of answer → IfOk answer (λ selector. accept text ≡ Ok (list_of selector))
-accepts text (Ok selector) e = e
-accepts text (Err cause) e = tt
+pub accepts : (text : List ℕ) (found : late.Judged SelectorList) → accept text ≡ judgement list_of found → IfOk (judgement (λ selector. selector) found) (λ selector. accept text ≡ Ok (list_of selector))
+accepts text (Kept selector) e = e
+accepts text (Refused cause) e = tt
 
-pub refuses : (text : List ℕ) (answer : Result SelectorList SelectorError) → accept text ≡ seen list_of answer → IfErr answer (λ cause. (cause ≡ Memory) ⊎ (accept text ≡ Err cause))
-refuses text (Ok selector) e = tt
-refuses text (Err cause) e = inr e
+pub refuses : (text : List ℕ) (found : late.Judged SelectorList) → accept text ≡ judgement list_of found → IfErr (judgement (λ selector. selector) found) (λ cause. (cause ≡ Memory) ⊎ (accept text ≡ Err cause))
+refuses text (Kept selector) e = tt
+refuses text (Refused cause) e = inr e

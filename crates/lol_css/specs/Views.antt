@@ -6,8 +6,11 @@ use Rattle.lol_css.specs.Tokens as tokens
 use Rattle.lol_css.specs.Tokens.{string_text}
 use Rattle.lol_css.specs.Rules as rules
 use Rattle.lol_css.specs.Rules.{Read, at_end}
+use Rattle.lol_css.specs.declared.selector.Combinator.{Combinator}
 use Rattle.lol_css.specs.declared.error.SelectorError.{SelectorError}
 use Rattle.lol_css.specs.declared.error.SelectorError.TheVariants.{UnexpectedEnd, Memory}
+use Rattle.lol_css.specs.declared.selectors.judged.Judged.{Judged}
+use Rattle.lol_css.specs.declared.selectors.judged.Judged.TheVariants.{Kept, Refused}
 use Rattle.lol_css.specs.declared.syntax.reader.Place.{Place}
 use Rattle.lol_css.specs.declared.syntax.reader.Place.TheVariants.{Outside, InFunction, InBrackets}
 use Rattle.lol_css.specs.declared.syntax.texts.Name.{Name}
@@ -86,6 +89,14 @@ is_inside InFunction = true
 is_inside _ = false
 
 -- what is kept, seen by view, or the cause for which it is refused late
-abbrev pub seen : {X Y : Type 0} → (X → Y) → Result X SelectorError → Result Y SelectorError
-seen view (Ok x) = Ok (view x)
-seen view (Err cause) = Err cause
+abbrev pub judgement : {X Y : Type 0} → (X → Y) → Judged X → Result Y SelectorError
+judgement view (Kept x) = Ok (view x)
+judgement view (Refused cause) = Err cause
+
+abbrev pub step_judgement : Judged Combinator → Result Combinator SelectorError
+step_judgement step = judgement (λ combinator. combinator) step
+
+-- an answer, seen by view
+abbrev pub answer : {X Y : Type 0} → (X → Y) → Result X SelectorError → Result Y SelectorError
+answer view (Ok x) = Ok (view x)
+answer view (Err cause) = Err cause

@@ -30,7 +30,7 @@ impl SelectorsParser {
     {
         let points = preprocessed(alloc, text)?;
         let mut reader = Reader::new(points.as_slice());
-        list(alloc, &mut reader, Place::Outside, MAX_NESTING)?
+        list(alloc, &mut reader, Place::Outside, MAX_NESTING)?.into_result()
     }
 }
 

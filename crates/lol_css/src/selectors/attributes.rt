@@ -9,7 +9,7 @@ ghost use Rattle.lol_css.specs.Rules.{wanted, giving, InBrackets};
 ghost use Rattle.lol_css.specs.Reading.{name_behind_bar, attribute_name, operator_of, value_of, flag_of, flag_named, unflagged, case_sensitivity, comparison, attribute, utf8};
 ghost use Rattle.lol_css.specs.Accepting.{judged_part};
 ghost use Rattle.lol_css.specs.declared.error.SelectorError.TheVariants.{UnexpectedToken, UnexpectedTokenInAttribute};
-ghost use Rattle.lol_css.specs.Views.{Reads, ReadsUnlessMemory, points_of, seen};
+ghost use Rattle.lol_css.specs.Views.{Reads, ReadsUnlessMemory, points_of, judgement};
 ghost use Rattle.lol_css.specs.TreeViews.{part_of};
 
 use crate::attribute::{AttrSelectorOperator, ParsedCaseSensitivity};
@@ -219,7 +219,7 @@ pub(crate) fn attribute(
     alloc: Global,
     reader: &mut Reader<'_>,
 ) -> Result<Judged<SimpleSelector>, SelectorError>
-    ensures { ReadsUnlessMemory (seen part_of) result reader.new (giving judged_part (attribute reader.old)) }
+    ensures { ReadsUnlessMemory (judgement part_of) result reader.new (giving judged_part (attribute reader.old)) }
 {
     reader.skip_space();
     let (name, any_namespace) = attribute_name(reader)?;
@@ -227,8 +227,8 @@ pub(crate) fn attribute(
     reader.skip_space();
     let part = comparison(alloc, name, reader)?;
     Ok(if any_namespace {
-        Err(SelectorError::NamespacedSelector)
+        Judged::Refused(SelectorError::NamespacedSelector)
     } else {
-        Ok(part)
+        Judged::Kept(part)
     })
 }

@@ -8,7 +8,7 @@ ghost use Rattle.lol_css.specs.Reading.{class_name, behind_bar, any_namespace, n
 ghost use Rattle.lol_css.specs.Accepting.{judged_compound};
 ghost use Rattle.lol_css.specs.Judging as judging;
 ghost use Rattle.lol_css.specs.Judging.{is_empty};
-ghost use Rattle.lol_css.specs.Views.{ReadsUnlessMemory, place_of, seen};
+ghost use Rattle.lol_css.specs.Views.{ReadsUnlessMemory, place_of, judgement};
 ghost use Rattle.lol_css.specs.TreeViews.{part_of, compound_of};
 
 use crate::error::SelectorError;
@@ -138,26 +138,26 @@ pub(crate) fn with_part(
     front: Judged<Compound>,
     part: Judged<SimpleSelector>,
 ) -> Result<Judged<Compound>, AllocError>
-    ensures { IfOk result (λ r. seen compound_of r ≡ judging.with_part (seen compound_of front) (seen part_of part)) }
+    ensures { IfOk result (λ r. judgement compound_of r ≡ judging.with_part (judgement compound_of front) (judgement part_of part)) }
 {
     let mut compound = match front {
-        Ok(compound) => compound,
-        Err(cause) => return Ok(Err(cause)),
+        Judged::Kept(compound) => compound,
+        Judged::Refused(cause) => return Ok(Judged::Refused(cause)),
     };
     match part {
-        Ok(part) => {
+        Judged::Kept(part) => {
             compound.parts.push(part)?;
-            Ok(Ok(compound))
+            Ok(Judged::Kept(compound))
         }
-        Err(cause) => Ok(Err(cause)),
+        Judged::Refused(cause) => Ok(Judged::Refused(cause)),
     }
 }
 
 pub(crate) fn reads_nothing(parts: &Judged<Compound>) -> bool
-    ensures { result ≡ is_empty (seen compound_of parts.now) }
+    ensures { result ≡ is_empty (judgement compound_of parts.now) }
 {
     match parts {
-        Ok(compound) => compound.parts.as_slice().is_empty(),
-        Err(_) => false,
+        Judged::Kept(compound) => compound.parts.as_slice().is_empty(),
+        Judged::Refused(_) => false,
     }
 }

@@ -6,7 +6,7 @@ ghost use Rattle.lol_css.specs.Rules.{giving};
 ghost use Rattle.lol_css.specs.Reading.{next_step};
 ghost use Rattle.lol_css.specs.Accepting.{judged_step};
 ghost use Rattle.lol_css.specs.Judging as judging;
-ghost use Rattle.lol_css.specs.Views.{Reads, place_of, is_inside, seen};
+ghost use Rattle.lol_css.specs.Views.{Reads, place_of, is_inside, judgement, step_judgement};
 ghost use Rattle.lol_css.specs.TreeViews.{compound_of, item_of, list_of};
 
 use crate::error::SelectorError;
@@ -22,7 +22,7 @@ pub(crate) fn next_step(
     reader: &mut Reader<'_>,
     place: Place,
 ) -> Result<Option<Judged<Combinator>>, SelectorError>
-    ensures { Reads (λ step. step) result reader.new (giving (option_map (judged_step (is_inside place))) (next_step (place_of place) reader.old)) }
+    ensures { Reads (option_map step_judgement) result reader.new (giving (option_map (judged_step (is_inside place))) (next_step (place_of place) reader.old)) }
 {
     let after_space = matches!(reader.peek(), Some(Token::Space));
     reader.skip_space();
@@ -30,9 +30,9 @@ pub(crate) fn next_step(
         return Ok(None);
     }
     let step = match reader.peek() {
-        Some(Token::Delim('>')) => Some(Ok(Combinator::Child)),
-        Some(Token::Delim('+')) => Some(Err(SelectorError::UnsupportedCombinator('+'))),
-        Some(Token::Delim('~')) => Some(Err(SelectorError::UnsupportedCombinator('~'))),
+        Some(Token::Delim('>')) => Some(Judged::Kept(Combinator::Child)),
+        Some(Token::Delim('+')) => Some(Judged::Refused(SelectorError::UnsupportedCombinator('+'))),
+        Some(Token::Delim('~')) => Some(Judged::Refused(SelectorError::UnsupportedCombinator('~'))),
         _ => None,
     };
     if step.is_some() {
@@ -42,22 +42,22 @@ pub(crate) fn next_step(
         return Err(SelectorError::UnexpectedToken);
     }
     if place == Place::InFunction {
-        return Ok(Some(Err(SelectorError::UnsupportedPseudoClassOrElement)));
+        return Ok(Some(Judged::Refused(SelectorError::UnsupportedPseudoClassOrElement)));
     }
-    Ok(Some(step.unwrap_or(Ok(Combinator::Descendant))))
+    Ok(Some(step.unwrap_or(Judged::Kept(Combinator::Descendant))))
 }
 
 /// An item of one compound.
 #[tactic(auto, using(crate::proofs::TreeRows::row_starts))]
 pub(crate) fn alone(alloc: Global, first: Judged<Compound>) -> Judged<ComplexSelector>
-    ensures { seen item_of result ≡ judging.alone (seen compound_of first) }
+    ensures { judgement item_of result ≡ judging.alone (judgement compound_of first) }
 {
     match first {
-        Ok(first) => Ok(ComplexSelector {
+        Judged::Kept(first) => Judged::Kept(ComplexSelector {
             first,
             rest: Vec::new(alloc),
         }),
-        Err(cause) => Err(cause),
+        Judged::Refused(cause) => Judged::Refused(cause),
     }
 }
 
@@ -68,22 +68,22 @@ pub(crate) fn with_compound(
     step: Judged<Combinator>,
     compound: Judged<Compound>,
 ) -> Result<Judged<ComplexSelector>, AllocError>
-    ensures { IfOk result (λ r. seen item_of r ≡ judging.with_compound (seen item_of front) step (seen compound_of compound)) }
+    ensures { IfOk result (λ r. judgement item_of r ≡ judging.with_compound (judgement item_of front) (step_judgement step) (judgement compound_of compound)) }
 {
     let compound = match compound {
-        Ok(compound) => compound,
-        Err(cause) => return Ok(Err(cause)),
+        Judged::Kept(compound) => compound,
+        Judged::Refused(cause) => return Ok(Judged::Refused(cause)),
     };
     let combinator = match step {
-        Ok(combinator) => combinator,
-        Err(cause) => return Ok(Err(cause)),
+        Judged::Kept(combinator) => combinator,
+        Judged::Refused(cause) => return Ok(Judged::Refused(cause)),
     };
     match front {
-        Ok(mut item) => {
+        Judged::Kept(mut item) => {
             item.rest.push((combinator, compound))?;
-            Ok(Ok(item))
+            Ok(Judged::Kept(item))
         }
-        Err(cause) => Ok(Err(cause)),
+        Judged::Refused(cause) => Ok(Judged::Refused(cause)),
     }
 }
 
@@ -93,17 +93,17 @@ pub(crate) fn with_item(
     front: Judged<SelectorList>,
     item: Judged<ComplexSelector>,
 ) -> Result<Judged<SelectorList>, AllocError>
-    ensures { IfOk result (λ r. seen list_of r ≡ judging.with_item (seen list_of front) (seen item_of item)) }
+    ensures { IfOk result (λ r. judgement list_of r ≡ judging.with_item (judgement list_of front) (judgement item_of item)) }
 {
     let mut list = match front {
-        Ok(list) => list,
-        Err(cause) => return Ok(Err(cause)),
+        Judged::Kept(list) => list,
+        Judged::Refused(cause) => return Ok(Judged::Refused(cause)),
     };
     match item {
-        Ok(item) => {
+        Judged::Kept(item) => {
             list.items.push(item)?;
-            Ok(Ok(list))
+            Ok(Judged::Kept(list))
         }
-        Err(cause) => Ok(Err(cause)),
+        Judged::Refused(cause) => Ok(Judged::Refused(cause)),
     }
 }

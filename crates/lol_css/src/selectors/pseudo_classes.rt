@@ -4,7 +4,7 @@ ghost use Rattle.std.specs.Prelude.{◌≡◌};
 ghost use Rattle.lol_css.specs.Rules.{giving};
 ghost use Rattle.lol_css.specs.Reading.{function_part, ident_part, is_one_of, late_words};
 ghost use Rattle.lol_css.specs.Accepting.{judged_part};
-ghost use Rattle.lol_css.specs.Views.{Reads, points_of, seen};
+ghost use Rattle.lol_css.specs.Views.{Reads, points_of, judgement, answer};
 ghost use Rattle.lol_css.specs.TreeViews.{part_of};
 
 use crate::error::SelectorError;
@@ -30,23 +30,23 @@ fn is_late_word(name: Name<'_>) -> bool
 /// A pseudo-class without an argument.
 #[tactic(auto, unfolding(crate::specs::Reading::ident_part, crate::specs::Accepting::judged_part))]
 pub(crate) fn ident_part(name: Name<'_>) -> Result<Judged<SimpleSelector>, SelectorError>
-    ensures { seen (seen part_of) result ≡ seen judged_part (ident_part (points_of name.entry)) }
+    ensures { answer (judgement part_of) result ≡ answer judged_part (ident_part (points_of name.entry)) }
 {
     let first = NthChild::new(0, 1);
     if name.is_word("first-child") {
-        return Ok(Ok(SimpleSelector::Nth {
+        return Ok(Judged::Kept(SimpleSelector::Nth {
             of_type: false,
             nth: first,
         }));
     }
     if name.is_word("first-of-type") {
-        return Ok(Ok(SimpleSelector::Nth {
+        return Ok(Judged::Kept(SimpleSelector::Nth {
             of_type: true,
             nth: first,
         }));
     }
     if is_late_word(name) {
-        return Ok(Err(SelectorError::UnsupportedPseudoClassOrElement));
+        return Ok(Judged::Refused(SelectorError::UnsupportedPseudoClassOrElement));
     }
     Err(SelectorError::UnsupportedPseudoClassOrElement)
 }
@@ -57,22 +57,22 @@ pub(crate) fn function_part(
     name: Name<'_>,
     reader: &mut Reader<'_>,
 ) -> Result<Judged<SimpleSelector>, SelectorError>
-    ensures { Reads (seen part_of) result reader.new (giving judged_part (function_part (points_of name.entry) reader.old)) }
+    ensures { Reads (judgement part_of) result reader.new (giving judged_part (function_part (points_of name.entry) reader.old)) }
 {
     if name.is_word("nth-child") {
         let nth = an_plus_b(reader)?;
-        return Ok(Ok(SimpleSelector::Nth {
+        return Ok(Judged::Kept(SimpleSelector::Nth {
             of_type: false,
             nth,
         }));
     }
     if name.is_word("nth-of-type") {
         let nth = an_plus_b(reader)?;
-        return Ok(Ok(SimpleSelector::Nth { of_type: true, nth }));
+        return Ok(Judged::Kept(SimpleSelector::Nth { of_type: true, nth }));
     }
     if name.is_word("nth-last-child") || name.is_word("nth-last-of-type") {
         let _ = an_plus_b(reader)?;
-        return Ok(Err(SelectorError::UnsupportedPseudoClassOrElement));
+        return Ok(Judged::Refused(SelectorError::UnsupportedPseudoClassOrElement));
     }
     Err(SelectorError::UnsupportedPseudoClassOrElement)
 }

@@ -7,7 +7,7 @@ ghost use Rattle.lol_css.specs.Rules.{giving};
 ghost use Rattle.lol_css.specs.Reading.{pseudo, part, compound, item, list, inner_list};
 ghost use Rattle.lol_css.specs.Accepting.{judged_part, judged_compound, judged_item, judged};
 ghost use Rattle.lol_css.specs.Judging.{judged_parts};
-ghost use Rattle.lol_css.specs.Views.{ReadsUnlessMemory, place_of, is_inside, seen};
+ghost use Rattle.lol_css.specs.Views.{ReadsUnlessMemory, place_of, is_inside, judgement};
 ghost use Rattle.lol_css.specs.TreeViews.{part_of, compound_of, item_of, list_of};
 
 use crate::error::SelectorError;
@@ -34,16 +34,16 @@ fn part(
     place: Place,
     room: u32,
 ) -> Result<Option<Judged<SimpleSelector>>, SelectorError>
-    ensures { ReadsUnlessMemory (option_map (seen part_of)) result reader.new (giving (option_map judged_part) (part (inner_list room) (place_of place) reader.old)) }
+    ensures { ReadsUnlessMemory (option_map (judgement part_of)) result reader.new (giving (option_map judged_part) (part (inner_list room) (place_of place) reader.old)) }
 {
     match reader.peek() {
         Some(Token::Hash(name, true)) => {
             reader.advance();
-            Ok(Some(Ok(SimpleSelector::ID(name.to_text(alloc)?))))
+            Ok(Some(Judged::Kept(SimpleSelector::ID(name.to_text(alloc)?))))
         }
         Some(Token::Delim('.')) => {
             reader.advance();
-            Ok(Some(Ok(class_name(alloc, reader, place)?)))
+            Ok(Some(Judged::Kept(class_name(alloc, reader, place)?)))
         }
         Some(Token::Delim('[')) => {
             reader.advance();
@@ -66,7 +66,7 @@ fn pseudo(
     place: Place,
     room: u32,
 ) -> Result<Judged<SimpleSelector>, SelectorError>
-    ensures { ReadsUnlessMemory (seen part_of) result reader.new (giving judged_part (pseudo (inner_list room) (place_of place) reader.old)) }
+    ensures { ReadsUnlessMemory (judgement part_of) result reader.new (giving judged_part (pseudo (inner_list room) (place_of place) reader.old)) }
 {
     if reader.is_at_stop(place) {
         return Err(SelectorError::UnexpectedEnd);
@@ -91,14 +91,14 @@ fn logical_part(
     room: u32,
     combination: LogicalCombination,
 ) -> Result<Judged<SimpleSelector>, SelectorError>
-    ensures { ReadsUnlessMemory (seen part_of) result reader.new (giving judged_part (giving (drafts.Logical combination) (inner_list room reader.old))) }
+    ensures { ReadsUnlessMemory (judgement part_of) result reader.new (giving judged_part (giving (drafts.Logical combination) (inner_list room reader.old))) }
 {
     if room == 0 {
         return Err(SelectorError::UnsupportedSyntax);
     }
     match list(alloc, reader, Place::InFunction, room - 1)? {
-        Ok(list) => Ok(Ok(combination.of(list))),
-        Err(cause) => Ok(Err(cause)),
+        Judged::Kept(list) => Ok(Judged::Kept(combination.of(list))),
+        Judged::Refused(cause) => Ok(Judged::Refused(cause)),
     }
 }
 
@@ -111,9 +111,9 @@ fn more_parts(
     room: u32,
     start: Compound,
 ) -> Result<Judged<Compound>, SelectorError>
-    ensures { ReadsUnlessMemory (seen compound_of) result reader.new (judged_parts (inner_list room) (place_of place) (Ok (compound_of start)) reader.old) }
+    ensures { ReadsUnlessMemory (judgement compound_of) result reader.new (judged_parts (inner_list room) (place_of place) (Ok (compound_of start)) reader.old) }
 {
-    let mut parts = Ok(start);
+    let mut parts = Judged::Kept(start);
     'parts: while let Some(found) = part(alloc, reader, place, room)? {
         parts = with_part(parts, found)?;
     }
@@ -129,7 +129,7 @@ fn compound(
     room: u32,
     empty: SelectorError,
 ) -> Result<Judged<Compound>, SelectorError>
-    ensures { ReadsUnlessMemory (seen compound_of) result reader.new (giving judged_compound (compound (inner_list room) (place_of place) empty reader.old)) }
+    ensures { ReadsUnlessMemory (judgement compound_of) result reader.new (giving judged_compound (compound (inner_list room) (place_of place) empty reader.old)) }
 {
     let Some(start) = type_part(alloc, reader, place)? else {
         return Err(empty);
@@ -149,7 +149,7 @@ fn item(
     place: Place,
     room: u32,
 ) -> Result<Judged<ComplexSelector>, SelectorError>
-    ensures { ReadsUnlessMemory (seen item_of) result reader.new (giving (judged_item (is_inside place)) (item (inner_list room) (place_of place) reader.old)) }
+    ensures { ReadsUnlessMemory (judgement item_of) result reader.new (giving (judged_item (is_inside place)) (item (inner_list room) (place_of place) reader.old)) }
 {
     reader.skip_space();
     let first = compound(alloc, reader, place, room, SelectorError::EmptySelector)?;
@@ -180,13 +180,13 @@ pub(crate) fn list(
     place: Place,
     room: u32,
 ) -> Result<Judged<SelectorList>, SelectorError>
-    ensures { ReadsUnlessMemory (seen list_of) result reader.new (giving (judged (is_inside place)) (list (inner_list room) (place_of place) reader.old)) }
+    ensures { ReadsUnlessMemory (judgement list_of) result reader.new (giving (judged (is_inside place)) (list (inner_list room) (place_of place) reader.old)) }
 {
     let first = item(alloc, reader, place, room)?;
     let nothing = SelectorList {
         items: Vec::new(alloc),
     };
-    let mut list = with_item(Ok(nothing), first)?;
+    let mut list = with_item(Judged::Kept(nothing), first)?;
     'items: while !reader.is_at_end(place) {
         reader.advance();
         let next = item(alloc, reader, place, room)?;

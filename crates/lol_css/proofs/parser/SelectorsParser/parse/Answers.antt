@@ -3,7 +3,7 @@ use Rattle.std.proofs.lemmas.Result.{err_from_is_err_and}
 use Rattle.std.specs.Str.{chars}
 use Rattle.lol_css.specs.Points.{preprocessed}
 use Rattle.lol_css.specs.Tokens.{tokens_of}
-use Rattle.lol_css.specs.Views.{seen}
+use Rattle.lol_css.specs.Views.{judgement}
 use Rattle.lol_css.specs.TreeViews.{list_of}
 use Rattle.lol_css.proofs.Accepts.{accept-fails, accept-read, accepts, refuses}
 use Rattle.lol_css.proofs.parser.SelectorsParser.parse.Goals as goal
@@ -17,9 +17,9 @@ returns-in_err-list-clause-err c =
 pub returns-clause-ok : goal.returns-clause-ok
 returns-clause-ok c =
     let tokens : c.new-reader.result ≡ tokens_of (preprocessed (chars c.args.text.now)) = c.new-reader.ensures ∙ ap tokens_of (c.as_slice.ensures.value ∙ c.in_ok-points.ensures) in
-    accepts c.args.text.now c.in_ok-list.field-0 (accept-read c.args.text.now (seen list_of c.in_ok-list.field-0) c.list.new.reader (rw tokens at c.in_ok-list.ensures))
+    rw c.into_result.ensures (accepts c.args.text.now c.in_ok-list.field-0 (accept-read c.args.text.now (judgement list_of c.in_ok-list.field-0) c.list.new.reader (rw tokens at c.in_ok-list.ensures)))
 
 pub returns-clause-err : goal.returns-clause-err
 returns-clause-err c =
     let tokens : c.new-reader.result ≡ tokens_of (preprocessed (chars c.args.text.now)) = c.new-reader.ensures ∙ ap tokens_of (c.as_slice.ensures.value ∙ c.in_ok-points.ensures) in
-    refuses c.args.text.now c.in_ok-list.field-0 (accept-read c.args.text.now (seen list_of c.in_ok-list.field-0) c.list.new.reader (rw tokens at c.in_ok-list.ensures))
+    rw c.into_result.ensures (refuses c.args.text.now c.in_ok-list.field-0 (accept-read c.args.text.now (judgement list_of c.in_ok-list.field-0) c.list.new.reader (rw tokens at c.in_ok-list.ensures)))

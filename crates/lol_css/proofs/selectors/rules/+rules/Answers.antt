@@ -5,7 +5,7 @@ use Rattle.lol_css.specs.Tokens.{Delim}
 use Rattle.lol_css.specs.Rules.{at_end, InFunction}
 use Rattle.lol_css.specs.Reading.{inner_list, list}
 use Rattle.lol_css.specs.Judging.{is_empty}
-use Rattle.lol_css.specs.Views.{place_of, is_inside, seen}
+use Rattle.lol_css.specs.Views.{place_of, is_inside, judgement, step_judgement}
 use Rattle.lol_css.specs.TreeViews.{compound_of, item_of, list_of, part_of}
 use Rattle.lol_css.proofs.TreeRows.{list-none}
 use Rattle.lol_css.proofs.Shorter.{inner_list-leaves}
@@ -31,16 +31,16 @@ compound-returns-in_err-parts t c =
 
 pub compound-returns-then-reads_nothing : goal.compound-returns-then-reads_nothing
 compound-returns-then-reads_nothing t c =
-    let e : is_empty (seen compound_of c.in_ok-parts.parts) ≡ true = sym c.reads_nothing.ensures ∙ c.if-reads_nothing.true in
+    let e : is_empty (judgement compound_of c.in_ok-parts.parts) ≡ true = sym c.reads_nothing.ensures ∙ c.if-reads_nothing.true in
     fails c.args.empty _
     (compound-starts (inner_list c.args.room) (place_of c.args.place) c.args.empty c.args.reader.now (compound_of c.in-Some.start) c.type_part.new.reader (rw c.in-Some.is at c.in_ok-start.ensures)
-    ∙ not_empty-refused c.args.empty _ (seen compound_of c.in_ok-parts.parts) c.more_parts.new.reader c.in_ok-parts.ensures e)
+    ∙ not_empty-refused c.args.empty _ (judgement compound_of c.in_ok-parts.parts) c.more_parts.new.reader c.in_ok-parts.ensures e)
 
 pub compound-returns : goal.compound-returns
 compound-returns t c =
-    let e : is_empty (seen compound_of c.in_ok-parts.parts) ≡ false = sym c.reads_nothing.ensures ∙ c.if-reads_nothing.false in
+    let e : is_empty (judgement compound_of c.in_ok-parts.parts) ≡ false = sym c.reads_nothing.ensures ∙ c.if-reads_nothing.false in
     compound-starts (inner_list c.args.room) (place_of c.args.place) c.args.empty c.args.reader.now (compound_of c.in-Some.start) c.type_part.new.reader (rw c.in-Some.is at c.in_ok-start.ensures)
-    ∙ not_empty-kept c.args.empty _ (seen compound_of c.in_ok-parts.parts) c.more_parts.new.reader c.in_ok-parts.ensures e
+    ∙ not_empty-kept c.args.empty _ (judgement compound_of c.in_ok-parts.parts) c.more_parts.new.reader c.in_ok-parts.ensures e
 
 -- ---- items
 
@@ -52,33 +52,33 @@ item-returns-in_err-first t c =
 pub item-steps-init : goal.item-steps-init
 item-steps-init t c =
     rw c.alone-item.ensures
-    (sym (item-starts (inner_list c.args.room) (place_of c.args.place) (is_inside c.args.place) c.args.reader.now (seen compound_of c.in_ok-first.first) c.compound.new.reader (rw c.skip_space.ensures at c.in_ok-first.ensures)))
+    (sym (item-starts (inner_list c.args.room) (place_of c.args.place) (is_inside c.args.place) c.args.reader.now (judgement compound_of c.in_ok-first.first) c.compound.new.reader (rw c.skip_space.ensures at c.in_ok-first.ensures)))
 
 pub item-returns-in_err-step : goal.item-returns-in_err-step
 item-returns-in_err-step t c =
     let p = err_from_is_err_and c.from_residual-in_err-step.result c.from_residual-in_err-step.ensures.1 in
-    rw (p.1, p.2, ← c.steps.invariant) (fails c.in_err-step.field-0.0 _ (further-fails c.steps.left (inner_list c.args.room) (place_of c.args.place) (is_inside c.args.place) (seen item_of c.steps.item) c.steps.reader c.in_err-step.field-0.0 c.in_err-step.ensures))
+    rw (p.1, p.2, ← c.steps.invariant) (fails c.in_err-step.field-0.0 _ (further-fails c.steps.left (inner_list c.args.room) (place_of c.args.place) (is_inside c.args.place) (judgement item_of c.steps.item) c.steps.reader c.in_err-step.field-0.0 c.in_err-step.ensures))
 
 pub item-returns-then-left-eq0 : goal.item-returns-then-left-eq0
 item-returns-then-left-eq0 t c =
-    let s = step-read (place_of c.args.place) (is_inside c.args.place) c.steps.reader c.in-Some.step c.next_step.new.reader (rw c.in-Some.is at c.in_ok-step.ensures) in
-    sym c.steps.invariant ∙ rw c.if-left-eq0.true (further-full (inner_list c.args.room) (place_of c.args.place) (is_inside c.args.place) (seen item_of c.steps.item) c.steps.reader c.in-Some.step c.next_step.new.reader s)
+    let s = step-read (place_of c.args.place) (is_inside c.args.place) c.steps.reader (step_judgement c.in-Some.step) c.next_step.new.reader (rw c.in-Some.is at c.in_ok-step.ensures) in
+    sym c.steps.invariant ∙ rw c.if-left-eq0.true (further-full (inner_list c.args.room) (place_of c.args.place) (is_inside c.args.place) (judgement item_of c.steps.item) c.steps.reader (step_judgement c.in-Some.step) c.next_step.new.reader s)
 
 pub item-returns-in_err-next : goal.item-returns-in_err-next
 item-returns-in_err-next t c =
     let p = err_from_is_err_and c.from_residual-in_err-next.result c.from_residual-in_err-next.ensures.1 in
-    let s = step-read (place_of c.args.place) (is_inside c.args.place) c.steps.reader c.in-Some.step c.next_step.new.reader (rw c.in-Some.is at c.in_ok-step.ensures) in
-    rw (p.1, p.2, ← c.steps.invariant) (further-compound-fails c.steps.left (inner_list c.args.room) (place_of c.args.place) (is_inside c.args.place) (seen item_of c.steps.item) c.steps.reader c.in-Some.step c.next_step.new.reader s c.in_err-next.field-0.0 c.if-left-eq0.false c.in_err-next.ensures)
+    let s = step-read (place_of c.args.place) (is_inside c.args.place) c.steps.reader (step_judgement c.in-Some.step) c.next_step.new.reader (rw c.in-Some.is at c.in_ok-step.ensures) in
+    rw (p.1, p.2, ← c.steps.invariant) (further-compound-fails c.steps.left (inner_list c.args.room) (place_of c.args.place) (is_inside c.args.place) (judgement item_of c.steps.item) c.steps.reader (step_judgement c.in-Some.step) c.next_step.new.reader s c.in_err-next.field-0.0 c.if-left-eq0.false c.in_err-next.ensures)
 
 pub item-steps-preserved : goal.item-steps-preserved
 item-steps-preserved t c =
-    let s = step-read (place_of c.args.place) (is_inside c.args.place) c.steps.reader c.in-Some.step c.next_step.new.reader (rw c.in-Some.is at c.in_ok-step.ensures) in
+    let s = step-read (place_of c.args.place) (is_inside c.args.place) c.steps.reader (step_judgement c.in-Some.step) c.next_step.new.reader (rw c.in-Some.is at c.in_ok-step.ensures) in
     rw c.in_ok-item.ensures
-    (sym (further-goes_on c.steps.left (inner_list c.args.room) (place_of c.args.place) (is_inside c.args.place) (seen item_of c.steps.item) c.steps.reader c.in-Some.step c.next_step.new.reader s (seen compound_of c.in_ok-next.next) c.compound-in-Some.new.reader c.in_ok-next.ensures c.if-left-eq0.false) ∙ c.steps.invariant)
+    (sym (further-goes_on c.steps.left (inner_list c.args.room) (place_of c.args.place) (is_inside c.args.place) (judgement item_of c.steps.item) c.steps.reader (step_judgement c.in-Some.step) c.next_step.new.reader s (judgement compound_of c.in_ok-next.next) c.compound-in-Some.new.reader c.in_ok-next.ensures c.if-left-eq0.false) ∙ c.steps.invariant)
 
 pub item-returns : goal.item-returns
 item-returns t c =
-    sym c.steps.invariant ∙ further-stops c.steps.left (inner_list c.args.room) (place_of c.args.place) (is_inside c.args.place) (seen item_of c.steps.item) c.steps.reader c.next_step.new.reader (rw c.in_default.is at c.in_ok-step.ensures)
+    sym c.steps.invariant ∙ further-stops c.steps.left (inner_list c.args.room) (place_of c.args.place) (is_inside c.args.place) (judgement item_of c.steps.item) c.steps.reader c.next_step.new.reader (rw c.in_default.is at c.in_ok-step.ensures)
 
 -- ---- lists
 
@@ -90,49 +90,49 @@ list-returns-in_err-first t c =
 pub list-items-init : goal.list-items-init
 list-items-init t c =
     rw (c.in_ok-list.ensures, list-none c.new.result c.new.ensures.items)
-    (sym (list-starts (inner_list c.args.room) (place_of c.args.place) (is_inside c.args.place) c.args.reader.now (seen item_of c.in_ok-first.first) c.item.new.reader c.in_ok-first.ensures))
+    (sym (list-starts (inner_list c.args.room) (place_of c.args.place) (is_inside c.args.place) c.args.reader.now (judgement item_of c.in_ok-first.first) c.item.new.reader c.in_ok-first.ensures))
 
 pub list-returns-in_err-next : goal.list-returns-in_err-next
 list-returns-in_err-next t c =
     let p = err_from_is_err_and c.from_residual-in_err-next.result c.from_residual-in_err-next.ensures.1 in
     let e : at_end (place_of c.args.place) c.items.reader ≡ false = sym c.is_at_end.ensures ∙ c.items-test.true in
-    rw (p.1, p.2, ← c.items.invariant) (items-fail (inner_list c.args.room) (place_of c.args.place) (is_inside c.args.place) (seen list_of c.items.list) c.items.reader c.in_err-next.field-0.0 e (rw c.advance.ensures at c.in_err-next.ensures))
+    rw (p.1, p.2, ← c.items.invariant) (items-fail (inner_list c.args.room) (place_of c.args.place) (is_inside c.args.place) (judgement list_of c.items.list) c.items.reader c.in_err-next.field-0.0 e (rw c.advance.ensures at c.in_err-next.ensures))
 
 pub list-items-smaller : goal.list-items-smaller
 list-items-smaller t c =
     let e : at_end (place_of c.args.place) c.items.reader ≡ false = sym c.is_at_end.ensures ∙ c.items-test.true in
-    (item-read (inner_list c.args.room) (inner_list-leaves c.args.room) (place_of c.args.place) (is_inside c.args.place) (seen list_of c.items.list) c.items.reader (seen item_of c.in_ok-next.next) c.item-in-items.new.reader e (rw c.advance.ensures at c.in_ok-next.ensures)).shorter
+    (item-read (inner_list c.args.room) (inner_list-leaves c.args.room) (place_of c.args.place) (is_inside c.args.place) (judgement list_of c.items.list) c.items.reader (judgement item_of c.in_ok-next.next) c.item-in-items.new.reader e (rw c.advance.ensures at c.in_ok-next.ensures)).shorter
 
 pub list-items-preserved : goal.list-items-preserved
 list-items-preserved t c =
     let e : at_end (place_of c.args.place) c.items.reader ≡ false = sym c.is_at_end.ensures ∙ c.items-test.true in
-    let r = item-read (inner_list c.args.room) (inner_list-leaves c.args.room) (place_of c.args.place) (is_inside c.args.place) (seen list_of c.items.list) c.items.reader (seen item_of c.in_ok-next.next) c.item-in-items.new.reader e (rw c.advance.ensures at c.in_ok-next.ensures) in
+    let r = item-read (inner_list c.args.room) (inner_list-leaves c.args.room) (place_of c.args.place) (is_inside c.args.place) (judgement list_of c.items.list) c.items.reader (judgement item_of c.in_ok-next.next) c.item-in-items.new.reader e (rw c.advance.ensures at c.in_ok-next.ensures) in
     rw c.in_ok-list-2.ensures (sym r.same ∙ c.items.invariant)
 
 pub list-returns : goal.list-returns
 list-returns t c =
     let e : at_end (place_of c.args.place) c.items.reader ≡ true = sym c.is_at_end.ensures ∙ c.items-test.false in
-    rw c.advance-2.ensures (sym c.items.invariant ∙ items-stop (inner_list c.args.room) (place_of c.args.place) (is_inside c.args.place) (seen list_of c.items.list) c.items.reader e)
+    rw c.advance-2.ensures (sym c.items.invariant ∙ items-stop (inner_list c.args.room) (place_of c.args.place) (is_inside c.args.place) (judgement list_of c.items.list) c.items.reader e)
 
 -- ---- parts
 
 pub more_parts-returns-in_err-found : goal.more_parts-returns-in_err-found
 more_parts-returns-in_err-found t c =
     let p = err_from_is_err_and c.from_residual.result c.from_residual.ensures.1 in
-    rw (p.1, p.2, ← c.parts.invariant) (parts-fail (inner_list c.args.room) (place_of c.args.place) (seen compound_of c.parts.parts) c.parts.reader c.in_err-found.field-0.0 c.in_err-found.ensures)
+    rw (p.1, p.2, ← c.parts.invariant) (parts-fail (inner_list c.args.room) (place_of c.args.place) (judgement compound_of c.parts.parts) c.parts.reader c.in_err-found.field-0.0 c.in_err-found.ensures)
 
 pub more_parts-parts-smaller : goal.more_parts-parts-smaller
 more_parts-parts-smaller t c =
-    (part-read (inner_list c.args.room) (inner_list-leaves c.args.room) (place_of c.args.place) (seen compound_of c.parts.parts) c.parts.reader (seen part_of c.in-Some.found) c.part.new.reader (rw c.in-Some.is at c.in_ok-found.ensures)).shorter
+    (part-read (inner_list c.args.room) (inner_list-leaves c.args.room) (place_of c.args.place) (judgement compound_of c.parts.parts) c.parts.reader (judgement part_of c.in-Some.found) c.part.new.reader (rw c.in-Some.is at c.in_ok-found.ensures)).shorter
 
 pub more_parts-parts-preserved : goal.more_parts-parts-preserved
 more_parts-parts-preserved t c =
-    let r = part-read (inner_list c.args.room) (inner_list-leaves c.args.room) (place_of c.args.place) (seen compound_of c.parts.parts) c.parts.reader (seen part_of c.in-Some.found) c.part.new.reader (rw c.in-Some.is at c.in_ok-found.ensures) in
+    let r = part-read (inner_list c.args.room) (inner_list-leaves c.args.room) (place_of c.args.place) (judgement compound_of c.parts.parts) c.parts.reader (judgement part_of c.in-Some.found) c.part.new.reader (rw c.in-Some.is at c.in_ok-found.ensures) in
     rw c.in_ok-parts.ensures (sym r.same ∙ c.parts.invariant)
 
 pub more_parts-returns : goal.more_parts-returns
 more_parts-returns t c =
-    sym c.parts.invariant ∙ parts-stop (inner_list c.args.room) (place_of c.args.place) (seen compound_of c.parts.parts) c.parts.reader c.part.new.reader (rw c.in_default.is at c.in_ok-found.ensures)
+    sym c.parts.invariant ∙ parts-stop (inner_list c.args.room) (place_of c.args.place) (judgement compound_of c.parts.parts) c.parts.reader c.part.new.reader (rw c.in_default.is at c.in_ok-found.ensures)
 
 -- ---- inside a logical combination
 
@@ -151,15 +151,15 @@ part-returns-in_err-pseudo-in-Some-Delim-eq58 t c =
     let first : c.args.reader.now ≡ Delim (byte ":") ∷ drop 1 c.args.reader.now = cc c.in-Some-Delim-eq58.ensures in
     rw (p.1, p.2) (part-pseudo-fails (inner_list c.args.room) (place_of c.args.place) c.args.reader.now (drop 1 c.args.reader.now) c.in_err-pseudo-in-Some-Delim-eq58.field-0.0 first (rw c.advance-in-Some-Delim-eq58.ensures at c.in_err-pseudo-in-Some-Delim-eq58.ensures))
 
-pub logical_part-returns-in-Ok : goal.logical_part-returns-in-Ok
-logical_part-returns-in-Ok t c =
+pub logical_part-returns-in-Kept : goal.logical_part-returns-in-Kept
+logical_part-returns-in-Kept t c =
     rw (c.of.ensures, inner_list-opens c.args.room c.args.reader.now c.if-room-eq0.false)
-    (logical-read c.args.combination (list (inner_list (c.args.room - 1)) InFunction c.args.reader.now) (Ok (list_of c.in-Ok.list)) c.list.new.reader (rw c.in-Ok.is at c.in_ok-list.ensures))
+    (logical-read c.args.combination (list (inner_list (c.args.room - 1)) InFunction c.args.reader.now) (Ok (list_of c.in-Kept.list)) c.list.new.reader (rw c.in-Kept.is at c.in_ok-list.ensures))
 
-pub logical_part-returns-in-Err : goal.logical_part-returns-in-Err
-logical_part-returns-in-Err t c =
+pub logical_part-returns-in-Refused : goal.logical_part-returns-in-Refused
+logical_part-returns-in-Refused t c =
     rw (inner_list-opens c.args.room c.args.reader.now c.if-room-eq0.false)
-    (logical-read c.args.combination (list (inner_list (c.args.room - 1)) InFunction c.args.reader.now) (Err c.in-Err.cause) c.list.new.reader (rw c.in-Err.is at c.in_ok-list.ensures))
+    (logical-read c.args.combination (list (inner_list (c.args.room - 1)) InFunction c.args.reader.now) (Err c.in-Refused.cause) c.list.new.reader (rw c.in-Refused.is at c.in_ok-list.ensures))
 
 pub part-returns-in_err-class_name-in-Some-Delim-eq46 : goal.part-returns-in_err-class_name-in-Some-Delim-eq46
 part-returns-in_err-class_name-in-Some-Delim-eq46 t c =

@@ -3,7 +3,7 @@ use Rattle.lol_css.specs.Reading.{inner_list, item, list}
 use Rattle.lol_css.specs.Rules.{giving}
 use Rattle.lol_css.specs.Accepting.{judged, judged_item}
 use Rattle.lol_css.specs.Judging.{judged_parts, judged_further, judged_items_at_most}
-use Rattle.lol_css.specs.Views.{place_of, is_inside, seen}
+use Rattle.lol_css.specs.Views.{place_of, is_inside, judgement}
 use Rattle.lol_css.specs.TreeViews.{compound_of, item_of, list_of}
 use Rattle.lol_css.proofs.selectors.rules.+rules.Given as goal
 
@@ -30,19 +30,19 @@ decreases-list l = 7 * l.room + 6
 
 -- what is read so far, and what the rest gives, are the whole
 abbrev pub invariant-more_parts-parts : goal.invariant-more_parts-parts
-invariant-more_parts-parts l = judged_parts (inner_list l.room) (place_of l.place) (seen compound_of l.parts) l.reader ≡ judged_parts (inner_list l.fn.room) (place_of l.fn.place) (Ok (compound_of l.fn.start)) l.fn.reader
+invariant-more_parts-parts l = judged_parts (inner_list l.room) (place_of l.place) (judgement compound_of l.parts) l.reader ≡ judged_parts (inner_list l.fn.room) (place_of l.fn.place) (Ok (compound_of l.fn.start)) l.fn.reader
 
 abbrev pub decreases-more_parts-parts : goal.decreases-more_parts-parts
 decreases-more_parts-parts l = length l.reader
 
 abbrev pub invariant-item-steps : goal.invariant-item-steps
-invariant-item-steps l = judged_further l.left (inner_list l.room) (place_of l.place) (is_inside l.place) (seen item_of l.item) l.reader ≡ giving (judged_item (is_inside l.fn.place)) (item (inner_list l.fn.room) (place_of l.fn.place) l.fn.reader)
+invariant-item-steps l = judged_further l.left (inner_list l.room) (place_of l.place) (is_inside l.place) (judgement item_of l.item) l.reader ≡ giving (judged_item (is_inside l.fn.place)) (item (inner_list l.fn.room) (place_of l.fn.place) l.fn.reader)
 
 abbrev pub decreases-item-steps : goal.decreases-item-steps
 decreases-item-steps l = l.left
 
 abbrev pub invariant-list-items : goal.invariant-list-items
-invariant-list-items l = judged_items_at_most (length l.reader + 1) (inner_list l.room) (place_of l.place) (is_inside l.place) (seen list_of l.list) l.reader ≡ giving (judged (is_inside l.fn.place)) (list (inner_list l.fn.room) (place_of l.fn.place) l.fn.reader)
+invariant-list-items l = judged_items_at_most (length l.reader + 1) (inner_list l.room) (place_of l.place) (is_inside l.place) (judgement list_of l.list) l.reader ≡ giving (judged (is_inside l.fn.place)) (list (inner_list l.fn.room) (place_of l.fn.place) l.fn.reader)
 
 abbrev pub decreases-list-items : goal.decreases-list-items
 decreases-list-items l = length l.reader
