@@ -5,7 +5,7 @@ use Rattle.std.specs.Str.{byte}
 use Rattle.lol_css.specs.Tokens.{Token, Delim}
 use Rattle.lol_css.specs.Trees as trees
 use Rattle.lol_css.specs.Drafts.{Step, Part, Logical, Compound, Nothing, With, Item, First, Then, Items, NoItems, And}
-use Rattle.lol_css.specs.Rules.{Read, ◌>>=◌, giving, skip_space, Place, InFunction, at_end}
+use Rattle.lol_css.specs.Rules.{Read, ◌>>=◌, giving, skip_space, Nesting, InFunction, at_end}
 use Rattle.lol_css.specs.Reading.{class_name, pseudo, part, parts_at_most, more_parts, type_part, is_nothing, compound, next_step, further, item, items_at_most, list, inner_list}
 use Rattle.lol_css.specs.Accepting.{judged_step, combined, judged_part, judged_compound, judged_item, judged}
 use Rattle.lol_css.specs.Judging.{Judged, with_part, alone, with_compound, with_item, judged_parts_at_most, judged_parts, judged_further, judged_items_at_most, is_empty}
@@ -89,82 +89,82 @@ giving-option f (Some x) none found = refl
 
 -- ---- parts
 
-pub parts-fused : (n : ℕ) (inner : List Token → Read Items) (place : Place) (parts : Compound) (tokens : List Token) → giving judged_compound (parts_at_most n inner place parts tokens) ≡ judged_parts_at_most n inner place (judged_compound parts) tokens
+pub parts-fused : (n : ℕ) (inner : List Token → Read Items) (nesting : Nesting) (parts : Compound) (tokens : List Token) → giving judged_compound (parts_at_most n inner nesting parts tokens) ≡ judged_parts_at_most n inner nesting (judged_compound parts) tokens
 unfolding parts_at_most judged_parts_at_most judged_compound
-parts-fused zero inner place parts tokens = refl
-parts-fused (suc n) inner place parts tokens =
-    giving-then judged_compound (part inner place tokens) (λ x. elim x.0 [ None ↦ Ok (parts, x.1) | Some found ↦ parts_at_most n inner place (With parts found) x.1 ])
-    ∙ then-same (part inner place tokens) _ _ (λ x rest e. giving-option judged_compound x (Ok (parts, rest)) (λ found. parts_at_most n inner place (With parts found) rest) ∙ option_same x _ _ _ _ (λ h. refl) (λ found h. parts-fused n inner place (With parts found) rest))
+parts-fused zero inner nesting parts tokens = refl
+parts-fused (suc n) inner nesting parts tokens =
+    giving-then judged_compound (part inner nesting tokens) (λ x. elim x.0 [ None ↦ Ok (parts, x.1) | Some found ↦ parts_at_most n inner nesting (With parts found) x.1 ])
+    ∙ then-same (part inner nesting tokens) _ _ (λ x rest e. giving-option judged_compound x (Ok (parts, rest)) (λ found. parts_at_most n inner nesting (With parts found) rest) ∙ option_same x _ _ _ _ (λ h. refl) (λ found h. parts-fused n inner nesting (With parts found) rest))
 
 -- more rounds than tokens change nothing
-parts_enough : (m n : ℕ) (inner : List Token → Read Items) → InnerLeaves inner → (place : Place) (parts : Judged trees.Compound) (tokens : List Token) → length tokens ≤ m → length tokens ≤ n → judged_parts_at_most m inner place parts tokens ≡ judged_parts_at_most n inner place parts tokens
+parts_enough : (m n : ℕ) (inner : List Token → Read Items) → InnerLeaves inner → (nesting : Nesting) (parts : Judged trees.Compound) (tokens : List Token) → length tokens ≤ m → length tokens ≤ n → judged_parts_at_most m inner nesting parts tokens ≡ judged_parts_at_most n inner nesting parts tokens
 unfolding judged_parts_at_most part
-parts_enough zero zero inner h place parts tokens a b = refl
-parts_enough zero (suc n) inner h place parts [] a b = refl
-parts_enough zero (suc n) inner h place parts (token ∷ tokens) a b = absurd (omega arith)
-parts_enough (suc m) zero inner h place parts [] a b = refl
-parts_enough (suc m) zero inner h place parts (token ∷ tokens) a b = absurd (omega arith)
-parts_enough (suc m) (suc n) inner h place parts tokens a b =
-    then-same (part inner place tokens) _ _ (λ x rest e. option_same x _ _ _ _ (λ none. refl)
+parts_enough zero zero inner h nesting parts tokens a b = refl
+parts_enough zero (suc n) inner h nesting parts [] a b = refl
+parts_enough zero (suc n) inner h nesting parts (token ∷ tokens) a b = absurd (omega arith)
+parts_enough (suc m) zero inner h nesting parts [] a b = refl
+parts_enough (suc m) zero inner h nesting parts (token ∷ tokens) a b = absurd (omega arith)
+parts_enough (suc m) (suc n) inner h nesting parts tokens a b =
+    then-same (part inner nesting tokens) _ _ (λ x rest e. option_same x _ _ _ _ (λ none. refl)
     (λ found is.
-    let taken : part inner place tokens ≡ Ok (Some found, rest) = e ∙ ap (λ (o : Option Part). Ok (o, rest)) is in
-    parts_enough m n inner h place (with_part parts (judged_part found)) rest (omega (arith, (part-takes inner h place tokens).taken found rest taken)) (omega (arith, (part-takes inner h place tokens).taken found rest taken))))
+    let taken : part inner nesting tokens ≡ Ok (Some found, rest) = e ∙ ap (λ (o : Option Part). Ok (o, rest)) is in
+    parts_enough m n inner h nesting (with_part parts (judged_part found)) rest (omega (arith, (part-takes inner h nesting tokens).taken found rest taken)) (omega (arith, (part-takes inner h nesting tokens).taken found rest taken))))
 
-parts_goes_on_of : (n : ℕ) (inner : List Token → Read Items) → InnerLeaves inner → (place : Place) (parts : Judged trees.Compound) (tokens : List Token) (found : Part) (rest : List Token) → n ≡ length tokens → part inner place tokens ≡ Ok (Some found, rest) → judged_parts_at_most n inner place parts tokens ≡ judged_parts inner place (with_part parts (judged_part found)) rest
+parts_goes_on_of : (n : ℕ) (inner : List Token → Read Items) → InnerLeaves inner → (nesting : Nesting) (parts : Judged trees.Compound) (tokens : List Token) (found : Part) (rest : List Token) → n ≡ length tokens → part inner nesting tokens ≡ Ok (Some found, rest) → judged_parts_at_most n inner nesting parts tokens ≡ judged_parts inner nesting (with_part parts (judged_part found)) rest
 unfolding judged_parts_at_most
-parts_goes_on_of zero inner h place parts tokens found rest l e = absurd (omega (arith, (part-takes inner h place tokens).taken found rest e))
-parts_goes_on_of (suc n) inner h place parts tokens found rest l e =
-    rw e (parts_enough n (length rest) inner h place (with_part parts (judged_part found)) rest (omega (arith, (part-takes inner h place tokens).taken found rest e)) (omega arith))
+parts_goes_on_of zero inner h nesting parts tokens found rest l e = absurd (omega (arith, (part-takes inner h nesting tokens).taken found rest e))
+parts_goes_on_of (suc n) inner h nesting parts tokens found rest l e =
+    rw e (parts_enough n (length rest) inner h nesting (with_part parts (judged_part found)) rest (omega (arith, (part-takes inner h nesting tokens).taken found rest e)) (omega arith))
 
 -- a part was read
-pub record PartRead (inner : List Token → Read Items) (place : Place) (parts : Judged trees.Compound) (tokens : List Token) (found : Judged trees.Part) (rest : List Token) : Type 0 where
-  pub same : judged_parts inner place parts tokens ≡ judged_parts inner place (with_part parts found) rest
+pub record PartRead (inner : List Token → Read Items) (nesting : Nesting) (parts : Judged trees.Compound) (tokens : List Token) (found : Judged trees.Part) (rest : List Token) : Type 0 where
+  pub same : judged_parts inner nesting parts tokens ≡ judged_parts inner nesting (with_part parts found) rest
   pub shorter : length rest < length tokens
 
-part_read_of : (o : Option Part) (inner : List Token → Read Items) → InnerLeaves inner → (place : Place) (parts : Judged trees.Compound) (tokens : List Token) (found : Judged trees.Part) (rest : List Token) → part inner place tokens ≡ Ok (o, rest) → option_map judged_part o ≡ Some found → PartRead inner place parts tokens found rest
-part_read_of None inner h place parts tokens found rest e g = absurd cc
-part_read_of (Some draft) inner h place parts tokens found rest e g =
+part_read_of : (o : Option Part) (inner : List Token → Read Items) → InnerLeaves inner → (nesting : Nesting) (parts : Judged trees.Compound) (tokens : List Token) (found : Judged trees.Part) (rest : List Token) → part inner nesting tokens ≡ Ok (o, rest) → option_map judged_part o ≡ Some found → PartRead inner nesting parts tokens found rest
+part_read_of None inner h nesting parts tokens found rest e g = absurd cc
+part_read_of (Some draft) inner h nesting parts tokens found rest e g =
     let same : judged_part draft ≡ found = cc in
     record {
-      same = parts_goes_on_of (length tokens) inner h place parts tokens draft rest refl e ∙ ap (λ (p : Judged trees.Part). judged_parts inner place (with_part parts p) rest) same;
-      shorter = (part-takes inner h place tokens).taken draft rest e;
+      same = parts_goes_on_of (length tokens) inner h nesting parts tokens draft rest refl e ∙ ap (λ (p : Judged trees.Part). judged_parts inner nesting (with_part parts p) rest) same;
+      shorter = (part-takes inner h nesting tokens).taken draft rest e;
     }
 
-pub part-read : (inner : List Token → Read Items) → InnerLeaves inner → (place : Place) (parts : Judged trees.Compound) (tokens : List Token) (found : Judged trees.Part) (rest : List Token) → giving (option_map judged_part) (part inner place tokens) ≡ Ok (Some found, rest) → PartRead inner place parts tokens found rest
-part-read inner h place parts tokens found rest e =
-    let f = giving-ok (option_map judged_part) (part inner place tokens) (Some found) rest e in
-    part_read_of f.x inner h place parts tokens found rest f.is f.gives
+pub part-read : (inner : List Token → Read Items) → InnerLeaves inner → (nesting : Nesting) (parts : Judged trees.Compound) (tokens : List Token) (found : Judged trees.Part) (rest : List Token) → giving (option_map judged_part) (part inner nesting tokens) ≡ Ok (Some found, rest) → PartRead inner nesting parts tokens found rest
+part-read inner h nesting parts tokens found rest e =
+    let f = giving-ok (option_map judged_part) (part inner nesting tokens) (Some found) rest e in
+    part_read_of f.x inner h nesting parts tokens found rest f.is f.gives
 
-parts_stop_of : (n : ℕ) (inner : List Token → Read Items) (place : Place) (parts : Judged trees.Compound) (tokens rest : List Token) → n ≡ length tokens → part inner place tokens ≡ Ok (None, rest) → judged_parts_at_most n inner place parts tokens ≡ Ok (parts, rest)
+parts_stop_of : (n : ℕ) (inner : List Token → Read Items) (nesting : Nesting) (parts : Judged trees.Compound) (tokens rest : List Token) → n ≡ length tokens → part inner nesting tokens ≡ Ok (None, rest) → judged_parts_at_most n inner nesting parts tokens ≡ Ok (parts, rest)
 unfolding judged_parts_at_most part
-parts_stop_of zero inner place parts [] rest l e =
+parts_stop_of zero inner nesting parts [] rest l e =
     let p : Option Part × List Token = (None, []) in
     let q : Option Part × List Token = (None, rest) in
     let same : p ≡ q = cc in
     ap (λ (t : Option Part × List Token). Ok (parts, t.1)) same
-parts_stop_of zero inner place parts (token ∷ tokens) rest l e = absurd (omega arith)
-parts_stop_of (suc n) inner place parts tokens rest l e = rw e refl
+parts_stop_of zero inner nesting parts (token ∷ tokens) rest l e = absurd (omega arith)
+parts_stop_of (suc n) inner nesting parts tokens rest l e = rw e refl
 
 none_same : (o : Option Part) → option_map judged_part o ≡ None → o ≡ None
 none_same None e = refl
 none_same (Some x) e = absurd cc
 
 -- no further part begins
-pub parts-stop : (inner : List Token → Read Items) (place : Place) (parts : Judged trees.Compound) (tokens rest : List Token) → giving (option_map judged_part) (part inner place tokens) ≡ Ok (None, rest) → judged_parts inner place parts tokens ≡ Ok (parts, rest)
-parts-stop inner place parts tokens rest e =
-    let f = giving-ok (option_map judged_part) (part inner place tokens) None rest e in
+pub parts-stop : (inner : List Token → Read Items) (nesting : Nesting) (parts : Judged trees.Compound) (tokens rest : List Token) → giving (option_map judged_part) (part inner nesting tokens) ≡ Ok (None, rest) → judged_parts inner nesting parts tokens ≡ Ok (parts, rest)
+parts-stop inner nesting parts tokens rest e =
+    let f = giving-ok (option_map judged_part) (part inner nesting tokens) None rest e in
     let nothing = none_same f.x f.gives in
-    parts_stop_of (length tokens) inner place parts tokens rest refl (f.is ∙ ap (λ (o : Option Part). Ok (o, rest)) nothing)
+    parts_stop_of (length tokens) inner nesting parts tokens rest refl (f.is ∙ ap (λ (o : Option Part). Ok (o, rest)) nothing)
 
-parts_err_of : (n : ℕ) (inner : List Token → Read Items) (place : Place) (parts : Judged trees.Compound) (tokens : List Token) (cause : SelectorError) → n ≡ length tokens → part inner place tokens ≡ Err cause → judged_parts_at_most n inner place parts tokens ≡ Err cause
+parts_err_of : (n : ℕ) (inner : List Token → Read Items) (nesting : Nesting) (parts : Judged trees.Compound) (tokens : List Token) (cause : SelectorError) → n ≡ length tokens → part inner nesting tokens ≡ Err cause → judged_parts_at_most n inner nesting parts tokens ≡ Err cause
 unfolding judged_parts_at_most part
-parts_err_of zero inner place parts [] cause l e = absurd cc
-parts_err_of zero inner place parts (token ∷ tokens) cause l e = absurd (omega arith)
-parts_err_of (suc n) inner place parts tokens cause l e = rw e refl
+parts_err_of zero inner nesting parts [] cause l e = absurd cc
+parts_err_of zero inner nesting parts (token ∷ tokens) cause l e = absurd (omega arith)
+parts_err_of (suc n) inner nesting parts tokens cause l e = rw e refl
 
-pub parts-fail : (inner : List Token → Read Items) (place : Place) (parts : Judged trees.Compound) (tokens : List Token) (cause : SelectorError) → FailsUnlessMemory cause (giving (option_map judged_part) (part inner place tokens)) → FailsUnlessMemory cause (judged_parts inner place parts tokens)
-parts-fail inner place parts tokens cause h =
-    fails-along cause (giving (option_map judged_part) (part inner place tokens)) (judged_parts inner place parts tokens) (λ e. parts_err_of (length tokens) inner place parts tokens cause refl (giving-err (option_map judged_part) (part inner place tokens) cause e)) h
+pub parts-fail : (inner : List Token → Read Items) (nesting : Nesting) (parts : Judged trees.Compound) (tokens : List Token) (cause : SelectorError) → FailsUnlessMemory cause (giving (option_map judged_part) (part inner nesting tokens)) → FailsUnlessMemory cause (judged_parts inner nesting parts tokens)
+parts-fail inner nesting parts tokens cause h =
+    fails-along cause (giving (option_map judged_part) (part inner nesting tokens)) (judged_parts inner nesting parts tokens) (λ e. parts_err_of (length tokens) inner nesting parts tokens cause refl (giving-err (option_map judged_part) (part inner nesting tokens) cause e)) h
 
 -- ---- compounds
 
@@ -190,136 +190,136 @@ not_empty_fused : (empty : SelectorError) (read : Read Compound) → giving judg
 not_empty_fused empty (Ok p) = empty_same (is_nothing p.0) empty p.0 p.1 ∙ ap (λ (b : Bool). cond {A = Read (Judged trees.Compound)} b (Err empty) (Ok (judged_compound p.0, p.1))) (nothing_judged p.0)
 not_empty_fused empty (Err cause) = refl
 
-compound_of_start : (o : Option Compound) (inner : List Token → Read Items) (place : Place) (empty : SelectorError) (tokens : List Token) (start : trees.Compound) (rest : List Token) → type_part place tokens ≡ Ok (o, rest) → option_map judged_compound o ≡ Some (Ok start) → giving judged_compound (compound inner place empty tokens) ≡ not_empty empty (judged_parts inner place (Ok start) rest)
+compound_of_start : (o : Option Compound) (inner : List Token → Read Items) (nesting : Nesting) (empty : SelectorError) (tokens : List Token) (start : trees.Compound) (rest : List Token) → type_part nesting tokens ≡ Ok (o, rest) → option_map judged_compound o ≡ Some (Ok start) → giving judged_compound (compound inner nesting empty tokens) ≡ not_empty empty (judged_parts inner nesting (Ok start) rest)
 unfolding compound
-compound_of_start None inner place empty tokens start rest e g = absurd cc
-compound_of_start (Some draft) inner place empty tokens start rest e g =
+compound_of_start None inner nesting empty tokens start rest e g = absurd cc
+compound_of_start (Some draft) inner nesting empty tokens start rest e g =
     let same : judged_compound draft ≡ Ok start = cc in
-    rw e (not_empty_fused empty (more_parts inner place draft rest) ∙ ap (λ (r : Read (Judged trees.Compound)). not_empty empty r) (parts-fused (length rest) inner place draft rest ∙ ap (λ (j : Judged trees.Compound). judged_parts inner place j rest) same))
+    rw e (not_empty_fused empty (more_parts inner nesting draft rest) ∙ ap (λ (r : Read (Judged trees.Compound)). not_empty empty r) (parts-fused (length rest) inner nesting draft rest ∙ ap (λ (j : Judged trees.Compound). judged_parts inner nesting j rest) same))
 
 -- behind its type part
-pub compound-starts : (inner : List Token → Read Items) (place : Place) (empty : SelectorError) (tokens : List Token) (start : trees.Compound) (rest : List Token) → giving (option_map judged_compound) (type_part place tokens) ≡ Ok (Some (Ok start), rest) → giving judged_compound (compound inner place empty tokens) ≡ not_empty empty (judged_parts inner place (Ok start) rest)
-compound-starts inner place empty tokens start rest e =
-    let f = giving-ok (option_map judged_compound) (type_part place tokens) (Some (Ok start)) rest e in
-    compound_of_start f.x inner place empty tokens start rest f.is f.gives
+pub compound-starts : (inner : List Token → Read Items) (nesting : Nesting) (empty : SelectorError) (tokens : List Token) (start : trees.Compound) (rest : List Token) → giving (option_map judged_compound) (type_part nesting tokens) ≡ Ok (Some (Ok start), rest) → giving judged_compound (compound inner nesting empty tokens) ≡ not_empty empty (judged_parts inner nesting (Ok start) rest)
+compound-starts inner nesting empty tokens start rest e =
+    let f = giving-ok (option_map judged_compound) (type_part nesting tokens) (Some (Ok start)) rest e in
+    compound_of_start f.x inner nesting empty tokens start rest f.is f.gives
 
-compound_of_none : (o : Option Compound) (inner : List Token → Read Items) (place : Place) (empty : SelectorError) (tokens rest : List Token) → type_part place tokens ≡ Ok (o, rest) → option_map judged_compound o ≡ None → giving judged_compound (compound inner place empty tokens) ≡ Err empty
+compound_of_none : (o : Option Compound) (inner : List Token → Read Items) (nesting : Nesting) (empty : SelectorError) (tokens rest : List Token) → type_part nesting tokens ≡ Ok (o, rest) → option_map judged_compound o ≡ None → giving judged_compound (compound inner nesting empty tokens) ≡ Err empty
 unfolding compound
-compound_of_none None inner place empty tokens rest e g = rw e refl
-compound_of_none (Some draft) inner place empty tokens rest e g = absurd cc
+compound_of_none None inner nesting empty tokens rest e g = rw e refl
+compound_of_none (Some draft) inner nesting empty tokens rest e g = absurd cc
 
 -- where a bar ends the item
-pub compound-none : (inner : List Token → Read Items) (place : Place) (empty : SelectorError) (tokens rest : List Token) → giving (option_map judged_compound) (type_part place tokens) ≡ Ok (None, rest) → giving judged_compound (compound inner place empty tokens) ≡ Err empty
-compound-none inner place empty tokens rest e =
-    let f = giving-ok (option_map judged_compound) (type_part place tokens) None rest e in
-    compound_of_none f.x inner place empty tokens rest f.is f.gives
+pub compound-none : (inner : List Token → Read Items) (nesting : Nesting) (empty : SelectorError) (tokens rest : List Token) → giving (option_map judged_compound) (type_part nesting tokens) ≡ Ok (None, rest) → giving judged_compound (compound inner nesting empty tokens) ≡ Err empty
+compound-none inner nesting empty tokens rest e =
+    let f = giving-ok (option_map judged_compound) (type_part nesting tokens) None rest e in
+    compound_of_none f.x inner nesting empty tokens rest f.is f.gives
 
-compound_err : (inner : List Token → Read Items) (place : Place) (empty : SelectorError) (tokens : List Token) (cause : SelectorError) → type_part place tokens ≡ Err cause → giving judged_compound (compound inner place empty tokens) ≡ Err cause
+compound_err : (inner : List Token → Read Items) (nesting : Nesting) (empty : SelectorError) (tokens : List Token) (cause : SelectorError) → type_part nesting tokens ≡ Err cause → giving judged_compound (compound inner nesting empty tokens) ≡ Err cause
 unfolding compound
-compound_err inner place empty tokens cause e = rw e refl
+compound_err inner nesting empty tokens cause e = rw e refl
 
-pub compound-fails : (inner : List Token → Read Items) (place : Place) (empty : SelectorError) (tokens : List Token) (cause : SelectorError) → FailsUnlessMemory cause (giving (option_map judged_compound) (type_part place tokens)) → FailsUnlessMemory cause (giving judged_compound (compound inner place empty tokens))
-compound-fails inner place empty tokens cause h =
-    fails-along cause (giving (option_map judged_compound) (type_part place tokens)) (giving judged_compound (compound inner place empty tokens)) (λ e. compound_err inner place empty tokens cause (giving-err (option_map judged_compound) (type_part place tokens) cause e)) h
+pub compound-fails : (inner : List Token → Read Items) (nesting : Nesting) (empty : SelectorError) (tokens : List Token) (cause : SelectorError) → FailsUnlessMemory cause (giving (option_map judged_compound) (type_part nesting tokens)) → FailsUnlessMemory cause (giving judged_compound (compound inner nesting empty tokens))
+compound-fails inner nesting empty tokens cause h =
+    fails-along cause (giving (option_map judged_compound) (type_part nesting tokens)) (giving judged_compound (compound inner nesting empty tokens)) (λ e. compound_err inner nesting empty tokens cause (giving-err (option_map judged_compound) (type_part nesting tokens) cause e)) h
 
 -- ---- items
 
-further_fused : (room : ℕ) (inner : List Token → Read Items) (place : Place) (inside : Bool) (front : Item) (tokens : List Token) → giving (judged_item inside) (further room inner place front tokens) ≡ judged_further room inner place inside (judged_item inside front) tokens
+further_fused : (room : ℕ) (inner : List Token → Read Items) (nesting : Nesting) (inside : Bool) (front : Item) (tokens : List Token) → giving (judged_item inside) (further room inner nesting front tokens) ≡ judged_further room inner nesting inside (judged_item inside front) tokens
 unfolding further judged_further judged_item
-further_fused zero inner place inside front tokens =
-    giving-then (judged_item inside) (next_step place tokens) (λ found. elim found.0 [ None ↦ Ok (front, found.1) | Some step ↦ Err errors.UnsupportedSyntax ])
-    ∙ then-same (next_step place tokens) _ _ (λ found rest e. giving-option (judged_item inside) found (Ok (front, rest)) (λ step. Err errors.UnsupportedSyntax))
-further_fused (suc room) inner place inside front tokens =
-    giving-then (judged_item inside) (next_step place tokens) (λ found. elim found.0 [ None ↦ Ok (front, found.1) | Some step ↦ compound inner place errors.DanglingCombinator found.1 >>= λ next. further room inner place (Then front step next.0) next.1 ])
-    ∙ then-same (next_step place tokens) _ _ (λ found rest e.
-    giving-option (judged_item inside) found (Ok (front, rest)) (λ step. compound inner place errors.DanglingCombinator rest >>= λ next. further room inner place (Then front step next.0) next.1)
+further_fused zero inner nesting inside front tokens =
+    giving-then (judged_item inside) (next_step nesting tokens) (λ found. elim found.0 [ None ↦ Ok (front, found.1) | Some step ↦ Err errors.UnsupportedSyntax ])
+    ∙ then-same (next_step nesting tokens) _ _ (λ found rest e. giving-option (judged_item inside) found (Ok (front, rest)) (λ step. Err errors.UnsupportedSyntax))
+further_fused (suc room) inner nesting inside front tokens =
+    giving-then (judged_item inside) (next_step nesting tokens) (λ found. elim found.0 [ None ↦ Ok (front, found.1) | Some step ↦ compound inner nesting errors.DanglingCombinator found.1 >>= λ next. further room inner nesting (Then front step next.0) next.1 ])
+    ∙ then-same (next_step nesting tokens) _ _ (λ found rest e.
+    giving-option (judged_item inside) found (Ok (front, rest)) (λ step. compound inner nesting errors.DanglingCombinator rest >>= λ next. further room inner nesting (Then front step next.0) next.1)
     ∙ option_same found _ _ _ _ (λ h. refl)
     (λ step h.
-    giving-then (judged_item inside) (compound inner place errors.DanglingCombinator rest) (λ next. further room inner place (Then front step next.0) next.1)
-    ∙ then-same (compound inner place errors.DanglingCombinator rest) _ _ (λ next rest2 e2. further_fused room inner place inside (Then front step next) rest2)))
+    giving-then (judged_item inside) (compound inner nesting errors.DanglingCombinator rest) (λ next. further room inner nesting (Then front step next.0) next.1)
+    ∙ then-same (compound inner nesting errors.DanglingCombinator rest) _ _ (λ next rest2 e2. further_fused room inner nesting inside (Then front step next) rest2)))
 
-item_starts_of : (inner : List Token → Read Items) (place : Place) (inside : Bool) (tokens : List Token) (draft : Compound) (first : Judged trees.Compound) (rest : List Token) → compound inner place errors.EmptySelector (skip_space tokens) ≡ Ok (draft, rest) → judged_compound draft ≡ first → giving (judged_item inside) (item inner place tokens) ≡ judged_further 1023 inner place inside (alone first) rest
+item_starts_of : (inner : List Token → Read Items) (nesting : Nesting) (inside : Bool) (tokens : List Token) (draft : Compound) (first : Judged trees.Compound) (rest : List Token) → compound inner nesting errors.EmptySelector (skip_space tokens) ≡ Ok (draft, rest) → judged_compound draft ≡ first → giving (judged_item inside) (item inner nesting tokens) ≡ judged_further 1023 inner nesting inside (alone first) rest
 unfolding item judged_item
-item_starts_of inner place inside tokens draft first rest e g =
-    rw e (further_fused 1023 inner place inside (First draft) rest ∙ ap (λ (j : Judged trees.Compound). judged_further 1023 inner place inside (alone j) rest) g)
+item_starts_of inner nesting inside tokens draft first rest e g =
+    rw e (further_fused 1023 inner nesting inside (First draft) rest ∙ ap (λ (j : Judged trees.Compound). judged_further 1023 inner nesting inside (alone j) rest) g)
 
 -- behind its first compound
-pub item-starts : (inner : List Token → Read Items) (place : Place) (inside : Bool) (tokens : List Token) (first : Judged trees.Compound) (rest : List Token) → giving judged_compound (compound inner place errors.EmptySelector (skip_space tokens)) ≡ Ok (first, rest) → giving (judged_item inside) (item inner place tokens) ≡ judged_further 1023 inner place inside (alone first) rest
-item-starts inner place inside tokens first rest e =
-    let f = giving-ok judged_compound (compound inner place errors.EmptySelector (skip_space tokens)) first rest e in
-    item_starts_of inner place inside tokens f.x first rest f.is f.gives
+pub item-starts : (inner : List Token → Read Items) (nesting : Nesting) (inside : Bool) (tokens : List Token) (first : Judged trees.Compound) (rest : List Token) → giving judged_compound (compound inner nesting errors.EmptySelector (skip_space tokens)) ≡ Ok (first, rest) → giving (judged_item inside) (item inner nesting tokens) ≡ judged_further 1023 inner nesting inside (alone first) rest
+item-starts inner nesting inside tokens first rest e =
+    let f = giving-ok judged_compound (compound inner nesting errors.EmptySelector (skip_space tokens)) first rest e in
+    item_starts_of inner nesting inside tokens f.x first rest f.is f.gives
 
-item_err : (inner : List Token → Read Items) (place : Place) (inside : Bool) (tokens : List Token) (cause : SelectorError) → compound inner place errors.EmptySelector (skip_space tokens) ≡ Err cause → giving (judged_item inside) (item inner place tokens) ≡ Err cause
+item_err : (inner : List Token → Read Items) (nesting : Nesting) (inside : Bool) (tokens : List Token) (cause : SelectorError) → compound inner nesting errors.EmptySelector (skip_space tokens) ≡ Err cause → giving (judged_item inside) (item inner nesting tokens) ≡ Err cause
 unfolding item
-item_err inner place inside tokens cause e = rw e refl
+item_err inner nesting inside tokens cause e = rw e refl
 
-pub item-fails : (inner : List Token → Read Items) (place : Place) (inside : Bool) (tokens : List Token) (cause : SelectorError) → FailsUnlessMemory cause (giving judged_compound (compound inner place errors.EmptySelector (skip_space tokens))) → FailsUnlessMemory cause (giving (judged_item inside) (item inner place tokens))
-item-fails inner place inside tokens cause h =
-    fails-along cause (giving judged_compound (compound inner place errors.EmptySelector (skip_space tokens))) (giving (judged_item inside) (item inner place tokens)) (λ e. item_err inner place inside tokens cause (giving-err judged_compound (compound inner place errors.EmptySelector (skip_space tokens)) cause e)) h
+pub item-fails : (inner : List Token → Read Items) (nesting : Nesting) (inside : Bool) (tokens : List Token) (cause : SelectorError) → FailsUnlessMemory cause (giving judged_compound (compound inner nesting errors.EmptySelector (skip_space tokens))) → FailsUnlessMemory cause (giving (judged_item inside) (item inner nesting tokens))
+item-fails inner nesting inside tokens cause h =
+    fails-along cause (giving judged_compound (compound inner nesting errors.EmptySelector (skip_space tokens))) (giving (judged_item inside) (item inner nesting tokens)) (λ e. item_err inner nesting inside tokens cause (giving-err judged_compound (compound inner nesting errors.EmptySelector (skip_space tokens)) cause e)) h
 
 no_step : (inside : Bool) (o : Option Step) → option_map (judged_step inside) o ≡ None → o ≡ None
 no_step inside None e = refl
 no_step inside (Some x) e = absurd cc
 
-further_stop_of : (room : ℕ) (inner : List Token → Read Items) (place : Place) (inside : Bool) (front : Judged trees.Item) (tokens rest : List Token) → next_step place tokens ≡ Ok (None, rest) → judged_further room inner place inside front tokens ≡ Ok (front, rest)
+further_stop_of : (room : ℕ) (inner : List Token → Read Items) (nesting : Nesting) (inside : Bool) (front : Judged trees.Item) (tokens rest : List Token) → next_step nesting tokens ≡ Ok (None, rest) → judged_further room inner nesting inside front tokens ≡ Ok (front, rest)
 unfolding judged_further
-further_stop_of zero inner place inside front tokens rest e = rw e refl
-further_stop_of (suc room) inner place inside front tokens rest e = rw e refl
+further_stop_of zero inner nesting inside front tokens rest e = rw e refl
+further_stop_of (suc room) inner nesting inside front tokens rest e = rw e refl
 
 -- no further step
-pub further-stops : (room : ℕ) (inner : List Token → Read Items) (place : Place) (inside : Bool) (front : Judged trees.Item) (tokens rest : List Token) → giving (option_map (judged_step inside)) (next_step place tokens) ≡ Ok (None, rest) → judged_further room inner place inside front tokens ≡ Ok (front, rest)
-further-stops room inner place inside front tokens rest e =
-    let f = giving-ok (option_map (judged_step inside)) (next_step place tokens) None rest e in
-    further_stop_of room inner place inside front tokens rest (f.is ∙ ap (λ (o : Option Step). Ok (o, rest)) (no_step inside f.x f.gives))
+pub further-stops : (room : ℕ) (inner : List Token → Read Items) (nesting : Nesting) (inside : Bool) (front : Judged trees.Item) (tokens rest : List Token) → giving (option_map (judged_step inside)) (next_step nesting tokens) ≡ Ok (None, rest) → judged_further room inner nesting inside front tokens ≡ Ok (front, rest)
+further-stops room inner nesting inside front tokens rest e =
+    let f = giving-ok (option_map (judged_step inside)) (next_step nesting tokens) None rest e in
+    further_stop_of room inner nesting inside front tokens rest (f.is ∙ ap (λ (o : Option Step). Ok (o, rest)) (no_step inside f.x f.gives))
 
-further_err : (room : ℕ) (inner : List Token → Read Items) (place : Place) (inside : Bool) (front : Judged trees.Item) (tokens : List Token) (cause : SelectorError) → next_step place tokens ≡ Err cause → judged_further room inner place inside front tokens ≡ Err cause
+further_err : (room : ℕ) (inner : List Token → Read Items) (nesting : Nesting) (inside : Bool) (front : Judged trees.Item) (tokens : List Token) (cause : SelectorError) → next_step nesting tokens ≡ Err cause → judged_further room inner nesting inside front tokens ≡ Err cause
 unfolding judged_further
-further_err zero inner place inside front tokens cause e = rw e refl
-further_err (suc room) inner place inside front tokens cause e = rw e refl
+further_err zero inner nesting inside front tokens cause e = rw e refl
+further_err (suc room) inner nesting inside front tokens cause e = rw e refl
 
-pub further-fails : (room : ℕ) (inner : List Token → Read Items) (place : Place) (inside : Bool) (front : Judged trees.Item) (tokens : List Token) (cause : SelectorError) → giving (option_map (judged_step inside)) (next_step place tokens) ≡ Err cause → judged_further room inner place inside front tokens ≡ Err cause
-further-fails room inner place inside front tokens cause e = further_err room inner place inside front tokens cause (giving-err (option_map (judged_step inside)) (next_step place tokens) cause e)
+pub further-fails : (room : ℕ) (inner : List Token → Read Items) (nesting : Nesting) (inside : Bool) (front : Judged trees.Item) (tokens : List Token) (cause : SelectorError) → giving (option_map (judged_step inside)) (next_step nesting tokens) ≡ Err cause → judged_further room inner nesting inside front tokens ≡ Err cause
+further-fails room inner nesting inside front tokens cause e = further_err room inner nesting inside front tokens cause (giving-err (option_map (judged_step inside)) (next_step nesting tokens) cause e)
 
 -- a step was read
-pub record StepRead (place : Place) (inside : Bool) (tokens : List Token) (step : Judged Combinator) (rest : List Token) : Type 0 where
+pub record StepRead (nesting : Nesting) (inside : Bool) (tokens : List Token) (step : Judged Combinator) (rest : List Token) : Type 0 where
   pub draft : Step
-  pub is : next_step place tokens ≡ Ok (Some draft, rest)
+  pub is : next_step nesting tokens ≡ Ok (Some draft, rest)
   pub gives : judged_step inside draft ≡ step
 
-step_read_of : (o : Option Step) (place : Place) (inside : Bool) (tokens : List Token) (step : Judged Combinator) (rest : List Token) → next_step place tokens ≡ Ok (o, rest) → option_map (judged_step inside) o ≡ Some step → StepRead place inside tokens step rest
-step_read_of None place inside tokens step rest e g = absurd cc
-step_read_of (Some draft) place inside tokens step rest e g = record { draft = draft; is = e; gives = cc }
+step_read_of : (o : Option Step) (nesting : Nesting) (inside : Bool) (tokens : List Token) (step : Judged Combinator) (rest : List Token) → next_step nesting tokens ≡ Ok (o, rest) → option_map (judged_step inside) o ≡ Some step → StepRead nesting inside tokens step rest
+step_read_of None nesting inside tokens step rest e g = absurd cc
+step_read_of (Some draft) nesting inside tokens step rest e g = record { draft = draft; is = e; gives = cc }
 
-pub step-read : (place : Place) (inside : Bool) (tokens : List Token) (step : Judged Combinator) (rest : List Token) → giving (option_map (judged_step inside)) (next_step place tokens) ≡ Ok (Some step, rest) → StepRead place inside tokens step rest
-step-read place inside tokens step rest e =
-    let f = giving-ok (option_map (judged_step inside)) (next_step place tokens) (Some step) rest e in
-    step_read_of f.x place inside tokens step rest f.is f.gives
+pub step-read : (nesting : Nesting) (inside : Bool) (tokens : List Token) (step : Judged Combinator) (rest : List Token) → giving (option_map (judged_step inside)) (next_step nesting tokens) ≡ Ok (Some step, rest) → StepRead nesting inside tokens step rest
+step-read nesting inside tokens step rest e =
+    let f = giving-ok (option_map (judged_step inside)) (next_step nesting tokens) (Some step) rest e in
+    step_read_of f.x nesting inside tokens step rest f.is f.gives
 
 -- a step too many
-pub further-full : (inner : List Token → Read Items) (place : Place) (inside : Bool) (front : Judged trees.Item) (tokens : List Token) (step : Judged Combinator) (rest : List Token) → StepRead place inside tokens step rest → judged_further 0 inner place inside front tokens ≡ Err errors.UnsupportedSyntax
+pub further-full : (inner : List Token → Read Items) (nesting : Nesting) (inside : Bool) (front : Judged trees.Item) (tokens : List Token) (step : Judged Combinator) (rest : List Token) → StepRead nesting inside tokens step rest → judged_further 0 inner nesting inside front tokens ≡ Err errors.UnsupportedSyntax
 unfolding judged_further
-further-full inner place inside front tokens step rest s = rw s.is refl
+further-full inner nesting inside front tokens step rest s = rw s.is refl
 
-further_goes_on_of : (room : ℕ) (inner : List Token → Read Items) (place : Place) (inside : Bool) (front : Judged trees.Item) (tokens : List Token) (step : Judged Combinator) (rest : List Token) → StepRead place inside tokens step rest → (draft : Compound) (next : Judged trees.Compound) (rest2 : List Token) → compound inner place errors.DanglingCombinator rest ≡ Ok (draft, rest2) → judged_compound draft ≡ next → judged_further (suc room) inner place inside front tokens ≡ judged_further room inner place inside (with_compound front step next) rest2
+further_goes_on_of : (room : ℕ) (inner : List Token → Read Items) (nesting : Nesting) (inside : Bool) (front : Judged trees.Item) (tokens : List Token) (step : Judged Combinator) (rest : List Token) → StepRead nesting inside tokens step rest → (draft : Compound) (next : Judged trees.Compound) (rest2 : List Token) → compound inner nesting errors.DanglingCombinator rest ≡ Ok (draft, rest2) → judged_compound draft ≡ next → judged_further (suc room) inner nesting inside front tokens ≡ judged_further room inner nesting inside (with_compound front step next) rest2
 unfolding judged_further
-further_goes_on_of room inner place inside front tokens step rest s draft next rest2 e g =
-    rw (s.is, e) (ap (λ (c : Judged Combinator). judged_further room inner place inside (with_compound front c (judged_compound draft)) rest2) s.gives ∙ ap (λ (j : Judged trees.Compound). judged_further room inner place inside (with_compound front step j) rest2) g)
+further_goes_on_of room inner nesting inside front tokens step rest s draft next rest2 e g =
+    rw (s.is, e) (ap (λ (c : Judged Combinator). judged_further room inner nesting inside (with_compound front c (judged_compound draft)) rest2) s.gives ∙ ap (λ (j : Judged trees.Compound). judged_further room inner nesting inside (with_compound front step j) rest2) g)
 
-pub further-goes_on : (room : ℕ) (inner : List Token → Read Items) (place : Place) (inside : Bool) (front : Judged trees.Item) (tokens : List Token) (step : Judged Combinator) (rest : List Token) → StepRead place inside tokens step rest → (next : Judged trees.Compound) (rest2 : List Token) → giving judged_compound (compound inner place errors.DanglingCombinator rest) ≡ Ok (next, rest2) → ¬ (room ≡ 0) → judged_further room inner place inside front tokens ≡ judged_further (room - 1) inner place inside (with_compound front step next) rest2
-further-goes_on zero inner place inside front tokens step rest s next rest2 e h = absurd (h refl)
-further-goes_on (suc room) inner place inside front tokens step rest s next rest2 e h =
-    let f = giving-ok judged_compound (compound inner place errors.DanglingCombinator rest) next rest2 e in
+pub further-goes_on : (room : ℕ) (inner : List Token → Read Items) (nesting : Nesting) (inside : Bool) (front : Judged trees.Item) (tokens : List Token) (step : Judged Combinator) (rest : List Token) → StepRead nesting inside tokens step rest → (next : Judged trees.Compound) (rest2 : List Token) → giving judged_compound (compound inner nesting errors.DanglingCombinator rest) ≡ Ok (next, rest2) → ¬ (room ≡ 0) → judged_further room inner nesting inside front tokens ≡ judged_further (room - 1) inner nesting inside (with_compound front step next) rest2
+further-goes_on zero inner nesting inside front tokens step rest s next rest2 e h = absurd (h refl)
+further-goes_on (suc room) inner nesting inside front tokens step rest s next rest2 e h =
+    let f = giving-ok judged_compound (compound inner nesting errors.DanglingCombinator rest) next rest2 e in
     let less : suc room - 1 ≡ room = omega arith in
-    rw less (further_goes_on_of room inner place inside front tokens step rest s f.x next rest2 f.is f.gives)
+    rw less (further_goes_on_of room inner nesting inside front tokens step rest s f.x next rest2 f.is f.gives)
 
-further_compound_err : (room : ℕ) (inner : List Token → Read Items) (place : Place) (inside : Bool) (front : Judged trees.Item) (tokens : List Token) (step : Judged Combinator) (rest : List Token) → StepRead place inside tokens step rest → (cause : SelectorError) → compound inner place errors.DanglingCombinator rest ≡ Err cause → judged_further (suc room) inner place inside front tokens ≡ Err cause
+further_compound_err : (room : ℕ) (inner : List Token → Read Items) (nesting : Nesting) (inside : Bool) (front : Judged trees.Item) (tokens : List Token) (step : Judged Combinator) (rest : List Token) → StepRead nesting inside tokens step rest → (cause : SelectorError) → compound inner nesting errors.DanglingCombinator rest ≡ Err cause → judged_further (suc room) inner nesting inside front tokens ≡ Err cause
 unfolding judged_further
-further_compound_err room inner place inside front tokens step rest s cause e = rw (s.is, e) refl
+further_compound_err room inner nesting inside front tokens step rest s cause e = rw (s.is, e) refl
 
-pub further-compound-fails : (room : ℕ) (inner : List Token → Read Items) (place : Place) (inside : Bool) (front : Judged trees.Item) (tokens : List Token) (step : Judged Combinator) (rest : List Token) → StepRead place inside tokens step rest → (cause : SelectorError) → ¬ (room ≡ 0) → FailsUnlessMemory cause (giving judged_compound (compound inner place errors.DanglingCombinator rest)) → FailsUnlessMemory cause (judged_further room inner place inside front tokens)
-further-compound-fails zero inner place inside front tokens step rest s cause n h = absurd (n refl)
-further-compound-fails (suc room) inner place inside front tokens step rest s cause n h =
-    fails-along cause (giving judged_compound (compound inner place errors.DanglingCombinator rest)) (judged_further (suc room) inner place inside front tokens) (λ e. further_compound_err room inner place inside front tokens step rest s cause (giving-err judged_compound (compound inner place errors.DanglingCombinator rest) cause e)) h
+pub further-compound-fails : (room : ℕ) (inner : List Token → Read Items) (nesting : Nesting) (inside : Bool) (front : Judged trees.Item) (tokens : List Token) (step : Judged Combinator) (rest : List Token) → StepRead nesting inside tokens step rest → (cause : SelectorError) → ¬ (room ≡ 0) → FailsUnlessMemory cause (giving judged_compound (compound inner nesting errors.DanglingCombinator rest)) → FailsUnlessMemory cause (judged_further room inner nesting inside front tokens)
+further-compound-fails zero inner nesting inside front tokens step rest s cause n h = absurd (n refl)
+further-compound-fails (suc room) inner nesting inside front tokens step rest s cause n h =
+    fails-along cause (giving judged_compound (compound inner nesting errors.DanglingCombinator rest)) (judged_further (suc room) inner nesting inside front tokens) (λ e. further_compound_err room inner nesting inside front tokens step rest s cause (giving-err judged_compound (compound inner nesting errors.DanglingCombinator rest) cause e)) h
 
 -- ---- lists
 
@@ -327,88 +327,88 @@ items_fused_of : (b : Bool) (inside : Bool) (items : Items) (rest : List Token) 
 items_fused_of true inside items rest read total e = refl
 items_fused_of false inside items rest read total e = e
 
-items_fused : (n : ℕ) (inner : List Token → Read Items) (place : Place) (inside : Bool) (items : Items) (tokens : List Token) → giving (judged inside) (items_at_most n inner place items tokens) ≡ judged_items_at_most n inner place inside (judged inside items) tokens
+items_fused : (n : ℕ) (inner : List Token → Read Items) (nesting : Nesting) (inside : Bool) (items : Items) (tokens : List Token) → giving (judged inside) (items_at_most n inner nesting items tokens) ≡ judged_items_at_most n inner nesting inside (judged inside items) tokens
 unfolding items_at_most judged_items_at_most judged
-items_fused zero inner place inside items tokens = refl
-items_fused (suc n) inner place inside items tokens =
-    items_fused_of (at_end place tokens) inside items (drop 1 tokens) (item inner place (drop 1 tokens) >>= λ x. items_at_most n inner place (And items x.0) x.1) (item inner place (drop 1 tokens) >>= λ x. judged_items_at_most n inner place inside (with_item (judged inside items) (judged_item inside x.0)) x.1)
-    (giving-then (judged inside) (item inner place (drop 1 tokens)) (λ x. items_at_most n inner place (And items x.0) x.1) ∙ then-same (item inner place (drop 1 tokens)) _ _ (λ x rest e. items_fused n inner place inside (And items x) rest))
+items_fused zero inner nesting inside items tokens = refl
+items_fused (suc n) inner nesting inside items tokens =
+    items_fused_of (at_end nesting tokens) inside items (drop 1 tokens) (item inner nesting (drop 1 tokens) >>= λ x. items_at_most n inner nesting (And items x.0) x.1) (item inner nesting (drop 1 tokens) >>= λ x. judged_items_at_most n inner nesting inside (with_item (judged inside items) (judged_item inside x.0)) x.1)
+    (giving-then (judged inside) (item inner nesting (drop 1 tokens)) (λ x. items_at_most n inner nesting (And items x.0) x.1) ∙ then-same (item inner nesting (drop 1 tokens)) _ _ (λ x rest e. items_fused n inner nesting inside (And items x) rest))
 
-list_starts_of : (inner : List Token → Read Items) (place : Place) (inside : Bool) (tokens : List Token) (draft : Item) (first : Judged trees.Item) (rest : List Token) → item inner place tokens ≡ Ok (draft, rest) → judged_item inside draft ≡ first → giving (judged inside) (list inner place tokens) ≡ judged_items_at_most (length rest + 1) inner place inside (with_item (Ok trees.NoItems) first) rest
+list_starts_of : (inner : List Token → Read Items) (nesting : Nesting) (inside : Bool) (tokens : List Token) (draft : Item) (first : Judged trees.Item) (rest : List Token) → item inner nesting tokens ≡ Ok (draft, rest) → judged_item inside draft ≡ first → giving (judged inside) (list inner nesting tokens) ≡ judged_items_at_most (length rest + 1) inner nesting inside (with_item (Ok trees.NoItems) first) rest
 unfolding list judged
-list_starts_of inner place inside tokens draft first rest e g =
-    rw e (items_fused (length rest + 1) inner place inside (And NoItems draft) rest ∙ ap (λ (j : Judged trees.Item). judged_items_at_most (length rest + 1) inner place inside (with_item (Ok trees.NoItems) j) rest) g)
+list_starts_of inner nesting inside tokens draft first rest e g =
+    rw e (items_fused (length rest + 1) inner nesting inside (And NoItems draft) rest ∙ ap (λ (j : Judged trees.Item). judged_items_at_most (length rest + 1) inner nesting inside (with_item (Ok trees.NoItems) j) rest) g)
 
 -- behind its first item
-pub list-starts : (inner : List Token → Read Items) (place : Place) (inside : Bool) (tokens : List Token) (first : Judged trees.Item) (rest : List Token) → giving (judged_item inside) (item inner place tokens) ≡ Ok (first, rest) → giving (judged inside) (list inner place tokens) ≡ judged_items_at_most (length rest + 1) inner place inside (with_item (Ok trees.NoItems) first) rest
-list-starts inner place inside tokens first rest e =
-    let f = giving-ok (judged_item inside) (item inner place tokens) first rest e in
-    list_starts_of inner place inside tokens f.x first rest f.is f.gives
+pub list-starts : (inner : List Token → Read Items) (nesting : Nesting) (inside : Bool) (tokens : List Token) (first : Judged trees.Item) (rest : List Token) → giving (judged_item inside) (item inner nesting tokens) ≡ Ok (first, rest) → giving (judged inside) (list inner nesting tokens) ≡ judged_items_at_most (length rest + 1) inner nesting inside (with_item (Ok trees.NoItems) first) rest
+list-starts inner nesting inside tokens first rest e =
+    let f = giving-ok (judged_item inside) (item inner nesting tokens) first rest e in
+    list_starts_of inner nesting inside tokens f.x first rest f.is f.gives
 
-list_err : (inner : List Token → Read Items) (place : Place) (inside : Bool) (tokens : List Token) (cause : SelectorError) → item inner place tokens ≡ Err cause → giving (judged inside) (list inner place tokens) ≡ Err cause
+list_err : (inner : List Token → Read Items) (nesting : Nesting) (inside : Bool) (tokens : List Token) (cause : SelectorError) → item inner nesting tokens ≡ Err cause → giving (judged inside) (list inner nesting tokens) ≡ Err cause
 unfolding list
-list_err inner place inside tokens cause e = rw e refl
+list_err inner nesting inside tokens cause e = rw e refl
 
-pub list-fails : (inner : List Token → Read Items) (place : Place) (inside : Bool) (tokens : List Token) (cause : SelectorError) → FailsUnlessMemory cause (giving (judged_item inside) (item inner place tokens)) → FailsUnlessMemory cause (giving (judged inside) (list inner place tokens))
-list-fails inner place inside tokens cause h =
-    fails-along cause (giving (judged_item inside) (item inner place tokens)) (giving (judged inside) (list inner place tokens)) (λ e. list_err inner place inside tokens cause (giving-err (judged_item inside) (item inner place tokens) cause e)) h
+pub list-fails : (inner : List Token → Read Items) (nesting : Nesting) (inside : Bool) (tokens : List Token) (cause : SelectorError) → FailsUnlessMemory cause (giving (judged_item inside) (item inner nesting tokens)) → FailsUnlessMemory cause (giving (judged inside) (list inner nesting tokens))
+list-fails inner nesting inside tokens cause h =
+    fails-along cause (giving (judged_item inside) (item inner nesting tokens)) (giving (judged inside) (list inner nesting tokens)) (λ e. list_err inner nesting inside tokens cause (giving-err (judged_item inside) (item inner nesting tokens) cause e)) h
 
 -- more rounds than tokens change nothing
 items_enough_of : (b : Bool) (items : Judged trees.Items) (rest : List Token) (l r : Read (Judged trees.Items)) → (b ≡ false → l ≡ r) → cond {A = Read (Judged trees.Items)} b (Ok (items, rest)) l ≡ cond b (Ok (items, rest)) r
 items_enough_of true items rest l r h = refl
 items_enough_of false items rest l r h = h refl
 
-not_at_end : (place : Place) (tokens : List Token) → at_end place tokens ≡ false → 0 < length tokens
-not_at_end place [] e = absurd cc
-not_at_end place (token ∷ tokens) e = omega arith
+not_at_end : (nesting : Nesting) (tokens : List Token) → at_end nesting tokens ≡ false → 0 < length tokens
+not_at_end nesting [] e = absurd cc
+not_at_end nesting (token ∷ tokens) e = omega arith
 
-items_enough : (m n : ℕ) (inner : List Token → Read Items) → InnerLeaves inner → (place : Place) (inside : Bool) (items : Judged trees.Items) (tokens : List Token) → length tokens < m → length tokens < n → judged_items_at_most m inner place inside items tokens ≡ judged_items_at_most n inner place inside items tokens
+items_enough : (m n : ℕ) (inner : List Token → Read Items) → InnerLeaves inner → (nesting : Nesting) (inside : Bool) (items : Judged trees.Items) (tokens : List Token) → length tokens < m → length tokens < n → judged_items_at_most m inner nesting inside items tokens ≡ judged_items_at_most n inner nesting inside items tokens
 unfolding judged_items_at_most
-items_enough zero n inner h place inside items tokens a b = absurd (omega arith)
-items_enough (suc m) zero inner h place inside items tokens a b = absurd (omega arith)
-items_enough (suc m) (suc n) inner h place inside items tokens a b =
-    items_enough_of (at_end place tokens) items (drop 1 tokens) _ _ (λ e.
-    then-same (item inner place (drop 1 tokens)) _ _ (λ x rest is.
-    let l = (item-leaves inner h place (drop 1 tokens)).left x rest is in
-    items_enough m n inner h place inside (with_item items (judged_item inside x)) rest (omega (arith, l, length-drop 1 tokens, not_at_end place tokens e)) (omega (arith, l, length-drop 1 tokens, not_at_end place tokens e))))
+items_enough zero n inner h nesting inside items tokens a b = absurd (omega arith)
+items_enough (suc m) zero inner h nesting inside items tokens a b = absurd (omega arith)
+items_enough (suc m) (suc n) inner h nesting inside items tokens a b =
+    items_enough_of (at_end nesting tokens) items (drop 1 tokens) _ _ (λ e.
+    then-same (item inner nesting (drop 1 tokens)) _ _ (λ x rest is.
+    let l = (item-leaves inner h nesting (drop 1 tokens)).left x rest is in
+    items_enough m n inner h nesting inside (with_item items (judged_item inside x)) rest (omega (arith, l, length-drop 1 tokens, not_at_end nesting tokens e)) (omega (arith, l, length-drop 1 tokens, not_at_end nesting tokens e))))
 
-items_stop_of : (n : ℕ) (inner : List Token → Read Items) (place : Place) (inside : Bool) (items : Judged trees.Items) (tokens : List Token) → at_end place tokens ≡ true → judged_items_at_most (suc n) inner place inside items tokens ≡ Ok (items, drop 1 tokens)
+items_stop_of : (n : ℕ) (inner : List Token → Read Items) (nesting : Nesting) (inside : Bool) (items : Judged trees.Items) (tokens : List Token) → at_end nesting tokens ≡ true → judged_items_at_most (suc n) inner nesting inside items tokens ≡ Ok (items, drop 1 tokens)
 unfolding judged_items_at_most
-items_stop_of n inner place inside items tokens e = rw e refl
+items_stop_of n inner nesting inside items tokens e = rw e refl
 
 -- the end
-pub items-stop : (inner : List Token → Read Items) (place : Place) (inside : Bool) (items : Judged trees.Items) (tokens : List Token) → at_end place tokens ≡ true → judged_items_at_most (length tokens + 1) inner place inside items tokens ≡ Ok (items, drop 1 tokens)
-items-stop inner place inside items tokens e = let n : length tokens + 1 ≡ suc (length tokens) = omega arith in rw n (items_stop_of (length tokens) inner place inside items tokens e)
+pub items-stop : (inner : List Token → Read Items) (nesting : Nesting) (inside : Bool) (items : Judged trees.Items) (tokens : List Token) → at_end nesting tokens ≡ true → judged_items_at_most (length tokens + 1) inner nesting inside items tokens ≡ Ok (items, drop 1 tokens)
+items-stop inner nesting inside items tokens e = let n : length tokens + 1 ≡ suc (length tokens) = omega arith in rw n (items_stop_of (length tokens) inner nesting inside items tokens e)
 
 -- a further item was read
-pub record ItemRead (inner : List Token → Read Items) (place : Place) (inside : Bool) (items : Judged trees.Items) (tokens : List Token) (found : Judged trees.Item) (rest : List Token) : Type 0 where
-  pub same : judged_items_at_most (length tokens + 1) inner place inside items tokens ≡ judged_items_at_most (length rest + 1) inner place inside (with_item items found) rest
+pub record ItemRead (inner : List Token → Read Items) (nesting : Nesting) (inside : Bool) (items : Judged trees.Items) (tokens : List Token) (found : Judged trees.Item) (rest : List Token) : Type 0 where
+  pub same : judged_items_at_most (length tokens + 1) inner nesting inside items tokens ≡ judged_items_at_most (length rest + 1) inner nesting inside (with_item items found) rest
   pub shorter : length rest < length tokens
 
-item_read_of : (n : ℕ) (inner : List Token → Read Items) → InnerLeaves inner → (place : Place) (inside : Bool) (items : Judged trees.Items) (tokens : List Token) (draft : Item) (found : Judged trees.Item) (rest : List Token) → n ≡ length tokens → at_end place tokens ≡ false → item inner place (drop 1 tokens) ≡ Ok (draft, rest) → judged_item inside draft ≡ found → judged_items_at_most (suc n) inner place inside items tokens ≡ judged_items_at_most (length rest + 1) inner place inside (with_item items found) rest
+item_read_of : (n : ℕ) (inner : List Token → Read Items) → InnerLeaves inner → (nesting : Nesting) (inside : Bool) (items : Judged trees.Items) (tokens : List Token) (draft : Item) (found : Judged trees.Item) (rest : List Token) → n ≡ length tokens → at_end nesting tokens ≡ false → item inner nesting (drop 1 tokens) ≡ Ok (draft, rest) → judged_item inside draft ≡ found → judged_items_at_most (suc n) inner nesting inside items tokens ≡ judged_items_at_most (length rest + 1) inner nesting inside (with_item items found) rest
 unfolding judged_items_at_most
-item_read_of n inner h place inside items tokens draft found rest l e is g =
-    let left = (item-leaves inner h place (drop 1 tokens)).left draft rest is in
-    rw (e, is) (items_enough n (length rest + 1) inner h place inside (with_item items (judged_item inside draft)) rest (omega (arith, left, length-drop 1 tokens, not_at_end place tokens e)) (omega arith) ∙ ap (λ (j : Judged trees.Item). judged_items_at_most (length rest + 1) inner place inside (with_item items j) rest) g)
+item_read_of n inner h nesting inside items tokens draft found rest l e is g =
+    let left = (item-leaves inner h nesting (drop 1 tokens)).left draft rest is in
+    rw (e, is) (items_enough n (length rest + 1) inner h nesting inside (with_item items (judged_item inside draft)) rest (omega (arith, left, length-drop 1 tokens, not_at_end nesting tokens e)) (omega arith) ∙ ap (λ (j : Judged trees.Item). judged_items_at_most (length rest + 1) inner nesting inside (with_item items j) rest) g)
 
-pub item-read : (inner : List Token → Read Items) → InnerLeaves inner → (place : Place) (inside : Bool) (items : Judged trees.Items) (tokens : List Token) (found : Judged trees.Item) (rest : List Token) → at_end place tokens ≡ false → giving (judged_item inside) (item inner place (drop 1 tokens)) ≡ Ok (found, rest) → ItemRead inner place inside items tokens found rest
-item-read inner h place inside items tokens found rest e g =
-    let f = giving-ok (judged_item inside) (item inner place (drop 1 tokens)) found rest g in
-    let left = (item-leaves inner h place (drop 1 tokens)).left f.x rest f.is in
+pub item-read : (inner : List Token → Read Items) → InnerLeaves inner → (nesting : Nesting) (inside : Bool) (items : Judged trees.Items) (tokens : List Token) (found : Judged trees.Item) (rest : List Token) → at_end nesting tokens ≡ false → giving (judged_item inside) (item inner nesting (drop 1 tokens)) ≡ Ok (found, rest) → ItemRead inner nesting inside items tokens found rest
+item-read inner h nesting inside items tokens found rest e g =
+    let f = giving-ok (judged_item inside) (item inner nesting (drop 1 tokens)) found rest g in
+    let left = (item-leaves inner h nesting (drop 1 tokens)).left f.x rest f.is in
     let n : length tokens + 1 ≡ suc (length tokens) = omega arith in
     record {
-      same = rw n (item_read_of (length tokens) inner h place inside items tokens f.x found rest refl e f.is f.gives);
-      shorter = omega (arith, left, length-drop 1 tokens, not_at_end place tokens e);
+      same = rw n (item_read_of (length tokens) inner h nesting inside items tokens f.x found rest refl e f.is f.gives);
+      shorter = omega (arith, left, length-drop 1 tokens, not_at_end nesting tokens e);
     }
 
-items_err : (n : ℕ) (inner : List Token → Read Items) (place : Place) (inside : Bool) (items : Judged trees.Items) (tokens : List Token) (cause : SelectorError) → at_end place tokens ≡ false → item inner place (drop 1 tokens) ≡ Err cause → judged_items_at_most (suc n) inner place inside items tokens ≡ Err cause
+items_err : (n : ℕ) (inner : List Token → Read Items) (nesting : Nesting) (inside : Bool) (items : Judged trees.Items) (tokens : List Token) (cause : SelectorError) → at_end nesting tokens ≡ false → item inner nesting (drop 1 tokens) ≡ Err cause → judged_items_at_most (suc n) inner nesting inside items tokens ≡ Err cause
 unfolding judged_items_at_most
-items_err n inner place inside items tokens cause e is = rw (e, is) refl
+items_err n inner nesting inside items tokens cause e is = rw (e, is) refl
 
-pub items-fail : (inner : List Token → Read Items) (place : Place) (inside : Bool) (items : Judged trees.Items) (tokens : List Token) (cause : SelectorError) → at_end place tokens ≡ false → FailsUnlessMemory cause (giving (judged_item inside) (item inner place (drop 1 tokens))) → FailsUnlessMemory cause (judged_items_at_most (length tokens + 1) inner place inside items tokens)
-items-fail inner place inside items tokens cause e h =
+pub items-fail : (inner : List Token → Read Items) (nesting : Nesting) (inside : Bool) (items : Judged trees.Items) (tokens : List Token) (cause : SelectorError) → at_end nesting tokens ≡ false → FailsUnlessMemory cause (giving (judged_item inside) (item inner nesting (drop 1 tokens))) → FailsUnlessMemory cause (judged_items_at_most (length tokens + 1) inner nesting inside items tokens)
+items-fail inner nesting inside items tokens cause e h =
     let n : length tokens + 1 ≡ suc (length tokens) = omega arith in
-    rw n (fails-along cause (giving (judged_item inside) (item inner place (drop 1 tokens))) (judged_items_at_most (suc (length tokens)) inner place inside items tokens) (λ is. items_err (length tokens) inner place inside items tokens cause e (giving-err (judged_item inside) (item inner place (drop 1 tokens)) cause is)) h)
+    rw n (fails-along cause (giving (judged_item inside) (item inner nesting (drop 1 tokens))) (judged_items_at_most (suc (length tokens)) inner nesting inside items tokens) (λ is. items_err (length tokens) inner nesting inside items tokens cause e (giving-err (judged_item inside) (item inner nesting (drop 1 tokens)) cause is)) h)
 
 -- ---- inside a logical combination
 
@@ -445,18 +445,18 @@ not_empty-refused empty read parts rest e h = rw (e, h) refl
 pub not_empty-kept : (empty : SelectorError) (read : Read (Judged trees.Compound)) (parts : Judged trees.Compound) (rest : List Token) → read ≡ Ok (parts, rest) → is_empty parts ≡ false → not_empty empty read ≡ Ok (parts, rest)
 not_empty-kept empty read parts rest e h = rw (e, h) refl
 
-part_pseudo_err : (inner : List Token → Read Items) (place : Place) (rest : List Token) (cause : SelectorError) → pseudo inner place rest ≡ Err cause → giving (option_map judged_part) (part inner place (Delim (byte ":") ∷ rest)) ≡ Err cause
+part_pseudo_err : (inner : List Token → Read Items) (nesting : Nesting) (rest : List Token) (cause : SelectorError) → pseudo inner nesting rest ≡ Err cause → giving (option_map judged_part) (part inner nesting (Delim (byte ":") ∷ rest)) ≡ Err cause
 unfolding part
-part_pseudo_err inner place rest cause e = rw e refl
+part_pseudo_err inner nesting rest cause e = rw e refl
 
-pub part-pseudo-fails : (inner : List Token → Read Items) (place : Place) (tokens rest : List Token) (cause : SelectorError) → tokens ≡ Delim (byte ":") ∷ rest → FailsUnlessMemory cause (giving judged_part (pseudo inner place rest)) → FailsUnlessMemory cause (giving (option_map judged_part) (part inner place tokens))
-part-pseudo-fails inner place tokens rest cause e h =
-    rw e (fails-along cause (giving judged_part (pseudo inner place rest)) (giving (option_map judged_part) (part inner place (Delim (byte ":") ∷ rest))) (λ is. part_pseudo_err inner place rest cause (giving-err judged_part (pseudo inner place rest) cause is)) h)
+pub part-pseudo-fails : (inner : List Token → Read Items) (nesting : Nesting) (tokens rest : List Token) (cause : SelectorError) → tokens ≡ Delim (byte ":") ∷ rest → FailsUnlessMemory cause (giving judged_part (pseudo inner nesting rest)) → FailsUnlessMemory cause (giving (option_map judged_part) (part inner nesting tokens))
+part-pseudo-fails inner nesting tokens rest cause e h =
+    rw e (fails-along cause (giving judged_part (pseudo inner nesting rest)) (giving (option_map judged_part) (part inner nesting (Delim (byte ":") ∷ rest))) (λ is. part_pseudo_err inner nesting rest cause (giving-err judged_part (pseudo inner nesting rest) cause is)) h)
 
-part_class_err : (inner : List Token → Read Items) (place : Place) (rest : List Token) (cause : SelectorError) → class_name place rest ≡ Err cause → giving (option_map judged_part) (part inner place (Delim (byte ".") ∷ rest)) ≡ Err cause
+part_class_err : (inner : List Token → Read Items) (nesting : Nesting) (rest : List Token) (cause : SelectorError) → class_name nesting rest ≡ Err cause → giving (option_map judged_part) (part inner nesting (Delim (byte ".") ∷ rest)) ≡ Err cause
 unfolding part
-part_class_err inner place rest cause e = rw e refl
+part_class_err inner nesting rest cause e = rw e refl
 
-pub part-class-fails : (inner : List Token → Read Items) (place : Place) (tokens rest : List Token) (cause : SelectorError) → tokens ≡ Delim (byte ".") ∷ rest → FailsUnlessMemory cause (giving (λ part. trees.Plain part) (class_name place rest)) → FailsUnlessMemory cause (giving (option_map judged_part) (part inner place tokens))
-part-class-fails inner place tokens rest cause e h =
-    rw e (fails-along cause (giving (λ part. trees.Plain part) (class_name place rest)) (giving (option_map judged_part) (part inner place (Delim (byte ".") ∷ rest))) (λ is. part_class_err inner place rest cause (giving-err (λ part. trees.Plain part) (class_name place rest) cause is)) h)
+pub part-class-fails : (inner : List Token → Read Items) (nesting : Nesting) (tokens rest : List Token) (cause : SelectorError) → tokens ≡ Delim (byte ".") ∷ rest → FailsUnlessMemory cause (giving (λ part. trees.Plain part) (class_name nesting rest)) → FailsUnlessMemory cause (giving (option_map judged_part) (part inner nesting tokens))
+part-class-fails inner nesting tokens rest cause e h =
+    rw e (fails-along cause (giving (λ part. trees.Plain part) (class_name nesting rest)) (giving (option_map judged_part) (part inner nesting (Delim (byte ".") ∷ rest))) (λ is. part_class_err inner nesting rest cause (giving-err (λ part. trees.Plain part) (class_name nesting rest) cause is)) h)

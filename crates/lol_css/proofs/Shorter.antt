@@ -6,7 +6,7 @@ use Rattle.lol_css.specs.Points.{front, is, decimal}
 use Rattle.lol_css.specs.Tokens.{Token, Numeral, sign_of, Space, Quoted, BadString, Hash, Number, Dimension, Percentage, Cdc, Function, Ident, Match, Delim}
 use Rattle.lol_css.specs.Trees.{Simple, LocalName, AnyName, Id, Class, Exists, Compares, Nth}
 use Rattle.lol_css.specs.Drafts.{By, Part, Plain, LatePseudoClass, LateNamespace, Logical, Compound, Nothing, With, Item, First, Then, Items, NoItems, And}
-use Rattle.lol_css.specs.Rules.{Read, ◌>>=◌, giving, keeping, is_delim, is_space, skip_space, Place, InFunction, InBrackets, closes, at_end, at_stop, wanted, closed, says, lowered, ident_of}
+use Rattle.lol_css.specs.Rules.{Read, ◌>>=◌, giving, keeping, is_delim, is_space, skip_space, Nesting, InFunction, InBrackets, closes, at_end, at_stop, wanted, closed, says, lowered, ident_of}
 use Rattle.lol_css.specs.AnPlusB.{signed, integer_value, unsigned, in_i32, fitting, digits_of_b, behind_n, is_n_and_digits, rest_of, with_step, integer, scaled, an_plus_b_of, an_plus_b}
 use Rattle.lol_css.specs.Reading.{utf8, combination_named, name_behind_bar, bar_of, attribute_name, operator_of, value_of, flag_of, unflagged, case_sensitivity, comparison, attribute, class_name, is_one_of, function_part, ident_part, pseudo, some, part, parts_at_most, more_parts, behind_bar, any_namespace, no_namespace, type_part, is_nothing, compound, step_of, step, next_step, further, item, items_at_most, list, inner_list}
 use Rattle.lol_css.specs.declared.syntax.tokens.Sign.{Sign}
@@ -69,21 +69,21 @@ unfolding skip_space
 skip_space-shorter [] = omega arith
 skip_space-shorter (token ∷ tokens) = skip_space_of (is_space token) token tokens (skip_space-shorter tokens)
 
-wanted-leaves : {A : Type 0} (place : Place) (kind : Token → Option A) (other : SelectorError) (tokens : List Token) → Leaves (wanted place kind other tokens) (length tokens)
+wanted-leaves : {A : Type 0} (nesting : Nesting) (kind : Token → Option A) (other : SelectorError) (tokens : List Token) → Leaves (wanted nesting kind other tokens) (length tokens)
 unfolding wanted
-wanted-leaves place kind other [] = err_leaves errors.UnexpectedEnd 0
-wanted-leaves {A} place kind other (token ∷ tokens) =
-    if_leaves (closes place token) (Err errors.UnexpectedEnd) (elim (kind token) [ None ↦ Err other | Some x ↦ Ok (x, tokens) ]) (length (token ∷ tokens)) (err_leaves errors.UnexpectedEnd (length (token ∷ tokens)))
+wanted-leaves nesting kind other [] = err_leaves errors.UnexpectedEnd 0
+wanted-leaves {A} nesting kind other (token ∷ tokens) =
+    if_leaves (closes nesting token) (Err errors.UnexpectedEnd) (elim (kind token) [ None ↦ Err other | Some x ↦ Ok (x, tokens) ]) (length (token ∷ tokens)) (err_leaves errors.UnexpectedEnd (length (token ∷ tokens)))
     (option_leaves (kind token) (Err other) (λ (x : A). Ok (x, tokens)) (length (token ∷ tokens)) (err_leaves other (length (token ∷ tokens))) (λ x. ok_leaves x tokens (length (token ∷ tokens)) (omega arith)))
 
 -- the same behind white space
-wanted_behind : {A : Type 0} (place : Place) (kind : Token → Option A) (other : SelectorError) (tokens : List Token) → Leaves (wanted place kind other (skip_space tokens)) (length tokens)
-wanted_behind place kind other tokens = weaker (wanted place kind other (skip_space tokens)) (length (skip_space tokens)) (length tokens) (wanted-leaves place kind other (skip_space tokens)) (skip_space-shorter tokens)
+wanted_behind : {A : Type 0} (nesting : Nesting) (kind : Token → Option A) (other : SelectorError) (tokens : List Token) → Leaves (wanted nesting kind other (skip_space tokens)) (length tokens)
+wanted_behind nesting kind other tokens = weaker (wanted nesting kind other (skip_space tokens)) (length (skip_space tokens)) (length tokens) (wanted-leaves nesting kind other (skip_space tokens)) (skip_space-shorter tokens)
 
-closed-leaves : (place : Place) (tokens : List Token) → Leaves (closed place tokens) (length tokens)
+closed-leaves : (nesting : Nesting) (tokens : List Token) → Leaves (closed nesting tokens) (length tokens)
 unfolding closed
-closed-leaves place tokens =
-    if_leaves (at_end place (skip_space tokens)) (Ok (tt, drop 1 (skip_space tokens))) (Err errors.UnexpectedToken) (length tokens)
+closed-leaves nesting tokens =
+    if_leaves (at_end nesting (skip_space tokens)) (Ok (tt, drop 1 (skip_space tokens))) (Err errors.UnexpectedToken) (length tokens)
     (ok_leaves tt (drop 1 (skip_space tokens)) (length tokens) (omega (arith, length-drop 1 (skip_space tokens), skip_space-shorter tokens))) (err_leaves errors.UnexpectedToken (length tokens))
 
 -- ---- An+B
@@ -248,11 +248,11 @@ attribute-leaves tokens =
 
 -- ---- parts
 
-class_name-leaves : (place : Place) (tokens : List Token) → Leaves (class_name place tokens) (length tokens)
+class_name-leaves : (nesting : Nesting) (tokens : List Token) → Leaves (class_name nesting tokens) (length tokens)
 unfolding class_name
-class_name-leaves place tokens =
-    if_leaves (at_stop place tokens) (Err errors.UnexpectedEnd) (giving (λ name. Class (utf8 name)) (wanted place ident_of errors.InvalidClassName tokens)) (length tokens) (err_leaves errors.UnexpectedEnd (length tokens))
-    (giving_leaves (λ name. Class (utf8 name)) (wanted place ident_of errors.InvalidClassName tokens) (length tokens) (wanted-leaves place ident_of errors.InvalidClassName tokens))
+class_name-leaves nesting tokens =
+    if_leaves (at_stop nesting tokens) (Err errors.UnexpectedEnd) (giving (λ name. Class (utf8 name)) (wanted nesting ident_of errors.InvalidClassName tokens)) (length tokens) (err_leaves errors.UnexpectedEnd (length tokens))
+    (giving_leaves (λ name. Class (utf8 name)) (wanted nesting ident_of errors.InvalidClassName tokens) (length tokens) (wanted-leaves nesting ident_of errors.InvalidClassName tokens))
 
 function_part-leaves : (name : List ℕ) (tokens : List Token) → Leaves (function_part name tokens) (length tokens)
 unfolding function_part
@@ -274,36 +274,36 @@ refused_leaves : {A : Type 0} (b : Bool) (n : ℕ) → Leaves {A = A} (cond b (E
 refused_leaves true n = err_leaves errors.UnexpectedEnd n
 refused_leaves false n = err_leaves errors.UnsupportedPseudoClassOrElement n
 
-pseudo_of-leaves : (inner : List Token → Read Items) → InnerLeaves inner → (place : Place) (token : Token) (tokens : List Token) → Leaves (elim token [
+pseudo_of-leaves : (inner : List Token → Read Items) → InnerLeaves inner → (nesting : Nesting) (token : Token) (tokens : List Token) → Leaves (elim token [
   | Ident name ↦ keeping (ident_part name) tokens
   | Function name ↦ elim (combination_named name) [
     | None ↦ function_part name tokens
     | Some combination ↦ giving (Logical combination) (inner tokens)
   ]
-  | Delim c ↦ cond (eqb c (byte ":") && at_stop place tokens) (Err errors.UnexpectedEnd) (Err errors.UnsupportedPseudoClassOrElement)
+  | Delim c ↦ cond (eqb c (byte ":") && at_stop nesting tokens) (Err errors.UnexpectedEnd) (Err errors.UnsupportedPseudoClassOrElement)
   | _ ↦ Err errors.UnsupportedPseudoClassOrElement
 ]) (length (token ∷ tokens))
-pseudo_of-leaves inner h place (Ident name) tokens = keeping_leaves (ident_part name) tokens (length (Ident name ∷ tokens)) (omega arith)
-pseudo_of-leaves inner h place (Function name) tokens =
+pseudo_of-leaves inner h nesting (Ident name) tokens = keeping_leaves (ident_part name) tokens (length (Ident name ∷ tokens)) (omega arith)
+pseudo_of-leaves inner h nesting (Function name) tokens =
     option_leaves (combination_named name) (function_part name tokens) (λ combination. giving (λ items. Logical combination items) (inner tokens)) (length (Function name ∷ tokens))
     (longer (function_part name tokens) (Function name) tokens (function_part-leaves name tokens))
     (λ combination. giving_leaves (λ items. Logical combination items) (inner tokens) (length (Function name ∷ tokens)) (longer (inner tokens) (Function name) tokens (h.each tokens)))
-pseudo_of-leaves inner h place (Delim c) tokens = refused_leaves (eqb c (byte ":") && at_stop place tokens) (length (Delim c ∷ tokens))
-pseudo_of-leaves inner h place Space tokens = err_leaves errors.UnsupportedPseudoClassOrElement (length (Space ∷ tokens))
-pseudo_of-leaves inner h place (Quoted text) tokens = err_leaves errors.UnsupportedPseudoClassOrElement (length (Quoted text ∷ tokens))
-pseudo_of-leaves inner h place BadString tokens = err_leaves errors.UnsupportedPseudoClassOrElement (length (BadString ∷ tokens))
-pseudo_of-leaves inner h place (Hash name is_id) tokens = err_leaves errors.UnsupportedPseudoClassOrElement (length (Hash name is_id ∷ tokens))
-pseudo_of-leaves inner h place (Number n) tokens = err_leaves errors.UnsupportedPseudoClassOrElement (length (Number n ∷ tokens))
-pseudo_of-leaves inner h place (Dimension n unit) tokens = err_leaves errors.UnsupportedPseudoClassOrElement (length (Dimension n unit ∷ tokens))
-pseudo_of-leaves inner h place Percentage tokens = err_leaves errors.UnsupportedPseudoClassOrElement (length (Percentage ∷ tokens))
-pseudo_of-leaves inner h place Cdc tokens = err_leaves errors.UnsupportedPseudoClassOrElement (length (Cdc ∷ tokens))
-pseudo_of-leaves inner h place (Match c) tokens = err_leaves errors.UnsupportedPseudoClassOrElement (length (Match c ∷ tokens))
+pseudo_of-leaves inner h nesting (Delim c) tokens = refused_leaves (eqb c (byte ":") && at_stop nesting tokens) (length (Delim c ∷ tokens))
+pseudo_of-leaves inner h nesting Space tokens = err_leaves errors.UnsupportedPseudoClassOrElement (length (Space ∷ tokens))
+pseudo_of-leaves inner h nesting (Quoted text) tokens = err_leaves errors.UnsupportedPseudoClassOrElement (length (Quoted text ∷ tokens))
+pseudo_of-leaves inner h nesting BadString tokens = err_leaves errors.UnsupportedPseudoClassOrElement (length (BadString ∷ tokens))
+pseudo_of-leaves inner h nesting (Hash name is_id) tokens = err_leaves errors.UnsupportedPseudoClassOrElement (length (Hash name is_id ∷ tokens))
+pseudo_of-leaves inner h nesting (Number n) tokens = err_leaves errors.UnsupportedPseudoClassOrElement (length (Number n ∷ tokens))
+pseudo_of-leaves inner h nesting (Dimension n unit) tokens = err_leaves errors.UnsupportedPseudoClassOrElement (length (Dimension n unit ∷ tokens))
+pseudo_of-leaves inner h nesting Percentage tokens = err_leaves errors.UnsupportedPseudoClassOrElement (length (Percentage ∷ tokens))
+pseudo_of-leaves inner h nesting Cdc tokens = err_leaves errors.UnsupportedPseudoClassOrElement (length (Cdc ∷ tokens))
+pseudo_of-leaves inner h nesting (Match c) tokens = err_leaves errors.UnsupportedPseudoClassOrElement (length (Match c ∷ tokens))
 
-pseudo-leaves : (inner : List Token → Read Items) → InnerLeaves inner → (place : Place) (tokens : List Token) → Leaves (pseudo inner place tokens) (length tokens)
+pseudo-leaves : (inner : List Token → Read Items) → InnerLeaves inner → (nesting : Nesting) (tokens : List Token) → Leaves (pseudo inner nesting tokens) (length tokens)
 unfolding pseudo
-pseudo-leaves inner h place [] = err_leaves errors.UnexpectedEnd 0
-pseudo-leaves inner h place (token ∷ tokens) =
-    if_leaves (at_stop place (token ∷ tokens)) (Err errors.UnexpectedEnd) _ (length (token ∷ tokens)) (err_leaves errors.UnexpectedEnd (length (token ∷ tokens))) (pseudo_of-leaves inner h place token tokens)
+pseudo-leaves inner h nesting [] = err_leaves errors.UnexpectedEnd 0
+pseudo-leaves inner h nesting (token ∷ tokens) =
+    if_leaves (at_stop nesting (token ∷ tokens)) (Err errors.UnexpectedEnd) _ (length (token ∷ tokens)) (err_leaves errors.UnexpectedEnd (length (token ∷ tokens))) (pseudo_of-leaves inner h nesting token tokens)
 
 -- where a part was read, a token was
 pub record Takes (read : Read (Option Part)) (n : ℕ) : Type 0 where
@@ -336,31 +336,31 @@ if_takes : (b : Bool) (l r : Read (Option Part)) (n : ℕ) → Takes l n → Tak
 if_takes true l r n p q = p
 if_takes false l r n p q = q
 
-pub part-takes : (inner : List Token → Read Items) → InnerLeaves inner → (place : Place) (tokens : List Token) → Takes (part inner place tokens) (length tokens)
+pub part-takes : (inner : List Token → Read Items) → InnerLeaves inner → (nesting : Nesting) (tokens : List Token) → Takes (part inner nesting tokens) (length tokens)
 unfolding part
-part-takes inner h place [] = nothing_takes []
-part-takes inner h place (Hash name is_id ∷ tokens) =
+part-takes inner h nesting [] = nothing_takes []
+part-takes inner h nesting (Hash name is_id ∷ tokens) =
     if_takes is_id (Ok (some (Plain (Id (utf8 name))), tokens)) (Ok (None, Hash name is_id ∷ tokens)) (length (Hash name is_id ∷ tokens))
     (some_takes (λ (s : Simple). Plain s) (Ok (Id (utf8 name), tokens)) (Hash name is_id) tokens (same_leaves (Id (utf8 name)) tokens))
     (nothing_takes (Hash name is_id ∷ tokens))
-part-takes inner h place (Delim c ∷ tokens) =
+part-takes inner h nesting (Delim c ∷ tokens) =
     let n = length (Delim c ∷ tokens) in
-    if_takes (eqb c (byte ".")) (giving (λ found. some (Plain found)) (class_name place tokens)) (cond (eqb c (byte "[")) (giving some (attribute tokens)) (cond (eqb c (byte ":")) (giving some (pseudo inner place tokens)) (Ok (None, Delim c ∷ tokens)))) n
-    (some_takes (λ (s : Simple). Plain s) (class_name place tokens) (Delim c) tokens (class_name-leaves place tokens))
-    (if_takes (eqb c (byte "[")) (giving some (attribute tokens)) (cond (eqb c (byte ":")) (giving some (pseudo inner place tokens)) (Ok (None, Delim c ∷ tokens))) n
+    if_takes (eqb c (byte ".")) (giving (λ found. some (Plain found)) (class_name nesting tokens)) (cond (eqb c (byte "[")) (giving some (attribute tokens)) (cond (eqb c (byte ":")) (giving some (pseudo inner nesting tokens)) (Ok (None, Delim c ∷ tokens)))) n
+    (some_takes (λ (s : Simple). Plain s) (class_name nesting tokens) (Delim c) tokens (class_name-leaves nesting tokens))
+    (if_takes (eqb c (byte "[")) (giving some (attribute tokens)) (cond (eqb c (byte ":")) (giving some (pseudo inner nesting tokens)) (Ok (None, Delim c ∷ tokens))) n
     (some_takes (λ (p : Part). p) (attribute tokens) (Delim c) tokens (attribute-leaves tokens))
-    (if_takes (eqb c (byte ":")) (giving some (pseudo inner place tokens)) (Ok (None, Delim c ∷ tokens)) n
-    (some_takes (λ (p : Part). p) (pseudo inner place tokens) (Delim c) tokens (pseudo-leaves inner h place tokens)) (nothing_takes (Delim c ∷ tokens))))
-part-takes inner h place (Space ∷ tokens) = nothing_takes (Space ∷ tokens)
-part-takes inner h place (Quoted text ∷ tokens) = nothing_takes (Quoted text ∷ tokens)
-part-takes inner h place (BadString ∷ tokens) = nothing_takes (BadString ∷ tokens)
-part-takes inner h place (Number n ∷ tokens) = nothing_takes (Number n ∷ tokens)
-part-takes inner h place (Dimension n unit ∷ tokens) = nothing_takes (Dimension n unit ∷ tokens)
-part-takes inner h place (Percentage ∷ tokens) = nothing_takes (Percentage ∷ tokens)
-part-takes inner h place (Cdc ∷ tokens) = nothing_takes (Cdc ∷ tokens)
-part-takes inner h place (Function name ∷ tokens) = nothing_takes (Function name ∷ tokens)
-part-takes inner h place (Ident name ∷ tokens) = nothing_takes (Ident name ∷ tokens)
-part-takes inner h place (Match c ∷ tokens) = nothing_takes (Match c ∷ tokens)
+    (if_takes (eqb c (byte ":")) (giving some (pseudo inner nesting tokens)) (Ok (None, Delim c ∷ tokens)) n
+    (some_takes (λ (p : Part). p) (pseudo inner nesting tokens) (Delim c) tokens (pseudo-leaves inner h nesting tokens)) (nothing_takes (Delim c ∷ tokens))))
+part-takes inner h nesting (Space ∷ tokens) = nothing_takes (Space ∷ tokens)
+part-takes inner h nesting (Quoted text ∷ tokens) = nothing_takes (Quoted text ∷ tokens)
+part-takes inner h nesting (BadString ∷ tokens) = nothing_takes (BadString ∷ tokens)
+part-takes inner h nesting (Number n ∷ tokens) = nothing_takes (Number n ∷ tokens)
+part-takes inner h nesting (Dimension n unit ∷ tokens) = nothing_takes (Dimension n unit ∷ tokens)
+part-takes inner h nesting (Percentage ∷ tokens) = nothing_takes (Percentage ∷ tokens)
+part-takes inner h nesting (Cdc ∷ tokens) = nothing_takes (Cdc ∷ tokens)
+part-takes inner h nesting (Function name ∷ tokens) = nothing_takes (Function name ∷ tokens)
+part-takes inner h nesting (Ident name ∷ tokens) = nothing_takes (Ident name ∷ tokens)
+part-takes inner h nesting (Match c ∷ tokens) = nothing_takes (Match c ∷ tokens)
 
 -- ---- compounds, items and lists
 
@@ -372,13 +372,13 @@ part_leaves read n t = record { left = λ x rest e. cases x rest e }
     cases None rest e = t.all rest e
     cases (Some found) rest e = omega (arith, t.taken found rest e)
 
-parts-leaves : (n : ℕ) (inner : List Token → Read Items) → InnerLeaves inner → (place : Place) (parts : Compound) (tokens : List Token) → Leaves (parts_at_most n inner place parts tokens) (length tokens)
+parts-leaves : (n : ℕ) (inner : List Token → Read Items) → InnerLeaves inner → (nesting : Nesting) (parts : Compound) (tokens : List Token) → Leaves (parts_at_most n inner nesting parts tokens) (length tokens)
 unfolding parts_at_most
-parts-leaves zero inner h place parts tokens = same_leaves parts tokens
-parts-leaves (suc n) inner h place parts tokens =
-    then_leaves (part inner place tokens) (λ x. elim x.0 [ None ↦ Ok (parts, x.1) | Some found ↦ parts_at_most n inner place (With parts found) x.1 ]) (length tokens) (length tokens) (part_leaves (part inner place tokens) (length tokens) (part-takes inner h place tokens))
-    (λ x rest l. option_leaves x (Ok (parts, rest)) (λ found. parts_at_most n inner place (With parts found) rest) (length tokens) (ok_leaves parts rest (length tokens) l)
-    (λ found. weaker (parts_at_most n inner place (With parts found) rest) (length rest) (length tokens) (parts-leaves n inner h place (With parts found) rest) l))
+parts-leaves zero inner h nesting parts tokens = same_leaves parts tokens
+parts-leaves (suc n) inner h nesting parts tokens =
+    then_leaves (part inner nesting tokens) (λ x. elim x.0 [ None ↦ Ok (parts, x.1) | Some found ↦ parts_at_most n inner nesting (With parts found) x.1 ]) (length tokens) (length tokens) (part_leaves (part inner nesting tokens) (length tokens) (part-takes inner h nesting tokens))
+    (λ x rest l. option_leaves x (Ok (parts, rest)) (λ found. parts_at_most n inner nesting (With parts found) rest) (length tokens) (ok_leaves parts rest (length tokens) l)
+    (λ found. weaker (parts_at_most n inner nesting (With parts found) rest) (length rest) (length tokens) (parts-leaves n inner h nesting (With parts found) rest) l))
 
 behind_bar_of-leaves : (token : Token) (tokens : List Token) → Leaves (elim token [
   | Ident name ↦ Ok (Some (LocalName (utf8 name)), tokens)
@@ -399,49 +399,49 @@ behind_bar_of-leaves Cdc tokens = err_leaves errors.UnexpectedToken (length (Cdc
 behind_bar_of-leaves (Function name) tokens = err_leaves errors.UnexpectedToken (length (Function name ∷ tokens))
 behind_bar_of-leaves (Match c) tokens = err_leaves errors.UnexpectedToken (length (Match c ∷ tokens))
 
-behind_bar-leaves : (place : Place) (tokens : List Token) → Leaves (behind_bar place tokens) (length tokens)
+behind_bar-leaves : (nesting : Nesting) (tokens : List Token) → Leaves (behind_bar nesting tokens) (length tokens)
 unfolding behind_bar
-behind_bar-leaves place [] = same_leaves None []
-behind_bar-leaves place (token ∷ tokens) =
-    if_leaves (at_stop place (token ∷ tokens)) (Ok (None, token ∷ tokens)) _ (length (token ∷ tokens)) (same_leaves None (token ∷ tokens)) (behind_bar_of-leaves token tokens)
+behind_bar-leaves nesting [] = same_leaves None []
+behind_bar-leaves nesting (token ∷ tokens) =
+    if_leaves (at_stop nesting (token ∷ tokens)) (Ok (None, token ∷ tokens)) _ (length (token ∷ tokens)) (same_leaves None (token ∷ tokens)) (behind_bar_of-leaves token tokens)
 
-type_part-leaves : (place : Place) (tokens : List Token) → Leaves (type_part place tokens) (length tokens)
+type_part-leaves : (nesting : Nesting) (tokens : List Token) → Leaves (type_part nesting tokens) (length tokens)
 unfolding type_part
-type_part-leaves place [] = same_leaves (Some Nothing) []
-type_part-leaves place (Ident name ∷ tokens) =
+type_part-leaves nesting [] = same_leaves (Some Nothing) []
+type_part-leaves nesting (Ident name ∷ tokens) =
     if_leaves (front (is_delim (byte "|")) tokens) (Err errors.NamespacedSelector) (Ok (Some (With Nothing (Plain (LocalName (utf8 name)))), tokens)) (length (Ident name ∷ tokens)) (err_leaves errors.NamespacedSelector (length (Ident name ∷ tokens))) (ok_leaves (Some (With Nothing (Plain (LocalName (utf8 name))))) tokens (length (Ident name ∷ tokens)) (omega arith))
-type_part-leaves place (Delim c ∷ tokens) =
+type_part-leaves nesting (Delim c ∷ tokens) =
     let n = length (Delim c ∷ tokens) in
-    let any = giving (option_map any_namespace) (behind_bar place (drop 1 tokens)) in
-    let none = giving (option_map no_namespace) (behind_bar place tokens) in
+    let any = giving (option_map any_namespace) (behind_bar nesting (drop 1 tokens)) in
+    let none = giving (option_map no_namespace) (behind_bar nesting tokens) in
     if_leaves (eqb c (byte "*")) (cond (front (is_delim (byte "|")) tokens) any (Ok (Some (With Nothing (Plain AnyName)), tokens))) (cond (eqb c (byte "|")) none (Ok (Some Nothing, Delim c ∷ tokens))) n
     (if_leaves (front (is_delim (byte "|")) tokens) any (Ok (Some (With Nothing (Plain AnyName)), tokens)) n
-    (giving_leaves (option_map any_namespace) (behind_bar place (drop 1 tokens)) n (weaker (behind_bar place (drop 1 tokens)) (length (drop 1 tokens)) n (behind_bar-leaves place (drop 1 tokens)) (omega (arith, length-drop 1 tokens))))
+    (giving_leaves (option_map any_namespace) (behind_bar nesting (drop 1 tokens)) n (weaker (behind_bar nesting (drop 1 tokens)) (length (drop 1 tokens)) n (behind_bar-leaves nesting (drop 1 tokens)) (omega (arith, length-drop 1 tokens))))
     (ok_leaves (Some (With Nothing (Plain AnyName))) tokens n (omega arith)))
     (if_leaves (eqb c (byte "|")) none (Ok (Some Nothing, Delim c ∷ tokens)) n
-    (giving_leaves (option_map no_namespace) (behind_bar place tokens) n (longer (behind_bar place tokens) (Delim c) tokens (behind_bar-leaves place tokens)))
+    (giving_leaves (option_map no_namespace) (behind_bar nesting tokens) n (longer (behind_bar nesting tokens) (Delim c) tokens (behind_bar-leaves nesting tokens)))
     (same_leaves (Some Nothing) (Delim c ∷ tokens)))
-type_part-leaves place (Space ∷ tokens) = same_leaves (Some Nothing) (Space ∷ tokens)
-type_part-leaves place (Quoted text ∷ tokens) = same_leaves (Some Nothing) (Quoted text ∷ tokens)
-type_part-leaves place (BadString ∷ tokens) = same_leaves (Some Nothing) (BadString ∷ tokens)
-type_part-leaves place (Hash name is_id ∷ tokens) = same_leaves (Some Nothing) (Hash name is_id ∷ tokens)
-type_part-leaves place (Number n ∷ tokens) = same_leaves (Some Nothing) (Number n ∷ tokens)
-type_part-leaves place (Dimension n unit ∷ tokens) = same_leaves (Some Nothing) (Dimension n unit ∷ tokens)
-type_part-leaves place (Percentage ∷ tokens) = same_leaves (Some Nothing) (Percentage ∷ tokens)
-type_part-leaves place (Cdc ∷ tokens) = same_leaves (Some Nothing) (Cdc ∷ tokens)
-type_part-leaves place (Function name ∷ tokens) = same_leaves (Some Nothing) (Function name ∷ tokens)
-type_part-leaves place (Match c ∷ tokens) = same_leaves (Some Nothing) (Match c ∷ tokens)
+type_part-leaves nesting (Space ∷ tokens) = same_leaves (Some Nothing) (Space ∷ tokens)
+type_part-leaves nesting (Quoted text ∷ tokens) = same_leaves (Some Nothing) (Quoted text ∷ tokens)
+type_part-leaves nesting (BadString ∷ tokens) = same_leaves (Some Nothing) (BadString ∷ tokens)
+type_part-leaves nesting (Hash name is_id ∷ tokens) = same_leaves (Some Nothing) (Hash name is_id ∷ tokens)
+type_part-leaves nesting (Number n ∷ tokens) = same_leaves (Some Nothing) (Number n ∷ tokens)
+type_part-leaves nesting (Dimension n unit ∷ tokens) = same_leaves (Some Nothing) (Dimension n unit ∷ tokens)
+type_part-leaves nesting (Percentage ∷ tokens) = same_leaves (Some Nothing) (Percentage ∷ tokens)
+type_part-leaves nesting (Cdc ∷ tokens) = same_leaves (Some Nothing) (Cdc ∷ tokens)
+type_part-leaves nesting (Function name ∷ tokens) = same_leaves (Some Nothing) (Function name ∷ tokens)
+type_part-leaves nesting (Match c ∷ tokens) = same_leaves (Some Nothing) (Match c ∷ tokens)
 
-compound-leaves : (inner : List Token → Read Items) → InnerLeaves inner → (place : Place) (empty : SelectorError) (tokens : List Token) → Leaves (compound inner place empty tokens) (length tokens)
+compound-leaves : (inner : List Token → Read Items) → InnerLeaves inner → (nesting : Nesting) (empty : SelectorError) (tokens : List Token) → Leaves (compound inner nesting empty tokens) (length tokens)
 unfolding compound
-compound-leaves inner h place empty tokens =
+compound-leaves inner h nesting empty tokens =
     let n = length tokens in
-    then_leaves (type_part place tokens) (λ type. elim type.0 [
+    then_leaves (type_part nesting tokens) (λ type. elim type.0 [
       | None ↦ Err empty
-      | Some start ↦ more_parts inner place start type.1 >>= λ parts. cond (is_nothing parts.0) (Err empty) (Ok parts)
-    ]) n n (type_part-leaves place tokens)
-    (λ type rest l. option_leaves type (Err empty) (λ start. more_parts inner place start rest >>= λ parts. cond (is_nothing parts.0) (Err empty) (Ok parts)) n (err_leaves empty n)
-    (λ start. then_leaves (more_parts inner place start rest) (λ parts. cond (is_nothing parts.0) (Err empty) (Ok parts)) n n (weaker (more_parts inner place start rest) (length rest) n (parts-leaves (length rest) inner h place start rest) l)
+      | Some start ↦ more_parts inner nesting start type.1 >>= λ parts. cond (is_nothing parts.0) (Err empty) (Ok parts)
+    ]) n n (type_part-leaves nesting tokens)
+    (λ type rest l. option_leaves type (Err empty) (λ start. more_parts inner nesting start rest >>= λ parts. cond (is_nothing parts.0) (Err empty) (Ok parts)) n (err_leaves empty n)
+    (λ start. then_leaves (more_parts inner nesting start rest) (λ parts. cond (is_nothing parts.0) (Err empty) (Ok parts)) n n (weaker (more_parts inner nesting start rest) (length rest) n (parts-leaves (length rest) inner h nesting start rest) l)
     (λ parts rest2 l2. if_leaves (is_nothing parts) (Err empty) (Ok (parts, rest2)) n (err_leaves empty n) (ok_leaves parts rest2 n l2))))
 
 step-token-leaves : (after_space : Bool) (tokens : List Token) → Leaves (step after_space tokens) (length tokens)
@@ -453,52 +453,52 @@ step-token-leaves after_space (token ∷ tokens) =
     (if_leaves after_space (Ok (By Descendant, token ∷ tokens)) (Err errors.UnexpectedToken) n (same_leaves (By Descendant) (token ∷ tokens)) (err_leaves errors.UnexpectedToken n))
     (λ found. ok_leaves found (skip_space tokens) n (omega (arith, skip_space-shorter tokens)))
 
-next_step-leaves : (place : Place) (tokens : List Token) → Leaves (next_step place tokens) (length tokens)
+next_step-leaves : (nesting : Nesting) (tokens : List Token) → Leaves (next_step nesting tokens) (length tokens)
 unfolding next_step
-next_step-leaves place tokens =
+next_step-leaves nesting tokens =
     let n = length tokens in
-    if_leaves (at_stop place (skip_space tokens)) (Ok (None, skip_space tokens)) (giving (λ found. Some found) (step (front is_space tokens) (skip_space tokens))) n
+    if_leaves (at_stop nesting (skip_space tokens)) (Ok (None, skip_space tokens)) (giving (λ found. Some found) (step (front is_space tokens) (skip_space tokens))) n
     (ok_leaves None (skip_space tokens) n (skip_space-shorter tokens))
     (giving_leaves (λ found. Some found) (step (front is_space tokens) (skip_space tokens)) n (weaker (step (front is_space tokens) (skip_space tokens)) (length (skip_space tokens)) n (step-token-leaves (front is_space tokens) (skip_space tokens)) (skip_space-shorter tokens)))
 
-further-leaves : (room : ℕ) (inner : List Token → Read Items) → InnerLeaves inner → (place : Place) (front : Item) (tokens : List Token) → Leaves (further room inner place front tokens) (length tokens)
+further-leaves : (room : ℕ) (inner : List Token → Read Items) → InnerLeaves inner → (nesting : Nesting) (front : Item) (tokens : List Token) → Leaves (further room inner nesting front tokens) (length tokens)
 unfolding further
-further-leaves zero inner h place front tokens =
+further-leaves zero inner h nesting front tokens =
     let n = length tokens in
-    then_leaves (next_step place tokens) (λ found. elim found.0 [ None ↦ Ok (front, found.1) | Some step ↦ Err errors.UnsupportedSyntax ]) n n (next_step-leaves place tokens)
+    then_leaves (next_step nesting tokens) (λ found. elim found.0 [ None ↦ Ok (front, found.1) | Some step ↦ Err errors.UnsupportedSyntax ]) n n (next_step-leaves nesting tokens)
     (λ found rest l. option_leaves found (Ok (front, rest)) (λ step. Err errors.UnsupportedSyntax) n (ok_leaves front rest n l) (λ step. err_leaves errors.UnsupportedSyntax n))
-further-leaves (suc room) inner h place front tokens =
+further-leaves (suc room) inner h nesting front tokens =
     let n = length tokens in
-    then_leaves (next_step place tokens) (λ found. elim found.0 [ None ↦ Ok (front, found.1) | Some step ↦ compound inner place errors.DanglingCombinator found.1 >>= λ next. further room inner place (Then front step next.0) next.1 ]) n n (next_step-leaves place tokens)
-    (λ found rest l. option_leaves found (Ok (front, rest)) (λ step. compound inner place errors.DanglingCombinator rest >>= λ next. further room inner place (Then front step next.0) next.1) n (ok_leaves front rest n l)
-    (λ step. then_leaves (compound inner place errors.DanglingCombinator rest) (λ next. further room inner place (Then front step next.0) next.1) n n (weaker (compound inner place errors.DanglingCombinator rest) (length rest) n (compound-leaves inner h place errors.DanglingCombinator rest) l)
-    (λ next rest2 l2. weaker (further room inner place (Then front step next) rest2) (length rest2) n (further-leaves room inner h place (Then front step next) rest2) l2)))
+    then_leaves (next_step nesting tokens) (λ found. elim found.0 [ None ↦ Ok (front, found.1) | Some step ↦ compound inner nesting errors.DanglingCombinator found.1 >>= λ next. further room inner nesting (Then front step next.0) next.1 ]) n n (next_step-leaves nesting tokens)
+    (λ found rest l. option_leaves found (Ok (front, rest)) (λ step. compound inner nesting errors.DanglingCombinator rest >>= λ next. further room inner nesting (Then front step next.0) next.1) n (ok_leaves front rest n l)
+    (λ step. then_leaves (compound inner nesting errors.DanglingCombinator rest) (λ next. further room inner nesting (Then front step next.0) next.1) n n (weaker (compound inner nesting errors.DanglingCombinator rest) (length rest) n (compound-leaves inner h nesting errors.DanglingCombinator rest) l)
+    (λ next rest2 l2. weaker (further room inner nesting (Then front step next) rest2) (length rest2) n (further-leaves room inner h nesting (Then front step next) rest2) l2)))
 
-pub item-leaves : (inner : List Token → Read Items) → InnerLeaves inner → (place : Place) (tokens : List Token) → Leaves (item inner place tokens) (length tokens)
+pub item-leaves : (inner : List Token → Read Items) → InnerLeaves inner → (nesting : Nesting) (tokens : List Token) → Leaves (item inner nesting tokens) (length tokens)
 unfolding item
-item-leaves inner h place tokens =
+item-leaves inner h nesting tokens =
     let n = length tokens in
-    then_leaves (compound inner place errors.EmptySelector (skip_space tokens)) (λ first. further 1023 inner place (First first.0) first.1) n n
-    (weaker (compound inner place errors.EmptySelector (skip_space tokens)) (length (skip_space tokens)) n (compound-leaves inner h place errors.EmptySelector (skip_space tokens)) (skip_space-shorter tokens))
-    (λ first rest l. weaker (further 1023 inner place (First first) rest) (length rest) n (further-leaves 1023 inner h place (First first) rest) l)
+    then_leaves (compound inner nesting errors.EmptySelector (skip_space tokens)) (λ first. further 1023 inner nesting (First first.0) first.1) n n
+    (weaker (compound inner nesting errors.EmptySelector (skip_space tokens)) (length (skip_space tokens)) n (compound-leaves inner h nesting errors.EmptySelector (skip_space tokens)) (skip_space-shorter tokens))
+    (λ first rest l. weaker (further 1023 inner nesting (First first) rest) (length rest) n (further-leaves 1023 inner h nesting (First first) rest) l)
 
-items-leaves : (n : ℕ) (inner : List Token → Read Items) → InnerLeaves inner → (place : Place) (items : Items) (tokens : List Token) → Leaves (items_at_most n inner place items tokens) (length tokens)
+items-leaves : (n : ℕ) (inner : List Token → Read Items) → InnerLeaves inner → (nesting : Nesting) (items : Items) (tokens : List Token) → Leaves (items_at_most n inner nesting items tokens) (length tokens)
 unfolding items_at_most
-items-leaves zero inner h place items tokens = same_leaves items tokens
-items-leaves (suc m) inner h place items tokens =
+items-leaves zero inner h nesting items tokens = same_leaves items tokens
+items-leaves (suc m) inner h nesting items tokens =
     let n = length tokens in
-    if_leaves (at_end place tokens) (Ok (items, drop 1 tokens)) (item inner place (drop 1 tokens) >>= λ x. items_at_most m inner place (And items x.0) x.1) n
+    if_leaves (at_end nesting tokens) (Ok (items, drop 1 tokens)) (item inner nesting (drop 1 tokens) >>= λ x. items_at_most m inner nesting (And items x.0) x.1) n
     (ok_leaves items (drop 1 tokens) n (omega (arith, length-drop 1 tokens)))
-    (then_leaves (item inner place (drop 1 tokens)) (λ x. items_at_most m inner place (And items x.0) x.1) n n
-    (weaker (item inner place (drop 1 tokens)) (length (drop 1 tokens)) n (item-leaves inner h place (drop 1 tokens)) (omega (arith, length-drop 1 tokens)))
-    (λ x rest l. weaker (items_at_most m inner place (And items x) rest) (length rest) n (items-leaves m inner h place (And items x) rest) l))
+    (then_leaves (item inner nesting (drop 1 tokens)) (λ x. items_at_most m inner nesting (And items x.0) x.1) n n
+    (weaker (item inner nesting (drop 1 tokens)) (length (drop 1 tokens)) n (item-leaves inner h nesting (drop 1 tokens)) (omega (arith, length-drop 1 tokens)))
+    (λ x rest l. weaker (items_at_most m inner nesting (And items x) rest) (length rest) n (items-leaves m inner h nesting (And items x) rest) l))
 
-list-leaves : (inner : List Token → Read Items) → InnerLeaves inner → (place : Place) (tokens : List Token) → Leaves (list inner place tokens) (length tokens)
+list-leaves : (inner : List Token → Read Items) → InnerLeaves inner → (nesting : Nesting) (tokens : List Token) → Leaves (list inner nesting tokens) (length tokens)
 unfolding list
-list-leaves inner h place tokens =
+list-leaves inner h nesting tokens =
     let n = length tokens in
-    then_leaves (item inner place tokens) (λ first. items_at_most (length first.1 + 1) inner place (And NoItems first.0) first.1) n n (item-leaves inner h place tokens)
-    (λ first rest l. weaker (items_at_most (length rest + 1) inner place (And NoItems first) rest) (length rest) n (items-leaves (length rest + 1) inner h place (And NoItems first) rest) l)
+    then_leaves (item inner nesting tokens) (λ first. items_at_most (length first.1 + 1) inner nesting (And NoItems first.0) first.1) n n (item-leaves inner h nesting tokens)
+    (λ first rest l. weaker (items_at_most (length rest + 1) inner nesting (And NoItems first) rest) (length rest) n (items-leaves (length rest + 1) inner h nesting (And NoItems first) rest) l)
 
 inner_list_leaves : (room : ℕ) (tokens : List Token) → Leaves (inner_list room tokens) (length tokens)
 unfolding inner_list

@@ -3,7 +3,7 @@ use Rattle.std.specs.Prelude.{ℕ, zero, suc, Bool, true, false, if◌then◌els
 use Rattle.lol_css.specs.Tokens.{Token}
 use Rattle.lol_css.specs.Trees.{Part, Compound, Nothing, With, Item, First, Then, Items, And}
 use Rattle.lol_css.specs.Drafts as drafts
-use Rattle.lol_css.specs.Rules.{Read, ◌>>=◌, Place, at_end}
+use Rattle.lol_css.specs.Rules.{Read, ◌>>=◌, Nesting, at_end}
 use Rattle.lol_css.specs.Reading.{part, compound, next_step, item}
 use Rattle.lol_css.specs.Accepting.{judged_step, judged_part, judged_compound, judged_item}
 use Rattle.lol_css.specs.declared.selector.Combinator.{Combinator}
@@ -26,31 +26,31 @@ with_compound front step compound = compound >>= λ last. step >>= λ combinator
 abbrev pub with_item : Judged Items → Judged Item → Judged Items
 with_item front item = front >>= λ items. item >>= λ last. Ok (And items last)
 
-unfoldable pub judged_parts_at_most : ℕ → (List Token → Read drafts.Items) → Place → Judged Compound → List Token → Read (Judged Compound)
-judged_parts_at_most zero inner place parts tokens = Ok (parts, tokens)
-judged_parts_at_most (suc n) inner place parts tokens = part inner place tokens >>= λ x. elim x.0 [
+unfoldable pub judged_parts_at_most : ℕ → (List Token → Read drafts.Items) → Nesting → Judged Compound → List Token → Read (Judged Compound)
+judged_parts_at_most zero inner nesting parts tokens = Ok (parts, tokens)
+judged_parts_at_most (suc n) inner nesting parts tokens = part inner nesting tokens >>= λ x. elim x.0 [
   | None ↦ Ok (parts, x.1)
-  | Some found ↦ judged_parts_at_most n inner place (with_part parts (judged_part found)) x.1
+  | Some found ↦ judged_parts_at_most n inner nesting (with_part parts (judged_part found)) x.1
 ]
 
-abbrev pub judged_parts : (List Token → Read drafts.Items) → Place → Judged Compound → List Token → Read (Judged Compound)
-judged_parts inner place parts tokens = judged_parts_at_most (length tokens) inner place parts tokens
+abbrev pub judged_parts : (List Token → Read drafts.Items) → Nesting → Judged Compound → List Token → Read (Judged Compound)
+judged_parts inner nesting parts tokens = judged_parts_at_most (length tokens) inner nesting parts tokens
 
-unfoldable pub judged_further : ℕ → (List Token → Read drafts.Items) → Place → Bool → Judged Item → List Token → Read (Judged Item)
-judged_further zero inner place inside item tokens = next_step place tokens >>= λ found. elim found.0 [
+unfoldable pub judged_further : ℕ → (List Token → Read drafts.Items) → Nesting → Bool → Judged Item → List Token → Read (Judged Item)
+judged_further zero inner nesting inside item tokens = next_step nesting tokens >>= λ found. elim found.0 [
   | None ↦ Ok (item, found.1)
   | Some step ↦ Err UnsupportedSyntax
 ]
-judged_further (suc room) inner place inside item tokens = next_step place tokens >>= λ found. elim found.0 [
+judged_further (suc left) inner nesting inside item tokens = next_step nesting tokens >>= λ found. elim found.0 [
   | None ↦ Ok (item, found.1)
-  | Some step ↦ compound inner place DanglingCombinator found.1 >>= λ next. judged_further room inner place inside (with_compound item (judged_step inside step) (judged_compound next.0)) next.1
+  | Some step ↦ compound inner nesting DanglingCombinator found.1 >>= λ next. judged_further left inner nesting inside (with_compound item (judged_step inside step) (judged_compound next.0)) next.1
 ]
 
-unfoldable pub judged_items_at_most : ℕ → (List Token → Read drafts.Items) → Place → Bool → Judged Items → List Token → Read (Judged Items)
-judged_items_at_most zero inner place inside items tokens = Ok (items, tokens)
-judged_items_at_most (suc n) inner place inside items tokens =
-    if at_end place tokens then Ok (items, drop 1 tokens)
-    else item inner place (drop 1 tokens) >>= λ x. judged_items_at_most n inner place inside (with_item items (judged_item inside x.0)) x.1
+unfoldable pub judged_items_at_most : ℕ → (List Token → Read drafts.Items) → Nesting → Bool → Judged Items → List Token → Read (Judged Items)
+judged_items_at_most zero inner nesting inside items tokens = Ok (items, tokens)
+judged_items_at_most (suc n) inner nesting inside items tokens =
+    if at_end nesting tokens then Ok (items, drop 1 tokens)
+    else item inner nesting (drop 1 tokens) >>= λ x. judged_items_at_most n inner nesting inside (with_item items (judged_item inside x.0)) x.1
 
 -- whether nothing was read, so far as it is judged
 abbrev pub is_empty : Judged Compound → Bool

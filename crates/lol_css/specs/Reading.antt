@@ -8,7 +8,7 @@ use Rattle.lol_css.specs.Tokens.{Token, Quoted, Hash, Function, Ident, Match, De
 use Rattle.lol_css.specs.CaselessAttributes.{caseless_attributes}
 use Rattle.lol_css.specs.Trees.{Simple, LocalName, AnyName, NoNamespace, Id, Class, Exists, Compares, Nth}
 use Rattle.lol_css.specs.Drafts.{Step, By, NextSibling, SubsequentSibling, Part, Plain, LatePseudoClass, LateNamespace, Logical, Compound, Nothing, With, Item, First, Then, Items, NoItems, And}
-use Rattle.lol_css.specs.Rules.{Read, ◌>>=◌, giving, keeping, is_delim, is_space, skip_space, Place, Outside, InFunction, InBrackets, at_end, at_stop, wanted, closed, lowered, says, ident_of}
+use Rattle.lol_css.specs.Rules.{Read, ◌>>=◌, giving, keeping, is_delim, is_space, skip_space, Nesting, Outside, InFunction, InBrackets, at_end, at_stop, wanted, closed, lowered, says, ident_of}
 use Rattle.lol_css.specs.AnPlusB.{an_plus_b}
 use Rattle.lol_css.specs.declared.syntax.tokens.MatchOperator.TheVariants as operators
 use Rattle.lol_css.specs.declared.attribute.AttrSelectorOperator.{AttrSelectorOperator}
@@ -101,10 +101,10 @@ attribute tokens = do
 -- ---- the other parts
 
 -- directly behind a `.`
-unfoldable pub class_name : Place → List Token → Read Simple
-class_name place tokens =
-    if at_stop place tokens then Err UnexpectedEnd
-    else giving (λ name. Class (utf8 name)) (wanted place ident_of InvalidClassName tokens)
+unfoldable pub class_name : Nesting → List Token → Read Simple
+class_name nesting tokens =
+    if at_stop nesting tokens then Err UnexpectedEnd
+    else giving (λ name. Class (utf8 name)) (wanted nesting ident_of InvalidClassName tokens)
 
 abbrev pub is_one_of : List (List ℕ) → List ℕ → Bool
 is_one_of words name = list_any (λ word. says word name) words
@@ -135,17 +135,17 @@ ident_part name =
     else Err UnsupportedPseudoClassOrElement))
 
 -- after a colon; inner reads the list of a logical combination
-unfoldable pub pseudo : (List Token → Read Items) → Place → List Token → Read Part
-pseudo inner place [] = Err UnexpectedEnd
-pseudo inner place (token ∷ tokens) =
-    if at_stop place (token ∷ tokens) then Err UnexpectedEnd
+unfoldable pub pseudo : (List Token → Read Items) → Nesting → List Token → Read Part
+pseudo inner nesting [] = Err UnexpectedEnd
+pseudo inner nesting (token ∷ tokens) =
+    if at_stop nesting (token ∷ tokens) then Err UnexpectedEnd
     else elim token [
       | Ident name ↦ keeping (ident_part name) tokens
       | Function name ↦ elim (combination_named name) [
         | None ↦ function_part name tokens
         | Some combination ↦ giving (Logical combination) (inner tokens)
       ]
-      | Delim c ↦ if c == byte ":" && at_stop place tokens then Err UnexpectedEnd else Err UnsupportedPseudoClassOrElement
+      | Delim c ↦ if c == byte ":" && at_stop nesting tokens then Err UnexpectedEnd else Err UnsupportedPseudoClassOrElement
       | _ ↦ Err UnsupportedPseudoClassOrElement
     ]
 
@@ -153,32 +153,32 @@ abbrev pub some : Part → Option Part
 some found = Some found
 
 -- one more part, where the token begins one
-unfoldable pub part : (List Token → Read Items) → Place → List Token → Read (Option Part)
-part inner place [] = Ok (None, [])
-part inner place (Hash name is_id ∷ tokens) = if is_id then Ok (some (Plain (Id (utf8 name))), tokens) else Ok (None, Hash name is_id ∷ tokens)
-part inner place (Delim c ∷ tokens) =
-    if c == byte "." then giving (λ found. some (Plain found)) (class_name place tokens)
+unfoldable pub part : (List Token → Read Items) → Nesting → List Token → Read (Option Part)
+part inner nesting [] = Ok (None, [])
+part inner nesting (Hash name is_id ∷ tokens) = if is_id then Ok (some (Plain (Id (utf8 name))), tokens) else Ok (None, Hash name is_id ∷ tokens)
+part inner nesting (Delim c ∷ tokens) =
+    if c == byte "." then giving (λ found. some (Plain found)) (class_name nesting tokens)
     else (if c == byte "[" then giving some (attribute tokens)
-    else (if c == byte ":" then giving some (pseudo inner place tokens)
+    else (if c == byte ":" then giving some (pseudo inner nesting tokens)
     else Ok (None, Delim c ∷ tokens)))
-part inner place (token ∷ tokens) = Ok (None, token ∷ tokens)
+part inner nesting (token ∷ tokens) = Ok (None, token ∷ tokens)
 
 -- parts as long as a token begins one; each takes one token at least, so there are at most n
-unfoldable pub parts_at_most : ℕ → (List Token → Read Items) → Place → Compound → List Token → Read Compound
-parts_at_most zero inner place parts tokens = Ok (parts, tokens)
-parts_at_most (suc n) inner place parts tokens = part inner place tokens >>= λ x. elim x.0 [
+unfoldable pub parts_at_most : ℕ → (List Token → Read Items) → Nesting → Compound → List Token → Read Compound
+parts_at_most zero inner nesting parts tokens = Ok (parts, tokens)
+parts_at_most (suc n) inner nesting parts tokens = part inner nesting tokens >>= λ x. elim x.0 [
   | None ↦ Ok (parts, x.1)
-  | Some found ↦ parts_at_most n inner place (With parts found) x.1
+  | Some found ↦ parts_at_most n inner nesting (With parts found) x.1
 ]
 
-abbrev pub more_parts : (List Token → Read Items) → Place → Compound → List Token → Read Compound
-more_parts inner place parts tokens = parts_at_most (length tokens) inner place parts tokens
+abbrev pub more_parts : (List Token → Read Items) → Nesting → Compound → List Token → Read Compound
+more_parts inner nesting parts tokens = parts_at_most (length tokens) inner nesting parts tokens
 
 -- directly behind a bar: a name or `*`; at Stop the compound counts as one that reads nothing (None)
-unfoldable pub behind_bar : Place → List Token → Read (Option Simple)
-behind_bar place [] = Ok (None, [])
-behind_bar place (token ∷ tokens) =
-    if at_stop place (token ∷ tokens) then Ok (None, token ∷ tokens)
+unfoldable pub behind_bar : Nesting → List Token → Read (Option Simple)
+behind_bar nesting [] = Ok (None, [])
+behind_bar nesting (token ∷ tokens) =
+    if at_stop nesting (token ∷ tokens) then Ok (None, token ∷ tokens)
     else elim token [
       | Ident name ↦ Ok (Some (LocalName (utf8 name)), tokens)
       | Delim c ↦ if c == byte "*" then Ok (Some AnyName, tokens) else Err UnexpectedToken
@@ -193,29 +193,29 @@ abbrev pub no_namespace : Simple → Compound
 no_namespace name = With (With Nothing (Plain NoNamespace)) (Plain name)
 
 -- the type part, where one stands
-unfoldable pub type_part : Place → List Token → Read (Option Compound)
-type_part place [] = Ok (Some Nothing, [])
-type_part place (Ident name ∷ tokens) =
+unfoldable pub type_part : Nesting → List Token → Read (Option Compound)
+type_part nesting [] = Ok (Some Nothing, [])
+type_part nesting (Ident name ∷ tokens) =
     if front (is_delim (byte "|")) tokens then Err NamespacedSelector else Ok (Some (With Nothing (Plain (LocalName (utf8 name)))), tokens)
-type_part place (Delim c ∷ tokens) =
+type_part nesting (Delim c ∷ tokens) =
     if c == byte "*" then
-    (if front (is_delim (byte "|")) tokens then giving (option_map any_namespace) (behind_bar place (drop 1 tokens))
+    (if front (is_delim (byte "|")) tokens then giving (option_map any_namespace) (behind_bar nesting (drop 1 tokens))
     else Ok (Some (With Nothing (Plain AnyName)), tokens))
-    else (if c == byte "|" then giving (option_map no_namespace) (behind_bar place tokens)
+    else (if c == byte "|" then giving (option_map no_namespace) (behind_bar nesting tokens)
     else Ok (Some Nothing, Delim c ∷ tokens))
-type_part place (token ∷ tokens) = Ok (Some Nothing, token ∷ tokens)
+type_part nesting (token ∷ tokens) = Ok (Some Nothing, token ∷ tokens)
 
 abbrev pub is_nothing : Compound → Bool
 is_nothing Nothing = true
 is_nothing (With front last) = false
 
 -- a compound; one that reads nothing is refused with the cause given
-unfoldable pub compound : (List Token → Read Items) → Place → SelectorError → List Token → Read Compound
-compound inner place empty tokens = do
-  type ← type_part place tokens
+unfoldable pub compound : (List Token → Read Items) → Nesting → SelectorError → List Token → Read Compound
+compound inner nesting empty tokens = do
+  type ← type_part nesting tokens
   elim type.0 [
     | None ↦ Err empty
-    | Some start ↦ more_parts inner place start type.1 >>= λ parts. if is_nothing parts.0 then Err empty else Ok parts
+    | Some start ↦ more_parts inner nesting start type.1 >>= λ parts. if is_nothing parts.0 then Err empty else Ok parts
   ]
 
 -- ---- items and lists
@@ -235,44 +235,44 @@ step after_space (token ∷ tokens) = elim (step_of token) [
 ]
 
 -- the step behind a compound and white space; at Stop there is none
-unfoldable pub next_step : Place → List Token → Read (Option Step)
-next_step place tokens =
-    if at_stop place (skip_space tokens) then Ok (None, skip_space tokens)
+unfoldable pub next_step : Nesting → List Token → Read (Option Step)
+next_step nesting tokens =
+    if at_stop nesting (skip_space tokens) then Ok (None, skip_space tokens)
     else giving (λ found. Some found) (step (front is_space tokens) (skip_space tokens))
 
--- the rest of an item, of which room further compounds may come; a step past the last is refused where it is recognised
-unfoldable pub further : ℕ → (List Token → Read Items) → Place → Item → List Token → Read Item
-further zero inner place item tokens = next_step place tokens >>= λ found. elim found.0 [
+-- the rest of an item, to which so many compounds may be added; a step past the last is refused where it is recognised
+unfoldable pub further : ℕ → (List Token → Read Items) → Nesting → Item → List Token → Read Item
+further zero inner nesting item tokens = next_step nesting tokens >>= λ found. elim found.0 [
   | None ↦ Ok (item, found.1)
   | Some step ↦ Err UnsupportedSyntax
 ]
-further (suc room) inner place item tokens = next_step place tokens >>= λ found. elim found.0 [
+further (suc left) inner nesting item tokens = next_step nesting tokens >>= λ found. elim found.0 [
   | None ↦ Ok (item, found.1)
-  | Some step ↦ compound inner place DanglingCombinator found.1 >>= λ next. further room inner place (Then item step next.0) next.1
+  | Some step ↦ compound inner nesting DanglingCombinator found.1 >>= λ next. further left inner nesting (Then item step next.0) next.1
 ]
 
 -- an item has at most 1,024 compounds
-unfoldable pub item : (List Token → Read Items) → Place → List Token → Read Item
-item inner place tokens = do
-  first ← compound inner place EmptySelector (skip_space tokens)
-  further 1023 inner place (First first.0) first.1
+unfoldable pub item : (List Token → Read Items) → Nesting → List Token → Read Item
+item inner nesting tokens = do
+  first ← compound inner nesting EmptySelector (skip_space tokens)
+  further 1023 inner nesting (First first.0) first.1
 
 -- the rest of a list, with the end that closes it; each item begins behind a comma, so there are at most n
-unfoldable pub items_at_most : ℕ → (List Token → Read Items) → Place → Items → List Token → Read Items
-items_at_most zero inner place items tokens = Ok (items, tokens)
-items_at_most (suc n) inner place items tokens =
-    if at_end place tokens then Ok (items, drop 1 tokens)
-    else item inner place (drop 1 tokens) >>= λ x. items_at_most n inner place (And items x.0) x.1
+unfoldable pub items_at_most : ℕ → (List Token → Read Items) → Nesting → Items → List Token → Read Items
+items_at_most zero inner nesting items tokens = Ok (items, tokens)
+items_at_most (suc n) inner nesting items tokens =
+    if at_end nesting tokens then Ok (items, drop 1 tokens)
+    else item inner nesting (drop 1 tokens) >>= λ x. items_at_most n inner nesting (And items x.0) x.1
 
-unfoldable pub list : (List Token → Read Items) → Place → List Token → Read Items
-list inner place tokens = do
-  first ← item inner place tokens
-  items_at_most (length first.1 + 1) inner place (And NoItems first.0) first.1
+unfoldable pub list : (List Token → Read Items) → Nesting → List Token → Read Items
+list inner nesting tokens = do
+  first ← item inner nesting tokens
+  items_at_most (length first.1 + 1) inner nesting (And NoItems first.0) first.1
 
--- the list of a logical combination, after its parenthesis; room of them may still be opened one inside the other, this one included
+-- the list of a logical combination, after its parenthesis, where combinations may be opened so deep, this one included
 unfoldable pub inner_list : ℕ → List Token → Read Items
 inner_list zero tokens = Err UnsupportedSyntax
-inner_list (suc room) tokens = list (inner_list room) InFunction tokens
+inner_list (suc depth) tokens = list (inner_list depth) InFunction tokens
 
 -- all of the tokens; a logical combination stands inside at most 127 others
 unfoldable pub selector : List Token → Read Items

@@ -40,36 +40,36 @@ skip_space [] = []
 skip_space (token ∷ tokens) = if is_space token then skip_space tokens else token ∷ tokens
 
 -- what is open innermost
-pub data Place : Type 0 where
-  Outside : Place
-  InFunction : Place
-  InBrackets : Place
+pub data Nesting : Type 0 where
+  Outside : Nesting
+  InFunction : Nesting
+  InBrackets : Nesting
 
 -- `)` and `]` close what is open innermost
-abbrev pub closes : Place → Token → Bool
+abbrev pub closes : Nesting → Token → Bool
 closes Outside token = false
 closes InFunction token = is_delim (byte ")") token
 closes InBrackets token = is_delim (byte "]") token
 
 -- End: what closes it, or the text's end, which closes everything
-abbrev pub at_end : Place → List Token → Bool
-at_end place [] = true
-at_end place (token ∷ tokens) = closes place token
+abbrev pub at_end : Nesting → List Token → Bool
+at_end nesting [] = true
+at_end nesting (token ∷ tokens) = closes nesting token
 
 -- Stop: End, or a comma of the list
-abbrev pub at_stop : Place → List Token → Bool
-at_stop place tokens = at_end place tokens || front (is_delim (byte ",")) tokens
+abbrev pub at_stop : Nesting → List Token → Bool
+at_stop nesting tokens = at_end nesting tokens || front (is_delim (byte ",")) tokens
 
 -- a token of a kind that is wanted here: End is UnexpectedEnd, another token has the cause given
-unfoldable pub wanted : {A : Type 0} → Place → (Token → Option A) → SelectorError → List Token → Read A
-wanted place kind other [] = Err UnexpectedEnd
-wanted place kind other (token ∷ tokens) =
-    if closes place token then Err UnexpectedEnd
+unfoldable pub wanted : {A : Type 0} → Nesting → (Token → Option A) → SelectorError → List Token → Read A
+wanted nesting kind other [] = Err UnexpectedEnd
+wanted nesting kind other (token ∷ tokens) =
+    if closes nesting token then Err UnexpectedEnd
     else elim (kind token) [ None ↦ Err other | Some x ↦ Ok (x, tokens) ]
 
 -- white space, and then End, which is taken
-unfoldable pub closed : Place → List Token → Read (Unit {0})
-closed place tokens = if at_end place (skip_space tokens) then Ok (tt, drop 1 (skip_space tokens)) else Err UnexpectedToken
+unfoldable pub closed : Nesting → List Token → Read (Unit {0})
+closed nesting tokens = if at_end nesting (skip_space tokens) then Ok (tt, drop 1 (skip_space tokens)) else Err UnexpectedToken
 
 -- names of pseudo-classes, flags and An+B are compared up to ASCII case
 abbrev pub lowered : List ℕ → List ℕ

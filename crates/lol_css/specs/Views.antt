@@ -11,8 +11,8 @@ use Rattle.lol_css.specs.declared.error.SelectorError.{SelectorError}
 use Rattle.lol_css.specs.declared.error.SelectorError.TheVariants.{UnexpectedEnd, Memory}
 use Rattle.lol_css.specs.declared.selectors.judged.Judged.{Judged}
 use Rattle.lol_css.specs.declared.selectors.judged.Judged.TheVariants.{Kept, Refused}
-use Rattle.lol_css.specs.declared.syntax.reader.Place.{Place}
-use Rattle.lol_css.specs.declared.syntax.reader.Place.TheVariants.{Outside, InFunction, InBrackets}
+use Rattle.lol_css.specs.declared.syntax.reader.Nesting.{Nesting}
+use Rattle.lol_css.specs.declared.syntax.reader.Nesting.TheVariants.{Outside, InFunction, InBrackets}
 use Rattle.lol_css.specs.declared.syntax.texts.Name.{Name}
 use Rattle.lol_css.specs.declared.syntax.texts.Quoted as texts
 use Rattle.lol_css.specs.declared.syntax.tokens.Numeral.{Numeral}
@@ -74,17 +74,17 @@ ReadsUnlessMemory view (Ok x) rest read = read ≡ Ok (view x, rest)
 ReadsUnlessMemory view (Err cause) rest read = FailsUnlessMemory cause read
 
 -- the token that is wanted was taken from the front, unless what is open innermost ends there
-abbrev pub TakesWanted : rules.Place → Result Token SelectorError → List tokens.Token → List tokens.Token → Type 0
-TakesWanted place (Ok token) old new = (at_end place old ≡ false) × (old ≡ token_of token ∷ new)
-TakesWanted place (Err cause) old new = (at_end place old ≡ true) × (cause ≡ UnexpectedEnd)
+abbrev pub TakesWanted : rules.Nesting → Result Token SelectorError → List tokens.Token → List tokens.Token → Type 0
+TakesWanted nesting (Ok token) old new = (at_end nesting old ≡ false) × (old ≡ token_of token ∷ new)
+TakesWanted nesting (Err cause) old new = (at_end nesting old ≡ true) × (cause ≡ UnexpectedEnd)
 
-abbrev pub place_of : Place → rules.Place
-place_of Outside = rules.Outside
-place_of InFunction = rules.InFunction
-place_of InBrackets = rules.InBrackets
+abbrev pub nesting_of : Nesting → rules.Nesting
+nesting_of Outside = rules.Outside
+nesting_of InFunction = rules.InFunction
+nesting_of InBrackets = rules.InBrackets
 
 -- whether the list of a logical combination is read
-abbrev pub is_inside : Place → Bool
+abbrev pub is_inside : Nesting → Bool
 is_inside InFunction = true
 is_inside _ = false
 

@@ -7,9 +7,9 @@ ghost use Rattle.lol_css.specs.declared.error.SelectorError.TheVariants.{Memory}
 
 use crate::error::SelectorError;
 use crate::selector::SelectorList;
-use crate::selectors::rules::list;
+use crate::selectors::context::Context;
 use crate::syntax::points::preprocessed;
-use crate::syntax::reader::{Place, Reader};
+use crate::syntax::reader::{Nesting, Reader};
 use std::alloc::Global;
 
 /// How many of `:not`, `:is` and `:where` may be open at once.
@@ -30,7 +30,12 @@ impl SelectorsParser {
     {
         let points = preprocessed(alloc, text)?;
         let mut reader = Reader::new(points.as_slice());
-        list(alloc, &mut reader, Place::Outside, MAX_NESTING)?.into_result()
+        let context = Context {
+            alloc,
+            nesting: Nesting::Outside,
+            depth_left: MAX_NESTING,
+        };
+        context.list(&mut reader)?.into_result()
     }
 }
 

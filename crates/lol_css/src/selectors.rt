@@ -2,8 +2,9 @@
 
 mod attributes;
 mod compounds;
+pub(crate) mod context;
 mod items;
 mod judged;
 mod logical;
 mod pseudo_classes;
-pub(crate) mod rules;
+mod rules;

@@ -15,8 +15,9 @@ ghost use Rattle.lol_css.specs.TreeViews.{part_of};
 use crate::attribute::{AttrSelectorOperator, ParsedCaseSensitivity};
 use crate::error::SelectorError;
 use crate::selector::{CssString, SimpleSelector};
+use crate::selectors::context::Context;
 use crate::selectors::judged::Judged;
-use crate::syntax::reader::{Place, Reader};
+use crate::syntax::reader::{Nesting, Reader};
 use crate::syntax::texts::Name;
 use crate::syntax::tokens::{MatchOperator, Token};
 use std::alloc::Global;
@@ -28,7 +29,10 @@ fn name_behind_bar<'a>(
 ) -> Result<(Name<'a>, bool), SelectorError>
     ensures { Reads (λ x. (points_of x.0, x.1)) result reader.new (name_behind_bar any_namespace reader.old) }
 {
-    let name = reader.wanted_name(Place::InBrackets, SelectorError::UnexpectedTokenInAttribute)?;
+    let name = reader.wanted_name(
+        Nesting::InBrackets,
+        SelectorError::UnexpectedTokenInAttribute,
+    )?;
     Ok((name, any_namespace))
 }
 
@@ -37,11 +41,11 @@ fn name_behind_bar<'a>(
 fn attribute_name<'a>(reader: &mut Reader<'a>) -> Result<(Name<'a>, bool), SelectorError>
     ensures { Reads (λ x. (points_of x.0, x.1)) result reader.new (attribute_name reader.old) }
 {
-    match reader.wanted(Place::InBrackets)? {
+    match reader.wanted(Nesting::InBrackets)? {
         Token::Ident(_) if reader.is_at_delim('|') => Err(SelectorError::NamespacedSelector),
         Token::Ident(name) => Ok((name, false)),
         Token::Delim('|') => name_behind_bar(false, reader),
-        Token::Delim('*') => match reader.wanted(Place::InBrackets)? {
+        Token::Delim('*') => match reader.wanted(Nesting::InBrackets)? {
             Token::Delim('|') => name_behind_bar(true, reader),
             _ => Err(SelectorError::UnexpectedTokenInAttribute),
         },
@@ -53,7 +57,7 @@ fn attribute_name<'a>(reader: &mut Reader<'a>) -> Result<(Name<'a>, bool), Selec
 fn operator(reader: &mut Reader<'_>) -> Result<AttrSelectorOperator, SelectorError>
     ensures { Reads (λ x. x) result reader.new (wanted InBrackets operator_of UnexpectedTokenInAttribute reader.old) }
 {
-    match reader.wanted(Place::InBrackets)? {
+    match reader.wanted(Nesting::InBrackets)? {
         Token::Delim('=') => Ok(AttrSelectorOperator::Equal),
         Token::Match(MatchOperator::Include) => Ok(AttrSelectorOperator::Includes),
         Token::Match(MatchOperator::Dash) => Ok(AttrSelectorOperator::DashMatch),
@@ -68,7 +72,7 @@ fn operator(reader: &mut Reader<'_>) -> Result<AttrSelectorOperator, SelectorErr
 fn value(alloc: Global, reader: &mut Reader<'_>) -> Result<CssString, SelectorError>
     ensures { ReadsUnlessMemory (λ s. s) result reader.new (giving utf8 (wanted InBrackets value_of UnexpectedTokenInAttribute reader.old)) }
 {
-    match reader.wanted(Place::InBrackets)? {
+    match reader.wanted(Nesting::InBrackets)? {
         Token::Ident(name) => Ok(name.to_text(alloc)?),
         Token::Quoted(quoted) => Ok(quoted.to_text(alloc)?),
         _ => Err(SelectorError::UnexpectedTokenInAttribute),
@@ -91,7 +95,7 @@ fn flag_named(name: Name<'_>) -> Option<ParsedCaseSensitivity>
 fn flag(reader: &mut Reader<'_>) -> Result<ParsedCaseSensitivity, SelectorError>
     ensures { Reads (λ x. x) result reader.new (wanted InBrackets flag_of UnexpectedToken reader.old) }
 {
-    match reader.wanted(Place::InBrackets)? {
+    match reader.wanted(Nesting::InBrackets)? {
         Token::Ident(name) => flag_named(name).ok_or(SelectorError::UnexpectedToken),
         _ => Err(SelectorError::UnexpectedToken),
     }
@@ -178,12 +182,12 @@ fn case_sensitivity(
 ) -> Result<ParsedCaseSensitivity, SelectorError>
     ensures { Reads (λ x. x) result reader.new (case_sensitivity name.now reader.old) }
 {
-    if reader.is_at_end(Place::InBrackets) {
+    if reader.is_at_end(Nesting::InBrackets) {
         reader.advance();
         return Ok(unflagged(name));
     }
     let found = flag(reader)?;
-    reader.close(Place::InBrackets)?;
+    reader.close(Nesting::InBrackets)?;
     Ok(found)
 }
 
@@ -196,7 +200,7 @@ fn comparison(
 ) -> Result<SimpleSelector, SelectorError>
     ensures { ReadsUnlessMemory part_of result reader.new (giving trees.Plain (comparison name reader.old)) }
 {
-    if reader.is_at_end(Place::InBrackets) {
+    if reader.is_at_end(Nesting::InBrackets) {
         reader.advance();
         return Ok(SimpleSelector::AttributeExists { name });
     }
@@ -213,22 +217,24 @@ fn comparison(
     })
 }
 
-/// An attribute, from behind the `[`.
-#[tactic(auto, unfolding(crate::specs::Reading::attribute, crate::specs::Accepting::judged_part))]
-pub(crate) fn attribute(
-    alloc: Global,
-    reader: &mut Reader<'_>,
-) -> Result<Judged<SimpleSelector>, SelectorError>
-    ensures { ReadsUnlessMemory (judgement part_of) result reader.new (giving judged_part (attribute reader.old)) }
-{
-    reader.skip_space();
-    let (name, any_namespace) = attribute_name(reader)?;
-    let name = name.to_lowercase_text(alloc)?;
-    reader.skip_space();
-    let part = comparison(alloc, name, reader)?;
-    Ok(if any_namespace {
-        Judged::Refused(SelectorError::NamespacedSelector)
-    } else {
-        Judged::Kept(part)
-    })
+impl Context {
+    /// An attribute, from behind the `[`.
+    #[tactic(auto, unfolding(crate::specs::Reading::attribute, crate::specs::Accepting::judged_part))]
+    pub(crate) fn attribute(
+        self,
+        reader: &mut Reader<'_>,
+    ) -> Result<Judged<SimpleSelector>, SelectorError>
+        ensures { ReadsUnlessMemory (judgement part_of) result reader.new (giving judged_part (attribute reader.old)) }
+    {
+        reader.skip_space();
+        let (name, any_namespace) = attribute_name(reader)?;
+        let name = name.to_lowercase_text(self.alloc)?;
+        reader.skip_space();
+        let part = comparison(self.alloc, name, reader)?;
+        Ok(if any_namespace {
+            Judged::Refused(SelectorError::NamespacedSelector)
+        } else {
+            Judged::Kept(part)
+        })
+    }
 }

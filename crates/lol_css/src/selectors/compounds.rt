@@ -8,47 +8,105 @@ ghost use Rattle.lol_css.specs.Reading.{class_name, behind_bar, any_namespace, n
 ghost use Rattle.lol_css.specs.Accepting.{judged_compound};
 ghost use Rattle.lol_css.specs.Judging as judging;
 ghost use Rattle.lol_css.specs.Judging.{is_empty};
-ghost use Rattle.lol_css.specs.Views.{ReadsUnlessMemory, place_of, judgement};
+ghost use Rattle.lol_css.specs.Views.{ReadsUnlessMemory, nesting_of, judgement};
 ghost use Rattle.lol_css.specs.TreeViews.{part_of, compound_of};
 
 use crate::error::SelectorError;
 use crate::selector::{Compound, SimpleSelector};
+use crate::selectors::context::Context;
 use crate::selectors::judged::Judged;
-use crate::syntax::reader::{Place, Reader};
+use crate::syntax::reader::Reader;
 use crate::syntax::tokens::Token;
 use std::alloc::{AllocError, Global};
 
-#[tactic(auto, unfolding(crate::specs::Reading::class_name))]
-pub(crate) fn class_name(
-    alloc: Global,
-    reader: &mut Reader<'_>,
-    place: Place,
-) -> Result<SimpleSelector, SelectorError>
-    ensures { ReadsUnlessMemory part_of result reader.new (giving trees.Plain (class_name (place_of place) reader.old)) }
-{
-    if reader.is_at_stop(place) {
-        return Err(SelectorError::UnexpectedEnd);
+impl Context {
+    #[tactic(auto, unfolding(crate::specs::Reading::class_name))]
+    pub(crate) fn class_name(self, reader: &mut Reader<'_>) -> Result<SimpleSelector, SelectorError>
+        ensures { ReadsUnlessMemory part_of result reader.new (giving trees.Plain (class_name (nesting_of self.nesting) reader.old)) }
+    {
+        if reader.is_at_stop(self.nesting) {
+            return Err(SelectorError::UnexpectedEnd);
+        }
+        let name = reader.wanted_name(self.nesting, SelectorError::InvalidClassName)?;
+        Ok(SimpleSelector::Class(name.to_text(self.alloc)?))
     }
-    let name = reader.wanted_name(place, SelectorError::InvalidClassName)?;
-    Ok(SimpleSelector::Class(name.to_text(alloc)?))
-}
 
-/// A name or `*`, directly behind a bar; nothing where the item ends.
-#[tactic(auto, unfolding(crate::specs::Reading::behind_bar))]
-fn behind_bar(
-    alloc: Global,
-    reader: &mut Reader<'_>,
-    place: Place,
-) -> Result<Option<SimpleSelector>, SelectorError>
-    ensures { ReadsUnlessMemory (option_map part_of) result reader.new (giving (option_map trees.Plain) (behind_bar (place_of place) reader.old)) }
-{
-    if reader.is_at_stop(place) {
-        return Ok(None);
+    /// A name or `*`, directly behind a bar; nothing where the item ends.
+    #[tactic(auto, unfolding(crate::specs::Reading::behind_bar))]
+    fn behind_bar(self, reader: &mut Reader<'_>) -> Result<Option<SimpleSelector>, SelectorError>
+        ensures { ReadsUnlessMemory (option_map part_of) result reader.new (giving (option_map trees.Plain) (behind_bar (nesting_of self.nesting) reader.old)) }
+    {
+        if reader.is_at_stop(self.nesting) {
+            return Ok(None);
+        }
+        match reader.next() {
+            Some(Token::Ident(name)) => Ok(Some(SimpleSelector::LocalName(name.to_text(
+                self.alloc,
+            )?))),
+            Some(Token::Delim('*')) => Ok(Some(SimpleSelector::ExplicitUniversalType)),
+            _ => Err(SelectorError::UnexpectedToken),
+        }
     }
-    match reader.next() {
-        Some(Token::Ident(name)) => Ok(Some(SimpleSelector::LocalName(name.to_text(alloc)?))),
-        Some(Token::Delim('*')) => Ok(Some(SimpleSelector::ExplicitUniversalType)),
-        _ => Err(SelectorError::UnexpectedToken),
+
+    /// A compound that begins behind `*|`; nothing where the item ends.
+    #[tactic(auto, unfolding(crate::specs::Accepting::judged_compound, crate::specs::Accepting::judged_part))]
+    fn any_namespace(self, reader: &mut Reader<'_>) -> Result<Option<Compound>, SelectorError>
+        ensures { ReadsUnlessMemory (option_map (λ start. Ok (compound_of start))) result reader.new (giving (option_map judged_compound) (giving (option_map any_namespace) (behind_bar (nesting_of self.nesting) reader.old))) }
+    {
+        match self.behind_bar(reader)? {
+            Some(name) => Ok(Some(single(self.alloc, name)?)),
+            None => Ok(None),
+        }
+    }
+
+    /// A compound that begins behind `|`; nothing where the item ends.
+    #[tactic(auto, unfolding(crate::specs::Accepting::judged_compound, crate::specs::Accepting::judged_part), using(crate::proofs::TreeRows::push_steps))]
+    fn no_namespace(self, reader: &mut Reader<'_>) -> Result<Option<Compound>, SelectorError>
+        ensures { ReadsUnlessMemory (option_map (λ start. Ok (compound_of start))) result reader.new (giving (option_map judged_compound) (giving (option_map no_namespace) (behind_bar (nesting_of self.nesting) reader.old))) }
+    {
+        match self.behind_bar(reader)? {
+            Some(name) => {
+                let mut compound = single(self.alloc, SimpleSelector::ExplicitNoNamespace)?;
+                compound.parts.push(name)?;
+                Ok(Some(compound))
+            }
+            None => Ok(None),
+        }
+    }
+
+    /// A compound that begins with its type part, where one stands; nothing where a bar ends the item.
+    #[tactic(auto, unfolding(crate::specs::Reading::type_part, crate::specs::Accepting::judged_compound, crate::specs::Accepting::judged_part))]
+    pub(crate) fn type_part(
+        self,
+        reader: &mut Reader<'_>,
+    ) -> Result<Option<Compound>, SelectorError>
+        ensures { ReadsUnlessMemory (option_map (λ start. Ok (compound_of start))) result reader.new (giving (option_map judged_compound) (type_part (nesting_of self.nesting) reader.old)) }
+    {
+        match reader.peek() {
+            Some(Token::Ident(name)) => {
+                reader.advance();
+                if reader.is_at_delim('|') {
+                    return Err(SelectorError::NamespacedSelector);
+                }
+                let name = SimpleSelector::LocalName(name.to_text(self.alloc)?);
+                Ok(Some(single(self.alloc, name)?))
+            }
+            Some(Token::Delim('*')) => {
+                reader.advance();
+                if !reader.is_at_delim('|') {
+                    return Ok(Some(single(self.alloc, SimpleSelector::ExplicitUniversalType)?));
+                }
+                reader.advance();
+                self.any_namespace(reader)
+            }
+            Some(Token::Delim('|')) => {
+                reader.advance();
+                self.no_namespace(reader)
+            }
+            _ => Ok(Some(Compound {
+                parts: Vec::new(self.alloc),
+            })),
+        }
     }
 }
 
@@ -60,76 +118,6 @@ fn single(alloc: Global, part: SimpleSelector) -> Result<Compound, AllocError>
     let mut parts = Vec::new(alloc);
     parts.push(part)?;
     Ok(Compound { parts })
-}
-
-/// A compound that begins behind `*|`; nothing where the item ends.
-#[tactic(auto, unfolding(crate::specs::Accepting::judged_compound, crate::specs::Accepting::judged_part))]
-fn any_namespace(
-    alloc: Global,
-    reader: &mut Reader<'_>,
-    place: Place,
-) -> Result<Option<Compound>, SelectorError>
-    ensures { ReadsUnlessMemory (option_map (λ start. Ok (compound_of start))) result reader.new (giving (option_map judged_compound) (giving (option_map any_namespace) (behind_bar (place_of place) reader.old))) }
-{
-    match behind_bar(alloc, reader, place)? {
-        Some(name) => Ok(Some(single(alloc, name)?)),
-        None => Ok(None),
-    }
-}
-
-/// A compound that begins behind `|`; nothing where the item ends.
-#[tactic(auto, unfolding(crate::specs::Accepting::judged_compound, crate::specs::Accepting::judged_part), using(crate::proofs::TreeRows::push_steps))]
-fn no_namespace(
-    alloc: Global,
-    reader: &mut Reader<'_>,
-    place: Place,
-) -> Result<Option<Compound>, SelectorError>
-    ensures { ReadsUnlessMemory (option_map (λ start. Ok (compound_of start))) result reader.new (giving (option_map judged_compound) (giving (option_map no_namespace) (behind_bar (place_of place) reader.old))) }
-{
-    match behind_bar(alloc, reader, place)? {
-        Some(name) => {
-            let mut compound = single(alloc, SimpleSelector::ExplicitNoNamespace)?;
-            compound.parts.push(name)?;
-            Ok(Some(compound))
-        }
-        None => Ok(None),
-    }
-}
-
-/// A compound that begins with its type part, where one stands; nothing where a bar ends the item.
-#[tactic(auto, unfolding(crate::specs::Reading::type_part, crate::specs::Accepting::judged_compound, crate::specs::Accepting::judged_part))]
-pub(crate) fn type_part(
-    alloc: Global,
-    reader: &mut Reader<'_>,
-    place: Place,
-) -> Result<Option<Compound>, SelectorError>
-    ensures { ReadsUnlessMemory (option_map (λ start. Ok (compound_of start))) result reader.new (giving (option_map judged_compound) (type_part (place_of place) reader.old)) }
-{
-    match reader.peek() {
-        Some(Token::Ident(name)) => {
-            reader.advance();
-            if reader.is_at_delim('|') {
-                return Err(SelectorError::NamespacedSelector);
-            }
-            let name = SimpleSelector::LocalName(name.to_text(alloc)?);
-            Ok(Some(single(alloc, name)?))
-        }
-        Some(Token::Delim('*')) => {
-            reader.advance();
-            if !reader.is_at_delim('|') {
-                return Ok(Some(single(alloc, SimpleSelector::ExplicitUniversalType)?));
-            }
-            reader.advance();
-            any_namespace(alloc, reader, place)
-        }
-        Some(Token::Delim('|')) => {
-            reader.advance();
-            no_namespace(alloc, reader, place)
-        }
-        _ => Ok(Some(Compound {
-            parts: Vec::new(alloc),
-        })),
-    }
 }
 
 /// A compound with one more part.

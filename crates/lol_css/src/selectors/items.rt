@@ -6,27 +6,27 @@ ghost use Rattle.lol_css.specs.Rules.{giving};
 ghost use Rattle.lol_css.specs.Reading.{next_step};
 ghost use Rattle.lol_css.specs.Accepting.{judged_step};
 ghost use Rattle.lol_css.specs.Judging as judging;
-ghost use Rattle.lol_css.specs.Views.{Reads, place_of, is_inside, judgement, step_judgement};
+ghost use Rattle.lol_css.specs.Views.{Reads, nesting_of, is_inside, judgement, step_judgement};
 ghost use Rattle.lol_css.specs.TreeViews.{compound_of, item_of, list_of};
 
 use crate::error::SelectorError;
 use crate::selector::{Combinator, ComplexSelector, Compound, SelectorList};
 use crate::selectors::judged::Judged;
-use crate::syntax::reader::{Place, Reader};
+use crate::syntax::reader::{Nesting, Reader};
 use crate::syntax::tokens::Token;
 use std::alloc::{AllocError, Global};
 
 /// The step behind a compound; nothing where the item ends.
 #[tactic(auto, unfolding(crate::specs::Reading::next_step, crate::specs::Reading::step))]
 pub(crate) fn next_step(
+    nesting: Nesting,
     reader: &mut Reader<'_>,
-    place: Place,
 ) -> Result<Option<Judged<Combinator>>, SelectorError>
-    ensures { Reads (option_map step_judgement) result reader.new (giving (option_map (judged_step (is_inside place))) (next_step (place_of place) reader.old)) }
+    ensures { Reads (option_map step_judgement) result reader.new (giving (option_map (judged_step (is_inside nesting))) (next_step (nesting_of nesting) reader.old)) }
 {
     let after_space = matches!(reader.peek(), Some(Token::Space));
     reader.skip_space();
-    if reader.is_at_stop(place) {
+    if reader.is_at_stop(nesting) {
         return Ok(None);
     }
     let step = match reader.peek() {
@@ -41,7 +41,7 @@ pub(crate) fn next_step(
     } else if !after_space {
         return Err(SelectorError::UnexpectedToken);
     }
-    if place == Place::InFunction {
+    if nesting == Nesting::InFunction {
         return Ok(Some(Judged::Refused(SelectorError::UnsupportedPseudoClassOrElement)));
     }
     Ok(Some(step.unwrap_or(Judged::Kept(Combinator::Descendant))))

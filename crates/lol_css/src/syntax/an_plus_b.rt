@@ -11,7 +11,7 @@ ghost use Rattle.lol_css.specs.Views.{Reads, numeral_of, token_of, points_of};
 
 use crate::error::SelectorError;
 use crate::nth::NthChild;
-use crate::syntax::reader::{Place, Reader};
+use crate::syntax::reader::{Nesting, Reader};
 use crate::syntax::texts::Name;
 use crate::syntax::tokens::{Numeral, Sign, Token};
 
@@ -86,7 +86,7 @@ fn digits_of_b(sign: Sign, reader: &mut Reader<'_>) -> Result<i32, SelectorError
     ensures { Reads (λ x. x) result reader.new (digits_of_b sign reader.old) }
 {
     reader.skip_space();
-    match reader.wanted(Place::InFunction)? {
+    match reader.wanted(Nesting::InFunction)? {
         Token::Number(
             Numeral {
                 sign: None,
@@ -226,7 +226,7 @@ fn an_plus_b_of(token: Token<'_>, reader: &mut Reader<'_>) -> Result<(i32, i32),
         Token::Number(number) => Ok((0, integer(number)?)),
         Token::Dimension(number, unit) => scaled(number, unit, reader),
         Token::Delim('+') => {
-            let name = reader.wanted_name(Place::InFunction, SelectorError::UnexpectedToken)?;
+            let name = reader.wanted_name(Nesting::InFunction, SelectorError::UnexpectedToken)?;
             Ok((1, rest_of(name, reader)?))
         }
         _ => Err(SelectorError::UnexpectedToken),
@@ -239,8 +239,8 @@ pub(crate) fn an_plus_b(reader: &mut Reader<'_>) -> Result<NthChild, SelectorErr
     ensures { Reads (λ nth. (nth.step, nth.offset)) result reader.new (an_plus_b reader.old) }
 {
     reader.skip_space();
-    let first = reader.wanted(Place::InFunction)?;
+    let first = reader.wanted(Nesting::InFunction)?;
     let (step, offset) = an_plus_b_of(first, reader)?;
-    reader.close(Place::InFunction)?;
+    reader.close(Nesting::InFunction)?;
     Ok(NthChild::new(step, offset))
 }

@@ -6,7 +6,7 @@ ghost use Rattle.lol_css.specs.Points.{front};
 ghost use Rattle.lol_css.specs.Tokens as tokens;
 ghost use Rattle.lol_css.specs.Tokens.{tokens_of, with_first};
 ghost use Rattle.lol_css.specs.Rules.{skip_space, is_delim, wanted, ident_of, at_end, at_stop, closed};
-ghost use Rattle.lol_css.specs.Views.{token_of, points_of, IsFirst, place_of, Reads, TakesWanted};
+ghost use Rattle.lol_css.specs.Views.{token_of, points_of, IsFirst, nesting_of, Reads, TakesWanted};
 ghost use Rattle.lol_css.specs.declared.error.SelectorError.TheVariants.{UnexpectedToken};
 
 use crate::error::SelectorError;
@@ -17,7 +17,7 @@ use std::mem;
 
 /// What is open innermost.
 #[derive(Clone, Copy, Debug, PartialEq, Eq)]
-pub(crate) enum Place {
+pub(crate) enum Nesting {
     Outside,
     InFunction,
     InBrackets,
@@ -80,13 +80,13 @@ impl<'a> Reader<'a> {
     }
 
     /// Whether what is open ends here.
-    pub(crate) fn is_at_end(&self, place: Place) -> bool
-        ensures { result ≡ at_end (place_of place) self.now }
+    pub(crate) fn is_at_end(&self, nesting: Nesting) -> bool
+        ensures { result ≡ at_end (nesting_of nesting) self.now }
     {
         match self.peek() {
             None => true,
-            Some(Token::Delim(')')) => place == Place::InFunction,
-            Some(Token::Delim(']')) => place == Place::InBrackets,
+            Some(Token::Delim(')')) => nesting == Nesting::InFunction,
+            Some(Token::Delim(']')) => nesting == Nesting::InBrackets,
             _ => false,
         }
     }
@@ -102,18 +102,18 @@ impl<'a> Reader<'a> {
     }
 
     /// Whether an item of a list ends here.
-    pub(crate) fn is_at_stop(&self, place: Place) -> bool
-        ensures { result ≡ at_stop (place_of place) self.now }
+    pub(crate) fn is_at_stop(&self, nesting: Nesting) -> bool
+        ensures { result ≡ at_stop (nesting_of nesting) self.now }
     {
-        self.is_at_end(place) || self.is_at_delim(',')
+        self.is_at_end(nesting) || self.is_at_delim(',')
     }
 
     /// The token that is wanted here: `UnexpectedEnd` where what is open ends.
     #[tactic(auto, unfolding(crate::specs::Rules::wanted))]
-    pub(crate) fn wanted(&mut self, place: Place) -> Result<Token<'a>, SelectorError>
-        ensures { TakesWanted (place_of place) result self.old self.new }
+    pub(crate) fn wanted(&mut self, nesting: Nesting) -> Result<Token<'a>, SelectorError>
+        ensures { TakesWanted (nesting_of nesting) result self.old self.new }
     {
-        if self.is_at_end(place) {
+        if self.is_at_end(nesting) {
             return Err(SelectorError::UnexpectedEnd);
         }
         self.next().ok_or(SelectorError::UnexpectedEnd)
@@ -123,12 +123,12 @@ impl<'a> Reader<'a> {
     #[tactic(auto, unfolding(crate::specs::Rules::wanted))]
     pub(crate) fn wanted_name(
         &mut self,
-        place: Place,
+        nesting: Nesting,
         other: SelectorError,
     ) -> Result<Name<'a>, SelectorError>
-        ensures { Reads points_of result self.new (wanted (place_of place) ident_of other self.old) }
+        ensures { Reads points_of result self.new (wanted (nesting_of nesting) ident_of other self.old) }
     {
-        match self.wanted(place)? {
+        match self.wanted(nesting)? {
             Token::Ident(name) => Ok(name),
             _ => Err(other),
         }
@@ -136,11 +136,11 @@ impl<'a> Reader<'a> {
 
     /// White space and the end of what is open, which is taken: `UnexpectedToken` at anything else.
     #[tactic(auto, unfolding(crate::specs::Rules::closed))]
-    pub(crate) fn close(&mut self, place: Place) -> Result<(), SelectorError>
-        ensures { Reads (λ x. x) result self.new (closed (place_of place) self.old) }
+    pub(crate) fn close(&mut self, nesting: Nesting) -> Result<(), SelectorError>
+        ensures { Reads (λ x. x) result self.new (closed (nesting_of nesting) self.old) }
     {
         self.skip_space();
-        if !self.is_at_end(place) {
+        if !self.is_at_end(nesting) {
             return Err(SelectorError::UnexpectedToken);
         }
         self.advance();
