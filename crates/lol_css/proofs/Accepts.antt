@@ -1,5 +1,5 @@
 -- From what is read to what is accepted.
-use Rattle.std.proofs.Common.{◌≡◌, ℕ, ◌⊎◌, inl, inr, false, List, Result, Ok, Err, IfOk, IfErr, refl}
+use Rattle.std.proofs.Common.{◌≡◌, ℕ, ◌⊎◌, inl, inr, false, List, Ok, Err, IfOk, IfErr, refl}
 use Rattle.std.specs.Str.{chars}
 use Rattle.lol_css.specs.Points.{preprocessed}
 use Rattle.lol_css.specs.Tokens.{Token, tokens_of}

@@ -1,6 +1,6 @@
 -- A text has no more tokens than code points.
 use Rattle.std.proofs.Common.{◌≡◌, ℕ, zero, suc, ◌+◌, ◌≤◌, Bool, true, false, cond, eqb, ◌&&◌, List, [], ◌∷◌, length, Option, Some, None, refl, arith, length-append}
-use Rattle.lol_css.specs.Points.{line_feed, carriage_return, took, at_most, preprocessed_behind, cleaned, cleaned_behind, preprocessed}
+use Rattle.lol_css.specs.Points.{line_feed, carriage_return, took, at_most, preprocessed_after, clean_point, clean_points_after, preprocessed}
 use Rattle.lol_css.specs.Tokens.{Token, next, somes, with_first, tokens_of, tokens}
 use Rattle.lol_css.proofs.Many.{Shrinks}
 use Rattle.lol_css.proofs.Streams.{next-shrinks}
@@ -23,15 +23,15 @@ somes_fewer : (all : List (Option Token)) → length (somes all) ≤ length all
 somes_fewer [] = omega arith
 somes_fewer (first ∷ all) = omega (arith, with_first_fewer first (somes all), somes_fewer all)
 
-cleaned_fewer : (b : Bool) (c : ℕ) → length (cond b [] (cleaned c ∷ [])) ≤ 1
+cleaned_fewer : (b : Bool) (c : ℕ) → length (cond b [] (clean_point c ∷ [])) ≤ 1
 cleaned_fewer true c = omega arith
 cleaned_fewer false c = omega arith
 
-preprocessed_fewer : (before : ℕ) (text : List ℕ) → length (preprocessed_behind before text) ≤ length text
-unfolding preprocessed_behind
+preprocessed_fewer : (before : ℕ) (text : List ℕ) → length (preprocessed_after before text) ≤ length text
+unfolding preprocessed_after
 preprocessed_fewer before [] = omega arith
 preprocessed_fewer before (c ∷ cs) =
-    omega (arith, length-append (cleaned_behind before c) (preprocessed_behind c cs), cleaned_fewer (eqb before carriage_return && eqb c line_feed) c, preprocessed_fewer c cs)
+    omega (arith, length-append (clean_points_after before c) (preprocessed_after c cs), cleaned_fewer (eqb before carriage_return && eqb c line_feed) c, preprocessed_fewer c cs)
 
 pub tokens-fewer : (text : List ℕ) → length (tokens text) ≤ length text
 unfolding tokens_of

@@ -7,7 +7,7 @@ use Rattle.lol_css.specs.Trees as trees
 use Rattle.lol_css.specs.Drafts.{Step, Part, Logical, Compound, Nothing, With, Item, First, Then, Items, NoItems, And}
 use Rattle.lol_css.specs.Rules.{Read, ◌>>=◌, giving, skip_space, Nesting, InFunction, at_end}
 use Rattle.lol_css.specs.Reading.{class_name, pseudo, part, parts_at_most, more_parts, type_part, is_nothing, compound, next_step, further, item, items_at_most, list, inner_list}
-use Rattle.lol_css.specs.Accepting.{judged_step, combined, judged_part, judged_compound, judged_item, judged}
+use Rattle.lol_css.specs.Accepting.{judged_step, combination_part, judged_part, judged_compound, judged_item, judged}
 use Rattle.lol_css.specs.Judging.{Judged, with_part, alone, with_compound, with_item, judged_parts_at_most, judged_parts, judged_further, judged_items_at_most, is_empty}
 use Rattle.lol_css.specs.Views.{FailsUnlessMemory}
 use Rattle.lol_css.specs.declared.selector.Combinator.{Combinator}
@@ -197,7 +197,7 @@ compound_of_start (Some draft) inner nesting empty tokens start rest e g =
     let same : judged_compound draft ≡ Ok start = cc in
     rw e (not_empty_fused empty (more_parts inner nesting draft rest) ∙ ap (λ (r : Read (Judged trees.Compound)). not_empty empty r) (parts-fused (length rest) inner nesting draft rest ∙ ap (λ (j : Judged trees.Compound). judged_parts inner nesting j rest) same))
 
--- behind its type part
+-- after its type part
 pub compound-starts : (inner : List Token → Read Items) (nesting : Nesting) (empty : SelectorError) (tokens : List Token) (start : trees.Compound) (rest : List Token) → giving (option_map judged_compound) (type_part nesting tokens) ≡ Ok (Some (Ok start), rest) → giving judged_compound (compound inner nesting empty tokens) ≡ not_empty empty (judged_parts inner nesting (Ok start) rest)
 compound-starts inner nesting empty tokens start rest e =
     let f = giving-ok (option_map judged_compound) (type_part nesting tokens) (Some (Ok start)) rest e in
@@ -243,7 +243,7 @@ unfolding item judged_item
 item_starts_of inner nesting inside tokens draft first rest e g =
     rw e (further_fused 1023 inner nesting inside (First draft) rest ∙ ap (λ (j : Judged trees.Compound). judged_further 1023 inner nesting inside (alone j) rest) g)
 
--- behind its first compound
+-- after its first compound
 pub item-starts : (inner : List Token → Read Items) (nesting : Nesting) (inside : Bool) (tokens : List Token) (first : Judged trees.Compound) (rest : List Token) → giving judged_compound (compound inner nesting errors.EmptySelector (skip_space tokens)) ≡ Ok (first, rest) → giving (judged_item inside) (item inner nesting tokens) ≡ judged_further 1023 inner nesting inside (alone first) rest
 item-starts inner nesting inside tokens first rest e =
     let f = giving-ok judged_compound (compound inner nesting errors.EmptySelector (skip_space tokens)) first rest e in
@@ -339,7 +339,7 @@ unfolding list judged
 list_starts_of inner nesting inside tokens draft first rest e g =
     rw e (items_fused (length rest + 1) inner nesting inside (And NoItems draft) rest ∙ ap (λ (j : Judged trees.Item). judged_items_at_most (length rest + 1) inner nesting inside (with_item (Ok trees.NoItems) j) rest) g)
 
--- behind its first item
+-- after its first item
 pub list-starts : (inner : List Token → Read Items) (nesting : Nesting) (inside : Bool) (tokens : List Token) (first : Judged trees.Item) (rest : List Token) → giving (judged_item inside) (item inner nesting tokens) ≡ Ok (first, rest) → giving (judged inside) (list inner nesting tokens) ≡ judged_items_at_most (length rest + 1) inner nesting inside (with_item (Ok trees.NoItems) first) rest
 list-starts inner nesting inside tokens first rest e =
     let f = giving-ok (judged_item inside) (item inner nesting tokens) first rest e in
@@ -417,12 +417,12 @@ unfolding inner_list
 inner_list-opens zero tokens h = absurd (h refl)
 inner_list-opens (suc room) tokens h = let e : suc room - 1 ≡ room = omega arith in rw e refl
 
-logical_of : (combination : LogicalCombination) (draft : Items) (found : Judged trees.Items) → judged true draft ≡ found → judged_part (Logical combination draft) ≡ (found >>= λ items. Ok (combined combination items))
+logical_of : (combination : LogicalCombination) (draft : Items) (found : Judged trees.Items) → judged true draft ≡ found → judged_part (Logical combination draft) ≡ (found >>= λ items. Ok (combination_part combination items))
 unfolding judged_part judged
 logical_of combination draft found e = rw e refl
 
 -- the list of a logical combination was read
-pub logical-read : (combination : LogicalCombination) (read : Read Items) (found : Judged trees.Items) (rest : List Token) → giving (judged true) read ≡ Ok (found, rest) → giving judged_part (giving (λ items. Logical combination items) read) ≡ Ok ((found >>= λ items. Ok (combined combination items)), rest)
+pub logical-read : (combination : LogicalCombination) (read : Read Items) (found : Judged trees.Items) (rest : List Token) → giving (judged true) read ≡ Ok (found, rest) → giving judged_part (giving (λ items. Logical combination items) read) ≡ Ok ((found >>= λ items. Ok (combination_part combination items)), rest)
 logical-read combination read found rest e =
     let f = giving-ok (judged true) read found rest e in
     rw f.is (ap (λ (j : Judged trees.Part). Ok (j, rest)) (logical_of combination f.x found f.gives))

@@ -1,7 +1,7 @@
 -- The loops of the tokens.
 use Rattle.std.proofs.Common.{◌≡◌, ℕ, zero, suc, ◌-◌, ◌<◌, Bool, true, false, cond, eqb, ◌&&◌, List, [], ◌∷◌, ◌++◌, length, length-append, take, Option, Some, None, refl, sym, ap, ◌∙◌, arith}
 use Rattle.std.specs.Str.{byte}
-use Rattle.lol_css.specs.Points.{is, front, took, at_most, many, one, is_white_space, is_decimal, name, name_point}
+use Rattle.lol_css.specs.Points.{is, first_passes, took, at_most, many, one, is_white_space, is_decimal, name, name_point}
 use Rattle.lol_css.specs.Tokens.{in_comment}
 use Rattle.lol_css.proofs.Many.{Shrinks, many-some, many-none, one_shorter, some_same, name_point-shrinks}
 
@@ -19,7 +19,7 @@ in_comment_shorter_of false c cs x rest e = let same : cs ≡ rest = ap (λ (p :
 in_comment_shorter : (text : List ℕ) (x : ℕ) (rest : List ℕ) → in_comment text ≡ Some (x, rest) → length rest < length text
 unfolding in_comment
 in_comment_shorter [] x rest e = absurd cc
-in_comment_shorter (c ∷ cs) x rest e = in_comment_shorter_of (eqb c (byte "*") && front (is (byte "/")) cs) c cs x rest e
+in_comment_shorter (c ∷ cs) x rest e = in_comment_shorter_of (eqb c (byte "*") && first_passes (is (byte "/")) cs) c cs x rest e
 
 pub in_comment-shrinks : Shrinks in_comment
 in_comment-shrinks = record { shorter = in_comment_shorter }
@@ -49,11 +49,11 @@ decimal-goes_on = rest-goes_on (one is_decimal) (one-shrinks is_decimal)
 pub decimal-stops : (text : List ℕ) → one is_decimal text ≡ None → (many (one is_decimal) text).1 ≡ text
 decimal-stops = rest-stops (one is_decimal)
 
-pub behind_name-goes_on : (text : List ℕ) (x : ℕ) (rest : List ℕ) → name_point text ≡ Some (x, rest) → (name text).1 ≡ (name rest).1
-behind_name-goes_on = rest-goes_on name_point name_point-shrinks
+pub after_name-goes_on : (text : List ℕ) (x : ℕ) (rest : List ℕ) → name_point text ≡ Some (x, rest) → (name text).1 ≡ (name rest).1
+after_name-goes_on = rest-goes_on name_point name_point-shrinks
 
-pub behind_name-stops : (text : List ℕ) → name_point text ≡ None → (name text).1 ≡ text
-behind_name-stops = rest-stops name_point
+pub after_name-stops : (text : List ℕ) → name_point text ≡ None → (name text).1 ≡ text
+after_name-stops = rest-stops name_point
 
 many_one_whole_of : {A : Type 0} (p : A → Bool) (n : ℕ) (b : Bool) (x : A) (xs : List A) → (at_most n (one p) xs).0 ++ (at_most n (one p) xs).1 ≡ xs → (took (cond {A = Option (A × List A)} b (Some (x, xs)) None) (at_most n (one p)) (x ∷ xs)).0 ++ (took (cond {A = Option (A × List A)} b (Some (x, xs)) None) (at_most n (one p)) (x ∷ xs)).1 ≡ x ∷ xs
 many_one_whole_of {A} p n true x xs h = ap (λ (l : List A). x ∷ l) h
@@ -85,4 +85,4 @@ pub ruleset comment_steps = (comment-goes_on, comment-stops)
 
 pub ruleset decimal_steps = (decimal-goes_on, decimal-stops)
 
-pub ruleset name_steps = (behind_name-goes_on, behind_name-stops)
+pub ruleset name_steps = (after_name-goes_on, after_name-stops)

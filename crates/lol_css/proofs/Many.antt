@@ -3,7 +3,7 @@ use Rattle.std.proofs.Common.{◌≡◌, ℕ, zero, suc, ◌+◌, ◌-◌, ◌*�
 use Rattle.std.proofs.lemmas.List.{append-nil}
 use Rattle.std.proofs.Math.Nat.{pow-suc}
 use Rattle.std.specs.Char.{is_digit, digit_value}
-use Rattle.lol_css.specs.Points.{preprocessed_behind, cleaned_behind, preprocessed, past, is_white_space, code_point, is_in_name, begins_escape, took, at_most, many, digit, number_behind, hexadecimal, name_point, name, escaped}
+use Rattle.lol_css.specs.Points.{preprocessed_after, clean_points_after, preprocessed, past, is_white_space, code_point, is_in_name, begins_escape, took, at_most, many, digit, number_after, hexadecimal, name_point, name, escaped_point}
 
 -- each step takes something
 pub record Shrinks {A B : Type 0} (step : List B → Option (A × List B)) : Type 0 where
@@ -50,9 +50,9 @@ many-none step text e = many_none_of step text e (length text)
 
 -- ---- digits
 
--- the number that at most n further digits write behind a number
+-- the number that at most n further digits write after a number
 abbrev pub hexadecimal_in : ℕ → ℕ → List ℕ → ℕ × List ℕ
-hexadecimal_in n number text = let digits = at_most n (digit 16) text in (number_behind 16 number digits.0, digits.1)
+hexadecimal_in n number text = let digits = at_most n (digit 16) text in (number_after 16 number digits.0, digits.1)
 
 -- ---- what is left is no longer
 
@@ -95,17 +95,17 @@ escaped_shorter_of : (c : ℕ) (cs : List ℕ) (b : Bool) → length (cond {A = 
 escaped_shorter_of c cs true = omega (arith, past-shorter is_white_space (hexadecimal (c ∷ cs)).1, hexadecimal-shorter (c ∷ cs))
 escaped_shorter_of c cs false = omega arith
 
-pub escaped-shorter : (text : List ℕ) → length (escaped text).1 ≤ length text
-unfolding escaped
-escaped-shorter [] = omega arith
-escaped-shorter (c ∷ cs) = escaped_shorter_of c cs (is_digit c 16)
+pub escaped_point-shorter : (text : List ℕ) → length (escaped_point text).1 ≤ length text
+unfolding escaped_point
+escaped_point-shorter [] = omega arith
+escaped_point-shorter (c ∷ cs) = escaped_shorter_of c cs (is_digit c 16)
 
-name_point_shorter_of : (a b : Bool) (c : ℕ) (cs : List ℕ) (x : ℕ) (rest : List ℕ) → cond {A = Option (ℕ × List ℕ)} a (cond a (Some (c, cs)) None) (cond b (Some (escaped cs)) None) ≡ Some (x, rest) → length rest < length (c ∷ cs)
+name_point_shorter_of : (a b : Bool) (c : ℕ) (cs : List ℕ) (x : ℕ) (rest : List ℕ) → cond {A = Option (ℕ × List ℕ)} a (cond a (Some (c, cs)) None) (cond b (Some (escaped_point cs)) None) ≡ Some (x, rest) → length rest < length (c ∷ cs)
 name_point_shorter_of true b c cs x rest e = let same : cs ≡ rest = ap (λ (p : ℕ × List ℕ). p.1) (some_same (c, cs) (x, rest) e) in rw (← same) (omega arith)
 name_point_shorter_of false true c cs x rest e =
-    let same : escaped cs ≡ (x, rest) = some_same (escaped cs) (x, rest) e in
-    let left : (escaped cs).1 ≡ rest = ap (λ (p : ℕ × List ℕ). p.1) same in
-    rw (← left) (omega (arith, escaped-shorter cs))
+    let same : escaped_point cs ≡ (x, rest) = some_same (escaped_point cs) (x, rest) e in
+    let left : (escaped_point cs).1 ≡ rest = ap (λ (p : ℕ × List ℕ). p.1) same in
+    rw (← left) (omega (arith, escaped_point-shorter cs))
 name_point_shorter_of false false c cs x rest e = absurd cc
 
 name_point_shorter : (text : List ℕ) (x : ℕ) (rest : List ℕ) → name_point text ≡ Some (x, rest) → length rest < length text
@@ -171,12 +171,12 @@ pub ruleset hexadecimal_steps = (hexadecimal-goes_on, hexadecimal-stops, sixteen
 
 -- what is cleaned so far, and whatever follows, is the whole
 abbrev pub Cleans : List ℕ → ℕ → List ℕ → Type 0
-Cleans points before text = (tail : List ℕ) → points ++ preprocessed_behind before tail ≡ preprocessed (text ++ tail)
+Cleans points before text = (tail : List ℕ) → points ++ preprocessed_after before tail ≡ preprocessed (text ++ tail)
 
-pub Cleans-next : (points : List ℕ) (before : ℕ) (text : List ℕ) (c : ℕ) → Cleans points before text → Cleans (points ++ cleaned_behind before c) c (text ++ c ∷ [])
-unfolding preprocessed_behind
-Cleans-next points before text c h tail = append_assoc points (cleaned_behind before c) (preprocessed_behind c tail) ∙ h (c ∷ tail) ∙ ap preprocessed (sym (append_assoc text (c ∷ []) tail))
+pub Cleans-next : (points : List ℕ) (before : ℕ) (text : List ℕ) (c : ℕ) → Cleans points before text → Cleans (points ++ clean_points_after before c) c (text ++ c ∷ [])
+unfolding preprocessed_after
+Cleans-next points before text c h tail = append_assoc points (clean_points_after before c) (preprocessed_after c tail) ∙ h (c ∷ tail) ∙ ap preprocessed (sym (append_assoc text (c ∷ []) tail))
 
 pub Cleans-all : (points : List ℕ) (before : ℕ) (text : List ℕ) → Cleans points before text → points ≡ preprocessed text
-unfolding preprocessed_behind
+unfolding preprocessed_after
 Cleans-all points before text h = sym (append-nil points) ∙ h [] ∙ ap preprocessed (append-nil text)

@@ -2,13 +2,13 @@
 use Rattle.std.proofs.Common.{◌≡◌, ℕ, zero, suc, ◌+◌, ◌<◌, ◌≤◌, Bool, true, false, cond, eqb, ◌&&◌, List, [], ◌∷◌, length, drop, Option, Some, None, Result, Ok, Err, ℤ, pos, codes, refl, ap, arith, length-drop}
 use Rattle.std.specs.Option.{option_map}
 use Rattle.std.specs.Str.{byte}
-use Rattle.lol_css.specs.Points.{front, is, decimal}
+use Rattle.lol_css.specs.Points.{first_passes, is, decimal}
 use Rattle.lol_css.specs.Tokens.{Token, Numeral, sign_of, Space, Quoted, BadString, Hash, Number, Dimension, Percentage, Cdc, Function, Ident, Match, Delim}
 use Rattle.lol_css.specs.Trees.{Simple, LocalName, AnyName, Id, Class, Exists, Compares, Nth}
 use Rattle.lol_css.specs.Drafts.{By, Part, Plain, LatePseudoClass, LateNamespace, Logical, Compound, Nothing, With, Item, First, Then, Items, NoItems, And}
-use Rattle.lol_css.specs.Rules.{Read, ◌>>=◌, giving, keeping, is_delim, is_space, skip_space, Nesting, InFunction, InBrackets, closes, at_end, at_stop, wanted, closed, says, lowered, ident_of}
-use Rattle.lol_css.specs.AnPlusB.{signed, integer_value, unsigned, in_i32, fitting, digits_of_b, behind_n, is_n_and_digits, rest_of, with_step, integer, scaled, an_plus_b_of, an_plus_b}
-use Rattle.lol_css.specs.Reading.{utf8, combination_named, name_behind_bar, bar_of, attribute_name, operator_of, value_of, flag_of, unflagged, case_sensitivity, comparison, attribute, class_name, is_one_of, function_part, ident_part, pseudo, some, part, parts_at_most, more_parts, behind_bar, any_namespace, no_namespace, type_part, is_nothing, compound, step_of, step, next_step, further, item, items_at_most, list, inner_list}
+use Rattle.lol_css.specs.Rules.{Read, ◌>>=◌, giving, keeping, is_delim, is_space, skip_space, Nesting, InFunction, InBrackets, closes, at_end, at_stop, required_token, block_end, says, lowercase, ident_of}
+use Rattle.lol_css.specs.AnPlusB.{with_sign, integer_value, unsigned_integer, in_i32, bounded_integer, digits_of_b, after_n, is_n_and_digits, rest_of, with_step, integer, an_plus_b_of_dimension, an_plus_b_of, an_plus_b}
+use Rattle.lol_css.specs.Reading.{utf8, combination_named, name_after_bar, bar_of, attribute_name, operator_of, value_of, flag_of, default_case_sensitivity, case_sensitivity, comparison, attribute, class_name, is_one_of, function_part, ident_part, pseudo, some, part, parts_at_most, more_parts, after_bar, any_namespace, no_namespace, type_part, is_nothing, compound, step_of, step, next_step, further, item, items_at_most, list, inner_list}
 use Rattle.lol_css.specs.declared.syntax.tokens.Sign.{Sign}
 use Rattle.lol_css.specs.declared.syntax.tokens.Sign.TheVariants.{Minus}
 use Rattle.lol_css.specs.declared.error.SelectorError.{SelectorError}
@@ -69,33 +69,33 @@ unfolding skip_space
 skip_space-shorter [] = omega arith
 skip_space-shorter (token ∷ tokens) = skip_space_of (is_space token) token tokens (skip_space-shorter tokens)
 
-wanted-leaves : {A : Type 0} (nesting : Nesting) (kind : Token → Option A) (other : SelectorError) (tokens : List Token) → Leaves (wanted nesting kind other tokens) (length tokens)
-unfolding wanted
-wanted-leaves nesting kind other [] = err_leaves errors.UnexpectedEnd 0
-wanted-leaves {A} nesting kind other (token ∷ tokens) =
+required_token-leaves : {A : Type 0} (nesting : Nesting) (kind : Token → Option A) (other : SelectorError) (tokens : List Token) → Leaves (required_token nesting kind other tokens) (length tokens)
+unfolding required_token
+required_token-leaves nesting kind other [] = err_leaves errors.UnexpectedEnd 0
+required_token-leaves {A} nesting kind other (token ∷ tokens) =
     if_leaves (closes nesting token) (Err errors.UnexpectedEnd) (elim (kind token) [ None ↦ Err other | Some x ↦ Ok (x, tokens) ]) (length (token ∷ tokens)) (err_leaves errors.UnexpectedEnd (length (token ∷ tokens)))
     (option_leaves (kind token) (Err other) (λ (x : A). Ok (x, tokens)) (length (token ∷ tokens)) (err_leaves other (length (token ∷ tokens))) (λ x. ok_leaves x tokens (length (token ∷ tokens)) (omega arith)))
 
--- the same behind white space
-wanted_behind : {A : Type 0} (nesting : Nesting) (kind : Token → Option A) (other : SelectorError) (tokens : List Token) → Leaves (wanted nesting kind other (skip_space tokens)) (length tokens)
-wanted_behind nesting kind other tokens = weaker (wanted nesting kind other (skip_space tokens)) (length (skip_space tokens)) (length tokens) (wanted-leaves nesting kind other (skip_space tokens)) (skip_space-shorter tokens)
+-- the same after white space
+required_after_space : {A : Type 0} (nesting : Nesting) (kind : Token → Option A) (other : SelectorError) (tokens : List Token) → Leaves (required_token nesting kind other (skip_space tokens)) (length tokens)
+required_after_space nesting kind other tokens = weaker (required_token nesting kind other (skip_space tokens)) (length (skip_space tokens)) (length tokens) (required_token-leaves nesting kind other (skip_space tokens)) (skip_space-shorter tokens)
 
-closed-leaves : (nesting : Nesting) (tokens : List Token) → Leaves (closed nesting tokens) (length tokens)
-unfolding closed
-closed-leaves nesting tokens =
+block_end-leaves : (nesting : Nesting) (tokens : List Token) → Leaves (block_end nesting tokens) (length tokens)
+unfolding block_end
+block_end-leaves nesting tokens =
     if_leaves (at_end nesting (skip_space tokens)) (Ok (tt, drop 1 (skip_space tokens))) (Err errors.UnexpectedToken) (length tokens)
     (ok_leaves tt (drop 1 (skip_space tokens)) (length tokens) (omega (arith, length-drop 1 (skip_space tokens), skip_space-shorter tokens))) (err_leaves errors.UnexpectedToken (length tokens))
 
 -- ---- An+B
 
-fitting-leaves : (x : ℤ) (tokens : List Token) (n : ℕ) → length tokens ≤ n → Leaves (fitting x tokens) n
-unfolding fitting
-fitting-leaves x tokens n l = if_leaves (in_i32 x) (Ok (x, tokens)) (Err errors.UnexpectedToken) n (ok_leaves x tokens n l) (err_leaves errors.UnexpectedToken n)
+bounded_integer-leaves : (x : ℤ) (tokens : List Token) (n : ℕ) → length tokens ≤ n → Leaves (bounded_integer x tokens) n
+unfolding bounded_integer
+bounded_integer-leaves x tokens n l = if_leaves (in_i32 x) (Ok (x, tokens)) (Err errors.UnexpectedToken) n (ok_leaves x tokens n l) (err_leaves errors.UnexpectedToken n)
 
 digits_of_b-leaves : (sign : Sign) (tokens : List Token) → Leaves (digits_of_b sign tokens) (length tokens)
 unfolding digits_of_b
 digits_of_b-leaves sign tokens =
-    then_leaves (wanted InFunction unsigned errors.UnexpectedToken (skip_space tokens)) (λ digits. fitting (signed sign digits.0) digits.1) (length tokens) (length tokens) (wanted_behind InFunction unsigned errors.UnexpectedToken tokens) (λ x rest l. fitting-leaves (signed sign x) rest (length tokens) l)
+    then_leaves (required_token InFunction unsigned_integer errors.UnexpectedToken (skip_space tokens)) (λ digits. bounded_integer (with_sign sign digits.0) digits.1) (length tokens) (length tokens) (required_after_space InFunction unsigned_integer errors.UnexpectedToken tokens) (λ x rest l. bounded_integer-leaves (with_sign sign x) rest (length tokens) l)
 
 same_leaves : {A : Type 0} (x : A) (tokens : List Token) → Leaves {A = A} (Ok (x, tokens)) (length tokens)
 same_leaves x tokens = ok_leaves x tokens (length tokens) (omega arith)
@@ -103,67 +103,67 @@ same_leaves x tokens = ok_leaves x tokens (length tokens) (omega arith)
 longer : {A : Type 0} (read : Read A) (token : Token) (tokens : List Token) → Leaves read (length tokens) → Leaves read (length (token ∷ tokens))
 longer read token tokens l = weaker read (length tokens) (length (token ∷ tokens)) l (omega arith)
 
-behind_number-leaves : (n : Numeral) (tokens : List Token) (sign : Option Sign) → Leaves (elim sign [
+after_number-leaves : (n : Numeral) (tokens : List Token) (sign : Option Sign) → Leaves (elim sign [
   | None ↦ Ok (pos 0, Number n ∷ tokens)
-  | Some c ↦ elim (integer_value n) [ None ↦ Ok (pos 0, Number n ∷ tokens) | Some b ↦ fitting b tokens ]
+  | Some c ↦ elim (integer_value n) [ None ↦ Ok (pos 0, Number n ∷ tokens) | Some b ↦ bounded_integer b tokens ]
 ]) (length (Number n ∷ tokens))
-behind_number-leaves n tokens None = same_leaves (pos 0) (Number n ∷ tokens)
-behind_number-leaves n tokens (Some c) =
-    option_leaves (integer_value n) (Ok (pos 0, Number n ∷ tokens)) (λ b. fitting b tokens) (length (Number n ∷ tokens)) (same_leaves (pos 0) (Number n ∷ tokens)) (λ b. fitting-leaves b tokens (length (Number n ∷ tokens)) (omega arith))
+after_number-leaves n tokens None = same_leaves (pos 0) (Number n ∷ tokens)
+after_number-leaves n tokens (Some c) =
+    option_leaves (integer_value n) (Ok (pos 0, Number n ∷ tokens)) (λ b. bounded_integer b tokens) (length (Number n ∷ tokens)) (same_leaves (pos 0) (Number n ∷ tokens)) (λ b. bounded_integer-leaves b tokens (length (Number n ∷ tokens)) (omega arith))
 
-behind_n-leaves : (tokens : List Token) → Leaves (behind_n tokens) (length tokens)
-unfolding behind_n
-behind_n-leaves [] = same_leaves (pos 0) []
-behind_n-leaves (Delim c ∷ tokens) =
+after_n-leaves : (tokens : List Token) → Leaves (after_n tokens) (length tokens)
+unfolding after_n
+after_n-leaves [] = same_leaves (pos 0) []
+after_n-leaves (Delim c ∷ tokens) =
     option_leaves (sign_of c) (Ok (pos 0, Delim c ∷ tokens)) (λ sign. digits_of_b sign tokens) (length (Delim c ∷ tokens)) (same_leaves (pos 0) (Delim c ∷ tokens)) (λ sign. longer (digits_of_b sign tokens) (Delim c) tokens (digits_of_b-leaves sign tokens))
-behind_n-leaves (Number n ∷ tokens) = behind_number-leaves n tokens n.sign
-behind_n-leaves (Space ∷ tokens) = same_leaves (pos 0) (Space ∷ tokens)
-behind_n-leaves (Quoted text ∷ tokens) = same_leaves (pos 0) (Quoted text ∷ tokens)
-behind_n-leaves (BadString ∷ tokens) = same_leaves (pos 0) (BadString ∷ tokens)
-behind_n-leaves (Hash name is_id ∷ tokens) = same_leaves (pos 0) (Hash name is_id ∷ tokens)
-behind_n-leaves (Dimension n unit ∷ tokens) = same_leaves (pos 0) (Dimension n unit ∷ tokens)
-behind_n-leaves (Percentage ∷ tokens) = same_leaves (pos 0) (Percentage ∷ tokens)
-behind_n-leaves (Cdc ∷ tokens) = same_leaves (pos 0) (Cdc ∷ tokens)
-behind_n-leaves (Function name ∷ tokens) = same_leaves (pos 0) (Function name ∷ tokens)
-behind_n-leaves (Ident name ∷ tokens) = same_leaves (pos 0) (Ident name ∷ tokens)
-behind_n-leaves (Match c ∷ tokens) = same_leaves (pos 0) (Match c ∷ tokens)
+after_n-leaves (Number n ∷ tokens) = after_number-leaves n tokens n.sign
+after_n-leaves (Space ∷ tokens) = same_leaves (pos 0) (Space ∷ tokens)
+after_n-leaves (Quoted text ∷ tokens) = same_leaves (pos 0) (Quoted text ∷ tokens)
+after_n-leaves (BadString ∷ tokens) = same_leaves (pos 0) (BadString ∷ tokens)
+after_n-leaves (Hash name is_id ∷ tokens) = same_leaves (pos 0) (Hash name is_id ∷ tokens)
+after_n-leaves (Dimension n unit ∷ tokens) = same_leaves (pos 0) (Dimension n unit ∷ tokens)
+after_n-leaves (Percentage ∷ tokens) = same_leaves (pos 0) (Percentage ∷ tokens)
+after_n-leaves (Cdc ∷ tokens) = same_leaves (pos 0) (Cdc ∷ tokens)
+after_n-leaves (Function name ∷ tokens) = same_leaves (pos 0) (Function name ∷ tokens)
+after_n-leaves (Ident name ∷ tokens) = same_leaves (pos 0) (Ident name ∷ tokens)
+after_n-leaves (Match c ∷ tokens) = same_leaves (pos 0) (Match c ∷ tokens)
 
 rest_of-leaves : (name : List ℕ) (tokens : List Token) → Leaves (rest_of name tokens) (length tokens)
 unfolding rest_of
 rest_of-leaves name tokens =
-    if_leaves (says (codes "n") name) (behind_n (skip_space tokens)) (cond (says (codes "n-") name) (digits_of_b Minus tokens) (cond (is_n_and_digits name) (fitting (signed Minus (decimal (drop 2 name))) tokens) (Err errors.UnexpectedToken))) (length tokens)
-    (weaker (behind_n (skip_space tokens)) (length (skip_space tokens)) (length tokens) (behind_n-leaves (skip_space tokens)) (skip_space-shorter tokens))
-    (if_leaves (says (codes "n-") name) (digits_of_b Minus tokens) (cond (is_n_and_digits name) (fitting (signed Minus (decimal (drop 2 name))) tokens) (Err errors.UnexpectedToken)) (length tokens)
+    if_leaves (says (codes "n") name) (after_n (skip_space tokens)) (cond (says (codes "n-") name) (digits_of_b Minus tokens) (cond (is_n_and_digits name) (bounded_integer (with_sign Minus (decimal (drop 2 name))) tokens) (Err errors.UnexpectedToken))) (length tokens)
+    (weaker (after_n (skip_space tokens)) (length (skip_space tokens)) (length tokens) (after_n-leaves (skip_space tokens)) (skip_space-shorter tokens))
+    (if_leaves (says (codes "n-") name) (digits_of_b Minus tokens) (cond (is_n_and_digits name) (bounded_integer (with_sign Minus (decimal (drop 2 name))) tokens) (Err errors.UnexpectedToken)) (length tokens)
     (digits_of_b-leaves Minus tokens)
-    (if_leaves (is_n_and_digits name) (fitting (signed Minus (decimal (drop 2 name))) tokens) (Err errors.UnexpectedToken) (length tokens)
-    (fitting-leaves (signed Minus (decimal (drop 2 name))) tokens (length tokens) (omega arith)) (err_leaves errors.UnexpectedToken (length tokens))))
+    (if_leaves (is_n_and_digits name) (bounded_integer (with_sign Minus (decimal (drop 2 name))) tokens) (Err errors.UnexpectedToken) (length tokens)
+    (bounded_integer-leaves (with_sign Minus (decimal (drop 2 name))) tokens (length tokens) (omega arith)) (err_leaves errors.UnexpectedToken (length tokens))))
 
 step-leaves : (a : ℤ) (name : List ℕ) (tokens : List Token) (n : ℕ) → length tokens ≤ n → Leaves (with_step a (rest_of name tokens)) n
 step-leaves a name tokens n l = giving_leaves (λ x. (a, x)) (rest_of name tokens) n (weaker (rest_of name tokens) (length tokens) n (rest_of-leaves name tokens) l)
 
 integer-leaves : (n : Numeral) (tokens : List Token) → Leaves (integer n tokens) (length tokens)
 unfolding integer
-integer-leaves n tokens = option_leaves (integer_value n) (Err errors.UnexpectedToken) (λ x. fitting x tokens) (length tokens) (err_leaves errors.UnexpectedToken (length tokens)) (λ x. fitting-leaves x tokens (length tokens) (omega arith))
+integer-leaves n tokens = option_leaves (integer_value n) (Err errors.UnexpectedToken) (λ x. bounded_integer x tokens) (length tokens) (err_leaves errors.UnexpectedToken (length tokens)) (λ x. bounded_integer-leaves x tokens (length tokens) (omega arith))
 
-scaled-leaves : (n : Numeral) (unit : List ℕ) (tokens : List Token) → Leaves (scaled n unit tokens) (length tokens)
-unfolding scaled
-scaled-leaves n unit tokens =
+an_plus_b_of_dimension-leaves : (n : Numeral) (unit : List ℕ) (tokens : List Token) → Leaves (an_plus_b_of_dimension n unit tokens) (length tokens)
+unfolding an_plus_b_of_dimension
+an_plus_b_of_dimension-leaves n unit tokens =
     then_leaves (integer n tokens) (λ step. with_step step.0 (rest_of unit step.1)) (length tokens) (length tokens) (integer-leaves n tokens) (λ x rest l. step-leaves x unit rest (length tokens) l)
 
 an_plus_b_of-leaves : (token : Token) (tokens : List Token) → Leaves (an_plus_b_of token tokens) (length tokens)
 unfolding an_plus_b_of
 an_plus_b_of-leaves (Ident name) tokens =
-    if_leaves (says (codes "even") name) (Ok ((pos 2, pos 0), tokens)) (cond (says (codes "odd") name) (Ok ((pos 2, pos 1), tokens)) (cond (front (is (byte "-")) name) (with_step (signed Minus 1) (rest_of (drop 1 name) tokens)) (with_step (pos 1) (rest_of name tokens)))) (length tokens)
+    if_leaves (says (codes "even") name) (Ok ((pos 2, pos 0), tokens)) (cond (says (codes "odd") name) (Ok ((pos 2, pos 1), tokens)) (cond (first_passes (is (byte "-")) name) (with_step (with_sign Minus 1) (rest_of (drop 1 name) tokens)) (with_step (pos 1) (rest_of name tokens)))) (length tokens)
     (same_leaves (pos 2, pos 0) tokens)
-    (if_leaves (says (codes "odd") name) (Ok ((pos 2, pos 1), tokens)) (cond (front (is (byte "-")) name) (with_step (signed Minus 1) (rest_of (drop 1 name) tokens)) (with_step (pos 1) (rest_of name tokens))) (length tokens)
+    (if_leaves (says (codes "odd") name) (Ok ((pos 2, pos 1), tokens)) (cond (first_passes (is (byte "-")) name) (with_step (with_sign Minus 1) (rest_of (drop 1 name) tokens)) (with_step (pos 1) (rest_of name tokens))) (length tokens)
     (same_leaves (pos 2, pos 1) tokens)
-    (if_leaves (front (is (byte "-")) name) (with_step (signed Minus 1) (rest_of (drop 1 name) tokens)) (with_step (pos 1) (rest_of name tokens)) (length tokens)
-    (step-leaves (signed Minus 1) (drop 1 name) tokens (length tokens) (omega arith)) (step-leaves (pos 1) name tokens (length tokens) (omega arith))))
+    (if_leaves (first_passes (is (byte "-")) name) (with_step (with_sign Minus 1) (rest_of (drop 1 name) tokens)) (with_step (pos 1) (rest_of name tokens)) (length tokens)
+    (step-leaves (with_sign Minus 1) (drop 1 name) tokens (length tokens) (omega arith)) (step-leaves (pos 1) name tokens (length tokens) (omega arith))))
 an_plus_b_of-leaves (Number n) tokens = giving_leaves (λ x. (pos 0, x)) (integer n tokens) (length tokens) (integer-leaves n tokens)
-an_plus_b_of-leaves (Dimension n unit) tokens = scaled-leaves n unit tokens
+an_plus_b_of-leaves (Dimension n unit) tokens = an_plus_b_of_dimension-leaves n unit tokens
 an_plus_b_of-leaves (Delim c) tokens =
-    if_leaves (eqb c (byte "+")) (wanted InFunction ident_of errors.UnexpectedToken tokens >>= λ name. with_step (pos 1) (rest_of name.0 name.1)) (Err errors.UnexpectedToken) (length tokens)
-    (then_leaves (wanted InFunction ident_of errors.UnexpectedToken tokens) (λ name. with_step (pos 1) (rest_of name.0 name.1)) (length tokens) (length tokens) (wanted-leaves InFunction ident_of errors.UnexpectedToken tokens) (λ name rest l. step-leaves (pos 1) name rest (length tokens) l)) (err_leaves errors.UnexpectedToken (length tokens))
+    if_leaves (eqb c (byte "+")) (required_token InFunction ident_of errors.UnexpectedToken tokens >>= λ name. with_step (pos 1) (rest_of name.0 name.1)) (Err errors.UnexpectedToken) (length tokens)
+    (then_leaves (required_token InFunction ident_of errors.UnexpectedToken tokens) (λ name. with_step (pos 1) (rest_of name.0 name.1)) (length tokens) (length tokens) (required_token-leaves InFunction ident_of errors.UnexpectedToken tokens) (λ name rest l. step-leaves (pos 1) name rest (length tokens) l)) (err_leaves errors.UnexpectedToken (length tokens))
 an_plus_b_of-leaves Space tokens = err_leaves errors.UnexpectedToken (length tokens)
 an_plus_b_of-leaves (Quoted text) tokens = err_leaves errors.UnexpectedToken (length tokens)
 an_plus_b_of-leaves BadString tokens = err_leaves errors.UnexpectedToken (length tokens)
@@ -176,31 +176,31 @@ an_plus_b_of-leaves (Match c) tokens = err_leaves errors.UnexpectedToken (length
 an_plus_b-leaves : (tokens : List Token) → Leaves (an_plus_b tokens) (length tokens)
 unfolding an_plus_b
 an_plus_b-leaves tokens =
-    then_leaves (wanted InFunction (λ t. Some t) errors.UnexpectedToken (skip_space tokens)) (λ token. an_plus_b_of token.0 token.1 >>= λ nth. closed InFunction nth.1 >>= λ end. Ok (nth.0, end.1)) (length tokens) (length tokens) (wanted_behind InFunction (λ t. Some t) errors.UnexpectedToken tokens)
-    (λ token rest l. then_leaves (an_plus_b_of token rest) (λ nth. closed InFunction nth.1 >>= λ end. Ok (nth.0, end.1)) (length tokens) (length tokens) (weaker (an_plus_b_of token rest) (length rest) (length tokens) (an_plus_b_of-leaves token rest) l)
-    (λ nth rest2 l2. then_leaves (closed InFunction rest2) (λ end. Ok (nth, end.1)) (length tokens) (length tokens) (weaker (closed InFunction rest2) (length rest2) (length tokens) (closed-leaves InFunction rest2) l2) (λ end rest3 l3. ok_leaves nth rest3 (length tokens) l3)))
+    then_leaves (required_token InFunction (λ t. Some t) errors.UnexpectedToken (skip_space tokens)) (λ token. an_plus_b_of token.0 token.1 >>= λ nth. block_end InFunction nth.1 >>= λ end. Ok (nth.0, end.1)) (length tokens) (length tokens) (required_after_space InFunction (λ t. Some t) errors.UnexpectedToken tokens)
+    (λ token rest l. then_leaves (an_plus_b_of token rest) (λ nth. block_end InFunction nth.1 >>= λ end. Ok (nth.0, end.1)) (length tokens) (length tokens) (weaker (an_plus_b_of token rest) (length rest) (length tokens) (an_plus_b_of-leaves token rest) l)
+    (λ nth rest2 l2. then_leaves (block_end InFunction rest2) (λ end. Ok (nth, end.1)) (length tokens) (length tokens) (weaker (block_end InFunction rest2) (length rest2) (length tokens) (block_end-leaves InFunction rest2) l2) (λ end rest3 l3. ok_leaves nth rest3 (length tokens) l3)))
 
 -- ---- attributes
 
--- a name behind a bar
-behind_bar_name-leaves : (any : Bool) (tokens : List Token) (n : ℕ) → length tokens ≤ n → Leaves (name_behind_bar any tokens) n
-behind_bar_name-leaves any tokens n l =
-    giving_leaves (λ name. (name, any)) (wanted InBrackets ident_of errors.UnexpectedTokenInAttribute tokens) n (weaker (wanted InBrackets ident_of errors.UnexpectedTokenInAttribute tokens) (length tokens) n (wanted-leaves InBrackets ident_of errors.UnexpectedTokenInAttribute tokens) l)
+-- a name after a bar
+after_bar_name-leaves : (any : Bool) (tokens : List Token) (n : ℕ) → length tokens ≤ n → Leaves (name_after_bar any tokens) n
+after_bar_name-leaves any tokens n l =
+    giving_leaves (λ name. (name, any)) (required_token InBrackets ident_of errors.UnexpectedTokenInAttribute tokens) n (weaker (required_token InBrackets ident_of errors.UnexpectedTokenInAttribute tokens) (length tokens) n (required_token-leaves InBrackets ident_of errors.UnexpectedTokenInAttribute tokens) l)
 
 attribute_name-leaves : (tokens : List Token) → Leaves (attribute_name tokens) (length tokens)
 unfolding attribute_name
 attribute_name-leaves [] = err_leaves errors.UnexpectedEnd 0
 attribute_name-leaves (Ident name ∷ tokens) =
-    if_leaves (front (is_delim (byte "|")) tokens) (Err errors.NamespacedSelector) (Ok ((name, false), tokens)) (length (Ident name ∷ tokens)) (err_leaves errors.NamespacedSelector (length (Ident name ∷ tokens))) (ok_leaves (name, false) tokens (length (Ident name ∷ tokens)) (omega arith))
+    if_leaves (first_passes (is_delim (byte "|")) tokens) (Err errors.NamespacedSelector) (Ok ((name, false), tokens)) (length (Ident name ∷ tokens)) (err_leaves errors.NamespacedSelector (length (Ident name ∷ tokens))) (ok_leaves (name, false) tokens (length (Ident name ∷ tokens)) (omega arith))
 attribute_name-leaves (Delim c ∷ tokens) =
     let n = length (Delim c ∷ tokens) in
-    let any = wanted InBrackets bar_of errors.UnexpectedTokenInAttribute tokens >>= λ bar. name_behind_bar true bar.1 in
-    if_leaves (eqb c (byte "]")) (Err errors.UnexpectedEnd) (cond (eqb c (byte "|")) (name_behind_bar false tokens) (cond (eqb c (byte "*")) any (Err errors.MissingAttributeName))) n
+    let any = required_token InBrackets bar_of errors.UnexpectedTokenInAttribute tokens >>= λ bar. name_after_bar true bar.1 in
+    if_leaves (eqb c (byte "]")) (Err errors.UnexpectedEnd) (cond (eqb c (byte "|")) (name_after_bar false tokens) (cond (eqb c (byte "*")) any (Err errors.MissingAttributeName))) n
     (err_leaves errors.UnexpectedEnd n)
-    (if_leaves (eqb c (byte "|")) (name_behind_bar false tokens) (cond (eqb c (byte "*")) any (Err errors.MissingAttributeName)) n
-    (behind_bar_name-leaves false tokens n (omega arith))
+    (if_leaves (eqb c (byte "|")) (name_after_bar false tokens) (cond (eqb c (byte "*")) any (Err errors.MissingAttributeName)) n
+    (after_bar_name-leaves false tokens n (omega arith))
     (if_leaves (eqb c (byte "*")) any (Err errors.MissingAttributeName) n
-    (then_leaves (wanted InBrackets bar_of errors.UnexpectedTokenInAttribute tokens) (λ bar. name_behind_bar true bar.1) (length tokens) n (wanted-leaves InBrackets bar_of errors.UnexpectedTokenInAttribute tokens) (λ bar rest l. behind_bar_name-leaves true rest n (omega arith)))
+    (then_leaves (required_token InBrackets bar_of errors.UnexpectedTokenInAttribute tokens) (λ bar. name_after_bar true bar.1) (length tokens) n (required_token-leaves InBrackets bar_of errors.UnexpectedTokenInAttribute tokens) (λ bar rest l. after_bar_name-leaves true rest n (omega arith)))
     (err_leaves errors.MissingAttributeName n)))
 attribute_name-leaves (Space ∷ tokens) = err_leaves errors.MissingAttributeName (length (Space ∷ tokens))
 attribute_name-leaves (Quoted text ∷ tokens) = err_leaves errors.MissingAttributeName (length (Quoted text ∷ tokens))
@@ -217,21 +217,21 @@ case_sensitivity-leaves : (name : List ℕ) (tokens : List Token) → Leaves (ca
 unfolding case_sensitivity
 case_sensitivity-leaves name tokens =
     let n = length tokens in
-    if_leaves (at_end InBrackets tokens) (Ok (unflagged name, drop 1 tokens)) (wanted InBrackets flag_of errors.UnexpectedToken tokens >>= λ flag. closed InBrackets flag.1 >>= λ end. Ok (flag.0, end.1)) n
-    (ok_leaves (unflagged name) (drop 1 tokens) n (omega (arith, length-drop 1 tokens)))
-    (then_leaves (wanted InBrackets flag_of errors.UnexpectedToken tokens) (λ flag. closed InBrackets flag.1 >>= λ end. Ok (flag.0, end.1)) n n (wanted-leaves InBrackets flag_of errors.UnexpectedToken tokens)
-    (λ flag rest l. then_leaves (closed InBrackets rest) (λ end. Ok (flag, end.1)) n n (weaker (closed InBrackets rest) (length rest) n (closed-leaves InBrackets rest) l) (λ end rest2 l2. ok_leaves flag rest2 n l2)))
+    if_leaves (at_end InBrackets tokens) (Ok (default_case_sensitivity name, drop 1 tokens)) (required_token InBrackets flag_of errors.UnexpectedToken tokens >>= λ flag. block_end InBrackets flag.1 >>= λ end. Ok (flag.0, end.1)) n
+    (ok_leaves (default_case_sensitivity name) (drop 1 tokens) n (omega (arith, length-drop 1 tokens)))
+    (then_leaves (required_token InBrackets flag_of errors.UnexpectedToken tokens) (λ flag. block_end InBrackets flag.1 >>= λ end. Ok (flag.0, end.1)) n n (required_token-leaves InBrackets flag_of errors.UnexpectedToken tokens)
+    (λ flag rest l. then_leaves (block_end InBrackets rest) (λ end. Ok (flag, end.1)) n n (weaker (block_end InBrackets rest) (length rest) n (block_end-leaves InBrackets rest) l) (λ end rest2 l2. ok_leaves flag rest2 n l2)))
 
 comparison-leaves : (name : List ℕ) (tokens : List Token) → Leaves (comparison name tokens) (length tokens)
 unfolding comparison
 comparison-leaves name tokens =
     let n = length tokens in
-    let wanted_operator = wanted InBrackets operator_of errors.UnexpectedTokenInAttribute tokens in
-    if_leaves (at_end InBrackets tokens) (Ok (Exists name, drop 1 tokens)) (wanted_operator >>= λ operator. wanted InBrackets value_of errors.UnexpectedTokenInAttribute (skip_space operator.1) >>= λ value. case_sensitivity name (skip_space value.1) >>= λ case. Ok (Compares name operator.0 (utf8 value.0) case.0, case.1)) n
+    let wanted_operator = required_token InBrackets operator_of errors.UnexpectedTokenInAttribute tokens in
+    if_leaves (at_end InBrackets tokens) (Ok (Exists name, drop 1 tokens)) (wanted_operator >>= λ operator. required_token InBrackets value_of errors.UnexpectedTokenInAttribute (skip_space operator.1) >>= λ value. case_sensitivity name (skip_space value.1) >>= λ case. Ok (Compares name operator.0 (utf8 value.0) case.0, case.1)) n
     (ok_leaves (Exists name) (drop 1 tokens) n (omega (arith, length-drop 1 tokens)))
-    (then_leaves wanted_operator (λ operator. wanted InBrackets value_of errors.UnexpectedTokenInAttribute (skip_space operator.1) >>= λ value. case_sensitivity name (skip_space value.1) >>= λ case. Ok (Compares name operator.0 (utf8 value.0) case.0, case.1)) n n (wanted-leaves InBrackets operator_of errors.UnexpectedTokenInAttribute tokens)
-    (λ operator rest l. then_leaves (wanted InBrackets value_of errors.UnexpectedTokenInAttribute (skip_space rest)) (λ value. case_sensitivity name (skip_space value.1) >>= λ case. Ok (Compares name operator (utf8 value.0) case.0, case.1)) n n
-    (weaker (wanted InBrackets value_of errors.UnexpectedTokenInAttribute (skip_space rest)) (length rest) n (wanted_behind InBrackets value_of errors.UnexpectedTokenInAttribute rest) l)
+    (then_leaves wanted_operator (λ operator. required_token InBrackets value_of errors.UnexpectedTokenInAttribute (skip_space operator.1) >>= λ value. case_sensitivity name (skip_space value.1) >>= λ case. Ok (Compares name operator.0 (utf8 value.0) case.0, case.1)) n n (required_token-leaves InBrackets operator_of errors.UnexpectedTokenInAttribute tokens)
+    (λ operator rest l. then_leaves (required_token InBrackets value_of errors.UnexpectedTokenInAttribute (skip_space rest)) (λ value. case_sensitivity name (skip_space value.1) >>= λ case. Ok (Compares name operator (utf8 value.0) case.0, case.1)) n n
+    (weaker (required_token InBrackets value_of errors.UnexpectedTokenInAttribute (skip_space rest)) (length rest) n (required_after_space InBrackets value_of errors.UnexpectedTokenInAttribute rest) l)
     (λ value rest2 l2. then_leaves (case_sensitivity name (skip_space rest2)) (λ case. Ok (Compares name operator (utf8 value) case.0, case.1)) n n
     (weaker (case_sensitivity name (skip_space rest2)) (length (skip_space rest2)) n (case_sensitivity-leaves name (skip_space rest2)) (omega (arith, skip_space-shorter rest2)))
     (λ case rest3 l3. ok_leaves (Compares name operator (utf8 value) case) rest3 n l3))))
@@ -240,10 +240,10 @@ attribute-leaves : (tokens : List Token) → Leaves (attribute tokens) (length t
 unfolding attribute
 attribute-leaves tokens =
     let n = length tokens in
-    then_leaves (attribute_name (skip_space tokens)) (λ name. comparison (utf8 (lowered name.0.0)) (skip_space name.1) >>= λ part. Ok ((cond name.0.1 LateNamespace (Plain part.0)), part.1)) n n
+    then_leaves (attribute_name (skip_space tokens)) (λ name. comparison (utf8 (lowercase name.0.0)) (skip_space name.1) >>= λ part. Ok ((cond name.0.1 LateNamespace (Plain part.0)), part.1)) n n
     (weaker (attribute_name (skip_space tokens)) (length (skip_space tokens)) n (attribute_name-leaves (skip_space tokens)) (skip_space-shorter tokens))
-    (λ name rest l. then_leaves (comparison (utf8 (lowered name.0)) (skip_space rest)) (λ part. Ok ((cond name.1 LateNamespace (Plain part.0)), part.1)) n n
-    (weaker (comparison (utf8 (lowered name.0)) (skip_space rest)) (length (skip_space rest)) n (comparison-leaves (utf8 (lowered name.0)) (skip_space rest)) (omega (arith, skip_space-shorter rest)))
+    (λ name rest l. then_leaves (comparison (utf8 (lowercase name.0)) (skip_space rest)) (λ part. Ok ((cond name.1 LateNamespace (Plain part.0)), part.1)) n n
+    (weaker (comparison (utf8 (lowercase name.0)) (skip_space rest)) (length (skip_space rest)) n (comparison-leaves (utf8 (lowercase name.0)) (skip_space rest)) (omega (arith, skip_space-shorter rest)))
     (λ part rest2 l2. ok_leaves (cond name.1 LateNamespace (Plain part)) rest2 n l2))
 
 -- ---- parts
@@ -251,8 +251,8 @@ attribute-leaves tokens =
 class_name-leaves : (nesting : Nesting) (tokens : List Token) → Leaves (class_name nesting tokens) (length tokens)
 unfolding class_name
 class_name-leaves nesting tokens =
-    if_leaves (at_stop nesting tokens) (Err errors.UnexpectedEnd) (giving (λ name. Class (utf8 name)) (wanted nesting ident_of errors.InvalidClassName tokens)) (length tokens) (err_leaves errors.UnexpectedEnd (length tokens))
-    (giving_leaves (λ name. Class (utf8 name)) (wanted nesting ident_of errors.InvalidClassName tokens) (length tokens) (wanted-leaves nesting ident_of errors.InvalidClassName tokens))
+    if_leaves (at_stop nesting tokens) (Err errors.UnexpectedEnd) (giving (λ name. Class (utf8 name)) (required_token nesting ident_of errors.InvalidClassName tokens)) (length tokens) (err_leaves errors.UnexpectedEnd (length tokens))
+    (giving_leaves (λ name. Class (utf8 name)) (required_token nesting ident_of errors.InvalidClassName tokens) (length tokens) (required_token-leaves nesting ident_of errors.InvalidClassName tokens))
 
 function_part-leaves : (name : List ℕ) (tokens : List Token) → Leaves (function_part name tokens) (length tokens)
 unfolding function_part
@@ -325,7 +325,7 @@ nothing_takes tokens = record {
 err_takes : (cause : SelectorError) (n : ℕ) → Takes (Err cause) n
 err_takes cause n = record { all = λ rest e. absurd cc; taken = λ found rest e. absurd cc }
 
--- behind a token
+-- after a token
 some_takes : {A : Type 0} (f : A → Part) (read : Read A) (token : Token) (tokens : List Token) → Leaves read (length tokens) → Takes (giving (λ found. some (f found)) read) (length (token ∷ tokens))
 some_takes f read token tokens l = record {
   all = λ rest e. omega (arith, (giving_leaves (λ found. some (f found)) read (length tokens) l).left None rest e);
@@ -380,46 +380,46 @@ parts-leaves (suc n) inner h nesting parts tokens =
     (λ x rest l. option_leaves x (Ok (parts, rest)) (λ found. parts_at_most n inner nesting (With parts found) rest) (length tokens) (ok_leaves parts rest (length tokens) l)
     (λ found. weaker (parts_at_most n inner nesting (With parts found) rest) (length rest) (length tokens) (parts-leaves n inner h nesting (With parts found) rest) l))
 
-behind_bar_of-leaves : (token : Token) (tokens : List Token) → Leaves (elim token [
+after_bar_of-leaves : (token : Token) (tokens : List Token) → Leaves (elim token [
   | Ident name ↦ Ok (Some (LocalName (utf8 name)), tokens)
   | Delim c ↦ cond (eqb c (byte "*")) (Ok (Some AnyName, tokens)) (Err errors.UnexpectedToken)
   | _ ↦ Err errors.UnexpectedToken
 ]) (length (token ∷ tokens))
-behind_bar_of-leaves (Ident name) tokens = ok_leaves (Some (LocalName (utf8 name))) tokens (length (Ident name ∷ tokens)) (omega arith)
-behind_bar_of-leaves (Delim c) tokens =
+after_bar_of-leaves (Ident name) tokens = ok_leaves (Some (LocalName (utf8 name))) tokens (length (Ident name ∷ tokens)) (omega arith)
+after_bar_of-leaves (Delim c) tokens =
     if_leaves (eqb c (byte "*")) (Ok (Some AnyName, tokens)) (Err errors.UnexpectedToken) (length (Delim c ∷ tokens)) (ok_leaves (Some AnyName) tokens (length (Delim c ∷ tokens)) (omega arith)) (err_leaves errors.UnexpectedToken (length (Delim c ∷ tokens)))
-behind_bar_of-leaves Space tokens = err_leaves errors.UnexpectedToken (length (Space ∷ tokens))
-behind_bar_of-leaves (Quoted text) tokens = err_leaves errors.UnexpectedToken (length (Quoted text ∷ tokens))
-behind_bar_of-leaves BadString tokens = err_leaves errors.UnexpectedToken (length (BadString ∷ tokens))
-behind_bar_of-leaves (Hash name is_id) tokens = err_leaves errors.UnexpectedToken (length (Hash name is_id ∷ tokens))
-behind_bar_of-leaves (Number n) tokens = err_leaves errors.UnexpectedToken (length (Number n ∷ tokens))
-behind_bar_of-leaves (Dimension n unit) tokens = err_leaves errors.UnexpectedToken (length (Dimension n unit ∷ tokens))
-behind_bar_of-leaves Percentage tokens = err_leaves errors.UnexpectedToken (length (Percentage ∷ tokens))
-behind_bar_of-leaves Cdc tokens = err_leaves errors.UnexpectedToken (length (Cdc ∷ tokens))
-behind_bar_of-leaves (Function name) tokens = err_leaves errors.UnexpectedToken (length (Function name ∷ tokens))
-behind_bar_of-leaves (Match c) tokens = err_leaves errors.UnexpectedToken (length (Match c ∷ tokens))
+after_bar_of-leaves Space tokens = err_leaves errors.UnexpectedToken (length (Space ∷ tokens))
+after_bar_of-leaves (Quoted text) tokens = err_leaves errors.UnexpectedToken (length (Quoted text ∷ tokens))
+after_bar_of-leaves BadString tokens = err_leaves errors.UnexpectedToken (length (BadString ∷ tokens))
+after_bar_of-leaves (Hash name is_id) tokens = err_leaves errors.UnexpectedToken (length (Hash name is_id ∷ tokens))
+after_bar_of-leaves (Number n) tokens = err_leaves errors.UnexpectedToken (length (Number n ∷ tokens))
+after_bar_of-leaves (Dimension n unit) tokens = err_leaves errors.UnexpectedToken (length (Dimension n unit ∷ tokens))
+after_bar_of-leaves Percentage tokens = err_leaves errors.UnexpectedToken (length (Percentage ∷ tokens))
+after_bar_of-leaves Cdc tokens = err_leaves errors.UnexpectedToken (length (Cdc ∷ tokens))
+after_bar_of-leaves (Function name) tokens = err_leaves errors.UnexpectedToken (length (Function name ∷ tokens))
+after_bar_of-leaves (Match c) tokens = err_leaves errors.UnexpectedToken (length (Match c ∷ tokens))
 
-behind_bar-leaves : (nesting : Nesting) (tokens : List Token) → Leaves (behind_bar nesting tokens) (length tokens)
-unfolding behind_bar
-behind_bar-leaves nesting [] = same_leaves None []
-behind_bar-leaves nesting (token ∷ tokens) =
-    if_leaves (at_stop nesting (token ∷ tokens)) (Ok (None, token ∷ tokens)) _ (length (token ∷ tokens)) (same_leaves None (token ∷ tokens)) (behind_bar_of-leaves token tokens)
+after_bar-leaves : (nesting : Nesting) (tokens : List Token) → Leaves (after_bar nesting tokens) (length tokens)
+unfolding after_bar
+after_bar-leaves nesting [] = same_leaves None []
+after_bar-leaves nesting (token ∷ tokens) =
+    if_leaves (at_stop nesting (token ∷ tokens)) (Ok (None, token ∷ tokens)) _ (length (token ∷ tokens)) (same_leaves None (token ∷ tokens)) (after_bar_of-leaves token tokens)
 
 type_part-leaves : (nesting : Nesting) (tokens : List Token) → Leaves (type_part nesting tokens) (length tokens)
 unfolding type_part
 type_part-leaves nesting [] = same_leaves (Some Nothing) []
 type_part-leaves nesting (Ident name ∷ tokens) =
-    if_leaves (front (is_delim (byte "|")) tokens) (Err errors.NamespacedSelector) (Ok (Some (With Nothing (Plain (LocalName (utf8 name)))), tokens)) (length (Ident name ∷ tokens)) (err_leaves errors.NamespacedSelector (length (Ident name ∷ tokens))) (ok_leaves (Some (With Nothing (Plain (LocalName (utf8 name))))) tokens (length (Ident name ∷ tokens)) (omega arith))
+    if_leaves (first_passes (is_delim (byte "|")) tokens) (Err errors.NamespacedSelector) (Ok (Some (With Nothing (Plain (LocalName (utf8 name)))), tokens)) (length (Ident name ∷ tokens)) (err_leaves errors.NamespacedSelector (length (Ident name ∷ tokens))) (ok_leaves (Some (With Nothing (Plain (LocalName (utf8 name))))) tokens (length (Ident name ∷ tokens)) (omega arith))
 type_part-leaves nesting (Delim c ∷ tokens) =
     let n = length (Delim c ∷ tokens) in
-    let any = giving (option_map any_namespace) (behind_bar nesting (drop 1 tokens)) in
-    let none = giving (option_map no_namespace) (behind_bar nesting tokens) in
-    if_leaves (eqb c (byte "*")) (cond (front (is_delim (byte "|")) tokens) any (Ok (Some (With Nothing (Plain AnyName)), tokens))) (cond (eqb c (byte "|")) none (Ok (Some Nothing, Delim c ∷ tokens))) n
-    (if_leaves (front (is_delim (byte "|")) tokens) any (Ok (Some (With Nothing (Plain AnyName)), tokens)) n
-    (giving_leaves (option_map any_namespace) (behind_bar nesting (drop 1 tokens)) n (weaker (behind_bar nesting (drop 1 tokens)) (length (drop 1 tokens)) n (behind_bar-leaves nesting (drop 1 tokens)) (omega (arith, length-drop 1 tokens))))
+    let any = giving (option_map any_namespace) (after_bar nesting (drop 1 tokens)) in
+    let none = giving (option_map no_namespace) (after_bar nesting tokens) in
+    if_leaves (eqb c (byte "*")) (cond (first_passes (is_delim (byte "|")) tokens) any (Ok (Some (With Nothing (Plain AnyName)), tokens))) (cond (eqb c (byte "|")) none (Ok (Some Nothing, Delim c ∷ tokens))) n
+    (if_leaves (first_passes (is_delim (byte "|")) tokens) any (Ok (Some (With Nothing (Plain AnyName)), tokens)) n
+    (giving_leaves (option_map any_namespace) (after_bar nesting (drop 1 tokens)) n (weaker (after_bar nesting (drop 1 tokens)) (length (drop 1 tokens)) n (after_bar-leaves nesting (drop 1 tokens)) (omega (arith, length-drop 1 tokens))))
     (ok_leaves (Some (With Nothing (Plain AnyName))) tokens n (omega arith)))
     (if_leaves (eqb c (byte "|")) none (Ok (Some Nothing, Delim c ∷ tokens)) n
-    (giving_leaves (option_map no_namespace) (behind_bar nesting tokens) n (longer (behind_bar nesting tokens) (Delim c) tokens (behind_bar-leaves nesting tokens)))
+    (giving_leaves (option_map no_namespace) (after_bar nesting tokens) n (longer (after_bar nesting tokens) (Delim c) tokens (after_bar-leaves nesting tokens)))
     (same_leaves (Some Nothing) (Delim c ∷ tokens)))
 type_part-leaves nesting (Space ∷ tokens) = same_leaves (Some Nothing) (Space ∷ tokens)
 type_part-leaves nesting (Quoted text ∷ tokens) = same_leaves (Some Nothing) (Quoted text ∷ tokens)
@@ -457,9 +457,9 @@ next_step-leaves : (nesting : Nesting) (tokens : List Token) → Leaves (next_st
 unfolding next_step
 next_step-leaves nesting tokens =
     let n = length tokens in
-    if_leaves (at_stop nesting (skip_space tokens)) (Ok (None, skip_space tokens)) (giving (λ found. Some found) (step (front is_space tokens) (skip_space tokens))) n
+    if_leaves (at_stop nesting (skip_space tokens)) (Ok (None, skip_space tokens)) (giving (λ found. Some found) (step (first_passes is_space tokens) (skip_space tokens))) n
     (ok_leaves None (skip_space tokens) n (skip_space-shorter tokens))
-    (giving_leaves (λ found. Some found) (step (front is_space tokens) (skip_space tokens)) n (weaker (step (front is_space tokens) (skip_space tokens)) (length (skip_space tokens)) n (step-token-leaves (front is_space tokens) (skip_space tokens)) (skip_space-shorter tokens)))
+    (giving_leaves (λ found. Some found) (step (first_passes is_space tokens) (skip_space tokens)) n (weaker (step (first_passes is_space tokens) (skip_space tokens)) (length (skip_space tokens)) n (step-token-leaves (first_passes is_space tokens) (skip_space tokens)) (skip_space-shorter tokens)))
 
 further-leaves : (room : ℕ) (inner : List Token → Read Items) → InnerLeaves inner → (nesting : Nesting) (front : Item) (tokens : List Token) → Leaves (further room inner nesting front tokens) (length tokens)
 unfolding further

@@ -22,17 +22,17 @@ judged_step false NextSibling = Err (UnsupportedCombinator (byte "+"))
 judged_step false SubsequentSibling = Err (UnsupportedCombinator (byte "~"))
 
 -- what a combination of a list is kept as
-abbrev pub combined : LogicalCombination → trees.Items → trees.Part
-combined combinations.Not items = trees.Not items
-combined combinations.Is items = trees.Is items
-combined combinations.Where items = trees.Where items
+abbrev pub combination_part : LogicalCombination → trees.Items → trees.Part
+combination_part combinations.Not items = trees.Not items
+combination_part combinations.Is items = trees.Is items
+combination_part combinations.Where items = trees.Where items
 
 unfoldable mutual
   pub judged_part : Part → Result trees.Part SelectorError
   judged_part (Plain part) = Ok (trees.Plain part)
   judged_part LatePseudoClass = Err UnsupportedPseudoClassOrElement
   judged_part LateNamespace = Err NamespacedSelector
-  judged_part (Logical combination items) = judged true items >>= λ inner. Ok (combined combination inner)
+  judged_part (Logical combination items) = judged true items >>= λ inner. Ok (combination_part combination inner)
 
   pub judged_compound : Compound → Result trees.Compound SelectorError
   judged_compound Nothing = Ok trees.Nothing

@@ -9,9 +9,9 @@ abbrev pub is : ℕ → ℕ → Bool
 is c d = d == c
 
 -- what stands at the front passes; at the end nothing does
-abbrev pub front : {A : Type 0} → (A → Bool) → List A → Bool
-front p [] = false
-front p (x ∷ xs) = p x
+abbrev pub first_passes : {A : Type 0} → (A → Bool) → List A → Bool
+first_passes p [] = false
+first_passes p (x ∷ xs) = p x
 
 -- one more place on, where what stands there passes
 abbrev pub past : {A : Type 0} → (A → Bool) → List A → List A
@@ -83,30 +83,30 @@ is_sign c = c == byte "+" || c == byte "-"
 -- ---- preprocessing (section 3.3)
 
 -- CR and form feed become LF, NUL becomes U+FFFD
-abbrev pub cleaned : ℕ → ℕ
-cleaned c = if c == carriage_return || c == form_feed then line_feed else (if c == 0 then 0xFFFD else c)
+abbrev pub clean_point : ℕ → ℕ
+clean_point c = if c == carriage_return || c == form_feed then line_feed else (if c == 0 then 0xFFFD else c)
 
--- what a code point becomes behind another: an LF behind CR is none of its own
-abbrev pub cleaned_behind : ℕ → ℕ → List ℕ
-cleaned_behind before c = if before == carriage_return && c == line_feed then [] else cleaned c ∷ []
+-- what a code point becomes after another: an LF after CR is none of its own
+abbrev pub clean_points_after : ℕ → ℕ → List ℕ
+clean_points_after before c = if before == carriage_return && c == line_feed then [] else clean_point c ∷ []
 
-unfoldable pub preprocessed_behind : ℕ → List ℕ → List ℕ
-preprocessed_behind before [] = []
-preprocessed_behind before (c ∷ cs) = cleaned_behind before c ++ preprocessed_behind c cs
+unfoldable pub preprocessed_after : ℕ → List ℕ → List ℕ
+preprocessed_after before [] = []
+preprocessed_after before (c ∷ cs) = clean_points_after before c ++ preprocessed_after c cs
 
 abbrev pub preprocessed : List ℕ → List ℕ
-preprocessed text = preprocessed_behind 0 text
+preprocessed text = preprocessed_after 0 text
 
 -- ---- escapes (sections 4.3.7 and 4.3.8)
 
--- the number that the digits write in this base, behind a number
-abbrev pub number_behind : ℕ → ℕ → List ℕ → ℕ
-number_behind base n [] = n
-number_behind base n (d ∷ ds) = number_behind base (n * base + d) ds
+-- the number that the digits write in this base, after a number
+abbrev pub number_after : ℕ → ℕ → List ℕ → ℕ
+number_after base n [] = n
+number_after base n (d ∷ ds) = number_after base (n * base + d) ds
 
 -- the number that decimal digits write
 abbrev pub decimal : List ℕ → ℕ
-decimal digits = number_behind 10 0 (map (λ c. c - byte "0") digits)
+decimal digits = number_after 10 0 (map (λ c. c - byte "0") digits)
 
 -- a digit in this base, as its value
 abbrev pub digit : ℕ → List ℕ → Option (ℕ × List ℕ)
@@ -119,38 +119,38 @@ code_point n = if n == 0 || not (all_scalars (n ∷ [])) then 0xFFFD else n
 
 -- the number that at most six digits write
 unfoldable pub hexadecimal : List ℕ → ℕ × List ℕ
-hexadecimal text = let digits = at_most 6 (digit 16) text in (number_behind 16 0 digits.0, digits.1)
+hexadecimal text = let digits = at_most 6 (digit 16) text in (number_after 16 0 digits.0, digits.1)
 
--- from behind the backslash: the code point, and what is left
-unfoldable pub escaped : List ℕ → ℕ × List ℕ
-escaped [] = (0xFFFD, [])
-escaped (c ∷ cs) =
+-- after the backslash: the code point, and what is left
+unfoldable pub escaped_point : List ℕ → ℕ × List ℕ
+escaped_point [] = (0xFFFD, [])
+escaped_point (c ∷ cs) =
     let number = hexadecimal (c ∷ cs) in
     if is_digit c 16 then (code_point number.0, past is_white_space number.1) else (c, cs)
 
 -- a backslash begins an escape unless LF follows
 abbrev pub begins_escape : List ℕ → Bool
 begins_escape [] = false
-begins_escape (c ∷ cs) = c == byte "\\" && not (front is_newline cs)
+begins_escape (c ∷ cs) = c == byte "\\" && not (first_passes is_newline cs)
 
 -- ---- names and numbers (sections 4.3.9 to 4.3.11)
 
 -- a code point of a name, plain or escaped
 unfoldable pub name_point : List ℕ → Option (ℕ × List ℕ)
 name_point text =
-    if front is_in_name text then one is_in_name text
-    else (if begins_escape text then Some (escaped (drop 1 text)) else None)
+    if first_passes is_in_name text then one is_in_name text
+    else (if begins_escape text then Some (escaped_point (drop 1 text)) else None)
 
 -- the longest name, and what is left
 abbrev pub name : List ℕ → List ℕ × List ℕ
 name text = many name_point text
 
 abbrev pub begins_name : List ℕ → Bool
-begins_name text = front is_name_start text || begins_escape text
+begins_name text = first_passes is_name_start text || begins_escape text
 
 abbrev pub starts_identifier : List ℕ → Bool
 starts_identifier text =
-    begins_name text || (front (is (byte "-")) text && (front (is (byte "-")) (drop 1 text) || begins_name (drop 1 text)))
+    begins_name text || (first_passes (is (byte "-")) text && (first_passes (is (byte "-")) (drop 1 text) || begins_name (drop 1 text)))
 
 abbrev pub starts_number : List ℕ → Bool
-starts_number text = front is_decimal (past (is (byte ".")) (past is_sign text))
+starts_number text = first_passes is_decimal (past (is (byte ".")) (past is_sign text))

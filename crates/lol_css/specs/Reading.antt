@@ -3,12 +3,12 @@ use Rattle.std.specs.Prelude.{ℕ, zero, suc, ◌+◌, Bool, true, false, ◌&&�
 use Rattle.std.specs.List.{list_any}
 use Rattle.std.specs.Option.{option_map}
 use Rattle.std.specs.Str.{bytes_eq, byte, encode_utf8_all}
-use Rattle.lol_css.specs.Points.{front}
+use Rattle.lol_css.specs.Points.{first_passes}
 use Rattle.lol_css.specs.Tokens.{Token, Quoted, Hash, Function, Ident, Match, Delim}
 use Rattle.lol_css.specs.CaselessAttributes.{caseless_attributes}
 use Rattle.lol_css.specs.Trees.{Simple, LocalName, AnyName, NoNamespace, Id, Class, Exists, Compares, Nth}
 use Rattle.lol_css.specs.Drafts.{Step, By, NextSibling, SubsequentSibling, Part, Plain, LatePseudoClass, LateNamespace, Logical, Compound, Nothing, With, Item, First, Then, Items, NoItems, And}
-use Rattle.lol_css.specs.Rules.{Read, ◌>>=◌, giving, keeping, is_delim, is_space, skip_space, Nesting, Outside, InFunction, InBrackets, at_end, at_stop, wanted, closed, lowered, says, ident_of}
+use Rattle.lol_css.specs.Rules.{Read, ◌>>=◌, giving, keeping, is_delim, is_space, skip_space, Nesting, Outside, InFunction, InBrackets, at_end, at_stop, required_token, block_end, lowercase, says, ident_of}
 use Rattle.lol_css.specs.AnPlusB.{an_plus_b}
 use Rattle.lol_css.specs.declared.syntax.tokens.MatchOperator.TheVariants as operators
 use Rattle.lol_css.specs.declared.attribute.AttrSelectorOperator.{AttrSelectorOperator}
@@ -25,11 +25,11 @@ use Rattle.lol_css.specs.declared.error.SelectorError.TheVariants.{UnexpectedTok
 abbrev pub utf8 : List ℕ → List ℕ
 utf8 points = encode_utf8_all points
 
--- ---- attributes, behind the `[` (Selectors 4, section 6)
+-- ---- attributes, after the `[` (Selectors 4, section 6)
 
 -- `|` and `*|` before a name; the name, and whether `*|` stands before it
-abbrev pub name_behind_bar : Bool → List Token → Read (List ℕ × Bool)
-name_behind_bar any tokens = giving (λ name. (name, any)) (wanted InBrackets ident_of UnexpectedTokenInAttribute tokens)
+abbrev pub name_after_bar : Bool → List Token → Read (List ℕ × Bool)
+name_after_bar any tokens = giving (λ name. (name, any)) (required_token InBrackets ident_of UnexpectedTokenInAttribute tokens)
 
 abbrev pub bar_of : Token → Option ℕ
 bar_of (Delim c) = if c == byte "|" then Some c else None
@@ -37,11 +37,11 @@ bar_of _ = None
 
 unfoldable pub attribute_name : List Token → Read (List ℕ × Bool)
 attribute_name [] = Err UnexpectedEnd
-attribute_name (Ident name ∷ tokens) = if front (is_delim (byte "|")) tokens then Err NamespacedSelector else Ok ((name, false), tokens)
+attribute_name (Ident name ∷ tokens) = if first_passes (is_delim (byte "|")) tokens then Err NamespacedSelector else Ok ((name, false), tokens)
 attribute_name (Delim c ∷ tokens) =
     if c == byte "]" then Err UnexpectedEnd
-    else (if c == byte "|" then name_behind_bar false tokens
-    else (if c == byte "*" then (wanted InBrackets bar_of UnexpectedTokenInAttribute tokens >>= λ bar. name_behind_bar true bar.1)
+    else (if c == byte "|" then name_after_bar false tokens
+    else (if c == byte "*" then (required_token InBrackets bar_of UnexpectedTokenInAttribute tokens >>= λ bar. name_after_bar true bar.1)
     else Err MissingAttributeName))
 attribute_name _ = Err MissingAttributeName
 
@@ -68,26 +68,26 @@ flag_of (Ident name) = flag_named name
 flag_of _ = None
 
 -- how an attribute of this name, lowercased, is compared where no flag stands
-abbrev pub unflagged : List ℕ → ParsedCaseSensitivity
-unflagged name =
+abbrev pub default_case_sensitivity : List ℕ → ParsedCaseSensitivity
+default_case_sensitivity name =
     if list_any (λ other. bytes_eq name other) caseless_attributes then AsciiCaseInsensitiveIfInHtmlElementInHtmlDocument else CaseSensitive
 
 -- the flag, and the end
 unfoldable pub case_sensitivity : List ℕ → List Token → Read ParsedCaseSensitivity
 case_sensitivity name tokens =
-    if at_end InBrackets tokens then Ok (unflagged name, drop 1 tokens)
+    if at_end InBrackets tokens then Ok (default_case_sensitivity name, drop 1 tokens)
     else (do
-      flag ← wanted InBrackets flag_of UnexpectedToken tokens
-      end ← closed InBrackets flag.1
+      flag ← required_token InBrackets flag_of UnexpectedToken tokens
+      end ← block_end InBrackets flag.1
       Ok (flag.0, end.1))
 
--- behind the name
+-- after the name
 unfoldable pub comparison : List ℕ → List Token → Read Simple
 comparison name tokens =
     if at_end InBrackets tokens then Ok (Exists name, drop 1 tokens)
     else (do
-      operator ← wanted InBrackets operator_of UnexpectedTokenInAttribute tokens
-      value ← wanted InBrackets value_of UnexpectedTokenInAttribute (skip_space operator.1)
+      operator ← required_token InBrackets operator_of UnexpectedTokenInAttribute tokens
+      value ← required_token InBrackets value_of UnexpectedTokenInAttribute (skip_space operator.1)
       case ← case_sensitivity name (skip_space value.1)
       Ok (Compares name operator.0 (utf8 value.0) case.0, case.1))
 
@@ -95,16 +95,16 @@ comparison name tokens =
 unfoldable pub attribute : List Token → Read Part
 attribute tokens = do
   name ← attribute_name (skip_space tokens)
-  part ← comparison (utf8 (lowered name.0.0)) (skip_space name.1)
+  part ← comparison (utf8 (lowercase name.0.0)) (skip_space name.1)
   Ok ((if name.0.1 then LateNamespace else Plain part.0), part.1)
 
 -- ---- the other parts
 
--- directly behind a `.`
+-- directly after a `.`
 unfoldable pub class_name : Nesting → List Token → Read Simple
 class_name nesting tokens =
     if at_stop nesting tokens then Err UnexpectedEnd
-    else giving (λ name. Class (utf8 name)) (wanted nesting ident_of InvalidClassName tokens)
+    else giving (λ name. Class (utf8 name)) (required_token nesting ident_of InvalidClassName tokens)
 
 abbrev pub is_one_of : List (List ℕ) → List ℕ → Bool
 is_one_of words name = list_any (λ word. says word name) words
@@ -174,10 +174,10 @@ parts_at_most (suc n) inner nesting parts tokens = part inner nesting tokens >>=
 abbrev pub more_parts : (List Token → Read Items) → Nesting → Compound → List Token → Read Compound
 more_parts inner nesting parts tokens = parts_at_most (length tokens) inner nesting parts tokens
 
--- directly behind a bar: a name or `*`; at Stop the compound counts as one that reads nothing (None)
-unfoldable pub behind_bar : Nesting → List Token → Read (Option Simple)
-behind_bar nesting [] = Ok (None, [])
-behind_bar nesting (token ∷ tokens) =
+-- directly after a bar: a name or `*`; at Stop the compound counts as one that reads nothing (None)
+unfoldable pub after_bar : Nesting → List Token → Read (Option Simple)
+after_bar nesting [] = Ok (None, [])
+after_bar nesting (token ∷ tokens) =
     if at_stop nesting (token ∷ tokens) then Ok (None, token ∷ tokens)
     else elim token [
       | Ident name ↦ Ok (Some (LocalName (utf8 name)), tokens)
@@ -185,7 +185,7 @@ behind_bar nesting (token ∷ tokens) =
       | _ ↦ Err UnexpectedToken
     ]
 
--- `*|` and `|` before what stands behind the bar
+-- `*|` and `|` before what stands after the bar
 abbrev pub any_namespace : Simple → Compound
 any_namespace name = With Nothing (Plain name)
 
@@ -196,12 +196,12 @@ no_namespace name = With (With Nothing (Plain NoNamespace)) (Plain name)
 unfoldable pub type_part : Nesting → List Token → Read (Option Compound)
 type_part nesting [] = Ok (Some Nothing, [])
 type_part nesting (Ident name ∷ tokens) =
-    if front (is_delim (byte "|")) tokens then Err NamespacedSelector else Ok (Some (With Nothing (Plain (LocalName (utf8 name)))), tokens)
+    if first_passes (is_delim (byte "|")) tokens then Err NamespacedSelector else Ok (Some (With Nothing (Plain (LocalName (utf8 name)))), tokens)
 type_part nesting (Delim c ∷ tokens) =
     if c == byte "*" then
-    (if front (is_delim (byte "|")) tokens then giving (option_map any_namespace) (behind_bar nesting (drop 1 tokens))
+    (if first_passes (is_delim (byte "|")) tokens then giving (option_map any_namespace) (after_bar nesting (drop 1 tokens))
     else Ok (Some (With Nothing (Plain AnyName)), tokens))
-    else (if c == byte "|" then giving (option_map no_namespace) (behind_bar nesting tokens)
+    else (if c == byte "|" then giving (option_map no_namespace) (after_bar nesting tokens)
     else Ok (Some Nothing, Delim c ∷ tokens))
 type_part nesting (token ∷ tokens) = Ok (Some Nothing, token ∷ tokens)
 
@@ -226,7 +226,7 @@ step_of (Delim c) =
     else (if c == byte "+" then Some NextSibling else (if c == byte "~" then Some SubsequentSibling else None))
 step_of _ = None
 
--- the step, and the tokens where its compound is to be read: `>`, `+` and `~` are taken, behind white space anything else is a descendant
+-- the step, and the tokens where its compound is to be read: `>`, `+` and `~` are taken, after white space anything else is a descendant
 unfoldable pub step : Bool → List Token → Read Step
 step after_space [] = Err UnexpectedToken
 step after_space (token ∷ tokens) = elim (step_of token) [
@@ -234,11 +234,11 @@ step after_space (token ∷ tokens) = elim (step_of token) [
   | None ↦ if after_space then Ok (By Descendant, token ∷ tokens) else Err UnexpectedToken
 ]
 
--- the step behind a compound and white space; at Stop there is none
+-- the step after a compound and white space; at Stop there is none
 unfoldable pub next_step : Nesting → List Token → Read (Option Step)
 next_step nesting tokens =
     if at_stop nesting (skip_space tokens) then Ok (None, skip_space tokens)
-    else giving (λ found. Some found) (step (front is_space tokens) (skip_space tokens))
+    else giving (λ found. Some found) (step (first_passes is_space tokens) (skip_space tokens))
 
 -- the rest of an item, to which so many compounds may be added; a step past the last is refused where it is recognised
 unfoldable pub further : ℕ → (List Token → Read Items) → Nesting → Item → List Token → Read Item
@@ -257,7 +257,7 @@ item inner nesting tokens = do
   first ← compound inner nesting EmptySelector (skip_space tokens)
   further 1023 inner nesting (First first.0) first.1
 
--- the rest of a list, with the end that closes it; each item begins behind a comma, so there are at most n
+-- the rest of a list, with the end that closes it; each item begins after a comma, so there are at most n
 unfoldable pub items_at_most : ℕ → (List Token → Read Items) → Nesting → Items → List Token → Read Items
 items_at_most zero inner nesting items tokens = Ok (items, tokens)
 items_at_most (suc n) inner nesting items tokens =

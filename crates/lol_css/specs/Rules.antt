@@ -2,7 +2,7 @@
 use Rattle.std.specs.Prelude.{ℕ, Bool, true, false, ◌||◌, ◌==◌, if◌then◌else◌, List, [], ◌∷◌, map, drop, Option, Some, None, Result, Ok, Err}
 use Rattle.std.specs.Char.{to_ascii_lowercase}
 use Rattle.std.specs.Str.{bytes_eq, byte}
-use Rattle.lol_css.specs.Points.{front}
+use Rattle.lol_css.specs.Points.{first_passes}
 use Rattle.lol_css.specs.Tokens.{Token, Space, Ident, Delim}
 use Rattle.lol_css.specs.declared.error.SelectorError.{SelectorError}
 use Rattle.lol_css.specs.declared.error.SelectorError.TheVariants.{UnexpectedToken, UnexpectedEnd}
@@ -58,25 +58,25 @@ at_end nesting (token ∷ tokens) = closes nesting token
 
 -- Stop: End, or a comma of the list
 abbrev pub at_stop : Nesting → List Token → Bool
-at_stop nesting tokens = at_end nesting tokens || front (is_delim (byte ",")) tokens
+at_stop nesting tokens = at_end nesting tokens || first_passes (is_delim (byte ",")) tokens
 
 -- a token of a kind that is wanted here: End is UnexpectedEnd, another token has the cause given
-unfoldable pub wanted : {A : Type 0} → Nesting → (Token → Option A) → SelectorError → List Token → Read A
-wanted nesting kind other [] = Err UnexpectedEnd
-wanted nesting kind other (token ∷ tokens) =
+unfoldable pub required_token : {A : Type 0} → Nesting → (Token → Option A) → SelectorError → List Token → Read A
+required_token nesting kind other [] = Err UnexpectedEnd
+required_token nesting kind other (token ∷ tokens) =
     if closes nesting token then Err UnexpectedEnd
     else elim (kind token) [ None ↦ Err other | Some x ↦ Ok (x, tokens) ]
 
 -- white space, and then End, which is taken
-unfoldable pub closed : Nesting → List Token → Read (Unit {0})
-closed nesting tokens = if at_end nesting (skip_space tokens) then Ok (tt, drop 1 (skip_space tokens)) else Err UnexpectedToken
+unfoldable pub block_end : Nesting → List Token → Read (Unit {0})
+block_end nesting tokens = if at_end nesting (skip_space tokens) then Ok (tt, drop 1 (skip_space tokens)) else Err UnexpectedToken
 
 -- names of pseudo-classes, flags and An+B are compared up to ASCII case
-abbrev pub lowered : List ℕ → List ℕ
-lowered name = map to_ascii_lowercase name
+abbrev pub lowercase : List ℕ → List ℕ
+lowercase name = map to_ascii_lowercase name
 
 abbrev pub says : List ℕ → List ℕ → Bool
-says word name = bytes_eq (lowered name) word
+says word name = bytes_eq (lowercase name) word
 
 abbrev pub ident_of : Token → Option (List ℕ)
 ident_of (Ident name) = Some name

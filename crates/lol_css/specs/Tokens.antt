@@ -9,7 +9,7 @@ use Rattle.lol_css.specs.declared.syntax.tokens.Sign.{Sign}
 use Rattle.lol_css.specs.declared.syntax.tokens.Sign.TheVariants.{Plus, Minus}
 use Rattle.lol_css.specs.declared.syntax.tokens.MatchOperator.{MatchOperator}
 use Rattle.lol_css.specs.declared.syntax.tokens.MatchOperator.TheVariants.{Include, Dash, Prefix, Suffix, Substring}
-use Rattle.lol_css.specs.Points.{is, front, past, many, one, is_newline, is_white_space, is_decimal, is_sign, decimal, ◌or◌, escaped, begins_escape, is_in_name, name, starts_identifier, starts_number, preprocessed}
+use Rattle.lol_css.specs.Points.{is, first_passes, past, many, one, is_newline, is_white_space, is_decimal, is_sign, decimal, ◌or◌, escaped_point, begins_escape, is_in_name, name, starts_identifier, starts_number, preprocessed}
 
 -- a number as it is written: its sign if one stands there, and its digits' value if it has neither fraction nor exponent
 pub record Numeral : Type 0 where
@@ -38,20 +38,20 @@ Row = List ℕ → Option (Option Token × List ℕ)
 -- row 1 (4.3.2): a comment, up to `*/` or the end
 unfoldable pub in_comment : List ℕ → Option (ℕ × List ℕ)
 in_comment [] = None
-in_comment (c ∷ cs) = if c == byte "*" && front (is (byte "/")) cs then None else Some (c, cs)
+in_comment (c ∷ cs) = if c == byte "*" && first_passes (is (byte "/")) cs then None else Some (c, cs)
 
 unfoldable pub comment : Row
-comment text = if front (is (byte "/")) text && front (is (byte "*")) (drop 1 text) then Some (None, drop 2 (many in_comment (drop 2 text)).1) else None
+comment text = if first_passes (is (byte "/")) text && first_passes (is (byte "*")) (drop 1 text) then Some (None, drop 2 (many in_comment (drop 2 text)).1) else None
 
 -- row 2: white space
 unfoldable pub space : Row
 space text = option_map (λ taken. (Some Space, (many (one is_white_space) taken.1).1)) (one is_white_space text)
 
 -- row 3 (4.3.5): a string, up to the same quote or the end
--- what an escape in a string stands for, from behind the backslash: at the end and before LF nothing
+-- what an escape in a string stands for, after the backslash: at the end and before LF nothing
 unfoldable pub string_escape : List ℕ → List ℕ × List ℕ
 string_escape [] = ([], [])
-string_escape (c ∷ cs) = if is_newline c then ([], cs) else (let point = escaped (c ∷ cs) in (point.0 ∷ [], point.1))
+string_escape (c ∷ cs) = if is_newline c then ([], cs) else (let point = escaped_point (c ∷ cs) in (point.0 ∷ [], point.1))
 
 unfoldable pub string_piece : ℕ → List ℕ → Option (List ℕ × List ℕ)
 string_piece quote [] = None
@@ -59,29 +59,29 @@ string_piece quote (c ∷ cs) =
     if c == quote || is_newline c then None
     else (if c == byte "\\" then Some (string_escape cs) else Some (c ∷ [], cs))
 
-abbrev pub joined : List (List ℕ) → List ℕ
-joined [] = []
-joined (points ∷ pieces) = points ++ joined pieces
+abbrev pub concatenation : List (List ℕ) → List ℕ
+concatenation [] = []
+concatenation (points ∷ pieces) = points ++ concatenation pieces
 
 -- the text up to the quote, and what is left from there
 abbrev pub string_text : ℕ → List ℕ → List ℕ × List ℕ
-string_text quote text = let pieces = many (string_piece quote) text in (joined pieces.0, pieces.1)
+string_text quote text = let pieces = many (string_piece quote) text in (concatenation pieces.0, pieces.1)
 
 -- at an unescaped LF it is a BadString, which ends before it
-abbrev pub string_behind : ℕ → List ℕ → Option Token × List ℕ
-string_behind quote text =
+abbrev pub string_after : ℕ → List ℕ → Option Token × List ℕ
+string_after quote text =
     let taken = string_text quote text in
-    if front is_newline taken.1 then (Some BadString, taken.1) else (Some (Quoted taken.0), drop 1 taken.1)
+    if first_passes is_newline taken.1 then (Some BadString, taken.1) else (Some (Quoted taken.0), drop 1 taken.1)
 
 unfoldable pub string : Row
 string [] = None
-string (c ∷ cs) = if c == byte "\"" || c == byte "'" then Some (string_behind c cs) else None
+string (c ∷ cs) = if c == byte "\"" || c == byte "'" then Some (string_after c cs) else None
 
 -- row 4: `#` and a name
 unfoldable pub hash : Row
 hash [] = None
 hash (c ∷ cs) =
-    if c == byte "#" && (front is_in_name cs || begins_escape cs) then (let n = name cs in Some (Some (Hash n.0 (starts_identifier cs)), n.1))
+    if c == byte "#" && (first_passes is_in_name cs || begins_escape cs) then (let n = name cs in Some (Some (Hash n.0 (starts_identifier cs)), n.1))
     else None
 
 -- row 5 (4.3.3 and 4.3.12): a number, alone, with a unit or with `%`
@@ -92,18 +92,18 @@ abbrev pub leading_sign : List ℕ → Option Sign
 leading_sign [] = None
 leading_sign (c ∷ cs) = sign_of c
 
--- behind a fraction and behind an exponent, where one stands
-unfoldable pub behind_fraction : List ℕ → List ℕ
-behind_fraction text = if front (is (byte ".")) text && front is_decimal (drop 1 text) then (many (one is_decimal) (drop 1 text)).1 else text
+-- after a fraction and after an exponent, where one stands
+unfoldable pub after_fraction : List ℕ → List ℕ
+after_fraction text = if first_passes (is (byte ".")) text && first_passes is_decimal (drop 1 text) then (many (one is_decimal) (drop 1 text)).1 else text
 
-unfoldable pub behind_exponent : List ℕ → List ℕ
-behind_exponent text =
-    if front (λ c. c == byte "E" || c == byte "e") text && front is_decimal (past is_sign (drop 1 text)) then (many (one is_decimal) (past is_sign (drop 1 text))).1 else text
+unfoldable pub after_exponent : List ℕ → List ℕ
+after_exponent text =
+    if first_passes (λ c. c == byte "E" || c == byte "e") text && first_passes is_decimal (past is_sign (drop 1 text)) then (many (one is_decimal) (past is_sign (drop 1 text))).1 else text
 
 unfoldable pub numeral : List ℕ → Numeral × List ℕ
 numeral text =
     let digits = many (one is_decimal) (past is_sign text) in
-    let rest = behind_exponent (behind_fraction digits.1) in
+    let rest = after_exponent (after_fraction digits.1) in
     (record { sign = leading_sign text; integer = if length rest == length digits.1 then Some (decimal digits.0) else None }, rest)
 
 unfoldable pub number : Row
@@ -111,18 +111,18 @@ number text =
     let n = numeral text in
     if starts_number text then
     (if starts_identifier n.1 then (let unit = name n.1 in Some (Some (Dimension n.0 unit.0), unit.1))
-    else (if front (is (byte "%")) n.1 then Some (Some Percentage, drop 1 n.1) else Some (Some (Number n.0), n.1)))
+    else (if first_passes (is (byte "%")) n.1 then Some (Some Percentage, drop 1 n.1) else Some (Some (Number n.0), n.1)))
     else None
 
 -- row 6: `-->`
 unfoldable pub cdc : Row
-cdc text = if front (is (byte "-")) text && front (is (byte "-")) (drop 1 text) && front (is (byte ">")) (drop 2 text) then Some (Some Cdc, drop 3 text) else None
+cdc text = if first_passes (is (byte "-")) text && first_passes (is (byte "-")) (drop 1 text) && first_passes (is (byte ">")) (drop 2 text) then Some (Some Cdc, drop 3 text) else None
 
--- row 7 (4.3.4): a name, which takes a `(` directly behind it
+-- row 7 (4.3.4): a name, which takes a `(` directly after it
 unfoldable pub identifier : Row
 identifier text =
     if starts_identifier text then
-    (let n = name text in if front (is (byte "(")) n.1 then Some (Some (Function n.0), drop 1 n.1) else Some (Some (Ident n.0), n.1))
+    (let n = name text in if first_passes (is (byte "(")) n.1 then Some (Some (Function n.0), drop 1 n.1) else Some (Some (Ident n.0), n.1))
     else None
 
 -- row 8: `~=`, `|=`, `^=`, `$=`, `*=`
@@ -136,7 +136,7 @@ match_operator c =
 
 unfoldable pub match_sign : Row
 match_sign [] = None
-match_sign (c ∷ cs) = if front (is (byte "=")) cs then option_map (λ operator. (Some (Match operator), drop 1 cs)) (match_operator c) else None
+match_sign (c ∷ cs) = if first_passes (is (byte "=")) cs then option_map (λ operator. (Some (Match operator), drop 1 cs)) (match_operator c) else None
 
 -- row 9: anything else
 unfoldable pub delim : Row

@@ -74,9 +74,9 @@ ReadsUnlessMemory view (Ok x) rest read = read ≡ Ok (view x, rest)
 ReadsUnlessMemory view (Err cause) rest read = FailsUnlessMemory cause read
 
 -- the token that is wanted was taken from the front, unless what is open innermost ends there
-abbrev pub TakesWanted : rules.Nesting → Result Token SelectorError → List tokens.Token → List tokens.Token → Type 0
-TakesWanted nesting (Ok token) old new = (at_end nesting old ≡ false) × (old ≡ token_of token ∷ new)
-TakesWanted nesting (Err cause) old new = (at_end nesting old ≡ true) × (cause ≡ UnexpectedEnd)
+abbrev pub TakesRequired : rules.Nesting → Result Token SelectorError → List tokens.Token → List tokens.Token → Type 0
+TakesRequired nesting (Ok token) old new = (at_end nesting old ≡ false) × (old ≡ token_of token ∷ new)
+TakesRequired nesting (Err cause) old new = (at_end nesting old ≡ true) × (cause ≡ UnexpectedEnd)
 
 abbrev pub nesting_of : Nesting → rules.Nesting
 nesting_of Outside = rules.Outside

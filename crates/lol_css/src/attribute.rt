@@ -3,7 +3,7 @@
 ghost use Rattle.std.specs.Prelude.{◌↔◌, IsTrue};
 ghost use Rattle.lol_css.specs.SameText.{SameText};
 
-/// How a value stands to the operand (Selectors 4, section 6.1 and 6.2), as in the crate `selectors`.
+/// An operator that compares an attribute's value with an operand (Selectors 4, sections 6.1 and 6.2), as in `selectors::attr`.
 #[derive(Debug, Clone, Copy, PartialEq, Eq)]
 pub enum AttrSelectorOperator {
     /// `=`
@@ -20,7 +20,8 @@ pub enum AttrSelectorOperator {
     Suffix,
 }
 
-/// How a selector says that letters' case counts (Selectors 4, section 6.3), as in the crate `selectors`.
+/// Whether a selector compares an attribute's value with or without the case of ASCII letters (Selectors 4, section 6.3), as in
+/// `selectors::attr`.
 #[derive(Debug, Clone, Copy, PartialEq, Eq)]
 pub enum ParsedCaseSensitivity {
     /// The flag `s`.
@@ -33,10 +34,12 @@ pub enum ParsedCaseSensitivity {
     AsciiCaseInsensitiveIfInHtmlElementInHtmlDocument,
 }
 
-/// Whether letters' case counts where an attribute is compared, as in the crate `selectors`.
+/// Whether two texts are compared with or without the case of ASCII letters, as in `selectors::attr`.
 #[derive(Debug, Clone, Copy, PartialEq, Eq)]
 pub enum CaseSensitivity {
+    /// Letters of another case differ.
     CaseSensitive,
+    /// ASCII letters are equal up to case.
     AsciiCaseInsensitive,
 }
 

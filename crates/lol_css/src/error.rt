@@ -6,7 +6,7 @@ ghost use Rattle.lol_css.specs.declared.error.SelectorError.TheVariants.{Memory}
 use std::alloc::{AllocError, AllocFailed};
 use thiserror::Error;
 
-/// The first cause for which a text is refused, as in the crate's `selectors_vm::SelectorError`.
+/// The first cause for which a text is refused, as in lol_html's `selectors_vm::SelectorError`.
 #[derive(Debug, Clone, Copy, PartialEq, Eq, Error)]
 pub enum SelectorError {
     /// A token that can't stand where it does.
@@ -17,7 +17,7 @@ pub enum SelectorError {
     #[error("Unexpected end of selector.")]
     UnexpectedEnd,
 
-    /// `[` without a name behind it.
+    /// `[` without a name after it.
     #[error("Missing attribute name in attribute selector.")]
     MissingAttributeName,
 
@@ -25,7 +25,7 @@ pub enum SelectorError {
     #[error("The selector is empty.")]
     EmptySelector,
 
-    /// A combinator with no compound behind it, as in `div >`.
+    /// A combinator with no compound after it, as in `div >`.
     #[error("Dangling combinator in selector.")]
     DanglingCombinator,
 
@@ -37,7 +37,7 @@ pub enum SelectorError {
     #[error("Unsupported pseudo-class or pseudo-element in selector.")]
     UnsupportedPseudoClassOrElement,
 
-    /// Never produced; the crate has it.
+    /// Never answered; lol_html has it.
     #[error("Nested negation in selector.")]
     NestedNegation,
 
@@ -45,11 +45,11 @@ pub enum SelectorError {
     #[error("Selectors with explicit namespaces are not supported.")]
     NamespacedSelector,
 
-    /// `.` without a name directly behind it.
+    /// `.` without a name directly after it.
     #[error("Invalid or unescaped class name in selector.")]
     InvalidClassName,
 
-    /// Never produced; the crate has it.
+    /// Never answered; lol_html has it.
     #[error("Empty negation in selector.")]
     EmptyNegation,
 
@@ -61,7 +61,7 @@ pub enum SelectorError {
     #[error("Unsupported syntax in selector.")]
     UnsupportedSyntax,
 
-    /// Memory was refused. (Not in the crate.)
+    /// Out of memory. (Not in lol_html.)
     #[error("Out of memory.")]
     Memory,
 }

@@ -15,7 +15,7 @@ use std::alloc::Global;
 /// How many of `:not`, `:is` and `:where` may be open at once.
 const MAX_NESTING: u32 = 128;
 
-/// Reads selectors, as in the crate's `selectors_vm::SelectorsParser`.
+/// The parser of selectors, as lol_html's `selectors_vm::SelectorsParser`.
 pub struct SelectorsParser;
 
 impl SelectorsParser {
@@ -23,7 +23,7 @@ impl SelectorsParser {
     ///
     /// # Errors
     ///
-    /// The one cause for which the text is refused, or `Memory` where memory was refused.
+    /// The one cause for which the text is refused, or `Memory` where the allocator is out of memory.
     pub fn parse(alloc: Global, text: &str) -> Result<SelectorList, SelectorError>
         ensures ok { IfOk result (λ selector. accept text.now ≡ Ok (list_of selector)) }
         ensures err { IfErr result (λ cause. (cause ≡ Memory) ⊎ (accept text.now ≡ Err cause)) }
@@ -39,7 +39,7 @@ impl SelectorsParser {
     }
 }
 
-/// A selector that was read, as in the crate.
+/// A parsed selector, as lol_html's `selectors_vm::Selector`.
 #[derive(Debug, Drop)]
 pub struct Selector {
     list: SelectorList,

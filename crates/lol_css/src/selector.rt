@@ -77,7 +77,7 @@ impl fmt::Debug for CssString {
     }
 }
 
-/// How a compound stands to the one before it (Selectors 4, section 16).
+/// A combinator: how the element of a compound stands to that of the compound before it (Selectors 4, section 16).
 #[derive(Debug, Clone, Copy, PartialEq, Eq)]
 pub enum Combinator {
     /// `>`
@@ -86,7 +86,7 @@ pub enum Combinator {
     Descendant,
 }
 
-/// A part of a compound.
+/// A simple selector: one part of a compound (Selectors 4, section 3.1).
 #[derive(Debug, PartialEq, Eq, Drop)]
 #[cycle(tree)]
 pub enum SimpleSelector {
@@ -134,14 +134,14 @@ pub enum SimpleSelector {
     Where(SelectorList),
 }
 
-/// Parts that one element has to have, in written order (Selectors 4, section 3.1).
+/// A compound selector: simple selectors that one element has to match, in written order (Selectors 4, section 3.1).
 #[derive(Debug, PartialEq, Eq, Drop)]
 #[cycle(tree)]
 pub struct Compound {
     pub parts: Vec<SimpleSelector>,
 }
 
-/// Compounds, each a step from the one before it (Selectors 4, section 3.1).
+/// A complex selector: compounds, each with the combinator to the one before it (Selectors 4, section 3.1).
 #[derive(Debug, PartialEq, Eq, Drop)]
 #[cycle(tree)]
 pub struct ComplexSelector {
@@ -149,7 +149,7 @@ pub struct ComplexSelector {
     pub rest: Vec<(Combinator, Compound)>,
 }
 
-/// The items of a list, in written order (Selectors 4, section 4.1).
+/// A selector list: complex selectors in written order (Selectors 4, section 4.1).
 #[derive(Debug, PartialEq, Eq, Drop)]
 #[cycle(tree)]
 pub struct SelectorList {

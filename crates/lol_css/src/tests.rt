@@ -56,7 +56,7 @@ const CAUSES: [(SelectorError, &str); 14] = [
 ];
 
 #[test]
-fn causes_print_as_in_the_crate(rt: HostRuntime) -> Result<(), Fail> {
+fn causes_print_as_in_lol_html(rt: HostRuntime) -> Result<(), Fail> {
     for (cause, text) in CAUSES {
         let printed = format!(in rt.alloc(); "{cause}")?;
         assert_eq!(rt; printed.as_str(), text);

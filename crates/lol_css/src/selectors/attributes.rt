@@ -1,12 +1,12 @@
-//! Attributes, behind the `[` (Selectors 4, section 6).
+//! Attributes, after the `[` (Selectors 4, section 6).
 
 ghost use Rattle.std.specs.Prelude.{◌≡◌};
 ghost use Rattle.std.specs.List.{list_any};
 ghost use Rattle.std.specs.Str.{bytes_eq};
 ghost use Rattle.lol_css.specs.CaselessAttributes.{caseless_attributes};
 ghost use Rattle.lol_css.specs.Trees as trees;
-ghost use Rattle.lol_css.specs.Rules.{wanted, giving, InBrackets};
-ghost use Rattle.lol_css.specs.Reading.{name_behind_bar, attribute_name, operator_of, value_of, flag_of, flag_named, unflagged, case_sensitivity, comparison, attribute, utf8};
+ghost use Rattle.lol_css.specs.Rules.{required_token, giving, InBrackets};
+ghost use Rattle.lol_css.specs.Reading.{name_after_bar, attribute_name, operator_of, value_of, flag_of, flag_named, default_case_sensitivity, case_sensitivity, comparison, attribute, utf8};
 ghost use Rattle.lol_css.specs.Accepting.{judged_part};
 ghost use Rattle.lol_css.specs.declared.error.SelectorError.TheVariants.{UnexpectedToken, UnexpectedTokenInAttribute};
 ghost use Rattle.lol_css.specs.Views.{Reads, ReadsUnlessMemory, points_of, judgement};
@@ -23,13 +23,13 @@ use crate::syntax::tokens::{MatchOperator, Token};
 use std::alloc::Global;
 
 /// The name after a bar, and whether `*` stands before the bar.
-fn name_behind_bar<'a>(
+fn name_after_bar<'a>(
     any_namespace: bool,
     reader: &mut Reader<'a>,
 ) -> Result<(Name<'a>, bool), SelectorError>
-    ensures { Reads (λ x. (points_of x.0, x.1)) result reader.new (name_behind_bar any_namespace reader.old) }
+    ensures { Reads (λ x. (points_of x.0, x.1)) result reader.new (name_after_bar any_namespace reader.old) }
 {
-    let name = reader.wanted_name(
+    let name = reader.expect_name(
         Nesting::InBrackets,
         SelectorError::UnexpectedTokenInAttribute,
     )?;
@@ -37,27 +37,27 @@ fn name_behind_bar<'a>(
 }
 
 /// The name, and whether `*|` stands before it.
-#[tactic(auto, unfolding(crate::specs::Reading::attribute_name, crate::specs::Rules::wanted))]
+#[tactic(auto, unfolding(crate::specs::Reading::attribute_name, crate::specs::Rules::required_token))]
 fn attribute_name<'a>(reader: &mut Reader<'a>) -> Result<(Name<'a>, bool), SelectorError>
     ensures { Reads (λ x. (points_of x.0, x.1)) result reader.new (attribute_name reader.old) }
 {
-    match reader.wanted(Nesting::InBrackets)? {
+    match reader.expect(Nesting::InBrackets)? {
         Token::Ident(_) if reader.is_at_delim('|') => Err(SelectorError::NamespacedSelector),
         Token::Ident(name) => Ok((name, false)),
-        Token::Delim('|') => name_behind_bar(false, reader),
-        Token::Delim('*') => match reader.wanted(Nesting::InBrackets)? {
-            Token::Delim('|') => name_behind_bar(true, reader),
+        Token::Delim('|') => name_after_bar(false, reader),
+        Token::Delim('*') => match reader.expect(Nesting::InBrackets)? {
+            Token::Delim('|') => name_after_bar(true, reader),
             _ => Err(SelectorError::UnexpectedTokenInAttribute),
         },
         _ => Err(SelectorError::MissingAttributeName),
     }
 }
 
-#[tactic(auto, unfolding(crate::specs::Rules::wanted))]
+#[tactic(auto, unfolding(crate::specs::Rules::required_token))]
 fn operator(reader: &mut Reader<'_>) -> Result<AttrSelectorOperator, SelectorError>
-    ensures { Reads (λ x. x) result reader.new (wanted InBrackets operator_of UnexpectedTokenInAttribute reader.old) }
+    ensures { Reads (λ x. x) result reader.new (required_token InBrackets operator_of UnexpectedTokenInAttribute reader.old) }
 {
-    match reader.wanted(Nesting::InBrackets)? {
+    match reader.expect(Nesting::InBrackets)? {
         Token::Delim('=') => Ok(AttrSelectorOperator::Equal),
         Token::Match(MatchOperator::Include) => Ok(AttrSelectorOperator::Includes),
         Token::Match(MatchOperator::Dash) => Ok(AttrSelectorOperator::DashMatch),
@@ -68,11 +68,11 @@ fn operator(reader: &mut Reader<'_>) -> Result<AttrSelectorOperator, SelectorErr
     }
 }
 
-#[tactic(auto, unfolding(crate::specs::Rules::wanted))]
+#[tactic(auto, unfolding(crate::specs::Rules::required_token))]
 fn value(alloc: Global, reader: &mut Reader<'_>) -> Result<CssString, SelectorError>
-    ensures { ReadsUnlessMemory (λ s. s) result reader.new (giving utf8 (wanted InBrackets value_of UnexpectedTokenInAttribute reader.old)) }
+    ensures { ReadsUnlessMemory (λ s. s) result reader.new (giving utf8 (required_token InBrackets value_of UnexpectedTokenInAttribute reader.old)) }
 {
-    match reader.wanted(Nesting::InBrackets)? {
+    match reader.expect(Nesting::InBrackets)? {
         Token::Ident(name) => Ok(name.to_text(alloc)?),
         Token::Quoted(quoted) => Ok(quoted.to_text(alloc)?),
         _ => Err(SelectorError::UnexpectedTokenInAttribute),
@@ -91,11 +91,11 @@ fn flag_named(name: Name<'_>) -> Option<ParsedCaseSensitivity>
     }
 }
 
-#[tactic(auto, unfolding(crate::specs::Rules::wanted))]
+#[tactic(auto, unfolding(crate::specs::Rules::required_token))]
 fn flag(reader: &mut Reader<'_>) -> Result<ParsedCaseSensitivity, SelectorError>
-    ensures { Reads (λ x. x) result reader.new (wanted InBrackets flag_of UnexpectedToken reader.old) }
+    ensures { Reads (λ x. x) result reader.new (required_token InBrackets flag_of UnexpectedToken reader.old) }
 {
-    match reader.wanted(Nesting::InBrackets)? {
+    match reader.expect(Nesting::InBrackets)? {
         Token::Ident(name) => flag_named(name).ok_or(SelectorError::UnexpectedToken),
         _ => Err(SelectorError::UnexpectedToken),
     }
@@ -164,8 +164,8 @@ fn is_caseless(name: &str) -> bool
 }
 
 /// How an attribute of this name is compared where no flag stands.
-fn unflagged(name: &CssString) -> ParsedCaseSensitivity
-    ensures { result ≡ unflagged name.now }
+fn default_case_sensitivity(name: &CssString) -> ParsedCaseSensitivity
+    ensures { result ≡ default_case_sensitivity name.now }
 {
     if is_caseless(name.as_str()) {
         ParsedCaseSensitivity::AsciiCaseInsensitiveIfInHtmlElementInHtmlDocument
@@ -184,14 +184,14 @@ fn case_sensitivity(
 {
     if reader.is_at_end(Nesting::InBrackets) {
         reader.advance();
-        return Ok(unflagged(name));
+        return Ok(default_case_sensitivity(name));
     }
     let found = flag(reader)?;
     reader.close(Nesting::InBrackets)?;
     Ok(found)
 }
 
-/// What stands behind the name.
+/// What stands after the name.
 #[tactic(auto, unfolding(crate::specs::Reading::comparison))]
 fn comparison(
     alloc: Global,
@@ -218,7 +218,7 @@ fn comparison(
 }
 
 impl Context {
-    /// An attribute, from behind the `[`.
+    /// An attribute, after the `[`.
     #[tactic(auto, unfolding(crate::specs::Reading::attribute, crate::specs::Accepting::judged_part))]
     pub(crate) fn attribute(
         self,

@@ -4,7 +4,7 @@ ghost use Rattle.std.specs.Prelude.{◌≡◌, Ok, IfOk};
 ghost use Rattle.std.specs.Option.{option_map};
 ghost use Rattle.lol_css.specs.Trees as trees;
 ghost use Rattle.lol_css.specs.Rules.{giving};
-ghost use Rattle.lol_css.specs.Reading.{class_name, behind_bar, any_namespace, no_namespace, type_part};
+ghost use Rattle.lol_css.specs.Reading.{class_name, after_bar, any_namespace, no_namespace, type_part};
 ghost use Rattle.lol_css.specs.Accepting.{judged_compound};
 ghost use Rattle.lol_css.specs.Judging as judging;
 ghost use Rattle.lol_css.specs.Judging.{is_empty};
@@ -27,14 +27,14 @@ impl Context {
         if reader.is_at_stop(self.nesting) {
             return Err(SelectorError::UnexpectedEnd);
         }
-        let name = reader.wanted_name(self.nesting, SelectorError::InvalidClassName)?;
+        let name = reader.expect_name(self.nesting, SelectorError::InvalidClassName)?;
         Ok(SimpleSelector::Class(name.to_text(self.alloc)?))
     }
 
-    /// A name or `*`, directly behind a bar; nothing where the item ends.
-    #[tactic(auto, unfolding(crate::specs::Reading::behind_bar))]
-    fn behind_bar(self, reader: &mut Reader<'_>) -> Result<Option<SimpleSelector>, SelectorError>
-        ensures { ReadsUnlessMemory (option_map part_of) result reader.new (giving (option_map trees.Plain) (behind_bar (nesting_of self.nesting) reader.old)) }
+    /// A name or `*`, directly after a bar; nothing where the item ends.
+    #[tactic(auto, unfolding(crate::specs::Reading::after_bar))]
+    fn after_bar(self, reader: &mut Reader<'_>) -> Result<Option<SimpleSelector>, SelectorError>
+        ensures { ReadsUnlessMemory (option_map part_of) result reader.new (giving (option_map trees.Plain) (after_bar (nesting_of self.nesting) reader.old)) }
     {
         if reader.is_at_stop(self.nesting) {
             return Ok(None);
@@ -48,23 +48,23 @@ impl Context {
         }
     }
 
-    /// A compound that begins behind `*|`; nothing where the item ends.
+    /// A compound that begins after `*|`; nothing where the item ends.
     #[tactic(auto, unfolding(crate::specs::Accepting::judged_compound, crate::specs::Accepting::judged_part))]
     fn any_namespace(self, reader: &mut Reader<'_>) -> Result<Option<Compound>, SelectorError>
-        ensures { ReadsUnlessMemory (option_map (λ start. Ok (compound_of start))) result reader.new (giving (option_map judged_compound) (giving (option_map any_namespace) (behind_bar (nesting_of self.nesting) reader.old))) }
+        ensures { ReadsUnlessMemory (option_map (λ start. Ok (compound_of start))) result reader.new (giving (option_map judged_compound) (giving (option_map any_namespace) (after_bar (nesting_of self.nesting) reader.old))) }
     {
-        match self.behind_bar(reader)? {
+        match self.after_bar(reader)? {
             Some(name) => Ok(Some(single(self.alloc, name)?)),
             None => Ok(None),
         }
     }
 
-    /// A compound that begins behind `|`; nothing where the item ends.
+    /// A compound that begins after `|`; nothing where the item ends.
     #[tactic(auto, unfolding(crate::specs::Accepting::judged_compound, crate::specs::Accepting::judged_part), using(crate::proofs::TreeRows::push_steps))]
     fn no_namespace(self, reader: &mut Reader<'_>) -> Result<Option<Compound>, SelectorError>
-        ensures { ReadsUnlessMemory (option_map (λ start. Ok (compound_of start))) result reader.new (giving (option_map judged_compound) (giving (option_map no_namespace) (behind_bar (nesting_of self.nesting) reader.old))) }
+        ensures { ReadsUnlessMemory (option_map (λ start. Ok (compound_of start))) result reader.new (giving (option_map judged_compound) (giving (option_map no_namespace) (after_bar (nesting_of self.nesting) reader.old))) }
     {
-        match self.behind_bar(reader)? {
+        match self.after_bar(reader)? {
             Some(name) => {
                 let mut compound = single(self.alloc, SimpleSelector::ExplicitNoNamespace)?;
                 compound.parts.push(name)?;

@@ -16,7 +16,7 @@ use crate::syntax::reader::{Nesting, Reader};
 use crate::syntax::tokens::Token;
 use std::alloc::{AllocError, Global};
 
-/// The step behind a compound; nothing where the item ends.
+/// The step after a compound; nothing where the item ends.
 #[tactic(auto, unfolding(crate::specs::Reading::next_step, crate::specs::Reading::step))]
 pub(crate) fn next_step(
     nesting: Nesting,

@@ -2,7 +2,7 @@
 
 ghost use Rattle.std.specs.Prelude.{◌≡◌};
 ghost use Rattle.lol_css.specs.Reading.{combination_named};
-ghost use Rattle.lol_css.specs.Accepting.{combined};
+ghost use Rattle.lol_css.specs.Accepting.{combination_part};
 ghost use Rattle.lol_css.specs.Views.{points_of};
 ghost use Rattle.lol_css.specs.TreeViews.{part_of, list_of};
 
@@ -35,7 +35,7 @@ impl LogicalCombination {
 
     /// The part that stands for this combination of a list.
     pub(crate) fn of(self, list: SelectorList) -> SimpleSelector
-        ensures { part_of result ≡ combined self (list_of list) }
+        ensures { part_of result ≡ combination_part self (list_of list) }
     {
         match self {
             LogicalCombination::Not => SimpleSelector::Negation(list),

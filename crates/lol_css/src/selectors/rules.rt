@@ -52,7 +52,7 @@ impl Context {
         }
     }
 
-    /// A pseudo-class, from behind its colon.
+    /// A pseudo-class, after its colon.
     #[tactic(auto, unfolding(crate::specs::Reading::pseudo))]
     #[cycle(rules)]
     fn pseudo(self, reader: &mut Reader<'_>) -> Result<Judged<SimpleSelector>, SelectorError>
@@ -98,7 +98,7 @@ impl Context {
         }
     }
 
-    /// The parts of a compound behind those that it begins with.
+    /// The parts of a compound after those that it begins with.
     #[cycle(rules)]
     fn more_parts(
         self,
@@ -153,7 +153,7 @@ impl Context {
         Ok(item)
     }
 
-    /// A list of items parted by commas, and its end.
+    /// A list of items separated by commas, and its end.
     #[cycle(rules)]
     pub(crate) fn list(self, reader: &mut Reader<'_>) -> Result<Judged<SelectorList>, SelectorError>
         ensures { ReadsUnlessMemory (judgement list_of) result reader.new (giving (judged (is_inside self.nesting)) (list (inner_list self.depth_left) (nesting_of self.nesting) reader.old)) }

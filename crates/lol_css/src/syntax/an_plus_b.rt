@@ -1,12 +1,12 @@
-//! An+B (CSS Syntax 3, section 6), behind the parenthesis of `:nth-child(` and its kin.
+//! An+B (CSS Syntax 3, section 6), after the parenthesis of `:nth-child(` and its kin.
 
 ghost use Rattle.std.specs.Prelude.{◌≡◌, ◌≤◌, ◌+◌, ◌-◌, ◌*◌, List, min, take, drop, codes, if◌then◌else◌, Some, None, true, false, MatchOption, IfSome};
 ghost use Rattle.std.specs.List.{list_all};
 ghost use Rattle.std.specs.Str.{byte};
-ghost use Rattle.lol_css.specs.Points.{decimal, is_decimal, front, is};
+ghost use Rattle.lol_css.specs.Points.{decimal, is_decimal, first_passes, is};
 ghost use Rattle.lol_css.specs.Tokens as tokens;
 ghost use Rattle.lol_css.specs.Rules.{says};
-ghost use Rattle.lol_css.specs.AnPlusB.{integer, an_plus_b, an_plus_b_of, rest_of, scaled, behind_n, digits_of_b, fitting, signed, is_n_and_digits};
+ghost use Rattle.lol_css.specs.AnPlusB.{integer, an_plus_b, an_plus_b_of, rest_of, an_plus_b_of_dimension, after_n, digits_of_b, bounded_integer, with_sign, is_n_and_digits};
 ghost use Rattle.lol_css.specs.Views.{Reads, numeral_of, token_of, points_of};
 
 use crate::error::SelectorError;
@@ -18,7 +18,7 @@ use crate::syntax::tokens::{Numeral, Sign, Token};
 /// One more than the magnitude of the least `i32`.
 const TOO_LARGE: u64 = 2_147_483_649;
 
-/// The number with one more digit behind it, or `TOO_LARGE`.
+/// The number with one more digit after it, or `TOO_LARGE`.
 fn with_digit(number: u64, digit: char) -> u64
     requires { number ≤ TOO_LARGE }
     ensures { result ≡ min (number * 10 + (digit - byte "0")) TOO_LARGE }
@@ -57,10 +57,10 @@ fn name_magnitude(name: Name<'_>) -> Option<u64>
 }
 
 /// A magnitude with its sign: `UnexpectedToken` outside `i32`.
-#[tactic(auto, unfolding(crate::specs::AnPlusB::fitting))]
-fn fitting(sign: Sign, magnitude: u64) -> Result<i32, SelectorError>
+#[tactic(auto, unfolding(crate::specs::AnPlusB::bounded_integer))]
+fn bounded_integer(sign: Sign, magnitude: u64) -> Result<i32, SelectorError>
     requires { magnitude ≤ TOO_LARGE }
-    ensures { (rest : List tokens.Token) → Reads (λ x. x) result rest (fitting (signed sign magnitude) rest) }
+    ensures { (rest : List tokens.Token) → Reads (λ x. x) result rest (bounded_integer (with_sign sign magnitude) rest) }
 {
     let magnitude = magnitude as i64;
     let number = match sign {
@@ -75,18 +75,18 @@ fn fitting(sign: Sign, magnitude: u64) -> Result<i32, SelectorError>
 
 /// The value of a number of these digits: `UnexpectedToken` outside `i32`.
 fn value(sign: Sign, digits: &[char]) -> Result<i32, SelectorError>
-    ensures { (rest : List tokens.Token) → Reads (λ x. x) result rest (fitting (signed sign (decimal digits.now)) rest) }
+    ensures { (rest : List tokens.Token) → Reads (λ x. x) result rest (bounded_integer (with_sign sign (decimal digits.now)) rest) }
 {
-    fitting(sign, magnitude(digits))
+    bounded_integer(sign, magnitude(digits))
 }
 
 /// White space and a number without a sign, which gets this one.
-#[tactic(auto, unfolding(crate::specs::AnPlusB::digits_of_b, crate::specs::Rules::wanted))]
+#[tactic(auto, unfolding(crate::specs::AnPlusB::digits_of_b, crate::specs::Rules::required_token))]
 fn digits_of_b(sign: Sign, reader: &mut Reader<'_>) -> Result<i32, SelectorError>
     ensures { Reads (λ x. x) result reader.new (digits_of_b sign reader.old) }
 {
     reader.skip_space();
-    match reader.wanted(Nesting::InFunction)? {
+    match reader.expect(Nesting::InFunction)? {
         Token::Number(
             Numeral {
                 sign: None,
@@ -97,10 +97,10 @@ fn digits_of_b(sign: Sign, reader: &mut Reader<'_>) -> Result<i32, SelectorError
     }
 }
 
-/// B behind `n` and white space; 0, with nothing taken, where none stands.
-#[tactic(auto, unfolding(crate::specs::AnPlusB::behind_n))]
-fn behind_n(reader: &mut Reader<'_>) -> Result<i32, SelectorError>
-    ensures { Reads (λ x. x) result reader.new (behind_n reader.old) }
+/// B after `n` and white space; 0, with nothing taken, where none stands.
+#[tactic(auto, unfolding(crate::specs::AnPlusB::after_n))]
+fn after_n(reader: &mut Reader<'_>) -> Result<i32, SelectorError>
+    ensures { Reads (λ x. x) result reader.new (after_n reader.old) }
 {
     match reader.peek() {
         Some(Token::Delim('+')) => {
@@ -127,7 +127,7 @@ fn behind_n(reader: &mut Reader<'_>) -> Result<i32, SelectorError>
 }
 
 /// What follows `n-` in a name.
-fn behind_n_minus(name: Name<'_>) -> Option<Name<'_>>
+fn after_n_minus(name: Name<'_>) -> Option<Name<'_>>
     ensures { MatchOption result (says (codes "n-") (take 2 (points_of name.entry)) ≡ false) (λ rest. (says (codes "n-") (take 2 (points_of name.entry)) ≡ true) × (points_of rest ≡ drop 2 (points_of name.entry))) }
 {
     let (n, rest) = name.split_first()?;
@@ -139,12 +139,12 @@ fn behind_n_minus(name: Name<'_>) -> Option<Name<'_>>
     }
 }
 
-/// The digits behind `n-` in a name, as their number or `TOO_LARGE`.
-fn digits_behind_n(name: Name<'_>) -> Option<u64>
+/// The digits after `n-` in a name, as their number or `TOO_LARGE`.
+fn digits_after_n(name: Name<'_>) -> Option<u64>
     ensures value { result ≡ (if is_n_and_digits (points_of name.entry) then Some (min (decimal (drop 2 (points_of name.entry))) TOO_LARGE) else None) }
     ensures small { IfSome result (λ n. n ≤ TOO_LARGE) }
 {
-    name_magnitude(behind_n_minus(name)?)
+    name_magnitude(after_n_minus(name)?)
 }
 
 /// B, of which the name holds the beginning: `n`, `n-`, or `n-` with digits.
@@ -154,20 +154,20 @@ fn rest_of(name: Name<'_>, reader: &mut Reader<'_>) -> Result<i32, SelectorError
 {
     if name.is_word("n") {
         reader.skip_space();
-        return behind_n(reader);
+        return after_n(reader);
     }
     if name.is_word("n-") {
         return digits_of_b(Sign::Minus, reader);
     }
-    match digits_behind_n(name) {
-        Some(magnitude) => fitting(Sign::Minus, magnitude),
+    match digits_after_n(name) {
+        Some(magnitude) => bounded_integer(Sign::Minus, magnitude),
         None => Err(SelectorError::UnexpectedToken),
     }
 }
 
 /// What follows `-` in a name.
-fn behind_minus(name: Name<'_>) -> Option<Name<'_>>
-    ensures { MatchOption result (front (is (byte "-")) (points_of name.entry) ≡ false) (λ rest. (front (is (byte "-")) (points_of name.entry) ≡ true) × (points_of rest ≡ drop 1 (points_of name.entry))) }
+fn after_minus(name: Name<'_>) -> Option<Name<'_>>
+    ensures { MatchOption result (first_passes (is (byte "-")) (points_of name.entry) ≡ false) (λ rest. (first_passes (is (byte "-")) (points_of name.entry) ≡ true) × (points_of rest ≡ drop 1 (points_of name.entry))) }
 {
     match name.split_first() {
         Some(('-', rest)) => Some(rest),
@@ -186,7 +186,7 @@ fn named(name: Name<'_>, reader: &mut Reader<'_>) -> Result<(i32, i32), Selector
     if name.is_word("odd") {
         return Ok((2, 1));
     }
-    match behind_minus(name) {
+    match after_minus(name) {
         Some(rest) => Ok((-1, rest_of(rest, reader)?)),
         None => Ok((1, rest_of(name, reader)?)),
     }
@@ -204,13 +204,13 @@ fn integer(number: Numeral<'_>) -> Result<i32, SelectorError>
 }
 
 /// A and B, of which the first token is a number with a unit.
-#[tactic(auto, unfolding(crate::specs::AnPlusB::scaled))]
-fn scaled(
+#[tactic(auto, unfolding(crate::specs::AnPlusB::an_plus_b_of_dimension))]
+fn an_plus_b_of_dimension(
     number: Numeral<'_>,
     unit: Name<'_>,
     reader: &mut Reader<'_>,
 ) -> Result<(i32, i32), SelectorError>
-    ensures { Reads (λ x. x) result reader.new (scaled (numeral_of number.entry) (points_of unit.entry) reader.old) }
+    ensures { Reads (λ x. x) result reader.new (an_plus_b_of_dimension (numeral_of number.entry) (points_of unit.entry) reader.old) }
 {
     let step = integer(number)?;
     Ok((step, rest_of(unit, reader)?))
@@ -224,9 +224,9 @@ fn an_plus_b_of(token: Token<'_>, reader: &mut Reader<'_>) -> Result<(i32, i32),
     match token {
         Token::Ident(name) => named(name, reader),
         Token::Number(number) => Ok((0, integer(number)?)),
-        Token::Dimension(number, unit) => scaled(number, unit, reader),
+        Token::Dimension(number, unit) => an_plus_b_of_dimension(number, unit, reader),
         Token::Delim('+') => {
-            let name = reader.wanted_name(Nesting::InFunction, SelectorError::UnexpectedToken)?;
+            let name = reader.expect_name(Nesting::InFunction, SelectorError::UnexpectedToken)?;
             Ok((1, rest_of(name, reader)?))
         }
         _ => Err(SelectorError::UnexpectedToken),
@@ -234,12 +234,12 @@ fn an_plus_b_of(token: Token<'_>, reader: &mut Reader<'_>) -> Result<(i32, i32),
 }
 
 /// A and B, up to the parenthesis that closes them.
-#[tactic(auto, unfolding(crate::specs::AnPlusB::an_plus_b, crate::specs::Rules::wanted))]
+#[tactic(auto, unfolding(crate::specs::AnPlusB::an_plus_b, crate::specs::Rules::required_token))]
 pub(crate) fn an_plus_b(reader: &mut Reader<'_>) -> Result<NthChild, SelectorError>
     ensures { Reads (λ nth. (nth.step, nth.offset)) result reader.new (an_plus_b reader.old) }
 {
     reader.skip_space();
-    let first = reader.wanted(Nesting::InFunction)?;
+    let first = reader.expect(Nesting::InFunction)?;
     let (step, offset) = an_plus_b_of(first, reader)?;
     reader.close(Nesting::InFunction)?;
     Ok(NthChild::new(step, offset))

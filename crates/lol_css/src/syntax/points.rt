@@ -2,7 +2,7 @@
 
 ghost use Rattle.std.specs.Prelude.{◌≡◌, ◌++◌, OnOk, ◌<◌, ◌≤◌, length, IfOk, IfSome};
 ghost use Rattle.std.specs.Str.{chars};
-ghost use Rattle.lol_css.specs.Points.{past, front, is_decimal, digit, hexadecimal, code_point, preprocessed, cleaned, cleaned_behind, is_white_space, is_name_start, is_in_name, escaped, name_point, begins_escape, begins_name, starts_identifier, starts_number};
+ghost use Rattle.lol_css.specs.Points.{past, first_passes, is_decimal, digit, hexadecimal, code_point, preprocessed, clean_point, clean_points_after, is_white_space, is_name_start, is_in_name, escaped_point, name_point, begins_escape, begins_name, starts_identifier, starts_number};
 ghost use Rattle.lol_css.specs.Views.{Took};
 
 use std::alloc::{AllocError, Global};
@@ -14,23 +14,23 @@ pub(crate) fn preprocessed(alloc: Global, text: &str) -> Result<Vec<char>, Alloc
     let mut points = Vec::with_capacity(alloc, text.len())?;
     let mut before = '\0';
     for c in text.chars() {
-        push_cleaned(&mut points, before, c)?;
+        push_clean(&mut points, before, c)?;
         before = c;
     }
     Ok(points)
 }
 
-fn push_cleaned(points: &mut Vec<char>, before: char, c: char) -> Result<(), AllocError>
-    ensures { OnOk result (points.new.items ≡ points.old.items ++ cleaned_behind before c) }
+fn push_clean(points: &mut Vec<char>, before: char, c: char) -> Result<(), AllocError>
+    ensures { OnOk result (points.new.items ≡ points.old.items ++ clean_points_after before c) }
 {
     if !(before == '\r' && c == '\n') {
-        points.push(cleaned(c))?;
+        points.push(clean_point(c))?;
     }
     Ok(())
 }
 
-fn cleaned(c: char) -> char
-    ensures { result ≡ cleaned c }
+fn clean_point(c: char) -> char
+    ensures { result ≡ clean_point c }
 {
     match c {
         '\r' | '\u{c}' => '\n',
@@ -57,7 +57,7 @@ pub(crate) fn is_in_name(c: char) -> bool
     is_name_start(c) || c.is_ascii_digit() || c == '-'
 }
 
-/// Whether an escape begins here: a backslash with no LF behind it.
+/// Whether an escape begins here: a backslash with no LF after it.
 pub(crate) fn begins_escape(text: &[char]) -> bool
     ensures { result ≡ begins_escape text.now }
 {
@@ -103,7 +103,7 @@ pub(crate) fn starts_number(text: &[char]) -> bool
 
 /// Whether a decimal digit stands here.
 pub(crate) fn is_at_digit(text: &[char]) -> bool
-    ensures { result ≡ front is_decimal text.now }
+    ensures { result ≡ first_passes is_decimal text.now }
 {
     match text {
         [c, ..] => c.is_ascii_digit(),
@@ -159,10 +159,10 @@ fn past_white_space(text: &[char]) -> &[char]
     }
 }
 
-/// From behind a backslash: the code point that the escape stands for, and what is left.
-#[tactic(auto, unfolding(crate::specs::Points::escaped))]
-pub(crate) fn escaped(text: &[char]) -> (char, &[char])
-    ensures value { (result.0, result.1.now) ≡ escaped text.now }
+/// After a backslash: the code point that the escape stands for, and what is left.
+#[tactic(auto, unfolding(crate::specs::Points::escaped_point))]
+pub(crate) fn escaped_point(text: &[char]) -> (char, &[char])
+    ensures value { (result.0, result.1.now) ≡ escaped_point text.now }
     ensures shorter { length result.1.now ≤ length text.now }
 {
     match text {
@@ -183,7 +183,7 @@ pub(crate) fn name_point(text: &[char]) -> Option<(char, &[char])>
 {
     match text {
         [c, rest @ ..] if is_in_name(*c) => Some((*c, rest)),
-        ['\\', rest @ ..] if begins_escape(text) => Some(escaped(rest)),
+        ['\\', rest @ ..] if begins_escape(text) => Some(escaped_point(rest)),
         _ => None,
     }
 }

@@ -2,11 +2,11 @@
 
 ghost use Rattle.std.specs.Prelude.{◌≡◌, List, [], drop, None, Some};
 ghost use Rattle.std.specs.Option.{option_map};
-ghost use Rattle.lol_css.specs.Points.{front};
+ghost use Rattle.lol_css.specs.Points.{first_passes};
 ghost use Rattle.lol_css.specs.Tokens as tokens;
 ghost use Rattle.lol_css.specs.Tokens.{tokens_of, with_first};
-ghost use Rattle.lol_css.specs.Rules.{skip_space, is_delim, wanted, ident_of, at_end, at_stop, closed};
-ghost use Rattle.lol_css.specs.Views.{token_of, points_of, IsFirst, nesting_of, Reads, TakesWanted};
+ghost use Rattle.lol_css.specs.Rules.{skip_space, is_delim, required_token, ident_of, at_end, at_stop, block_end};
+ghost use Rattle.lol_css.specs.Views.{token_of, points_of, IsFirst, nesting_of, Reads, TakesRequired};
 ghost use Rattle.lol_css.specs.declared.error.SelectorError.TheVariants.{UnexpectedToken};
 
 use crate::error::SelectorError;
@@ -93,7 +93,7 @@ impl<'a> Reader<'a> {
 
     /// Whether this sign comes next.
     pub(crate) fn is_at_delim(&self, sign: char) -> bool
-        ensures { result ≡ front (is_delim sign) self.now }
+        ensures { result ≡ first_passes (is_delim sign) self.now }
     {
         match self.peek() {
             Some(Token::Delim(c)) => c == sign,
@@ -109,9 +109,9 @@ impl<'a> Reader<'a> {
     }
 
     /// The token that is wanted here: `UnexpectedEnd` where what is open ends.
-    #[tactic(auto, unfolding(crate::specs::Rules::wanted))]
-    pub(crate) fn wanted(&mut self, nesting: Nesting) -> Result<Token<'a>, SelectorError>
-        ensures { TakesWanted (nesting_of nesting) result self.old self.new }
+    #[tactic(auto, unfolding(crate::specs::Rules::required_token))]
+    pub(crate) fn expect(&mut self, nesting: Nesting) -> Result<Token<'a>, SelectorError>
+        ensures { TakesRequired (nesting_of nesting) result self.old self.new }
     {
         if self.is_at_end(nesting) {
             return Err(SelectorError::UnexpectedEnd);
@@ -120,24 +120,24 @@ impl<'a> Reader<'a> {
     }
 
     /// The name that is wanted here: `UnexpectedEnd` where what is open ends, `other` at another token.
-    #[tactic(auto, unfolding(crate::specs::Rules::wanted))]
-    pub(crate) fn wanted_name(
+    #[tactic(auto, unfolding(crate::specs::Rules::required_token))]
+    pub(crate) fn expect_name(
         &mut self,
         nesting: Nesting,
         other: SelectorError,
     ) -> Result<Name<'a>, SelectorError>
-        ensures { Reads points_of result self.new (wanted (nesting_of nesting) ident_of other self.old) }
+        ensures { Reads points_of result self.new (required_token (nesting_of nesting) ident_of other self.old) }
     {
-        match self.wanted(nesting)? {
+        match self.expect(nesting)? {
             Token::Ident(name) => Ok(name),
             _ => Err(other),
         }
     }
 
     /// White space and the end of what is open, which is taken: `UnexpectedToken` at anything else.
-    #[tactic(auto, unfolding(crate::specs::Rules::closed))]
+    #[tactic(auto, unfolding(crate::specs::Rules::block_end))]
     pub(crate) fn close(&mut self, nesting: Nesting) -> Result<(), SelectorError>
-        ensures { Reads (λ x. x) result self.new (closed (nesting_of nesting) self.old) }
+        ensures { Reads (λ x. x) result self.new (block_end (nesting_of nesting) self.old) }
     {
         self.skip_space();
         if !self.is_at_end(nesting) {

@@ -4,12 +4,12 @@ ghost use Rattle.std.specs.Prelude.{◌≡◌, ◌<◌, ◌≤◌, length, ◌++
 ghost use Rattle.std.specs.Option.{option_to_list};
 ghost use Rattle.std.specs.Str.{encode_utf8_all};
 ghost use Rattle.lol_css.specs.Tokens.{string_piece, string_escape, string_text};
-ghost use Rattle.lol_css.specs.Rules.{says, lowered};
+ghost use Rattle.lol_css.specs.Rules.{says, lowercase};
 ghost use Rattle.lol_css.specs.Reading.{utf8};
 ghost use Rattle.lol_css.specs.Views.{Took, IsSplit, points_of, quoted_points};
 
 use crate::selector::CssString;
-use crate::syntax::points::{escaped, name_point};
+use crate::syntax::points::{escaped_point, name_point};
 use std::alloc::{AllocError, Global};
 
 /// A name: the text from its first code point on, escapes and all.
@@ -57,7 +57,7 @@ impl<'a> Name<'a> {
 
     /// A copy of the name, with its ASCII letters lowercased.
     pub(crate) fn to_lowercase_text(self, alloc: Global) -> Result<CssString, AllocError>
-        ensures { IfOk result (λ s. s ≡ utf8 (lowered (points_of self.entry))) }
+        ensures { IfOk result (λ s. s ≡ utf8 (lowercase (points_of self.entry))) }
     {
         let mut text = String::new(alloc);
         let mut rest = self;
@@ -69,14 +69,14 @@ impl<'a> Name<'a> {
     }
 }
 
-/// A quoted text: its quote, and the text behind the quote, escapes and all.
+/// A quoted text: its quote, and the text after the quote, escapes and all.
 #[derive(Clone, Copy)]
 pub(crate) struct Quoted<'a> {
     pub quote: char,
     pub text: &'a [char],
 }
 
-/// What an escape in a string stands for, from behind the backslash, and what is left.
+/// What an escape in a string stands for, after the backslash, and what is left.
 #[tactic(auto, unfolding(crate::specs::Tokens::string_escape))]
 fn string_escape(text: &[char]) -> (Option<char>, &[char])
     ensures value { (option_to_list result.0, result.1.now) ≡ string_escape text.now }
@@ -86,7 +86,7 @@ fn string_escape(text: &[char]) -> (Option<char>, &[char])
         [] => (None, text),
         ['\n', rest @ ..] => (None, rest),
         _ => {
-            let (c, rest) = escaped(text);
+            let (c, rest) = escaped_point(text);
             (Some(c), rest)
         }
     }
@@ -110,7 +110,7 @@ fn string_piece(quote: char, text: &[char]) -> Option<(Option<char>, &[char])>
 
 /// Where the string ends: at its quote, at an unescaped LF or at the text's end.
 #[tactic(auto, using(crate::proofs::Streams::string_end_steps))]
-pub(crate) fn behind_string(quote: char, text: &[char]) -> &[char]
+pub(crate) fn after_string(quote: char, text: &[char]) -> &[char]
     ensures { result.now ≡ (string_text quote text.now).1 }
 {
     let mut rest = text;

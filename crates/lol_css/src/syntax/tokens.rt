@@ -3,14 +3,14 @@
 ghost use Rattle.std.specs.Prelude.{◌≡◌, ◌<◌, ◌≤◌, length, drop, IfSome};
 ghost use Rattle.std.specs.Option.{option_map};
 ghost use Rattle.lol_css.specs.Points.{many, one, is_white_space, is_decimal, is_sign, past, name};
-ghost use Rattle.lol_css.specs.Tokens.{comment, in_comment, space, hash, cdc, identifier, match_operator, match_sign, delim, next, numeral, number, string, leading_sign, behind_fraction, behind_exponent, tokens_of};
+ghost use Rattle.lol_css.specs.Tokens.{comment, in_comment, space, hash, cdc, identifier, match_operator, match_sign, delim, next, numeral, number, string, leading_sign, after_fraction, after_exponent, tokens_of};
 ghost use Rattle.lol_css.specs.Views.{Took, IsFirst, token_of, numeral_of};
 
 use crate::syntax::points::{
     begins_escape, is_at_digit, is_in_name, is_white_space, name_point, starts_identifier,
     starts_number,
 };
-use crate::syntax::texts::{Name, Quoted, behind_string};
+use crate::syntax::texts::{Name, Quoted, after_string};
 
 /// The sign of a number.
 #[derive(Clone, Copy)]
@@ -61,7 +61,7 @@ pub(crate) enum Token<'a> {
     Percentage,
     /// `-->`
     Cdc,
-    /// A name with `(` behind it.
+    /// A name with `(` after it.
     Function(Name<'a>),
     Ident(Name<'a>),
     /// `~=` and the like.
@@ -85,7 +85,7 @@ fn in_comment(text: &[char]) -> Option<(char, &[char])>
 }
 
 #[tactic(auto, using(crate::proofs::Loops::comment_steps))]
-fn behind_comment(text: &[char]) -> &[char]
+fn after_comment(text: &[char]) -> &[char]
     ensures value { result.now ≡ drop 2 (many in_comment text.now).1 }
 {
     let mut rest = text;
@@ -109,7 +109,7 @@ fn comment(text: &[char]) -> Found<'_>
     ensures { Took (λ x. (option_map token_of x.0, x.1.now)) result (comment text.now) }
 {
     match text {
-        ['/', '*', rest @ ..] => Some((None, behind_comment(rest))),
+        ['/', '*', rest @ ..] => Some((None, after_comment(rest))),
         _ => None,
     }
 }
@@ -146,16 +146,16 @@ fn string(text: &[char]) -> Found<'_>
         quote: *quote,
         text: rest,
     };
-    match behind_string(*quote, rest) {
+    match after_string(*quote, rest) {
         after @ ['\n', ..] => Some((Some(Token::BadString), after)),
         [_, after @ ..] => Some((Some(Token::Quoted(quoted)), after)),
         [] => Some((Some(Token::Quoted(quoted)), &[])),
     }
 }
 
-/// What stands behind the longest name here.
+/// What stands after the longest name here.
 #[tactic(auto, using(crate::proofs::Loops::name_steps))]
-fn behind_name(text: &[char]) -> &[char]
+fn after_name(text: &[char]) -> &[char]
     ensures { result.now ≡ (name text.now).1 }
 {
     let mut rest = text;
@@ -182,7 +182,7 @@ fn hash(text: &[char]) -> Found<'_>
     let name = Name { text: rest };
     Some((
         Some(Token::Hash(name, starts_identifier(rest))),
-        behind_name(rest),
+        after_name(rest),
     ))
 }
 
@@ -196,9 +196,9 @@ fn decimal_digit(text: &[char]) -> Option<(char, &[char])>
     }
 }
 
-/// What stands behind the decimal digits here.
+/// What stands after the decimal digits here.
 #[tactic(auto, using(crate::proofs::Loops::decimal_steps))]
-fn behind_digits(text: &[char]) -> &[char]
+fn after_digits(text: &[char]) -> &[char]
     ensures value { result.now ≡ (many (one is_decimal) text.now).1 }
     ensures shorter { length result.now ≤ length text.now }
 {
@@ -209,23 +209,23 @@ fn behind_digits(text: &[char]) -> &[char]
     rest
 }
 
-#[tactic(auto, unfolding(crate::specs::Tokens::behind_fraction))]
-fn behind_fraction(text: &[char]) -> &[char]
-    ensures { result.now ≡ behind_fraction text.now }
+#[tactic(auto, unfolding(crate::specs::Tokens::after_fraction))]
+fn after_fraction(text: &[char]) -> &[char]
+    ensures { result.now ≡ after_fraction text.now }
 {
     match text {
-        ['.', digits @ ..] if is_at_digit(digits) => behind_digits(digits),
+        ['.', digits @ ..] if is_at_digit(digits) => after_digits(digits),
         _ => text,
     }
 }
 
-#[tactic(auto, unfolding(crate::specs::Tokens::behind_exponent))]
-fn behind_exponent(text: &[char]) -> &[char]
-    ensures { result.now ≡ behind_exponent text.now }
+#[tactic(auto, unfolding(crate::specs::Tokens::after_exponent))]
+fn after_exponent(text: &[char]) -> &[char]
+    ensures { result.now ≡ after_exponent text.now }
 {
     match text {
-        ['e' | 'E', '+' | '-', digits @ ..] if is_at_digit(digits) => behind_digits(digits),
-        ['e' | 'E', digits @ ..] if is_at_digit(digits) => behind_digits(digits),
+        ['e' | 'E', '+' | '-', digits @ ..] if is_at_digit(digits) => after_digits(digits),
+        ['e' | 'E', digits @ ..] if is_at_digit(digits) => after_digits(digits),
         _ => text,
     }
 }
@@ -248,10 +248,10 @@ fn split_number(text: &[char]) -> (Numeral<'_>, &[char])
     ensures { (numeral_of result.0, result.1.now) ≡ numeral text.now }
 {
     let (sign, digits) = split_sign(text);
-    let behind = behind_digits(digits);
-    let rest = behind_exponent(behind_fraction(behind));
-    let integer = if rest.len() == behind.len() {
-        Some(&digits[..digits.len() - behind.len()])
+    let after = after_digits(digits);
+    let rest = after_exponent(after_fraction(after));
+    let integer = if rest.len() == after.len() {
+        Some(&digits[..digits.len() - after.len()])
     } else {
         None
     };
@@ -268,7 +268,7 @@ fn number(text: &[char]) -> Found<'_>
     let (number, rest) = split_number(text);
     if starts_identifier(rest) {
         let unit = Name { text: rest };
-        return Some((Some(Token::Dimension(number, unit)), behind_name(rest)));
+        return Some((Some(Token::Dimension(number, unit)), after_name(rest)));
     }
     match rest {
         ['%', after @ ..] => Some((Some(Token::Percentage), after)),
@@ -294,7 +294,7 @@ fn identifier(text: &[char]) -> Found<'_>
         return None;
     }
     let name = Name { text };
-    match behind_name(text) {
+    match after_name(text) {
         ['(', after @ ..] => Some((Some(Token::Function(name)), after)),
         after => Some((Some(Token::Ident(name)), after)),
     }
@@ -364,7 +364,7 @@ fn next(text: &[char]) -> Found<'_>
     delim(text)
 }
 
-/// The next token, and the text behind it.
+/// The next token, and the text after it.
 #[tactic(auto, using(crate::proofs::Streams::token_steps))]
 pub(crate) fn first_token(text: &[char]) -> (Option<Token<'_>>, &[char])
     ensures { IsFirst (tokens_of text.now) (option_map token_of result.0) (tokens_of result.1.now) }

@@ -2,39 +2,39 @@ use Rattle.std.proofs.Common.{refl}
 use Rattle.std.specs.Char.{encode_utf8}
 use Rattle.std.specs.Str.{chars}
 use Rattle.lol_css.specs.CaselessAttributes.{caseless_attributes}
-use Rattle.lol_css.specs.Points.{at_most, hexadecimal, preprocessed_behind, escaped, name_point}
-use Rattle.lol_css.specs.Tokens.{in_comment, comment, space, string_escape, string_piece, string, hash, behind_fraction, behind_exponent, numeral, number, cdc, identifier, match_sign, delim, next, tokens_of}
-use Rattle.lol_css.specs.Rules.{skip_space, wanted, closed}
-use Rattle.lol_css.specs.AnPlusB.{fitting, digits_of_b, behind_n, rest_of, integer, scaled, an_plus_b_of, an_plus_b}
-use Rattle.lol_css.specs.Reading.{attribute_name, case_sensitivity, comparison, attribute, class_name, function_part, ident_part, pseudo, part, parts_at_most, behind_bar, type_part, compound, step, next_step, further, item, items_at_most, list, inner_list, selector}
+use Rattle.lol_css.specs.Points.{at_most, hexadecimal, preprocessed_after, escaped_point, name_point}
+use Rattle.lol_css.specs.Tokens.{in_comment, comment, space, string_escape, string_piece, string, hash, after_fraction, after_exponent, numeral, number, cdc, identifier, match_sign, delim, next, tokens_of}
+use Rattle.lol_css.specs.Rules.{skip_space, required_token, block_end}
+use Rattle.lol_css.specs.AnPlusB.{bounded_integer, digits_of_b, after_n, rest_of, integer, an_plus_b_of_dimension, an_plus_b_of, an_plus_b}
+use Rattle.lol_css.specs.Reading.{attribute_name, case_sensitivity, comparison, attribute, class_name, function_part, ident_part, pseudo, part, parts_at_most, after_bar, type_part, compound, step, next_step, further, item, items_at_most, list, inner_list, selector}
 use Rattle.lol_css.specs.Accepting.{judged_part, judged_compound, judged_item, judged, accept}
 use Rattle.lol_css.proofs.rows.bounds.Goals as goal
 
 -- each definition computes
 pub returns-clause-negations : goal.returns-clause-negations
-unfolding chars at_most hexadecimal preprocessed_behind escaped name_point in_comment comment space string_escape string_piece string hash behind_fraction behind_exponent numeral number cdc identifier match_sign delim next tokens_of skip_space wanted closed fitting digits_of_b behind_n rest_of integer scaled an_plus_b_of an_plus_b caseless_attributes attribute_name case_sensitivity comparison attribute class_name function_part ident_part pseudo part parts_at_most behind_bar type_part compound step next_step further item items_at_most list inner_list selector judged_part judged_compound judged_item judged accept encode_utf8
+unfolding chars at_most hexadecimal preprocessed_after escaped_point name_point in_comment comment space string_escape string_piece string hash after_fraction after_exponent numeral number cdc identifier match_sign delim next tokens_of skip_space required_token block_end bounded_integer digits_of_b after_n rest_of integer an_plus_b_of_dimension an_plus_b_of an_plus_b caseless_attributes attribute_name case_sensitivity comparison attribute class_name function_part ident_part pseudo part parts_at_most after_bar type_part compound step next_step further item items_at_most list inner_list selector judged_part judged_compound judged_item judged accept encode_utf8
 returns-clause-negations c = refl
 
 pub returns-clause-negations_past : goal.returns-clause-negations_past
-unfolding chars at_most hexadecimal preprocessed_behind escaped name_point in_comment comment space string_escape string_piece string hash behind_fraction behind_exponent numeral number cdc identifier match_sign delim next tokens_of skip_space wanted closed fitting digits_of_b behind_n rest_of integer scaled an_plus_b_of an_plus_b caseless_attributes attribute_name case_sensitivity comparison attribute class_name function_part ident_part pseudo part parts_at_most behind_bar type_part compound step next_step further item items_at_most list inner_list selector judged_part judged_compound judged_item judged accept encode_utf8
+unfolding chars at_most hexadecimal preprocessed_after escaped_point name_point in_comment comment space string_escape string_piece string hash after_fraction after_exponent numeral number cdc identifier match_sign delim next tokens_of skip_space required_token block_end bounded_integer digits_of_b after_n rest_of integer an_plus_b_of_dimension an_plus_b_of an_plus_b caseless_attributes attribute_name case_sensitivity comparison attribute class_name function_part ident_part pseudo part parts_at_most after_bar type_part compound step next_step further item items_at_most list inner_list selector judged_part judged_compound judged_item judged accept encode_utf8
 returns-clause-negations_past c = refl
 
 pub returns-clause-combinations : goal.returns-clause-combinations
-unfolding chars at_most hexadecimal preprocessed_behind escaped name_point in_comment comment space string_escape string_piece string hash behind_fraction behind_exponent numeral number cdc identifier match_sign delim next tokens_of skip_space wanted closed fitting digits_of_b behind_n rest_of integer scaled an_plus_b_of an_plus_b caseless_attributes attribute_name case_sensitivity comparison attribute class_name function_part ident_part pseudo part parts_at_most behind_bar type_part compound step next_step further item items_at_most list inner_list selector judged_part judged_compound judged_item judged accept encode_utf8
+unfolding chars at_most hexadecimal preprocessed_after escaped_point name_point in_comment comment space string_escape string_piece string hash after_fraction after_exponent numeral number cdc identifier match_sign delim next tokens_of skip_space required_token block_end bounded_integer digits_of_b after_n rest_of integer an_plus_b_of_dimension an_plus_b_of an_plus_b caseless_attributes attribute_name case_sensitivity comparison attribute class_name function_part ident_part pseudo part parts_at_most after_bar type_part compound step next_step further item items_at_most list inner_list selector judged_part judged_compound judged_item judged accept encode_utf8
 returns-clause-combinations c = refl
 
 pub returns-clause-combinations_past : goal.returns-clause-combinations_past
-unfolding chars at_most hexadecimal preprocessed_behind escaped name_point in_comment comment space string_escape string_piece string hash behind_fraction behind_exponent numeral number cdc identifier match_sign delim next tokens_of skip_space wanted closed fitting digits_of_b behind_n rest_of integer scaled an_plus_b_of an_plus_b caseless_attributes attribute_name case_sensitivity comparison attribute class_name function_part ident_part pseudo part parts_at_most behind_bar type_part compound step next_step further item items_at_most list inner_list selector judged_part judged_compound judged_item judged accept encode_utf8
+unfolding chars at_most hexadecimal preprocessed_after escaped_point name_point in_comment comment space string_escape string_piece string hash after_fraction after_exponent numeral number cdc identifier match_sign delim next tokens_of skip_space required_token block_end bounded_integer digits_of_b after_n rest_of integer an_plus_b_of_dimension an_plus_b_of an_plus_b caseless_attributes attribute_name case_sensitivity comparison attribute class_name function_part ident_part pseudo part parts_at_most after_bar type_part compound step next_step further item items_at_most list inner_list selector judged_part judged_compound judged_item judged accept encode_utf8
 returns-clause-combinations_past c = refl
 
 pub returns-clause-compounds : goal.returns-clause-compounds
-unfolding chars at_most hexadecimal preprocessed_behind escaped name_point in_comment comment space string_escape string_piece string hash behind_fraction behind_exponent numeral number cdc identifier match_sign delim next tokens_of skip_space wanted closed fitting digits_of_b behind_n rest_of integer scaled an_plus_b_of an_plus_b caseless_attributes attribute_name case_sensitivity comparison attribute class_name function_part ident_part pseudo part parts_at_most behind_bar type_part compound step next_step further item items_at_most list inner_list selector judged_part judged_compound judged_item judged accept encode_utf8
+unfolding chars at_most hexadecimal preprocessed_after escaped_point name_point in_comment comment space string_escape string_piece string hash after_fraction after_exponent numeral number cdc identifier match_sign delim next tokens_of skip_space required_token block_end bounded_integer digits_of_b after_n rest_of integer an_plus_b_of_dimension an_plus_b_of an_plus_b caseless_attributes attribute_name case_sensitivity comparison attribute class_name function_part ident_part pseudo part parts_at_most after_bar type_part compound step next_step further item items_at_most list inner_list selector judged_part judged_compound judged_item judged accept encode_utf8
 returns-clause-compounds c = refl
 
 pub returns-clause-compounds_past : goal.returns-clause-compounds_past
-unfolding chars at_most hexadecimal preprocessed_behind escaped name_point in_comment comment space string_escape string_piece string hash behind_fraction behind_exponent numeral number cdc identifier match_sign delim next tokens_of skip_space wanted closed fitting digits_of_b behind_n rest_of integer scaled an_plus_b_of an_plus_b caseless_attributes attribute_name case_sensitivity comparison attribute class_name function_part ident_part pseudo part parts_at_most behind_bar type_part compound step next_step further item items_at_most list inner_list selector judged_part judged_compound judged_item judged accept encode_utf8
+unfolding chars at_most hexadecimal preprocessed_after escaped_point name_point in_comment comment space string_escape string_piece string hash after_fraction after_exponent numeral number cdc identifier match_sign delim next tokens_of skip_space required_token block_end bounded_integer digits_of_b after_n rest_of integer an_plus_b_of_dimension an_plus_b_of an_plus_b caseless_attributes attribute_name case_sensitivity comparison attribute class_name function_part ident_part pseudo part parts_at_most after_bar type_part compound step next_step further item items_at_most list inner_list selector judged_part judged_compound judged_item judged accept encode_utf8
 returns-clause-compounds_past c = refl
 
 pub returns-clause-step_past : goal.returns-clause-step_past
-unfolding chars at_most hexadecimal preprocessed_behind escaped name_point in_comment comment space string_escape string_piece string hash behind_fraction behind_exponent numeral number cdc identifier match_sign delim next tokens_of skip_space wanted closed fitting digits_of_b behind_n rest_of integer scaled an_plus_b_of an_plus_b caseless_attributes attribute_name case_sensitivity comparison attribute class_name function_part ident_part pseudo part parts_at_most behind_bar type_part compound step next_step further item items_at_most list inner_list selector judged_part judged_compound judged_item judged accept encode_utf8
+unfolding chars at_most hexadecimal preprocessed_after escaped_point name_point in_comment comment space string_escape string_piece string hash after_fraction after_exponent numeral number cdc identifier match_sign delim next tokens_of skip_space required_token block_end bounded_integer digits_of_b after_n rest_of integer an_plus_b_of_dimension an_plus_b_of an_plus_b caseless_attributes attribute_name case_sensitivity comparison attribute class_name function_part ident_part pseudo part parts_at_most after_bar type_part compound step next_step further item items_at_most list inner_list selector judged_part judged_compound judged_item judged accept encode_utf8
 returns-clause-step_past c = refl

@@ -10,7 +10,7 @@ loop-c-init c = rw c.in_ok-points.ensures.items (λ tail. refl)
 
 pub loop-c-preserved : goal.loop-c-preserved
 loop-c-preserved c =
-    rw c.in_ok-push_cleaned.ensures (Cleans-next c.loop-c.points.items c.loop-c.before c.loop-c.yielded c.in-Some.c c.loop-c.invariant)
+    rw c.in_ok-push_clean.ensures (Cleans-next c.loop-c.points.items c.loop-c.before c.loop-c.yielded c.in-Some.c c.loop-c.invariant)
 
 pub returns : goal.returns
 returns c =

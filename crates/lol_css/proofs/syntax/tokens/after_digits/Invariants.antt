@@ -1,6 +1,6 @@
 use Rattle.std.proofs.Common.{◌≡◌, ◌≤◌, length}
 use Rattle.lol_css.specs.Points.{many, one, is_decimal}
-use Rattle.lol_css.proofs.syntax.tokens.behind_digits.Given as goal
+use Rattle.lol_css.proofs.syntax.tokens.after_digits.Given as goal
 
 abbrev pub invariant-loop-after : goal.invariant-loop-after
 invariant-loop-after l = record {
