@@ -32,7 +32,7 @@ completes_all R done left all none h = subst (λ l. Pairwise R l all) (append-ni
 
 -- 2. What they stand for
 
-or_right : (a b : Bool) → b ≡ true → (a || b) ≡ true
+pub or_right : (a b : Bool) → b ≡ true → (a || b) ≡ true
 or_right true b h = refl
 or_right false b h = h
 

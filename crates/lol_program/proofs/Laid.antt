@@ -19,7 +19,7 @@ use Rattle.lol_program.proofs.ByType.{any_by_type-nodes}
 
 -- 1. Places in order
 
-abbrev Numbered : ℕ → List Entry → Type 0
+abbrev pub Numbered : ℕ → List Entry → Type 0
 Numbered n [] = Unit {0}
 Numbered n (t ∷ ts) = (t.place ≡ n) × Numbered (suc n) ts
 
@@ -35,7 +35,7 @@ numbered_among n [] t h a = absurd a
 numbered_among n (x ∷ ts) t h (inl is) = (0, ap (λ (t : Entry). t.place) (sym is) ∙ (h.0 ∙ omega arith), ap Some is)
 numbered_among n (x ∷ ts) t h (inr a) = let rest = numbered_among (suc n) ts t h.1 a in (suc rest.0, rest.1 ∙ omega arith, rest.2)
 
-numbered_at : (n : ℕ) (ts : List Entry) (k : ℕ) (t : Entry) → Numbered n ts → IsAt ts k t → t.place ≡ n + k
+pub numbered_at : (n : ℕ) (ts : List Entry) (k : ℕ) (t : Entry) → Numbered n ts → IsAt ts k t → t.place ≡ n + k
 numbered_at n [] k t h at = cc
 numbered_at n (x ∷ ts) zero t h at = let is : x ≡ t = cc in ap (λ (t : Entry). t.place) (sym is) ∙ (h.0 ∙ omega arith)
 numbered_at n (x ∷ ts) (suc k) t h at = numbered_at (suc n) ts k t h.1 at ∙ omega arith
@@ -67,7 +67,7 @@ length_below make (more c ids children descendants rest) free =
       length_below make rest (free + (size children + size descendants)),
     )
 
-length_laid : (make : Compound → Path) (f : Forest) (at : ℕ) → length (laid make f at) ≡ size f
+pub length_laid : (make : Compound → Path) (f : Forest) (at : ℕ) → length (laid make f at) ≡ size f
 length_laid make f at =
     omega (arith, length-append (laid_tops make f at (at + width f)) (laid_below make f (at + width f)), length_tops make f at (at + width f), length_below make f (at + width f))
 
@@ -75,13 +75,13 @@ tops_numbered : (make : Compound → Path) (f : Forest) (at free : ℕ) → Numb
 tops_numbered make none at free = tt
 tops_numbered make (more c ids children descendants rest) at free = (refl, tops_numbered make rest (suc at) (free + (size children + size descendants)))
 
-laid_from : (make : Compound → Path) (f : Forest) (at : ℕ) → Numbered (at + width f) (laid_below make f (at + width f)) → Numbered at (laid make f at)
+pub laid_from : (make : Compound → Path) (f : Forest) (at : ℕ) → Numbered (at + width f) (laid_below make f (at + width f)) → Numbered at (laid make f at)
 laid_from make f at h =
     let tops_length = length_tops make f at (at + width f) in
     numbered_append at (laid_tops make f at (at + width f)) (laid_below make f (at + width f)) (tops_numbered make f at (at + width f))
     (numbered_from (at + width f) (at + length (laid_tops make f at (at + width f))) (laid_below make f (at + width f)) (omega (arith, tops_length)) h)
 
-below_numbered : (make : Compound → Path) (f : Forest) (free : ℕ) → Numbered free (laid_below make f free)
+pub below_numbered : (make : Compound → Path) (f : Forest) (free : ℕ) → Numbered free (laid_below make f free)
 below_numbered make none free = tt
 below_numbered make (more c ids children descendants rest) free =
     let mc = Then (make c) Child in

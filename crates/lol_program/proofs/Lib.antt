@@ -26,3 +26,5 @@ pub mod ListPlaces
 pub mod Apart
 pub mod ByType
 pub mod Laid
+pub mod Laying
+pub mod Filled

@@ -53,6 +53,13 @@ impl Ast {
         &self.root
     }
 
+    /// The nodes that no other stands above, moved out.
+    pub(crate) fn into_root(self) -> Vec<AstNode>
+        ensures { forest_of result.items ≡ trees_of self }
+    {
+        self.root
+    }
+
     /// The number of nodes, each of which has a path of its own.
     pub fn cumulative_node_count(&self) -> usize
         ensures count { result ≡ length (nodes_of self.now) }

@@ -9,6 +9,7 @@ mod child_counter;
 mod compilable;
 mod compiled_expr;
 mod compiled_predicate;
+mod compiler;
 mod condition;
 mod execution_branch;
 mod gift;
@@ -32,6 +33,7 @@ pub use compiled_expr::{
     AttributeExprTest, CompiledAttributeExpr, CompiledLocalNameExpr, LocalNameExprTest,
 };
 pub use compiled_predicate::{CompiledPredicate, CompiledTest};
+pub use compiler::Compiler;
 pub use condition::{AttributeComparisonExpr, Condition, OnAttributesExpr, OnTagNameExpr};
 pub use execution_branch::{AddressRange, ExecutionBranch};
 pub use instruction::{Instruction, TryExecResult};

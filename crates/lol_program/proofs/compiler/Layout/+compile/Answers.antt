@@ -1,0 +1,103 @@
+use Rattle.std.proofs.Common.{rules, arith, Bool, ◌||◌, ◌≡◌, ◌+◌, ◌<◌, length, List, refl, sym, ap, subst, ◌∙◌}
+use Rattle.std.specs.Prelude.{slice_set}
+use Rattle.std.specs.Vec.Iter.{into_iter_items}
+use Rattle.std.specs.Global.{Vec}
+use Rattle.lol_program.specs.Compounds.{has_test_by_type}
+use Rattle.lol_program.specs.Views.{node_of, forest_of}
+use Rattle.lol_program.specs.Forest.{Node, none, link}
+use Rattle.lol_program.specs.Layouts.{width, any_by_type}
+use Rattle.lol_program.specs.Laying.{AreLaid}
+use Rattle.lol_program.specs.declared.ast_node.AstNode.{AstNode}
+use Rattle.lol_program.specs.declared.ast_node.AstNode.TheViews.{out-AstNode}
+use Rattle.lol_program.specs.declared.instruction.Instruction as code
+use Rattle.lol_program.proofs.CompiledLists.{flag_more, or_false}
+use Rattle.lol_program.proofs.Running.{empty_from}
+use Rattle.lol_program.proofs.Nodes.{shape, node_out}
+use Rattle.lol_program.proofs.Laying.{IsHalfLaid, half_init, half_step, half_done, node_done, node_same, same_from, width_is, range_some}
+use Rattle.lol_program.proofs.compiler.Layout.+compile.Goals as goal
+
+pub compile_list-returns-in_ok-compile_nodes-clause-range :
+    goal.compile_list-returns-in_ok-compile_nodes-clause-range
+compile_list-returns-in_ok-compile_nodes-clause-range t c =
+    let some : 0 < length c.args.nodes.items = search rules in
+    range_some c.args.nodes.items c.in_ok-compile_nodes.field-0 c.args.self.now.free_space_start some c.in_ok-compile_nodes.ensures.start c.in_ok-compile_nodes.ensures.end
+
+pub compile_node-returns-clause-laid : goal.compile_node-returns-clause-laid
+compile_node-returns-clause-laid t c =
+    let a = c.in_ok-jumps.ensures in
+    let b = c.in_ok-hereditary_jumps.ensures in
+    let p = c.in_ok-predicate.ensures in
+    let x = out-AstNode c.args.node in
+    let place = c.args.place in
+    let free = c.args.self.now.free_space_start in
+    let second = c.compile_list-2.new.self.instructions.items in
+    let i : code.Instruction = record {
+      associated_branch = record { matched_ids = x.match_ids; jumps = c.in_ok-jumps.jumps; hereditary_jumps = c.in_ok-hereditary_jumps.hereditary_jumps };
+      predicate = c.in_ok-predicate.predicate;
+    } in
+    let kept : length c.compile_predicate.new.self.instructions.items ≡ length c.args.self.now.instructions.items = ap (λ (v : Vec code.Instruction). length v.items) p.instructions in
+    let within : place < length second = omega (arith, c.requires.room, c.requires.place, a.same.count, b.same.count, kept) in
+    subst (λ (m : Node). AreLaid (slice_set second place i) place free (link m none)) (sym (node_out c.args.node))
+    (node_done (shape x) place free c.compile_predicate.new.self.free_space_start c.compile_list.new.self.free_space_start c.compile_list-2.new.self.free_space_start c.compile_list.new.self.instructions.items second i
+    p.free a.free b.free c.requires.place within a.laid b.laid b.same p.tests refl a.range b.range)
+
+pub compile_node-returns-clause-same : goal.compile_node-returns-clause-same
+compile_node-returns-clause-same t c =
+    let a = c.in_ok-jumps.ensures in
+    let b = c.in_ok-hereditary_jumps.ensures in
+    let p = c.in_ok-predicate.ensures in
+    let free = c.args.self.now.free_space_start in
+    let middle = c.compile_list.new.self.free_space_start in
+    let more = c.compile_list-2.new.self.free_space_start in
+    let first = c.compile_list.new.self.instructions.items in
+    node_same c.args.place free middle more c.args.self.now.instructions.items first c.compile_list-2.new.self.instructions.items _ c.requires.place (omega (arith, a.free, p.free)) (omega (arith, b.free))
+    (same_from c.compile_predicate.new.self.free_space_start free middle c.compile_predicate.new.self.instructions.items c.args.self.now.instructions.items first p.free (ap (λ (v : Vec code.Instruction). v.items) p.instructions) a.same)
+    b.same
+
+pub compile_nodes-loop-node-init : goal.compile_nodes-loop-node-init
+compile_nodes-loop-node-init t c =
+    let f = forest_of c.args.nodes.items in
+    let start = c.args.self.now.free_space_start in
+    let old = c.args.self.now.instructions.items in
+    let end : start + c.len.result ≡ start + width f = omega (arith, width_is c.args.nodes.items, c.len.ensures) in
+    let given : into_iter_items c.into_iter-node-iterator.result ≡ c.args.nodes.items = search rules in
+    record {
+      can_next = tt;
+      finite = tt;
+      start = refl;
+      by_type = ap (λ (ns : List AstNode). c.args.self.now.enable_nth_of_type || any_by_type (forest_of ns)) given;
+      half = subst (λ (ns : List AstNode). IsHalfLaid f start (start + c.len.result) old (forest_of ns) start (start + c.len.result) old) (sym given) (half_init f start (start + c.len.result) old end);
+    }
+
+pub compile_nodes-loop-node-preserved : goal.compile_nodes-loop-node-preserved
+compile_nodes-loop-node-preserved t c =
+    let f = forest_of c.args.nodes.items in
+    let start = c.args.self.now.free_space_start in
+    let end = start + c.len.result in
+    let old = c.args.self.now.instructions.items in
+    let instructions = c.loop-node.self.instructions.items in
+    let next = c.compile_node.new.self.instructions.items in
+    let place = c.loop-node.place in
+    let free = c.loop-node.self.free_space_start in
+    let done = c.in_ok-compile_node.ensures in
+    let flag = c.loop-node.self.enable_nth_of_type in
+    let n = node_of c.in-Some.node in
+    let own = has_test_by_type n.compound || (any_by_type n.children || any_by_type n.descendants) in
+    let h = subst (λ (ns : List AstNode). IsHalfLaid f start end old (forest_of ns) place free instructions) c.in-Some.ensures.steps.0 c.loop-node.invariant.half in
+    record {
+      can_next = tt;
+      finite = tt;
+      start = refl;
+      by_type = flag_more flag c.compile_node.new.self.enable_nth_of_type own (any_by_type (forest_of (into_iter_items c.next.new.self))) _ (done.by_type ∙ ap (λ (b : Bool). flag || b) (or_false own))
+          (ap (λ (ns : List AstNode). flag || any_by_type (forest_of ns)) (sym c.in-Some.ensures.steps.0) ∙ c.loop-node.invariant.by_type);
+      half = half_step f start end old (node_of c.in-Some.node) (forest_of (into_iter_items c.next.new.self)) place free c.compile_node.new.self.free_space_start instructions next h done.same done.free done.laid;
+    }
+
+pub compile_nodes-returns-clause-laid : goal.compile_nodes-returns-clause-laid
+compile_nodes-returns-clause-laid t c =
+    let left = c.loop-node.node-iterator in
+    let nothing : into_iter_items left ≡ _ = empty_from (into_iter_items left) (sym left.rest.ok.0 ∙ c.in-None.ensures.steps.0) in
+    let start = c.args.self.now.free_space_start in
+    let old = c.args.self.now.instructions.items in
+    let half = subst (λ (ns : List AstNode). IsHalfLaid (forest_of c.args.nodes.items) start (start + c.len.result) old (forest_of ns) c.loop-node.place c.loop-node.self.free_space_start c.loop-node.self.instructions.items) nothing c.loop-node.invariant.half in
+    half_done (forest_of c.args.nodes.items) start (start + c.len.result) old c.loop-node.place c.loop-node.self.free_space_start c.loop-node.self.instructions.items half

@@ -1,0 +1,25 @@
+use Rattle.std.proofs.Common.{◌≡◌, ◌+◌, ◌*◌, ◌||◌}
+use Rattle.std.specs.Vec.Iter.{into_iter_items}
+use Rattle.lol_program.specs.Views.{node_of, forest_of}
+use Rattle.lol_program.specs.Forest.{none, link, size}
+use Rattle.lol_program.specs.Layouts.{any_by_type}
+use Rattle.lol_program.proofs.Laying.{IsHalfLaid}
+use Rattle.lol_program.proofs.compiler.Layout.+compile.Given as goal
+
+abbrev pub decreases-compile_list : goal.decreases-compile_list
+decreases-compile_list l = 3 * size (forest_of l.nodes.items) + 2
+
+abbrev pub decreases-compile_nodes : goal.decreases-compile_nodes
+decreases-compile_nodes l = 3 * size (forest_of l.nodes.items) + 1
+
+abbrev pub decreases-compile_node : goal.decreases-compile_node
+decreases-compile_node l = 3 * size (link (node_of l.node) none)
+
+abbrev pub invariant-compile_nodes-loop-node : goal.invariant-compile_nodes-loop-node
+invariant-compile_nodes-loop-node l = record {
+  can_next : (goal.iterator-compile_nodes-loop-node).can_next l.node-iterator;
+  finite : (goal.iterator-compile_nodes-loop-node).is_finite l.node-iterator;
+  start : l.start ≡ l.fn.self.free_space_start;
+  by_type : (l.self.enable_nth_of_type || any_by_type (forest_of (into_iter_items l.node-iterator))) ≡ (l.fn.self.enable_nth_of_type || any_by_type (forest_of l.fn.nodes.items));
+  half : IsHalfLaid (forest_of l.fn.nodes.items) l.start l.end l.fn.self.instructions.items (forest_of (into_iter_items l.node-iterator)) l.place l.self.free_space_start l.self.instructions.items;
+}

@@ -1,0 +1,160 @@
+//! From a tree of selectors to their program.
+
+ghost use Rattle.std.specs.Prelude.{◌≡◌, ◌+◌, ◌<◌, ◌≤◌, ◌||◌, IfOk, OnOk, length};
+ghost use Rattle.std.specs.Option.{option_map};
+ghost use Rattle.lol_program.specs.Asts.{trees_of, nodes_of};
+ghost use Rattle.lol_program.specs.Views.{node_of, forest_of};
+ghost use Rattle.lol_program.specs.Forest.{none, link, size};
+ghost use Rattle.lol_program.specs.Compounds.{has_test_by_type};
+ghost use Rattle.lol_program.specs.Predicates.{tests_of};
+ghost use Rattle.lol_program.specs.Compiling.{AreCompiledTests};
+ghost use Rattle.lol_program.specs.Compiled.{tests_in};
+ghost use Rattle.lol_program.specs.Programs.{IsProgramOf};
+ghost use Rattle.lol_program.specs.Layouts.{width, range_of, any_by_type, selectors_in};
+ghost use Rattle.lol_program.specs.ProgramViews.{range_shown, program_shown};
+ghost use Rattle.lol_program.specs.Laying.{AreLaid, SameOutside, SameElsewhere};
+
+use crate::ast::Ast;
+use crate::ast_node::AstNode;
+use crate::compilable::compile_tests;
+use crate::compiled_predicate::CompiledPredicate;
+use crate::execution_branch::{AddressRange, ExecutionBranch};
+use crate::instruction::Instruction;
+use crate::predicate::Predicate;
+use crate::program::Program;
+use std::alloc::{AllocError, Global};
+
+/// What makes programs of trees of selectors (lol_html's `Compiler`).
+#[derive(Drop)]
+pub struct Compiler {
+    alloc: Global,
+}
+
+impl Compiler {
+    /// A compiler that takes memory here. This call takes none.
+    pub fn new(alloc: Global) -> Self {
+        Compiler { alloc }
+    }
+
+    /// The program of a tree. A list of siblings takes the next free places in one range, and after it, node by node, its children's list
+    /// and its descendants' list are laid out the same way. Operands and sets of ids move out of the tree, and nothing is cloned but the
+    /// bytes of a name that isn't a hash. It costs time in proportion to the tree, and is refused where memory is.
+    pub fn compile(self, ast: Ast) -> Result<Program, AllocError>
+        ensures { IfOk result (λ program. IsProgramOf (selectors_in (trees_of ast)) (nodes_of ast) (program_shown program)) }
+    {
+        let mut layout = Layout {
+            alloc: self.alloc,
+            instructions: noops(self.alloc, ast.cumulative_node_count())?,
+            free_space_start: 0,
+            enable_nth_of_type: false,
+        };
+        let entry_points = layout.compile_nodes(ast.into_root())?;
+        Ok(Program {
+            instructions: layout.instructions,
+            entry_points,
+            enable_nth_of_type: layout.enable_nth_of_type,
+        })
+    }
+}
+
+/// So many instructions that do nothing.
+fn noops(alloc: Global, count: usize) -> Result<Vec<Instruction>, AllocError>
+    ensures { IfOk result (λ instructions. length instructions.items ≡ count) }
+{
+    let mut instructions = Vec::new(alloc);
+    for _i in 0..count {
+        instructions.push(Instruction::noop(alloc))?;
+    }
+    Ok(instructions)
+}
+
+/// Instructions of which some stand in their places.
+#[derive(Drop)]
+struct Layout {
+    alloc: Global,
+    instructions: Vec<Instruction>,
+    // The first place that no list of siblings has.
+    free_space_start: usize,
+    enable_nth_of_type: bool,
+}
+
+impl Layout {
+    /// Lays out siblings, with all that is under them.
+    #[cycle(compile)]
+    fn compile_nodes(&mut self, nodes: Vec<AstNode>) -> Result<AddressRange, AllocError>
+        requires { self.old.free_space_start + size (forest_of nodes.items) ≤ length self.old.instructions.items }
+        ensures start { IfOk result (λ r. r.start ≡ self.old.free_space_start) }
+        ensures end { IfOk result (λ r. r.end ≡ self.old.free_space_start + length nodes.items) }
+        ensures free { OnOk result (self.new.free_space_start ≡ self.old.free_space_start + size (forest_of nodes.items)) }
+        ensures by_type { OnOk result (self.new.enable_nth_of_type ≡ (self.old.enable_nth_of_type || any_by_type (forest_of nodes.items))) }
+        ensures laid { OnOk result (AreLaid self.new.instructions.items self.old.free_space_start (self.old.free_space_start + width (forest_of nodes.items)) (forest_of nodes.items)) }
+        ensures same { OnOk result (SameOutside self.old.free_space_start self.new.free_space_start self.old.instructions.items self.new.instructions.items) }
+    {
+        let start = self.free_space_start;
+        let end = start + nodes.len();
+        self.free_space_start = end;
+        let mut place = start;
+        for node in nodes {
+            self.compile_node(node, place)?;
+            place += 1;
+        }
+        Ok(start..end)
+    }
+
+    /// Lays out siblings, if there are some.
+    #[cycle(compile)]
+    fn compile_list(&mut self, nodes: Vec<AstNode>) -> Result<Option<AddressRange>, AllocError>
+        requires { self.old.free_space_start + size (forest_of nodes.items) ≤ length self.old.instructions.items }
+        ensures range { IfOk result (λ r. option_map range_shown r ≡ range_of (forest_of nodes.items) self.old.free_space_start) }
+        ensures free { OnOk result (self.new.free_space_start ≡ self.old.free_space_start + size (forest_of nodes.items)) }
+        ensures by_type { OnOk result (self.new.enable_nth_of_type ≡ (self.old.enable_nth_of_type || any_by_type (forest_of nodes.items))) }
+        ensures laid { OnOk result (AreLaid self.new.instructions.items self.old.free_space_start (self.old.free_space_start + width (forest_of nodes.items)) (forest_of nodes.items)) }
+        ensures same { OnOk result (SameOutside self.old.free_space_start self.new.free_space_start self.old.instructions.items self.new.instructions.items) }
+    {
+        if nodes.is_empty() {
+            Ok(None)
+        } else {
+            Ok(Some(self.compile_nodes(nodes)?))
+        }
+    }
+
+    /// Lays out what is under a node, and the node at its place.
+    #[cycle(compile)]
+    fn compile_node(&mut self, node: AstNode, place: usize) -> Result<(), AllocError>
+        requires room { self.old.free_space_start + (size (node_of node).children + size (node_of node).descendants) ≤ length self.old.instructions.items }
+        requires place { place < self.old.free_space_start }
+        ensures free { OnOk result (self.new.free_space_start ≡ self.old.free_space_start + (size (node_of node).children + size (node_of node).descendants)) }
+        ensures by_type { OnOk result (self.new.enable_nth_of_type ≡ (self.old.enable_nth_of_type || any_by_type (link (node_of node) none))) }
+        ensures laid { OnOk result (AreLaid self.new.instructions.items place self.old.free_space_start (link (node_of node) none)) }
+        ensures same { OnOk result (SameElsewhere place self.old.free_space_start self.new.free_space_start self.old.instructions.items self.new.instructions.items) }
+    {
+        let AstNode {
+            predicate,
+            children,
+            descendants,
+            match_ids,
+        } = node;
+        let predicate = self.compile_predicate(predicate)?;
+        let jumps = self.compile_list(children)?;
+        let hereditary_jumps = self.compile_list(descendants)?;
+        self.instructions[place] = Instruction {
+            associated_branch: ExecutionBranch {
+                matched_ids: match_ids,
+                jumps,
+                hereditary_jumps,
+            },
+            predicate,
+        };
+        Ok(())
+    }
+
+    fn compile_predicate(&mut self, predicate: Predicate) -> Result<CompiledPredicate, AllocError>
+        ensures tests { IfOk result (λ compiled. AreCompiledTests (tests_in compiled) (tests_of predicate)) }
+        ensures by_type { OnOk result (self.new.enable_nth_of_type ≡ (self.old.enable_nth_of_type || has_test_by_type (tests_of predicate))) }
+        ensures free { self.new.free_space_start ≡ self.old.free_space_start }
+        ensures instructions { self.new.instructions ≡ self.old.instructions }
+    {
+        let tests = compile_tests(self.alloc, predicate.tests, &mut self.enable_nth_of_type)?;
+        Ok(CompiledPredicate::new(tests))
+    }
+}
