@@ -280,4 +280,4 @@ fn is_lower_case_of(byte: u8, actual: u8) -> bool
 }
 
 #[cfg(test)]
-mod tests;
+pub(crate) mod tests;

@@ -174,3 +174,6 @@ fn compile_comparison(expr: AttributeComparisonExpr) -> AttributeExprTest
         AttrSelectorOperator::Substring => AttributeExprTest::Substring(operands),
     }
 }
+
+#[cfg(test)]
+mod tests;

@@ -153,3 +153,6 @@ fn some_hold(
     }
     false
 }
+
+#[cfg(test)]
+mod tests;

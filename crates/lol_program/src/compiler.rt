@@ -158,3 +158,6 @@ impl Layout {
         Ok(CompiledPredicate::new(tests))
     }
 }
+
+#[cfg(test)]
+pub(crate) mod tests;

@@ -127,3 +127,6 @@ impl Instruction {
         branch
     }
 }
+
+#[cfg(test)]
+mod tests;

@@ -8,14 +8,14 @@ use std::test::Fail;
 
 /// The attributes of a tag, and the input that they stand in.
 #[derive(Drop)]
-struct Attributes {
+pub(crate) struct Attributes {
     input: Vec<u8>,
     outlines: AttributeBuffer,
 }
 
 impl Attributes {
     /// Attributes with these names and values, in this order.
-    fn new(alloc: Global, written: &[(&str, Option<&str>)]) -> Result<Self, AllocError> {
+    pub(crate) fn new(alloc: Global, written: &[(&str, Option<&str>)]) -> Result<Self, AllocError> {
         let mut input = Vec::new(alloc);
         let mut outlines = Vec::new(alloc);
         for (name, value) in written {
@@ -33,7 +33,7 @@ impl Attributes {
         Ok(Attributes { input, outlines })
     }
 
-    fn matcher(&self, rt: &impl Abort, ns: Namespace) -> AttributeMatcher<'_> {
+    pub(crate) fn matcher(&self, rt: &impl Abort, ns: Namespace) -> AttributeMatcher<'_> {
         let tag = AuxStartTagInfo {
             input: Bytes::new(&self.input),
             attr_buffer: &self.outlines,
