@@ -1,5 +1,5 @@
 -- Values by names and truths of tests that are looked at one after another.
-use Rattle.std.proofs.Common.{◌≡◌, ℕ, zero, suc, ◌+◌, ◌-◌, ◌<◌, ◌≤◌, Bool, true, false, ◌&&◌, ◌||◌, List, [], ◌∷◌, drop, get_or, length, arith, refl, sym, ap, ◌∙◌}
+use Rattle.std.proofs.Common.{◌≡◌, ℕ, zero, suc, ◌+◌, ◌-◌, ◌<◌, ◌≤◌, Bool, true, false, ◌&&◌, ◌||◌, List, [], ◌∷◌, ◌++◌, drop, get_or, length, arith, refl, sym, ap, ◌∙◌}
 use Rattle.std.specs.List.{list_any, list_all}
 use Rattle.lol_program.specs.Compounds.{both, either}
 use Rattle.lol_program.specs.Compiled.{all_values, some_values}
@@ -72,6 +72,15 @@ module _ {A : Type 0} (value : A → NameValue) where
   pub all_open : (xs : List A) (i : ℕ) (x : A) (v : NameValue) → 0 < i → i ≤ length xs → x ≡ get_or xs (i - 1) x → value x ≡ Open → v ≡ all_values value (drop i xs) → both Open v ≡ Open → Open ≡ all_values value (drop (i - 1) xs)
   all_open xs i x v some within at here h none_fails =
       sym (all_from xs i x some within at ∙ ap (λ w. both w (all_values value (drop i xs))) here ∙ ap (both Open) (sym h) ∙ none_fails)
+
+  -- one test more, which holds or fails
+  pub all_if_last : (xs : List A) (x : A) → value x ≡ True → all_values value (xs ++ x ∷ []) ≡ all_values value xs
+  all_if_last [] x here = ap (λ w. both w True) here
+  all_if_last (y ∷ xs) x here = ap (both (value y)) (all_if_last xs x here)
+
+  pub none_if_last : (xs : List A) (x : A) → value x ≡ False → all_values value (xs ++ x ∷ []) ≡ False
+  none_if_last [] x here = ap (λ w. both w True) here
+  none_if_last (y ∷ xs) x here = ap (both (value y)) (none_if_last xs x here) ∙ both_false (value y)
 
   -- the compounds from a place on, in what is known so far
   some_from : (xs : List A) (i : ℕ) (x : A) → i < length xs → x ≡ get_or xs i x → some_values value (drop i xs) ≡ either (value x) (some_values value (drop (i + 1) xs))

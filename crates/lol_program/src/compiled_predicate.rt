@@ -2,7 +2,7 @@
 
 ghost use Rattle.std.specs.Prelude.{◌≡◌};
 ghost use Rattle.std.specs.List.{list_any};
-ghost use Rattle.lol_program.specs.Compiled.{sight, test_value, test_holds, predicate_value, predicate_holds, tests_in, some_values};
+ghost use Rattle.lol_program.specs.Compiled.{sight, test_value, test_holds, predicate_value, predicate_holds, tests_in, all_values, some_values};
 
 use crate::attribute_matcher::AttributeMatcher;
 use crate::compiled_expr::{CompiledAttributeExpr, CompiledLocalNameExpr};
@@ -49,18 +49,22 @@ impl CompiledPredicate {
     /// What an element's name and counters alone say of whether it passes all tests. The last test is looked at first, which in a compound
     /// that was read is that of the name, and none after the first that fails. It takes no memory.
     #[cycle(by_names)]
+    #[inline(always)]
     pub fn by_names(&self, state: &SelectorState<'_>, local_name: &LocalName<'_>) -> NameValue
         ensures { result ≡ predicate_value self.now (sight state.now local_name.now) }
     {
-        let mut value = NameValue::True;
-        for i in (0..self.tests.len()).rev() {
-            match self.tests[i].by_names(state, local_name) {
-                NameValue::True => (),
-                NameValue::False => return NameValue::False,
-                NameValue::Open => value = NameValue::Open,
+        match self.tests.split_last() {
+            Some((CompiledTest::Name(last), others)) => {
+                if !last.eval(state, local_name) {
+                    NameValue::False
+                } else if others.is_empty() {
+                    NameValue::True
+                } else {
+                    all_by_names(others, state, local_name)
+                }
             }
+            _ => all_by_names(&self.tests, state, local_name),
         }
-        value
     }
 
     /// Whether an element passes all tests that has this name, these counters and these attributes. It looks at them as `by_names` does,
@@ -114,6 +118,27 @@ impl CompiledTest {
             CompiledTest::SomeOf(predicates) => some_hold(predicates, state, local_name, matcher),
         }
     }
+}
+
+/// What name and counters say of whether an element passes all of these, the last one first.
+#[cycle(by_names)]
+#[inline(never)]
+fn all_by_names(
+    tests: &[CompiledTest],
+    state: &SelectorState<'_>,
+    local_name: &LocalName<'_>,
+) -> NameValue
+    ensures { result ≡ all_values (λ test. test_value test (sight state.now local_name.now)) tests.now }
+{
+    let mut value = NameValue::True;
+    for i in (0..tests.len()).rev() {
+        match tests[i].by_names(state, local_name) {
+            NameValue::True => (),
+            NameValue::False => return NameValue::False,
+            NameValue::Open => value = NameValue::Open,
+        }
+    }
+    value
 }
 
 /// What name and counters say of whether an element passes some of these.

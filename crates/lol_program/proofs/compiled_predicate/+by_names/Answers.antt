@@ -1,44 +1,61 @@
-use Rattle.std.proofs.Common.{◌≡◌, ◌+◌, drop, arith, refl, sym, ap, ◌∙◌}
-use Rattle.lol_program.specs.Compounds.{either, opposite}
-use Rattle.lol_program.specs.Compiled.{sight, test_value, all_values, some_values}
-use Rattle.lol_program.specs.declared.name_value.NameValue.TheVariants.{Open}
+use Rattle.std.proofs.Common.{◌≡◌, ◌+◌, length, drop, arith, refl, sym, ap, ◌∙◌}
+use Rattle.lol_program.specs.Compounds.{value_of_bool, either, opposite}
+use Rattle.lol_program.specs.Compiled.{sight, name_expr_holds, test_value, all_values, some_values}
+use Rattle.lol_program.specs.declared.name_value.NameValue.TheVariants.{True, False, Open}
 use Rattle.lol_program.specs.declared.compiled_predicate.CompiledTest.{CompiledTest}
+use Rattle.lol_program.specs.declared.compiled_expr.CompiledLocalNameExpr.{CompiledLocalNameExpr}
 use Rattle.lol_program.proofs.CompiledRows.{value_here, value_of_predicate, test_value-NoneOf, test_value-SomeOf}
-use Rattle.lol_program.proofs.CompiledValues.{drop_all, drop_none, all_true, all_fail, all_open, some_true, some_false, some_open, some_all}
+use Rattle.lol_program.proofs.CompiledValues.{drop_all, drop_none, all_true, all_fail, all_open, all_if_last, none_if_last, some_true, some_false, some_open, some_all}
 use Rattle.lol_program.proofs.compiled_predicate.+by_names.Goals as goal
 use Rattle.lol_program.proofs.compiled_predicate.+by_names.Goals.{some_by_names-in-False, some_by_names-in-Open}
 
-pub CompiledPredicate::by_names-loop-i-init : goal.CompiledPredicate::by_names-loop-i-init
-CompiledPredicate::by_names-loop-i-init t c = record {
-  value = sym (ap (all_values (value_here (sight c.args.state.now c.args.local_name.now))) (drop_all c.args.self.now.tests.items c.len-i.result (omega (arith, c.len-i.ensures))));
+pub all_by_names-loop-i-init : goal.all_by_names-loop-i-init
+all_by_names-loop-i-init t c = record {
+  value = sym (ap (all_values (value_here (sight c.args.state.now c.args.local_name.now))) (drop_all c.args.tests.now (length c.args.tests.now) (omega arith)));
   none_fails = refl;
 }
 
-pub CompiledPredicate::by_names-loop-i-preserved-in-True :
-    goal.CompiledPredicate::by_names-loop-i-preserved-in-True
-CompiledPredicate::by_names-loop-i-preserved-in-True t c = record {
-  value = all_true (value_here (sight c.args.state.now c.args.local_name.now)) c.args.self.now.tests.items c.loop-i.i c.index.result.now c.loop-i.value c.loop-i-test.true
-      (omega (arith, c.len-i.ensures, c.loop-i.auto.i)) c.index.ensures (sym c.by_names.ensures ∙ c.in-True.is) c.loop-i.invariant.value;
+pub all_by_names-loop-i-preserved-in-True :
+    goal.all_by_names-loop-i-preserved-in-True
+all_by_names-loop-i-preserved-in-True t c = record {
+  value = all_true (value_here (sight c.args.state.now c.args.local_name.now)) c.args.tests.now c.loop-i.i c.index-tests-i.result c.loop-i.value c.loop-i-test.true
+      c.loop-i.auto.i c.index-tests-i.is (sym c.by_names.ensures ∙ c.in-True.is) c.loop-i.invariant.value;
   none_fails = c.loop-i.invariant.none_fails;
 }
 
-pub CompiledPredicate::by_names-returns-in-False :
-    goal.CompiledPredicate::by_names-returns-in-False
-CompiledPredicate::by_names-returns-in-False t c =
-    all_fail (value_here (sight c.args.state.now c.args.local_name.now)) c.args.self.now.tests.items c.loop-i.i c.index.result.now c.loop-i-test.true
-    (omega (arith, c.len-i.ensures, c.loop-i.auto.i)) c.index.ensures (sym c.by_names.ensures ∙ c.in-False.is)
+pub all_by_names-returns-in-False :
+    goal.all_by_names-returns-in-False
+all_by_names-returns-in-False t c =
+    all_fail (value_here (sight c.args.state.now c.args.local_name.now)) c.args.tests.now c.loop-i.i c.index-tests-i.result c.loop-i-test.true
+    c.loop-i.auto.i c.index-tests-i.is (sym c.by_names.ensures ∙ c.in-False.is)
 
-pub CompiledPredicate::by_names-loop-i-preserved :
-    goal.CompiledPredicate::by_names-loop-i-preserved
-CompiledPredicate::by_names-loop-i-preserved t c = record {
-  value = all_open (value_here (sight c.args.state.now c.args.local_name.now)) c.args.self.now.tests.items c.loop-i.i c.index.result.now c.loop-i.value c.loop-i-test.true
-      (omega (arith, c.len-i.ensures, c.loop-i.auto.i)) c.index.ensures (sym c.by_names.ensures ∙ c.in-Open.is) c.loop-i.invariant.value c.loop-i.invariant.none_fails;
+pub all_by_names-loop-i-preserved :
+    goal.all_by_names-loop-i-preserved
+all_by_names-loop-i-preserved t c = record {
+  value = all_open (value_here (sight c.args.state.now c.args.local_name.now)) c.args.tests.now c.loop-i.i c.index-tests-i.result c.loop-i.value c.loop-i-test.true
+      c.loop-i.auto.i c.index-tests-i.is (sym c.by_names.ensures ∙ c.in-Open.is) c.loop-i.invariant.value c.loop-i.invariant.none_fails;
   none_fails = refl;
 }
 
-pub CompiledPredicate::by_names-returns : goal.CompiledPredicate::by_names-returns
-CompiledPredicate::by_names-returns t c =
-    c.loop-i.invariant.value ∙ ap (all_values (value_here (sight c.args.state.now c.args.local_name.now))) (drop_none c.args.self.now.tests.items c.loop-i.i c.loop-i-test.false)
+pub all_by_names-returns : goal.all_by_names-returns
+all_by_names-returns t c =
+    c.loop-i.invariant.value ∙ ap (all_values (value_here (sight c.args.state.now c.args.local_name.now))) (drop_none c.args.tests.now c.loop-i.i c.loop-i-test.false)
+
+pub CompiledPredicate::by_names-returns-then-not-eval : goal.CompiledPredicate::by_names-returns-then-not-eval
+CompiledPredicate::by_names-returns-then-not-eval t c =
+    let f = value_here (sight c.args.state.now c.args.local_name.now) in
+    let last = c.in-Some-Name-default.field-0-0.now in
+    let others = c.in-Some-Name-default.others.now in
+    let here : f last ≡ False = ap f c.in-Some-Name-default.field-0-0-is ∙ ap value_of_bool (ap (λ (k : CompiledLocalNameExpr). name_expr_holds k.test (sight c.args.state.now c.args.local_name.now)) (sym c.in-Some-Name-default.last-is) ∙ sym c.eval.ensures ∙ c.if-not-eval.true) in
+    sym (ap (all_values f) (sym c.deref.ensures.value ∙ c.in-Some-Name-default.ensures.cases.0) ∙ none_if_last f others last here)
+
+pub CompiledPredicate::by_names-returns-else-is_empty : goal.CompiledPredicate::by_names-returns-else-is_empty
+CompiledPredicate::by_names-returns-else-is_empty t c =
+    let f = value_here (sight c.args.state.now c.args.local_name.now) in
+    let last = c.in-Some-Name-default.field-0-0.now in
+    let others = c.in-Some-Name-default.others.now in
+    let here : f last ≡ True = ap f c.in-Some-Name-default.field-0-0-is ∙ ap value_of_bool (ap (λ (k : CompiledLocalNameExpr). name_expr_holds k.test (sight c.args.state.now c.args.local_name.now)) (sym c.in-Some-Name-default.last-is) ∙ sym c.eval.ensures ∙ c.if-not-eval.false) in
+    c.all_by_names.ensures ∙ sym (ap (all_values f) (sym c.deref.ensures.value ∙ c.in-Some-Name-default.ensures.cases.0) ∙ all_if_last f others last here)
 
 pub CompiledTest::by_names-returns-in-NoneOf : goal.CompiledTest::by_names-returns-in-NoneOf
 CompiledTest::by_names-returns-in-NoneOf t c =

@@ -5,10 +5,10 @@ use Rattle.lol_program.specs.declared.name_value.NameValue.TheVariants.{Open}
 use Rattle.lol_program.proofs.CompiledRows.{value_here, value_of_predicate}
 use Rattle.lol_program.proofs.compiled_predicate.+by_names.Given as goal
 
-abbrev pub invariant-CompiledPredicate::by_names-loop-i :
-    goal.invariant-CompiledPredicate::by_names-loop-i
-invariant-CompiledPredicate::by_names-loop-i l = record {
-  value : l.value ≡ all_values (value_here (sight l.state l.local_name)) (drop l.i l.self.tests.items);
+abbrev pub invariant-all_by_names-loop-i :
+    goal.invariant-all_by_names-loop-i
+invariant-all_by_names-loop-i l = record {
+  value : l.value ≡ all_values (value_here (sight l.state l.local_name)) (drop l.i l.tests);
   none_fails : both Open l.value ≡ Open;
 }
 
