@@ -1,5 +1,5 @@
 -- Content marks, and what end tags close.
-use Rattle.std.proofs.Common.{◌≡◌, ◌≢◌, ℕ, Bool, true, false, ◌||◌, not, cond, ◌⊎◌, ◌↔◌, inl, inr, refl, sym, ap, ◌∙◌, subst, Contains}
+use Rattle.std.proofs.Common.{◌≡◌, ◌≢◌, ℕ, Bool, true, false, ◌||◌, not, cond, ◌⊎◌, ◌↔◌, inl, inr, refl, sym, ap, subst, Contains}
 use Rattle.std.specs.Prelude.{◌&&◌}
 use Rattle.lol_base.specs.Names.{is_void, is_esi}
 use Rattle.lol_base.specs.StartTags.{StartTag}
@@ -9,7 +9,7 @@ use Rattle.lol_vm.specs.Events.{has_content, has_content_in}
 use Rattle.lol_vm.specs.Documents.{element_of}
 use Rattle.lol_vm.specs.Answers.{Match, Started, Dropped, is_dropped, asks, report, matching_ids, name_tries, attribute_tries}
 use Rattle.lol_vm.specs.RunLaws.{MarksTellContent}
-use Rattle.lol_vm.proofs.Bools.{and_both, either, left_or, right_or}
+use Rattle.lol_base.specs.BoolLaws.{and_parts, and_of, or_parts, or_of}
 use Rattle.lol_vm.proofs.Lists.{to_among, among_map}
 
 abbrev NoContentIn : Namespace → Bool → StartTag → Type 0
@@ -22,11 +22,11 @@ not_false true h = refl
 not_false false h = cc
 
 void_or_esi : (void esi named : Bool) → (void || (esi && named)) ≡ true → (void ≡ true) ⊎ ((esi ≡ true) × (named ≡ true))
-void_or_esi void esi named h = elim (either void (esi && named) h) [ inl v ↦ inl v | inr both ↦ inr (and_both esi named both) ]
+void_or_esi void esi named h = elim (or_parts void (esi && named) h) [ inl v ↦ inl v | inr both ↦ inr (and_parts esi named both) ]
 
 is_void_or_esi : (void esi named : Bool) → (void ≡ true) ⊎ ((esi ≡ true) × (named ≡ true)) → not (void || (esi && named)) ≡ false
-is_void_or_esi void esi named (inl v) = ap not (left_or void (esi && named) v)
-is_void_or_esi void esi named (inr both) = ap not (right_or void (esi && named) ((λ i. both.0 i && named) ∙ both.1))
+is_void_or_esi void esi named (inl v) = ap not (or_of void (esi && named) (inl v))
+is_void_or_esi void esi named (inr both) = ap not (or_of void (esi && named) (inr (and_of esi named both.0 both.1)))
 
 foreign : (namespace : Namespace) (esi : Bool) (tag : StartTag) → namespace ≢ Html → (not tag.self_closing ≡ false) ↔ NoContentIn namespace esi tag
 foreign namespace esi tag other = (

@@ -8,7 +8,8 @@ use Rattle.lol_program.specs.Paths.{Path, Selectors}
 use Rattle.lol_base.specs.MemberLaws.{Among, same_count}
 use Rattle.lol_vm.specs.Matching.{left_matches}
 use Rattle.lol_vm.specs.Answers.{name_tries, attribute_tries, needs_attributes}
-use Rattle.lol_vm.proofs.Bools.{and_both, and_true, same_bool}
+use Rattle.lol_base.specs.BoolLaws.{and_parts}
+use Rattle.lol_vm.proofs.Bools.{and_true, same_bool}
 use Rattle.lol_program.specs.Compounds.{is_open}
 use Rattle.lol_program.specs.Programs.{Range, Program, IsAt, IsProgramOf, AreClosed, places, all_places}
 use Rattle.lol_vm.specs.Machines.{HoldOnce, LeftMatches}
@@ -57,7 +58,7 @@ module _ (s : Selectors) (paths : List Path) (p : Program) (closed : AreClosed s
           value ∙ (ap is_open ((program.each place path i.0 at i.1).means e).0 ∙ sym (and_true (left_matches path outer) _ fits))
 
       left_of_needing : (path : Path) → needs_attributes e outer path ≡ true → LeftMatches outer path
-      left_of_needing path h = (and_both (left_matches path outer) _ h).0
+      left_of_needing path h = (and_parts (left_matches path outer) _ h).0
 
       attributes_counted : count_by (is_open_at p e) all ≡ attribute_tries s.nodes e outer
       attributes_counted =

@@ -10,7 +10,7 @@ use Rattle.lol_base.specs.MemberLaws.{Among, Distinct}
 use Rattle.lol_vm.specs.Matching.{left_matches, matches}
 use Rattle.lol_vm.specs.Answers.{matching_ids}
 use Rattle.lol_vm.specs.ReportLaws.{among_matching_ids, matching_ids_among}
-use Rattle.lol_vm.proofs.Bools.{and_both, both_and}
+use Rattle.lol_base.specs.BoolLaws.{and_parts, and_of}
 use Rattle.lol_program.specs.Programs.{Range, Instruction, Program, IsAt, IsRangeOf, IsProgramOf, AreClosed, all_places}
 use Rattle.lol_vm.specs.Machines.{HasRanges, Matches, HoldOnce, LeftMatches, jumps_of, hereditary_jumps_of}
 use Rattle.lol_vm.specs.PlaceRuns.{given, gathered, ids_of}
@@ -51,11 +51,11 @@ one_option false o = tt
 module _ (s : Selectors) (paths : List Path) (p : Program) (closed : AreClosed s) (program : IsProgramOf s paths p) (ranges : List Range) (outer : List Element) (held : HoldOnce paths ranges (LeftMatches outer)) (e : Element) where
   -- an instruction at a place that is run holds exactly if its path matches
   holds_matches : (place : ℕ) (path : Path) (i : Instruction) → IsAt paths place path → IsAt p.instructions place i → LeftMatches outer path → i.holds e ≡ true → matches path e outer ≡ true
-  holds_matches place path i at at' left holds = both_and _ _ (sym ((program.each place path i at at').means e).1 ∙ holds) left
+  holds_matches place path i at at' left holds = and_of _ _ (sym ((program.each place path i at at').means e).1 ∙ holds) left
 
   matches_holds : (place : ℕ) (path : Path) (i : Instruction) → IsAt paths place path → IsAt p.instructions place i → matches path e outer ≡ true → (i.holds e ≡ true) × LeftMatches outer path
   matches_holds place path i at at' fits =
-      let both = and_both (all_hold (last_compound path) e) (left_matches path outer) fits in
+      let both = and_parts (all_hold (last_compound path) e) (left_matches path outer) fits in
       (((program.each place path i at at').means e).1 ∙ both.0, both.1)
 
   module _ {A : Type 0} (what : Instruction → List A) where

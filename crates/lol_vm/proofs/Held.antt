@@ -10,10 +10,11 @@ use Rattle.lol_program.specs.Tests.{Element}
 use Rattle.lol_program.specs.Paths.{Path, First, Then, Selectors}
 use Rattle.lol_base.specs.MemberLaws.{Among, Distinct, among_front, among_back, among_either}
 use Rattle.lol_vm.specs.Matching.{matches, left_matches, parent_passes, some_ancestor_passes}
-use Rattle.lol_vm.proofs.Bools.{and_both, both_and, not_true, true_or_not, either, left_or, right_or}
-use Rattle.lol_program.specs.Programs.{Range, Instruction, Program, IsWithin, IsAt, HoldsPlaces, IsRangeOf, IsProgramOf, IsInstruction, AreClosed, above, range_by, places, all_places}
+use Rattle.lol_base.specs.BoolLaws.{and_parts, and_of, or_parts, or_of}
+use Rattle.lol_vm.proofs.Bools.{not_both, true_or_not}
+use Rattle.lol_program.specs.Programs.{Range, Instruction, Program, IsWithin, IsAt, HoldsPlaces, IsRangeOf, IsProgramOf, AreClosed, above, places, all_places}
 use Rattle.lol_vm.specs.Machines.{Item, IsReached, HasRanges, IsItem, AreItems, Matches, HoldOnce, LeftMatches, active_of, is_active, same_range, last_jumps, ranges_of, jumps_of, hereditary_jumps_of}
-use Rattle.lol_vm.specs.MachineLaws.{RangesAreApart, RangesHoldLeftMatches, PlacesAreWithin}
+use Rattle.lol_vm.specs.MachineLaws.{RangesHoldLeftMatches, PlacesAreWithin}
 use Rattle.lol_vm.proofs.Lists.{to_contains, to_among, to_once, to_distinct, distinct_append, at_among, among_at, same_at, one_place, at_within, within_at, among_flat_map, flat_map_among, distinct_flat_map, among_range, range_among, distinct_range, among_map, map_among, among_filter, filter_among, distinct_filter, any_among, among_any}
 
 -- 1. Ranges and the places in them
@@ -123,13 +124,13 @@ module _ (s : Selectors) (paths : List Path) (p : Program) (program : IsProgramO
 
 pub range_is : (a b : Range) → same_range a b ≡ true → a ≡ b
 range_is a b h =
-    let both = and_both (a.start == b.start) (a.end == b.end) h in
+    let both = and_parts (a.start == b.start) (a.end == b.end) h in
     let start : a.start ≡ b.start = (Decides-eqb a.start b.start).0 both.0 in
     let end : a.end ≡ b.end = (Decides-eqb a.end b.end).0 both.1 in
     λ i. record { start = start i; end = end i }
 
 pub range_same : (a b : Range) → a ≡ b → same_range a b ≡ true
-range_same a b is = both_and (a.start == b.start) (a.end == b.end) ((Decides-eqb a.start b.start).1 (ap (λ (r : Range). r.start) is)) ((Decides-eqb a.end b.end).1 (ap (λ (r : Range). r.end) is))
+range_same a b is = and_of (a.start == b.start) (a.end == b.end) ((Decides-eqb a.start b.start).1 (ap (λ (r : Range). r.start) is)) ((Decides-eqb a.end b.end).1 (ap (λ (r : Range). r.end) is))
 
 pub active_among : (active : List (Range × ℕ)) (r : Range) → is_active active r ≡ true → Among (ranges_of active) r
 active_among active r h =
@@ -177,14 +178,14 @@ module _ (paths : List Path) (p : Program) where
           let test : Range → Bool = λ r. not (is_active old r) in (
             subst Distinct (sym (active_more item items)) (distinct_append (ranges_of old) (filter test item.hereditary_jumps) before.0
                 (distinct_filter test item.hereditary_jumps (to_distinct item.hereditary_jumps is.hereditary_jumps.once))
-                (λ r in_old in_new. not_true (is_active old r) (among_filter test item.hereditary_jumps r in_new).1 (among_active old r in_old))),
+                (λ r in_old in_new. not_both (is_active old r) (among_filter test item.hereditary_jumps r in_new).1 (among_active old r in_old))),
             λ r. (
               λ h. elim (among_either (ranges_of old) (filter test item.hereditary_jumps) r (subst (λ rs. Among rs r) (active_more item items) h)) [
-                | inl a ↦ reached_by hereditary_jumps_of (SomeAncestorMatches outer) (SomeAncestorMatches (e ∷ outer)) (λ path fits. right_or (matches path e outer) _ fits) r ((before.1 r).0 a)
-                | inr a ↦ reached_by hereditary_jumps_of (Matches e outer) (SomeAncestorMatches (e ∷ outer)) (λ path fits. left_or (matches path e outer) _ fits) r
+                | inl a ↦ reached_by hereditary_jumps_of (SomeAncestorMatches outer) (SomeAncestorMatches (e ∷ outer)) (λ path fits. or_of (matches path e outer) _ (inr fits)) r ((before.1 r).0 a)
+                | inr a ↦ reached_by hereditary_jumps_of (Matches e outer) (SomeAncestorMatches (e ∷ outer)) (λ path fits. or_of (matches path e outer) _ (inl fits)) r
                     ((is.hereditary_jumps.members r).0 (to_contains item.hereditary_jumps r (among_filter test item.hereditary_jumps r a).0))
               ],
-              λ h. subst (λ rs. Among rs r) (sym (active_more item items)) (elim (either (matches h.1 e outer) _ h.6) [
+              λ h. subst (λ rs. Among rs r) (sym (active_more item items)) (elim (or_parts (matches h.1 e outer) _ h.6) [
                 | inl fits ↦ elim (true_or_not (is_active old r)) [
                   | inl is_old ↦ among_front (ranges_of old) (filter test item.hereditary_jumps) r (active_among old r is_old)
                   | inr is_new ↦ among_back (ranges_of old) (filter test item.hereditary_jumps) r (filter_among test item.hereditary_jumps r
@@ -294,24 +295,3 @@ pub places_are_within : PlacesAreWithin
 places_are_within s paths p ranges outer program held place c =
     let x = (held.members place).0 c in
     omega (arith, at_within paths place x.0 x.1, program.count)
-
-pub ranges_are_apart : RangesAreApart
-ranges_are_apart s paths p program j k x y step step' r r' place at at' is is' in_r in_r' =
-    let a = path_at s paths p program j x at in
-    let b = path_at s paths p program k y at' in
-    let under = ((range_there a.0 x step r (program.each j a.0 x a.1 at) is).members place).0 in_r in
-    let under' = ((range_there b.0 y step' r' (program.each k b.0 y b.1 at') is').members place).0 in_r' in
-    let both = sym under.2 ∙ (ap above (same_at paths place under.0 under'.0 under.1 under'.1) ∙ under'.2) in (
-      one_place paths (to_distinct paths program.once) j k b.0 (a.1 ∙ ap Some (same_front a.0 b.0 step step' both)) b.1,
-      same_step a.0 b.0 step step' both,
-      λ in_entry.
-          let first = (program.entry.members place).0 in_entry in
-          none_some (sym first.2 ∙ (ap above (same_at paths place first.0 under.0 first.1 under.1) ∙ under.2)),
-    )
-  where
-    none_some : {A : Type 0} {x : A} → None ≡ Some x → ⊥
-    none_some e = cc
-
-    range_there : (path : Path) (i : Instruction) (way : Combinator) (q : Range) → IsInstruction s paths path i → range_by way i ≡ Some q → HoldsPlaces paths q (Some (path, way))
-    range_there path i Child q h e = (subst (λ o. IsRangeOf paths o (Some (path, Child))) e h.jumps).0
-    range_there path i Descendant q h e = (subst (λ o. IsRangeOf paths o (Some (path, Descendant))) e h.hereditary_jumps).0

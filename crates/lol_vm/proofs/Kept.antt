@@ -17,7 +17,7 @@ use Rattle.lol_vm.specs.Documents.{Document, Child, empty, element_of, parent_of
 use Rattle.lol_vm.specs.Answers.{document, document_from, after, is_dropped, asks}
 use Rattle.lol_vm.specs.Refusals.{longest, longest_from}
 use Rattle.lol_vm.proofs.Runs.{document_push, position-map}
-use Rattle.lol_vm.proofs.Bools.{is_false}
+use Rattle.lol_base.specs.BoolLaws.{not_true}
 use Rattle.lol_program.specs.Programs.{Range, Program, AreClosed, all_places}
 use Rattle.lol_vm.specs.Machines.{Item, AreItems, HasRanges, Matches, HoldOnce, LeftMatches, active_of, newly_active, is_active, ranges_to_run, jumps_of, hereditary_jumps_of}
 use Rattle.lol_vm.specs.PlaceRuns.{Context, context_of, run}
@@ -96,7 +96,7 @@ same_number : (n : ℕ) → (n == n) ≡ true
 same_number n = (Decides-eqb n n).1 refl
 
 numbers_differ : (m n : ℕ) → (m ≡ n → ⊥) → (m == n) ≡ false
-numbers_differ m n h = is_false (m == n) (λ e. h ((Decides-eqb m n).0 e))
+numbers_differ m n h = not_true (m == n) (λ e. h ((Decides-eqb m n).0 e))
 
 abbrev kid : List Element → List ℕ → Child
 kid outer name = record { parent = parent_of outer; name = name }
@@ -233,7 +233,7 @@ abbrev kept_active : ℕ → List (Range × ℕ) → List (Range × ℕ)
 kept_active n active = filter (λ (a : Range × ℕ). nat_lt a.1 n) active
 
 place_below : (n place : ℕ) → n ≤ place → nat_lt place n ≡ false
-place_below n place h = is_false (nat_lt place n) (λ e. let below = (Decides-ltb place n).0 e in omega (arith, h, below))
+place_below n place h = not_true (nat_lt place n) (λ e. let below = (Decides-ltb place n).0 e in omega (arith, h, below))
 
 below_kept : (n place : ℕ) → place < n → nat_lt place n ≡ true
 below_kept n place h = (Decides-ltb place n).1 h

@@ -3,7 +3,7 @@ use Rattle.std.proofs.Common.{◌≡◌, ◌≢◌, ℕ, zero, suc, ◌+◌, ◌
 use Rattle.std.specs.Prelude.{slice_get, flat_map, count_by}
 use Rattle.std.specs.List.{range_with_len, list_any}
 use Rattle.lol_base.specs.MemberLaws.{Among, Distinct, among_from_contains, contains_from_among, among_front, among_back, among_either, distinct_from_pairs, same_count, count_by-cons}
-use Rattle.lol_vm.proofs.Bools.{either, left_or, right_or}
+use Rattle.lol_base.specs.BoolLaws.{or_parts, or_of}
 use Rattle.lol_program.specs.NodeOnceLaws.{AllPairs-from_Distinct}
 
 module _ {A : Type 0} where
@@ -113,12 +113,12 @@ module _ {A : Type 0} where
 
     pub any_among : (xs : List A) (x : A) → Among xs x → p x ≡ true → list_any p xs ≡ true
     any_among [] x h fits = absurd h
-    any_among (y ∷ xs) x (inl is) fits = left_or (p y) (list_any p xs) (ap p is ∙ fits)
-    any_among (y ∷ xs) x (inr h) fits = right_or (p y) (list_any p xs) (any_among xs x h fits)
+    any_among (y ∷ xs) x (inl is) fits = or_of (p y) (list_any p xs) (inl (ap p is ∙ fits))
+    any_among (y ∷ xs) x (inr h) fits = or_of (p y) (list_any p xs) (inr (any_among xs x h fits))
 
     pub among_any : (xs : List A) → list_any p xs ≡ true → (x : A) × Among xs x × (p x ≡ true)
     among_any [] h = cc
-    among_any (y ∷ xs) h = elim (either (p y) (list_any p xs) h) [
+    among_any (y ∷ xs) h = elim (or_parts (p y) (list_any p xs) h) [
       | inl fits ↦ (y, inl refl, fits)
       | inr later ↦ let rest = among_any xs later in (rest.0, inr rest.1, rest.2)
     ]

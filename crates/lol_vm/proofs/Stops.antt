@@ -12,7 +12,7 @@ use Rattle.lol_program.specs.Paths.{Path, Selectors, last_compound}
 use Rattle.lol_base.specs.MemberLaws.{count_by-cons, Among, among_from_contains, contains_from_among}
 use Rattle.lol_vm.specs.Matching.{left_matches}
 use Rattle.lol_vm.specs.Answers.{needs_attributes, asks}
-use Rattle.lol_vm.proofs.Bools.{right_or}
+use Rattle.lol_base.specs.BoolLaws.{or_of}
 use Rattle.lol_program.specs.Compounds.{is_open, Decides, by_names, with_rest}
 use Rattle.lol_program.specs.Programs.{Range, Instruction, Program, IsAt, IsProgramOf, places, all_places}
 use Rattle.lol_program.specs.declared.name_value.NameValue.{NameValue}
@@ -241,7 +241,7 @@ stops_are_requests s paths p content e ranges program asks =
       before = here.before;
       parts = here.parts;
       closed = here.closed;
-      asks = right_or (not (is_html e.tag.namespace)) _ asks;
+      asks = or_of (not (is_html e.tag.namespace)) _ (inr asks);
       gathered = λ attributes self_closing finish.
           let x = with_rest e attributes self_closing finish in
           let same = same_stop s paths p program e attributes self_closing finish content no_context (all_places ranges) in

@@ -21,7 +21,7 @@ use Rattle.lol_vm.specs.Documents.{Document, empty, element_of, parent_of, child
 use Rattle.lol_vm.specs.Matching.{matches, left_matches, parent_passes, some_ancestor_passes}
 use Rattle.lol_vm.specs.Answers.{Answer, Started, Dropped, Ended, ascending, matching_ids, report, name_tries, attribute_tries, needs_attributes, asks, is_dropped, answer, answers_from, after, document_from}
 use Rattle.lol_vm.specs.RunLaws.{with_attributes, matches_at, matches_from, UnaskedAttributesChangeNothing}
-use Rattle.lol_vm.proofs.Bools.{is_false, right_or}
+use Rattle.lol_base.specs.BoolLaws.{not_true, or_of}
 use Rattle.lol_vm.proofs.Lists.{to_contains, to_among, count_same, any_among}
 use Rattle.lol_vm.proofs.Runs.{position-map}
 
@@ -37,7 +37,7 @@ module _ {A : Type 0} (p r : A → Bool) where
   filter_same (x ∷ xs) h = λ i. cond (h x (inl refl) i) (x ∷ filter_same xs (λ y a. h y (inr a)) i) (filter_same xs (λ y a. h y (inr a)) i)
 
 none_passes : {A : Type 0} (p : A → Bool) (xs : List A) (x : A) → list_any p xs ≡ false → Among xs x → p x ≡ false
-none_passes p xs x none a = is_false (p x) (λ fits. let some = any_among p xs x a fits in cc)
+none_passes p xs x none a = not_true (p x) (λ fits. let some = any_among p xs x a fits in cc)
 
 -- 2. Open elements that no node tells apart
 
@@ -248,7 +248,7 @@ module _ (s : Selectors) (closed : AreClosed s) where
       decided Open false false false h h' none = refl
 
       none_needs : list_any (needs_attributes e d.open_elements) s.nodes ≡ false
-      none_needs = is_false (list_any (needs_attributes e d.open_elements) s.nodes) (λ some. let asked = right_or (not (is_html tag.namespace)) _ some in cc)
+      none_needs = not_true (list_any (needs_attributes e d.open_elements) s.nodes) (λ some. let asked = or_of (not (is_html tag.namespace)) _ (inr some) in cc)
 
       matched_alike : (node : Path) → IsNode node → matches node e d.open_elements ≡ matches node other d.open_elements
       matched_alike node is =

@@ -2,24 +2,15 @@
 use Rattle.std.specs.Prelude.{ℕ, ◌+◌, ◌<◌, ◌≡◌, ◌↔◌, ◌||◌, not, Bool, true, false, List, [], ◌∷◌, ◌++◌, length, count_by, Option, Some, None, Contains}
 use Rattle.std.specs.List.{list_any, sum_by}
 use Rattle.lol_base.specs.StartTags.{Attribute}
-use Rattle.lol_css.specs.declared.selector.Combinator.{Combinator}
 use Rattle.lol_program.specs.Tests.{Element, is_html}
 use Rattle.lol_program.specs.Compounds.{Decides, with_rest}
 use Rattle.lol_program.specs.Paths.{Path, Selectors}
-use Rattle.lol_program.specs.Programs.{Range, Program, Instruction, AreClosed, IsProgramOf, IsAt, IsWithin, range_by, places, all_places}
+use Rattle.lol_program.specs.Programs.{Range, Program, Instruction, AreClosed, IsProgramOf, IsAt, places, all_places}
 use Rattle.lol_vm.specs.Answers.{name_tries, attribute_tries, needs_attributes, matching_ids}
 use Rattle.lol_vm.specs.Machines.{Item, AreItems, HasRanges, Matches, HoldOnce, LeftMatches, active_of, ranges_to_run, jumps_of, hereditary_jumps_of}
 use Rattle.lol_vm.specs.PlaceRuns.{Context, Stop, no_context, is_open_at, context_of, run, run_by_names, stop_in, places_from}
 
 -- 1. Which places are run
-
--- Two ranges that share a place are those of one instruction by one step, and the entry range shares no place with either.
-abbrev pub RangesAreApart : Type 0
-RangesAreApart =
-    (s : Selectors) (paths : List Path) (p : Program) → IsProgramOf s paths p
-    → (j k : ℕ) (x y : Instruction) (step step' : Combinator) (r r' : Range) (place : ℕ)
-    → IsAt p.instructions j x → IsAt p.instructions k y → range_by step x ≡ Some r → range_by step' y ≡ Some r' → IsWithin place r → IsWithin place r'
-    → (j ≡ k) × (step ≡ step') × (IsWithin place p.entry → ⊥)
 
 -- The ranges that are run for a start tag hold the place of each node whose left part matches exactly once, and no other place.
 abbrev pub RangesHoldLeftMatches : Type 0

@@ -1,14 +1,8 @@
 //! Laws of the machine over the definitions, each the contract of an empty function.
 
-ghost use Rattle.lol_vm.specs.MachineLaws.{ForeignTagsAsk, OffsetsGoOn, PlacesAreWithin, PlacesCountTries, RangesAreApart, RangesHoldLeftMatches, RequestsFinish, RunsDontSeeTheRest, RunsGather, RunsGiveReports, RunsStopWhereAsked, StoppedStartsAreWhole, StopsAreOffsets, StopsAreRequests};
+ghost use Rattle.lol_vm.specs.MachineLaws.{ForeignTagsAsk, OffsetsGoOn, PlacesAreWithin, PlacesCountTries, RangesHoldLeftMatches, RequestsFinish, RunsDontSeeTheRest, RunsGather, RunsGiveReports, RunsStopWhereAsked, StoppedStartsAreWhole, StopsAreOffsets, StopsAreRequests};
 ghost use Rattle.lol_vm.specs.Machines.{PushedItemsAreActive};
 ghost use Rattle.lol_vm.specs.Standing.{CountersArePlaces, DocumentsAreOrdered, EndsHandOut, EndsKeepItems, FinishingIsKept, MachinesStand, NewStands, RequestsStand, SlotsGrow, StandingIsKept, StartsAnswer};
-
-/// Two ranges of a program that share a place are those of one instruction by one step, and the
-/// entry range shares no place with them.
-pub fn ranges_are_apart()
-    ensures { RangesAreApart }
-{}
 
 /// The ranges that are run for a start tag hold the place of each node whose left part matches
 /// exactly once, and no other place.
