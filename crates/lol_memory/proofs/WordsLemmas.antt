@@ -192,6 +192,16 @@ module _ (ws : List ℕ) where
             omega (arith, there.2)
       ]
 
+  -- an id that has a word has room
+  pub room_of_word : IsTrim ws → (id : ℕ) → id / 32 < length ws → HasRoom (ids_held ws) id
+  room_of_word trim id near =
+      elim (cases_lt 1 (length ws)) [
+        | inl several ↦
+            let last = last_id trim several in
+            inr (last.0, has-ids_held ws last.0 ∙ last.2, omega (arith, last.1))
+        | inr one ↦ inl (omega arith)
+      ]
+
 -- there are words enough for ids that have room
 pub words_of_room : (ws more : List ℕ) → IsTrim ws → IsTrim more → HasRoomFor (ids_held ws) (ids_held more) → length more ≤ length ws
 words_of_room ws more trim trim' room =

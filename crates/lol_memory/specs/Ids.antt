@@ -1,5 +1,5 @@
 -- Sets of ids, as contracts see them.
-use Rattle.std.specs.Prelude.{◌≡◌, ◌<◌, ◌≤◌, ◌⊎◌, ℕ, Bool, true, List, [], ◌∷◌}
+use Rattle.std.specs.Prelude.{◌≡◌, ◌<◌, ◌≤◌, ◌/◌, ◌⊎◌, ℕ, Bool, true, List, [], ◌∷◌}
 use Rattle.std.specs.Ordering.{nat_cmp}
 use Rattle.std.specs.Str.{bytes_eq}
 use Rattle.std.specs.Coded.{Coded, coded_ℕ}
@@ -45,9 +45,9 @@ same_ids s t = bytes_eq (ascending s) (ascending t)
 abbrev pub AllSmall : Ids → Type 0
 AllSmall s = (q : ℕ) → has s q ≡ true → q < 32
 
--- the id is below 32, or not above one that the set has: it needs no more memory than the set has already
+-- the id is among the first 32, or its 32 ids aren't above those of one that the set has: the set needs no more words for it
 abbrev pub HasRoom : Ids → ℕ → Type 0
-HasRoom s q = (q < 32) ⊎ ((p : ℕ) × (has s p ≡ true) × (q ≤ p))
+HasRoom s q = (q < 32) ⊎ ((p : ℕ) × (has s p ≡ true) × (q / 32 ≤ p / 32))
 
 -- each id of t has room in s
 abbrev pub HasRoomFor : Ids → Ids → Type 0

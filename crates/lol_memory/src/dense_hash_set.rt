@@ -1,6 +1,6 @@
 //! Sets of ids.
 
-ghost use Rattle.std.specs.Prelude.{◌≡◌, ℕ, OnOk, OnErr, IfOk, IsOk};
+ghost use Rattle.std.specs.Prelude.{◌≡◌, ◌↔◌, ℕ, IsTrue, OnOk, OnErr, IfOk, IsOk};
 ghost use Rattle.std.specs.Iterator.{YieldsFirst};
 ghost use Rattle.std.specs.Iterator.Runs.{YieldsInOrder};
 ghost use Rattle.lol_memory.specs.Ids.{AllSmall, HasRoom, HasRoomFor, no_ids, with_id, union as joined, ascending};
@@ -11,7 +11,7 @@ use crate::words::Words;
 use std::alloc::{AllocError, Global};
 use std::marker::Model;
 
-/// A set of ids, one bit for each up to the greatest (the crate's `DenseHashSet`). Ids below 32 alone take no memory; in all there are
+/// A set of ids, one bit for each up to the greatest (lol_html's `DenseHashSet`). Ids below 32 alone take no memory; in all there are
 /// at most 2^27 words of 32 bits.
 #[derive(Debug, Drop)]
 pub struct DenseHashSet {
@@ -46,7 +46,15 @@ impl DenseHashSet {
         }
     }
 
-    /// Adds an id. It is refused only where memory is wanted and isn't there: never for an id below 32 or not above one that is there.
+    /// Whether the set takes the id without more memory: the id is below 32, or its word isn't after that of the greatest id that is
+    /// there. It takes no memory. (Not in lol_html.)
+    pub fn has_room(&self, id: MatchId) -> bool
+        ensures { IsTrue result ↔ HasRoom self.now id }
+    {
+        self.words.as_slice().len() > (id / 32) as usize
+    }
+
+    /// Adds an id. It is refused only where memory is wanted and isn't there: never where the set has room for the id.
     pub fn insert(&mut self, id: MatchId) -> Result<(), AllocError>
         ensures ok { OnOk result (self.new ≡ with_id self.old id) }
         ensures free { HasRoom self.old id → IsOk result }
@@ -58,8 +66,8 @@ impl DenseHashSet {
         Ok(())
     }
 
-    /// Adds the ids of `other`, 32 at a time. It is refused only where memory is wanted and isn't there: never where each of these ids
-    /// is below 32 or not above one that is there.
+    /// Adds the ids of `other`, 32 at a time. It is refused only where memory is wanted and isn't there: never where the set has room
+    /// for each of these ids.
     pub fn union(&mut self, other: &DenseHashSet) -> Result<(), AllocError>
         ensures ok { OnOk result (self.new ≡ joined self.old other.now) }
         ensures free { HasRoomFor self.old other.now → IsOk result }

@@ -27,7 +27,7 @@ pub enum PushError {
     Memory(AllocError),
 }
 
-/// A list whose slots are charged to a limiter, each for `item_bytes` bytes (the crate's `LimitedVec`). It can't be dropped: it is given
+/// A list whose slots are charged to a limiter, each for `item_bytes` bytes (lol_html's `LimitedVec`). It can't be dropped: it is given
 /// to `release`, with the limiter that its pushes were lent.
 #[derive(Debug)]
 pub struct LimitedVec<T> {
@@ -221,7 +221,7 @@ impl<T> Index<usize> for LimitedVec<T> {
 /// Gives elements of a list in order. Dropped, it leaves the others in the list.
 pub struct Drain<'a, T> {
     vec: &'a mut LimitedVec<T>,
-    // The first `keep` elements stay; what is still to come stands behind them, the last first.
+    // The first `keep` elements stay; what is still to come stands after them, the last first.
     keep: usize,
 }
 

@@ -1,5 +1,5 @@
 -- Sets of ids by their lists.
-use Rattle.std.proofs.Common.{◌≡◌, ℕ, ◌<◌, ◌≤◌, Bool, true, false, ◌||◌, List, [], ◌∷◌, ◌⊎◌, inl, inr, ⊎_elim, refl, sym, ap, ◌∙◌, arith, true≢false, subst}
+use Rattle.std.proofs.Common.{◌≡◌, ℕ, ◌/◌, ◌<◌, ◌≤◌, Bool, true, false, ◌||◌, List, [], ◌∷◌, ◌⊎◌, inl, inr, ⊎_elim, refl, sym, ap, ◌∙◌, arith, true≢false, subst}
 use Rattle.std.specs.Prelude.{Contains}
 use Rattle.std.specs.List.{list_any}
 use Rattle.std.specs.Ordering.{nat_cmp, eq_by_cmp}
@@ -83,9 +83,9 @@ above (k ∷ ks) id =
 pub room_either : (s : Ids) (id : ℕ) → HasRoom s id ⊎ HasRoomFor (with_id no_ids id) s
 room_either s id =
     ⊎_elim
-    (λ (h : (p : ℕ) × (Among (ascending s) p × (id ≤ p))). inl (inr (h.0, held s h.0 (contains_from_among (ascending s) h.0 h.1.0), h.1.1)))
+    (λ (h : (p : ℕ) × (Among (ascending s) p × (id ≤ p))). inl (inr (h.0, held s h.0 (contains_from_among (ascending s) h.0 h.1.0), omega (arith, h.1.1))))
     (λ (h : (p : ℕ) → Among (ascending s) p → p < id). inr (λ q has_q. inr (id, has-with_id no_ids id id ∙ left _ _ (itself id), less q (h q (among_from_contains (ascending s) q (listed s q has_q))))))
     (above (ascending s) id)
   where
-    less : (q : ℕ) → q < id → q ≤ id
+    less : (q : ℕ) → q < id → q / 32 ≤ id / 32
     less q h = omega arith
