@@ -23,7 +23,7 @@ module _ {T : Type 0} where
   contains_from_among (y ∷ ys) x (inl is) = (0, omega arith, is)
   contains_from_among (y ∷ ys) x (inr h) = let rest = contains_from_among ys x h in Contains-append_right (y ∷ []) ys x rest
 
-  -- each element differs from all behind it
+  -- each element differs from all after it
   abbrev pub Distinct : List T → Type 0
   Distinct [] = Unit {0}
   Distinct (x ∷ xs) = (Among xs x → ⊥) × Distinct xs

@@ -7,7 +7,7 @@ use Rattle.lol_program.specs.Compounds.{Compound}
 use Rattle.lol_program.specs.Paths.{First, extended, beginnings}
 use Rattle.lol_program.specs.Forest.{Forest, nodes_in, pairs_in}
 use Rattle.lol_program.specs.Growth.{Adds, AddsFirst}
-use Rattle.lol_program.specs.Gifts.{pairs_given}
+use Rattle.lol_program.specs.IdsForNodes.{pairs_with}
 use Rattle.lol_program.specs.Sets.{Joins, SameMembers, IsBetween}
 use Rattle.lol_program.specs.AstPaths.{AllIn}
 use Rattle.lol_program.specs.Views.{steps_of, tests_in}
@@ -15,17 +15,17 @@ use Rattle.lol_css.specs.declared.selector.ComplexSelector.{ComplexSelector}
 use Rattle.lol_program.specs.NodeMemberLaws.{HasNode, HasPair, BringsNode, BringsPair, BringsFirst}
 use Rattle.lol_program.proofs.Grown.{has_added, has_added_first}
 use Rattle.lol_program.specs.NodeListLaws.{nodes_listed, pairs_listed, brings_beginnings, first_brings, brings_given}
-use Rattle.lol_program.proofs.Standing.{Keeps, adds_keeps, first_keeps}
+use Rattle.lol_program.proofs.Standing.{Keeps, adds_keeps, first_keeps, KeepsWith}
 
 module _ (c : Compound) (rest : List (Combinator × Compound)) (old new : Forest) where
-  pub added_pairs : (id : Option ℕ) → Adds id c rest old new → Joins (pairs_in First old) (pairs_in First new) (pairs_given id (extended (First c) rest))
+  pub added_pairs : (id : Option ℕ) → Adds id c rest old new → Joins (pairs_in First old) (pairs_in First new) (pairs_with id (extended (First c) rest))
   added_pairs id h pair =
       let law = (has_added id First c rest old new h).pairs pair.0 pair.1 in
       let before = pairs_listed First old pair in
       let after = pairs_listed First new pair in
       let brings = brings_given id c rest pair in (
         λ x. ⊎_elim (λ (a : HasPair First old pair.0 pair.1). inl (before.1 a)) (λ (b : BringsPair id First c rest pair.0 pair.1). inr (brings.0 b)) (law.0 (after.0 x)),
-        λ x. after.1 (law.1 (⊎_elim (λ (a : Contains (pairs_in First old) pair). inl (before.0 a)) (λ (b : Contains (pairs_given id (extended (First c) rest)) pair). inr (brings.1 b)) x)),
+        λ x. after.1 (law.1 (⊎_elim (λ (a : Contains (pairs_in First old) pair). inl (before.0 a)) (λ (b : Contains (pairs_with id (extended (First c) rest)) pair). inr (brings.1 b)) x)),
       )
 
   pub added_nodes : (id : Option ℕ) → Adds id c rest old new → Joins (nodes_in First old) (nodes_in First new) (beginnings (extended (First c) rest))
@@ -52,9 +52,10 @@ module _ (c : Compound) (rest : List (Combinator × Compound)) (old new : Forest
         only = λ path x. ⊎_elim (λ (a : HasNode First old path). inl ((nodes_listed First old path).1 a)) (λ (b : BringsFirst k First c rest path). inr ((brings_beginnings c rest path).0 (first_brings k First c rest path b))) ((law path).0 ((nodes_listed First new path).0 x));
       }
 
-  pub keeps_either : {T E : Type 0} (r : Result T E) (id : Option ℕ) → OnOk r (Adds id c rest old new) → OnErr r ((k : ℕ) × AddsFirst k c rest old new) → Keeps old new
-  keeps_either (Ok x) id a b = adds_keeps id c rest old new a
-  keeps_either (Err x) id a b = first_keeps b.0 c rest old new b.1
+  pub keeps_either : (P : List ℕ → Type 0) → ((xs ys : List ℕ) → ((x : ℕ) → Contains xs x → Contains ys x) → P xs → P ys)
+      → {T E : Type 0} (r : Result T E) (id : Option ℕ) → OnOk r (Adds id c rest old new) → OnErr r ((k : ℕ) × AddsFirst k c rest old new) → KeepsWith P old new
+  keeps_either P more_ids (Ok x) id a b = adds_keeps P more_ids id c rest old new a
+  keeps_either P more_ids (Err x) id a b = first_keeps P more_ids b.0 c rest old new b.1
 
 pub keeps_all : (old new : Forest) → Keeps old new → (items : List ComplexSelector) → AllIn old items → AllIn new items
 keeps_all old new k [] h = tt

@@ -180,10 +180,10 @@ dash_holds case value operand part longer is =
     let short : length (seen operand) ≡ length operand = length-compared (ignores case) operand in
     let n = length operand in
     let cut : take (n + 1) (seen value) ≡ take n (seen value) ++ get_or (seen value) n 0 ∷ [] = take_more (seen value) n 0 (omega arith) in
-    let behind : length (seen operand ++ 45 ∷ []) ≡ n + 1 = length_push (seen operand) 45 ∙ ap (λ (k : ℕ). k + 1) short in
+    let one_longer : length (seen operand ++ 45 ∷ []) ≡ n + 1 = length_push (seen operand) 45 ∙ ap (λ (k : ℕ). k + 1) short in
     let same_length : length (seen operand) ≡ length (take n (seen value)) = short ∙ sym (length-take-le n (seen value) (omega arith)) in
     let starts : starts_with nat_eq (seen value) (seen operand ++ 45 ∷ []) ≡ (bytes_eq (seen operand) (take n (seen value)) && eqb 45 (get_or (seen value) n 0)) =
-    ap (λ (k : ℕ). bytes_eq (seen operand ++ 45 ∷ []) (take k (seen value))) behind ∙ ap (bytes_eq (seen operand ++ 45 ∷ [])) cut ∙ pointwise-push (seen operand) (take n (seen value)) 45 (get_or (seen value) n 0) same_length in
+    ap (λ (k : ℕ). bytes_eq (seen operand ++ 45 ∷ []) (take k (seen value))) one_longer ∙ ap (bytes_eq (seen operand ++ 45 ∷ [])) cut ∙ pointwise-push (seen operand) (take n (seen value)) 45 (get_or (seen value) n 0) same_length in
     sym (ap (λ (t : Bool). t || starts_with nat_eq (seen value) (seen operand ++ 45 ∷ [])) (unlike_lengths (seen value) (seen operand) (λ same. absurd (omega arith)))
     ∙ starts
     ∙ ap (λ (t : Bool). bytes_eq (seen operand) (take n (seen value)) && t) (hyphen_stays (ignores case) value n longer)

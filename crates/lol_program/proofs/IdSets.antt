@@ -1,5 +1,5 @@
 -- Sets of ids by their lists.
-use Rattle.std.proofs.Common.{◌≡◌, ℕ, ◌/◌, ◌<◌, ◌≤◌, Bool, true, false, ◌||◌, List, [], ◌∷◌, ◌⊎◌, inl, inr, ⊎_elim, refl, sym, ap, ◌∙◌, arith, true≢false, subst}
+use Rattle.std.proofs.Common.{◌≡◌, ◌↔◌, ℕ, ◌/◌, ◌<◌, ◌≤◌, Bool, true, false, ◌||◌, List, [], ◌∷◌, ◌⊎◌, inl, inr, ⊎_elim, refl, sym, ap, ◌∙◌, arith, true≢false, subst}
 use Rattle.std.specs.Prelude.{Contains}
 use Rattle.std.specs.List.{list_any}
 use Rattle.std.specs.Ordering.{nat_cmp, eq_by_cmp}
@@ -11,6 +11,7 @@ use Rattle.lol_memory.specs.Ids.{Ids, has, no_ids, with_id, union, ascending, Ha
 use Rattle.lol_memory.specs.SetLaws.{same_set, has-no_ids, has-with_id, has-union, has-keys}
 use Rattle.lol_program.specs.Growth.{IsWith}
 use Rattle.lol_base.specs.MemberLaws.{Among, contains_from_among, among_from_contains}
+use Rattle.lol_program.specs.IdsForNodes.{HasRoomAmong}
 
 is_same : (q k : ℕ) → eq_by_cmp nat_cmp q k ≡ true → q ≡ k
 is_same q k h = (unsigned_Decides q k).0 (sym (unsigned_tied q k) ∙ h)
@@ -67,25 +68,22 @@ pub union-alone : (s : Ids) (id : ℕ) → union (with_id no_ids id) s ≡ with_
 union-alone s id =
     same_set _ _ (λ q. has-union (with_id no_ids id) s q ∙ ap (λ (b : Bool). b || has s q) (has-with_id no_ids id q ∙ ap (λ (b : Bool). eq_by_cmp nat_cmp q id || b) (has-no_ids q) ∙ or_swap _ false) ∙ sym (has-with_id s id q))
 
--- some id of a list is at least this one, or all are below it
-above : (ks : List ℕ) (id : ℕ) → ((p : ℕ) × (Among ks p × (id ≤ p))) ⊎ ((p : ℕ) → Among ks p → p < id)
-above [] id = inr (λ p h. absurd h)
-above (k ∷ ks) id =
-    ⊎_elim
-    (λ (less : k < id). ⊎_elim
-    (λ (h : (p : ℕ) × (Among ks p × (id ≤ p))). inl (h.0, (inr h.1.0, h.1.1)))
-    (λ (h : (p : ℕ) → Among ks p → p < id). inr (λ p a. ⊎_elim (λ (e : k ≡ p). subst (λ (x : ℕ). x < id) e less) (λ (t : Among ks p). h p t) a))
-    (above ks id))
-    (λ (more : id ≤ k). inl (k, (inl refl, more)))
-    (cases_lt k id)
-
--- The id has room in the set, or the set's ids have room beside the id.
-pub room_either : (s : Ids) (id : ℕ) → HasRoom s id ⊎ HasRoomFor (with_id no_ids id) s
-room_either s id =
-    ⊎_elim
-    (λ (h : (p : ℕ) × (Among (ascending s) p × (id ≤ p))). inl (inr (h.0, held s h.0 (contains_from_among (ascending s) h.0 h.1.0), omega (arith, h.1.1))))
-    (λ (h : (p : ℕ) → Among (ascending s) p → p < id). inr (λ q has_q. inr (id, has-with_id no_ids id id ∙ left _ _ (itself id), less q (h q (among_from_contains (ascending s) q (listed s q has_q))))))
-    (above (ascending s) id)
+-- The set has room for an id exactly if its list has.
+pub room_listed : (s : Ids) (id : ℕ) → HasRoom s id ↔ HasRoomAmong id (ascending s)
+room_listed s id = (to, from)
   where
-    less : (q : ℕ) → q < id → q / 32 ≤ id / 32
-    less q h = omega arith
+    to : HasRoom s id → HasRoomAmong id (ascending s)
+    to (inl small) = inl small
+    to (inr h) = inr (h.0, listed s h.0 h.1, h.2)
+
+    from : HasRoomAmong id (ascending s) → HasRoom s id
+    from (inl small) = inl small
+    from (inr h) = inr (h.0, held s h.0 h.1, h.2)
+
+-- Where a set has no room for an id, the set of the id alone has room for all of its ids.
+pub room_beside : (s : Ids) (id : ℕ) → (HasRoom s id → ⊥) → HasRoomFor (with_id no_ids id) s
+room_beside s id no_room q has_q =
+    ⊎_elim
+    (λ (less : q / 32 < id / 32). inr (id, has-with_id no_ids id id ∙ left _ _ (itself id), omega arith))
+    (λ (more : id / 32 ≤ q / 32). absurd (no_room (inr (q, has_q, more))))
+    (cases_lt (q / 32) (id / 32))

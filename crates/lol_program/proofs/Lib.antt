@@ -7,7 +7,7 @@ pub mod Standing
 pub mod Joining
 pub mod Adding
 pub mod Items
-pub mod Spares
+pub mod Reserved
 pub mod PathLists
 pub mod Selectors
 pub mod Running

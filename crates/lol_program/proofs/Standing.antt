@@ -1,14 +1,15 @@
 -- A path that stands.
-use Rattle.std.proofs.Common.{ℕ, zero, suc, ◌≡◌, inl, inr, arith, ◌∷◌, map, get_or, List, [], Option, None, Some, refl, ap, sym, subst, ◌∙◌}
+use Rattle.std.proofs.Common.{ℕ, zero, suc, ◌≡◌, ◌↔◌, length, inl, inr, arith, ◌∷◌, map, get_or, List, [], Option, None, Some, refl, ap, sym, subst, ◌∙◌}
+use Rattle.std.specs.Prelude.{Contains}
 use Rattle.std.proofs.lemmas.List.{get_or-map}
 use Rattle.lol_memory.specs.Ids.{Ids, ascending}
 use Rattle.lol_css.specs.declared.selector.Combinator.{Combinator}
 use Rattle.lol_css.specs.declared.selector.Combinator.TheVariants.{Child, Descendant}
 use Rattle.lol_program.specs.Compounds.{Compound}
 use Rattle.lol_program.specs.Forest.{Node, Forest, none, more}
-use Rattle.lol_program.specs.Growth.{fresh, AtRoot, Takes, Under, under, Adds, AddsFirst, AtTop, Stands, IsWith}
+use Rattle.lol_program.specs.Growth.{fresh, AtRoot, Takes, Under, under, Adds, AddsFirst, AtTop, StandsWith, Stands, IsWith}
 use Rattle.lol_program.specs.Places.{IsPlace, HasPlace, IsNowhere}
-use Rattle.lol_program.specs.Gifts.{Gives}
+use Rattle.lol_program.specs.IdsForNodes.{SetTakes, HasRoomAmong}
 use Rattle.lol_program.specs.Views.{node_of, forest_of, linked, steps_of, tests_in}
 use Rattle.lol_css.specs.declared.selector.Compound as css
 use Rattle.lol_program.specs.declared.ast_node.AstNode.{AstNode}
@@ -18,10 +19,10 @@ use Rattle.lol_program.proofs.IdSets.{with_id-IsWith}
 use Rattle.lol_program.proofs.Placed.{place_within}
 
 -- a node's set that takes an id, or none
-pub gives-Takes : (id : Option ℕ) (c : Compound) (old new : Ids) (children descendants : Forest) → Gives id old new
+pub SetTakes-Takes : (id : Option ℕ) (c : Compound) (old new : Ids) (children descendants : Forest) → SetTakes id old new
     → Takes id (record { compound = c; ids = ascending old; children = children; descendants = descendants }) (record { compound = c; ids = ascending new; children = children; descendants = descendants })
-gives-Takes None c old new children descendants g = λ i. record { compound = c; ids = ascending (g i); children = children; descendants = descendants }
-gives-Takes (Some id) c old new children descendants g = (ascending new, subst (λ (s : Ids). IsWith id (ascending old) (ascending s)) (sym g) (with_id-IsWith old id), refl)
+SetTakes-Takes None c old new children descendants g = λ i. record { compound = c; ids = ascending (g i); children = children; descendants = descendants }
+SetTakes-Takes (Some id) c old new children descendants g = (ascending new, subst (λ (s : Ids). IsWith id (ascending old) (ascending s)) (sym g) (with_id-IsWith old id), refl)
 
 module _ (c : Compound) (P : Node → Type 0) where
   at_top_nowhere : (nodes : List Node) → IsNowhere c nodes → AtTop c P (linked nodes) → ⊥
@@ -45,74 +46,135 @@ module _ (c : Compound) (P : Node → Type 0) where
       subst P same found
   stands_at old mid i n (inr h) at t = absurd (at_top_nowhere (map node_of old) h.2 t)
 
-pub stands_nowhere : (c : Compound) (rest : List (Combinator × Compound)) (nodes : List Node) → IsNowhere c nodes → Stands c rest (linked nodes) → ⊥
-stands_nowhere c [] nodes nowhere s = at_top_nowhere c (λ n. Unit {0}) nodes nowhere s
-stands_nowhere c (step ∷ rest) nodes nowhere s = at_top_nowhere c (λ n. Stands step.1 rest (under step.0 n)) nodes nowhere s
+  place_at_top : (nodes : List Node) (i : ℕ) (d : Node) → IsPlace c nodes i → P (get_or nodes i d) → AtTop c P (linked nodes)
+  place_at_top [] i d p h = absurd (omega (arith, p.within))
+  place_at_top (n ∷ nodes) zero d p h = inl (p.here d, h)
+  place_at_top (n ∷ nodes) (suc i) d p h =
+      inr (p.before 0 d (omega arith), place_at_top nodes i d (record { within = omega (arith, p.within); here = λ e. p.here e; before = λ k e l. p.before (suc k) e (omega (arith, l)) }) h)
 
-pub stands_some : (c : Compound) (all rest : List (Combinator × css.Compound)) (s : Combinator × css.Compound) (step : Combinator) (f : Forest) → all ≡ s ∷ rest → s.0 ≡ step
-    → Stands c (steps_of all) f → AtTop c (λ n. Stands (tests_in s.1) (steps_of rest) (under step n)) f
-stands_some c all rest s step f e g h =
-    subst (λ (t : Combinator). AtTop c (λ n. Stands (tests_in s.1) (steps_of rest) (under t n)) f) g (subst (λ (ss : List (Combinator × css.Compound)). Stands c (steps_of ss) f) e h)
+  -- what holds at the first root with the compound is what holds at the node that was found
+  pub top_is_at : (nodes : List AstNode) (i : ℕ) (n : AstNode) → IsPlace c (map node_of nodes) i → n ≡ get_or nodes i n → AtTop c P (forest_of nodes) ↔ P (shape (out-AstNode n))
+  top_is_at nodes i n p at =
+      let same : get_or (map node_of nodes) i (node_of n) ≡ shape (out-AstNode n) =
+      get_or-map node_of nodes i n (node_of n) (place_within c nodes nodes i (inl (refl, p))) ∙ (ap node_of (sym at) ∙ node_out n) in
+      (λ t. subst P same (at_top_place (map node_of nodes) i (node_of n) p t), λ h. place_at_top (map node_of nodes) i (node_of n) p (subst P (sym same) h))
 
--- What stands stays while a forest grows.
+module _ (P : List ℕ → Type 0) where
+  pub stands_nowhere : (c : Compound) (rest : List (Combinator × Compound)) (nodes : List Node) → IsNowhere c nodes → StandsWith P c rest (linked nodes) → ⊥
+  stands_nowhere c [] nodes nowhere s = at_top_nowhere c (λ n. P n.ids) nodes nowhere s
+  stands_nowhere c (step ∷ rest) nodes nowhere s = at_top_nowhere c (λ n. StandsWith P step.1 rest (under step.0 n)) nodes nowhere s
+
+  -- a path of one compound
+  pub stands_none : (c : Compound) (rest : List (Combinator × css.Compound)) (f : Forest) → length rest ≡ 0 → StandsWith P c (steps_of rest) f ≡ AtTop c (λ n. P n.ids) f
+  stands_none c [] f e = refl
+  stands_none c (s ∷ rest) f e = absurd (omega (arith, e))
+
+  -- a path of several
+  pub stands_some : (c : Compound) (all rest : List (Combinator × css.Compound)) (s : Combinator × css.Compound) (step : Combinator) (f : Forest) → all ≡ s ∷ rest → s.0 ≡ step
+      → StandsWith P c (steps_of all) f ≡ AtTop c (λ n. StandsWith P (tests_in s.1) (steps_of rest) (under step n)) f
+  stands_some c all rest s step f e g =
+      ap (λ (ss : List (Combinator × css.Compound)). StandsWith P c (steps_of ss) f) e ∙ ap (λ (t : Combinator). AtTop c (λ n. StandsWith P (tests_in s.1) (steps_of rest) (under t n)) f) g
+
+  -- what stands of a path of one compound, or of several, at the node that was found
+  pub stands_here : (c : Compound) (rest : List (Combinator × css.Compound)) (nodes : List AstNode) (i : ℕ) (n : AstNode) → length rest ≡ 0 → IsPlace c (map node_of nodes) i → n ≡ get_or nodes i n
+      → StandsWith P c (steps_of rest) (forest_of nodes) ↔ P (ascending (out-AstNode n).match_ids)
+  stands_here c rest nodes i n e p at =
+      let same = stands_none c rest (forest_of nodes) e in
+      let law = top_is_at c (λ m. P m.ids) nodes i n p at in
+      (λ s. law.0 (subst (λ (X : Type 0). X) same s), λ h. subst (λ (X : Type 0). X) (sym same) (law.1 h))
+
+  pub stands_further : (c : Compound) (all rest : List (Combinator × css.Compound)) (s : Combinator × css.Compound) (step : Combinator) (nodes : List AstNode) (i : ℕ) (n : AstNode)
+      → all ≡ s ∷ rest → s.0 ≡ step → IsPlace c (map node_of nodes) i → n ≡ get_or nodes i n
+      → StandsWith P c (steps_of all) (forest_of nodes) ↔ StandsWith P (tests_in s.1) (steps_of rest) (under step (shape (out-AstNode n)))
+  stands_further c all rest s step nodes i n e g p at =
+      let same = stands_some c all rest s step (forest_of nodes) e g in
+      let law = top_is_at c (λ m. StandsWith P (tests_in s.1) (steps_of rest) (under step m)) nodes i n p at in
+      (λ t. law.0 (subst (λ (X : Type 0). X) same t), λ h. subst (λ (X : Type 0). X) (sym same) (law.1 h))
+
+-- A path that stands so, stands in a weaker way too.
+at_top_weaker : (c : Compound) (P Q : Node → Type 0) → ((n : Node) → P n → Q n) → (f : Forest) → AtTop c P f → AtTop c Q f
+at_top_weaker c P Q law none t = t
+at_top_weaker c P Q law (more d ids children descendants rest) (inl t) = inl (t.0, law _ t.1)
+at_top_weaker c P Q law (more d ids children descendants rest) (inr t) = inr (t.0, at_top_weaker c P Q law rest t.1)
+
+pub stands_weaker : (P Q : List ℕ → Type 0) → ((ids : List ℕ) → P ids → Q ids) → (c : Compound) (rest : List (Combinator × Compound)) (f : Forest) → StandsWith P c rest f → StandsWith Q c rest f
+stands_weaker P Q law c [] f s = at_top_weaker c (λ n. P n.ids) (λ n. Q n.ids) (λ n. law n.ids) f s
+stands_weaker P Q law c (step ∷ rest) f s =
+    at_top_weaker c (λ n. StandsWith P step.1 rest (under step.0 n)) (λ n. StandsWith Q step.1 rest (under step.0 n)) (λ n. stands_weaker P Q law step.1 rest (under step.0 n)) f s
+
+-- What stands stays while a forest grows, and so does what more ids leave true.
+abbrev pub KeepsWith : (List ℕ → Type 0) → Forest → Forest → Type 0
+KeepsWith P old new = (c : Compound) (rest : List (Combinator × Compound)) → StandsWith P c rest old → StandsWith P c rest new
+
+module _ (P : List ℕ → Type 0) (more_ids : (xs ys : List ℕ) → ((x : ℕ) → Contains xs x → Contains ys x) → P xs → P ys) where
+  abbrev KeepsIn : Node → Node → Type 0
+  KeepsIn n m = (m.compound ≡ n.compound) × ((P n.ids → P m.ids) × (KeepsWith P n.children m.children × KeepsWith P n.descendants m.descendants))
+
+  -- what a node has, and has under it
+  abbrev InNode : List (Combinator × Compound) → Node → Type 0
+  InNode [] n = P n.ids
+  InNode (step ∷ rest) n = StandsWith P step.1 rest (under step.0 n)
+
+  stands_in : (c : Compound) (rest : List (Combinator × Compound)) (f : Forest) → StandsWith P c rest f ≡ AtTop c (InNode rest) f
+  stands_in c [] f = refl
+  stands_in c (step ∷ rest) f = refl
+
+  kept_in : (rest : List (Combinator × Compound)) (n m : Node) → KeepsIn n m → InNode rest n → InNode rest m
+  kept_in [] n m k h = k.1.0 h
+  kept_in (step ∷ rest) n m k h = by_step step.0 h
+    where
+      by_step : (s : Combinator) → StandsWith P step.1 rest (under s n) → StandsWith P step.1 rest (under s m)
+      by_step Child t = k.1.1.0 step.1 rest t
+      by_step Descendant t = k.1.1.1 step.1 rest t
+
+  module _ (c : Compound) (R : Node → Node → Type 0) (law : (n m : Node) → R n m → KeepsIn n m) where
+    tops_kept : (d : Compound) (rest : List (Combinator × Compound)) (old new : Forest) → AtRoot c R old new → AtTop d (InNode rest) old → AtTop d (InNode rest) new
+    tops_kept d rest none new h t = absurd t
+    tops_kept d rest (more e ids children descendants others) new (inl h) (inl t) =
+        let k = law _ h.1 h.2 in
+        subst (AtTop d (InNode rest)) (sym h.3) (inl (k.0 ∙ t.0, kept_in rest _ h.1 k t.1))
+    tops_kept d rest (more e ids children descendants others) new (inl h) (inr t) =
+        let k = law _ h.1 h.2 in
+        subst (AtTop d (InNode rest)) (sym h.3) (inr (λ is. t.0 (sym k.0 ∙ is), t.1))
+    tops_kept d rest (more e ids children descendants others) new (inr h) (inl t) = subst (AtTop d (InNode rest)) (sym h.3) (inl t)
+    tops_kept d rest (more e ids children descendants others) new (inr h) (inr t) =
+        subst (AtTop d (InNode rest)) (sym h.3) (inr (t.0, tops_kept d rest others h.1 h.2 t.1))
+
+    root_keeps : (old new : Forest) → AtRoot c R old new → KeepsWith P old new
+    root_keeps old new h d rest s = subst (λ (X : Type 0). X) (sym (stands_in d rest new)) (tops_kept d rest old new h (subst (λ (X : Type 0). X) (stands_in d rest old) s))
+
+  no_change : (f : Forest) → KeepsWith P f f
+  no_change f c rest s = s
+
+  takes_keeps : (id : Option ℕ) (n m : Node) → Takes id n m → KeepsIn n m
+  takes_keeps None n m t = subst (KeepsIn n) (sym t) (refl, (λ p. p, (no_change n.children, no_change n.descendants)))
+  takes_keeps (Some id) n m t =
+      subst (KeepsIn n) (sym t.2) (refl, (more_ids n.ids t.0 (λ x held. (t.1 x).1 (inl held)), (no_change n.children, no_change n.descendants)))
+
+  under_keeps : (step : Combinator) (R : Forest → Forest → Type 0) → ((old new : Forest) → R old new → KeepsWith P old new) → (n m : Node) → Under step R n m → KeepsIn n m
+  under_keeps Child R law n m u = subst (KeepsIn n) (sym u.2) (refl, (λ p. p, (law n.children u.0 u.1, no_change n.descendants)))
+  under_keeps Descendant R law n m u = subst (KeepsIn n) (sym u.2) (refl, (λ p. p, (no_change n.children, law n.descendants u.0 u.1)))
+
+  pub adds_keeps : (id : Option ℕ) (c : Compound) (rest : List (Combinator × Compound)) (old new : Forest) → Adds id c rest old new → KeepsWith P old new
+  adds_keeps id c [] old new h = root_keeps c (Takes id) (takes_keeps id) old new h
+  adds_keeps id c (step ∷ rest) old new h = root_keeps c (Under step.0 (Adds id step.1 rest)) (under_keeps step.0 (Adds id step.1 rest) (λ o w k. adds_keeps id step.1 rest o w k)) old new h
+
+  pub first_keeps : (k : ℕ) (c : Compound) (rest : List (Combinator × Compound)) (old new : Forest) → AddsFirst k c rest old new → KeepsWith P old new
+  first_keeps zero c rest old new h = subst (KeepsWith P old) (sym h) (no_change old)
+  first_keeps (suc k) c [] old new h = root_keeps c (Takes None) (takes_keeps None) old new h
+  first_keeps (suc k) c (step ∷ rest) old new h = root_keeps c (Under step.0 (AddsFirst k step.1 rest)) (under_keeps step.0 (AddsFirst k step.1 rest) (λ o w t. first_keeps k step.1 rest o w t)) old new h
+
+-- paths stay
 abbrev pub Keeps : Forest → Forest → Type 0
-Keeps old new = (c : Compound) (rest : List (Combinator × Compound)) → Stands c rest old → Stands c rest new
+Keeps old new = KeepsWith (λ ids. Unit {0}) old new
 
-abbrev KeepsIn : Node → Node → Type 0
-KeepsIn n m = (m.compound ≡ n.compound) × (Keeps n.children m.children × Keeps n.descendants m.descendants)
+pub anyhow : (xs ys : List ℕ) → ((x : ℕ) → Contains xs x → Contains ys x) → Unit {0} → Unit {0}
+anyhow xs ys f h = tt
 
--- what a node has under it
-abbrev InNode : List (Combinator × Compound) → Node → Type 0
-InNode [] n = Unit {0}
-InNode (step ∷ rest) n = Stands step.1 rest (under step.0 n)
-
-stands_in : (c : Compound) (rest : List (Combinator × Compound)) (f : Forest) → Stands c rest f ≡ AtTop c (InNode rest) f
-stands_in c [] f = refl
-stands_in c (step ∷ rest) f = refl
-
-kept_in : (rest : List (Combinator × Compound)) (n m : Node) → KeepsIn n m → InNode rest n → InNode rest m
-kept_in [] n m k h = tt
-kept_in (step ∷ rest) n m k h = by_step step.0 h
-  where
-    by_step : (s : Combinator) → Stands step.1 rest (under s n) → Stands step.1 rest (under s m)
-    by_step Child t = k.1.0 step.1 rest t
-    by_step Descendant t = k.1.1 step.1 rest t
-
-module _ (c : Compound) (R : Node → Node → Type 0) (law : (n m : Node) → R n m → KeepsIn n m) where
-  tops_kept : (d : Compound) (rest : List (Combinator × Compound)) (old new : Forest) → AtRoot c R old new → AtTop d (InNode rest) old → AtTop d (InNode rest) new
-  tops_kept d rest none new h t = absurd t
-  tops_kept d rest (more e ids children descendants others) new (inl h) (inl t) =
-      let k = law _ h.1 h.2 in
-      subst (AtTop d (InNode rest)) (sym h.3) (inl (k.0 ∙ t.0, kept_in rest _ h.1 k t.1))
-  tops_kept d rest (more e ids children descendants others) new (inl h) (inr t) =
-      let k = law _ h.1 h.2 in
-      subst (AtTop d (InNode rest)) (sym h.3) (inr (λ is. t.0 (sym k.0 ∙ is), t.1))
-  tops_kept d rest (more e ids children descendants others) new (inr h) (inl t) = subst (AtTop d (InNode rest)) (sym h.3) (inl t)
-  tops_kept d rest (more e ids children descendants others) new (inr h) (inr t) =
-      subst (AtTop d (InNode rest)) (sym h.3) (inr (t.0, tops_kept d rest others h.1 h.2 t.1))
-
-  root_keeps : (old new : Forest) → AtRoot c R old new → Keeps old new
-  root_keeps old new h d rest s = subst (λ (X : Type 0). X) (sym (stands_in d rest new)) (tops_kept d rest old new h (subst (λ (X : Type 0). X) (stands_in d rest old) s))
-
-no_change : (f : Forest) → Keeps f f
-no_change f c rest s = s
-
-takes_keeps : (id : Option ℕ) (n m : Node) → Takes id n m → KeepsIn n m
-takes_keeps None n m t = subst (KeepsIn n) (sym t) (refl, (no_change n.children, no_change n.descendants))
-takes_keeps (Some id) n m t = subst (KeepsIn n) (sym t.2) (refl, (no_change n.children, no_change n.descendants))
-
-under_keeps : (step : Combinator) (R : Forest → Forest → Type 0) → ((old new : Forest) → R old new → Keeps old new) → (n m : Node) → Under step R n m → KeepsIn n m
-under_keeps Child R law n m u = subst (KeepsIn n) (sym u.2) (refl, (law n.children u.0 u.1, no_change n.descendants))
-under_keeps Descendant R law n m u = subst (KeepsIn n) (sym u.2) (refl, (no_change n.children, law n.descendants u.0 u.1))
-
-pub adds_keeps : (id : Option ℕ) (c : Compound) (rest : List (Combinator × Compound)) (old new : Forest) → Adds id c rest old new → Keeps old new
-adds_keeps id c [] old new h = root_keeps c (Takes id) (takes_keeps id) old new h
-adds_keeps id c (step ∷ rest) old new h = root_keeps c (Under step.0 (Adds id step.1 rest)) (under_keeps step.0 (Adds id step.1 rest) (λ o w k. adds_keeps id step.1 rest o w k)) old new h
-
-pub first_keeps : (k : ℕ) (c : Compound) (rest : List (Combinator × Compound)) (old new : Forest) → AddsFirst k c rest old new → Keeps old new
-first_keeps zero c rest old new h = subst (Keeps old) (sym h) (no_change old)
-first_keeps (suc k) c [] old new h = root_keeps c (Takes None) (takes_keeps None) old new h
-first_keeps (suc k) c (step ∷ rest) old new h = root_keeps c (Under step.0 (AddsFirst k step.1 rest)) (under_keeps step.0 (AddsFirst k step.1 rest) (λ o w t. first_keeps k step.1 rest o w t)) old new h
+-- room stays
+pub more_room : (id : ℕ) (xs ys : List ℕ) → ((x : ℕ) → Contains xs x → Contains ys x) → HasRoomAmong id xs → HasRoomAmong id ys
+more_room id xs ys f (inl small) = inl small
+more_room id xs ys f (inr h) = inr (h.0, f h.0 h.1, h.2)
 
 -- A path that was added stands.
 module _ (c : Compound) (R : Node → Node → Type 0) (same : (n m : Node) → R n m → m.compound ≡ n.compound) (P : Node → Type 0) (law : (n m : Node) → R n m → P m) where
@@ -120,6 +182,10 @@ module _ (c : Compound) (R : Node → Node → Type 0) (same : (n m : Node) → 
   root_stands none new h = subst (AtTop c P) (sym h.2) (inl (same (fresh c) h.0 h.1, law (fresh c) h.0 h.1))
   root_stands (more d ids children descendants rest) new (inl h) = subst (AtTop c P) (sym h.3) (inl (same _ h.1 h.2 ∙ h.0, law _ h.1 h.2))
   root_stands (more d ids children descendants rest) new (inr h) = subst (AtTop c P) (sym h.3) (inr (h.0, root_stands rest h.1 h.2))
+
+takes_same : (id : Option ℕ) (n m : Node) → Takes id n m → m.compound ≡ n.compound
+takes_same None n m t = ap (λ k. k.compound) t
+takes_same (Some id) n m t = ap (λ k. k.compound) t.2
 
 under_same : (step : Combinator) (R : Forest → Forest → Type 0) (n m : Node) → Under step R n m → m.compound ≡ n.compound
 under_same Child R n m u = ap (λ k. k.compound) u.2
@@ -130,7 +196,7 @@ under_stands Child R Q law n m u = subst (λ (k : Node). Q k.children) (sym u.2)
 under_stands Descendant R Q law n m u = subst (λ (k : Node). Q k.descendants) (sym u.2) (law n.descendants u.0 u.1)
 
 pub adds_stands : (id : Option ℕ) (c : Compound) (rest : List (Combinator × Compound)) (old new : Forest) → Adds id c rest old new → Stands c rest new
-adds_stands id c [] old new h = root_stands c (Takes id) (λ n m t. (takes_keeps id n m t).0) (λ n. Unit {0}) (λ n m t. tt) old new h
+adds_stands id c [] old new h = root_stands c (Takes id) (takes_same id) (λ n. Unit {0}) (λ n m t. tt) old new h
 adds_stands id c (step ∷ rest) old new h =
     root_stands c (Under step.0 (Adds id step.1 rest)) (under_same step.0 (Adds id step.1 rest)) (λ n. Stands step.1 rest (under step.0 n))
     (under_stands step.0 (Adds id step.1 rest) (Stands step.1 rest) (λ o w k. adds_stands id step.1 rest o w k)) old new h

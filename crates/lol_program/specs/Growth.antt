@@ -45,12 +45,17 @@ AddsFirst zero c rest old new = new ≡ old
 AddsFirst (suc k) c [] old new = AtRoot c (Takes None) old new
 AddsFirst (suc k) c (step ∷ rest) old new = AtRoot c (Under step.0 (AddsFirst k step.1 rest)) old new
 
--- the path from a compound on stands
+-- there is a root with this compound, and P holds of the first
 abbrev pub AtTop : Compound → (Node → Type 0) → Forest → Type 0
 AtTop c P none = ⊥
 AtTop c P (more d ids children descendants rest) =
     ((d ≡ c) × P (record { compound = d; ids = ids; children = children; descendants = descendants })) ⊎ ((d ≢ c) × AtTop c P rest)
 
+-- the path from a compound on stands, and P holds of the ids of its last node
+abbrev pub StandsWith : (List ℕ → Type 0) → Compound → List (Combinator × Compound) → Forest → Type 0
+StandsWith P c [] f = AtTop c (λ n. P n.ids) f
+StandsWith P c (step ∷ rest) f = AtTop c (λ n. StandsWith P step.1 rest (under step.0 n)) f
+
+-- the path from a compound on stands
 abbrev pub Stands : Compound → List (Combinator × Compound) → Forest → Type 0
-Stands c [] f = AtTop c (λ n. Unit {0}) f
-Stands c (step ∷ rest) f = AtTop c (λ n. Stands step.1 rest (under step.0 n)) f
+Stands c rest f = StandsWith (λ ids. Unit {0}) c rest f

@@ -11,7 +11,7 @@ pub mod Forest
 pub mod Growth
 pub mod Places
 pub mod Views
-pub mod Gifts
+pub mod IdsForNodes
 pub mod AstPaths
 pub mod Sets
 pub mod Asts

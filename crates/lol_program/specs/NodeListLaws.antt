@@ -9,6 +9,7 @@ use Rattle.lol_program.specs.Forest.{Forest, none, more, size, tops, below, node
 use Rattle.lol_program.specs.Gifts.{pairs_given}
 use Rattle.lol_program.specs.NodeMemberLaws.{HasNode, HasPair, BringsNode, BringsPair, BringsFirst}
 use Rattle.lol_base.specs.MemberLaws.{Among, among_from_contains, contains_from_among, among_front, among_back, among_either}
+use Rattle.lol_program.specs.IdsForNodes.{pairs_with}
 
 -- 1. Nodes
 
@@ -137,7 +138,7 @@ brings_pair : (id : Option ℕ) (make : Compound → Path) (c : Compound) (rest 
 brings_pair id make c [] path x = refl
 brings_pair id make c (step ∷ rest) path x = brings_pair id (Then (make c) step.0) step.1 rest path x
 
-given_pair : (id : Option ℕ) (path : Path) (pair : Path × ℕ) → ((path ≡ pair.0) × (id ≡ Some pair.1)) ↔ Among (pairs_given id path) pair
+given_pair : (id : Option ℕ) (path : Path) (pair : Path × ℕ) → ((path ≡ pair.0) × (id ≡ Some pair.1)) ↔ Among (pairs_with id path) pair
 given_pair None path pair = (λ h. absurd (never h.1), λ h. absurd h)
   where
     never : None ≡ Some pair.1 → ⊥
@@ -151,12 +152,12 @@ given_pair (Some id) path pair = (λ h. inl (λ i. (h.0 i, same h.1 i)), from)
     from (inl is) = (ap (λ (p : Path × ℕ). p.0) is, ap (λ (p : Path × ℕ). Some p.1) is)
     from (inr never) = absurd never
 
-pub brings_given : (id : Option ℕ) (c : Compound) (rest : List (Combinator × Compound)) (pair : Path × ℕ) → BringsPair id First c rest pair.0 pair.1 ↔ Contains (pairs_given id (extended (First c) rest)) pair
+pub brings_given : (id : Option ℕ) (c : Compound) (rest : List (Combinator × Compound)) (pair : Path × ℕ) → BringsPair id First c rest pair.0 pair.1 ↔ Contains (pairs_with id (extended (First c) rest)) pair
 brings_given id c rest pair =
     let path = extended (First c) rest in
     let both = given_pair id path pair in
-    subst (λ (T : Type 0). T ↔ Contains (pairs_given id path) pair) (sym (brings_pair id First c rest pair.0 pair.1))
-    (λ h. contains_from_among (pairs_given id path) pair (both.0 h), λ h. both.1 (among_from_contains (pairs_given id path) pair h))
+    subst (λ (T : Type 0). T ↔ Contains (pairs_with id path) pair) (sym (brings_pair id First c rest pair.0 pair.1))
+    (λ h. contains_from_among (pairs_with id path) pair (both.0 h), λ h. both.1 (among_from_contains (pairs_with id path) pair h))
 
 -- 4. How many nodes
 

@@ -5,14 +5,13 @@ ghost use Rattle.lol_program.specs.Forest.{size, SiblingsDiffer, SiblingsDiffer-
 ghost use Rattle.lol_program.specs.Views.{forest_of};
 
 use crate::ast_node::{self, AstNode};
-use crate::gift::Gift;
-use crate::spare_id::SpareId;
-use crate::spare_ids::spare_ids;
+use crate::id_for_node::IdForNode;
+use crate::reserved_id::ReservedId;
 use lol_css::{ComplexSelector, Selector, SelectorList};
 use lol_memory::MatchId;
 use std::alloc::{AllocError, Global};
 
-/// The selectors that are looked for, as a tree in which equal beginnings are shared (the crate's `Ast`). Seen from outside it is a set
+/// The selectors that are looked for, as a tree in which equal beginnings are shared (lol_html's `Ast`). Seen from outside it is a set
 /// of nodes, each known by its path, and a set of pairs of a path and an id.
 #[derive(Debug, Drop, PartialEq, Eq)]
 pub struct Ast {
@@ -24,13 +23,13 @@ pub struct Ast {
 }
 
 impl Ast {
-    ghost use Rattle.std.specs.Prelude.{◌≢◌, ◌≤◌, ◌↔◌, ℕ, List, [], IsTrue, OnOk, OnErr, IsOk, Contains, length, map, flat_map, AllPairs, vec_len};
+    ghost use Rattle.std.specs.Prelude.{◌≢◌, ◌↔◌, ◌∷◌, ℕ, List, [], IsTrue, IfOk, OnOk, OnErr, IsOk, Contains, length, map, flat_map, AllPairs, vec_len};
     ghost use Rattle.lol_css.specs.TreeViews.{list_of};
     ghost use Rattle.lol_program.specs.Paths.{Path, beginnings, all_beginnings};
     ghost use Rattle.lol_program.specs.Runs.{path_runs};
     ghost use Rattle.lol_program.specs.Conditions.{pairs_under};
-    ghost use Rattle.lol_program.specs.Gifts.{given, pairs_given, IsSpared, AllSpare};
-    ghost use Rattle.lol_program.specs.AstPaths.{shown, IsIn, AllIn};
+    ghost use Rattle.lol_program.specs.IdsForNodes.{id_in, pairs_with, Fits, HasRoomAmong, AllReserve};
+    ghost use Rattle.lol_program.specs.AstPaths.{shown, IsIn, IsInWith, AllIn, AreEnough};
     ghost use Rattle.lol_program.specs.Sets.{Joins, SameMembers, IsBetween};
     ghost use Rattle.lol_program.specs.Asts.{trees_of, nodes_of, pairs_of};
 
@@ -68,7 +67,7 @@ impl Ast {
         self.cumulative_node_count
     }
 
-    /// Whether all compounds have tests of names alone, which is what can be run so far. It takes no memory. (Not in the crate.)
+    /// Whether all compounds have tests of names alone, which is what can be run so far. It takes no memory. (Not in lol_html.)
     pub fn runs_now(&self) -> bool
         ensures nodes { IsTrue result ↔ ((path : Path) → Contains (nodes_of self.now) path → IsTrue (path_runs path)) }
         ensures pairs { IsTrue result → (pair : Path × ℕ) → Contains (pairs_of self.now) pair → IsTrue (path_runs pair.0) }
@@ -98,7 +97,7 @@ impl Ast {
         ensures refused_nodes { OnErr result (IsBetween (nodes_of self.old) (nodes_of self.new) (all_beginnings (pairs_under match_id (list_of list.now)))) }
     {
         match list.items.as_slice() {
-            [item] => self.add_path(item, Gift::Id(match_id)),
+            [item] => self.add_path(item, IdForNode::Id(match_id)),
             items => {
                 self.add_nodes(items)?;
                 self.add_id(items, match_id)
@@ -106,14 +105,15 @@ impl Ast {
         }
     }
 
-    fn add_path(&mut self, item: &ComplexSelector, gift: Gift) -> Result<(), AllocError>
-        ensures pairs { OnOk result (Joins (pairs_of self.old) (pairs_of self.new) (pairs_given (given gift) (shown item.now))) }
+    fn add_path(&mut self, item: &ComplexSelector, id: IdForNode) -> Result<(), AllocError>
+        ensures pairs { OnOk result (Joins (pairs_of self.old) (pairs_of self.new) (pairs_with (id_in id) (shown item.now))) }
         ensures nodes { OnOk result (Joins (nodes_of self.old) (nodes_of self.new) (beginnings (shown item.now))) }
         ensures stands { OnOk result (IsIn (trees_of self.new) item.now) }
         ensures refused_pairs { OnErr result (SameMembers (pairs_of self.old) (pairs_of self.new)) }
         ensures refused_nodes { OnErr result (IsBetween (nodes_of self.old) (nodes_of self.new) (beginnings (shown item.now))) }
         ensures keeps { (items : List ComplexSelector) → AllIn (trees_of self.old) items → AllIn (trees_of self.new) items }
-        ensures free { IsSpared gift → IsIn (trees_of self.old) item.now → IsOk result }
+        ensures keeps_enough { (match_id : ℕ) (items : List ComplexSelector) (count : ℕ) → AreEnough match_id (trees_of self.old) items count → AreEnough match_id (trees_of self.new) items count }
+        ensures free { IsInWith (Fits id) (trees_of self.old) item.now → IsOk result }
     {
         ast_node::add_path(
             self.alloc,
@@ -121,7 +121,7 @@ impl Ast {
             &mut self.cumulative_node_count,
             &item.first,
             &item.rest,
-            gift,
+            id,
         )
     }
 
@@ -133,7 +133,7 @@ impl Ast {
         ensures refused_nodes { OnErr result (IsBetween (nodes_of self.old) (nodes_of self.new) (flat_map beginnings (map shown items.now))) }
     {
         for item in items {
-            self.add_path(item, Gift::Nothing)?;
+            self.add_path(item, IdForNode::Nothing)?;
         }
         Ok(())
     }
@@ -146,35 +146,81 @@ impl Ast {
         ensures refused_pairs { OnErr result (SameMembers (pairs_of self.old) (pairs_of self.new)) }
         ensures refused_nodes { OnErr result (IsBetween (nodes_of self.old) (nodes_of self.new) (flat_map beginnings (map shown items.now))) }
     {
-        let Some((last, others)) = items.split_last() else {
-            return Ok(());
-        };
-        let spares = spare_ids(self.alloc, match_id, others.len())?;
-        self.add_path(last, Gift::Id(match_id))?;
-        self.add_spare_ids(others, match_id, spares);
+        let reserved_ids = self.reserve_ids(items, match_id)?;
+        self.add_reserved_ids(items, match_id, reserved_ids);
         Ok(())
     }
-    /// Gives an id to the last nodes of paths that stand, with memory that was taken for each.
-    fn add_spare_ids(
+
+    /// Takes memory for an id, once for each path that stands whose last node has no room for it.
+    fn reserve_ids(
+        &self,
+        items: &[ComplexSelector],
+        match_id: MatchId,
+    ) -> Result<Vec<ReservedId>, AllocError>
+        requires { AllIn (trees_of self.now) items.now }
+        ensures alike { IfOk result (λ reserved_ids. AllReserve match_id reserved_ids.items) }
+        ensures enough { IfOk result (λ reserved_ids. AreEnough match_id (trees_of self.now) items.now (vec_len reserved_ids)) }
+    {
+        let mut reserved_ids = Vec::new(self.alloc);
+        for item in items {
+            if !self.has_room(item, match_id) {
+                reserved_ids.push(ReservedId::new(self.alloc, match_id)?)?;
+            }
+        }
+        Ok(reserved_ids)
+    }
+
+    /// Whether a path stands, and the set of its last node takes an id without more memory.
+    fn has_room(&self, item: &ComplexSelector, match_id: MatchId) -> bool
+        ensures { IsTrue result ↔ IsInWith (HasRoomAmong match_id) (trees_of self.now) item.now }
+    {
+        ast_node::has_room(&self.root, &item.first, &item.rest, match_id)
+    }
+
+    /// Gives an id to the last nodes of paths that stand, with memory that was taken where a node has no room.
+    fn add_reserved_ids(
         &mut self,
         items: &[ComplexSelector],
         match_id: MatchId,
-        mut spares: Vec<SpareId>,
+        mut reserved_ids: Vec<ReservedId>,
     )
-        requires stand { AllIn (trees_of self.old) items.now }
-        requires enough { length items.now ≤ vec_len spares }
-        requires alike { AllSpare match_id spares.items }
+        requires alike { AllReserve match_id reserved_ids.items }
+        requires enough { AreEnough match_id (trees_of self.old) items.now (vec_len reserved_ids) }
         ensures pairs { Joins (pairs_of self.old) (pairs_of self.new) (map (λ item. (shown item, match_id)) items.now) }
         ensures nodes { Joins (nodes_of self.old) (nodes_of self.new) (flat_map beginnings (map shown items.now)) }
     {
         for item in items {
-            let Some(spare) = spares.pop() else {
-                unreachable!();
-            };
-            let Ok(()) = self.add_path(item, Gift::Spared(spare)) else {
-                unreachable!();
-            };
+            self.add_reserved_id(item, match_id, &mut reserved_ids);
         }
+    }
+
+    /// Gives an id to the last node of a path that stands, with memory that was taken if the node has no room.
+    fn add_reserved_id(
+        &mut self,
+        item: &ComplexSelector,
+        match_id: MatchId,
+        reserved_ids: &mut Vec<ReservedId>,
+    )
+        requires alike { AllReserve match_id reserved_ids.old.items }
+        requires enough { AreEnough match_id (trees_of self.old) (item.now ∷ []) (vec_len reserved_ids.old) }
+        ensures alike { AllReserve match_id reserved_ids.new.items }
+        ensures enough { (items : List ComplexSelector) → AreEnough match_id (trees_of self.old) (item.now ∷ items) (vec_len reserved_ids.old)
+            → AreEnough match_id (trees_of self.new) items (vec_len reserved_ids.new) }
+        ensures pairs { Joins (pairs_of self.old) (pairs_of self.new) ((shown item.now, match_id) ∷ []) }
+        ensures nodes { Joins (nodes_of self.old) (nodes_of self.new) (beginnings (shown item.now)) }
+    {
+        if self.has_room(item, match_id) {
+            let Ok(()) = self.add_path(item, IdForNode::Id(match_id)) else {
+                unreachable!();
+            };
+            return;
+        }
+        let Some(reserved) = reserved_ids.pop() else {
+            unreachable!();
+        };
+        let Ok(()) = self.add_path(item, IdForNode::Reserved(reserved)) else {
+            unreachable!();
+        };
     }
 }
 

@@ -1,18 +1,18 @@
 //! The nodes of the tree of selectors, and how a path is added to them.
 
-ghost use Rattle.std.specs.Prelude.{ℕ, ◌≡◌, ◌+◌, IfOk, OnOk, OnErr, IsOk, IfSome, IfNone, [], ◌∷◌, map};
+ghost use Rattle.std.specs.Prelude.{ℕ, ◌≡◌, ◌+◌, ◌↔◌, IsTrue, IfOk, OnOk, OnErr, IsOk, IfSome, IfNone, [], ◌∷◌, map};
 ghost use Rattle.lol_program.specs.Predicates.{tests_of};
 ghost use Rattle.lol_program.specs.Views.{node_of, linked, forest_of, tests_in, steps_of};
 ghost use Rattle.lol_program.specs.ForestRuns.{forest_runs};
 ghost use Rattle.lol_program.specs.Forest.{size};
-ghost use Rattle.lol_program.specs.Growth.{fresh, Adds, AddsFirst, Stands};
-ghost use Rattle.lol_program.specs.Gifts.{given, IsSpared};
+ghost use Rattle.lol_program.specs.Growth.{fresh, Adds, AddsFirst, StandsWith};
+ghost use Rattle.lol_program.specs.IdsForNodes.{id_in, Fits, HasRoomAmong};
 ghost use Rattle.lol_program.specs.Places.{IsPlace, HasPlace, IsNowhere};
 
-use crate::gift::Gift;
+use crate::id_for_node::IdForNode;
 use crate::predicate::Predicate;
 use lol_css::{Combinator, Compound};
-use lol_memory::DenseHashSet;
+use lol_memory::{DenseHashSet, MatchId};
 use std::alloc::{AllocError, Global};
 
 /// A compound of the selectors that begin alike up to it (lol_html's `AstNode`).
@@ -94,24 +94,44 @@ pub(crate) fn add_path(
     count: &mut usize,
     first: &Compound,
     rest: &[(Combinator, Compound)],
-    gift: Gift,
+    id: IdForNode,
 ) -> Result<(), AllocError>
-    ensures added { OnOk result (Adds (given gift) (tests_in first.now) (steps_of rest.now) (forest_of nodes.old.items) (forest_of nodes.new.items)) }
+    ensures added { OnOk result (Adds (id_in id) (tests_in first.now) (steps_of rest.now) (forest_of nodes.old.items) (forest_of nodes.new.items)) }
     ensures partly { OnErr result ((k : ℕ) × AddsFirst k (tests_in first.now) (steps_of rest.now) (forest_of nodes.old.items) (forest_of nodes.new.items)) }
-    ensures free { IsSpared gift → Stands (tests_in first.now) (steps_of rest.now) (forest_of nodes.old.items) → IsOk result }
+    ensures free { StandsWith (Fits id) (tests_in first.now) (steps_of rest.now) (forest_of nodes.old.items) → IsOk result }
     ensures count { count.new + size (forest_of nodes.old.items) ≡ count.old + size (forest_of nodes.new.items) }
 {
     let place = place_for(alloc, nodes, count, first)?;
     let node = &mut nodes[place];
     match rest.split_first() {
-        None => gift.give_to(&mut node.match_ids),
+        None => id.add_to(&mut node.match_ids),
         Some(((combinator, compound), rest)) => match combinator {
-            Combinator::Child => {
-                add_path(alloc, &mut node.children, count, compound, rest, gift)
-            }
+            Combinator::Child => add_path(alloc, &mut node.children, count, compound, rest, id),
             Combinator::Descendant => {
-                add_path(alloc, &mut node.descendants, count, compound, rest, gift)
+                add_path(alloc, &mut node.descendants, count, compound, rest, id)
             }
+        },
+    }
+}
+
+/// Whether a path stands in the list where it begins, and the set of its last node takes an id without more memory.
+pub(crate) fn has_room(
+    nodes: &[AstNode],
+    first: &Compound,
+    rest: &[(Combinator, Compound)],
+    id: MatchId,
+) -> bool
+    ensures { IsTrue result ↔ StandsWith (HasRoomAmong id) (tests_in first.now) (steps_of rest.now) (forest_of nodes.now) }
+{
+    let Some(place) = place_of(nodes, first) else {
+        return false;
+    };
+    let node = &nodes[place];
+    match rest.split_first() {
+        None => node.match_ids.has_room(id),
+        Some(((combinator, compound), rest)) => match combinator {
+            Combinator::Child => has_room(&node.children, compound, rest, id),
+            Combinator::Descendant => has_room(&node.descendants, compound, rest, id),
         },
     }
 }

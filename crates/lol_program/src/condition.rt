@@ -12,7 +12,7 @@ use lol_css::{AttrSelectorOperator, CssString, NthChild, ParsedCaseSensitivity, 
 use std::alloc::{AllocError, Global};
 use std::fmt;
 
-/// A test that needs no attributes, as in the crate.
+/// A test that needs no attributes, as in lol_html.
 #[derive(Debug, Drop, PartialEq, Eq)]
 pub enum OnTagNameExpr {
     /// Every element passes.
@@ -68,7 +68,7 @@ impl OnTagNameExpr {
     }
 }
 
-/// A test of attributes, as in the crate.
+/// A test of attributes, as in lol_html.
 #[derive(Debug, Drop, PartialEq, Eq)]
 pub enum OnAttributesExpr {
     /// The value of `id`.
@@ -81,7 +81,7 @@ pub enum OnAttributesExpr {
     AttributeComparisonExpr(AttributeComparisonExpr),
 }
 
-/// A comparison of an attribute's value, as in the crate.
+/// A comparison of an attribute's value, as in lol_html.
 #[derive(Drop, PartialEq, Eq)]
 pub struct AttributeComparisonExpr {
     pub name: String,
@@ -164,7 +164,7 @@ impl fmt::Debug for AttributeComparisonExpr {
     }
 }
 
-/// The test of a part, as in the crate.
+/// The test of a part, as in lol_html.
 #[derive(Debug, Drop, PartialEq, Eq)]
 pub enum Condition {
     OnTagName(OnTagNameExpr),

@@ -12,16 +12,15 @@ mod compiled_predicate;
 mod compiler;
 mod condition;
 mod execution_branch;
-mod gift;
 mod instruction;
+mod id_for_node;
 pub mod laws;
 mod name_value;
 mod marks;
 mod predicate;
 mod program;
+mod reserved_id;
 mod selector_state;
-mod spare_id;
-mod spare_ids;
 mod tries;
 
 pub use ast::Ast;

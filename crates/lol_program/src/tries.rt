@@ -2,7 +2,7 @@
 
 ghost use Rattle.std.specs.Prelude.{◌≡◌, ◌<◌, ◌+◌};
 
-/// How many nodes were tried for a start tag by their name tests, and how many by their attribute tests. (Not in the crate.)
+/// How many nodes were tried for a start tag by their name tests, and how many by their attribute tests. (Not in lol_html.)
 #[derive(Debug, Clone, Copy, PartialEq, Eq)]
 pub struct Tries {
     names: u64,

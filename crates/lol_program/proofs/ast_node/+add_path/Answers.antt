@@ -1,21 +1,32 @@
 use Rattle.lol_program.specs.Predicates.{tests_of}
-use Rattle.std.proofs.Common.{arith, suc, ◌≡◌, map, refl, ap}
+use Rattle.std.proofs.Common.{arith, suc, ◌≡◌, map, refl, ap, subst}
 use Rattle.std.specs.Prelude.{slice_set}
 use Rattle.std.proofs.lemmas.Result.{on_ok_weaker, on_err_weaker}
 use Rattle.lol_memory.specs.Ids.{Ids}
 use Rattle.lol_css.specs.declared.selector.Combinator.TheVariants.{Child, Descendant}
-use Rattle.lol_program.specs.Gifts.{given}
+use Rattle.lol_program.specs.IdsForNodes.{id_in, Fits}
 use Rattle.lol_program.specs.Views.{node_of, forest_of, steps_of, tests_in}
-use Rattle.lol_program.specs.Growth.{Adds, AddsFirst, Takes, Under, Stands, under}
+use Rattle.lol_program.specs.Growth.{Adds, AddsFirst, Takes, Under, StandsWith, under}
 use Rattle.lol_program.specs.declared.ast_node.AstNode.TheViews.{out-AstNode, roll-AstNode}
 use Rattle.lol_program.proofs.Nodes.{shape}
 use Rattle.lol_program.proofs.Placed.{set_place, size_set, place_within, adds_none, adds_some, first_none, first_some}
-use Rattle.lol_program.proofs.Standing.{gives-Takes, stands_at, stands_nowhere, stands_some}
+use Rattle.lol_program.proofs.Standing.{SetTakes-Takes, stands_at, stands_nowhere, stands_none, stands_some}
 use Rattle.lol_program.proofs.ast_node.+add_path.Goals as goal
 
 pub returns-in_err-place-clause-free : goal.returns-in_err-place-clause-free
-returns-in_err-place-clause-free t c spared stands =
-    absurd (stands_nowhere (tests_in c.args.first.now) (steps_of c.args.rest.now) (map node_of c.args.nodes.now.items) c.in_err-place.ensures.free stands)
+returns-in_err-place-clause-free t c stands =
+    absurd (stands_nowhere (Fits c.args.id) (tests_in c.args.first.now) (steps_of c.args.rest.now) (map node_of c.args.nodes.now.items) c.in_err-place.ensures.free stands)
+
+pub returns-in-None-clause-free : goal.returns-in-None-clause-free
+returns-in-None-clause-free t c stands =
+    let n = c.index_mut-node.result.now in
+    let old = c.args.nodes.now.items in
+    let mid = c.place_for.new.nodes.items in
+    let i = c.in_ok-place.place in
+    let fc = tests_in c.args.first.now in
+    let fits = Fits c.args.id in
+    let inside = subst (λ (X : Type 0). X) (stands_none fits fc c.args.rest.now (forest_of old) c.in-None.ensures.cases) stands in
+    c.add_to.ensures.free (stands_at fc (λ m. fits m.ids) old mid i n c.in_ok-place.ensures.place c.index_mut-node.ensures.value inside)
 
 pub returns-in-None-clause-added : goal.returns-in-None-clause-added
 returns-in-None-clause-added t c =
@@ -26,11 +37,11 @@ returns-in-None-clause-added t c =
     let fc = tests_in c.args.first.now in
     let at = c.in_ok-place.ensures.place in
     let is = c.index_mut-node.ensures.value in
-    let id = given c.args.gift in
-    on_ok_weaker c.give_to.result
-    (λ w. adds_none id fc c.args.rest.now (forest_of old) (forest_of (slice_set mid i (roll-AstNode (record { predicate = (out-AstNode n).predicate; children = (out-AstNode n).children; descendants = (out-AstNode n).descendants; match_ids = c.give_to.new.ids })))) c.in-None.ensures.cases
-    (set_place fc (Takes id) old mid i n (record { predicate = (out-AstNode n).predicate; children = (out-AstNode n).children; descendants = (out-AstNode n).descendants; match_ids = c.give_to.new.ids }) at is (gives-Takes id (tests_of (out-AstNode n).predicate) (out-AstNode n).match_ids c.give_to.new.ids (forest_of (out-AstNode n).children.items) (forest_of (out-AstNode n).descendants.items) w)))
-    c.give_to.ensures.given
+    let id = id_in c.args.id in
+    on_ok_weaker c.add_to.result
+    (λ w. adds_none id fc c.args.rest.now (forest_of old) (forest_of (slice_set mid i (roll-AstNode (record { predicate = (out-AstNode n).predicate; children = (out-AstNode n).children; descendants = (out-AstNode n).descendants; match_ids = c.add_to.new.ids })))) c.in-None.ensures.cases
+    (set_place fc (Takes id) old mid i n (record { predicate = (out-AstNode n).predicate; children = (out-AstNode n).children; descendants = (out-AstNode n).descendants; match_ids = c.add_to.new.ids }) at is (SetTakes-Takes id (tests_of (out-AstNode n).predicate) (out-AstNode n).match_ids c.add_to.new.ids (forest_of (out-AstNode n).children.items) (forest_of (out-AstNode n).descendants.items) w)))
+    c.add_to.ensures.added
 
 pub returns-in-None-clause-partly : goal.returns-in-None-clause-partly
 returns-in-None-clause-partly t c =
@@ -41,14 +52,14 @@ returns-in-None-clause-partly t c =
     let fc = tests_in c.args.first.now in
     let at = c.in_ok-place.ensures.place in
     let is = c.index_mut-node.ensures.value in
-    on_err_weaker c.give_to.result
+    on_err_weaker c.add_to.result
     (λ e. (
       1,
-      first_none fc c.args.rest.now (forest_of old) (forest_of (slice_set mid i (roll-AstNode (record { predicate = (out-AstNode n).predicate; children = (out-AstNode n).children; descendants = (out-AstNode n).descendants; match_ids = c.give_to.new.ids })))) c.in-None.ensures.cases
-          (set_place fc (λ k m. m ≡ k) old mid i n (record { predicate = (out-AstNode n).predicate; children = (out-AstNode n).children; descendants = (out-AstNode n).descendants; match_ids = c.give_to.new.ids }) at is
+      first_none fc c.args.rest.now (forest_of old) (forest_of (slice_set mid i (roll-AstNode (record { predicate = (out-AstNode n).predicate; children = (out-AstNode n).children; descendants = (out-AstNode n).descendants; match_ids = c.add_to.new.ids })))) c.in-None.ensures.cases
+          (set_place fc (λ k m. m ≡ k) old mid i n (record { predicate = (out-AstNode n).predicate; children = (out-AstNode n).children; descendants = (out-AstNode n).descendants; match_ids = c.add_to.new.ids }) at is
           (ap (λ (s : Ids). shape (record { predicate = (out-AstNode n).predicate; children = (out-AstNode n).children; descendants = (out-AstNode n).descendants; match_ids = s })) e)),
     ))
-    c.give_to.ensures.unchanged
+    c.add_to.ensures.unchanged
 
 pub returns-in-None-clause-count : goal.returns-in-None-clause-count
 returns-in-None-clause-count t c =
@@ -59,7 +70,7 @@ returns-in-None-clause-count t c =
     let fc = tests_in c.args.first.now in
     let at = c.in_ok-place.ensures.place in
     let is = c.index_mut-node.ensures.value in
-    omega (arith, size_set mid i n (record { predicate = (out-AstNode n).predicate; children = (out-AstNode n).children; descendants = (out-AstNode n).descendants; match_ids = c.give_to.new.ids }) (place_within fc old mid i at) is, c.in_ok-place.ensures.count)
+    omega (arith, size_set mid i n (record { predicate = (out-AstNode n).predicate; children = (out-AstNode n).children; descendants = (out-AstNode n).descendants; match_ids = c.add_to.new.ids }) (place_within fc old mid i at) is, c.in_ok-place.ensures.count)
 
 pub returns-in-Child-clause-added : goal.returns-in-Child-clause-added
 returns-in-Child-clause-added t c =
@@ -70,7 +81,7 @@ returns-in-Child-clause-added t c =
     let fc = tests_in c.args.first.now in
     let at = c.in_ok-place.ensures.place in
     let is = c.index_mut-node.ensures.value in
-    let id = given c.args.gift in
+    let id = id_in c.args.id in
     on_ok_weaker c.add_path.result
     (λ a. adds_some id fc c.args.rest.now c.in-Some.rest.now c.in-Some.field-0-0.now Child (forest_of old) (forest_of (slice_set mid i (roll-AstNode (record { predicate = (out-AstNode n).predicate; children = c.add_path.new.nodes; descendants = (out-AstNode n).descendants; match_ids = (out-AstNode n).match_ids })))) c.in-Some.ensures.cases.0 c.in-Child.is
     (set_place fc (Under Child (Adds id (tests_in c.in-Some.field-0-0.now.1) (steps_of c.in-Some.rest.now))) old mid i n (record { predicate = (out-AstNode n).predicate; children = c.add_path.new.nodes; descendants = (out-AstNode n).descendants; match_ids = (out-AstNode n).match_ids }) at is (forest_of c.add_path.new.nodes.items, a, refl)))
@@ -94,16 +105,15 @@ returns-in-Child-clause-partly t c =
     c.add_path.ensures.partly
 
 pub returns-in-Child-clause-free : goal.returns-in-Child-clause-free
-returns-in-Child-clause-free t c spared stands =
+returns-in-Child-clause-free t c stands =
     let n = c.index_mut-node.result.now in
     let old = c.args.nodes.now.items in
     let mid = c.place_for.new.nodes.items in
     let i = c.in_ok-place.place in
     let fc = tests_in c.args.first.now in
-    let at = c.in_ok-place.ensures.place in
-    let is = c.index_mut-node.ensures.value in
-    let inside = stands_some fc c.args.rest.now c.in-Some.rest.now c.in-Some.field-0-0.now Child (forest_of old) c.in-Some.ensures.cases.0 c.in-Child.is stands in
-    c.add_path.ensures.free spared (stands_at fc (λ m. Stands (tests_in c.in-Some.field-0-0.now.1) (steps_of c.in-Some.rest.now) (under Child m)) old mid i n at is inside)
+    let fits = Fits c.args.id in
+    let inside = subst (λ (X : Type 0). X) (stands_some fits fc c.args.rest.now c.in-Some.rest.now c.in-Some.field-0-0.now Child (forest_of old) c.in-Some.ensures.cases.0 c.in-Child.is) stands in
+    c.add_path.ensures.free (stands_at fc (λ m. StandsWith fits (tests_in c.in-Some.field-0-0.now.1) (steps_of c.in-Some.rest.now) (under Child m)) old mid i n c.in_ok-place.ensures.place c.index_mut-node.ensures.value inside)
 
 pub returns-in-Child-clause-count : goal.returns-in-Child-clause-count
 returns-in-Child-clause-count t c =
@@ -125,7 +135,7 @@ returns-in-Descendant-clause-added t c =
     let fc = tests_in c.args.first.now in
     let at = c.in_ok-place.ensures.place in
     let is = c.index_mut-node.ensures.value in
-    let id = given c.args.gift in
+    let id = id_in c.args.id in
     on_ok_weaker c.add_path-in-Descendant.result
     (λ a. adds_some id fc c.args.rest.now c.in-Some.rest.now c.in-Some.field-0-0.now Descendant (forest_of old) (forest_of (slice_set mid i (roll-AstNode (record { predicate = (out-AstNode n).predicate; children = (out-AstNode n).children; descendants = c.add_path-in-Descendant.new.nodes; match_ids = (out-AstNode n).match_ids })))) c.in-Some.ensures.cases.0 c.in-Descendant.is
     (set_place fc (Under Descendant (Adds id (tests_in c.in-Some.field-0-0.now.1) (steps_of c.in-Some.rest.now))) old mid i n (record { predicate = (out-AstNode n).predicate; children = (out-AstNode n).children; descendants = c.add_path-in-Descendant.new.nodes; match_ids = (out-AstNode n).match_ids }) at is (forest_of c.add_path-in-Descendant.new.nodes.items, a, refl)))
@@ -149,16 +159,15 @@ returns-in-Descendant-clause-partly t c =
     c.add_path-in-Descendant.ensures.partly
 
 pub returns-in-Descendant-clause-free : goal.returns-in-Descendant-clause-free
-returns-in-Descendant-clause-free t c spared stands =
+returns-in-Descendant-clause-free t c stands =
     let n = c.index_mut-node.result.now in
     let old = c.args.nodes.now.items in
     let mid = c.place_for.new.nodes.items in
     let i = c.in_ok-place.place in
     let fc = tests_in c.args.first.now in
-    let at = c.in_ok-place.ensures.place in
-    let is = c.index_mut-node.ensures.value in
-    let inside = stands_some fc c.args.rest.now c.in-Some.rest.now c.in-Some.field-0-0.now Descendant (forest_of old) c.in-Some.ensures.cases.0 c.in-Descendant.is stands in
-    c.add_path-in-Descendant.ensures.free spared (stands_at fc (λ m. Stands (tests_in c.in-Some.field-0-0.now.1) (steps_of c.in-Some.rest.now) (under Descendant m)) old mid i n at is inside)
+    let fits = Fits c.args.id in
+    let inside = subst (λ (X : Type 0). X) (stands_some fits fc c.args.rest.now c.in-Some.rest.now c.in-Some.field-0-0.now Descendant (forest_of old) c.in-Some.ensures.cases.0 c.in-Descendant.is) stands in
+    c.add_path-in-Descendant.ensures.free (stands_at fc (λ m. StandsWith fits (tests_in c.in-Some.field-0-0.now.1) (steps_of c.in-Some.rest.now) (under Descendant m)) old mid i n c.in_ok-place.ensures.place c.index_mut-node.ensures.value inside)
 
 pub returns-in-Descendant-clause-count : goal.returns-in-Descendant-clause-count
 returns-in-Descendant-clause-count t c =

@@ -2,20 +2,21 @@ use Rattle.lol_css.specs.declared.selector.SimpleSelector.TheViews.{out-ComplexS
 use Rattle.std.proofs.Common.{List, arith, subst}
 use Rattle.std.proofs.lemmas.Result.{on_ok_weaker, on_err_weaker}
 use Rattle.lol_css.specs.declared.selector.Combinator.{Combinator}
-use Rattle.lol_program.specs.Gifts.{given}
+use Rattle.lol_program.specs.IdsForNodes.{id_in, HasRoomAmong}
 use Rattle.lol_program.specs.Views.{forest_of, steps_of, tests_in}
 use Rattle.lol_program.specs.Growth.{Adds, AddsFirst}
 use Rattle.lol_css.specs.declared.selector.Compound as css
+use Rattle.lol_program.proofs.Reserved.{enough-kept}
 use Rattle.lol_program.proofs.Adding.{added_pairs, added_nodes, first_pairs, first_nodes, keeps_either, keeps_all}
 use Rattle.lol_program.proofs.Placed.{differ_after}
-use Rattle.lol_program.proofs.Standing.{adds_stands}
+use Rattle.lol_program.proofs.Standing.{Keeps, KeepsWith, adds_stands, anyhow, more_room}
 use Rattle.lol_program.proofs.ast.Ast.add_path.Goals as goal
 
 pub invariant_of-self : goal.invariant_of-self
 invariant_of-self c =
     record {
       counted = omega (arith, c.add_path.ensures.count, c.args.self.now.counted);
-      siblings = differ_after c.add_path.result (given c.args.gift) (tests_in (out-ComplexSelector c.args.item.now).first) (steps_of c.deref.result.now) (forest_of c.args.self.now.root.items) (forest_of c.add_path.new.nodes.items) c.add_path.ensures.added c.add_path.ensures.partly c.args.self.now.siblings;
+      siblings = differ_after c.add_path.result (id_in c.args.id) (tests_in (out-ComplexSelector c.args.item.now).first) (steps_of c.deref.result.now) (forest_of c.args.self.now.root.items) (forest_of c.add_path.new.nodes.items) c.add_path.ensures.added c.add_path.ensures.partly c.args.self.now.siblings;
     }
 
 pub returns-clause-pairs : goal.returns-clause-pairs
@@ -23,7 +24,7 @@ returns-clause-pairs c =
     let old = forest_of c.args.self.now.root.items in
     let new = forest_of c.add_path.new.nodes.items in
     let first = tests_in (out-ComplexSelector c.args.item.now).first in
-    let id = given c.args.gift in
+    let id = id_in c.args.id in
     on_ok_weaker c.add_path.result (λ h. added_pairs first (steps_of (out-ComplexSelector c.args.item.now).rest.items) old new id (subst (λ (r : List (Combinator × css.Compound)). Adds id first (steps_of r) old new) c.deref.ensures.value h)) c.add_path.ensures.added
 
 pub returns-clause-nodes : goal.returns-clause-nodes
@@ -31,7 +32,7 @@ returns-clause-nodes c =
     let old = forest_of c.args.self.now.root.items in
     let new = forest_of c.add_path.new.nodes.items in
     let first = tests_in (out-ComplexSelector c.args.item.now).first in
-    let id = given c.args.gift in
+    let id = id_in c.args.id in
     on_ok_weaker c.add_path.result (λ h. added_nodes first (steps_of (out-ComplexSelector c.args.item.now).rest.items) old new id (subst (λ (r : List (Combinator × css.Compound)). Adds id first (steps_of r) old new) c.deref.ensures.value h)) c.add_path.ensures.added
 
 pub returns-clause-stands : goal.returns-clause-stands
@@ -39,7 +40,7 @@ returns-clause-stands c =
     let old = forest_of c.args.self.now.root.items in
     let new = forest_of c.add_path.new.nodes.items in
     let first = tests_in (out-ComplexSelector c.args.item.now).first in
-    let id = given c.args.gift in
+    let id = id_in c.args.id in
     on_ok_weaker c.add_path.result (λ h. adds_stands id first (steps_of (out-ComplexSelector c.args.item.now).rest.items) old new (subst (λ (r : List (Combinator × css.Compound)). Adds id first (steps_of r) old new) c.deref.ensures.value h)) c.add_path.ensures.added
 
 pub returns-clause-refused_pairs : goal.returns-clause-refused_pairs
@@ -60,4 +61,14 @@ pub returns-clause-keeps : goal.returns-clause-keeps
 returns-clause-keeps c =
     let old = forest_of c.args.self.now.root.items in
     let new = forest_of c.add_path.new.nodes.items in
-    keeps_all old new (keeps_either (tests_in (out-ComplexSelector c.args.item.now).first) (steps_of c.deref.result.now) old new c.add_path.result (given c.args.gift) c.add_path.ensures.added c.add_path.ensures.partly)
+    keeps_all old new (keeps_either (tests_in (out-ComplexSelector c.args.item.now).first) (steps_of c.deref.result.now) old new (λ ids. Unit {0}) anyhow c.add_path.result (id_in c.args.id) c.add_path.ensures.added c.add_path.ensures.partly)
+
+pub returns-clause-keeps_enough : goal.returns-clause-keeps_enough
+returns-clause-keeps_enough c match_id =
+    let old = forest_of c.args.self.now.root.items in
+    let new = forest_of c.add_path.new.nodes.items in
+    let first = tests_in (out-ComplexSelector c.args.item.now).first in
+    let rest = steps_of c.deref.result.now in
+    let rooms : KeepsWith (HasRoomAmong match_id) old new = keeps_either first rest old new (HasRoomAmong match_id) (more_room match_id) c.add_path.result (id_in c.args.id) c.add_path.ensures.added c.add_path.ensures.partly in
+    let paths : Keeps old new = keeps_either first rest old new (λ ids. Unit {0}) anyhow c.add_path.result (id_in c.args.id) c.add_path.ensures.added c.add_path.ensures.partly in
+    enough-kept match_id old new rooms paths
