@@ -1,6 +1,6 @@
 -- What a selector brings, and whether it runs.
 use Rattle.lol_base.specs.BoolLaws.{and_parts}
-use Rattle.std.proofs.Common.{◌≡◌, ℕ, true, ◌&&◌, List, [], ◌∷◌, Contains, inl, inr, ⊎_elim, refl, subst}
+use Rattle.std.proofs.Common.{◌≡◌, ℕ, true, ◌&&◌, List, [], ◌∷◌, Contains, inl, inr, ⊎_elim, refl, subst, Bool, map, ap}
 use Rattle.std.specs.List.{list_all}
 use Rattle.lol_program.specs.Paths.{Path, First, Then, beginnings, all_beginnings}
 use Rattle.lol_program.specs.Runs.{path_runs}
@@ -23,13 +23,10 @@ beginnings_run (pair ∷ pairs) h node a =
     (λ (b : Among (all_beginnings pairs) node). beginnings_run pairs parts.1 node b)
     (among_either (beginnings pair.0) (all_beginnings pairs) node a)
 
-all_run : (pairs : List (Path × ℕ)) → ((pair : Path × ℕ) → Among pairs pair → path_runs pair.0 ≡ true) → list_all (λ pair. path_runs pair.0) pairs ≡ true
-all_run [] h = refl
-all_run (pair ∷ pairs) h = λ i. h pair (inl refl) i && all_run pairs (λ p a. h p (inr a)) i
-
--- the added pairs run where all pairs do
-pub added_run : (old new added : List (Path × ℕ)) → Joins old new added → ((pair : Path × ℕ) → Contains new pair → path_runs pair.0 ≡ true) → list_all (λ pair. path_runs pair.0) added ≡ true
-added_run old new added joins h = all_run added (λ pair a. h pair ((joins pair).1 (inr (contains_from_among added pair a))))
+-- the pairs of paths under an id run where the paths do
+pub pairs_run : (id : ℕ) (paths : List Path) → list_all (λ (pair : Path × ℕ). path_runs pair.0) (map (λ path. (path, id)) paths) ≡ list_all path_runs paths
+pairs_run id [] = refl
+pairs_run id (path ∷ paths) = ap (λ (b : Bool). path_runs path && b) (pairs_run id paths)
 
 -- all nodes run where the old ones do and the added pairs
 pub nodes_run : (old new : List Path) (added : List (Path × ℕ)) → Joins old new (all_beginnings added) → ((node : Path) → Contains old node → path_runs node ≡ true) → list_all (λ pair. path_runs pair.0) added ≡ true

@@ -15,6 +15,7 @@ ghost use Rattle.lol_match.specs.declared.script.Stop.TheVariants.{Memory};
 
 use crate::bad_line::{BadLine, Cause};
 use crate::lines::{Line, line_of};
+use lol_program::selector_runs;
 use lol_vm::{
     Ast, AttributeBuffer, AuxStartTagInfo, Bytes, Namespace, Selector, SelectorError, TagEvent,
 };
@@ -150,14 +151,13 @@ fn take_selector(
             cause: Cause::Selector(error),
         })),
         Ok(selector) => {
+            if !selector_runs(&selector) {
+                return Err(unsupported(number));
+            }
             let Ok(()) = script.ast.add_selector(&selector, id) else {
                 return Err(Stop::Memory);
             };
-            if script.ast.runs_now() {
-                Ok(())
-            } else {
-                Err(unsupported(number))
-            }
+            Ok(())
         }
     }
 }

@@ -14,6 +14,7 @@ pub mod Running
 pub mod TestRows
 pub mod Values
 pub mod RunningTests
+pub mod RunningParts
 mod AttributeValues
 mod MarkLemmas
 mod MatcherLemmas

@@ -17,6 +17,7 @@ mod id_for_node;
 pub mod laws;
 mod name_value;
 mod marks;
+mod names_alone;
 mod predicate;
 mod program;
 mod reserved_id;
@@ -37,6 +38,7 @@ pub use condition::{AttributeComparisonExpr, Condition, OnAttributesExpr, OnTagN
 pub use execution_branch::{AddressRange, ExecutionBranch};
 pub use instruction::{Instruction, TryExecResult};
 pub use name_value::NameValue;
+pub use names_alone::selector_runs;
 pub use predicate::{Predicate, Test};
 pub use program::Program;
 pub use selector_state::SelectorState;
