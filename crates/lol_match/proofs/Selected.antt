@@ -5,7 +5,7 @@ use Rattle.std.specs.List.{list_all}
 use Rattle.lol_program.specs.Paths.{Path, First, Then, beginnings, all_beginnings}
 use Rattle.lol_program.specs.Runs.{path_runs}
 use Rattle.lol_program.specs.Sets.{Joins}
-use Rattle.lol_base.specs.MemberLaws.{Among, among_either, among_from_contains, contains_from_among}
+use Rattle.lol_base.specs.MemberLaws.{Among, among_either, among_from_contains}
 
 -- each beginning of a path that runs
 beginning_runs : (path : Path) → path_runs path ≡ true → (node : Path) → Among (beginnings path) node → path_runs node ≡ true

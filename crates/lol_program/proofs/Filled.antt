@@ -8,7 +8,7 @@ use Rattle.lol_program.specs.Forest.{Forest, none, more, size}
 use Rattle.lol_program.specs.Programs.{Instruction, IsAt}
 use Rattle.lol_program.specs.Layouts.{width, Entry, laid_tops, laid_below, laid, program_of}
 use Rattle.lol_program.specs.Laying.{Laid}
-use Rattle.lol_program.proofs.Members.{Among, among_either}
+use Rattle.lol_base.specs.MemberLaws.{Among, among_either}
 use Rattle.lol_program.proofs.ListPlaces.{at_among, at_map}
 use Rattle.lol_program.proofs.Laid.{numbered_at, laid_from, below_numbered, length_laid}
 

@@ -10,7 +10,7 @@ use Rattle.std.proofs.lemmas.Map.Views.{list_any-from_Contains}
 use Rattle.lol_memory.specs.Ids.{Ids, has, no_ids, with_id, union, ascending, HasRoom, HasRoomFor}
 use Rattle.lol_memory.specs.SetLaws.{same_set, has-no_ids, has-with_id, has-union, has-keys}
 use Rattle.lol_program.specs.Growth.{IsWith}
-use Rattle.lol_base.specs.MemberLaws.{Among, contains_from_among, among_from_contains}
+use Rattle.lol_base.specs.MemberLaws.{Among, contains_from_among}
 use Rattle.lol_program.specs.IdsForNodes.{HasRoomAmong}
 
 is_same : (q k : ℕ) → eq_by_cmp nat_cmp q k ≡ true → q ≡ k

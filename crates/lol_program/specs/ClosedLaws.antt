@@ -1,6 +1,6 @@
 -- Nodes hold what their members stand under.
 use Rattle.std.proofs.Common.{◌≡◌, ℕ, ◌⊎◌, inl, inr, refl, sym, subst, List, [], ◌∷◌}
-use Rattle.std.specs.Prelude.{Contains, flat_map}
+use Rattle.std.specs.Prelude.{flat_map}
 use Rattle.lol_css.specs.declared.selector.Combinator.{Combinator}
 use Rattle.lol_css.specs.declared.selector.Combinator.TheVariants.{Child, Descendant}
 use Rattle.lol_program.specs.Compounds.{Compound}
@@ -12,7 +12,6 @@ use Rattle.lol_program.specs.NodeMemberLaws.{HasNode, HasPair}
 use Rattle.lol_program.specs.NodeListLaws.{nodes_listed, pairs_listed}
 use Rattle.lol_base.specs.MemberLaws.{Among, among_from_contains, contains_from_among, among_front, among_back, among_either}
 use Rattle.lol_program.specs.NodeOnceLaws.{nodes_distinct, AllPairs-from_Distinct}
-use Rattle.lol_program.proofs.Running.{pair_at_node}
 
 -- 1. Trees
 

@@ -6,7 +6,6 @@ use Rattle.lol_css.specs.declared.selector.Combinator.TheVariants.{Child, Descen
 use Rattle.lol_program.specs.Compounds.{Compound}
 use Rattle.lol_program.specs.Paths.{Path, First, Then, extended, beginnings}
 use Rattle.lol_program.specs.Forest.{Forest, none, more, size, tops, below, nodes_in, pairs_in}
-use Rattle.lol_program.specs.Gifts.{pairs_given}
 use Rattle.lol_program.specs.NodeMemberLaws.{HasNode, HasPair, BringsNode, BringsPair, BringsFirst}
 use Rattle.lol_base.specs.MemberLaws.{Among, among_from_contains, contains_from_among, among_front, among_back, among_either}
 use Rattle.lol_program.specs.IdsForNodes.{pairs_with}

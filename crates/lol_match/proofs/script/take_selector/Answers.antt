@@ -1,5 +1,4 @@
-use Rattle.lol_base.specs.BoolLaws.{not_true}
-use Rattle.std.proofs.Common.{◌≡◌, [], ◌++◌, List, ℕ, Bool, true, false, map, sym, ap, ◌∙◌, subst, arith, true≢false}
+use Rattle.std.proofs.Common.{◌≡◌, [], ◌++◌, List, ℕ, Bool, true, false, map, sym, ap, ◌∙◌, subst, arith}
 use Rattle.std.specs.Prelude.{Result, Ok, Err, if◌then◌else◌}
 use Rattle.std.specs.List.{list_all}
 use Rattle.std.proofs.lemmas.Bool.Decides.{nat_tests}

@@ -1,3 +1,4 @@
+use Rattle.lol_base.specs.ListLaws.{passes_more, passes_not, passes_all}
 use Rattle.std.proofs.Common.{◌≡◌, ◌≤◌, ◌-◌, arith, length, get_or, List, ap, sym, ◌∙◌, ⊎_elim}
 use Rattle.std.specs.List.{list_all}
 use Rattle.lol_css.specs.declared.selector.Combinator.{Combinator}
@@ -8,7 +9,6 @@ use Rattle.lol_css.specs.TreeViews.{part_of}
 use Rattle.lol_program.specs.Conditions.{part_test}
 use Rattle.lol_program.specs.Runs.{test_runs, compound_runs}
 use Rattle.lol_program.proofs.RunningParts.{part_passes, last_passes, written-pass, list-pass}
-use Rattle.lol_program.proofs.RunningTests.{passes_more, passes_not, passes_all}
 use Rattle.lol_program.proofs.Tests.{counts_first, counts_last}
 use Rattle.lol_program.proofs.names_alone.+parts_running.Goals as goal
 

@@ -1,3 +1,4 @@
+use Rattle.lol_base.specs.ListLaws.{passes_not, passes_all}
 use Rattle.std.proofs.Common.{◌≡◌, Bool, List, sym, ap, ◌∙◌}
 use Rattle.std.specs.List.{list_all}
 use Rattle.lol_css.specs.declared.selector.SelectorList.{SelectorList}
@@ -6,7 +7,6 @@ use Rattle.lol_css.specs.TreeViews.{list_of}
 use Rattle.lol_program.specs.Conditions.{paths_of}
 use Rattle.lol_program.specs.Runs.{path_runs}
 use Rattle.lol_program.proofs.RunningParts.{item_passes, selector-pass}
-use Rattle.lol_program.proofs.RunningTests.{passes_not, passes_all}
 use Rattle.lol_program.proofs.names_alone.selector_runs.Goals as goal
 
 abbrev list_passes : SelectorList → Bool

@@ -7,7 +7,7 @@ use Rattle.lol_program.specs.Programs.{IsProgramOf}
 use Rattle.lol_program.specs.Layouts.{width, any_by_type, selectors_in, program_of}
 use Rattle.lol_program.specs.ProgramViews.{instruction_shown, code_of, program_shown}
 use Rattle.lol_program.specs.Laying.{AreLaid}
-use Rattle.lol_program.proofs.Listed.{size-nodes}
+use Rattle.lol_program.specs.NodeListLaws.{size-nodes}
 use Rattle.lol_program.proofs.Laid.{layouts_are_programs}
 use Rattle.lol_program.proofs.Laying.{width_is}
 use Rattle.lol_program.proofs.Filled.{filled}
