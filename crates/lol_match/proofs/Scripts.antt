@@ -40,7 +40,7 @@ numbered lines n place line at =
     ((within, ap (λ p. p.1) is), omega (arith, ap (λ p. p.0) is))
 
 module _ (lines : List (List ℕ)) where
-  -- the line of this turn, which is the n-th, and then those behind it
+  -- the line of this turn, which is the n-th, and then those after it
   module _ (n : ℕ) (line : List ℕ) (at : (n < length lines) × (line ≡ get_or lines n line)) (number : ℕ) (s : Script) where
     next_line : read_lines line_at path_runs number s (drop n lines) ≡ and_then (with_bytes line_at path_runs number s line) (λ t. read_lines line_at path_runs (number + 1) t (drop (n + 1) lines))
     next_line = ap (read_lines line_at path_runs number s) (drop_more lines n line at.0 ∙ ap (λ l. l ∷ drop (n + 1) lines) (sym at.1))

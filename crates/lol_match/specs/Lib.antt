@@ -4,3 +4,4 @@ pub mod Output
 pub mod Script
 pub mod Scripts
 pub mod Readings
+pub mod ExitStatus

@@ -9,12 +9,12 @@ use Rattle.lol_match.specs.declared.bad_line.BadLine.{BadLine}
 use Rattle.lol_match.specs.declared.bad_line.Cause.{Cause}
 use Rattle.lol_match.specs.declared.bad_line.Cause.TheVariants.{Form, Selector}
 
--- fields parted by commas, or `-` where there are none
+-- fields separated by commas, or `-` where there are none
 abbrev pub listed : List (List ℕ) → List ℕ
 listed [] = codes "-"
 listed (field ∷ fields) = join_with_byte 44 (field ∷ fields)
 
--- an id, with `/` behind it where the element has no content
+-- an id, with `/` after it where the element has no content
 abbrev pub shown_match : Match → List ℕ
 shown_match found = decimal found.id ++ (if found.with_content then [] else codes "/")
 

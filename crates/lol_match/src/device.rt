@@ -97,7 +97,7 @@ impl<W: Write> Counted<W> {
     }
 }
 
-/// Reads to the end. Each turn appends at least one byte, so a reader that neither ends nor fails is answered as want of memory.
+/// Reads to the end. Each turn appends at least one byte, so a reader that neither ends nor fails is answered as out of memory.
 ///
 /// # Errors
 /// `Read` where a read failed, an interrupted one too, and `Memory` where a growth was refused.
@@ -107,7 +107,7 @@ pub fn read_all<R: Read>(alloc: Global, reader: &mut Counted<R>) -> Result<Vec<u
     ensures end { OnOk result (IsAtEnd (R.remaining (device_of reader.new))) }
     ensures unchanged { OnOk result (failures_of reader.new ≡ failures_of reader.old) }
 
-    // Only a read that failed is answered as such, and any other fault is want of memory.
+    // Only a read that failed is answered as such, and any other fault is out of memory.
     ensures read { IsErrOf result RunFault.Read → failures_of reader.new ≡ failures_of reader.old + 1 }
     ensures memory { IfErr result (λ fault. fault ≢ RunFault.Read → (fault ≡ RunFault.Memory) × (failures_of reader.new ≡ failures_of reader.old)) }
 {

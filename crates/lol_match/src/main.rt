@@ -1,6 +1,9 @@
 //! Runs a script of selectors and tags.
 #![tactic(auto)]
 
+ghost use Rattle.std.specs.Prelude.{◌≡◌};
+ghost use Rattle.lol_match.specs.ExitStatus.{exit_status_of};
+
 mod bad_line;
 mod device;
 mod laws;
@@ -28,7 +31,9 @@ fn main(rt: HostRuntime) -> ExitCode {
 }
 
 /// The exit status of a run; a fault is named on standard error.
-fn exit_status(rt: &impl Eprint, outcome: Result<Status, RunFault>) -> u8 {
+fn exit_status(rt: &impl Eprint, outcome: Result<Status, RunFault>) -> u8
+    ensures { result ≡ exit_status_of outcome }
+{
     match outcome {
         Ok(Status::Good) => 0,
         Ok(Status::BadLine) => 2,

@@ -16,7 +16,7 @@ pub fn push_number(text: &mut Vec<u8>, number: u64) -> Result<(), AllocError>
     text.extend_from_slice(buffer.format(number).as_bytes())
 }
 
-/// Adds an id, with `/` behind it where the element has no content.
+/// Adds an id, with `/` after it where the element has no content.
 pub fn push_match(text: &mut Vec<u8>, found: MatchInfo) -> Result<(), AllocError>
     ensures { OnOk result (text.new.items ≡ text.old.items ++ shown_match (match_of found)) }
 {
@@ -27,7 +27,7 @@ pub fn push_match(text: &mut Vec<u8>, found: MatchInfo) -> Result<(), AllocError
     Ok(())
 }
 
-/// Adds ids, parted by commas, or `-` where there are none.
+/// Adds ids, separated by commas, or `-` where there are none.
 pub fn push_matches(text: &mut Vec<u8>, matched: &[MatchInfo]) -> Result<(), AllocError>
     ensures { OnOk result (text.new.items ≡ text.old.items ++ listed (map shown_match (map match_of matched.now))) }
 {
@@ -42,7 +42,7 @@ pub fn push_matches(text: &mut Vec<u8>, matched: &[MatchInfo]) -> Result<(), All
     Ok(())
 }
 
-/// Adds numbers, parted by commas, or `-` where there are none.
+/// Adds numbers, separated by commas, or `-` where there are none.
 pub fn push_numbers(text: &mut Vec<u8>, numbers: &[usize]) -> Result<(), AllocError>
     ensures { OnOk result (text.new.items ≡ text.old.items ++ listed (map decimal numbers.now)) }
 {

@@ -92,14 +92,7 @@ fn good_text(alloc: Global, script: Script) -> Result<Vec<u8>, AllocError>
 {
     let Script { ast, events } = script;
     let mut limiter = SharedMemoryLimiter::new(usize::MAX);
-    let Ok(reports) = match_events(
-        alloc,
-        ast,
-        ITEM_BYTES,
-        false,
-        &events,
-        &mut limiter,
-    ) else {
+    let Ok(reports) = match_events(alloc, ast, ITEM_BYTES, false, &events, &mut limiter) else {
         return Err(AllocError);
     };
     let mut text = Vec::new(alloc);

@@ -154,7 +154,7 @@ fn run_on(alloc: Global, script: &[u8]) -> (Result<Status, RunFault>, Vec<u8>) {
 }
 
 /// Scripts, what is written for each, and how its run ends.
-const WORKED: [(&str, &str, Status); 12] = [
+const WORKED: [(&str, &str, Status); 18] = [
     ("", "", Status::Good),
     (
         "select\t0\tdiv + span\n",
@@ -199,6 +199,36 @@ const WORKED: [(&str, &str, Status); 12] = [
     ),
     ("end\ttable", "end\t-\n", Status::Good),
     ("esi\n", "bad line 1: form\n", Status::BadLine),
+    (
+        "select\t0\t:is(h1, h2) > a\nstart\thtml\th1\nstart\thtml\ta\nend\th1\nstart\thtml\tp\nstart\thtml\ta\n",
+        "start\t-\nstart\t0\nend\t0,1\nstart\t-\nstart\t-\n",
+        Status::Good,
+    ),
+    (
+        "select\t0\t:where()\n",
+        "bad line 1: EmptySelector\n",
+        Status::BadLine,
+    ),
+    (
+        "select\t0\t:not(:not(a, b))\nstart\thtml\ta\nstart\thtml\tb\nstart\thtml\tc\n",
+        "start\t0\nstart\t0\nstart\t-\n",
+        Status::Good,
+    ),
+    (
+        "select\t0\t:not(*)\nselect\t1\t:not(|a)\nstart\thtml\ta\n",
+        "start\t1\n",
+        Status::Good,
+    ),
+    (
+        "select\t0\t:not(:is(a, b))\nstart\thtml\ta\nstart\thtml\tc\n",
+        "start\t-\nstart\t0\n",
+        Status::Good,
+    ),
+    (
+        "select\t0\t:not(a, b)\nstart\thtml\ta\nstart\thtml\tb\nstart\thtml\tc\n",
+        "start\t-\nstart\t-\nstart\t0\n",
+        Status::Good,
+    ),
 ];
 
 #[test]
@@ -208,6 +238,38 @@ fn runs_scripts(rt: HostRuntime) -> Result<(), Fail> {
         assert_eq!(rt; outcome, Ok(status), "{script:?}");
         assert_eq!(rt; written.as_slice(), output.as_bytes(), "{script:?}");
     }
+    Ok(())
+}
+
+#[test]
+fn runs_with_a_thousand_open_elements(rt: HostRuntime) -> Result<(), Fail> {
+    let mut script = String::from_str(rt.alloc(), "select\t0\tdiv > div p\n")?;
+    let mut output = String::new(rt.alloc());
+    for _ in 0..1_000u32 {
+        script.push_str("start\thtml\tdiv\n")?;
+        output.push_str("start\t-\n")?;
+    }
+    script.push_str("start\thtml\tp\nend\tdiv\nend\tdiv\n")?;
+    output.push_str("start\t0\nend\t999,1000\nend\t998\n")?;
+    let (outcome, written) = run_on(rt.alloc(), script.as_bytes());
+    assert_eq!(rt; outcome, Ok(Status::Good));
+    assert_eq!(rt; written.as_slice(), output.as_bytes());
+    Ok(())
+}
+
+#[test]
+fn runs_a_long_script(rt: HostRuntime) -> Result<(), Fail> {
+    let mut script = String::from_str(rt.alloc(), "select\t7\tp\n")?;
+    let mut output = String::new(rt.alloc());
+    for pair in 0..5_500u32 {
+        script.push_str("start\thtml\tp\nend\tp\n")?;
+        let number = 2 * pair;
+        write!(output, "start\t7\nend\t{number}\n")?;
+    }
+    assert!(rt; script.len() > 100_000);
+    let (outcome, written) = run_on(rt.alloc(), script.as_bytes());
+    assert_eq!(rt; outcome, Ok(Status::Good));
+    assert_eq!(rt; written.as_slice(), output.as_bytes());
     Ok(())
 }
 
@@ -265,6 +327,14 @@ impl Eprint for Told {
         self.eprint(value)?;
         self.eprint("\n")
     }
+}
+
+#[test]
+fn a_bad_line_ends_with_2(rt: HostRuntime) -> Result<(), Fail> {
+    let (outcome, written) = run_on(rt.alloc(), b"select\t0\tp\nstart\thtml\tp\nstart\tp\n");
+    assert_eq!(rt; written.as_slice(), b"bad line 3: form\n".as_slice());
+    assert_eq!(rt; exit_status(&rt, outcome), 2);
+    Ok(())
 }
 
 #[test]
