@@ -1,5 +1,5 @@
 -- Counts by type as a function of level and name, as children are counted and levels are cut.
-use Rattle.std.proofs.Common.{◌≡◌, ◌∙◌, sym, ap, refl, true≢false, ℕ, ◌+◌, ◌<◌, ◌≤◌, true, false, ◌&&◌, ◌||◌, nat_eq, nat_lt, nat_le, List, [], ◌∷◌, ◌++◌, arith}
+use Rattle.std.proofs.Common.{◌≡◌, ◌∙◌, sym, ap, refl, true≢false, ℕ, ◌+◌, ◌<◌, ◌≤◌, true, false, ◌&&◌, ◌||◌, nat_eq, nat_lt, nat_le, List, [], ◌∷◌, ◌++◌, Some, None, unwrap_or, arith}
 use Rattle.std.specs.Bool.{if◌then◌else◌}
 use Rattle.std.specs.List.{list_any}
 use Rattle.std.specs.Str.{bytes_eq}
@@ -8,9 +8,9 @@ use Rattle.std.proofs.lemmas.Bool.Decides.{nat_tests}
 use Rattle.std.proofs.lemmas.Slice.Eq.{bytes_eq-Decides}
 use Rattle.lol_base.specs.LocalNames.{Name, same_local_name}
 use Rattle.lol_program.specs.Counters.{full_count}
-use Rattle.lol_vm.specs.Levels.{is_at, one_more}
+use Rattle.lol_vm.specs.Levels.{is_at, one_more, count_if_at}
 use Rattle.lol_vm.specs.TypedCounts.{TypedCount, is_of, level_of, levels_of, last_counted, all_above, cut_to}
-use Rattle.lol_vm.specs.TypedLaws.{contributes, typed_of, IsAscending, CountingAddsOne, CuttingDropsAbove}
+use Rattle.lol_vm.specs.TypedLaws.{contributes, typed_of, IsAscending, IsRising, CountsAtTheirLevel, CountingAddsOne, CuttingDropsAbove}
 use Rattle.lol_vm.proofs.CounterLevels.{one_more-free}
 use Rattle.lol_vm.proofs.TypedLists.{levels_of-cons, levels_of-none}
 
@@ -146,3 +146,63 @@ cutting_drops_above (t ∷ ts) level from ascends l q =
                 omega (arith, none)
           ] refl
     ] refl
+
+first_within : (level : ℕ) (x : ℕ × ℕ) (xs : List (ℕ × ℕ)) → IsRising level (x ∷ xs) → x.0 ≤ level
+first_within level x [] rises = rises
+first_within level x (y ∷ xs) rises =
+    let more = first_within level y xs rises.1 in
+    let before : x.0 < y.0 = rises.0 in
+    omega arith
+
+-- ---- the last counter of a name
+
+sum_at : ℕ → List (ℕ × ℕ) → ℕ
+sum_at level [] = 0
+sum_at level (x ∷ xs) = (if nat_eq x.0 level then x.1 else 0) + sum_at level xs
+
+typed_of-levels : (ts : List TypedCount) (level : ℕ) (name : Name) → typed_of ts level name.lowercased ≡ sum_at level (levels_of name ts)
+unfolding sum_at
+typed_of-levels [] level name = refl
+typed_of-levels (t ∷ ts) level name =
+    let rest = typed_of-levels ts level name in
+    elim (is_of name t) as
+    (λ own. is_of name t ≡ own → contributes level name.lowercased t + typed_of ts level name.lowercased ≡ sum_at level (levels_of name (t ∷ ts))) [
+      | true ↦ λ is.
+          let same : bytes_eq t.name.lowercased name.lowercased ≡ true = is in
+          let here : contributes level name.lowercased t ≡ (if nat_eq t.level level then t.count else 0) =
+          elim (nat_eq t.level level) as (λ b. (if b && bytes_eq t.name.lowercased name.lowercased then t.count else 0) ≡ (if b then t.count else 0)) [
+            | true ↦ ap (λ b. if b then t.count else 0) same
+            | false ↦ refl
+          ]
+          in
+          ap (λ n. n + typed_of ts level name.lowercased) here
+          ∙ (ap (λ n. (if nat_eq t.level level then t.count else 0) + n) rest ∙ sym (ap (sum_at level) (levels_of-cons name t ts true is)))
+      | false ↦ λ is.
+          let same : bytes_eq t.name.lowercased name.lowercased ≡ false = is in
+          let here : contributes level name.lowercased t ≡ 0 =
+          elim (nat_eq t.level level) as (λ b. (if b && bytes_eq t.name.lowercased name.lowercased then t.count else 0) ≡ 0) [
+            | true ↦ ap (λ b. if b then t.count else 0) same
+            | false ↦ refl
+          ]
+          in
+          omega (arith, here, rest, ap (sum_at level) (levels_of-cons name t ts false is))
+    ] refl
+
+rising_sum : (level : ℕ) (xs : List (ℕ × ℕ)) → IsRising level xs → unwrap_or (count_if_at level xs) 0 ≡ sum_at level xs
+unfolding sum_at
+rising_sum level [] rises = refl
+rising_sum level (x ∷ []) rises =
+    elim (nat_eq x.0 level) as (λ b. unwrap_or (if b then Some x.1 else None) 0 ≡ (if b then x.1 else 0) + 0) [
+      | true ↦ omega arith
+      | false ↦ refl
+    ]
+rising_sum level (x ∷ y ∷ xs) rises =
+    let rest = rising_sum level (y ∷ xs) rises.1 in
+    let within = first_within level y xs rises.1 in
+    let before : x.0 < y.0 = rises.0 in
+    let apart : nat_eq x.0 level ≡ false = grind (arith, nat_tests) in
+    let none : (if nat_eq x.0 level then x.1 else 0) ≡ 0 = ap (λ b. if b then x.1 else 0) apart in
+    omega (arith, rest, none)
+
+pub counts_at_their_level : CountsAtTheirLevel
+counts_at_their_level ts level name rises = rising_sum level (levels_of name ts) rises ∙ sym (typed_of-levels ts level name)

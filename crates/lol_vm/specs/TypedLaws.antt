@@ -1,9 +1,9 @@
 -- Counts by type as a function of level and name.
-use Rattle.std.specs.Prelude.{ℕ, ◌+◌, ◌≤◌, ◌<◌, ◌≡◌, ◌&&◌, ◌==◌, nat_le, if◌then◌else◌, List, [], ◌∷◌}
+use Rattle.std.specs.Prelude.{ℕ, ◌+◌, ◌≤◌, ◌<◌, ◌≡◌, ◌&&◌, ◌==◌, nat_le, if◌then◌else◌, List, [], ◌∷◌, unwrap_or}
 use Rattle.std.specs.Str.{bytes_eq}
 use Rattle.lol_base.specs.LocalNames.{Name}
 use Rattle.lol_program.specs.Counters.{full_count}
-use Rattle.lol_vm.specs.TypedCounts.{TypedCount, counted, cut_to}
+use Rattle.lol_vm.specs.TypedCounts.{TypedCount, counted, cut_to, count_at, levels_of}
 
 abbrev pub contributes : ℕ → List ℕ → TypedCount → ℕ
 contributes level name t = if (t.level == level) && bytes_eq t.name.lowercased name then t.count else 0
@@ -29,3 +29,14 @@ abbrev pub CuttingDropsAbove : Type 0
 CuttingDropsAbove =
     (ts : List TypedCount) (level from : ℕ) → IsAscending from ts → (l : ℕ) (q : List ℕ)
     → typed_of (cut_to level ts) l q ≡ (if nat_le l level then typed_of ts l q else 0)
+
+-- levels that rise strictly up to a level at most
+abbrev pub IsRising : ℕ → List (ℕ × ℕ) → Type 0
+IsRising level [] = Unit {0}
+IsRising level (x ∷ []) = x.0 ≤ level
+IsRising level (x ∷ y ∷ xs) = (x.0 < y.0) × IsRising level (y ∷ xs)
+
+-- The counter that is found for a name at a level, not below one that the name has a counter at, has counted what is counted there.
+abbrev pub CountsAtTheirLevel : Type 0
+CountsAtTheirLevel =
+    (ts : List TypedCount) (level : ℕ) (name : Name) → IsRising level (levels_of name ts) → unwrap_or (count_at ts level name) 0 ≡ typed_of ts level name.lowercased

@@ -1,6 +1,6 @@
 //! What holds of every stack that began empty: each function takes and gives nothing, and its contract is the law.
 
-ghost use Rattle.lol_vm.specs.TypedLaws.{CountingAddsOne, CuttingDropsAbove};
+ghost use Rattle.lol_vm.specs.TypedLaws.{CountingAddsOne, CountsAtTheirLevel, CuttingDropsAbove};
 ghost use Rattle.lol_vm.specs.SoundStacks.{NewIsSound, CountingKeepsSound, OpeningKeepsSound, ClosingKeepsSound, SameIsSound, EndsAtLast};
 
 /// The active ranges of a stack are those of its open elements, and the places of each name are theirs: so it is of a new stack, and
@@ -18,8 +18,10 @@ pub fn ends_close_the_last_of_their_name<E>()
     ensures { EndsAtLast E }
 {}
 
-/// Counters by type as a function of level and name: a child that is counted is one more there, and cutting drops the levels above.
+/// Counters by type as a function of level and name: a child that is counted is one more there, cutting drops
+/// the levels above, and the counter that is found for a name has counted what is counted there.
 pub fn typed_counts_are_a_function()
     ensures counting { CountingAddsOne }
     ensures cutting { CuttingDropsAbove }
+    ensures found { CountsAtTheirLevel }
 {}
