@@ -34,7 +34,9 @@ impl Children {
     }
 
     fn all(&self) -> i32 {
-        self.of(0).saturating_add(self.of(1)).saturating_add(self.of(2))
+        self.of(0)
+            .saturating_add(self.of(1))
+            .saturating_add(self.of(2))
     }
 }
 
@@ -171,14 +173,22 @@ fn agrees(
         Some(counter) => has_counted(counter, children.of(kind)),
         None => children.of(kind) == 0,
     };
-    Ok(typed
-        && has_counted(state.cumulative, children.all())
-        && stack.items().len() == plain.kinds.len()
-        && stack.open_places(name) == plain.places(alloc, kind)?.as_slice()
-        && stack.active_hereditary_jumps() == plain.active(alloc)?.as_slice())
+    Ok(
+        typed
+            && has_counted(state.cumulative, children.all())
+            && stack.items().len() == plain.kinds.len()
+            && stack.open_places(name) == plain.places(alloc, kind)?.as_slice()
+            && stack.active_hereditary_jumps() == plain.active(alloc)?.as_slice(),
+    )
 }
 
-fn count_child(rt: &impl Abort, stack: &mut Stack<Numbered>, plain: &mut Plain, kind: usize, name: &[u8])
+fn count_child(
+    rt: &impl Abort,
+    stack: &mut Stack<Numbered>,
+    plain: &mut Plain,
+    kind: usize,
+    name: &[u8],
+)
     ensures { item_bytes_in stack.new ≡ item_bytes_in stack.old }
 {
     assert!(rt; stack.add_child(&LocalName::new(name)).is_ok());

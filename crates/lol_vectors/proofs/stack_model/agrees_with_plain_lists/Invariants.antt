@@ -3,4 +3,4 @@ use Rattle.lol_vm.specs.Stacks.{item_bytes_in}
 use Rattle.lol_vectors.proofs.stack_model.agrees_with_plain_lists.Given as goal
 
 abbrev pub invariant-loop : goal.invariant-loop
-invariant-loop l = item_bytes_in l.stack ≡ 64
+invariant-loop g l = item_bytes_in l.stack ≡ 64
