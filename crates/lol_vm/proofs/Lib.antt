@@ -26,3 +26,4 @@ pub mod SoundPlaces
 pub mod SoundRanges
 pub mod SoundLemmas
 pub mod TypedFunctions
+pub mod StackMachines

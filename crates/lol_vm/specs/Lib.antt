@@ -31,3 +31,4 @@ pub mod RunLaws
 pub mod Directives
 pub mod SoundStacks
 pub mod TypedLaws
+pub mod StackMachines

@@ -18,6 +18,7 @@ pub mod run_laws;
 mod stack;
 mod stack_item;
 pub mod stack_laws;
+pub mod stack_machine_laws;
 mod void;
 
 pub use address_ranges::AddressRanges;

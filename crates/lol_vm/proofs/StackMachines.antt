@@ -1,0 +1,155 @@
+-- Stacks that keep what a machine keeps.
+use Rattle.std.proofs.Common.{◌≡◌, ℕ, suc, ◌+◌, ◌≤◌, Bool, true, false, cond, not, List, [], ◌∷◌, ◌++◌, length, map, filter, reverse, Option, Some, None, inl, inr, refl, sym, ap, ◌∙◌, subst, arith, append_assoc}
+use Rattle.std.specs.Prelude.{nat_lt, max, if◌then◌else◌, ◌||◌}
+use Rattle.std.proofs.lemmas.List.{map-append, reverse-append, length-map, length-reverse, append-nil}
+use Rattle.std.specs.declared.ops.Range as std
+use Rattle.lol_base.specs.BoolLaws.{not_true, or-false}
+use Rattle.lol_base.specs.MemberLaws.{Among, Distinct}
+use Rattle.lol_base.specs.LocalNames.{Name}
+use Rattle.lol_memory.specs.LimitedVec.{LimitedVec, pushed}
+use Rattle.lol_memory.specs.Slots.{minimum_slots}
+use Rattle.lol_program.specs.Programs.{Range}
+use Rattle.lol_program.specs.ProgramViews.{range_shown}
+use Rattle.lol_vm.specs.Active as active
+use Rattle.lol_vm.specs.Active.{activated}
+use Rattle.lol_vm.specs.Machines.{is_active, same_range, newly_active}
+use Rattle.lol_vm.specs.TypedCounts.{TypedCount}
+use Rattle.lol_vm.specs.Standing.{Machine, slots_after}
+use Rattle.lol_vm.specs.Stacks.{items_in, active_in, typed_in}
+use Rattle.lol_vm.specs.StackMachines.{item_shown, items_shown, children_shown, active_shown, in_lower_case, Climb, levels_in, KeepsTyped, Keeps, NewStackKeeps, SameStackKeeps, OpeningStackKeeps}
+use Rattle.lol_vm.specs.declared.stack_item.StackItemOf.{StackItemOf}
+use Rattle.lol_vm.specs.declared.stack.StackOf.{StackOf}
+use Rattle.lol_vm.specs.declared.stack.StackNames.{StackNames}
+use Rattle.lol_vm.proofs.Held.{range_is}
+use Rattle.lol_vm.proofs.Lists.{to_distinct}
+
+-- 1. Lists, the last element first
+
+pub shown_push : {A B : Type 0} (f : A → B) (xs : List A) (x : A) → reverse (map f (xs ++ x ∷ [])) ≡ f x ∷ reverse (map f xs)
+shown_push f xs x = ap reverse (map-append f xs (x ∷ [])) ∙ reverse-append (map f xs) (f x ∷ [])
+
+pub shown_length : {A B : Type 0} (f : A → B) (xs : List A) → length (reverse (map f xs)) ≡ length xs
+shown_length f xs = length-reverse (map f xs) ∙ length-map xs f
+
+-- 2. Active ranges
+
+active_same : (xs : List (std.Range ℕ × ℕ)) (r : std.Range ℕ) → is_active (active_shown xs) (range_shown r) ≡ active.is_active xs r
+active_same [] r = refl
+active_same (a ∷ xs) r = ap (λ b. active.same_range a.0 r || b) (active_same xs r)
+
+-- one more active range makes no other range active
+active_push : (xs : List (Range × ℕ)) (a : Range × ℕ) (r : Range) → is_active (xs ++ a ∷ []) r ≡ (is_active xs r || same_range a.0 r)
+active_push [] a r = or-false (same_range a.0 r)
+active_push (x ∷ xs) a r = ap (λ b. same_range x.0 r || b) (active_push xs a r) ∙ or_assoc (same_range x.0 r) (is_active xs r) (same_range a.0 r)
+  where
+    or_assoc : (a b c : Bool) → (a || (b || c)) ≡ ((a || b) || c)
+    or_assoc true b c = refl
+    or_assoc false b c = refl
+
+new_others : (xs : List (Range × ℕ)) (r : Range) (place : ℕ) (rs : List Range) → (Among rs r → ⊥) → newly_active (xs ++ (r, place) ∷ []) place rs ≡ newly_active xs place rs
+new_others xs r place [] fresh = refl
+new_others xs r place (q ∷ rs) fresh =
+    let differ : same_range r q ≡ false = not_true (same_range r q) (λ same. fresh (inl (sym (range_is r q same)))) in
+    let same : is_active (xs ++ (r, place) ∷ []) q ≡ is_active xs q = active_push xs (r, place) q ∙ (ap (λ b. is_active xs q || b) differ ∙ or-false (is_active xs q)) in
+    let later = new_others xs r place rs (λ a. fresh (inr a)) in
+    by_test (is_active (xs ++ (r, place) ∷ []) q) (is_active xs q) same later
+  where
+    by_test : (a b : Bool) → a ≡ b → newly_active (xs ++ (r, place) ∷ []) place rs ≡ newly_active xs place rs
+        → map {B = Range × ℕ} (λ (q : Range). (q, place)) (cond (not a) (q ∷ filter (λ q. not (is_active (xs ++ (r, place) ∷ []) q)) rs) (filter (λ q. not (is_active (xs ++ (r, place) ∷ []) q)) rs))
+        ≡ map {B = Range × ℕ} (λ (q : Range). (q, place)) (cond (not b) (q ∷ filter (λ q. not (is_active xs q)) rs) (filter (λ q. not (is_active xs q)) rs))
+    by_test true true is later = later
+    by_test false false is later = ap (λ more. (q, place) ∷ more) later
+    by_test true false is later = cc
+    by_test false true is later = cc
+
+abbrev not_active : List (std.Range ℕ × ℕ) → List (std.Range ℕ) → List Range
+not_active xs rs = filter (λ q. not (is_active (active_shown xs) q)) (map range_shown rs)
+
+abbrev Shown : ℕ → List (std.Range ℕ) → List (std.Range ℕ × ℕ) → Type 0
+Shown place rs xs = active_shown (activated xs place rs) ≡ active_shown xs ++ newly_active (active_shown xs) place (map range_shown rs)
+
+pub activated_shown : (xs : List (std.Range ℕ × ℕ)) (place : ℕ) (rs : List (std.Range ℕ)) → Distinct (map range_shown rs)
+    → active_shown (activated xs place rs) ≡ active_shown xs ++ newly_active (active_shown xs) place (map range_shown rs)
+activated_shown xs place [] d = sym (append-nil (active_shown xs))
+activated_shown xs place (r ∷ rs) d =
+    by_test (active.is_active xs r) (is_active (active_shown xs) (range_shown r)) (active_same xs r) (activated_shown xs place rs d.1) (activated_shown (xs ++ (r, place) ∷ []) place rs d.1)
+  where
+    by_test : (a b : Bool) → b ≡ a → Shown place rs xs → Shown place rs (xs ++ (r, place) ∷ [])
+        → active_shown (activated (if a then xs else xs ++ (r, place) ∷ []) place rs) ≡ active_shown xs ++ map {B = Range × ℕ} (λ (q : Range). (q, place)) (cond (not b) (range_shown r ∷ not_active xs rs) (not_active xs rs))
+    by_test true true is kept added = kept
+    by_test false false is kept added =
+        let more : active_shown (xs ++ (r, place) ∷ []) ≡ active_shown xs ++ (range_shown r, place) ∷ [] = map-append (λ (a : std.Range ℕ × ℕ). (range_shown a.0, a.1)) xs ((r, place) ∷ []) in
+        added
+        ∙ ((λ i. more i ++ newly_active (more i) place (map range_shown rs))
+        ∙ (ap (λ new. (active_shown xs ++ (range_shown r, place) ∷ []) ++ new) (new_others (active_shown xs) (range_shown r) place (map range_shown rs) d.0)
+        ∙ append_assoc (active_shown xs) ((range_shown r, place) ∷ []) (newly_active (active_shown xs) place (map range_shown rs))))
+    by_test true false is kept added = cc
+    by_test false true is kept added = cc
+
+-- 3. Counters by type
+
+climb_lower : (a b : ℕ) (levels : List ℕ) → a ≤ b → Climb a levels → Climb b levels
+climb_lower a b [] h c = tt
+climb_lower a b (level ∷ []) h c = (omega (arith, c.0, h), tt)
+climb_lower a b (level ∷ next ∷ levels) h c = (c.0, climb_lower a b (next ∷ levels) h c.1)
+
+keeps_typed_above : (typed : Option (List TypedCount)) (by_type : Bool) (a b : ℕ) (counts : ℕ → List ℕ → ℕ) → a ≤ b → KeepsTyped typed by_type a counts → KeepsTyped typed by_type b counts
+keeps_typed_above None by_type a b counts h keeps = keeps
+keeps_typed_above (Some ts) by_type a b counts h keeps = (keeps.0, climb_lower a b (levels_in ts) h keeps.1, keeps.2)
+
+-- 4. Stacks
+
+module _ {E : Type 0} where
+  pub items_counted : (s : StackOf Name StackNames E) (m : Machine) → Keeps s m → length m.items ≡ length (items_in s)
+  items_counted s m keeps = sym (length-map m.items in_lower_case) ∙ (ap length keeps.items ∙ shown_length item_shown (items_in s))
+
+  pub new_stack_keeps : NewStackKeeps E
+  new_stack_keeps s p esi item_bytes new = record {
+    items = sym (ap (λ (v : LimitedVec (StackItemOf Name E)). items_shown v.items) new.items);
+    active = sym (ap active_shown new.active);
+    root_children = sym new.root;
+    children = sym (ap (λ (v : LimitedVec (StackItemOf Name E)). children_shown v.items) new.items);
+    typed = subst (λ typed. KeepsTyped typed p.by_type 0 (λ level name. 0)) (sym new.typed) (by_test p.by_type);
+    item_bytes = sym (ap (λ (v : LimitedVec (StackItemOf Name E)). v.item_bytes) new.items);
+    slots = sym (ap (λ (v : LimitedVec (StackItemOf Name E)). v.slots) new.items);
+  }
+    where
+      by_test : (by_type : Bool) → KeepsTyped (if by_type then Some [] else None) by_type 0 (λ level name. 0)
+      by_test true = (refl, tt, λ level name. refl)
+      by_test false = refl
+
+  pub same_stack_keeps : SameStackKeeps E
+  same_stack_keeps old new m keeps same = record {
+    items = keeps.items ∙ sym (ap (λ (v : LimitedVec (StackItemOf Name E)). items_shown v.items) same.items);
+    active = keeps.active ∙ sym (ap active_shown same.active);
+    root_children = keeps.root_children ∙ sym same.root;
+    children = keeps.children ∙ sym (ap (λ (v : LimitedVec (StackItemOf Name E)). children_shown v.items) same.items);
+    typed = subst (λ typed. KeepsTyped typed m.program.by_type (length m.items) m.typed) (sym same.typed) keeps.typed;
+    item_bytes = keeps.item_bytes ∙ sym (ap (λ (v : LimitedVec (StackItemOf Name E)). v.item_bytes) same.items);
+    slots = keeps.slots ∙ sym (ap (λ (v : LimitedVec (StackItemOf Name E)). v.slots) same.items);
+  }
+
+  grown_slots_are : (v : LimitedVec (StackItemOf Name E)) (item : StackItemOf Name E) → slots_after v.item_bytes v.slots (length v.items) ≡ (pushed v item).slots
+  grown_slots_are v item = by_test (nat_lt (length v.items) v.slots)
+    where
+      by_test : (b : Bool) → cond b v.slots (v.slots + max v.slots (minimum_slots v.item_bytes)) ≡ v.slots + cond b 0 (max v.slots (minimum_slots v.item_bytes))
+      by_test true = omega arith
+      by_test false = refl
+
+  pub opening_stack_keeps : OpeningStackKeeps E
+  opening_stack_keeps old new m item name context keeps push is =
+      let items : items_in new ≡ items_in old ++ item ∷ [] = ap (λ (v : LimitedVec (StackItemOf Name E)). v.items) push.items in
+      let count = items_counted old m keeps in
+      record {
+        items = (λ i. record { name = sym (ap (λ (n : Name). n.lowercased) is.named) i; jumps = is.jumps i; hereditary_jumps = is.hereditary_jumps i } ∷ keeps.items i)
+            ∙ (sym (shown_push item_shown (items_in old) item) ∙ sym (ap items_shown items));
+        active = (λ i. keeps.active i ++ newly_active (keeps.active i) (count i) (is.hereditary_jumps i))
+            ∙ (sym (activated_shown (active_in old) (length (items_in old)) item.hereditary_jumps (subst Distinct is.hereditary_jumps (to_distinct context.hereditary_jumps is.once)))
+            ∙ sym (ap active_shown push.active));
+        root_children = keeps.root_children ∙ sym push.root;
+        children = (λ i. sym is.children i ∷ keeps.children i)
+            ∙ (sym (shown_push (λ (x : StackItemOf Name E). x.child_counter) (items_in old) item) ∙ sym (ap children_shown items));
+        typed = subst (λ typed. KeepsTyped typed m.program.by_type (suc (length m.items)) m.typed) (sym push.typed) (keeps_typed_above (typed_in old) m.program.by_type (length m.items) (suc (length m.items)) m.typed (omega arith) keeps.typed);
+        item_bytes = keeps.item_bytes ∙ sym (ap (λ (v : LimitedVec (StackItemOf Name E)). v.item_bytes) push.items);
+        slots = (λ i. slots_after (keeps.item_bytes i) (keeps.slots i) (count i)) ∙ (grown_slots_are old.items item ∙ sym (ap (λ (v : LimitedVec (StackItemOf Name E)). v.slots) push.items));
+      }

@@ -1,0 +1,101 @@
+-- When a stack keeps what a machine keeps of the open elements.
+use Rattle.std.specs.Prelude.{ℕ, ◌≤◌, ◌≡◌, Bool, true, false, if◌then◌else◌, List, [], ◌∷◌, map, reverse, length, Option, Some, None, unwrap_or}
+use Rattle.std.specs.declared.ops.Range as std
+use Rattle.lol_base.specs.Names.{lowercased}
+use Rattle.lol_base.specs.LocalNames.{Name, local_name}
+use Rattle.lol_program.specs.Programs.{Range, Program, Once}
+use Rattle.lol_program.specs.ProgramViews.{range_shown}
+use Rattle.lol_vm.specs.Machines.{Item}
+use Rattle.lol_vm.specs.PlaceRuns.{Context}
+use Rattle.lol_vm.specs.Standing.{Machine, new_machine, opened}
+use Rattle.lol_vm.specs.TypedCounts.{TypedCount, count_at, cut_to}
+use Rattle.lol_vm.specs.Stacks.{items_in, slots_in, active_in, typed_in, IsSame, IsPushed}
+use Rattle.lol_vm.specs.declared.stack_item.StackItemOf.{StackItemOf}
+use Rattle.lol_vm.specs.declared.stack.StackOf.{StackOf}
+use Rattle.lol_vm.specs.declared.stack.StackNames.{StackNames}
+
+-- 1. What a stack shows
+
+module _ {E : Type 0} where
+  abbrev pub item_shown : StackItemOf Name E → Item
+  item_shown item =
+      record { name = item.local_name.lowercased; jumps = map range_shown item.jumps; hereditary_jumps = map range_shown item.hereditary_jumps }
+
+  -- the open elements, the innermost first
+  abbrev pub items_shown : List (StackItemOf Name E) → List Item
+  items_shown items = reverse (map item_shown items)
+
+  -- how many children each of them had
+  abbrev pub children_shown : List (StackItemOf Name E) → List ℕ
+  children_shown items = reverse (map (λ item. item.child_counter) items)
+
+abbrev pub active_shown : List (std.Range ℕ × ℕ) → List (Range × ℕ)
+active_shown active = map (λ a. (range_shown a.0, a.1)) active
+
+-- an item with its name in ASCII lower case
+abbrev pub in_lower_case : Item → Item
+in_lower_case item = record { name = lowercased item.name; jumps = item.jumps; hereditary_jumps = item.hereditary_jumps }
+
+-- 2. Counts by type
+
+abbrev pub levels_in : List TypedCount → List ℕ
+levels_in ts = map (λ t. t.level) ts
+
+abbrev pub first_or : ℕ → List ℕ → ℕ
+first_or top [] = top
+first_or top (level ∷ levels) = level
+
+-- levels that don't fall, none above the top
+abbrev pub Climb : ℕ → List ℕ → Type 0
+Climb top [] = Unit {0}
+Climb top (level ∷ levels) = (level ≤ first_or top levels) × Climb top levels
+
+-- what was counted of a name at a level: by its last counter, once those above the level are dropped
+abbrev pub typed_shown : List TypedCount → ℕ → Name → ℕ
+typed_shown ts level name = unwrap_or (count_at (cut_to level ts) level name) 0
+
+-- children are counted by type where the program asks for it, at the levels up to that of the innermost element
+abbrev pub KeepsTyped : Option (List TypedCount) → Bool → ℕ → (ℕ → List ℕ → ℕ) → Type 0
+KeepsTyped None by_type top typed = by_type ≡ false
+KeepsTyped (Some ts) by_type top typed =
+    (by_type ≡ true) × Climb top (levels_in ts) × ((level : ℕ) (name : List ℕ) → typed level name ≡ typed_shown ts level (local_name name))
+
+-- 3. Keeping
+
+-- A stack keeps the items, active ranges, counters and slots of a machine.
+pub record Keeps {E : Type 0} (s : StackOf Name StackNames E) (m : Machine) : Type 0 where
+  pub items : map in_lower_case m.items ≡ items_shown (items_in s)
+  pub active : m.active ≡ active_shown (active_in s)
+  pub root_children : m.root_children ≡ s.root_child_counter
+  pub children : m.children ≡ children_shown (items_in s)
+  pub typed : KeepsTyped (typed_in s) m.program.by_type (length m.items) m.typed
+  pub item_bytes : m.item_bytes ≡ s.items.item_bytes
+  pub slots : m.slots ≡ slots_in s
+
+-- What is so of a new stack, and what each call keeps.
+
+-- a new stack, which counts by type where the program asks for it
+pub record IsNew {E : Type 0} (s : StackOf Name StackNames E) (by_type : Bool) (item_bytes : ℕ) : Type 0 where
+  pub items : s.items ≡ record { items = []; slots = 0; item_bytes = item_bytes }
+  pub root : s.root_child_counter ≡ 0
+  pub active : active_in s ≡ []
+  pub typed : typed_in s ≡ (if by_type then Some [] else None)
+
+abbrev pub NewStackKeeps : Type 0 → Type 0
+NewStackKeeps E = (s : StackOf Name StackNames E) (p : Program) (esi : Bool) (item_bytes : ℕ) → IsNew s p.by_type item_bytes → Keeps s (new_machine p esi item_bytes)
+
+abbrev pub SameStackKeeps : Type 0 → Type 0
+SameStackKeeps E = (old new : StackOf Name StackNames E) (m : Machine) → Keeps old m → IsSame old new → Keeps new m
+
+-- an element that has what was gathered, and no children yet
+pub record IsItemOf {E : Type 0} (item : StackItemOf Name E) (name : List ℕ) (context : Context) : Type 0 where
+  pub named : item.local_name ≡ local_name name
+  pub jumps : context.jumps ≡ map range_shown item.jumps
+  pub hereditary_jumps : context.hereditary_jumps ≡ map range_shown item.hereditary_jumps
+  pub once : Once context.hereditary_jumps
+  pub children : item.child_counter ≡ 0
+
+abbrev pub OpeningStackKeeps : Type 0 → Type 0
+OpeningStackKeeps E =
+    (old new : StackOf Name StackNames E) (m : Machine) (item : StackItemOf Name E) (name : List ℕ) (context : Context)
+    → Keeps old m → IsPushed old item new → IsItemOf item name context → Keeps new (opened m name context)

@@ -1,0 +1,14 @@
+//! Stacks and machines: each function takes and gives nothing, and its contract is the law.
+
+ghost use Rattle.lol_vm.specs.StackMachines.{NewStackKeeps, OpeningStackKeeps, SameStackKeeps};
+
+/// A new stack keeps what a new machine does, and a call that changes nothing keeps it so.
+pub fn new_stacks_keep<E>()
+    ensures new { NewStackKeeps E }
+    ensures same { SameStackKeeps E }
+{}
+
+/// A stack that opens an element keeps what the machine does that opens it.
+pub fn opening_stacks_keep<E>()
+    ensures { OpeningStackKeeps E }
+{}
