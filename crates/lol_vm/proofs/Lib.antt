@@ -27,3 +27,4 @@ pub mod SoundRanges
 pub mod SoundLemmas
 pub mod TypedFunctions
 pub mod StackMachines
+pub mod TypedLevels

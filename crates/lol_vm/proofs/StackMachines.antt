@@ -1,26 +1,33 @@
 -- Stacks that keep what a machine keeps.
-use Rattle.std.proofs.Common.{◌≡◌, ℕ, suc, ◌+◌, ◌≤◌, Bool, true, false, cond, not, List, [], ◌∷◌, ◌++◌, length, map, filter, reverse, Option, Some, None, inl, inr, refl, sym, ap, ◌∙◌, subst, arith, append_assoc}
-use Rattle.std.specs.Prelude.{nat_lt, max, if◌then◌else◌, ◌||◌}
-use Rattle.std.proofs.lemmas.List.{map-append, reverse-append, length-map, length-reverse, append-nil}
+use Rattle.std.proofs.Common.{◌≡◌, ℕ, suc, ◌+◌, ◌-◌, ◌<◌, ◌≤◌, Bool, true, false, cond, not, List, [], ◌∷◌, ◌++◌, length, map, filter, reverse, take, drop, position, Option, Some, None, inl, inr, refl, sym, ap, ◌∙◌, subst, arith, append_assoc}
+use Rattle.std.specs.Prelude.{nat_lt, nat_le, max, if◌then◌else◌, ◌||◌}
+use Rattle.std.specs.List.{position_or_len, drop-map, take-map}
+use Rattle.std.specs.Option.{option_map}
+use Rattle.std.proofs.lemmas.Bool.Decides.{Decides-ltb, nat_tests}
+use Rattle.std.proofs.lemmas.List.{length-drop, map-append, reverse-append, length-map, length-reverse, append-nil}
 use Rattle.std.specs.declared.ops.Range as std
 use Rattle.lol_base.specs.BoolLaws.{not_true, or-false}
 use Rattle.lol_base.specs.MemberLaws.{Among, Distinct}
-use Rattle.lol_base.specs.LocalNames.{Name}
+use Rattle.lol_base.specs.Names.{same_name}
+use Rattle.lol_base.specs.LocalNames.{Name, local_name}
 use Rattle.lol_memory.specs.LimitedVec.{LimitedVec, pushed}
 use Rattle.lol_memory.specs.Slots.{minimum_slots}
 use Rattle.lol_program.specs.Programs.{Range}
 use Rattle.lol_program.specs.ProgramViews.{range_shown}
 use Rattle.lol_vm.specs.Active as active
 use Rattle.lol_vm.specs.Active.{activated}
-use Rattle.lol_vm.specs.Machines.{is_active, same_range, newly_active}
-use Rattle.lol_vm.specs.TypedCounts.{TypedCount}
-use Rattle.lol_vm.specs.Standing.{Machine, slots_after}
-use Rattle.lol_vm.specs.Stacks.{items_in, active_in, typed_in}
-use Rattle.lol_vm.specs.StackMachines.{item_shown, items_shown, children_shown, active_shown, in_lower_case, Climb, levels_in, KeepsTyped, Keeps, NewStackKeeps, SameStackKeeps, OpeningStackKeeps}
+use Rattle.lol_vm.specs.Machines.{Item, active_of, is_active, same_range, newly_active}
+use Rattle.lol_vm.specs.TypedCounts.{TypedCount, cut_to}
+use Rattle.lol_vm.specs.Standing.{Machine, slots_after, cut, closes}
+use Rattle.lol_vm.specs.Stacks.{items_in, active_in, typed_in, IsSame, IsClosed, IsEndedAt}
+use Rattle.lol_vm.specs.StackMachines.{EndingStackKeeps, item_shown, items_shown, children_shown, active_shown, in_lower_case, Climb, levels_in, KeepsTyped, Keeps, NewStackKeeps, SameStackKeeps, OpeningStackKeeps}
 use Rattle.lol_vm.specs.declared.stack_item.StackItemOf.{StackItemOf}
 use Rattle.lol_vm.specs.declared.stack.StackOf.{StackOf}
 use Rattle.lol_vm.specs.declared.stack.StackNames.{StackNames}
 use Rattle.lol_vm.proofs.Held.{range_is}
+use Rattle.lol_vm.proofs.Kept.{active_drop}
+use Rattle.lol_vm.proofs.Runs.{drop-reverse}
+use Rattle.lol_vm.proofs.TypedLevels.{cut_to-all, climb_cut, shown_cut as typed_cut}
 use Rattle.lol_vm.proofs.Lists.{to_distinct}
 
 -- 1. Lists, the last element first
@@ -153,3 +160,89 @@ module _ {E : Type 0} where
         item_bytes = keeps.item_bytes ∙ sym (ap (λ (v : LimitedVec (StackItemOf Name E)). v.item_bytes) push.items);
         slots = (λ i. slots_after (keeps.item_bytes i) (keeps.slots i) (count i)) ∙ (grown_slots_are old.items item ∙ sym (ap (λ (v : LimitedVec (StackItemOf Name E)). v.slots) push.items));
       }
+
+-- 5. Closing
+
+shown_cut : {A B : Type 0} (f : A → B) (xs : List A) (n place : ℕ) → n + place ≡ length xs → drop n (reverse (map f xs)) ≡ reverse (map f (take place xs))
+shown_cut f xs n place sizes =
+    let count = length-map xs f in
+    let left : length (map f xs) - n ≡ place = omega (arith, sizes, count) in
+    drop-reverse n (map f xs) (omega (arith, sizes, count)) ∙ ap reverse (ap (λ k. take k (map f xs)) left ∙ take-map f place xs)
+
+active_cut : (place : ℕ) (xs : List (std.Range ℕ × ℕ)) → filter (λ (a : Range × ℕ). nat_lt a.1 place) (active_shown xs) ≡ active_shown (filter (λ (a : std.Range ℕ × ℕ). nat_lt a.1 place) xs)
+active_cut place [] = refl
+active_cut place (a ∷ xs) = by_test (nat_lt a.1 place) (active_cut place xs)
+  where
+    by_test : (b : Bool) → filter (λ (a : Range × ℕ). nat_lt a.1 place) (active_shown xs) ≡ active_shown (filter (λ (a : std.Range ℕ × ℕ). nat_lt a.1 place) xs)
+        → cond b ((range_shown a.0, a.1) ∷ filter (λ (a : Range × ℕ). nat_lt a.1 place) (active_shown xs)) (filter (λ (a : Range × ℕ). nat_lt a.1 place) (active_shown xs))
+        ≡ active_shown (cond b (a ∷ filter (λ (a : std.Range ℕ × ℕ). nat_lt a.1 place) xs) (filter (λ (a : std.Range ℕ × ℕ). nat_lt a.1 place) xs))
+    by_test true later = ap (λ more. (range_shown a.0, a.1) ∷ more) later
+    by_test false later = later
+
+le_or_above : (level place k : ℕ) → cond (nat_le level place) k 0 ≡ cond (nat_lt place level) 0 k
+le_or_above level place k = grind (arith, nat_tests)
+
+keeps_typed_cut : (typed : Option (List TypedCount)) (by_type : Bool) (top place : ℕ) (counts : ℕ → List ℕ → ℕ) → KeepsTyped typed by_type top counts
+    → KeepsTyped (option_map (cut_to place) typed) by_type place (λ level name. if nat_le level place then counts level name else 0)
+keeps_typed_cut None by_type top place counts keeps = keeps
+keeps_typed_cut (Some ts) by_type top place counts keeps = (
+  keeps.0,
+  climb_cut top place ts keeps.1,
+  λ level name. le_or_above level place (counts level name) ∙ (ap (cond (nat_lt place level) 0) (keeps.2 level name) ∙ sym (typed_cut top place level ts (local_name name) keeps.1)),
+)
+
+keeps_typed_stray : (typed : Option (List TypedCount)) (by_type : Bool) (top : ℕ) (counts : ℕ → List ℕ → ℕ) → KeepsTyped typed by_type top counts
+    → KeepsTyped typed by_type top (λ level name. if nat_le level top then counts level name else 0)
+keeps_typed_stray None by_type top counts keeps = keeps
+keeps_typed_stray (Some ts) by_type top counts keeps =
+    subst (λ xs. KeepsTyped (Some xs) by_type top (λ level name. if nat_le level top then counts level name else 0)) (cut_to-all top top ts keeps.1 (omega arith))
+    (keeps_typed_cut (Some ts) by_type top top counts keeps)
+
+found_within : {A : Type 0} (p : A → Bool) (xs : List A) (k : ℕ) → position p xs ≡ Some k → k < length xs
+found_within p xs k is = by_test (position_or_len p xs) (nat_lt (position_or_len p xs) (length xs)) refl is
+  where
+    by_test : (n : ℕ) (b : Bool) → nat_lt n (length xs) ≡ b → cond b (Some n) None ≡ Some k → k < length xs
+    by_test n true within same = let here : n ≡ k = cc in let below = (Decides-ltb n (length xs)).0 within in omega (arith, here, below)
+    by_test n false within same = cc
+
+module _ {E : Type 0} (old new : StackOf Name StackNames E) (m : Machine) (keeps : Keeps old m) where
+  cut_keeps : (n place : ℕ) → n + place ≡ length (items_in old) → IsClosed place old new → Keeps new (cut n m)
+  cut_keeps n place sizes closed =
+      let items : items_in new ≡ take place (items_in old) = ap (λ (v : LimitedVec (StackItemOf Name E)). v.items) closed.items in
+      let count = items_counted old m keeps in
+      let left : length (drop n m.items) ≡ place = length-drop n m.items ∙ omega (arith, sizes, count) in
+      record {
+        items = sym (drop-map in_lower_case n m.items) ∙ (ap (drop n) keeps.items ∙ (shown_cut item_shown (items_in old) n place sizes ∙ sym (ap items_shown items)));
+        active = (λ i. filter (λ (a : Range × ℕ). nat_lt a.1 (left i)) (keeps.active i)) ∙ (active_cut place (active_in old) ∙ sym (ap active_shown closed.active));
+        root_children = keeps.root_children ∙ sym closed.root;
+        children = ap (drop n) keeps.children ∙ (shown_cut (λ (x : StackItemOf Name E). x.child_counter) (items_in old) n place sizes ∙ sym (ap children_shown items));
+        typed = subst (λ typed. KeepsTyped typed m.program.by_type (length (drop n m.items)) (cut n m).typed) (sym closed.typed)
+            (subst (λ top. KeepsTyped (option_map (cut_to place) (typed_in old)) m.program.by_type top (λ level name. if nat_le level top then m.typed level name else 0)) (sym left)
+            (keeps_typed_cut (typed_in old) m.program.by_type (length m.items) place m.typed keeps.typed));
+        item_bytes = keeps.item_bytes ∙ sym (ap (λ (v : LimitedVec (StackItemOf Name E)). v.item_bytes) closed.items);
+        slots = keeps.slots ∙ sym (ap (λ (v : LimitedVec (StackItemOf Name E)). v.slots) closed.items);
+      }
+
+  stray_keeps : m.active ≡ active_of m.items → IsSame old new → Keeps new (cut 0 m)
+  stray_keeps active same =
+      let kept = same_stack_keeps old new m keeps same in
+      record {
+        items = kept.items;
+        active = (ap (filter (λ (a : Range × ℕ). nat_lt a.1 (length m.items))) active ∙ (active_drop 0 m.items ∙ sym active)) ∙ kept.active;
+        root_children = kept.root_children;
+        children = kept.children;
+        typed = keeps_typed_stray (typed_in new) m.program.by_type (length m.items) m.typed kept.typed;
+        item_bytes = kept.item_bytes;
+        slots = kept.slots;
+      }
+
+  by_place : m.active ≡ active_of m.items → (o : Option ℕ) → ((k : ℕ) → o ≡ Some k → k < length m.items) → IsEndedAt (option_map (λ k. length m.items - (k + 1)) o) old new → Keeps new (cut (closes o) m)
+  by_place active None within ended = stray_keeps active ended
+  by_place active (Some k) within ended =
+      let below = within k refl in
+      let count = items_counted old m keeps in
+      cut_keeps (k + 1) (length m.items - (k + 1)) (omega (arith, below, count)) ended
+
+pub ending_stack_keeps : {E : Type 0} → EndingStackKeeps E
+ending_stack_keeps old new m name keeps active ended =
+    by_place old new m keeps active (position (λ (item : Item). same_name item.name name) m.items) (λ k is. found_within (λ (item : Item). same_name item.name name) m.items k is) ended

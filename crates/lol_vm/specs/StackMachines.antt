@@ -1,15 +1,16 @@
 -- When a stack keeps what a machine keeps of the open elements.
-use Rattle.std.specs.Prelude.{ℕ, ◌≤◌, ◌≡◌, Bool, true, false, if◌then◌else◌, List, [], ◌∷◌, map, reverse, length, Option, Some, None, unwrap_or}
+use Rattle.std.specs.Prelude.{ℕ, ◌+◌, ◌-◌, ◌≤◌, ◌≡◌, Bool, true, false, if◌then◌else◌, List, [], ◌∷◌, map, reverse, length, position, Option, Some, None, unwrap_or}
+use Rattle.std.specs.Option.{option_map}
 use Rattle.std.specs.declared.ops.Range as std
-use Rattle.lol_base.specs.Names.{lowercased}
+use Rattle.lol_base.specs.Names.{lowercased, same_name}
 use Rattle.lol_base.specs.LocalNames.{Name, local_name}
 use Rattle.lol_program.specs.Programs.{Range, Program, Once}
 use Rattle.lol_program.specs.ProgramViews.{range_shown}
-use Rattle.lol_vm.specs.Machines.{Item}
+use Rattle.lol_vm.specs.Machines.{Item, active_of}
 use Rattle.lol_vm.specs.PlaceRuns.{Context}
-use Rattle.lol_vm.specs.Standing.{Machine, new_machine, opened}
+use Rattle.lol_vm.specs.Standing.{Machine, new_machine, opened, ended}
 use Rattle.lol_vm.specs.TypedCounts.{TypedCount, count_at, cut_to}
-use Rattle.lol_vm.specs.Stacks.{items_in, slots_in, active_in, typed_in, IsSame, IsPushed}
+use Rattle.lol_vm.specs.Stacks.{items_in, slots_in, active_in, typed_in, IsSame, IsPushed, IsEndedAt}
 use Rattle.lol_vm.specs.declared.stack_item.StackItemOf.{StackItemOf}
 use Rattle.lol_vm.specs.declared.stack.StackOf.{StackOf}
 use Rattle.lol_vm.specs.declared.stack.StackNames.{StackNames}
@@ -99,3 +100,12 @@ abbrev pub OpeningStackKeeps : Type 0 → Type 0
 OpeningStackKeeps E =
     (old new : StackOf Name StackNames E) (m : Machine) (item : StackItemOf Name E) (name : List ℕ) (context : Context)
     → Keeps old m → IsPushed old item new → IsItemOf item name context → Keeps new (opened m name context)
+
+-- the place, from the outermost on, of the innermost item of a name
+abbrev pub place_of_last : Machine → List ℕ → Option ℕ
+place_of_last m name = option_map (λ k. length m.items - (k + 1)) (position (λ item. same_name item.name name) m.items)
+
+abbrev pub EndingStackKeeps : Type 0 → Type 0
+EndingStackKeeps E =
+    (old new : StackOf Name StackNames E) (m : Machine) (name : List ℕ)
+    → Keeps old m → m.active ≡ active_of m.items → IsEndedAt (place_of_last m name) old new → Keeps new (ended m name)
