@@ -28,3 +28,5 @@ pub mod SoundLemmas
 pub mod TypedFunctions
 pub mod StackMachines
 pub mod TypedLevels
+pub mod TypedCounting
+pub mod StackCounting

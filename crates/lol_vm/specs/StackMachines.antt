@@ -1,16 +1,19 @@
 -- When a stack keeps what a machine keeps of the open elements.
-use Rattle.std.specs.Prelude.{ℕ, ◌+◌, ◌-◌, ◌≤◌, ◌≡◌, Bool, true, false, if◌then◌else◌, List, [], ◌∷◌, map, reverse, length, position, Option, Some, None, unwrap_or}
+use Rattle.std.specs.Prelude.{ℕ, ◌+◌, ◌-◌, ◌<◌, ◌≤◌, ◌≡◌, Bool, true, false, if◌then◌else◌, List, [], ◌∷◌, map, reverse, length, position, Option, Some, None, unwrap_or}
 use Rattle.std.specs.Option.{option_map}
 use Rattle.std.specs.declared.ops.Range as std
 use Rattle.lol_base.specs.Names.{lowercased, same_name}
 use Rattle.lol_base.specs.LocalNames.{Name, local_name}
+use Rattle.lol_program.specs.Counters.{full_count}
 use Rattle.lol_program.specs.Programs.{Range, Program, Once}
 use Rattle.lol_program.specs.ProgramViews.{range_shown}
+use Rattle.lol_vm.specs.Documents.{Document}
 use Rattle.lol_vm.specs.Machines.{Item, active_of}
 use Rattle.lol_vm.specs.PlaceRuns.{Context}
-use Rattle.lol_vm.specs.Standing.{Machine, new_machine, opened, ended}
+use Rattle.lol_vm.specs.Standing.{Machine, AreCounted, new_machine, counted, opened, ended}
+use Rattle.lol_vm.specs.Standing as standing
 use Rattle.lol_vm.specs.TypedCounts.{TypedCount, count_at, cut_to}
-use Rattle.lol_vm.specs.Stacks.{items_in, slots_in, active_in, typed_in, IsSame, IsPushed, IsEndedAt}
+use Rattle.lol_vm.specs.Stacks.{items_in, slots_in, active_in, typed_in, last_count, typed_count, counted_in, IsSame, IsPushed, IsEndedAt}
 use Rattle.lol_vm.specs.declared.stack_item.StackItemOf.{StackItemOf}
 use Rattle.lol_vm.specs.declared.stack.StackOf.{StackOf}
 use Rattle.lol_vm.specs.declared.stack.StackNames.{StackNames}
@@ -109,3 +112,25 @@ abbrev pub EndingStackKeeps : Type 0 → Type 0
 EndingStackKeeps E =
     (old new : StackOf Name StackNames E) (m : Machine) (name : List ℕ)
     → Keeps old m → m.active ≡ active_of m.items → IsEndedAt (place_of_last m name) old new → Keeps new (ended m name)
+
+-- A child is counted, where no count by type is full.
+abbrev pub CountingStackKeeps : Type 0 → Type 0
+CountingStackKeeps E =
+    (s : StackOf Name StackNames E) (m : Machine) (name : List ℕ)
+    → Keeps s m → (m.program.by_type ≡ true → m.typed (length m.items) name < full_count) → Keeps (counted_in s (local_name name)) (counted m name)
+
+-- the counters of the innermost open element, or of the root, for a child of this name
+pub record AreSeen {E : Type 0} (s : StackOf Name StackNames E) (m : Machine) (name : List ℕ) : Type 0 where
+  pub cumulative : last_count s ≡ standing.last_count m
+  pub typed : typed_count s (local_name name) ≡ (if m.program.by_type then Some (m.typed (length m.items) name) else None)
+
+-- They are seen once a child of that name is counted.
+abbrev pub CountersAreSeen : Type 0 → Type 0
+CountersAreSeen E =
+    (s : StackOf Name StackNames E) (m : Machine) (name : List ℕ) → Keeps s m → (m.program.by_type ≡ true → 0 < m.typed (length m.items) name) → AreSeen s m name
+
+-- No more children of a name are counted than children.
+abbrev pub TypedCountsAreFewer : Type 0
+TypedCountsAreFewer =
+    (m : Machine) (d : Document) (name : List ℕ) → AreCounted m d → length m.items ≡ length d.open_elements → m.program.by_type ≡ true
+    → m.typed (length m.items) name ≤ standing.last_count m

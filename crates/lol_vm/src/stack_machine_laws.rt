@@ -1,6 +1,6 @@
 //! Stacks and machines: each function takes and gives nothing, and its contract is the law.
 
-ghost use Rattle.lol_vm.specs.StackMachines.{EndingStackKeeps, NewStackKeeps, OpeningStackKeeps, SameStackKeeps};
+ghost use Rattle.lol_vm.specs.StackMachines.{CountersAreSeen, CountingStackKeeps, EndingStackKeeps, NewStackKeeps, OpeningStackKeeps, SameStackKeeps, TypedCountsAreFewer};
 
 /// A new stack keeps what a new machine does, and a call that changes nothing keeps it so.
 pub fn new_stacks_keep<E>()
@@ -17,4 +17,15 @@ pub fn opening_stacks_keep<E>()
 /// at that end tag; so does one that closes nothing, where no element of the name is open.
 pub fn ending_stacks_keep<E>()
     ensures { EndingStackKeeps E }
+{}
+
+/// A stack that counts a child keeps what the machine does that counts it, and shows its counters.
+pub fn counting_stacks_keep<E>()
+    ensures counting { CountingStackKeeps E }
+    ensures seen { CountersAreSeen E }
+{}
+
+/// Where the counts are those of a document, no count by type passes its element's count of children.
+pub fn typed_counts_are_fewer()
+    ensures { TypedCountsAreFewer }
 {}

@@ -1,0 +1,190 @@
+-- Stacks that count children as a machine does.
+use Rattle.std.proofs.Common.{◌≡◌, ℕ, ◌+◌, ◌-◌, ◌<◌, ◌≤◌, Bool, true, false, cond, List, [], ◌∷◌, ◌++◌, length, map, Option, Some, None, refl, sym, ap, ◌∙◌, subst, arith, length-append}
+use Rattle.std.specs.Prelude.{◌&&◌, ◌==◌, count_by, slice_get, slice_set, unwrap_or, if◌then◌else◌}
+use Rattle.std.specs.Option.{option_map}
+use Rattle.std.proofs.lemmas.Bool.Decides.{Decides-eqb}
+use Rattle.std.proofs.lemmas.Slice.Eq.{bytes_eq-Decides}
+use Rattle.lol_base.specs.BoolLaws.{and_parts}
+use Rattle.lol_base.specs.MemberLaws.{count_by-cons}
+use Rattle.lol_base.specs.Names.{same_name, lowercased}
+use Rattle.lol_base.specs.LocalNames.{Name, local_name, same_local_name}
+use Rattle.lol_program.specs.Counters.{full_count}
+use Rattle.lol_program.specs.Tests.{Element}
+use Rattle.lol_vm.specs.Documents.{Child, same_parent, children_of, typed_children_of}
+use Rattle.lol_vm.specs.Standing.{Machine, AreTyped, AreCounted, counted, counted_root, counted_last, counted_typed, or_root}
+use Rattle.lol_vm.specs.Standing as standing
+use Rattle.lol_vm.specs.TypedCounts as typed
+use Rattle.lol_vm.specs.TypedCounts.{TypedCount, count_at}
+use Rattle.lol_vm.specs.Stacks.{items_in, typed_in, last_count, count_or, counted_in, counted_if, counted_item, with_typed, count_by_type}
+use Rattle.lol_vm.specs.StackMachines.{item_shown, items_shown, children_shown, typed_shown, KeepsTyped, Keeps, CountingStackKeeps, CountersAreSeen, TypedCountsAreFewer}
+use Rattle.lol_vm.specs.declared.stack_item.StackItemOf.{StackItemOf}
+use Rattle.lol_vm.specs.declared.stack.StackOf.{StackOf}
+use Rattle.lol_vm.specs.declared.stack.StackNames.{StackNames}
+use Rattle.lol_vm.proofs.Bools.{same_bool}
+use Rattle.lol_vm.proofs.StackMachines.{shown_push, items_counted}
+use Rattle.lol_vm.proofs.TypedCounting.{climb_counted, shown_at_top, shown_counted, shown_elsewhere}
+
+-- 1. The last of a list
+
+record Ends {A : Type 0} (xs : List A) : Type 0 where
+  front : List A
+  last : A
+  whole : xs ≡ front ++ last ∷ []
+
+ends : {A : Type 0} (x : A) (xs : List A) → Ends (x ∷ xs)
+ends x [] = record { front = []; last = x; whole = refl }
+ends x (y ∷ xs) = let rest = ends y xs in record { front = x ∷ rest.front; last = rest.last; whole = ap (λ more. x ∷ more) rest.whole }
+
+last_at : {A : Type 0} (front : List A) (x : A) → slice_get (front ++ x ∷ []) (length front) ≡ Some x
+last_at [] x = refl
+last_at (y ∷ front) x = last_at front x
+
+last_set : {A : Type 0} (front : List A) (x y : A) → slice_set (front ++ x ∷ []) (length front) y ≡ front ++ y ∷ []
+last_set [] x y = refl
+last_set (z ∷ front) x y = ap (λ more. z ∷ more) (last_set front x y)
+
+last_place : {A : Type 0} (front : List A) (x : A) → length (front ++ x ∷ []) - 1 ≡ length front
+last_place front x = ap (λ n. n - 1) (length-append front (x ∷ [])) ∙ omega arith
+
+-- 2. Counts by type
+
+name_either_way : (a b : List ℕ) → same_local_name (local_name a) (local_name b) ≡ same_name b a
+name_either_way a b =
+    same_bool _ _
+    (λ h. (bytes_eq-Decides (lowercased b) (lowercased a)).1 (sym ((bytes_eq-Decides (lowercased a) (lowercased b)).0 h)))
+    (λ h. (bytes_eq-Decides (lowercased a) (lowercased b)).1 (sym ((bytes_eq-Decides (lowercased b) (lowercased a)).0 h)))
+
+keeps_typed_counted : (kept : Option (List TypedCount)) (by_type : Bool) (top : ℕ) (counts : ℕ → List ℕ → ℕ) (name : List ℕ) → (by_type ≡ true → counts top name < full_count)
+    → KeepsTyped kept by_type top counts → KeepsTyped (option_map (λ ts. typed.counted ts top (local_name name)) kept) by_type top (counted_typed counts top name)
+keeps_typed_counted None by_type top counts name free keeps = keeps
+keeps_typed_counted (Some ts) by_type top counts name free keeps = (keeps.0, climb_counted top ts (local_name name) keeps.1, λ level q. by_test level q (level == top) refl)
+  where
+    by_test : (level : ℕ) (q : List ℕ) (b : Bool) → (level == top) ≡ b → cond (b && same_name q name) (counts level q + 1) (counts level q) ≡ typed_shown (typed.counted ts top (local_name name)) level (local_name q)
+    by_test level q true at =
+        let here : level ≡ top = (Decides-eqb level top).0 at in
+        let own = keeps.2 top q in
+        subst (λ l. cond (same_name q name) (counts l q + 1) (counts l q) ≡ typed_shown (typed.counted ts top (local_name name)) l (local_name q)) (sym here)
+        ((λ i. cond (sym (name_either_way name q) i) (own i + 1) (own i))
+        ∙ sym (shown_counted top ts (local_name name) (local_name q) keeps.1 (subst (λ n. n < full_count) (keeps.2 top name) (free keeps.0))))
+    by_test level q false at =
+        keeps.2 level q ∙ sym (shown_elsewhere top level ts (local_name name) (local_name q) keeps.1 (λ is. let same = (Decides-eqb level top).1 is in cc))
+
+seen_typed : (kept : Option (List TypedCount)) (by_type : Bool) (top : ℕ) (counts : ℕ → List ℕ → ℕ) (name : List ℕ) → KeepsTyped kept by_type top counts → (by_type ≡ true → 0 < counts top name)
+    → count_by_type kept top (local_name name) ≡ (if by_type then Some (counts top name) else None)
+seen_typed None by_type top counts name keeps some = sym (ap (λ b. if b then Some (counts top name) else None) keeps)
+seen_typed (Some ts) by_type top counts name keeps some =
+    let is : counts top name ≡ unwrap_or (count_at ts top (local_name name)) 0 = keeps.2 top name ∙ shown_at_top top ts (local_name name) keeps.1 in
+    by_count (count_at ts top (local_name name)) (counts top name) is (some keeps.0) ∙ sym (ap (λ b. if b then Some (counts top name) else None) keeps.0)
+  where
+    by_count : (o : Option ℕ) (n : ℕ) → n ≡ unwrap_or o 0 → 0 < n → o ≡ Some n
+    by_count None n is some = absurd (omega (arith, is, some))
+    by_count (Some k) n is some = ap Some (sym is)
+
+-- 3. Counting a child
+
+module _ {E : Type 0} where
+  -- the children of the stack's elements, the innermost first
+  children_end : (s : StackOf Name StackNames E) (m : Machine) → Keeps s m → (front : List (StackItemOf Name E)) (last : StackItemOf Name E) → items_in s ≡ front ++ last ∷ [] → m.children ≡ last.child_counter ∷ children_shown front
+  children_end s m keeps front last whole = keeps.children ∙ (ap children_shown whole ∙ shown_push (λ (x : StackItemOf Name E). x.child_counter) front last)
+
+  counting : (s : StackOf Name StackNames E) (m : Machine) (name : List ℕ) → Keeps s m → (m.program.by_type ≡ true → m.typed (length m.items) name < full_count)
+      → (items : List (StackItemOf Name E)) → items_in s ≡ items
+      → Keeps (counted_in s (local_name name)) (counted m name)
+  counting s m name keeps free [] none =
+      let count = items_counted s m keeps in
+      let none_last : slice_get (items_in s) (length (items_in s) - 1) ≡ None = ap (λ xs. slice_get xs (length xs - 1)) none in
+      let no_children : m.children ≡ [] = keeps.children ∙ ap children_shown none in
+      let after = with_typed s (option_map (λ ts. typed.counted ts (length (items_in s)) (local_name name)) (typed_in s)) in
+      subst (λ o. Keeps (counted_if after o) (counted m name)) (sym none_last) (record {
+        items = keeps.items;
+        active = keeps.active;
+        root_children = (λ i. counted_root (no_children i) (keeps.root_children i));
+        children = ap counted_last no_children ∙ (sym no_children ∙ keeps.children);
+        typed = subst (λ top. KeepsTyped (option_map (λ ts. typed.counted ts top (local_name name)) (typed_in s)) m.program.by_type (length m.items) (counted_typed m.typed (length m.items) name)) count
+            (keeps_typed_counted (typed_in s) m.program.by_type (length m.items) m.typed name free keeps.typed);
+        item_bytes = keeps.item_bytes;
+        slots = keeps.slots;
+      })
+  counting s m name keeps free (x ∷ xs) some =
+      let count = items_counted s m keeps in
+      let end = ends x xs in
+      let whole : items_in s ≡ end.front ++ end.last ∷ [] = some ∙ end.whole in
+      let here : slice_get (items_in s) (length (items_in s) - 1) ≡ Some end.last =
+      ap (λ ys. slice_get ys (length ys - 1)) whole ∙ (ap (slice_get (end.front ++ end.last ∷ [])) (last_place end.front end.last) ∙ last_at end.front end.last) in
+      let set : slice_set (items_in s) (length (items_in s) - 1) (counted_item end.last) ≡ end.front ++ counted_item end.last ∷ [] =
+      ap (λ ys. slice_set ys (length ys - 1) (counted_item end.last)) whole
+      ∙ (ap (λ k. slice_set (end.front ++ end.last ∷ []) k (counted_item end.last)) (last_place end.front end.last) ∙ last_set end.front end.last (counted_item end.last)) in
+      let children = children_end s m keeps end.front end.last whole in
+      let after = with_typed s (option_map (λ ts. typed.counted ts (length (items_in s)) (local_name name)) (typed_in s)) in
+      subst (λ o. Keeps (counted_if after o) (counted m name)) (sym here) (record {
+        items = keeps.items ∙ (ap items_shown whole ∙ (shown_push item_shown end.front end.last ∙ (sym (shown_push item_shown end.front (counted_item end.last)) ∙ sym (ap items_shown set))));
+        active = keeps.active;
+        root_children = ap (λ cs. counted_root cs m.root_children) children ∙ keeps.root_children;
+        children = ap counted_last children ∙ (sym (shown_push (λ (y : StackItemOf Name E). y.child_counter) end.front (counted_item end.last)) ∙ sym (ap children_shown set));
+        typed = subst (λ top. KeepsTyped (option_map (λ ts. typed.counted ts top (local_name name)) (typed_in s)) m.program.by_type (length m.items) (counted_typed m.typed (length m.items) name)) count
+            (keeps_typed_counted (typed_in s) m.program.by_type (length m.items) m.typed name free keeps.typed);
+        item_bytes = keeps.item_bytes;
+        slots = keeps.slots;
+      })
+
+  pub counting_stack_keeps : CountingStackKeeps E
+  counting_stack_keeps s m name keeps free = counting s m name keeps free (items_in s) refl
+
+  -- 4. What is seen
+
+  seen_children : (s : StackOf Name StackNames E) (m : Machine) → Keeps s m → (items : List (StackItemOf Name E)) → items_in s ≡ items → last_count s ≡ standing.last_count m
+  seen_children s m keeps [] none =
+      ap (λ xs. count_or s.root_child_counter (slice_get xs (length xs - 1))) none
+      ∙ (sym keeps.root_children ∙ sym (ap (λ cs. or_root cs m.root_children) (keeps.children ∙ ap children_shown none)))
+  seen_children s m keeps (x ∷ xs) some =
+      let end = ends x xs in
+      let whole : items_in s ≡ end.front ++ end.last ∷ [] = some ∙ end.whole in
+      ap (λ ys. count_or s.root_child_counter (slice_get ys (length ys - 1))) whole
+      ∙ (ap (λ k. count_or s.root_child_counter (slice_get (end.front ++ end.last ∷ []) k)) (last_place end.front end.last)
+      ∙ (ap (count_or s.root_child_counter) (last_at end.front end.last) ∙ sym (ap (λ cs. or_root cs m.root_children) (children_end s m keeps end.front end.last whole))))
+
+  pub counters_are_seen : CountersAreSeen E
+  counters_are_seen s m name keeps some = record {
+    cumulative = seen_children s m keeps (items_in s) refl;
+    typed = subst (λ top. count_by_type (typed_in s) top (local_name name) ≡ (if m.program.by_type then Some (m.typed (length m.items) name) else None)) (items_counted s m keeps)
+        (seen_typed (typed_in s) m.program.by_type (length m.items) m.typed name keeps.typed some);
+  }
+
+-- 5. Children of a name are children
+
+fewer : {A : Type 0} (p r : A → Bool) → ((x : A) → p x ≡ true → r x ≡ true) → (xs : List A) → count_by p xs ≤ count_by r xs
+fewer p r h [] = omega arith
+fewer p r h (x ∷ xs) =
+    let own = count_by-cons p x xs in
+    let other = count_by-cons r x xs in
+    let later = fewer p r h xs in
+    by_test (p x) (r x) (h x) own other later
+  where
+    by_test : (a b : Bool) → (a ≡ true → b ≡ true) → count_by p (x ∷ xs) ≡ cond a 1 0 + count_by p xs → count_by r (x ∷ xs) ≡ cond b 1 0 + count_by r xs → count_by p xs ≤ count_by r xs
+        → count_by p (x ∷ xs) ≤ count_by r (x ∷ xs)
+    by_test true true imp own other later = omega (arith, own, other, later)
+    by_test true false imp own other later = let never = imp refl in cc
+    by_test false true imp own other later = omega (arith, own, other, later)
+    by_test false false imp own other later = omega (arith, own, other, later)
+
+typed_fewer : (parent : Option ℕ) (name : List ℕ) (cs : List Child) → typed_children_of parent name cs ≤ children_of parent cs
+typed_fewer parent name cs =
+    fewer (λ (c : Child). same_parent parent c.parent && same_name name c.name) (λ (c : Child). same_parent parent c.parent)
+    (λ c h. (and_parts (same_parent parent c.parent) (same_name name c.name) h).0) cs
+
+pub typed_counts_are_fewer : TypedCountsAreFewer
+typed_counts_are_fewer m d name counted sizes by_type = by_elements d.open_elements refl
+  where
+    by_elements : (elements : List Element) → d.open_elements ≡ elements → m.typed (length m.items) name ≤ standing.last_count m
+    by_elements [] none =
+        let levels : (n : List ℕ) → m.typed 0 n ≡ typed_children_of None n d.children = subst (AreTyped m.typed d.children) none (counted.typed by_type).levels in
+        let own : m.typed (length m.items) name ≡ typed_children_of None name d.children = ap (λ k. m.typed k name) (sizes ∙ ap length none) ∙ levels name in
+        let last : standing.last_count m ≡ children_of None d.children =
+        ap (λ cs. or_root cs m.root_children) (counted.children ∙ ap (map (λ (e : Element). children_of (Some e.number) d.children)) none) ∙ counted.root in
+        omega (arith, own, last, typed_fewer None name d.children)
+    by_elements (e ∷ outer) some =
+        let levels = subst (AreTyped m.typed d.children) some (counted.typed by_type).levels in
+        let own : m.typed (length m.items) name ≡ typed_children_of (Some e.number) name d.children = ap (λ k. m.typed k name) (sizes ∙ ap length some) ∙ levels.0 name in
+        let last : standing.last_count m ≡ children_of (Some e.number) d.children =
+        ap (λ cs. or_root cs m.root_children) (counted.children ∙ ap (map (λ (x : Element). children_of (Some x.number) d.children)) some) in
+        omega (arith, own, last, typed_fewer (Some e.number) name d.children)
