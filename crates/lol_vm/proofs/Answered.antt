@@ -17,11 +17,11 @@ use Rattle.lol_vm.proofs.Counted.{places_count_tries}
 use Rattle.lol_vm.proofs.Gathered.{runs_give_reports}
 use Rattle.lol_vm.proofs.Stops.{stopped_starts_are_whole}
 
-among_ascending : (ns : List ℕ) (m : ℕ) → Among (ascending ns) m → Among ns m
+pub among_ascending : (ns : List ℕ) (m : ℕ) → Among (ascending ns) m → Among ns m
 among_ascending [] m h = h
 among_ascending (n ∷ ns) m h = let more = among_ascending ns m in elim (among_with_number n (ascending ns) m h) [ inl is ↦ inl is | inr a ↦ inr (more a) ]
 
-ascending_among : (ns : List ℕ) (m : ℕ) → Among ns m → Among (ascending ns) m
+pub ascending_among : (ns : List ℕ) (m : ℕ) → Among ns m → Among (ascending ns) m
 ascending_among [] m h = h
 ascending_among (n ∷ ns) m (inl is) = subst (Among (with_number n (ascending ns))) is (number_among n (ascending ns))
 ascending_among (n ∷ ns) m (inr a) = others_among n (ascending ns) m (ascending_among ns m a)

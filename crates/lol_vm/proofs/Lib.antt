@@ -30,3 +30,4 @@ pub mod StackMachines
 pub mod TypedLevels
 pub mod TypedCounting
 pub mod StackCounting
+pub mod GatheringLemmas

@@ -21,7 +21,7 @@ use Rattle.lol_program.proofs.Values.{values_decide, values_are_by_names}
 use Rattle.lol_vm.specs.PlaceRuns.{Context, no_context, Stop, given, gathered, context_of, branch, step_with_attributes, step_by_names, run, run_by_names, value_of, value_at, is_open_at, stop_in, stop_or, first_open, ids_of, jumps_list, hereditary_jumps_list}
 use Rattle.lol_vm.proofs.Held.{path_at}
 use Rattle.lol_vm.proofs.Counted.{places_count_tries}
-use Rattle.lol_vm.specs.MachineLaws.{RunsDontSeeTheRest, StoppedStartsAreWhole, StopsAreRequests, ForeignTagsAsk, RequestsFinish, RunsGather, joined, ValuesDecideAt, IsStop, starts_open, left_from, RunsStopWhereAsked, StopsAreOffsets, OffsetsGoOn}
+use Rattle.lol_vm.specs.MachineLaws.{RunsDontSeeTheRest, StoppedStartsAreWhole, StopsAreRequests, ForeignTagsAsk, RequestsFinish, RunsGather, RunsGoOn, RunsByNamesGoOn, then_by_names, joined, ValuesDecideAt, IsStop, starts_open, left_from, RunsStopWhereAsked, StopsAreOffsets, OffsetsGoOn}
 
 -- 1. Runs gather
 
@@ -127,6 +127,19 @@ runs_stop_where_asked p content e context [] decides = record {
 runs_stop_where_asked p content e context (place ∷ ps) decides =
     at_place p content e context place ps (is_open_at p e place) refl decides
     (runs_stop_where_asked p content e (next p content e context place) ps (λ k i h at. decides k i (contains_from_among (place ∷ ps) k (inr (among_from_contains ps k h))) at))
+
+pub runs_go_on : RunsGoOn
+runs_go_on = run-append
+
+pub runs_by_names_go_on : RunsByNamesGoOn
+runs_by_names_go_on p content e context [] qs = refl
+runs_by_names_go_on p content e context (place ∷ ps) qs = by_test (is_open_at p e place) (runs_by_names_go_on p content e (next p content e context place) ps qs)
+  where
+    by_test : (b : Bool) → run_by_names p content e (next p content e context place) (ps ++ qs) ≡ then_by_names p content e (run_by_names p content e (next p content e context place) ps) qs
+        → cond b (record { context = context; left = place ∷ (ps ++ qs) }) (run_by_names p content e (next p content e context place) (ps ++ qs))
+        ≡ then_by_names p content e (cond b (record { context = context; left = place ∷ ps }) (run_by_names p content e (next p content e context place) ps)) qs
+    by_test true later = refl
+    by_test false later = later
 
 -- 3. Stops as offsets
 

@@ -32,3 +32,4 @@ pub mod Directives
 pub mod SoundStacks
 pub mod TypedLaws
 pub mod StackMachines
+pub mod Gathering

@@ -63,6 +63,10 @@ abbrev pub RunsGather : Type 0
 RunsGather =
     (p : Program) (content : Bool) (e : Element) (context : Context) (ps : List ℕ) → run p content e context ps ≡ joined context (context_of p content e ps)
 
+-- A run over places and then over others is the run over the latter, from what the former give.
+abbrev pub RunsGoOn : Type 0
+RunsGoOn = (p : Program) (content : Bool) (e : Element) (context : Context) (ps qs : List ℕ) → run p content e context (ps ++ qs) ≡ run p content e (run p content e context ps) qs
+
 -- 3. Runs by names, which stop
 
 -- every place is that of an instruction whose value by names decides, at this element
@@ -87,6 +91,20 @@ pub record IsStop (p : Program) (content : Bool) (e : Element) (context : Contex
 abbrev pub RunsStopWhereAsked : Type 0
 RunsStopWhereAsked =
     (p : Program) (content : Bool) (e : Element) (context : Context) (ps : List ℕ) → ValuesDecideAt p e ps → IsStop p content e context ps (run_by_names p content e context ps)
+
+-- with others after those that are left
+abbrev pub after_left : Program → Bool → Element → Context → List ℕ → List ℕ → Stop
+after_left p content e context [] qs = run_by_names p content e context qs
+after_left p content e context (place ∷ left) qs = record { context = context; left = place ∷ (left ++ qs) }
+
+abbrev pub then_by_names : Program → Bool → Element → Stop → List ℕ → Stop
+then_by_names p content e stop qs = after_left p content e stop.context stop.left qs
+
+-- A run by names over places and then over others: where the former stop, all the others are left too.
+abbrev pub RunsByNamesGoOn : Type 0
+RunsByNamesGoOn =
+    (p : Program) (content : Bool) (e : Element) (context : Context) (ps qs : List ℕ)
+    → run_by_names p content e context (ps ++ qs) ≡ then_by_names p content e (run_by_names p content e context ps) qs
 
 -- the places from a stop on, none where there is no stop
 abbrev pub left_from : Option (ℕ × List Range) → List ℕ

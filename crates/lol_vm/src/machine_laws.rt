@@ -1,6 +1,7 @@
 //! Laws of the machine over the definitions, each the contract of an empty function.
 
-ghost use Rattle.lol_vm.specs.MachineLaws.{ForeignTagsAsk, OffsetsGoOn, PlacesAreWithin, PlacesCountTries, RangesHoldLeftMatches, RequestsFinish, RunsDontSeeTheRest, RunsGather, RunsGiveReports, RunsStopWhereAsked, StoppedStartsAreWhole, StopsAreOffsets, StopsAreRequests};
+ghost use Rattle.lol_vm.specs.Gathering.{BranchesGather, GatheredIdsAscend, NewElementsGather};
+ghost use Rattle.lol_vm.specs.MachineLaws.{ForeignTagsAsk, OffsetsGoOn, PlacesAreWithin, PlacesCountTries, RangesHoldLeftMatches, RequestsFinish, RunsByNamesGoOn, RunsDontSeeTheRest, RunsGather, RunsGiveReports, RunsGoOn, RunsStopWhereAsked, StoppedStartsAreWhole, StopsAreOffsets, StopsAreRequests};
 ghost use Rattle.lol_vm.specs.Machines.{PushedItemsAreActive};
 ghost use Rattle.lol_vm.specs.Standing.{CountersArePlaces, DocumentsAreOrdered, EndsHandOut, EndsKeepItems, FinishingIsKept, MachinesStand, NewStands, RequestsStand, SlotsGrow, StandingIsKept, StartsAnswer};
 
@@ -35,6 +36,12 @@ pub fn runs_gather()
 /// gives.
 pub fn runs_stop_where_asked()
     ensures { RunsStopWhereAsked }
+{}
+
+/// A run over some places goes on over others; by names, only where it hasn't stopped.
+pub fn runs_go_on()
+    ensures whole { RunsGoOn }
+    ensures by_names { RunsByNamesGoOn }
 {}
 
 /// The place of a stop is an offset in a range, before the ranges after it.
@@ -134,4 +141,12 @@ pub fn ends_hand_out()
 /// The new machine of a program of selectors, over any events, stands for them.
 pub fn machines_stand()
     ensures { MachinesStand }
+{}
+
+/// A start tag's element begins with nothing gathered, and has with each instruction's ids and ranges
+/// what a run gathers; its ids, in ascending order, are those of the run.
+pub fn elements_gather<N, E>()
+    ensures new { NewElementsGather N E }
+    ensures branches { BranchesGather E }
+    ensures ids { GatheredIdsAscend N E }
 {}

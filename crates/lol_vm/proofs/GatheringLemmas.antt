@@ -1,0 +1,82 @@
+-- What an element gathers.
+use Rattle.std.proofs.Common.{◌≡◌, ℕ, Bool, true, false, List, [], ◌∷◌, ◌++◌, map, Option, Some, None, ◌↔◌, inl, inr, sym, ap, ◌∙◌, subst, Contains, true≢false}
+use Rattle.std.specs.Prelude.{option_to_list}
+use Rattle.std.specs.Option.{option_map}
+use Rattle.std.specs.declared.ops.Range as std
+use Rattle.std.proofs.lemmas.List.{map-append}
+use Rattle.std.proofs.lemmas.List.Kept.{AllPairs-from_increasing}
+use Rattle.lol_base.specs.BoolLaws.{or_parts, or_of}
+use Rattle.lol_base.specs.MemberLaws.{contains-append, among_from_contains, contains_from_among}
+use Rattle.lol_memory.specs.Ids.{Ids, has, no_ids, union}
+use Rattle.lol_memory.specs.Ids as sets
+use Rattle.lol_memory.specs.SetLaws.{has-no_ids, has-union}
+use Rattle.lol_memory.proofs.LawLemmas.{ascending_rises}
+use Rattle.lol_program.specs.ProgramViews.{range_shown, instruction_shown}
+use Rattle.lol_program.specs.declared.instruction.Instruction as code
+use Rattle.lol_program.proofs.IdSets.{listed, held}
+use Rattle.lol_vm.specs.Answers.{ascending}
+use Rattle.lol_vm.specs.ReportLaws.{ascending_is_determined, ascending_ascends, pairs_from_ascends}
+use Rattle.lol_vm.specs.Contexts.{gathered}
+use Rattle.lol_vm.specs.WithRange.{with_range}
+use Rattle.lol_vm.specs.PlaceRuns.{Context, branch}
+use Rattle.lol_vm.specs.Gathering.{Gathers, NewElementsGather, BranchesGather, GatheredIdsAscend}
+use Rattle.lol_vm.specs.declared.execution_ctx.ExecutionCtx.{ExecutionCtx}
+use Rattle.lol_vm.proofs.Answered.{among_ascending, ascending_among}
+
+pub new_elements_gather : {N E : Type 0} → NewElementsGather N E
+new_elements_gather ids_of name item new = record {
+  ids = λ id. (
+    λ h. absurd (true≢false (sym h ∙ (ap (λ s. has s id) new.ids ∙ has-no_ids id))),
+    λ c. absurd (among_from_contains [] id c),
+  );
+  jumps = sym (ap (map range_shown) new.jumps);
+  hereditary_jumps = sym (ap (map range_shown) new.hereditary_jumps);
+}
+
+shown_more : (rs : List (std.Range ℕ)) (o : Option (std.Range ℕ)) → map range_shown rs ++ option_to_list (option_map range_shown o) ≡ map range_shown (with_range rs o)
+shown_more rs None = sym (map-append range_shown rs [])
+shown_more rs (Some r) = sym (map-append range_shown rs (r ∷ []))
+
+ids_more : (s t : Ids) (ids : List ℕ) → ((id : ℕ) → (has s id ≡ true) ↔ Contains ids id) → (id : ℕ) → (has (union s t) id ≡ true) ↔ Contains (ids ++ sets.ascending t) id
+ids_more s t ids same id = (
+  λ h. (contains-append ids (sets.ascending t) id).1 (elim (or_parts (has s id) (has t id) (sym (has-union s t id) ∙ h)) [
+    | inl old ↦ inl ((same id).0 old)
+    | inr new ↦ inr (listed t id new)
+  ]),
+  λ c. has-union s t id ∙ or_of (has s id) (has t id) (elim ((contains-append ids (sets.ascending t) id).0 c) [
+    | inl old ↦ inl ((same id).1 old)
+    | inr new ↦ inr (held t id new)
+  ]),
+)
+
+pub branches_gather : {E : Type 0} → BranchesGather E
+branches_gather ids_of with_ids keeps ctx context i by_type has_context = by_content ids_of with_ids keeps ctx context i by_type has_context ctx.with_content
+  where
+    by_content : {E : Type 0} (ids_of : E → Ids) (with_ids : E → Ids → E) → ((e : E) (w : Ids) → ids_of (with_ids e w) ≡ w) → (ctx : ExecutionCtx E) (context : Context) (i : code.Instruction) (by_type : Bool)
+        → Gathers ids_of ctx.stack_item context → (b : Bool)
+        → Gathers ids_of (gathered ids_of with_ids (record ctx { with_content = b }) i.associated_branch).stack_item (branch b context (instruction_shown by_type i))
+    by_content ids_of with_ids keeps ctx context i by_type h true =
+        let data_ids = keeps ctx.stack_item.element_data (union (ids_of ctx.stack_item.element_data) i.associated_branch.matched_ids) in
+        record {
+          ids = λ id. subst (λ s. (has s id ≡ true) ↔ Contains (context.ids ++ sets.ascending i.associated_branch.matched_ids) id) (sym data_ids)
+              (ids_more (ids_of ctx.stack_item.element_data) i.associated_branch.matched_ids context.ids h.ids id);
+          jumps = ap (λ rs. rs ++ option_to_list (option_map range_shown i.associated_branch.jumps)) h.jumps ∙ shown_more ctx.stack_item.jumps i.associated_branch.jumps;
+          hereditary_jumps = ap (λ rs. rs ++ option_to_list (option_map range_shown i.associated_branch.hereditary_jumps)) h.hereditary_jumps ∙ shown_more ctx.stack_item.hereditary_jumps i.associated_branch.hereditary_jumps;
+        }
+    by_content ids_of with_ids keeps ctx context i by_type h false =
+        let data_ids = keeps ctx.stack_item.element_data (union (ids_of ctx.stack_item.element_data) i.associated_branch.matched_ids) in
+        record {
+          ids = λ id. subst (λ s. (has s id ≡ true) ↔ Contains (context.ids ++ sets.ascending i.associated_branch.matched_ids) id) (sym data_ids)
+              (ids_more (ids_of ctx.stack_item.element_data) i.associated_branch.matched_ids context.ids h.ids id);
+          jumps = h.jumps;
+          hereditary_jumps = h.hereditary_jumps;
+        }
+
+pub gathered_ids_ascend : {N E : Type 0} → GatheredIdsAscend N E
+gathered_ids_ascend ids_of item context h =
+    let s = ids_of item.element_data in
+    ascending_is_determined (sets.ascending s) (ascending context.ids) (AllPairs-from_increasing (sets.ascending s) (ascending_rises s)) (pairs_from_ascends (ascending context.ids) (ascending_ascends context.ids))
+    (λ id. (
+      λ c. contains_from_among (ascending context.ids) id (ascending_among context.ids id (among_from_contains context.ids id ((h.ids id).0 (held s id c)))),
+      λ c. listed s id ((h.ids id).1 (contains_from_among context.ids id (among_ascending context.ids id (among_from_contains (ascending context.ids) id c)))),
+    ))
