@@ -31,3 +31,4 @@ pub mod TypedLevels
 pub mod TypedCounting
 pub mod StackCounting
 pub mod GatheringLemmas
+pub mod InstructionLists

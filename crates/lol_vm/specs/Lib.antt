@@ -6,6 +6,7 @@ pub mod Refusals
 pub mod Rows
 pub mod OpenNames
 pub mod Views
+pub mod InstructionRuns
 pub mod Laws
 pub mod RangesOf
 pub mod Lending

@@ -8,6 +8,7 @@ mod directive;
 mod element_data;
 mod events;
 mod execution_ctx;
+mod instruction_runs;
 pub mod laws;
 pub mod machine_laws;
 mod matching;

@@ -1,0 +1,192 @@
+-- Instructions that are run in parts.
+use Rattle.std.proofs.Common.{◌≡◌, ◌+◌, ◌-◌, ◌<◌, ◌≤◌, ℕ, Bool, List, [], ◌∷◌, ◌++◌, length, take, drop, get_or, suc, Option, Some, None, true, false, cond, refl, sym, ap, ◌∙◌, arith, drop-cons}
+use Rattle.std.specs.declared.ops.Range.{Range}
+use Rattle.std.proofs.lemmas.List.{take_more, flat_map_more, length-append, length-drop, length-take}
+use Rattle.std.proofs.lemmas.List.Elements.{All-get_or}
+use Rattle.std.proofs.lemmas.List.Sums.{sum_by-append, count_by-le-length}
+use Rattle.std.proofs.lemmas.List.Folds.{length-flat_map-take}
+use Rattle.lol_program.specs.Tries.{name_tries, attribute_tries}
+use Rattle.lol_program.specs.declared.tries.Tries.{Tries}
+use Rattle.lol_memory.specs.Ids.{Ids}
+use Rattle.lol_program.specs.Attributes.{TagAttributes}
+use Rattle.lol_program.specs.Compiled.{Sight}
+use Rattle.lol_program.specs.Compounds.{is_open}
+use Rattle.lol_program.specs.declared.instruction.Instruction.{Instruction}
+use Rattle.lol_vm.specs.InstructionRuns.{value_seen, holds_seen, is_true, with_branch_if, open_among, first_open_from, gathered_by_names, gathered_with_attributes, instructions_at, all_at, no_range, AreRunnable, IsInsideOf, HasRoomFor}
+use Rattle.lol_vm.specs.declared.execution_ctx.ExecutionCtx.{ExecutionCtx}
+
+-- 1. A choice that is none or some
+
+none_chosen : {A : Type 0} (b : Bool) (x : A) (y : Option A) → cond b (Some x) y ≡ None → (b ≡ false) × (y ≡ None)
+none_chosen true x y h = grind (arith, h)
+none_chosen false x y h = (refl, h)
+
+some_chosen : {A : Type 0} (b : Bool) (x k : A) (y z : Option A) → (y ≡ Some k → z ≡ Some k) → cond b (Some x) y ≡ Some k → cond b (Some x) z ≡ Some k
+some_chosen true x k y z on h = h
+some_chosen false x k y z on h = on h
+
+-- 2. The first open one
+
+module _ (s : Sight) where
+  -- where the front stops, so does the whole
+  pub stops_before : (at k : ℕ) (front back : List Instruction) → first_open_from s at front ≡ Some k → first_open_from s at (front ++ back) ≡ Some k
+  stops_before at k [] back h = grind (arith, h)
+  stops_before at k (i ∷ front) back h =
+      some_chosen (is_open (value_seen s i)) at k (first_open_from s (at + 1) front) (first_open_from s (at + 1) (front ++ back)) (stops_before (at + 1) k front back) h
+
+  -- where the front doesn't stop, the back decides
+  pub stops_after : (at : ℕ) (front back : List Instruction) → first_open_from s at front ≡ None → first_open_from s at (front ++ back) ≡ first_open_from s (at + length front) back
+  stops_after at [] back h = ap (λ n. first_open_from s n back) (omega arith)
+  stops_after at (i ∷ front) back h =
+      let parts = none_chosen (is_open (value_seen s i)) at (first_open_from s (at + 1) front) h in
+      ap (λ b. cond b (Some at) (first_open_from s (at + 1) (front ++ back))) parts.0
+      ∙ (stops_after (at + 1) front back parts.1 ∙ ap (λ n. first_open_from s n back) (omega arith))
+
+  -- counted from a later place
+  pub none_later : (at j : ℕ) (instructions : List Instruction) → first_open_from s j instructions ≡ None → first_open_from s at instructions ≡ None
+  none_later at j [] h = refl
+  none_later at j (i ∷ instructions) h =
+      let parts = none_chosen (is_open (value_seen s i)) j (first_open_from s (j + 1) instructions) h in
+      ap (λ b. cond b (Some at) (first_open_from s (at + 1) instructions)) parts.0 ∙ none_later (at + 1) (j + 1) instructions parts.1
+
+  some_later : (b : Bool) (at j k : ℕ) (y z : Option ℕ) → (y ≡ Some k → z ≡ Some (at + k)) → cond b (Some j) y ≡ Some k → cond b (Some (at + j)) z ≡ Some (at + k)
+  some_later true at j k y z on h = grind (arith, h)
+  some_later false at j k y z on h = on h
+
+  pub stops_later : (at j k : ℕ) (instructions : List Instruction) → first_open_from s j instructions ≡ Some k → first_open_from s (at + j) instructions ≡ Some (at + k)
+  stops_later at j k [] h = grind (arith, h)
+  stops_later at j k (i ∷ instructions) h =
+      some_later (is_open (value_seen s i)) at j k (first_open_from s (j + 1) instructions) (first_open_from s (at + j + 1) instructions)
+      (λ later. ap (λ n. first_open_from s n instructions) (omega arith) ∙ stops_later at (j + 1) k instructions later) h
+
+  -- 3. What is gathered
+
+  module _ {E : Type 0} (ids : E → Ids) (with_ids : E → Ids → E) where
+    pub gathers_on : (at : ℕ) (ctx : ExecutionCtx E) (front back : List Instruction) → first_open_from s at front ≡ None → gathered_by_names ids with_ids s ctx (front ++ back) ≡ gathered_by_names ids with_ids s (gathered_by_names ids with_ids s ctx front) back
+    gathers_on at ctx [] back h = refl
+    gathers_on at ctx (i ∷ front) back h =
+        let parts = none_chosen (is_open (value_seen s i)) at (first_open_from s (at + 1) front) h in
+        let next = with_branch_if ids with_ids (is_true (value_seen s i)) ctx i in
+        ap (λ b. cond b ctx (gathered_by_names ids with_ids s next (front ++ back))) parts.0
+        ∙ (gathers_on (at + 1) next front back parts.1
+        ∙ ap (λ b. gathered_by_names ids with_ids s (cond b ctx (gathered_by_names ids with_ids s next front)) back) (sym parts.0))
+
+    same_stop : (b : Bool) (at k : ℕ) (y : Option ℕ) (ctx c d : ExecutionCtx E) → (y ≡ Some k → c ≡ d) → cond b (Some at) y ≡ Some k → cond b ctx c ≡ cond b ctx d
+    same_stop true at k y ctx c d on h = refl
+    same_stop false at k y ctx c d on h = on h
+
+    pub gathers_until : (at k : ℕ) (ctx : ExecutionCtx E) (front back : List Instruction) → first_open_from s at front ≡ Some k → gathered_by_names ids with_ids s ctx (front ++ back) ≡ gathered_by_names ids with_ids s ctx front
+    gathers_until at k ctx [] back h = grind (arith, h)
+    gathers_until at k ctx (i ∷ front) back h =
+        let next = with_branch_if ids with_ids (is_true (value_seen s i)) ctx i in
+        same_stop (is_open (value_seen s i)) at k (first_open_from s (at + 1) front) ctx (gathered_by_names ids with_ids s next (front ++ back)) (gathered_by_names ids with_ids s next front)
+        (gathers_until (at + 1) k next front back) h
+
+    pub gathers_all : (a : TagAttributes) (ctx : ExecutionCtx E) (front back : List Instruction) → gathered_with_attributes ids with_ids s a ctx (front ++ back) ≡ gathered_with_attributes ids with_ids s a (gathered_with_attributes ids with_ids s a ctx front) back
+    gathers_all a ctx [] back = refl
+    gathers_all a ctx (i ∷ front) back = gathers_all a (with_branch_if ids with_ids (holds_seen s a i) ctx i) front back
+
+-- 4. Range by range
+
+open_among-append : (s : Sight) (front back : List Instruction) → open_among s (front ++ back) ≡ open_among s front + open_among s back
+open_among-append s front back = sum_by-append (λ i. cond (is_open (value_seen s i)) 1 0) front back
+
+module _ (instructions : List Instruction) (ranges : List (Range ℕ)) (at : ℕ) (within : at < length ranges) where
+  -- the range at the place
+  abbrev r : Range ℕ
+  r = get_or ranges at no_range
+
+  abbrev before : List Instruction
+  before = all_at instructions (take at ranges)
+
+  abbrev before_next : List Instruction
+  before_next = all_at instructions (take (at + 1) ranges)
+
+  abbrev after : List Instruction
+  after = all_at instructions (drop at ranges)
+
+  abbrev after_next : List Instruction
+  after_next = all_at instructions (drop (at + 1) ranges)
+
+  abbrev here : List Instruction
+  here = instructions_at instructions r
+
+  all_from : after ≡ here ++ after_next
+  all_from = let on : suc at ≡ at + 1 = omega arith in ap (all_at instructions) (drop-cons ranges at no_range within) ∙ ap (λ n. here ++ all_at instructions (drop n ranges)) on
+
+  all_until : before_next ≡ before ++ here
+  all_until = ap (all_at instructions) (take_more ranges at no_range within) ∙ sym (flat_map_more (instructions_at instructions) [] (take at ranges) r)
+
+  -- the instructions of the range can be run
+  module _ (tries now : Tries) (runnable : AreRunnable instructions ranges tries) where
+    is_inside : IsInsideOf instructions r
+    is_inside = All-get_or (IsInsideOf instructions) ranges at no_range within runnable.inside
+
+    length_here : length here ≡ r.end - r.start
+    length_here = omega (arith, is_inside, length-take (r.end - r.start) (drop r.start instructions), length-drop r.start instructions)
+
+    has_room : name_tries now ≤ name_tries tries + length before → attribute_tries now ≤ attribute_tries tries + length before → HasRoomFor now (r.end - r.start)
+    has_room names attributes =
+        let fits = length-flat_map-take (instructions_at instructions) ranges at no_range within in
+        (omega (arith, names, fits, length_here, runnable.room.0), omega (arith, attributes, fits, length_here, runnable.room.1))
+
+    -- these are what is lent
+    pub is_lent : (part : List Instruction) → (IsInsideOf instructions r → HasRoomFor now (r.end - r.start) → part ≡ here) → name_tries now ≤ name_tries tries + length before → attribute_tries now ≤ attribute_tries tries + length before → part ≡ here
+    is_lent part lent names attributes = lent is_inside (has_room names attributes)
+
+    pub open_within : (s : Sight) → attribute_tries now ≡ attribute_tries tries + open_among s before → attribute_tries now ≤ attribute_tries tries + length before
+    open_within s is = omega (arith, is, count_by-le-length (λ i. is_open (value_seen s i)) before)
+
+  module _ (part : List Instruction) (is : part ≡ here) where
+    from : after ≡ part ++ after_next
+    from = all_from ∙ ap (λ p. p ++ after_next) (sym is)
+
+    pub until : before_next ≡ before ++ part
+    until = all_until ∙ ap (λ p. before ++ p) (sym is)
+
+    pub length_next : length before_next ≡ length before + length part
+    length_next = ap length until ∙ length-append before part
+
+    module _ (t s : Sight) (same : t ≡ s) where
+      pub open_next : open_among s before_next ≡ open_among s before + open_among t part
+      open_next = ap (open_among s) until ∙ (open_among-append s before part ∙ ap (λ z. open_among s before + open_among z part) (sym same))
+
+      none_here : first_open_from t 0 part ≡ None → first_open_from s 0 part ≡ None
+      none_here none = ap (λ z. first_open_from z 0 part) (sym same) ∙ none
+
+      some_here : (k : ℕ) → first_open_from t 0 part ≡ Some k → first_open_from s 0 part ≡ Some k
+      some_here k some = ap (λ z. first_open_from z 0 part) (sym same) ∙ some
+
+      pub stop_next : (whole : Option ℕ) → whole ≡ first_open_from s (length before) after → first_open_from t 0 part ≡ None → whole ≡ first_open_from s (length before_next) after_next
+      stop_next whole so_far none =
+          so_far
+          ∙ (ap (first_open_from s (length before)) from
+          ∙ (stops_after s (length before) part after_next (none_later s (length before) 0 part (none_here none))
+          ∙ ap (λ n. first_open_from s n after_next) (sym length_next)))
+
+      pub stop_here : (whole : Option ℕ) (k : ℕ) → whole ≡ first_open_from s (length before) after → first_open_from t 0 part ≡ Some k → Some (length before + k) ≡ whole
+      stop_here whole k so_far some =
+          sym (so_far
+          ∙ (ap (first_open_from s (length before)) from
+          ∙ stops_before s (length before) (length before + k) part after_next (ap (λ n. first_open_from s n part) (omega arith) ∙ stops_later s (length before) 0 k part (some_here k some))))
+
+      module _ {E : Type 0} (ids : E → Ids) (with_ids : E → Ids → E) (whole ctx new : ExecutionCtx E) where
+        pub names_next : whole ≡ gathered_by_names ids with_ids s ctx after → first_open_from t 0 part ≡ None → new ≡ gathered_by_names ids with_ids t ctx part → whole ≡ gathered_by_names ids with_ids s new after_next
+        names_next so_far none is_new =
+            so_far
+            ∙ (ap (gathered_by_names ids with_ids s ctx) from
+            ∙ (gathers_on s ids with_ids 0 ctx part after_next (none_here none)
+            ∙ ap (λ c. gathered_by_names ids with_ids s c after_next) (ap (λ z. gathered_by_names ids with_ids z ctx part) (sym same) ∙ sym is_new)))
+
+        pub names_here : (k : ℕ) → whole ≡ gathered_by_names ids with_ids s ctx after → first_open_from t 0 part ≡ Some k → new ≡ gathered_by_names ids with_ids t ctx part → new ≡ whole
+        names_here k so_far some is_new =
+            is_new
+            ∙ (ap (λ z. gathered_by_names ids with_ids z ctx part) same
+            ∙ sym (so_far ∙ (ap (gathered_by_names ids with_ids s ctx) from ∙ gathers_until s ids with_ids 0 k ctx part after_next (some_here k some))))
+
+        pub attributes_next : (a : TagAttributes) → whole ≡ gathered_with_attributes ids with_ids s a ctx after → new ≡ gathered_with_attributes ids with_ids t a ctx part → whole ≡ gathered_with_attributes ids with_ids s a new after_next
+        attributes_next a so_far is_new =
+            so_far
+            ∙ (ap (gathered_with_attributes ids with_ids s a ctx) from
+            ∙ (gathers_all s ids with_ids a ctx part after_next
+            ∙ ap (λ c. gathered_with_attributes ids with_ids s a c after_next) (ap (λ z. gathered_with_attributes ids with_ids z a ctx part) (sym same) ∙ sym is_new)))

@@ -1,0 +1,92 @@
+-- What instructions give that are run one after the other.
+use Rattle.std.specs.Prelude.{ℕ, ◌+◌, Bool, true, false, if◌then◌else◌, ◌≤◌, List, [], ◌∷◌, take, get_or, length, All, flat_map, ◌<◌, ◌^◌, count_by, Option, Some, None}
+use Rattle.std.specs.List.{slice_range}
+use Rattle.std.specs.declared.ops.Range.{Range}
+use Rattle.lol_memory.specs.Ids.{Ids}
+use Rattle.lol_program.specs.Attributes.{TagAttributes}
+use Rattle.lol_program.specs.Compiled.{Sight, predicate_value, predicate_holds}
+use Rattle.lol_program.specs.Compounds.{is_open}
+use Rattle.lol_program.specs.Tries.{name_tries, attribute_tries}
+use Rattle.lol_program.specs.declared.tries.Tries.{Tries}
+use Rattle.lol_program.specs.declared.instruction.Instruction.{Instruction}
+use Rattle.lol_program.specs.declared.name_value.NameValue.{NameValue}
+use Rattle.lol_program.specs.declared.name_value.NameValue.TheVariants.{True, False, Open}
+use Rattle.lol_vm.specs.declared.instruction_runs.Stop.{Stop}
+use Rattle.lol_vm.specs.Contexts.{gathered}
+use Rattle.lol_vm.specs.declared.execution_ctx.ExecutionCtx.{ExecutionCtx}
+
+-- the value by names of an instruction
+abbrev pub value_seen : Sight → Instruction → NameValue
+value_seen s i = predicate_value i.predicate s
+
+abbrev pub is_true : NameValue → Bool
+is_true True = true
+is_true False = false
+is_true Open = false
+
+abbrev pub holds_seen : Sight → TagAttributes → Instruction → Bool
+holds_seen s a i = predicate_holds i.predicate s a
+
+-- how many of some instructions are open
+abbrev pub open_among : Sight → List Instruction → ℕ
+open_among s instructions = count_by (λ i. is_open (value_seen s i)) instructions
+
+-- the place of the first open one, where the first has the place `at`
+abbrev pub first_open_from : Sight → ℕ → List Instruction → Option ℕ
+first_open_from s at [] = None
+first_open_from s at (i ∷ instructions) = if is_open (value_seen s i) then Some at else first_open_from s (at + 1) instructions
+
+-- how many are tried by names: those up to a stop, or all of so many
+abbrev pub tried_until : Option ℕ → ℕ → ℕ
+tried_until None n = n
+tried_until (Some at) n = at + 1
+
+-- the instructions of a range
+abbrev pub instructions_at : List Instruction → Range ℕ → List Instruction
+instructions_at instructions r = slice_range instructions r.start r.end
+
+-- the instructions of ranges, one range after the other
+abbrev pub all_at : List Instruction → List (Range ℕ) → List Instruction
+all_at instructions ranges = flat_map (instructions_at instructions) ranges
+
+abbrev pub IsInsideOf : List Instruction → Range ℕ → Type 0
+IsInsideOf instructions r = (r.start ≤ r.end) × (r.end ≤ length instructions)
+
+-- so many more tries can be counted
+abbrev pub HasRoomFor : Tries → ℕ → Type 0
+HasRoomFor tries n = (name_tries tries + n < 2 ^ 64) × (attribute_tries tries + n < 2 ^ 64)
+
+-- Instructions that can be run: the ranges are inside, and so many tries can be counted.
+pub record AreRunnable (instructions : List Instruction) (ranges : List (Range ℕ)) (tries : Tries) : Type 0 where
+  pub inside : All (IsInsideOf instructions) ranges
+  pub room : HasRoomFor tries (length (all_at instructions ranges))
+
+-- Where a run by names stopped: at an instruction of one of the ranges.
+abbrev pub place_in : List Instruction → List (Range ℕ) → Option Stop → Option ℕ
+place_in instructions ranges None = None
+place_in instructions ranges (Some stop) = Some (length (all_at instructions (take stop.range ranges)) + stop.offset)
+
+-- what stands where no range does
+abbrev pub no_range : Range ℕ
+no_range = record { start = 0; end = 0 }
+
+-- the range and the instruction of a stop are there
+abbrev pub IsStopIn : List Instruction → List (Range ℕ) → Stop → Type 0
+IsStopIn instructions ranges stop =
+    (stop.range < length ranges) × (stop.offset < length (instructions_at instructions (get_or ranges stop.range no_range)))
+
+module _ {E : Type 0} (ids : E → Ids) (with_ids : E → Ids → E) where
+  abbrev pub with_branch_if : Bool → ExecutionCtx E → Instruction → ExecutionCtx E
+  with_branch_if true ctx i = gathered ids with_ids ctx i.associated_branch
+  with_branch_if false ctx i = ctx
+
+  -- What is gathered by names, up to the first open one.
+  abbrev pub gathered_by_names : Sight → ExecutionCtx E → List Instruction → ExecutionCtx E
+  gathered_by_names s ctx [] = ctx
+  gathered_by_names s ctx (i ∷ instructions) =
+      if is_open (value_seen s i) then ctx else gathered_by_names s (with_branch_if (is_true (value_seen s i)) ctx i) instructions
+
+  -- What is gathered with attributes.
+  abbrev pub gathered_with_attributes : Sight → TagAttributes → ExecutionCtx E → List Instruction → ExecutionCtx E
+  gathered_with_attributes s a ctx [] = ctx
+  gathered_with_attributes s a ctx (i ∷ instructions) = gathered_with_attributes s a (with_branch_if (holds_seen s a i) ctx i) instructions

@@ -1,0 +1,148 @@
+//! Running instructions for a start tag, one after the other.
+
+ghost use Rattle.std.specs.Prelude.{◌≡◌, ◌+◌, ◌-◌, ◌≤◌, IfOk, Ok, Some, length};
+ghost use Rattle.lol_program.specs.Compiled.{sight};
+ghost use Rattle.lol_program.specs.Tries.{name_tries, attribute_tries};
+ghost use Rattle.lol_vm.specs.InstructionRuns.{AreRunnable, all_at, place_in, IsStopIn, HasRoomFor, IsInsideOf, instructions_at, open_among, first_open_from, tried_until, gathered_by_names, gathered_with_attributes};
+
+use crate::element_data::ElementData;
+use crate::execution_ctx::ExecutionCtx;
+use lol_program::{
+    AddressRange, AttributeMatcher, Instruction, SelectorState, Tries, TryExecResult,
+};
+use std::alloc::{AllocError, Global};
+
+/// Runs instructions without attributes, up to the first that needs them, and answers its place among them. It is refused only where
+/// memory is out.
+#[inline(always)]
+pub(crate) fn try_instructions<E: ElementData>(
+    instructions: &[Instruction],
+    state: &SelectorState<'_>,
+    alloc: Global,
+    ctx: &mut ExecutionCtx<'_, E>,
+    tries: &mut Tries,
+) -> Result<Option<usize>, AllocError>
+    requires names_fit { name_tries tries.old + length instructions.now ≤ u64.MAX }
+    requires attributes_fit { attribute_tries tries.old + length instructions.now ≤ u64.MAX }
+    ensures stop { IfOk result (λ stop. stop ≡ first_open_from (sight state.now ctx.old.stack_item.local_name) 0 instructions.now) }
+    ensures ctx { IfOk result (λ stop. ctx.new ≡ gathered_by_names E.ids E.with_ids (sight state.now ctx.old.stack_item.local_name) ctx.old instructions.now) }
+    ensures names { IfOk result (λ stop. name_tries tries.new ≡ name_tries tries.old + tried_until stop (length instructions.now)) }
+    ensures names_bound { name_tries tries.new ≤ name_tries tries.old + length instructions.now }
+    ensures attributes { attribute_tries tries.new ≡ attribute_tries tries.old }
+    ensures name { ctx.new.stack_item.local_name ≡ ctx.old.stack_item.local_name }
+{
+    for (at, instruction) in instructions.iter().enumerate() {
+        let name = &ctx.stack_item.local_name;
+        match instruction.try_exec_without_attrs(state, name, tries) {
+            TryExecResult::Branch(branch) => ctx.add_execution_branch(alloc, branch)?,
+            TryExecResult::AttributesRequired => return Ok(Some(at)),
+            TryExecResult::Fail => (),
+        }
+    }
+    Ok(None)
+}
+
+/// Runs instructions with attributes. It is refused only where memory is out.
+#[inline(always)]
+pub(crate) fn exec_instructions<E: ElementData>(
+    instructions: &[Instruction],
+    state: &SelectorState<'_>,
+    matcher: &AttributeMatcher<'_>,
+    alloc: Global,
+    ctx: &mut ExecutionCtx<'_, E>,
+    tries: &mut Tries,
+) -> Result<(), AllocError>
+    requires names_fit { name_tries tries.old + length instructions.now ≤ u64.MAX }
+    requires attributes_fit { attribute_tries tries.old + length instructions.now ≤ u64.MAX }
+    ensures ctx { IfOk result (λ done. ctx.new ≡ gathered_with_attributes E.ids E.with_ids (sight state.now ctx.old.stack_item.local_name) matcher.now ctx.old instructions.now) }
+    ensures names { IfOk result (λ done. name_tries tries.new ≡ name_tries tries.old + length instructions.now) }
+    ensures attributes { IfOk result (λ done. attribute_tries tries.new ≡ attribute_tries tries.old + open_among (sight state.now ctx.old.stack_item.local_name) instructions.now) }
+    ensures names_bound { name_tries tries.new ≤ name_tries tries.old + length instructions.now }
+    ensures attributes_bound { attribute_tries tries.new ≤ attribute_tries tries.old + length instructions.now }
+    ensures name { ctx.new.stack_item.local_name ≡ ctx.old.stack_item.local_name }
+{
+    for instruction in instructions {
+        let name = &ctx.stack_item.local_name;
+        if let Some(branch) = instruction.exec(state, name, matcher, tries) {
+            ctx.add_execution_branch(alloc, branch)?;
+        }
+    }
+    Ok(())
+}
+
+/// The instructions of a range; none where the range isn't inside, or where so many tries can't be counted.
+#[inline(always)]
+fn instructions_in<'p>(
+    instructions: &'p [Instruction],
+    range: &AddressRange,
+    tries: &Tries,
+) -> &'p [Instruction]
+    ensures value { IsInsideOf instructions.now range.now → HasRoomFor tries.now (range.now.end - range.now.start) → result.now ≡ instructions_at instructions.now range.now }
+    ensures room { HasRoomFor tries.now (length result.now) }
+{
+    let (names, attributes) = (tries.names(), tries.attributes());
+    if range.start > range.end || range.end > instructions.len() {
+        return &[];
+    }
+    let count = (range.end - range.start) as u64;
+    if count > u64::MAX - names || count > u64::MAX - attributes {
+        return &[];
+    }
+    &instructions[range.start..range.end]
+}
+
+/// Where a run without attributes stopped: which range it was in, and at which of its instructions.
+#[derive(Clone, Copy)]
+pub(crate) struct Stop {
+    pub range: usize,
+    pub offset: usize,
+}
+
+/// Runs the instructions of ranges without attributes, up to the first that needs them.
+#[inline(always)]
+pub(crate) fn try_ranges<E: ElementData>(
+    instructions: &[Instruction],
+    ranges: &[AddressRange],
+    state: &SelectorState<'_>,
+    alloc: Global,
+    ctx: &mut ExecutionCtx<'_, E>,
+    tries: &mut Tries,
+) -> Result<Option<Stop>, AllocError>
+    ensures stop { AreRunnable instructions.now ranges.now tries.old → IfOk result (λ stop. place_in instructions.now ranges.now stop ≡ first_open_from (sight state.now ctx.old.stack_item.local_name) 0 (all_at instructions.now ranges.now)) }
+    ensures within { AreRunnable instructions.now ranges.now tries.old → (stop : Stop) → result ≡ Ok (Some stop) → IsStopIn instructions.now ranges.now stop }
+    ensures ctx { AreRunnable instructions.now ranges.now tries.old → IfOk result (λ stop. ctx.new ≡ gathered_by_names E.ids E.with_ids (sight state.now ctx.old.stack_item.local_name) ctx.old (all_at instructions.now ranges.now)) }
+    ensures names { AreRunnable instructions.now ranges.now tries.old → IfOk result (λ stop. name_tries tries.new ≡ name_tries tries.old + tried_until (place_in instructions.now ranges.now stop) (length (all_at instructions.now ranges.now))) }
+    ensures attributes { attribute_tries tries.new ≡ attribute_tries tries.old }
+    ensures name { ctx.new.stack_item.local_name ≡ ctx.old.stack_item.local_name }
+{
+    for (at, range) in ranges.iter().enumerate() {
+        let part = instructions_in(instructions, range, tries);
+        if let Some(offset) = try_instructions(part, state, alloc, ctx, tries)? {
+            return Ok(Some(Stop { range: at, offset }));
+        }
+    }
+    Ok(None)
+}
+
+/// Runs the instructions of ranges with attributes.
+#[inline(always)]
+pub(crate) fn exec_ranges<E: ElementData>(
+    instructions: &[Instruction],
+    ranges: &[AddressRange],
+    state: &SelectorState<'_>,
+    matcher: &AttributeMatcher<'_>,
+    alloc: Global,
+    ctx: &mut ExecutionCtx<'_, E>,
+    tries: &mut Tries,
+) -> Result<(), AllocError>
+    ensures ctx { AreRunnable instructions.now ranges.now tries.old → IfOk result (λ done. ctx.new ≡ gathered_with_attributes E.ids E.with_ids (sight state.now ctx.old.stack_item.local_name) matcher.now ctx.old (all_at instructions.now ranges.now)) }
+    ensures names { AreRunnable instructions.now ranges.now tries.old → IfOk result (λ done. name_tries tries.new ≡ name_tries tries.old + length (all_at instructions.now ranges.now)) }
+    ensures attributes { AreRunnable instructions.now ranges.now tries.old → IfOk result (λ done. attribute_tries tries.new ≡ attribute_tries tries.old + open_among (sight state.now ctx.old.stack_item.local_name) (all_at instructions.now ranges.now)) }
+    ensures name { ctx.new.stack_item.local_name ≡ ctx.old.stack_item.local_name }
+{
+    for range in ranges {
+        let part = instructions_in(instructions, range, tries);
+        exec_instructions(part, state, matcher, alloc, ctx, tries)?;
+    }
+    Ok(())
+}
