@@ -20,7 +20,6 @@ use crate::selectors::judged::Judged;
 use crate::syntax::reader::{Nesting, Reader};
 use crate::syntax::texts::Name;
 use crate::syntax::tokens::{MatchOperator, Token};
-use std::alloc::Global;
 
 /// The name after a bar, and whether `*` stands before the bar.
 fn name_after_bar<'a>(
@@ -64,17 +63,6 @@ fn operator(reader: &mut Reader<'_>) -> Result<AttrSelectorOperator, SelectorErr
         Token::Match(MatchOperator::Prefix) => Ok(AttrSelectorOperator::Prefix),
         Token::Match(MatchOperator::Suffix) => Ok(AttrSelectorOperator::Suffix),
         Token::Match(MatchOperator::Substring) => Ok(AttrSelectorOperator::Substring),
-        _ => Err(SelectorError::UnexpectedTokenInAttribute),
-    }
-}
-
-#[tactic(auto, unfolding(crate::specs::Rules::required_token))]
-fn value(alloc: Global, reader: &mut Reader<'_>) -> Result<CssString, SelectorError>
-    ensures { ReadsUnlessMemory (λ s. s) result reader.new (giving utf8 (required_token InBrackets value_of UnexpectedTokenInAttribute reader.old)) }
-{
-    match reader.expect(Nesting::InBrackets)? {
-        Token::Ident(name) => Ok(name.to_text(alloc)?),
-        Token::Quoted(quoted) => Ok(quoted.to_text(alloc)?),
         _ => Err(SelectorError::UnexpectedTokenInAttribute),
     }
 }
@@ -191,33 +179,45 @@ fn case_sensitivity(
     Ok(found)
 }
 
-/// What stands after the name.
-#[tactic(auto, unfolding(crate::specs::Reading::comparison))]
-fn comparison(
-    alloc: Global,
-    name: CssString,
-    reader: &mut Reader<'_>,
-) -> Result<SimpleSelector, SelectorError>
-    ensures { ReadsUnlessMemory part_of result reader.new (giving trees.Plain (comparison name reader.old)) }
-{
-    if reader.is_at_end(Nesting::InBrackets) {
-        reader.advance();
-        return Ok(SimpleSelector::AttributeExists { name });
-    }
-    let operator = operator(reader)?;
-    reader.skip_space();
-    let value = value(alloc, reader)?;
-    reader.skip_space();
-    let case_sensitivity = case_sensitivity(&name, reader)?;
-    Ok(SimpleSelector::AttributeComparison {
-        name,
-        value,
-        operator,
-        case_sensitivity,
-    })
-}
-
 impl Context {
+    /// The value that is compared with, a name or a quoted text.
+    #[tactic(auto, unfolding(crate::specs::Rules::required_token))]
+    fn value(self, reader: &mut Reader<'_>) -> Result<CssString, SelectorError>
+        ensures { ReadsUnlessMemory (λ s. s) result reader.new (giving utf8 (required_token InBrackets value_of UnexpectedTokenInAttribute reader.old)) }
+    {
+        match reader.expect(Nesting::InBrackets)? {
+            Token::Ident(name) => Ok(name.to_text(self.alloc)?),
+            Token::Quoted(quoted) => Ok(quoted.to_text(self.alloc)?),
+            _ => Err(SelectorError::UnexpectedTokenInAttribute),
+        }
+    }
+
+    /// What stands after the name.
+    #[tactic(auto, unfolding(crate::specs::Reading::comparison))]
+    fn comparison(
+        self,
+        name: CssString,
+        reader: &mut Reader<'_>,
+    ) -> Result<SimpleSelector, SelectorError>
+        ensures { ReadsUnlessMemory part_of result reader.new (giving trees.Plain (comparison name reader.old)) }
+    {
+        if reader.is_at_end(Nesting::InBrackets) {
+            reader.advance();
+            return Ok(SimpleSelector::AttributeExists { name });
+        }
+        let operator = operator(reader)?;
+        reader.skip_space();
+        let value = self.value(reader)?;
+        reader.skip_space();
+        let case_sensitivity = case_sensitivity(&name, reader)?;
+        Ok(SimpleSelector::AttributeComparison {
+            name,
+            value,
+            operator,
+            case_sensitivity,
+        })
+    }
+
     /// An attribute, after the `[`.
     #[tactic(auto, unfolding(crate::specs::Reading::attribute, crate::specs::Accepting::judged_part))]
     pub(crate) fn attribute(
@@ -230,7 +230,7 @@ impl Context {
         let (name, any_namespace) = attribute_name(reader)?;
         let name = name.to_lowercase_text(self.alloc)?;
         reader.skip_space();
-        let part = comparison(self.alloc, name, reader)?;
+        let part = self.comparison(name, reader)?;
         Ok(if any_namespace {
             Judged::Refused(SelectorError::NamespacedSelector)
         } else {
