@@ -13,12 +13,12 @@ use Rattle.lol_base.specs.Names.{lowercased}
 abbrev pub cmp_from : ℕ → List ℕ → List ℕ → Ordering
 cmp_from at xs ys = slice_cmp nat_cmp (lowercased (drop at xs)) (lowercased (drop at ys))
 
--- the bytes at one place decide, and else those behind it
+-- the bytes at one place decide, and else those after it
 pub cmp_from-step : (xs ys : List ℕ) (at : ℕ) → at < length xs → at < length ys
     → cmp_from at xs ys ≡ ordering_then (nat_cmp (to_ascii_lowercase (get_or xs at 0)) (to_ascii_lowercase (get_or ys at 0))) (cmp_from (at + 1) xs ys)
 cmp_from-step xs ys at h k = rw (drop-cons xs at 0 h, drop-cons ys at 0 k, add-one at) refl
 
--- equal bytes leave it to those behind them
+-- equal bytes leave it to those after them
 pub cmp_from-more : (xs ys : List ℕ) (at : ℕ) (o : Ordering) → at < length xs → at < length ys
     → o ≡ nat_cmp (to_ascii_lowercase (get_or xs at 0)) (to_ascii_lowercase (get_or ys at 0)) → not (ordering_index o == 1) ≡ false
     → cmp_from at xs ys ≡ cmp_from (at + 1) xs ys

@@ -44,7 +44,7 @@ five_bits-zero b is other = grind (arith, nat_tests)
 -- ---- a code's bytes
 
 module _ (b : ℕ) (is : is_hash_byte b ≡ true) where
-  -- the last byte of a code is the one that was put behind
+  -- the last byte of a code is the one that was put after the others
   last_byte : (n code : ℕ) (others : List ℕ) → 0 < with_byte code b → bytes_before (suc n) (with_byte code b) others ≡ bytes_before n code (b ∷ others)
   last_byte n code others some =
       let small = five_bits-lt b is in
@@ -57,15 +57,15 @@ no_code : (n : ℕ) (others : List ℕ) → bytes_before n 0 others ≡ others
 no_code zero others = refl
 no_code (suc n) others = refl
 
-behind : (code b : ℕ) → 0 < code → 0 < with_byte code b
-behind code b some = omega arith
+with_byte-some : (code b : ℕ) → 0 < code → 0 < with_byte code b
+with_byte-some code b some = omega arith
 
 decoded : (bs : List ℕ) (n code : ℕ) (others : List ℕ) → list_all is_hash_byte bs ≡ true → 0 < code
     → bytes_before (n + length bs) (fold with_byte code bs) others ≡ bytes_before n code (bs ++ others)
 decoded [] n code others hashed some = ap (λ k. bytes_before k code others) (add-zero n)
 decoded (b ∷ bs) n code others hashed some =
     let more : n + suc (length bs) ≡ suc n + length bs = omega arith in
-    let front = behind code b some in
+    let front = with_byte-some code b some in
     ap (λ k. bytes_before k (fold with_byte (with_byte code b) bs) others) more
     ∙ (decoded bs (suc n) (with_byte code b) others (right_of (is_hash_byte b) (list_all is_hash_byte bs) hashed) front
     ∙ last_byte b (left_of (is_hash_byte b) (list_all is_hash_byte bs) hashed) n code (bs ++ others) front)

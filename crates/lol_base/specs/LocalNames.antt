@@ -31,7 +31,7 @@ five_bits b = if nat_lt b 97 then b - 49 else b - 91
 abbrev pub bits_of : ℕ → Option ℕ
 bits_of b = if is_hash_byte b then Some (five_bits b) else None
 
--- a code with the five bits of one more byte behind it
+-- a code with the five bits of one more byte after it
 abbrev pub with_byte : ℕ → ℕ → ℕ
 with_byte code b = 32 * code + five_bits b
 
@@ -53,7 +53,7 @@ same_local_name a b = bytes_eq a.lowercased b.lowercased
 abbrev pub code_or_last : Name → ℕ
 code_or_last n = unwrap_or (name_code n.lowercased) 18446744073709551615
 
--- The order of names: the hashes by their codes, and behind them the others by their bytes in lower case.
+-- The order of names: the hashes by their codes, and after them the others by their bytes in lower case.
 abbrev pub local_name_cmp : Name → Name → Ordering
 local_name_cmp = then_cmp (on code_or_last nat_cmp) (on (λ n. n.lowercased) (slice_cmp nat_cmp))
 

@@ -1,6 +1,6 @@
 //! Namespaces of elements.
 
-/// The namespace of an element (HTML Standard, "Namespaces"), as in the crate's `html::Namespace`.
+/// The namespace of an element (HTML Standard, "Namespaces"), as in lol_html's `html::Namespace`.
 #[derive(Debug, Clone, Copy, PartialEq, Eq)]
 pub enum Namespace {
     Html,
