@@ -292,6 +292,27 @@ fn long_selectors(rt: HostRuntime) -> Result<(), Fail> {
     Ok(())
 }
 
+/// `a, b, a` under ids that need words more, and under one that doesn't.
+#[test]
+fn items_take_their_id(rt: HostRuntime) -> Result<(), Fail> {
+    let alloc = rt.alloc();
+    let mut ast = Ast::new(alloc);
+    let list = SelectorList {
+        items: vec![in alloc;
+            item(alloc, vec![in alloc; tag(alloc, "a")?]?),
+            item(alloc, vec![in alloc; tag(alloc, "b")?]?),
+            item(alloc, vec![in alloc; tag(alloc, "a")?]?),
+        ]?,
+    };
+    ast.add_list(&list, 100)?;
+    ast.add_list(&list, 3)?;
+    ast.add_list(&list, 1_000)?;
+    assert!(rt; ast.cumulative_node_count() == 2);
+    assert!(rt; has_ids(node(&rt, ast.root(), 0), &[3, 100, 1_000]));
+    assert!(rt; has_ids(node(&rt, ast.root(), 1), &[3, 100, 1_000]));
+    Ok(())
+}
+
 #[test]
 fn conditions(rt: HostRuntime) -> Result<(), Fail> {
     let alloc = rt.alloc();
