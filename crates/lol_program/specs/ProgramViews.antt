@@ -1,11 +1,13 @@
 -- What the code's programs stand for.
 use Rattle.std.specs.Prelude.{ℕ, Bool, List, map}
+use Rattle.std.specs.Global.{Global}
 use Rattle.std.specs.Option.{option_map}
 use Rattle.std.specs.declared.ops.Range as std
 use Rattle.lol_memory.specs.Ids.{ascending}
 use Rattle.lol_program.specs.Attributes.{tag_attributes}
 use Rattle.lol_program.specs.Compiled.{sight_of, predicate_value, predicate_holds}
 use Rattle.lol_program.specs.Programs.{Range, Instruction, Program}
+use Rattle.lol_program.specs.declared.compiler.Compiler.{Compiler}
 use Rattle.lol_program.specs.declared.instruction.Instruction as code
 use Rattle.lol_program.specs.declared.program.Program as program
 
@@ -34,3 +36,7 @@ program_shown p =
       instructions = code_of p.enable_nth_of_type p.instructions.items;
       by_type = p.enable_nth_of_type;
     }
+
+-- where a compiler takes memory
+abbrev pub allocator_of : Compiler → Global
+allocator_of compiler = compiler.alloc

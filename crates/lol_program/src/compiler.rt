@@ -11,7 +11,7 @@ ghost use Rattle.lol_program.specs.Compiling.{AreCompiledTests};
 ghost use Rattle.lol_program.specs.Compiled.{tests_in};
 ghost use Rattle.lol_program.specs.Programs.{IsProgramOf};
 ghost use Rattle.lol_program.specs.Layouts.{width, range_of, any_by_type, selectors_in};
-ghost use Rattle.lol_program.specs.ProgramViews.{range_shown, program_shown};
+ghost use Rattle.lol_program.specs.ProgramViews.{range_shown, program_shown, allocator_of};
 ghost use Rattle.lol_program.specs.Laying.{AreLaid, SameOutside, SameElsewhere};
 
 use crate::ast::Ast;
@@ -32,7 +32,9 @@ pub struct Compiler {
 
 impl Compiler {
     /// A compiler that takes memory here. This call takes none.
-    pub fn new(alloc: Global) -> Self {
+    pub fn new(alloc: Global) -> Self
+        ensures { allocator_of result ≡ alloc }
+    {
         Compiler { alloc }
     }
 
