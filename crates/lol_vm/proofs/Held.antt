@@ -14,8 +14,8 @@ use Rattle.lol_base.specs.BoolLaws.{and_parts, and_of, or_parts, or_of}
 use Rattle.lol_vm.proofs.Bools.{not_both, true_or_not}
 use Rattle.lol_program.specs.Programs.{Range, Instruction, Program, IsWithin, IsAt, HoldsPlaces, IsRangeOf, IsProgramOf, AreClosed, above, places, all_places}
 use Rattle.lol_vm.specs.Machines.{Item, IsReached, HasRanges, IsItem, AreItems, Matches, HoldOnce, LeftMatches, active_of, is_active, same_range, last_jumps, ranges_of, jumps_of, hereditary_jumps_of}
-use Rattle.lol_vm.specs.MachineLaws.{RangesHoldLeftMatches, PlacesAreWithin}
-use Rattle.lol_vm.proofs.Lists.{to_contains, to_among, to_once, to_distinct, distinct_append, at_among, among_at, same_at, one_place, at_within, within_at, among_flat_map, flat_map_among, distinct_flat_map, among_range, range_among, distinct_range, among_map, map_among, among_filter, filter_among, distinct_filter, any_among, among_any}
+use Rattle.lol_vm.specs.MachineLaws.{ProgramsHaveEachNode, RangesHoldLeftMatches, PlacesAreWithin}
+use Rattle.lol_vm.proofs.Lists.{same_length, to_contains, to_among, to_once, to_distinct, distinct_append, at_among, among_at, same_at, one_place, at_within, within_at, among_flat_map, flat_map_among, distinct_flat_map, among_range, range_among, distinct_range, among_map, map_among, among_filter, filter_among, distinct_filter, any_among, among_any}
 
 -- 1. Ranges and the places in them
 
@@ -295,3 +295,12 @@ pub places_are_within : PlacesAreWithin
 places_are_within s paths p ranges outer program held place c =
     let x = (held.members place).0 c in
     omega (arith, at_within paths place x.0 x.1, program.count)
+
+pub programs_have_each_node : ProgramsHaveEachNode
+programs_have_each_node s paths p closed program = record {
+  count = program.count
+      ∙ same_length paths s.nodes (to_distinct paths program.once) (to_distinct s.nodes closed.once)
+      (λ path a. to_among s.nodes path ((program.same path).0 (to_contains paths path a)))
+      (λ path a. to_among paths path ((program.same path).1 (to_contains s.nodes path a)));
+  place = λ node h. let at = place_of_node s paths p program node h in (at.0, at.1, omega (arith, at_within paths at.0 node at.1, program.count));
+}

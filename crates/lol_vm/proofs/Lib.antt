@@ -32,3 +32,4 @@ pub mod TypedCounting
 pub mod StackCounting
 pub mod GatheringLemmas
 pub mod InstructionLists
+pub mod StackEnds

@@ -1,7 +1,7 @@
 -- Stacks that count children as a machine does.
 use Rattle.std.proofs.Common.{◌≡◌, ℕ, ◌+◌, ◌-◌, ◌<◌, ◌≤◌, Bool, true, false, cond, List, [], ◌∷◌, ◌++◌, length, map, Option, Some, None, refl, sym, ap, ◌∙◌, subst, arith, length-append}
 use Rattle.std.specs.Prelude.{◌&&◌, ◌==◌, count_by, slice_get, slice_set, unwrap_or, if◌then◌else◌}
-use Rattle.std.specs.Option.{option_map}
+use Rattle.std.specs.Option.{option_map, option_copied}
 use Rattle.std.proofs.lemmas.Bool.Decides.{Decides-eqb}
 use Rattle.std.proofs.lemmas.Slice.Eq.{bytes_eq-Decides}
 use Rattle.lol_base.specs.BoolLaws.{and_parts}
@@ -10,17 +10,18 @@ use Rattle.lol_base.specs.Names.{same_name, lowercased}
 use Rattle.lol_base.specs.LocalNames.{Name, local_name, same_local_name}
 use Rattle.lol_program.specs.Counters.{full_count}
 use Rattle.lol_program.specs.Tests.{Element}
-use Rattle.lol_vm.specs.Documents.{Child, same_parent, children_of, typed_children_of}
+use Rattle.lol_vm.specs.Documents.{Child, element_of, same_parent, children_of, typed_children_of}
 use Rattle.lol_vm.specs.Standing.{Machine, AreTyped, AreCounted, counted, counted_root, counted_last, counted_typed, or_root}
 use Rattle.lol_vm.specs.Standing as standing
 use Rattle.lol_vm.specs.TypedCounts as typed
 use Rattle.lol_vm.specs.TypedCounts.{TypedCount, count_at}
 use Rattle.lol_vm.specs.Stacks.{items_in, typed_in, last_count, count_or, counted_in, counted_if, counted_item, with_typed, count_by_type}
-use Rattle.lol_vm.specs.StackMachines.{item_shown, items_shown, children_shown, typed_shown, KeepsTyped, Keeps, CountingStackKeeps, CountersAreSeen, TypedCountsAreFewer}
+use Rattle.lol_vm.specs.StackMachines.{item_shown, items_shown, children_shown, typed_shown, KeepsTyped, Keeps, CountingStackKeeps, CountersAreSeen, StatesShowElements, TypedCountsAreFewer}
 use Rattle.lol_vm.specs.declared.stack_item.StackItemOf.{StackItemOf}
 use Rattle.lol_vm.specs.declared.stack.StackOf.{StackOf}
 use Rattle.lol_vm.specs.declared.stack.StackNames.{StackNames}
 use Rattle.lol_vm.proofs.Bools.{same_bool}
+use Rattle.lol_vm.proofs.Kept.{counters_are_places}
 use Rattle.lol_vm.proofs.StackMachines.{shown_push, items_counted}
 use Rattle.lol_vm.proofs.TypedCounting.{climb_counted, shown_at_top, shown_counted, shown_elsewhere}
 
@@ -149,6 +150,20 @@ module _ {E : Type 0} where
     typed = subst (λ top. count_by_type (typed_in s) top (local_name name) ≡ (if m.program.by_type then Some (m.typed (length m.items) name) else None)) (items_counted s m keeps)
         (seen_typed (typed_in s) m.program.by_type (length m.items) m.typed name keeps.typed some);
   }
+
+  pub states_show_elements : StatesShowElements E
+  states_show_elements s m d tag state counts sizes keeps cumulative typed_is =
+      let places = counters_are_places m d tag counts sizes in
+      let e = element_of d tag in
+      let seen = counters_are_seen s (counted m tag.name) tag.name keeps (λ by_type. let is = places.1 by_type in omega (arith, is)) in
+      let position : state.cumulative.now ≡ e.position = cumulative ∙ (seen.cumulative ∙ places.0) in
+      let typed_position : option_copied state.typed ≡ (if m.program.by_type then Some e.typed_position else None) =
+      typed_is ∙ (seen.typed ∙ by_test m.program.by_type ((counted m tag.name).typed (length m.items) tag.name) e.typed_position (λ by_type. places.1 by_type)) in
+      λ i. record { name = lowercased tag.name; position = position i; typed_position = typed_position i }
+    where
+      by_test : (b : Bool) (x y : ℕ) → (b ≡ true → x ≡ y) → (if b then Some x else None) ≡ (if b then Some y else None)
+      by_test true x y same = ap Some (same refl)
+      by_test false x y same = refl
 
 -- 5. Children of a name are children
 

@@ -1,9 +1,10 @@
 -- Stacks that keep what a machine keeps.
 use Rattle.std.proofs.Common.{◌≡◌, ℕ, suc, ◌+◌, ◌-◌, ◌<◌, ◌≤◌, Bool, true, false, cond, not, List, [], ◌∷◌, ◌++◌, length, map, filter, reverse, take, drop, position, Option, Some, None, inl, inr, refl, sym, ap, ◌∙◌, subst, arith, append_assoc}
 use Rattle.std.specs.Prelude.{nat_lt, nat_le, max, if◌then◌else◌, ◌||◌}
-use Rattle.std.specs.List.{position_or_len, drop-map, take-map}
+use Rattle.std.specs.List.{drop-map, take-map}
 use Rattle.std.specs.Option.{option_map}
-use Rattle.std.proofs.lemmas.Bool.Decides.{Decides-ltb, nat_tests}
+use Rattle.std.proofs.lemmas.Bool.Decides.{nat_tests}
+use Rattle.std.proofs.lemmas.List.Quantifiers.{position-Some}
 use Rattle.std.proofs.lemmas.List.{length-drop, map-append, reverse-append, length-map, length-reverse, append-nil}
 use Rattle.std.specs.declared.ops.Range as std
 use Rattle.lol_base.specs.BoolLaws.{not_true, or-false}
@@ -18,9 +19,9 @@ use Rattle.lol_vm.specs.Active as active
 use Rattle.lol_vm.specs.Active.{activated}
 use Rattle.lol_vm.specs.Machines.{Item, active_of, is_active, same_range, newly_active}
 use Rattle.lol_vm.specs.TypedCounts.{TypedCount, cut_to}
-use Rattle.lol_vm.specs.Standing.{Machine, slots_after, cut, closes}
+use Rattle.lol_vm.specs.Standing.{Machine, slots_after, cut, closes, ended}
 use Rattle.lol_vm.specs.Stacks.{items_in, active_in, typed_in, IsSame, IsClosed, IsEndedAt}
-use Rattle.lol_vm.specs.StackMachines.{EndingStackKeeps, item_shown, items_shown, children_shown, active_shown, in_lower_case, Climb, levels_in, KeepsTyped, Keeps, NewStackKeeps, SameStackKeeps, OpeningStackKeeps}
+use Rattle.lol_vm.specs.StackMachines.{item_shown, items_shown, children_shown, active_shown, in_lower_case, Climb, levels_in, KeepsTyped, Keeps, NewStackKeeps, SameStackKeeps, OpeningStackKeeps}
 use Rattle.lol_vm.specs.declared.stack_item.StackItemOf.{StackItemOf}
 use Rattle.lol_vm.specs.declared.stack.StackOf.{StackOf}
 use Rattle.lol_vm.specs.declared.stack.StackNames.{StackNames}
@@ -198,12 +199,12 @@ keeps_typed_stray (Some ts) by_type top counts keeps =
     subst (λ xs. KeepsTyped (Some xs) by_type top (λ level name. if nat_le level top then counts level name else 0)) (cut_to-all top top ts keeps.1 (omega arith))
     (keeps_typed_cut (Some ts) by_type top top counts keeps)
 
-found_within : {A : Type 0} (p : A → Bool) (xs : List A) (k : ℕ) → position p xs ≡ Some k → k < length xs
-found_within p xs k is = by_test (position_or_len p xs) (nat_lt (position_or_len p xs) (length xs)) refl is
-  where
-    by_test : (n : ℕ) (b : Bool) → nat_lt n (length xs) ≡ b → cond b (Some n) None ≡ Some k → k < length xs
-    by_test n true within same = let here : n ≡ k = cc in let below = (Decides-ltb n (length xs)).0 within in omega (arith, here, below)
-    by_test n false within same = cc
+-- the place, from the outermost on, of the innermost item of a name
+abbrev pub place_of_last : Machine → List ℕ → Option ℕ
+place_of_last m name = option_map (λ k. length m.items - (k + 1)) (position (λ (item : Item). same_name item.name name) m.items)
+
+found_within : (p : Item → Bool) (xs : List Item) (k : ℕ) → position p xs ≡ Some k → k < length xs
+found_within p xs k is = (position-Some p xs k (record { name = []; jumps = []; hereditary_jumps = [] }) is).0
 
 module _ {E : Type 0} (old new : StackOf Name StackNames E) (m : Machine) (keeps : Keeps old m) where
   cut_keeps : (n place : ℕ) → n + place ≡ length (items_in old) → IsClosed place old new → Keeps new (cut n m)
@@ -243,6 +244,6 @@ module _ {E : Type 0} (old new : StackOf Name StackNames E) (m : Machine) (keeps
       let count = items_counted old m keeps in
       cut_keeps (k + 1) (length m.items - (k + 1)) (omega (arith, below, count)) ended
 
-pub ending_stack_keeps : {E : Type 0} → EndingStackKeeps E
-ending_stack_keeps old new m name keeps active ended =
+pub ended_at_last_keeps : {E : Type 0} (old new : StackOf Name StackNames E) (m : Machine) (name : List ℕ) → Keeps old m → m.active ≡ active_of m.items → IsEndedAt (place_of_last m name) old new → Keeps new (ended m name)
+ended_at_last_keeps old new m name keeps active ended =
     by_place old new m keeps active (position (λ (item : Item). same_name item.name name) m.items) (λ k is. found_within (λ (item : Item). same_name item.name name) m.items k is) ended

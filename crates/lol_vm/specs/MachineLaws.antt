@@ -12,6 +12,14 @@ use Rattle.lol_vm.specs.PlaceRuns.{Context, Stop, no_context, is_open_at, contex
 
 -- 1. Which places are run
 
+-- There are as many instructions as nodes, and each node's place is one of theirs.
+pub record HasEachNode (s : Selectors) (paths : List Path) (p : Program) : Type 0 where
+  pub count : length p.instructions ≡ length s.nodes
+  pub place : (node : Path) → Contains s.nodes node → (place : ℕ) × IsAt paths place node × (place < length p.instructions)
+
+abbrev pub ProgramsHaveEachNode : Type 0
+ProgramsHaveEachNode = (s : Selectors) (paths : List Path) (p : Program) → AreClosed s → IsProgramOf s paths p → HasEachNode s paths p
+
 -- The ranges that are run for a start tag hold the place of each node whose left part matches exactly once, and no other place.
 abbrev pub RangesHoldLeftMatches : Type 0
 RangesHoldLeftMatches =

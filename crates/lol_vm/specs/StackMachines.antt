@@ -1,19 +1,23 @@
 -- When a stack keeps what a machine keeps of the open elements.
-use Rattle.std.specs.Prelude.{ℕ, ◌+◌, ◌-◌, ◌<◌, ◌≤◌, ◌≡◌, Bool, true, false, if◌then◌else◌, List, [], ◌∷◌, map, reverse, length, position, Option, Some, None, unwrap_or}
-use Rattle.std.specs.Option.{option_map}
+use Rattle.std.specs.Prelude.{ℕ, ◌<◌, ◌≤◌, ◌≡◌, Bool, true, false, if◌then◌else◌, List, [], ◌∷◌, map, reverse, length, Option, Some, None, unwrap_or}
+use Rattle.std.specs.Option.{option_copied}
 use Rattle.std.specs.declared.ops.Range as std
-use Rattle.lol_base.specs.Names.{lowercased, same_name}
+use Rattle.lol_base.specs.Names.{lowercased}
+use Rattle.lol_base.specs.StartTags.{StartTag}
 use Rattle.lol_base.specs.LocalNames.{Name, local_name}
+use Rattle.lol_program.specs.Compiled.{sight, sight_of}
 use Rattle.lol_program.specs.Counters.{full_count}
 use Rattle.lol_program.specs.Programs.{Range, Program, Once}
 use Rattle.lol_program.specs.ProgramViews.{range_shown}
-use Rattle.lol_vm.specs.Documents.{Document}
+use Rattle.lol_program.specs.declared.selector_state.SelectorState.{SelectorState}
+use Rattle.lol_vm.specs.Documents.{Document, element_of}
 use Rattle.lol_vm.specs.Machines.{Item, active_of}
 use Rattle.lol_vm.specs.PlaceRuns.{Context}
 use Rattle.lol_vm.specs.Standing.{Machine, AreCounted, new_machine, counted, opened, ended}
 use Rattle.lol_vm.specs.Standing as standing
 use Rattle.lol_vm.specs.TypedCounts.{TypedCount, count_at, cut_to}
-use Rattle.lol_vm.specs.Stacks.{items_in, slots_in, active_in, typed_in, last_count, typed_count, counted_in, IsSame, IsPushed, IsEndedAt}
+use Rattle.lol_vm.specs.Stacks.{items_in, slots_in, active_in, typed_in, last_count, typed_count, counted_in, root_count, item_bytes_in, list_in, IsSame, IsPushed, IsEnded}
+use Rattle.lol_vm.specs.SoundStacks.{IsSound}
 use Rattle.lol_vm.specs.declared.stack_item.StackItemOf.{StackItemOf}
 use Rattle.lol_vm.specs.declared.stack.StackOf.{StackOf}
 use Rattle.lol_vm.specs.declared.stack.StackNames.{StackNames}
@@ -70,18 +74,18 @@ KeepsTyped (Some ts) by_type top typed =
 pub record Keeps {E : Type 0} (s : StackOf Name StackNames E) (m : Machine) : Type 0 where
   pub items : map in_lower_case m.items ≡ items_shown (items_in s)
   pub active : m.active ≡ active_shown (active_in s)
-  pub root_children : m.root_children ≡ s.root_child_counter
+  pub root_children : m.root_children ≡ root_count s
   pub children : m.children ≡ children_shown (items_in s)
   pub typed : KeepsTyped (typed_in s) m.program.by_type (length m.items) m.typed
-  pub item_bytes : m.item_bytes ≡ s.items.item_bytes
+  pub item_bytes : m.item_bytes ≡ item_bytes_in s
   pub slots : m.slots ≡ slots_in s
 
 -- What is so of a new stack, and what each call keeps.
 
 -- a new stack, which counts by type where the program asks for it
 pub record IsNew {E : Type 0} (s : StackOf Name StackNames E) (by_type : Bool) (item_bytes : ℕ) : Type 0 where
-  pub items : s.items ≡ record { items = []; slots = 0; item_bytes = item_bytes }
-  pub root : s.root_child_counter ≡ 0
+  pub items : list_in s ≡ record { items = []; slots = 0; item_bytes = item_bytes }
+  pub root : root_count s ≡ 0
   pub active : active_in s ≡ []
   pub typed : typed_in s ≡ (if by_type then Some [] else None)
 
@@ -104,14 +108,11 @@ OpeningStackKeeps E =
     (old new : StackOf Name StackNames E) (m : Machine) (item : StackItemOf Name E) (name : List ℕ) (context : Context)
     → Keeps old m → IsPushed old item new → IsItemOf item name context → Keeps new (opened m name context)
 
--- the place, from the outermost on, of the innermost item of a name
-abbrev pub place_of_last : Machine → List ℕ → Option ℕ
-place_of_last m name = option_map (λ k. length m.items - (k + 1)) (position (λ item. same_name item.name name) m.items)
-
+-- An end tag closes what it closes on the machine, where the stack's lists are those of its elements.
 abbrev pub EndingStackKeeps : Type 0 → Type 0
 EndingStackKeeps E =
     (old new : StackOf Name StackNames E) (m : Machine) (name : List ℕ)
-    → Keeps old m → m.active ≡ active_of m.items → IsEndedAt (place_of_last m name) old new → Keeps new (ended m name)
+    → Keeps old m → m.active ≡ active_of m.items → IsSound old → IsEnded old (local_name name) new → Keeps new (ended m name)
 
 -- A child is counted, where no count by type is full.
 abbrev pub CountingStackKeeps : Type 0 → Type 0
@@ -134,3 +135,11 @@ abbrev pub TypedCountsAreFewer : Type 0
 TypedCountsAreFewer =
     (m : Machine) (d : Document) (name : List ℕ) → AreCounted m d → length m.items ≡ length d.open_elements → m.program.by_type ≡ true
     → m.typed (length m.items) name ≤ standing.last_count m
+
+-- What tests see through a state of these counters, once a start tag is counted, is what they see of its element.
+abbrev pub StatesShowElements : Type 0 → Type 0
+StatesShowElements E =
+    (s : StackOf Name StackNames E) (m : Machine) (d : Document) (tag : StartTag) (state : SelectorState)
+    → AreCounted m d → length m.items ≡ length d.open_elements → Keeps s (counted m tag.name)
+    → state.cumulative.now ≡ last_count s → option_copied state.typed ≡ typed_count s (local_name tag.name)
+    → sight state (local_name tag.name) ≡ sight_of m.program.by_type (element_of d tag)

@@ -1,9 +1,14 @@
 //! Laws of the machine over the definitions, each the contract of an empty function.
 
 ghost use Rattle.lol_vm.specs.Gathering.{BranchesGather, GatheredIdsAscend, NewElementsGather};
-ghost use Rattle.lol_vm.specs.MachineLaws.{ForeignTagsAsk, OffsetsGoOn, PlacesAreWithin, PlacesCountTries, RangesHoldLeftMatches, RequestsFinish, RunsByNamesGoOn, RunsDontSeeTheRest, RunsGather, RunsGiveReports, RunsGoOn, RunsStopWhereAsked, StoppedStartsAreWhole, StopsAreOffsets, StopsAreRequests};
+ghost use Rattle.lol_vm.specs.MachineLaws.{ForeignTagsAsk, OffsetsGoOn, PlacesAreWithin, PlacesCountTries, ProgramsHaveEachNode, RangesHoldLeftMatches, RequestsFinish, RunsByNamesGoOn, RunsDontSeeTheRest, RunsGather, RunsGiveReports, RunsGoOn, RunsStopWhereAsked, StoppedStartsAreWhole, StopsAreOffsets, StopsAreRequests};
 ghost use Rattle.lol_vm.specs.Machines.{PushedItemsAreActive};
 ghost use Rattle.lol_vm.specs.Standing.{CountersArePlaces, DocumentsAreOrdered, EndsHandOut, EndsKeepItems, FinishingIsKept, MachinesStand, NewStands, RequestsStand, SlotsGrow, StandingIsKept, StartsAnswer};
+
+/// A program has as many instructions as there are nodes, and each node's place is one of theirs.
+pub fn programs_have_each_node()
+    ensures { ProgramsHaveEachNode }
+{}
 
 /// The ranges that are run for a start tag hold the place of each node whose left part matches
 /// exactly once, and no other place.

@@ -1,6 +1,6 @@
 //! Stacks and machines: each function takes and gives nothing, and its contract is the law.
 
-ghost use Rattle.lol_vm.specs.StackMachines.{CountersAreSeen, CountingStackKeeps, EndingStackKeeps, NewStackKeeps, OpeningStackKeeps, SameStackKeeps, TypedCountsAreFewer};
+ghost use Rattle.lol_vm.specs.StackMachines.{CountersAreSeen, CountingStackKeeps, EndingStackKeeps, NewStackKeeps, OpeningStackKeeps, SameStackKeeps, StatesShowElements, TypedCountsAreFewer};
 
 /// A new stack keeps what a new machine does, and a call that changes nothing keeps it so.
 pub fn new_stacks_keep<E>()
@@ -19,10 +19,12 @@ pub fn ending_stacks_keep<E>()
     ensures { EndingStackKeeps E }
 {}
 
-/// A stack that counts a child keeps what the machine does that counts it, and shows its counters.
+/// A stack that counts a child keeps what the machine does that counts it, and shows its counters:
+/// through a state of them tests see what they see of the element.
 pub fn counting_stacks_keep<E>()
     ensures counting { CountingStackKeeps E }
     ensures seen { CountersAreSeen E }
+    ensures states { StatesShowElements E }
 {}
 
 /// Where the counts are those of a document, no count by type passes its element's count of children.

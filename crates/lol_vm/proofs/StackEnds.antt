@@ -1,0 +1,90 @@
+-- Stacks that close elements as a machine does.
+use Rattle.std.proofs.Common.{◌≡◌, ℕ, suc, ◌+◌, ◌-◌, ◌<◌, Bool, true, false, List, [], ◌∷◌, ◌++◌, length, map, position, Option, Some, None, refl, sym, ap, ◌∙◌, subst, arith}
+use Rattle.std.specs.Prelude.{if◌then◌else◌}
+use Rattle.std.specs.List.{position_from}
+use Rattle.std.specs.Option.{option_map, option_or}
+use Rattle.std.specs.Str.{bytes_eq}
+use Rattle.std.proofs.lemmas.Iterator.Adapters.{position_from-zero}
+use Rattle.std.proofs.lemmas.List.{reverse-append}
+use Rattle.lol_base.specs.Names.{lowercased}
+use Rattle.lol_base.specs.LocalNames.{Name, local_name}
+use Rattle.lol_vm.specs.Machines.{Item}
+use Rattle.lol_vm.specs.Standing.{Machine, ended}
+use Rattle.lol_vm.specs.Stacks.{items_in, place_to_close, IsEndedAt}
+use Rattle.lol_vm.specs.SoundStacks.{last_place_from, last_place}
+use Rattle.lol_vm.specs.StackMachines.{item_shown, items_shown, in_lower_case, Keeps, EndingStackKeeps}
+use Rattle.lol_vm.specs.declared.stack_item.StackItemOf.{StackItemOf}
+use Rattle.lol_vm.specs.declared.stack.StackOf.{StackOf}
+use Rattle.lol_vm.specs.declared.stack.StackNames.{StackNames}
+use Rattle.lol_vm.proofs.Runs.{position-map}
+use Rattle.lol_vm.proofs.SoundLemmas.{ends_at_last}
+use Rattle.lol_vm.proofs.StackMachines.{shown_length, items_counted, place_of_last, ended_at_last_keeps}
+
+-- 1. The first place at which a test passes, with one element more
+
+module _ {A : Type 0} (p : A → Bool) where
+  place_push : (i : ℕ) (ys : List A) (y : A) → position_from p i (ys ++ y ∷ []) ≡ option_or (position_from p i ys) (if p y then Some (i + length ys) else None)
+  place_push i [] y = let same : i ≡ i + 0 = omega arith in ap (λ k. if p y then Some k else None) same
+  place_push i (x ∷ ys) y = by_test (p x) (place_push (i + 1) ys y)
+    where
+      sizes : (i + 1) + length ys ≡ i + suc (length ys)
+      sizes = omega arith
+
+      by_test : (b : Bool) → position_from p (i + 1) (ys ++ y ∷ []) ≡ option_or (position_from p (i + 1) ys) (if p y then Some ((i + 1) + length ys) else None)
+          → (if b then Some i else position_from p (i + 1) (ys ++ y ∷ [])) ≡ option_or (if b then Some i else position_from p (i + 1) ys) (if p y then Some (i + suc (length ys)) else None)
+      by_test true later = refl
+      by_test false later = later ∙ ap (λ k. option_or (position_from p (i + 1) ys) (if p y then Some k else None)) sizes
+
+  place_within : (i : ℕ) (ys : List A) (k : ℕ) → position_from p i ys ≡ Some k → k < i + length ys
+  place_within i [] k is = cc
+  place_within i (y ∷ ys) k is = by_test (p y) (λ h. place_within (i + 1) ys k h) is
+    where
+      by_test : (b : Bool) → (position_from p (i + 1) ys ≡ Some k → k < (i + 1) + length ys) → (if b then Some i else position_from p (i + 1) ys) ≡ Some k → k < i + suc (length ys)
+      by_test true later h = let here : i ≡ k = cc in omega (arith, here)
+      by_test false later h = let within = later h in omega (arith, within)
+
+-- 2. The last element of a name
+
+abbrev from_last : ℕ → ℕ → ℕ → ℕ
+from_last place count k = place + (count - (k + 1))
+
+same_option : (f g : ℕ → ℕ) → ((k : ℕ) → f k ≡ g k) → (o : Option ℕ) → option_map f o ≡ option_map g o
+same_option f g same None = refl
+same_option f g same (Some k) = ap Some (same k)
+
+module _ (name : List ℕ) where
+  abbrev is_named : Item → Bool
+  is_named item = bytes_eq item.name (lowercased name)
+
+  last_is : {E : Type 0} (place : ℕ) (xs : List (StackItemOf Name E)) → option_map (from_last place (length xs)) (position_from is_named 0 (items_shown xs)) ≡ last_place_from place xs (local_name name)
+  last_is place [] = refl
+  last_is place (x ∷ xs) =
+      let turned : items_shown (x ∷ xs) ≡ items_shown xs ++ item_shown x ∷ [] = reverse-append (item_shown x ∷ []) (map item_shown xs) in
+      let count = shown_length item_shown xs in
+      ap (λ ys. option_map (from_last place (suc (length xs))) (position_from is_named 0 ys)) turned
+      ∙ (ap (option_map (from_last place (suc (length xs)))) (place_push is_named 0 (items_shown xs) (item_shown x))
+      ∙ by_place (position_from is_named 0 (items_shown xs)) (λ k h. omega (arith, place_within is_named 0 (items_shown xs) k h, count)) (last_is (place + 1) xs) (is_named (item_shown x)) count)
+    where
+      by_place : (o : Option ℕ) → ((k : ℕ) → o ≡ Some k → k < length xs) → option_map (from_last (place + 1) (length xs)) o ≡ last_place_from (place + 1) xs (local_name name)
+          → (b : Bool) → length (items_shown xs) ≡ length xs
+          → option_map (from_last place (suc (length xs))) (option_or o (if b then Some (0 + length (items_shown xs)) else None)) ≡ option_or (last_place_from (place + 1) xs (local_name name)) (if b then Some place else None)
+      by_place (Some k) within later b count =
+          let below = within k refl in
+          let same : place + (suc (length xs) - (k + 1)) ≡ (place + 1) + (length xs - (k + 1)) = omega (arith, below) in
+          ap Some same ∙ ap (λ o. option_or o (if b then Some place else None)) later
+      by_place None within later true count =
+          let same : place + (suc (length xs) - ((0 + length (items_shown xs)) + 1)) ≡ place = omega (arith, count) in
+          ap Some same ∙ ap (λ o. option_or o (Some place)) later
+      by_place None within later false count = ap (λ o. option_or o None) later
+
+  pub place_is_last : {E : Type 0} (s : StackOf Name StackNames E) (m : Machine) → Keeps s m → place_of_last m name ≡ last_place (items_in s) (local_name name)
+  place_is_last s m keeps =
+      let count = items_counted s m keeps in
+      same_option (λ k. length m.items - (k + 1)) (from_last 0 (length (items_in s))) (λ k. omega (arith, count)) (position (λ item. is_named (in_lower_case item)) m.items)
+      ∙ (ap (option_map (from_last 0 (length (items_in s)))) (sym (position-map is_named in_lower_case m.items) ∙ (ap (position is_named) keeps.items ∙ position_from-zero is_named (items_shown (items_in s))))
+      ∙ last_is 0 (items_in s))
+
+pub ending_stack_keeps : {E : Type 0} → EndingStackKeeps E
+ending_stack_keeps old new m name keeps active sound ended =
+    let place : place_to_close old (local_name name) ≡ place_of_last m name = ends_at_last old (local_name name) sound ∙ sym (place_is_last name old m keeps) in
+    ended_at_last_keeps old new m name keeps active (subst (λ o. IsEndedAt o old new) place ended)
