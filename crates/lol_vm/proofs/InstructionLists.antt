@@ -1,6 +1,7 @@
 -- Instructions that are run in parts.
-use Rattle.std.proofs.Common.{◌≡◌, ◌+◌, ◌-◌, ◌<◌, ◌≤◌, ℕ, Bool, List, [], ◌∷◌, ◌++◌, length, take, drop, get_or, suc, Option, Some, None, true, false, cond, refl, sym, ap, ◌∙◌, arith, drop-cons}
+use Rattle.std.proofs.Common.{◌≡◌, ◌+◌, ◌-◌, ◌<◌, ◌≤◌, ℕ, Bool, List, [], ◌∷◌, ◌++◌, length, take, drop, get_or, suc, Option, Some, None, true, false, cond, refl, sym, ap, ◌∙◌, arith, drop-cons, subst}
 use Rattle.std.specs.declared.ops.Range.{Range}
+use Rattle.std.proofs.Math.ListN.{get_or-map}
 use Rattle.std.proofs.lemmas.List.{take_more, flat_map_more, length-append, length-drop, length-take}
 use Rattle.std.proofs.lemmas.List.Elements.{All-get_or}
 use Rattle.std.proofs.lemmas.List.Sums.{sum_by-append, count_by-le-length}
@@ -12,7 +13,7 @@ use Rattle.lol_program.specs.Attributes.{TagAttributes}
 use Rattle.lol_program.specs.Compiled.{Sight}
 use Rattle.lol_program.specs.Compounds.{is_open}
 use Rattle.lol_program.specs.declared.instruction.Instruction.{Instruction}
-use Rattle.lol_vm.specs.InstructionRuns.{value_seen, holds_seen, is_true, with_branch_if, open_among, first_open_from, gathered_by_names, gathered_with_attributes, instructions_at, all_at, no_range, AreRunnable, IsInsideOf, HasRoomFor}
+use Rattle.lol_vm.specs.InstructionRuns.{value_seen, holds_seen, is_true, with_branch_if, open_among, first_open_from, gathered_by_names, gathered_with_attributes, instructions_at, all_at, no_range, AreRunnable, IsInsideOf, HasRoomFor, ranges_in}
 use Rattle.lol_vm.specs.declared.execution_ctx.ExecutionCtx.{ExecutionCtx}
 
 -- 1. A choice that is none or some
@@ -190,3 +191,9 @@ module _ (instructions : List Instruction) (ranges : List (Range ℕ)) (at : ℕ
             ∙ (ap (gathered_with_attributes ids with_ids s a ctx) from
             ∙ (gathers_all s ids with_ids a ctx part after_next
             ∙ ap (λ c. gathered_with_attributes ids with_ids s a c after_next) (ap (λ z. gathered_with_attributes ids with_ids z a ctx part) (sym same) ∙ sym is_new)))
+
+-- 5. Active ranges
+
+-- what was said of an active range is so of that in the list of ranges
+pub active_at : (active : List (Range ℕ × ℕ)) (at : ℕ) (P : Range ℕ → Type 0) → P (get_or active at (no_range, 0)).0 → P (get_or (ranges_in active) at no_range)
+active_at active at P h = subst P (sym (get_or-map (λ (a : Range ℕ × ℕ). a.0) active at (no_range, 0))) h

@@ -3,7 +3,7 @@
 ghost use Rattle.std.specs.Prelude.{◌≡◌, ◌+◌, ◌-◌, ◌≤◌, IfOk, Ok, Some, length};
 ghost use Rattle.lol_program.specs.Compiled.{sight};
 ghost use Rattle.lol_program.specs.Tries.{name_tries, attribute_tries};
-ghost use Rattle.lol_vm.specs.InstructionRuns.{AreRunnable, all_at, place_in, IsStopIn, HasRoomFor, IsInsideOf, instructions_at, open_among, first_open_from, tried_until, gathered_by_names, gathered_with_attributes};
+ghost use Rattle.lol_vm.specs.InstructionRuns.{AreRunnable, all_at, place_in, IsStopIn, HasRoomFor, IsInsideOf, ranges_in, instructions_at, open_among, first_open_from, tried_until, gathered_by_names, gathered_with_attributes};
 
 use crate::element_data::ElementData;
 use crate::execution_ctx::ExecutionCtx;
@@ -142,6 +142,55 @@ pub(crate) fn exec_ranges<E: ElementData>(
 {
     for range in ranges {
         let part = instructions_in(instructions, range, tries);
+        exec_instructions(part, state, matcher, alloc, ctx, tries)?;
+    }
+    Ok(())
+}
+
+/// The same over active ranges.
+#[inline(always)]
+pub(crate) fn try_active<E: ElementData>(
+    instructions: &[Instruction],
+    active: &[(AddressRange, usize)],
+    state: &SelectorState<'_>,
+    alloc: Global,
+    ctx: &mut ExecutionCtx<'_, E>,
+    tries: &mut Tries,
+) -> Result<Option<Stop>, AllocError>
+    ensures stop { AreRunnable instructions.now (ranges_in active.now) tries.old → IfOk result (λ stop. place_in instructions.now (ranges_in active.now) stop ≡ first_open_from (sight state.now ctx.old.stack_item.local_name) 0 (all_at instructions.now (ranges_in active.now))) }
+    ensures within { AreRunnable instructions.now (ranges_in active.now) tries.old → (stop : Stop) → result ≡ Ok (Some stop) → IsStopIn instructions.now (ranges_in active.now) stop }
+    ensures ctx { AreRunnable instructions.now (ranges_in active.now) tries.old → IfOk result (λ stop. ctx.new ≡ gathered_by_names E.ids E.with_ids (sight state.now ctx.old.stack_item.local_name) ctx.old (all_at instructions.now (ranges_in active.now))) }
+    ensures names { AreRunnable instructions.now (ranges_in active.now) tries.old → IfOk result (λ stop. name_tries tries.new ≡ name_tries tries.old + tried_until (place_in instructions.now (ranges_in active.now) stop) (length (all_at instructions.now (ranges_in active.now)))) }
+    ensures attributes { attribute_tries tries.new ≡ attribute_tries tries.old }
+    ensures name { ctx.new.stack_item.local_name ≡ ctx.old.stack_item.local_name }
+{
+    for (at, active_range) in active.iter().enumerate() {
+        let part = instructions_in(instructions, &active_range.0, tries);
+        if let Some(offset) = try_instructions(part, state, alloc, ctx, tries)? {
+            return Ok(Some(Stop { range: at, offset }));
+        }
+    }
+    Ok(None)
+}
+
+/// The same over active ranges.
+#[inline(always)]
+pub(crate) fn exec_active<E: ElementData>(
+    instructions: &[Instruction],
+    active: &[(AddressRange, usize)],
+    state: &SelectorState<'_>,
+    matcher: &AttributeMatcher<'_>,
+    alloc: Global,
+    ctx: &mut ExecutionCtx<'_, E>,
+    tries: &mut Tries,
+) -> Result<(), AllocError>
+    ensures ctx { AreRunnable instructions.now (ranges_in active.now) tries.old → IfOk result (λ done. ctx.new ≡ gathered_with_attributes E.ids E.with_ids (sight state.now ctx.old.stack_item.local_name) matcher.now ctx.old (all_at instructions.now (ranges_in active.now))) }
+    ensures names { AreRunnable instructions.now (ranges_in active.now) tries.old → IfOk result (λ done. name_tries tries.new ≡ name_tries tries.old + length (all_at instructions.now (ranges_in active.now))) }
+    ensures attributes { AreRunnable instructions.now (ranges_in active.now) tries.old → IfOk result (λ done. attribute_tries tries.new ≡ attribute_tries tries.old + open_among (sight state.now ctx.old.stack_item.local_name) (all_at instructions.now (ranges_in active.now))) }
+    ensures name { ctx.new.stack_item.local_name ≡ ctx.old.stack_item.local_name }
+{
+    for active_range in active {
+        let part = instructions_in(instructions, &active_range.0, tries);
         exec_instructions(part, state, matcher, alloc, ctx, tries)?;
     }
     Ok(())

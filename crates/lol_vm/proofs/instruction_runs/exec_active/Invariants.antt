@@ -1,0 +1,23 @@
+use Rattle.std.proofs.Common.{◌≡◌, ◌+◌, drop, take, length}
+use Rattle.lol_program.specs.Compiled.{sight}
+use Rattle.lol_program.specs.Tries.{name_tries, attribute_tries}
+use Rattle.lol_vm.specs.InstructionRuns.{AreRunnable, ranges_in, all_at, open_among, gathered_with_attributes}
+use Rattle.lol_vm.proofs.instruction_runs.exec_active.Given as goal
+
+abbrev pub invariant-loop-active_range : goal.invariant-loop-active_range
+invariant-loop-active_range g l =
+    let ids = g.E.ElementData.ids in
+    let with_ids = g.E.ElementData.with_ids in
+    let s = sight l.state l.fn.ctx.stack_item.local_name in
+    let runnable = AreRunnable l.instructions (ranges_in l.active) l.fn.tries in
+    let before = all_at l.instructions (take l.active_range-index (ranges_in l.active)) in
+    let after = all_at l.instructions (drop l.active_range-index (ranges_in l.active)) in
+    record {
+      names : runnable → name_tries l.tries ≡ name_tries l.fn.tries + length before;
+      attributes : runnable → attribute_tries l.tries ≡ attribute_tries l.fn.tries + open_among s before;
+      name : l.ctx.stack_item.local_name ≡ l.fn.ctx.stack_item.local_name;
+      rest :
+          runnable
+          → gathered_with_attributes ids with_ids s l.matcher l.fn.ctx (all_at l.instructions (ranges_in l.active))
+          ≡ gathered_with_attributes ids with_ids s l.matcher l.ctx after;
+    }
