@@ -1,7 +1,8 @@
 -- Instructions that are run in parts.
-use Rattle.std.proofs.Common.{◌≡◌, ◌+◌, ◌-◌, ◌<◌, ◌≤◌, ℕ, Bool, List, [], ◌∷◌, ◌++◌, length, take, drop, get_or, suc, Option, Some, None, true, false, cond, refl, sym, ap, ◌∙◌, arith, drop-cons, subst}
+use Rattle.std.proofs.Common.{min, ◌^◌, ◌≡◌, ◌+◌, ◌-◌, ◌<◌, ◌≤◌, ℕ, Bool, List, [], ◌∷◌, ◌++◌, length, take, drop, get_or, suc, Option, Some, None, true, false, cond, refl, sym, ap, ◌∙◌, arith, drop-cons, subst}
 use Rattle.std.specs.declared.ops.Range.{Range}
 use Rattle.std.proofs.Math.ListN.{get_or-map}
+use Rattle.std.proofs.Math.Seq.{take-length}
 use Rattle.std.proofs.lemmas.List.{take_more, flat_map_more, length-append, length-drop, length-take}
 use Rattle.std.proofs.lemmas.List.Elements.{All-get_or}
 use Rattle.std.proofs.lemmas.List.Sums.{sum_by-append, count_by-le-length}
@@ -12,8 +13,12 @@ use Rattle.lol_memory.specs.Ids.{Ids}
 use Rattle.lol_program.specs.Attributes.{TagAttributes}
 use Rattle.lol_program.specs.Compiled.{Sight}
 use Rattle.lol_program.specs.Compounds.{is_open}
+use Rattle.lol_program.specs.Running.{tries_of_attributes}
+use Rattle.lol_program.specs.declared.name_value.NameValue.{NameValue}
+use Rattle.lol_program.specs.declared.name_value.NameValue.TheVariants.{True, False, Open}
 use Rattle.lol_program.specs.declared.instruction.Instruction.{Instruction}
-use Rattle.lol_vm.specs.InstructionRuns.{value_seen, holds_seen, is_true, with_branch_if, open_among, first_open_from, gathered_by_names, gathered_with_attributes, instructions_at, all_at, no_range, AreRunnable, IsInsideOf, HasRoomFor, ranges_in}
+use Rattle.lol_vm.specs.InstructionRuns.{value_seen, holds_seen, is_true, with_branch_if, open_among, first_open_from, gathered_by_names, gathered_with_attributes, instructions_at, all_at, no_range, AreRunnable, IsInsideOf, HasRoomFor, ranges_in, ranges_from, IsStopIn}
+use Rattle.lol_vm.specs.declared.instruction_runs.Stop.{Stop}
 use Rattle.lol_vm.specs.declared.execution_ctx.ExecutionCtx.{ExecutionCtx}
 
 -- 1. A choice that is none or some
@@ -89,8 +94,20 @@ module _ (s : Sight) where
 
 -- 4. Range by range
 
-open_among-append : (s : Sight) (front back : List Instruction) → open_among s (front ++ back) ≡ open_among s front + open_among s back
+pub open_among-append : (s : Sight) (front back : List Instruction) → open_among s (front ++ back) ≡ open_among s front + open_among s back
 open_among-append s front back = sum_by-append (λ i. cond (is_open (value_seen s i)) 1 0) front back
+
+tries_open : (v : NameValue) → tries_of_attributes v ≡ cond (is_open v) 1 0
+tries_open True = refl
+tries_open False = refl
+tries_open Open = refl
+
+-- the first is counted where its attributes are tried
+open_first : (s : Sight) (i : Instruction) (instructions : List Instruction) → open_among s (i ∷ instructions) ≡ tries_of_attributes (value_seen s i) + open_among s instructions
+open_first s i instructions = omega (arith, open_among-append s (i ∷ []) instructions, tries_open (value_seen s i))
+
+pub open_split : (s : Sight) (all : List Instruction) (i : Instruction) (others : List Instruction) → all ≡ i ∷ others → open_among s all ≡ tries_of_attributes (value_seen s i) + open_among s others
+open_split s all i others is = ap (open_among s) is ∙ open_first s i others
 
 module _ (instructions : List Instruction) (ranges : List (Range ℕ)) (at : ℕ) (within : at < length ranges) where
   -- the range at the place
@@ -197,3 +214,66 @@ module _ (instructions : List Instruction) (ranges : List (Range ℕ)) (at : ℕ
 -- what was said of an active range is so of that in the list of ranges
 pub active_at : (active : List (Range ℕ × ℕ)) (at : ℕ) (P : Range ℕ → Type 0) → P (get_or active at (no_range, 0)).0 → P (get_or (ranges_in active) at no_range)
 active_at active at P h = subst P (sym (get_or-map (λ (a : Range ℕ × ℕ). a.0) active at (no_range, 0))) h
+
+-- 6. From a stop on
+
+-- the rest of ranges, as the code slices it
+pub rest_sliced : (ranges : List (Range ℕ)) (n : ℕ) → take (length ranges - n) (drop n ranges) ≡ drop n ranges
+rest_sliced ranges n = ap (λ m. take m (drop n ranges)) (sym (length-drop n ranges)) ∙ take-length (drop n ranges)
+
+module _ (instructions : List Instruction) (ranges : List (Range ℕ)) (stop : Stop) (is_stop : IsStopIn instructions ranges stop) where
+  abbrev stopped : Range ℕ
+  stopped = get_or ranges stop.range no_range
+
+  abbrev left : Range ℕ
+  left = record { start = stopped.start + stop.offset; end = stopped.end }
+
+  abbrev others : List (Range ℕ)
+  others = drop (stop.range + 1) ranges
+
+  pub start_is : (n : ℕ) → n ≡ min (stopped.start + stop.offset) (2 ^ 64 - 1) → stopped.end < 2 ^ 64 → n ≡ stopped.start + stop.offset
+  start_is n is fits =
+      omega (arith, is, fits, is_stop.1, length-take (stopped.end - stopped.start) (drop stopped.start instructions), length-drop stopped.start instructions)
+
+  module _ (tries : Tries) (runnable : AreRunnable instructions (ranges_from ranges stop) tries) (part : List Instruction) where
+    inside_left : IsInsideOf instructions left
+    inside_left = runnable.inside 0 no_range (omega arith)
+
+    length_left : length (instructions_at instructions left) ≡ left.end - left.start
+    length_left = omega (arith, inside_left, length-take (left.end - left.start) (drop left.start instructions), length-drop left.start instructions)
+
+    length_rest : length (all_at instructions (ranges_from ranges stop)) ≡ length (instructions_at instructions left) + length (all_at instructions others)
+    length_rest = length-append (instructions_at instructions left) (all_at instructions others)
+
+    pub is_left : (n : ℕ) → n ≡ left.start → (IsInsideOf instructions (record left { start = n }) → HasRoomFor tries (left.end - n) → part ≡ instructions_at instructions (record left { start = n })) → part ≡ instructions_at instructions left
+    is_left n is lent =
+        subst (λ m. IsInsideOf instructions (record left { start = m }) → HasRoomFor tries (left.end - m) → part ≡ instructions_at instructions (record left { start = m })) is lent
+        inside_left (omega (arith, runnable.room.0, length_rest, length_left), omega (arith, runnable.room.1, length_rest, length_left))
+
+    module _ (is : part ≡ instructions_at instructions left) where
+      pub length_from : length (all_at instructions (ranges_from ranges stop)) ≡ length part + length (all_at instructions others)
+      length_from = omega (arith, length_rest, ap length is)
+
+      pub others_run : (mid : Tries) → name_tries mid ≤ name_tries tries + length part → attribute_tries mid ≤ attribute_tries tries + length part → AreRunnable instructions others mid
+      others_run mid names attributes = record {
+        inside = λ k d within. runnable.inside (suc k) d (omega (arith, within));
+        room = (omega (arith, runnable.room.0, length_from, names), omega (arith, runnable.room.1, length_from, attributes));
+      }
+
+      -- it isn't empty
+      pub length_part : 0 < length part
+      length_part =
+          omega (arith, ap length is, length_left, is_stop.1, length-take (stopped.end - stopped.start) (drop stopped.start instructions), length-drop stopped.start instructions)
+
+      module _ (t s : Sight) (same : t ≡ s) where
+        pub open_from : open_among s (all_at instructions (ranges_from ranges stop)) ≡ open_among s part + open_among t (all_at instructions others)
+        open_from =
+            open_among-append s (instructions_at instructions left) (all_at instructions others)
+            ∙ (ap (λ p. open_among s p + open_among s (all_at instructions others)) (sym is) ∙ ap (λ z. open_among s part + open_among z (all_at instructions others)) (sym same))
+
+        pub gathered_from : {E : Type 0} (ids : E → Ids) (with_ids : E → Ids → E) (a : TagAttributes) (ctx mid new : ExecutionCtx E) → mid ≡ gathered_with_attributes ids with_ids s a ctx part → new ≡ gathered_with_attributes ids with_ids t a mid (all_at instructions others) → new ≡ gathered_with_attributes ids with_ids s a ctx (all_at instructions (ranges_from ranges stop))
+        gathered_from ids with_ids a ctx mid new is_mid is_new =
+            is_new
+            ∙ (ap (λ z. gathered_with_attributes ids with_ids z a mid (all_at instructions others)) same
+            ∙ (ap (λ c. gathered_with_attributes ids with_ids s a c (all_at instructions others)) (is_mid ∙ ap (gathered_with_attributes ids with_ids s a ctx) is)
+            ∙ sym (gathers_all s ids with_ids a ctx (instructions_at instructions left) (all_at instructions others))))

@@ -1,5 +1,5 @@
 -- What instructions give that are run one after the other.
-use Rattle.std.specs.Prelude.{ℕ, ◌+◌, Bool, true, false, if◌then◌else◌, ◌≤◌, List, [], ◌∷◌, take, map, get_or, length, All, flat_map, ◌<◌, ◌^◌, count_by, Option, Some, None}
+use Rattle.std.specs.Prelude.{ℕ, ◌+◌, Bool, true, false, if◌then◌else◌, ◌≤◌, List, [], ◌∷◌, take, drop, map, get_or, length, All, flat_map, ◌<◌, ◌^◌, count_by, Option, Some, None}
 use Rattle.std.specs.List.{slice_range}
 use Rattle.std.specs.declared.ops.Range.{Range}
 use Rattle.lol_memory.specs.Ids.{Ids}
@@ -78,6 +78,12 @@ no_range = record { start = 0; end = 0 }
 abbrev pub IsStopIn : List Instruction → List (Range ℕ) → Stop → Type 0
 IsStopIn instructions ranges stop =
     (stop.range < length ranges) × (stop.offset < length (instructions_at instructions (get_or ranges stop.range no_range)))
+
+-- what is left of ranges from a stop on
+abbrev pub ranges_from : List (Range ℕ) → Stop → List (Range ℕ)
+ranges_from ranges stop =
+    record { start = (get_or ranges stop.range no_range).start + stop.offset; end = (get_or ranges stop.range no_range).end }
+    ∷ drop (stop.range + 1) ranges
 
 module _ {E : Type 0} (ids : E → Ids) (with_ids : E → Ids → E) where
   abbrev pub with_branch_if : Bool → ExecutionCtx E → Instruction → ExecutionCtx E

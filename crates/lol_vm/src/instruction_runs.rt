@@ -3,7 +3,7 @@
 ghost use Rattle.std.specs.Prelude.{◌≡◌, ◌+◌, ◌-◌, ◌≤◌, IfOk, Ok, Some, length};
 ghost use Rattle.lol_program.specs.Compiled.{sight};
 ghost use Rattle.lol_program.specs.Tries.{name_tries, attribute_tries};
-ghost use Rattle.lol_vm.specs.InstructionRuns.{AreRunnable, all_at, place_in, IsStopIn, HasRoomFor, IsInsideOf, ranges_in, instructions_at, open_among, first_open_from, tried_until, gathered_by_names, gathered_with_attributes};
+ghost use Rattle.lol_vm.specs.InstructionRuns.{AreRunnable, all_at, place_in, IsStopIn, HasRoomFor, IsInsideOf, ranges_in, ranges_from, instructions_at, open_among, first_open_from, tried_until, gathered_by_names, gathered_with_attributes};
 
 use crate::element_data::ElementData;
 use crate::execution_ctx::ExecutionCtx;
@@ -194,4 +194,62 @@ pub(crate) fn exec_active<E: ElementData>(
         exec_instructions(part, state, matcher, alloc, ctx, tries)?;
     }
     Ok(())
+}
+
+/// Goes on from the first of these instructions, which was tried without attributes: it is tried with them, and then the others are run.
+/// It is refused only where memory is out.
+#[inline(always)]
+pub(crate) fn complete_instructions<E: ElementData>(
+    instructions: &[Instruction],
+    state: &SelectorState<'_>,
+    matcher: &AttributeMatcher<'_>,
+    alloc: Global,
+    ctx: &mut ExecutionCtx<'_, E>,
+    tries: &mut Tries,
+) -> Result<(), AllocError>
+    requires names_fit { name_tries tries.old + length instructions.now ≤ u64.MAX }
+    requires attributes_fit { attribute_tries tries.old + length instructions.now ≤ u64.MAX }
+    ensures ctx { IfOk result (λ done. ctx.new ≡ gathered_with_attributes E.ids E.with_ids (sight state.now ctx.old.stack_item.local_name) matcher.now ctx.old instructions.now) }
+    ensures names { IfOk result (λ done. name_tries tries.new ≡ name_tries tries.old + (length instructions.now - 1)) }
+    ensures attributes { IfOk result (λ done. attribute_tries tries.new ≡ attribute_tries tries.old + open_among (sight state.now ctx.old.stack_item.local_name) instructions.now) }
+    ensures names_bound { name_tries tries.new ≤ name_tries tries.old + length instructions.now }
+    ensures attributes_bound { attribute_tries tries.new ≤ attribute_tries tries.old + length instructions.now }
+    ensures name { ctx.new.stack_item.local_name ≡ ctx.old.stack_item.local_name }
+{
+    let Some((first, others)) = instructions.split_first() else {
+        return Ok(());
+    };
+    let name = &ctx.stack_item.local_name;
+    if let Some(branch) = first.complete_exec_with_attrs(state, name, matcher, tries) {
+        ctx.add_execution_branch(alloc, branch)?;
+    }
+    exec_instructions(others, state, matcher, alloc, ctx, tries)
+}
+
+/// Goes on from a stop in these ranges, whose instruction was tried without attributes.
+#[inline(always)]
+pub(crate) fn complete_ranges<E: ElementData>(
+    instructions: &[Instruction],
+    ranges: &[AddressRange],
+    stop: Stop,
+    state: &SelectorState<'_>,
+    matcher: &AttributeMatcher<'_>,
+    alloc: Global,
+    ctx: &mut ExecutionCtx<'_, E>,
+    tries: &mut Tries,
+) -> Result<(), AllocError>
+    ensures ctx { IsStopIn instructions.now ranges.now stop → AreRunnable instructions.now (ranges_from ranges.now stop) tries.old → IfOk result (λ done. ctx.new ≡ gathered_with_attributes E.ids E.with_ids (sight state.now ctx.old.stack_item.local_name) matcher.now ctx.old (all_at instructions.now (ranges_from ranges.now stop))) }
+    ensures names { IsStopIn instructions.now ranges.now stop → AreRunnable instructions.now (ranges_from ranges.now stop) tries.old → IfOk result (λ done. name_tries tries.new + 1 ≡ name_tries tries.old + length (all_at instructions.now (ranges_from ranges.now stop))) }
+    ensures attributes { IsStopIn instructions.now ranges.now stop → AreRunnable instructions.now (ranges_from ranges.now stop) tries.old → IfOk result (λ done. attribute_tries tries.new ≡ attribute_tries tries.old + open_among (sight state.now ctx.old.stack_item.local_name) (all_at instructions.now (ranges_from ranges.now stop))) }
+    ensures name { ctx.new.stack_item.local_name ≡ ctx.old.stack_item.local_name }
+{
+    if stop.range >= ranges.len() {
+        return Ok(());
+    }
+    let range = &ranges[stop.range];
+    let left = range.start.saturating_add(stop.offset)..range.end;
+    let part = instructions_in(instructions, &left, tries);
+    complete_instructions(part, state, matcher, alloc, ctx, tries)?;
+    let others = &ranges[stop.range + 1..];
+    exec_ranges(instructions, others, state, matcher, alloc, ctx, tries)
 }

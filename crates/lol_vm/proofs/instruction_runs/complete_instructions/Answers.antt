@@ -1,0 +1,29 @@
+use Rattle.std.proofs.Common.{◌≡◌, ◌+◌, ◌∷◌, arith, ap, rules}
+use Rattle.std.proofs.lemmas.Grind.{common_steps}
+use Rattle.std.proofs.lemmas.Result.{IfOk-weaker}
+use Rattle.lol_program.specs.Compiled.{sight}
+use Rattle.lol_program.specs.Tries.{attribute_tries}
+use Rattle.lol_vm.specs.InstructionRuns.{open_among}
+use Rattle.lol_vm.proofs.InstructionLists.{open_split}
+use Rattle.lol_vm.proofs.instruction_runs.complete_instructions.Goals as goal
+use Rattle.lol_vm.proofs.instruction_runs.complete_instructions.Goals.{in-Some-complete_exec_with_attrs+in_ok-add_execution_branch, in_default-complete_exec_with_attrs}
+
+pub returns-clause-attributes : goal.returns-clause-attributes
+returns-clause-attributes g c =
+    let all = c.args.instructions.now in
+    let mid = c.complete_exec_with_attrs.new.tries in
+    let others = c.in-Some.others.now in
+    let t = sight c.args.state.now c.match-complete_exec_with_attrs.ctx.stack_item.local_name in
+    let s = sight c.args.state.now c.args.ctx.now.stack_item.local_name in
+    let name : c.match-complete_exec_with_attrs.ctx.stack_item.local_name ≡ c.args.ctx.now.stack_item.local_name =
+    elim c.match-complete_exec_with_attrs.branch [
+      | in-Some-complete_exec_with_attrs+in_ok-add_execution_branch w ↦ grind (arith, common_steps, w.ctx-is, w.in_ok-add_execution_branch.ensures)
+      | in_default-complete_exec_with_attrs w ↦ ap (λ x. x.stack_item.local_name) w.ctx-is
+    ] in
+    let split : all ≡ c.in-Some.first.now ∷ others = search rules in
+    IfOk-weaker c.exec_instructions.result
+    (λ done. attribute_tries c.exec_instructions.new.tries ≡ attribute_tries mid + open_among t others)
+    (λ done. attribute_tries c.exec_instructions.new.tries ≡ attribute_tries c.args.tries.now + open_among s all)
+    (λ done counted.
+    omega (arith, counted, c.complete_exec_with_attrs.ensures.attributes, open_split s all c.in-Some.first.now others split, ap (λ n. open_among (sight c.args.state.now n) others) name))
+    c.exec_instructions.ensures.attributes

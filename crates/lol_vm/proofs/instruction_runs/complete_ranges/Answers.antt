@@ -1,0 +1,87 @@
+use Rattle.std.proofs.Common.{◌≡◌, ◌+◌, ◌<◌, ◌^◌, length, get_or, drop, arith, ap, rules, subst}
+use Rattle.std.specs.Result.{IfOk}
+use Rattle.std.proofs.lemmas.Result.{IfOk-weaker}
+use Rattle.lol_program.specs.Compiled.{sight}
+use Rattle.lol_program.specs.Tries.{name_tries, attribute_tries}
+use Rattle.lol_vm.specs.InstructionRuns.{no_range, AreRunnable, all_at, ranges_from, open_among, gathered_with_attributes}
+use Rattle.lol_vm.proofs.InstructionLists.{rest_sliced, start_is, is_left, others_run, length_from, length_part, open_from, gathered_from}
+use Rattle.lol_vm.proofs.instruction_runs.complete_ranges.Goals as goal
+
+pub returns-clause-ctx : goal.returns-clause-ctx
+returns-clause-ctx g c = λ is_stop runnable.
+    let all = c.args.instructions.now in
+    let ranges = c.args.ranges.now in
+    let stop = c.args.stop in
+    let tries = c.args.tries.now in
+    let mid = c.complete_instructions.new.tries in
+    let part = c.instructions_in-part.result.now in
+    let told = c.in_ok-complete_instructions.ensures in
+    let t = sight c.args.state.now c.complete_instructions.new.ctx.stack_item.local_name in
+    let s = sight c.args.state.now c.args.ctx.now.stack_item.local_name in
+    let same : t ≡ s = ap (sight c.args.state.now) told.name in
+    let n = c.saturating_add.result in
+    let fits : (get_or ranges stop.range no_range).end < 2 ^ 64 = search rules in
+    let n_is : n ≡ (get_or ranges stop.range no_range).start + stop.offset = start_is all ranges stop is_stop n c.saturating_add.ensures fits in
+    let is = is_left all ranges stop is_stop tries runnable part n n_is c.instructions_in-part.ensures.value in
+    let others = others_run all ranges stop is_stop tries runnable part is mid told.names_bound told.attributes_bound in
+    let run = subst
+    (λ rs. AreRunnable all rs mid → IfOk c.exec_ranges.result (λ done. c.exec_ranges.new.ctx ≡ gathered_with_attributes g.E.ElementData.ids g.E.ElementData.with_ids t c.args.matcher.now c.complete_instructions.new.ctx (all_at all rs)))
+    (rest_sliced ranges (stop.range + 1)) c.exec_ranges.ensures.ctx in
+    IfOk-weaker c.exec_ranges.result
+    (λ done. c.exec_ranges.new.ctx ≡ gathered_with_attributes g.E.ElementData.ids g.E.ElementData.with_ids t c.args.matcher.now c.complete_instructions.new.ctx (all_at all (drop (stop.range + 1) ranges)))
+    (λ done. c.exec_ranges.new.ctx ≡ gathered_with_attributes g.E.ElementData.ids g.E.ElementData.with_ids s c.args.matcher.now c.args.ctx.now (all_at all (ranges_from ranges stop)))
+    (λ done is_new. gathered_from all ranges stop is_stop tries runnable part is t s same g.E.ElementData.ids g.E.ElementData.with_ids c.args.matcher.now c.args.ctx.now
+    c.complete_instructions.new.ctx c.exec_ranges.new.ctx told.ctx is_new)
+    (run others)
+
+pub returns-clause-names : goal.returns-clause-names
+returns-clause-names g c = λ is_stop runnable.
+    let all = c.args.instructions.now in
+    let ranges = c.args.ranges.now in
+    let stop = c.args.stop in
+    let tries = c.args.tries.now in
+    let mid = c.complete_instructions.new.tries in
+    let part = c.instructions_in-part.result.now in
+    let told = c.in_ok-complete_instructions.ensures in
+    let t = sight c.args.state.now c.complete_instructions.new.ctx.stack_item.local_name in
+    let s = sight c.args.state.now c.args.ctx.now.stack_item.local_name in
+    let same : t ≡ s = ap (sight c.args.state.now) told.name in
+    let n = c.saturating_add.result in
+    let fits : (get_or ranges stop.range no_range).end < 2 ^ 64 = search rules in
+    let n_is : n ≡ (get_or ranges stop.range no_range).start + stop.offset = start_is all ranges stop is_stop n c.saturating_add.ensures fits in
+    let is = is_left all ranges stop is_stop tries runnable part n n_is c.instructions_in-part.ensures.value in
+    let others = others_run all ranges stop is_stop tries runnable part is mid told.names_bound told.attributes_bound in
+    let run = subst
+    (λ rs. AreRunnable all rs mid → IfOk c.exec_ranges.result (λ done. name_tries c.exec_ranges.new.tries ≡ name_tries mid + length (all_at all rs)))
+    (rest_sliced ranges (stop.range + 1)) c.exec_ranges.ensures.names in
+    IfOk-weaker c.exec_ranges.result
+    (λ done. name_tries c.exec_ranges.new.tries ≡ name_tries mid + length (all_at all (drop (stop.range + 1) ranges)))
+    (λ done. name_tries c.exec_ranges.new.tries + 1 ≡ name_tries tries + length (all_at all (ranges_from ranges stop)))
+    (λ done counted. omega (arith, counted, told.names, length_part all ranges stop is_stop tries runnable part is, length_from all ranges stop is_stop tries runnable part is))
+    (run others)
+
+pub returns-clause-attributes : goal.returns-clause-attributes
+returns-clause-attributes g c = λ is_stop runnable.
+    let all = c.args.instructions.now in
+    let ranges = c.args.ranges.now in
+    let stop = c.args.stop in
+    let tries = c.args.tries.now in
+    let mid = c.complete_instructions.new.tries in
+    let part = c.instructions_in-part.result.now in
+    let told = c.in_ok-complete_instructions.ensures in
+    let t = sight c.args.state.now c.complete_instructions.new.ctx.stack_item.local_name in
+    let s = sight c.args.state.now c.args.ctx.now.stack_item.local_name in
+    let same : t ≡ s = ap (sight c.args.state.now) told.name in
+    let n = c.saturating_add.result in
+    let fits : (get_or ranges stop.range no_range).end < 2 ^ 64 = search rules in
+    let n_is : n ≡ (get_or ranges stop.range no_range).start + stop.offset = start_is all ranges stop is_stop n c.saturating_add.ensures fits in
+    let is = is_left all ranges stop is_stop tries runnable part n n_is c.instructions_in-part.ensures.value in
+    let others = others_run all ranges stop is_stop tries runnable part is mid told.names_bound told.attributes_bound in
+    let run = subst
+    (λ rs. AreRunnable all rs mid → IfOk c.exec_ranges.result (λ done. attribute_tries c.exec_ranges.new.tries ≡ attribute_tries mid + open_among t (all_at all rs)))
+    (rest_sliced ranges (stop.range + 1)) c.exec_ranges.ensures.attributes in
+    IfOk-weaker c.exec_ranges.result
+    (λ done. attribute_tries c.exec_ranges.new.tries ≡ attribute_tries mid + open_among t (all_at all (drop (stop.range + 1) ranges)))
+    (λ done. attribute_tries c.exec_ranges.new.tries ≡ attribute_tries tries + open_among s (all_at all (ranges_from ranges stop)))
+    (λ done counted. omega (arith, counted, told.attributes, open_from all ranges stop is_stop tries runnable part is t s same))
+    (run others)
