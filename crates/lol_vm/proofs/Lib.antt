@@ -33,3 +33,4 @@ pub mod StackCounting
 pub mod GatheringLemmas
 pub mod InstructionLists
 pub mod StackEnds
+pub mod InstructionPlaces

@@ -34,3 +34,4 @@ pub mod SoundStacks
 pub mod TypedLaws
 pub mod StackMachines
 pub mod Gathering
+pub mod InstructionLaws

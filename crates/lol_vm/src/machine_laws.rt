@@ -1,6 +1,7 @@
 //! Laws of the machine over the definitions, each the contract of an empty function.
 
 ghost use Rattle.lol_vm.specs.Gathering.{BranchesGather, GatheredIdsAscend, NewElementsGather};
+ghost use Rattle.lol_vm.specs.InstructionLaws.{InstructionsAreAsOpen, InstructionsGather};
 ghost use Rattle.lol_vm.specs.MachineLaws.{ForeignTagsAsk, OffsetsGoOn, PlacesAreWithin, PlacesCountTries, ProgramsHaveEachNode, RangesHoldLeftMatches, RequestsFinish, RunsByNamesGoOn, RunsDontSeeTheRest, RunsGather, RunsGiveReports, RunsGoOn, RunsStopWhereAsked, StoppedStartsAreWhole, StopsAreOffsets, StopsAreRequests};
 ghost use Rattle.lol_vm.specs.Machines.{PushedItemsAreActive};
 ghost use Rattle.lol_vm.specs.Standing.{CountersArePlaces, DocumentsAreOrdered, EndsHandOut, EndsKeepItems, FinishingIsKept, MachinesStand, NewStands, RequestsStand, SlotsGrow, StandingIsKept, StartsAnswer};
@@ -154,4 +155,11 @@ pub fn elements_gather<N, E>()
     ensures new { NewElementsGather N E }
     ensures branches { BranchesGather E }
     ensures ids { GatheredIdsAscend N E }
+{}
+
+/// The instructions of ranges, run one after the other, gather what a run over the places of these
+/// ranges does; as many of them are open, and the first open one stands at the same place.
+pub fn instructions_run_as_places<E>()
+    ensures opens { InstructionsAreAsOpen }
+    ensures gather { InstructionsGather E }
 {}
