@@ -3,6 +3,9 @@ use Rattle.std.proofs.Common.{◌≡◌, ℕ, suc, ◌+◌, ◌-◌, ◌<◌, Bo
 use Rattle.std.specs.Prelude.{slice_get, count_by, option_to_list, ◌&&◌, ◌||◌}
 use Rattle.std.specs.List.{list_any}
 use Rattle.std.proofs.lemmas.List.{append-nil, append_cancel_right, length-append, drop_more}
+use Rattle.std.proofs.lemmas.List.{drop-append-le}
+use Rattle.std.proofs.Math.Seq.{drop-append-add}
+use Rattle.std.proofs.lemmas.Grind.{flat_map-append}
 use Rattle.std.proofs.lemmas.List.Concat.{length-flat_map}
 use Rattle.std.proofs.lemmas.List.FromFn.{length-range_with_len, get_or-range_with_len}
 use Rattle.std.specs.Option.{option_map}
@@ -21,7 +24,7 @@ use Rattle.lol_program.proofs.Values.{values_decide, values_are_by_names}
 use Rattle.lol_vm.specs.PlaceRuns.{Context, no_context, Stop, given, gathered, context_of, branch, step_with_attributes, step_by_names, run, run_by_names, value_of, value_at, is_open_at, stop_in, stop_or, first_open, ids_of, jumps_list, hereditary_jumps_list}
 use Rattle.lol_vm.proofs.Held.{path_at}
 use Rattle.lol_vm.proofs.Counted.{places_count_tries}
-use Rattle.lol_vm.specs.MachineLaws.{RunsDontSeeTheRest, StoppedStartsAreWhole, StopsAreRequests, ForeignTagsAsk, RequestsFinish, RunsGather, RunsGoOn, RunsByNamesGoOn, then_by_names, joined, ValuesDecideAt, IsStop, starts_open, left_from, RunsStopWhereAsked, StopsAreOffsets, OffsetsGoOn}
+use Rattle.lol_vm.specs.MachineLaws.{RunsDontSeeTheRest, StoppedStartsAreWhole, StopsAreRequests, ForeignTagsAsk, RequestsFinish, RunsGather, RunsGoOn, RunsByNamesGoOn, StopsLeave, NumbersAreOffsets, from_number, then_by_names, joined, ValuesDecideAt, IsStop, starts_open, left_from, RunsStopWhereAsked, StopsAreOffsets, OffsetsGoOn}
 
 -- 1. Runs gather
 
@@ -187,6 +190,21 @@ module _ (p : Program) (e : Element) where
 
 pub stops_are_offsets : StopsAreOffsets
 stops_are_offsets p content e context ranges = left_is p e content context (all_places ranges) ∙ left_ranges p e ranges
+
+pub stops_leave : StopsLeave
+stops_leave p content e context [] = refl
+stops_leave p content e context (place ∷ ps) = by_test (is_open_at p e place) (first_open p e ps) (stops_leave p content e (next p content e context place) ps)
+  where
+    by_test : (b : Bool) (o : Option ℕ) → (run_by_names p content e (next p content e context place) ps).left ≡ from_number o ps
+        → (cond b (record { context = context; left = place ∷ ps }) (run_by_names p content e (next p content e context place) ps)).left ≡ from_number (cond b (Some 0) (option_map suc o)) (place ∷ ps)
+    by_test true o later = refl
+    by_test false None later = later
+    by_test false (Some n) later = later
+
+pub numbers_are_offsets : NumbersAreOffsets
+numbers_are_offsets front r back offset within =
+    ap (drop (length (all_places front) + offset)) (flat_map-append places front (r ∷ back))
+    ∙ (drop-append-add (all_places front) (all_places (r ∷ back)) offset ∙ drop-append-le offset (places r) (all_places back) within)
 
 pub offsets_go_on : OffsetsGoOn
 offsets_go_on offset r ranges within =

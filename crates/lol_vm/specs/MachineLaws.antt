@@ -1,5 +1,5 @@
 -- What a program of selectors does when it is run for a start tag.
-use Rattle.std.specs.Prelude.{ℕ, ◌+◌, ◌<◌, ◌≡◌, ◌↔◌, ◌||◌, not, Bool, true, false, List, [], ◌∷◌, ◌++◌, length, count_by, Option, Some, None, Contains}
+use Rattle.std.specs.Prelude.{ℕ, ◌+◌, ◌<◌, ◌≤◌, ◌≡◌, ◌↔◌, ◌||◌, not, Bool, true, false, List, [], ◌∷◌, ◌++◌, length, drop, count_by, Option, Some, None, Contains}
 use Rattle.std.specs.List.{list_any, sum_by}
 use Rattle.lol_base.specs.StartTags.{Attribute}
 use Rattle.lol_program.specs.Tests.{Element, is_html}
@@ -8,7 +8,7 @@ use Rattle.lol_program.specs.Paths.{Path, Selectors}
 use Rattle.lol_program.specs.Programs.{Range, Program, Instruction, AreClosed, IsProgramOf, IsAt, places, all_places}
 use Rattle.lol_vm.specs.Answers.{name_tries, attribute_tries, needs_attributes, matching_ids}
 use Rattle.lol_vm.specs.Machines.{Item, AreItems, HasRanges, Matches, HoldOnce, LeftMatches, active_of, ranges_to_run, jumps_of, hereditary_jumps_of}
-use Rattle.lol_vm.specs.PlaceRuns.{Context, Stop, no_context, is_open_at, context_of, run, run_by_names, stop_in, places_from}
+use Rattle.lol_vm.specs.PlaceRuns.{Context, Stop, no_context, is_open_at, context_of, run, run_by_names, first_open, stop_in, places_from}
 
 -- 1. Which places are run
 
@@ -124,6 +124,21 @@ abbrev pub StopsAreOffsets : Type 0
 StopsAreOffsets =
     (p : Program) (content : Bool) (e : Element) (context : Context) (ranges : List Range)
     → (run_by_names p content e context (all_places ranges)).left ≡ left_from (stop_in p e ranges)
+
+-- the places without so many at the front; none at all where there is no number
+abbrev pub from_number : Option ℕ → List ℕ → List ℕ
+from_number None ps = []
+from_number (Some n) ps = drop n ps
+
+-- What is left by names are the places from the first open one on.
+abbrev pub StopsLeave : Type 0
+StopsLeave = (p : Program) (content : Bool) (e : Element) (context : Context) (ps : List ℕ) → (run_by_names p content e context ps).left ≡ from_number (first_open p e ps) ps
+
+-- The places of ranges without those before an offset in one of them are those from that offset on.
+abbrev pub NumbersAreOffsets : Type 0
+NumbersAreOffsets =
+    (front : List Range) (r : Range) (back : List Range) (offset : ℕ) → offset ≤ length (places r)
+    → drop (length (all_places front) + offset) (all_places (front ++ r ∷ back)) ≡ places_from offset (r ∷ back)
 
 -- From an offset in a range there come its own place, and then the places from the next offset on.
 abbrev pub OffsetsGoOn : Type 0

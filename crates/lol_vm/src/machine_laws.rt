@@ -2,7 +2,7 @@
 
 ghost use Rattle.lol_vm.specs.Gathering.{BranchesGather, GatheredIdsAscend, NewElementsGather};
 ghost use Rattle.lol_vm.specs.InstructionLaws.{InstructionsAreAsOpen, InstructionsGather};
-ghost use Rattle.lol_vm.specs.MachineLaws.{ForeignTagsAsk, OffsetsGoOn, PlacesAreWithin, PlacesCountTries, ProgramsHaveEachNode, RangesHoldLeftMatches, RequestsFinish, RunsByNamesGoOn, RunsDontSeeTheRest, RunsGather, RunsGiveReports, RunsGoOn, RunsStopWhereAsked, StoppedStartsAreWhole, StopsAreOffsets, StopsAreRequests};
+ghost use Rattle.lol_vm.specs.MachineLaws.{ForeignTagsAsk, NumbersAreOffsets, OffsetsGoOn, PlacesAreWithin, PlacesCountTries, ProgramsHaveEachNode, RangesHoldLeftMatches, RequestsFinish, RunsByNamesGoOn, RunsDontSeeTheRest, RunsGather, RunsGiveReports, RunsGoOn, RunsStopWhereAsked, StoppedStartsAreWhole, StopsAreOffsets, StopsAreRequests, StopsLeave};
 ghost use Rattle.lol_vm.specs.Machines.{PushedItemsAreActive};
 ghost use Rattle.lol_vm.specs.Standing.{CountersArePlaces, DocumentsAreOrdered, EndsHandOut, EndsKeepItems, FinishingIsKept, MachinesStand, NewStands, RequestsStand, SlotsGrow, StandingIsKept, StartsAnswer};
 
@@ -53,6 +53,13 @@ pub fn runs_go_on()
 /// The place of a stop is an offset in a range, before the ranges after it.
 pub fn stops_are_offsets()
     ensures { StopsAreOffsets }
+{}
+
+/// What a stop leaves are the places from the first open one on; in the places of ranges these are
+/// those from an offset in one range on, with the ranges after it.
+pub fn stops_leave()
+    ensures places { StopsLeave }
+    ensures ranges { NumbersAreOffsets }
 {}
 
 /// The stop's own place comes first, then the places after it.
