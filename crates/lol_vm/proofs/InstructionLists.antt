@@ -1,9 +1,9 @@
 -- Instructions that are run in parts.
-use Rattle.std.proofs.Common.{min, ◌^◌, ◌≡◌, ◌+◌, ◌-◌, ◌<◌, ◌≤◌, ℕ, Bool, List, [], ◌∷◌, ◌++◌, length, take, drop, get_or, suc, Option, Some, None, true, false, cond, refl, sym, ap, ◌∙◌, arith, drop-cons, subst}
+use Rattle.std.proofs.Common.{◌≡◌, ◌+◌, ◌-◌, ◌<◌, ◌≤◌, ℕ, Bool, List, [], ◌∷◌, ◌++◌, length, take, drop, get_or, suc, Option, Some, None, true, false, cond, refl, sym, ap, ◌∙◌, arith, drop-cons, subst}
 use Rattle.std.specs.declared.ops.Range.{Range}
 use Rattle.std.proofs.Math.ListN.{get_or-map}
 use Rattle.std.proofs.Math.Seq.{take-length}
-use Rattle.std.proofs.lemmas.List.{take_more, flat_map_more, length-append, length-drop, length-take}
+use Rattle.std.proofs.lemmas.List.{drop-map, take_more, flat_map_more, length-append, length-drop, length-take}
 use Rattle.std.proofs.lemmas.List.Elements.{All-get_or}
 use Rattle.std.proofs.lemmas.List.Sums.{sum_by-append, count_by-le-length}
 use Rattle.std.proofs.lemmas.List.Folds.{length-flat_map-take}
@@ -215,6 +215,11 @@ module _ (instructions : List Instruction) (ranges : List (Range ℕ)) (at : ℕ
 pub active_at : (active : List (Range ℕ × ℕ)) (at : ℕ) (P : Range ℕ → Type 0) → P (get_or active at (no_range, 0)).0 → P (get_or (ranges_in active) at no_range)
 active_at active at P h = subst P (sym (get_or-map (λ (a : Range ℕ × ℕ). a.0) active at (no_range, 0))) h
 
+-- the rest of active ranges, as the code slices it
+pub active_sliced : (active : List (Range ℕ × ℕ)) (n : ℕ) → ranges_in (take (length active - n) (drop n active)) ≡ drop n (ranges_in active)
+active_sliced active n =
+    ap ranges_in (ap (λ m. take m (drop n active)) (sym (length-drop n active)) ∙ take-length (drop n active)) ∙ sym (drop-map (λ (a : Range ℕ × ℕ). a.0) n active)
+
 -- 6. From a stop on
 
 -- the rest of ranges, as the code slices it
@@ -231,9 +236,8 @@ module _ (instructions : List Instruction) (ranges : List (Range ℕ)) (stop : S
   abbrev others : List (Range ℕ)
   others = drop (stop.range + 1) ranges
 
-  pub start_is : (n : ℕ) → n ≡ min (stopped.start + stop.offset) (2 ^ 64 - 1) → stopped.end < 2 ^ 64 → n ≡ stopped.start + stop.offset
-  start_is n is fits =
-      omega (arith, is, fits, is_stop.1, length-take (stopped.end - stopped.start) (drop stopped.start instructions), length-drop stopped.start instructions)
+  offset_inside : stopped.start + stop.offset ≤ stopped.end
+  offset_inside = omega (arith, is_stop.1, length-take (stopped.end - stopped.start) (drop stopped.start instructions), length-drop stopped.start instructions)
 
   module _ (tries : Tries) (runnable : AreRunnable instructions (ranges_from ranges stop) tries) (part : List Instruction) where
     inside_left : IsInsideOf instructions left
@@ -245,9 +249,9 @@ module _ (instructions : List Instruction) (ranges : List (Range ℕ)) (stop : S
     length_rest : length (all_at instructions (ranges_from ranges stop)) ≡ length (instructions_at instructions left) + length (all_at instructions others)
     length_rest = length-append (instructions_at instructions left) (all_at instructions others)
 
-    pub is_left : (n : ℕ) → n ≡ left.start → (IsInsideOf instructions (record left { start = n }) → HasRoomFor tries (left.end - n) → part ≡ instructions_at instructions (record left { start = n })) → part ≡ instructions_at instructions left
-    is_left n is lent =
-        subst (λ m. IsInsideOf instructions (record left { start = m }) → HasRoomFor tries (left.end - m) → part ≡ instructions_at instructions (record left { start = m })) is lent
+    pub is_left : (l : Range ℕ) → (stopped.start + stop.offset ≤ stopped.end → l ≡ left) → (IsInsideOf instructions l → HasRoomFor tries (l.end - l.start) → part ≡ instructions_at instructions l) → part ≡ instructions_at instructions left
+    is_left l is lent =
+        subst (λ m. IsInsideOf instructions m → HasRoomFor tries (m.end - m.start) → part ≡ instructions_at instructions m) (is offset_inside) lent
         inside_left (omega (arith, runnable.room.0, length_rest, length_left), omega (arith, runnable.room.1, length_rest, length_left))
 
     module _ (is : part ≡ instructions_at instructions left) where

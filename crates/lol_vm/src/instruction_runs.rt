@@ -226,6 +226,15 @@ pub(crate) fn complete_instructions<E: ElementData>(
     exec_instructions(others, state, matcher, alloc, ctx, tries)
 }
 
+/// What is left of a range, from an offset on.
+#[inline(always)]
+fn range_from(range: &AddressRange, offset: usize) -> AddressRange
+    ensures { range.now.start + offset ≤ range.now.end → result ≡ record { start = range.now.start + offset; end = range.now.end } }
+{
+    let (start, end) = (range.start, range.end);
+    start.saturating_add(offset)..end
+}
+
 /// Goes on from a stop in these ranges, whose instruction was tried without attributes.
 #[inline(always)]
 pub(crate) fn complete_ranges<E: ElementData>(
@@ -247,9 +256,37 @@ pub(crate) fn complete_ranges<E: ElementData>(
         return Ok(());
     }
     let range = &ranges[stop.range];
-    let left = range.start.saturating_add(stop.offset)..range.end;
+    let left = range_from(range, stop.offset);
     let part = instructions_in(instructions, &left, tries);
     complete_instructions(part, state, matcher, alloc, ctx, tries)?;
     let others = &ranges[stop.range + 1..];
     exec_ranges(instructions, others, state, matcher, alloc, ctx, tries)
+}
+
+/// The same in active ranges.
+#[inline(always)]
+pub(crate) fn complete_active<E: ElementData>(
+    instructions: &[Instruction],
+    active: &[(AddressRange, usize)],
+    stop: Stop,
+    state: &SelectorState<'_>,
+    matcher: &AttributeMatcher<'_>,
+    alloc: Global,
+    ctx: &mut ExecutionCtx<'_, E>,
+    tries: &mut Tries,
+) -> Result<(), AllocError>
+    ensures ctx { IsStopIn instructions.now (ranges_in active.now) stop → AreRunnable instructions.now (ranges_from (ranges_in active.now) stop) tries.old → IfOk result (λ done. ctx.new ≡ gathered_with_attributes E.ids E.with_ids (sight state.now ctx.old.stack_item.local_name) matcher.now ctx.old (all_at instructions.now (ranges_from (ranges_in active.now) stop))) }
+    ensures names { IsStopIn instructions.now (ranges_in active.now) stop → AreRunnable instructions.now (ranges_from (ranges_in active.now) stop) tries.old → IfOk result (λ done. name_tries tries.new + 1 ≡ name_tries tries.old + length (all_at instructions.now (ranges_from (ranges_in active.now) stop))) }
+    ensures attributes { IsStopIn instructions.now (ranges_in active.now) stop → AreRunnable instructions.now (ranges_from (ranges_in active.now) stop) tries.old → IfOk result (λ done. attribute_tries tries.new ≡ attribute_tries tries.old + open_among (sight state.now ctx.old.stack_item.local_name) (all_at instructions.now (ranges_from (ranges_in active.now) stop))) }
+    ensures name { ctx.new.stack_item.local_name ≡ ctx.old.stack_item.local_name }
+{
+    if stop.range >= active.len() {
+        return Ok(());
+    }
+    let range = &active[stop.range].0;
+    let left = range_from(range, stop.offset);
+    let part = instructions_in(instructions, &left, tries);
+    complete_instructions(part, state, matcher, alloc, ctx, tries)?;
+    let others = &active[stop.range + 1..];
+    exec_active(instructions, others, state, matcher, alloc, ctx, tries)
 }

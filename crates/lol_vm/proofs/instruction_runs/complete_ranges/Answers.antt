@@ -1,10 +1,10 @@
-use Rattle.std.proofs.Common.{◌≡◌, ◌+◌, ◌<◌, ◌^◌, length, get_or, drop, arith, ap, rules, subst}
+use Rattle.std.proofs.Common.{◌≡◌, ◌+◌, length, drop, arith, ap, subst}
 use Rattle.std.specs.Result.{IfOk}
 use Rattle.std.proofs.lemmas.Result.{IfOk-weaker}
 use Rattle.lol_program.specs.Compiled.{sight}
 use Rattle.lol_program.specs.Tries.{name_tries, attribute_tries}
-use Rattle.lol_vm.specs.InstructionRuns.{no_range, AreRunnable, all_at, ranges_from, open_among, gathered_with_attributes}
-use Rattle.lol_vm.proofs.InstructionLists.{rest_sliced, start_is, is_left, others_run, length_from, length_part, open_from, gathered_from}
+use Rattle.lol_vm.specs.InstructionRuns.{AreRunnable, all_at, ranges_from, open_among, gathered_with_attributes}
+use Rattle.lol_vm.proofs.InstructionLists.{rest_sliced, is_left, others_run, length_from, length_part, open_from, gathered_from}
 use Rattle.lol_vm.proofs.instruction_runs.complete_ranges.Goals as goal
 
 pub returns-clause-ctx : goal.returns-clause-ctx
@@ -19,10 +19,8 @@ returns-clause-ctx g c = λ is_stop runnable.
     let t = sight c.args.state.now c.complete_instructions.new.ctx.stack_item.local_name in
     let s = sight c.args.state.now c.args.ctx.now.stack_item.local_name in
     let same : t ≡ s = ap (sight c.args.state.now) told.name in
-    let n = c.saturating_add.result in
-    let fits : (get_or ranges stop.range no_range).end < 2 ^ 64 = search rules in
-    let n_is : n ≡ (get_or ranges stop.range no_range).start + stop.offset = start_is all ranges stop is_stop n c.saturating_add.ensures fits in
-    let is = is_left all ranges stop is_stop tries runnable part n n_is c.instructions_in-part.ensures.value in
+    let l = c.range_from-left.result in
+    let is = is_left all ranges stop is_stop tries runnable part l c.range_from-left.ensures c.instructions_in-part.ensures.value in
     let others = others_run all ranges stop is_stop tries runnable part is mid told.names_bound told.attributes_bound in
     let run = subst
     (λ rs. AreRunnable all rs mid → IfOk c.exec_ranges.result (λ done. c.exec_ranges.new.ctx ≡ gathered_with_attributes g.E.ElementData.ids g.E.ElementData.with_ids t c.args.matcher.now c.complete_instructions.new.ctx (all_at all rs)))
@@ -46,10 +44,8 @@ returns-clause-names g c = λ is_stop runnable.
     let t = sight c.args.state.now c.complete_instructions.new.ctx.stack_item.local_name in
     let s = sight c.args.state.now c.args.ctx.now.stack_item.local_name in
     let same : t ≡ s = ap (sight c.args.state.now) told.name in
-    let n = c.saturating_add.result in
-    let fits : (get_or ranges stop.range no_range).end < 2 ^ 64 = search rules in
-    let n_is : n ≡ (get_or ranges stop.range no_range).start + stop.offset = start_is all ranges stop is_stop n c.saturating_add.ensures fits in
-    let is = is_left all ranges stop is_stop tries runnable part n n_is c.instructions_in-part.ensures.value in
+    let l = c.range_from-left.result in
+    let is = is_left all ranges stop is_stop tries runnable part l c.range_from-left.ensures c.instructions_in-part.ensures.value in
     let others = others_run all ranges stop is_stop tries runnable part is mid told.names_bound told.attributes_bound in
     let run = subst
     (λ rs. AreRunnable all rs mid → IfOk c.exec_ranges.result (λ done. name_tries c.exec_ranges.new.tries ≡ name_tries mid + length (all_at all rs)))
@@ -72,10 +68,8 @@ returns-clause-attributes g c = λ is_stop runnable.
     let t = sight c.args.state.now c.complete_instructions.new.ctx.stack_item.local_name in
     let s = sight c.args.state.now c.args.ctx.now.stack_item.local_name in
     let same : t ≡ s = ap (sight c.args.state.now) told.name in
-    let n = c.saturating_add.result in
-    let fits : (get_or ranges stop.range no_range).end < 2 ^ 64 = search rules in
-    let n_is : n ≡ (get_or ranges stop.range no_range).start + stop.offset = start_is all ranges stop is_stop n c.saturating_add.ensures fits in
-    let is = is_left all ranges stop is_stop tries runnable part n n_is c.instructions_in-part.ensures.value in
+    let l = c.range_from-left.result in
+    let is = is_left all ranges stop is_stop tries runnable part l c.range_from-left.ensures c.instructions_in-part.ensures.value in
     let others = others_run all ranges stop is_stop tries runnable part is mid told.names_bound told.attributes_bound in
     let run = subst
     (λ rs. AreRunnable all rs mid → IfOk c.exec_ranges.result (λ done. attribute_tries c.exec_ranges.new.tries ≡ attribute_tries mid + open_among t (all_at all rs)))
