@@ -4,7 +4,7 @@ use Rattle.std.specs.Str.{chars}
 use Rattle.lol_css.specs.Points.{preprocessed}
 use Rattle.lol_css.specs.Tokens.{Token, tokens_of}
 use Rattle.lol_css.specs.Trees as trees
-use Rattle.lol_css.specs.Drafts.{Items}
+use Rattle.lol_css.specs.Drafts.{DraftItems}
 use Rattle.lol_css.specs.Rules.{Read, giving, Outside}
 use Rattle.lol_css.specs.Reading.{selector, list, inner_list}
 use Rattle.lol_css.specs.Accepting.{judged, accept}
@@ -33,7 +33,7 @@ accept_fails_of text cause (inr e) = inr (accept_err text cause (giving-err (jud
 pub accept-fails : (text : List ℕ) (cause : SelectorError) → FailsUnlessMemory cause (read_whole text) → (cause ≡ Memory) ⊎ (accept text ≡ Err cause)
 accept-fails text cause h = accept_fails_of text cause (fails_cases cause (read_whole text) h)
 
-accept_read : (text : List ℕ) (draft : Items) (rest : List Token) (found : Judged trees.Items) → list (inner_list 128) Outside (tokens_of (preprocessed (chars text))) ≡ Ok (draft, rest) → judged false draft ≡ found → accept text ≡ found
+accept_read : (text : List ℕ) (draft : DraftItems) (rest : List Token) (found : Judged trees.Items) → list (inner_list 128) Outside (tokens_of (preprocessed (chars text))) ≡ Ok (draft, rest) → judged false draft ≡ found → accept text ≡ found
 unfolding accept selector
 accept_read text draft rest found e g = rw e g
 

@@ -4,7 +4,7 @@ use Rattle.std.specs.Option.{option_map}
 use Rattle.std.specs.Str.{byte}
 use Rattle.lol_css.specs.Tokens.{Token, Delim}
 use Rattle.lol_css.specs.Trees as trees
-use Rattle.lol_css.specs.Drafts.{Step, Part, Logical, Compound, Nothing, With, Item, First, Then, Items, NoItems, And}
+use Rattle.lol_css.specs.Drafts.{Step, DraftPart, Logical, DraftCompound, Nothing, With, DraftItem, First, Then, DraftItems, NoItems, And}
 use Rattle.lol_css.specs.Rules.{Read, ◌>>=◌, giving, skip_space, Nesting, InFunction, at_end}
 use Rattle.lol_css.specs.Reading.{class_name, pseudo, part, parts_at_most, more_parts, type_part, is_nothing, compound, next_step, further, item, items_at_most, list, inner_list}
 use Rattle.lol_css.specs.Accepting.{judged_step, combination_part, judged_part, judged_compound, judged_item, judged}
@@ -89,7 +89,7 @@ giving-option f (Some x) none found = refl
 
 -- ---- parts
 
-pub parts-fused : (n : ℕ) (inner : List Token → Read Items) (nesting : Nesting) (parts : Compound) (tokens : List Token) → giving judged_compound (parts_at_most n inner nesting parts tokens) ≡ judged_parts_at_most n inner nesting (judged_compound parts) tokens
+pub parts-fused : (n : ℕ) (inner : List Token → Read DraftItems) (nesting : Nesting) (parts : DraftCompound) (tokens : List Token) → giving judged_compound (parts_at_most n inner nesting parts tokens) ≡ judged_parts_at_most n inner nesting (judged_compound parts) tokens
 unfolding parts_at_most judged_parts_at_most judged_compound
 parts-fused zero inner nesting parts tokens = refl
 parts-fused (suc n) inner nesting parts tokens =
@@ -97,7 +97,7 @@ parts-fused (suc n) inner nesting parts tokens =
     ∙ then-same (part inner nesting tokens) _ _ (λ x rest e. giving-option judged_compound x (Ok (parts, rest)) (λ found. parts_at_most n inner nesting (With parts found) rest) ∙ option_same x _ _ _ _ (λ h. refl) (λ found h. parts-fused n inner nesting (With parts found) rest))
 
 -- more rounds than tokens change nothing
-parts_enough : (m n : ℕ) (inner : List Token → Read Items) → InnerLeaves inner → (nesting : Nesting) (parts : Judged trees.Compound) (tokens : List Token) → length tokens ≤ m → length tokens ≤ n → judged_parts_at_most m inner nesting parts tokens ≡ judged_parts_at_most n inner nesting parts tokens
+parts_enough : (m n : ℕ) (inner : List Token → Read DraftItems) → InnerLeaves inner → (nesting : Nesting) (parts : Judged trees.WrittenCompound) (tokens : List Token) → length tokens ≤ m → length tokens ≤ n → judged_parts_at_most m inner nesting parts tokens ≡ judged_parts_at_most n inner nesting parts tokens
 unfolding judged_parts_at_most part
 parts_enough zero zero inner h nesting parts tokens a b = refl
 parts_enough zero (suc n) inner h nesting parts [] a b = refl
@@ -107,21 +107,21 @@ parts_enough (suc m) zero inner h nesting parts (token ∷ tokens) a b = absurd 
 parts_enough (suc m) (suc n) inner h nesting parts tokens a b =
     then-same (part inner nesting tokens) _ _ (λ x rest e. option_same x _ _ _ _ (λ none. refl)
     (λ found is.
-    let taken : part inner nesting tokens ≡ Ok (Some found, rest) = e ∙ ap (λ (o : Option Part). Ok (o, rest)) is in
+    let taken : part inner nesting tokens ≡ Ok (Some found, rest) = e ∙ ap (λ (o : Option DraftPart). Ok (o, rest)) is in
     parts_enough m n inner h nesting (with_part parts (judged_part found)) rest (omega (arith, (part-takes inner h nesting tokens).taken found rest taken)) (omega (arith, (part-takes inner h nesting tokens).taken found rest taken))))
 
-parts_goes_on_of : (n : ℕ) (inner : List Token → Read Items) → InnerLeaves inner → (nesting : Nesting) (parts : Judged trees.Compound) (tokens : List Token) (found : Part) (rest : List Token) → n ≡ length tokens → part inner nesting tokens ≡ Ok (Some found, rest) → judged_parts_at_most n inner nesting parts tokens ≡ judged_parts inner nesting (with_part parts (judged_part found)) rest
+parts_goes_on_of : (n : ℕ) (inner : List Token → Read DraftItems) → InnerLeaves inner → (nesting : Nesting) (parts : Judged trees.WrittenCompound) (tokens : List Token) (found : DraftPart) (rest : List Token) → n ≡ length tokens → part inner nesting tokens ≡ Ok (Some found, rest) → judged_parts_at_most n inner nesting parts tokens ≡ judged_parts inner nesting (with_part parts (judged_part found)) rest
 unfolding judged_parts_at_most
 parts_goes_on_of zero inner h nesting parts tokens found rest l e = absurd (omega (arith, (part-takes inner h nesting tokens).taken found rest e))
 parts_goes_on_of (suc n) inner h nesting parts tokens found rest l e =
     rw e (parts_enough n (length rest) inner h nesting (with_part parts (judged_part found)) rest (omega (arith, (part-takes inner h nesting tokens).taken found rest e)) (omega arith))
 
 -- a part was read
-pub record PartRead (inner : List Token → Read Items) (nesting : Nesting) (parts : Judged trees.Compound) (tokens : List Token) (found : Judged trees.Part) (rest : List Token) : Type 0 where
+pub record PartRead (inner : List Token → Read DraftItems) (nesting : Nesting) (parts : Judged trees.WrittenCompound) (tokens : List Token) (found : Judged trees.Part) (rest : List Token) : Type 0 where
   pub same : judged_parts inner nesting parts tokens ≡ judged_parts inner nesting (with_part parts found) rest
   pub shorter : length rest < length tokens
 
-part_read_of : (o : Option Part) (inner : List Token → Read Items) → InnerLeaves inner → (nesting : Nesting) (parts : Judged trees.Compound) (tokens : List Token) (found : Judged trees.Part) (rest : List Token) → part inner nesting tokens ≡ Ok (o, rest) → option_map judged_part o ≡ Some found → PartRead inner nesting parts tokens found rest
+part_read_of : (o : Option DraftPart) (inner : List Token → Read DraftItems) → InnerLeaves inner → (nesting : Nesting) (parts : Judged trees.WrittenCompound) (tokens : List Token) (found : Judged trees.Part) (rest : List Token) → part inner nesting tokens ≡ Ok (o, rest) → option_map judged_part o ≡ Some found → PartRead inner nesting parts tokens found rest
 part_read_of None inner h nesting parts tokens found rest e g = absurd cc
 part_read_of (Some draft) inner h nesting parts tokens found rest e g =
     let same : judged_part draft ≡ found = cc in
@@ -130,101 +130,101 @@ part_read_of (Some draft) inner h nesting parts tokens found rest e g =
       shorter = (part-takes inner h nesting tokens).taken draft rest e;
     }
 
-pub part-read : (inner : List Token → Read Items) → InnerLeaves inner → (nesting : Nesting) (parts : Judged trees.Compound) (tokens : List Token) (found : Judged trees.Part) (rest : List Token) → giving (option_map judged_part) (part inner nesting tokens) ≡ Ok (Some found, rest) → PartRead inner nesting parts tokens found rest
+pub part-read : (inner : List Token → Read DraftItems) → InnerLeaves inner → (nesting : Nesting) (parts : Judged trees.WrittenCompound) (tokens : List Token) (found : Judged trees.Part) (rest : List Token) → giving (option_map judged_part) (part inner nesting tokens) ≡ Ok (Some found, rest) → PartRead inner nesting parts tokens found rest
 part-read inner h nesting parts tokens found rest e =
     let f = giving-ok (option_map judged_part) (part inner nesting tokens) (Some found) rest e in
     part_read_of f.x inner h nesting parts tokens found rest f.is f.gives
 
-parts_stop_of : (n : ℕ) (inner : List Token → Read Items) (nesting : Nesting) (parts : Judged trees.Compound) (tokens rest : List Token) → n ≡ length tokens → part inner nesting tokens ≡ Ok (None, rest) → judged_parts_at_most n inner nesting parts tokens ≡ Ok (parts, rest)
+parts_stop_of : (n : ℕ) (inner : List Token → Read DraftItems) (nesting : Nesting) (parts : Judged trees.WrittenCompound) (tokens rest : List Token) → n ≡ length tokens → part inner nesting tokens ≡ Ok (None, rest) → judged_parts_at_most n inner nesting parts tokens ≡ Ok (parts, rest)
 unfolding judged_parts_at_most part
 parts_stop_of zero inner nesting parts [] rest l e =
-    let p : Option Part × List Token = (None, []) in
-    let q : Option Part × List Token = (None, rest) in
+    let p : Option DraftPart × List Token = (None, []) in
+    let q : Option DraftPart × List Token = (None, rest) in
     let same : p ≡ q = cc in
-    ap (λ (t : Option Part × List Token). Ok (parts, t.1)) same
+    ap (λ (t : Option DraftPart × List Token). Ok (parts, t.1)) same
 parts_stop_of zero inner nesting parts (token ∷ tokens) rest l e = absurd (omega arith)
 parts_stop_of (suc n) inner nesting parts tokens rest l e = rw e refl
 
-none_same : (o : Option Part) → option_map judged_part o ≡ None → o ≡ None
+none_same : (o : Option DraftPart) → option_map judged_part o ≡ None → o ≡ None
 none_same None e = refl
 none_same (Some x) e = absurd cc
 
 -- no further part begins
-pub parts-stop : (inner : List Token → Read Items) (nesting : Nesting) (parts : Judged trees.Compound) (tokens rest : List Token) → giving (option_map judged_part) (part inner nesting tokens) ≡ Ok (None, rest) → judged_parts inner nesting parts tokens ≡ Ok (parts, rest)
+pub parts-stop : (inner : List Token → Read DraftItems) (nesting : Nesting) (parts : Judged trees.WrittenCompound) (tokens rest : List Token) → giving (option_map judged_part) (part inner nesting tokens) ≡ Ok (None, rest) → judged_parts inner nesting parts tokens ≡ Ok (parts, rest)
 parts-stop inner nesting parts tokens rest e =
     let f = giving-ok (option_map judged_part) (part inner nesting tokens) None rest e in
     let nothing = none_same f.x f.gives in
-    parts_stop_of (length tokens) inner nesting parts tokens rest refl (f.is ∙ ap (λ (o : Option Part). Ok (o, rest)) nothing)
+    parts_stop_of (length tokens) inner nesting parts tokens rest refl (f.is ∙ ap (λ (o : Option DraftPart). Ok (o, rest)) nothing)
 
-parts_err_of : (n : ℕ) (inner : List Token → Read Items) (nesting : Nesting) (parts : Judged trees.Compound) (tokens : List Token) (cause : SelectorError) → n ≡ length tokens → part inner nesting tokens ≡ Err cause → judged_parts_at_most n inner nesting parts tokens ≡ Err cause
+parts_err_of : (n : ℕ) (inner : List Token → Read DraftItems) (nesting : Nesting) (parts : Judged trees.WrittenCompound) (tokens : List Token) (cause : SelectorError) → n ≡ length tokens → part inner nesting tokens ≡ Err cause → judged_parts_at_most n inner nesting parts tokens ≡ Err cause
 unfolding judged_parts_at_most part
 parts_err_of zero inner nesting parts [] cause l e = absurd cc
 parts_err_of zero inner nesting parts (token ∷ tokens) cause l e = absurd (omega arith)
 parts_err_of (suc n) inner nesting parts tokens cause l e = rw e refl
 
-pub parts-fail : (inner : List Token → Read Items) (nesting : Nesting) (parts : Judged trees.Compound) (tokens : List Token) (cause : SelectorError) → FailsUnlessMemory cause (giving (option_map judged_part) (part inner nesting tokens)) → FailsUnlessMemory cause (judged_parts inner nesting parts tokens)
+pub parts-fail : (inner : List Token → Read DraftItems) (nesting : Nesting) (parts : Judged trees.WrittenCompound) (tokens : List Token) (cause : SelectorError) → FailsUnlessMemory cause (giving (option_map judged_part) (part inner nesting tokens)) → FailsUnlessMemory cause (judged_parts inner nesting parts tokens)
 parts-fail inner nesting parts tokens cause h =
     fails-along cause (giving (option_map judged_part) (part inner nesting tokens)) (judged_parts inner nesting parts tokens) (λ e. parts_err_of (length tokens) inner nesting parts tokens cause refl (giving-err (option_map judged_part) (part inner nesting tokens) cause e)) h
 
 -- ---- compounds
 
-nothing_judged_of : (front : Judged trees.Compound) (part : Judged trees.Part) → is_empty (with_part front part) ≡ false
+nothing_judged_of : (front : Judged trees.WrittenCompound) (part : Judged trees.Part) → is_empty (with_part front part) ≡ false
 nothing_judged_of (Ok parts) (Ok last) = refl
 nothing_judged_of (Ok parts) (Err cause) = refl
 nothing_judged_of (Err cause) part = refl
 
-nothing_judged : (parts : Compound) → is_nothing parts ≡ is_empty (judged_compound parts)
+nothing_judged : (parts : DraftCompound) → is_nothing parts ≡ is_empty (judged_compound parts)
 unfolding judged_compound
 nothing_judged Nothing = refl
 nothing_judged (With front last) = sym (nothing_judged_of (judged_compound front) (judged_part last))
 
 -- a compound that reads nothing is refused
-abbrev pub not_empty : SelectorError → Read (Judged trees.Compound) → Read (Judged trees.Compound)
+abbrev pub not_empty : SelectorError → Read (Judged trees.WrittenCompound) → Read (Judged trees.WrittenCompound)
 not_empty empty parts = parts >>= λ x. cond (is_empty x.0) (Err empty) (Ok x)
 
-empty_same : (b : Bool) (empty : SelectorError) (parts : Compound) (rest : List Token) → giving judged_compound (cond b (Err empty) (Ok (parts, rest))) ≡ cond b (Err empty) (Ok (judged_compound parts, rest))
+empty_same : (b : Bool) (empty : SelectorError) (parts : DraftCompound) (rest : List Token) → giving judged_compound (cond b (Err empty) (Ok (parts, rest))) ≡ cond b (Err empty) (Ok (judged_compound parts, rest))
 empty_same true empty parts rest = refl
 empty_same false empty parts rest = refl
 
-not_empty_fused : (empty : SelectorError) (read : Read Compound) → giving judged_compound (read >>= λ parts. cond (is_nothing parts.0) (Err empty) (Ok parts)) ≡ not_empty empty (giving judged_compound read)
-not_empty_fused empty (Ok p) = empty_same (is_nothing p.0) empty p.0 p.1 ∙ ap (λ (b : Bool). cond {A = Read (Judged trees.Compound)} b (Err empty) (Ok (judged_compound p.0, p.1))) (nothing_judged p.0)
+not_empty_fused : (empty : SelectorError) (read : Read DraftCompound) → giving judged_compound (read >>= λ parts. cond (is_nothing parts.0) (Err empty) (Ok parts)) ≡ not_empty empty (giving judged_compound read)
+not_empty_fused empty (Ok p) = empty_same (is_nothing p.0) empty p.0 p.1 ∙ ap (λ (b : Bool). cond {A = Read (Judged trees.WrittenCompound)} b (Err empty) (Ok (judged_compound p.0, p.1))) (nothing_judged p.0)
 not_empty_fused empty (Err cause) = refl
 
-compound_of_start : (o : Option Compound) (inner : List Token → Read Items) (nesting : Nesting) (empty : SelectorError) (tokens : List Token) (start : trees.Compound) (rest : List Token) → type_part nesting tokens ≡ Ok (o, rest) → option_map judged_compound o ≡ Some (Ok start) → giving judged_compound (compound inner nesting empty tokens) ≡ not_empty empty (judged_parts inner nesting (Ok start) rest)
+compound_of_start : (o : Option DraftCompound) (inner : List Token → Read DraftItems) (nesting : Nesting) (empty : SelectorError) (tokens : List Token) (start : trees.WrittenCompound) (rest : List Token) → type_part nesting tokens ≡ Ok (o, rest) → option_map judged_compound o ≡ Some (Ok start) → giving judged_compound (compound inner nesting empty tokens) ≡ not_empty empty (judged_parts inner nesting (Ok start) rest)
 unfolding compound
 compound_of_start None inner nesting empty tokens start rest e g = absurd cc
 compound_of_start (Some draft) inner nesting empty tokens start rest e g =
     let same : judged_compound draft ≡ Ok start = cc in
-    rw e (not_empty_fused empty (more_parts inner nesting draft rest) ∙ ap (λ (r : Read (Judged trees.Compound)). not_empty empty r) (parts-fused (length rest) inner nesting draft rest ∙ ap (λ (j : Judged trees.Compound). judged_parts inner nesting j rest) same))
+    rw e (not_empty_fused empty (more_parts inner nesting draft rest) ∙ ap (λ (r : Read (Judged trees.WrittenCompound)). not_empty empty r) (parts-fused (length rest) inner nesting draft rest ∙ ap (λ (j : Judged trees.WrittenCompound). judged_parts inner nesting j rest) same))
 
 -- after its type part
-pub compound-starts : (inner : List Token → Read Items) (nesting : Nesting) (empty : SelectorError) (tokens : List Token) (start : trees.Compound) (rest : List Token) → giving (option_map judged_compound) (type_part nesting tokens) ≡ Ok (Some (Ok start), rest) → giving judged_compound (compound inner nesting empty tokens) ≡ not_empty empty (judged_parts inner nesting (Ok start) rest)
+pub compound-starts : (inner : List Token → Read DraftItems) (nesting : Nesting) (empty : SelectorError) (tokens : List Token) (start : trees.WrittenCompound) (rest : List Token) → giving (option_map judged_compound) (type_part nesting tokens) ≡ Ok (Some (Ok start), rest) → giving judged_compound (compound inner nesting empty tokens) ≡ not_empty empty (judged_parts inner nesting (Ok start) rest)
 compound-starts inner nesting empty tokens start rest e =
     let f = giving-ok (option_map judged_compound) (type_part nesting tokens) (Some (Ok start)) rest e in
     compound_of_start f.x inner nesting empty tokens start rest f.is f.gives
 
-compound_of_none : (o : Option Compound) (inner : List Token → Read Items) (nesting : Nesting) (empty : SelectorError) (tokens rest : List Token) → type_part nesting tokens ≡ Ok (o, rest) → option_map judged_compound o ≡ None → giving judged_compound (compound inner nesting empty tokens) ≡ Err empty
+compound_of_none : (o : Option DraftCompound) (inner : List Token → Read DraftItems) (nesting : Nesting) (empty : SelectorError) (tokens rest : List Token) → type_part nesting tokens ≡ Ok (o, rest) → option_map judged_compound o ≡ None → giving judged_compound (compound inner nesting empty tokens) ≡ Err empty
 unfolding compound
 compound_of_none None inner nesting empty tokens rest e g = rw e refl
 compound_of_none (Some draft) inner nesting empty tokens rest e g = absurd cc
 
 -- where a bar ends the item
-pub compound-none : (inner : List Token → Read Items) (nesting : Nesting) (empty : SelectorError) (tokens rest : List Token) → giving (option_map judged_compound) (type_part nesting tokens) ≡ Ok (None, rest) → giving judged_compound (compound inner nesting empty tokens) ≡ Err empty
+pub compound-none : (inner : List Token → Read DraftItems) (nesting : Nesting) (empty : SelectorError) (tokens rest : List Token) → giving (option_map judged_compound) (type_part nesting tokens) ≡ Ok (None, rest) → giving judged_compound (compound inner nesting empty tokens) ≡ Err empty
 compound-none inner nesting empty tokens rest e =
     let f = giving-ok (option_map judged_compound) (type_part nesting tokens) None rest e in
     compound_of_none f.x inner nesting empty tokens rest f.is f.gives
 
-compound_err : (inner : List Token → Read Items) (nesting : Nesting) (empty : SelectorError) (tokens : List Token) (cause : SelectorError) → type_part nesting tokens ≡ Err cause → giving judged_compound (compound inner nesting empty tokens) ≡ Err cause
+compound_err : (inner : List Token → Read DraftItems) (nesting : Nesting) (empty : SelectorError) (tokens : List Token) (cause : SelectorError) → type_part nesting tokens ≡ Err cause → giving judged_compound (compound inner nesting empty tokens) ≡ Err cause
 unfolding compound
 compound_err inner nesting empty tokens cause e = rw e refl
 
-pub compound-fails : (inner : List Token → Read Items) (nesting : Nesting) (empty : SelectorError) (tokens : List Token) (cause : SelectorError) → FailsUnlessMemory cause (giving (option_map judged_compound) (type_part nesting tokens)) → FailsUnlessMemory cause (giving judged_compound (compound inner nesting empty tokens))
+pub compound-fails : (inner : List Token → Read DraftItems) (nesting : Nesting) (empty : SelectorError) (tokens : List Token) (cause : SelectorError) → FailsUnlessMemory cause (giving (option_map judged_compound) (type_part nesting tokens)) → FailsUnlessMemory cause (giving judged_compound (compound inner nesting empty tokens))
 compound-fails inner nesting empty tokens cause h =
     fails-along cause (giving (option_map judged_compound) (type_part nesting tokens)) (giving judged_compound (compound inner nesting empty tokens)) (λ e. compound_err inner nesting empty tokens cause (giving-err (option_map judged_compound) (type_part nesting tokens) cause e)) h
 
 -- ---- items
 
-further_fused : (room : ℕ) (inner : List Token → Read Items) (nesting : Nesting) (inside : Bool) (front : Item) (tokens : List Token) → giving (judged_item inside) (further room inner nesting front tokens) ≡ judged_further room inner nesting inside (judged_item inside front) tokens
+further_fused : (room : ℕ) (inner : List Token → Read DraftItems) (nesting : Nesting) (inside : Bool) (front : DraftItem) (tokens : List Token) → giving (judged_item inside) (further room inner nesting front tokens) ≡ judged_further room inner nesting inside (judged_item inside front) tokens
 unfolding further judged_further judged_item
 further_fused zero inner nesting inside front tokens =
     giving-then (judged_item inside) (next_step nesting tokens) (λ found. elim found.0 [ None ↦ Ok (front, found.1) | Some step ↦ Err errors.UnsupportedSyntax ])
@@ -238,22 +238,22 @@ further_fused (suc room) inner nesting inside front tokens =
     giving-then (judged_item inside) (compound inner nesting errors.DanglingCombinator rest) (λ next. further room inner nesting (Then front step next.0) next.1)
     ∙ then-same (compound inner nesting errors.DanglingCombinator rest) _ _ (λ next rest2 e2. further_fused room inner nesting inside (Then front step next) rest2)))
 
-item_starts_of : (inner : List Token → Read Items) (nesting : Nesting) (inside : Bool) (tokens : List Token) (draft : Compound) (first : Judged trees.Compound) (rest : List Token) → compound inner nesting errors.EmptySelector (skip_space tokens) ≡ Ok (draft, rest) → judged_compound draft ≡ first → giving (judged_item inside) (item inner nesting tokens) ≡ judged_further 1023 inner nesting inside (alone first) rest
+item_starts_of : (inner : List Token → Read DraftItems) (nesting : Nesting) (inside : Bool) (tokens : List Token) (draft : DraftCompound) (first : Judged trees.WrittenCompound) (rest : List Token) → compound inner nesting errors.EmptySelector (skip_space tokens) ≡ Ok (draft, rest) → judged_compound draft ≡ first → giving (judged_item inside) (item inner nesting tokens) ≡ judged_further 1023 inner nesting inside (alone first) rest
 unfolding item judged_item
 item_starts_of inner nesting inside tokens draft first rest e g =
-    rw e (further_fused 1023 inner nesting inside (First draft) rest ∙ ap (λ (j : Judged trees.Compound). judged_further 1023 inner nesting inside (alone j) rest) g)
+    rw e (further_fused 1023 inner nesting inside (First draft) rest ∙ ap (λ (j : Judged trees.WrittenCompound). judged_further 1023 inner nesting inside (alone j) rest) g)
 
 -- after its first compound
-pub item-starts : (inner : List Token → Read Items) (nesting : Nesting) (inside : Bool) (tokens : List Token) (first : Judged trees.Compound) (rest : List Token) → giving judged_compound (compound inner nesting errors.EmptySelector (skip_space tokens)) ≡ Ok (first, rest) → giving (judged_item inside) (item inner nesting tokens) ≡ judged_further 1023 inner nesting inside (alone first) rest
+pub item-starts : (inner : List Token → Read DraftItems) (nesting : Nesting) (inside : Bool) (tokens : List Token) (first : Judged trees.WrittenCompound) (rest : List Token) → giving judged_compound (compound inner nesting errors.EmptySelector (skip_space tokens)) ≡ Ok (first, rest) → giving (judged_item inside) (item inner nesting tokens) ≡ judged_further 1023 inner nesting inside (alone first) rest
 item-starts inner nesting inside tokens first rest e =
     let f = giving-ok judged_compound (compound inner nesting errors.EmptySelector (skip_space tokens)) first rest e in
     item_starts_of inner nesting inside tokens f.x first rest f.is f.gives
 
-item_err : (inner : List Token → Read Items) (nesting : Nesting) (inside : Bool) (tokens : List Token) (cause : SelectorError) → compound inner nesting errors.EmptySelector (skip_space tokens) ≡ Err cause → giving (judged_item inside) (item inner nesting tokens) ≡ Err cause
+item_err : (inner : List Token → Read DraftItems) (nesting : Nesting) (inside : Bool) (tokens : List Token) (cause : SelectorError) → compound inner nesting errors.EmptySelector (skip_space tokens) ≡ Err cause → giving (judged_item inside) (item inner nesting tokens) ≡ Err cause
 unfolding item
 item_err inner nesting inside tokens cause e = rw e refl
 
-pub item-fails : (inner : List Token → Read Items) (nesting : Nesting) (inside : Bool) (tokens : List Token) (cause : SelectorError) → FailsUnlessMemory cause (giving judged_compound (compound inner nesting errors.EmptySelector (skip_space tokens))) → FailsUnlessMemory cause (giving (judged_item inside) (item inner nesting tokens))
+pub item-fails : (inner : List Token → Read DraftItems) (nesting : Nesting) (inside : Bool) (tokens : List Token) (cause : SelectorError) → FailsUnlessMemory cause (giving judged_compound (compound inner nesting errors.EmptySelector (skip_space tokens))) → FailsUnlessMemory cause (giving (judged_item inside) (item inner nesting tokens))
 item-fails inner nesting inside tokens cause h =
     fails-along cause (giving judged_compound (compound inner nesting errors.EmptySelector (skip_space tokens))) (giving (judged_item inside) (item inner nesting tokens)) (λ e. item_err inner nesting inside tokens cause (giving-err judged_compound (compound inner nesting errors.EmptySelector (skip_space tokens)) cause e)) h
 
@@ -261,23 +261,23 @@ no_step : (inside : Bool) (o : Option Step) → option_map (judged_step inside) 
 no_step inside None e = refl
 no_step inside (Some x) e = absurd cc
 
-further_stop_of : (room : ℕ) (inner : List Token → Read Items) (nesting : Nesting) (inside : Bool) (front : Judged trees.Item) (tokens rest : List Token) → next_step nesting tokens ≡ Ok (None, rest) → judged_further room inner nesting inside front tokens ≡ Ok (front, rest)
+further_stop_of : (room : ℕ) (inner : List Token → Read DraftItems) (nesting : Nesting) (inside : Bool) (front : Judged trees.Item) (tokens rest : List Token) → next_step nesting tokens ≡ Ok (None, rest) → judged_further room inner nesting inside front tokens ≡ Ok (front, rest)
 unfolding judged_further
 further_stop_of zero inner nesting inside front tokens rest e = rw e refl
 further_stop_of (suc room) inner nesting inside front tokens rest e = rw e refl
 
 -- no further step
-pub further-stops : (room : ℕ) (inner : List Token → Read Items) (nesting : Nesting) (inside : Bool) (front : Judged trees.Item) (tokens rest : List Token) → giving (option_map (judged_step inside)) (next_step nesting tokens) ≡ Ok (None, rest) → judged_further room inner nesting inside front tokens ≡ Ok (front, rest)
+pub further-stops : (room : ℕ) (inner : List Token → Read DraftItems) (nesting : Nesting) (inside : Bool) (front : Judged trees.Item) (tokens rest : List Token) → giving (option_map (judged_step inside)) (next_step nesting tokens) ≡ Ok (None, rest) → judged_further room inner nesting inside front tokens ≡ Ok (front, rest)
 further-stops room inner nesting inside front tokens rest e =
     let f = giving-ok (option_map (judged_step inside)) (next_step nesting tokens) None rest e in
     further_stop_of room inner nesting inside front tokens rest (f.is ∙ ap (λ (o : Option Step). Ok (o, rest)) (no_step inside f.x f.gives))
 
-further_err : (room : ℕ) (inner : List Token → Read Items) (nesting : Nesting) (inside : Bool) (front : Judged trees.Item) (tokens : List Token) (cause : SelectorError) → next_step nesting tokens ≡ Err cause → judged_further room inner nesting inside front tokens ≡ Err cause
+further_err : (room : ℕ) (inner : List Token → Read DraftItems) (nesting : Nesting) (inside : Bool) (front : Judged trees.Item) (tokens : List Token) (cause : SelectorError) → next_step nesting tokens ≡ Err cause → judged_further room inner nesting inside front tokens ≡ Err cause
 unfolding judged_further
 further_err zero inner nesting inside front tokens cause e = rw e refl
 further_err (suc room) inner nesting inside front tokens cause e = rw e refl
 
-pub further-fails : (room : ℕ) (inner : List Token → Read Items) (nesting : Nesting) (inside : Bool) (front : Judged trees.Item) (tokens : List Token) (cause : SelectorError) → giving (option_map (judged_step inside)) (next_step nesting tokens) ≡ Err cause → judged_further room inner nesting inside front tokens ≡ Err cause
+pub further-fails : (room : ℕ) (inner : List Token → Read DraftItems) (nesting : Nesting) (inside : Bool) (front : Judged trees.Item) (tokens : List Token) (cause : SelectorError) → giving (option_map (judged_step inside)) (next_step nesting tokens) ≡ Err cause → judged_further room inner nesting inside front tokens ≡ Err cause
 further-fails room inner nesting inside front tokens cause e = further_err room inner nesting inside front tokens cause (giving-err (option_map (judged_step inside)) (next_step nesting tokens) cause e)
 
 -- a step was read
@@ -296,60 +296,60 @@ step-read nesting inside tokens step rest e =
     step_read_of f.x nesting inside tokens step rest f.is f.gives
 
 -- a step too many
-pub further-full : (inner : List Token → Read Items) (nesting : Nesting) (inside : Bool) (front : Judged trees.Item) (tokens : List Token) (step : Judged Combinator) (rest : List Token) → StepRead nesting inside tokens step rest → judged_further 0 inner nesting inside front tokens ≡ Err errors.UnsupportedSyntax
+pub further-full : (inner : List Token → Read DraftItems) (nesting : Nesting) (inside : Bool) (front : Judged trees.Item) (tokens : List Token) (step : Judged Combinator) (rest : List Token) → StepRead nesting inside tokens step rest → judged_further 0 inner nesting inside front tokens ≡ Err errors.UnsupportedSyntax
 unfolding judged_further
 further-full inner nesting inside front tokens step rest s = rw s.is refl
 
-further_goes_on_of : (room : ℕ) (inner : List Token → Read Items) (nesting : Nesting) (inside : Bool) (front : Judged trees.Item) (tokens : List Token) (step : Judged Combinator) (rest : List Token) → StepRead nesting inside tokens step rest → (draft : Compound) (next : Judged trees.Compound) (rest2 : List Token) → compound inner nesting errors.DanglingCombinator rest ≡ Ok (draft, rest2) → judged_compound draft ≡ next → judged_further (suc room) inner nesting inside front tokens ≡ judged_further room inner nesting inside (with_compound front step next) rest2
+further_goes_on_of : (room : ℕ) (inner : List Token → Read DraftItems) (nesting : Nesting) (inside : Bool) (front : Judged trees.Item) (tokens : List Token) (step : Judged Combinator) (rest : List Token) → StepRead nesting inside tokens step rest → (draft : DraftCompound) (next : Judged trees.WrittenCompound) (rest2 : List Token) → compound inner nesting errors.DanglingCombinator rest ≡ Ok (draft, rest2) → judged_compound draft ≡ next → judged_further (suc room) inner nesting inside front tokens ≡ judged_further room inner nesting inside (with_compound front step next) rest2
 unfolding judged_further
 further_goes_on_of room inner nesting inside front tokens step rest s draft next rest2 e g =
-    rw (s.is, e) (ap (λ (c : Judged Combinator). judged_further room inner nesting inside (with_compound front c (judged_compound draft)) rest2) s.gives ∙ ap (λ (j : Judged trees.Compound). judged_further room inner nesting inside (with_compound front step j) rest2) g)
+    rw (s.is, e) (ap (λ (c : Judged Combinator). judged_further room inner nesting inside (with_compound front c (judged_compound draft)) rest2) s.gives ∙ ap (λ (j : Judged trees.WrittenCompound). judged_further room inner nesting inside (with_compound front step j) rest2) g)
 
-pub further-goes_on : (room : ℕ) (inner : List Token → Read Items) (nesting : Nesting) (inside : Bool) (front : Judged trees.Item) (tokens : List Token) (step : Judged Combinator) (rest : List Token) → StepRead nesting inside tokens step rest → (next : Judged trees.Compound) (rest2 : List Token) → giving judged_compound (compound inner nesting errors.DanglingCombinator rest) ≡ Ok (next, rest2) → ¬ (room ≡ 0) → judged_further room inner nesting inside front tokens ≡ judged_further (room - 1) inner nesting inside (with_compound front step next) rest2
+pub further-goes_on : (room : ℕ) (inner : List Token → Read DraftItems) (nesting : Nesting) (inside : Bool) (front : Judged trees.Item) (tokens : List Token) (step : Judged Combinator) (rest : List Token) → StepRead nesting inside tokens step rest → (next : Judged trees.WrittenCompound) (rest2 : List Token) → giving judged_compound (compound inner nesting errors.DanglingCombinator rest) ≡ Ok (next, rest2) → ¬ (room ≡ 0) → judged_further room inner nesting inside front tokens ≡ judged_further (room - 1) inner nesting inside (with_compound front step next) rest2
 further-goes_on zero inner nesting inside front tokens step rest s next rest2 e h = absurd (h refl)
 further-goes_on (suc room) inner nesting inside front tokens step rest s next rest2 e h =
     let f = giving-ok judged_compound (compound inner nesting errors.DanglingCombinator rest) next rest2 e in
     let less : suc room - 1 ≡ room = omega arith in
     rw less (further_goes_on_of room inner nesting inside front tokens step rest s f.x next rest2 f.is f.gives)
 
-further_compound_err : (room : ℕ) (inner : List Token → Read Items) (nesting : Nesting) (inside : Bool) (front : Judged trees.Item) (tokens : List Token) (step : Judged Combinator) (rest : List Token) → StepRead nesting inside tokens step rest → (cause : SelectorError) → compound inner nesting errors.DanglingCombinator rest ≡ Err cause → judged_further (suc room) inner nesting inside front tokens ≡ Err cause
+further_compound_err : (room : ℕ) (inner : List Token → Read DraftItems) (nesting : Nesting) (inside : Bool) (front : Judged trees.Item) (tokens : List Token) (step : Judged Combinator) (rest : List Token) → StepRead nesting inside tokens step rest → (cause : SelectorError) → compound inner nesting errors.DanglingCombinator rest ≡ Err cause → judged_further (suc room) inner nesting inside front tokens ≡ Err cause
 unfolding judged_further
 further_compound_err room inner nesting inside front tokens step rest s cause e = rw (s.is, e) refl
 
-pub further-compound-fails : (room : ℕ) (inner : List Token → Read Items) (nesting : Nesting) (inside : Bool) (front : Judged trees.Item) (tokens : List Token) (step : Judged Combinator) (rest : List Token) → StepRead nesting inside tokens step rest → (cause : SelectorError) → ¬ (room ≡ 0) → FailsUnlessMemory cause (giving judged_compound (compound inner nesting errors.DanglingCombinator rest)) → FailsUnlessMemory cause (judged_further room inner nesting inside front tokens)
+pub further-compound-fails : (room : ℕ) (inner : List Token → Read DraftItems) (nesting : Nesting) (inside : Bool) (front : Judged trees.Item) (tokens : List Token) (step : Judged Combinator) (rest : List Token) → StepRead nesting inside tokens step rest → (cause : SelectorError) → ¬ (room ≡ 0) → FailsUnlessMemory cause (giving judged_compound (compound inner nesting errors.DanglingCombinator rest)) → FailsUnlessMemory cause (judged_further room inner nesting inside front tokens)
 further-compound-fails zero inner nesting inside front tokens step rest s cause n h = absurd (n refl)
 further-compound-fails (suc room) inner nesting inside front tokens step rest s cause n h =
     fails-along cause (giving judged_compound (compound inner nesting errors.DanglingCombinator rest)) (judged_further (suc room) inner nesting inside front tokens) (λ e. further_compound_err room inner nesting inside front tokens step rest s cause (giving-err judged_compound (compound inner nesting errors.DanglingCombinator rest) cause e)) h
 
 -- ---- lists
 
-items_fused_of : (b : Bool) (inside : Bool) (items : Items) (rest : List Token) (read : Read Items) (total : Read (Judged trees.Items)) → giving (judged inside) read ≡ total → giving (judged inside) (cond b (Ok (items, rest)) read) ≡ cond b (Ok (judged inside items, rest)) total
+items_fused_of : (b : Bool) (inside : Bool) (items : DraftItems) (rest : List Token) (read : Read DraftItems) (total : Read (Judged trees.Items)) → giving (judged inside) read ≡ total → giving (judged inside) (cond b (Ok (items, rest)) read) ≡ cond b (Ok (judged inside items, rest)) total
 items_fused_of true inside items rest read total e = refl
 items_fused_of false inside items rest read total e = e
 
-items_fused : (n : ℕ) (inner : List Token → Read Items) (nesting : Nesting) (inside : Bool) (items : Items) (tokens : List Token) → giving (judged inside) (items_at_most n inner nesting items tokens) ≡ judged_items_at_most n inner nesting inside (judged inside items) tokens
+items_fused : (n : ℕ) (inner : List Token → Read DraftItems) (nesting : Nesting) (inside : Bool) (items : DraftItems) (tokens : List Token) → giving (judged inside) (items_at_most n inner nesting items tokens) ≡ judged_items_at_most n inner nesting inside (judged inside items) tokens
 unfolding items_at_most judged_items_at_most judged
 items_fused zero inner nesting inside items tokens = refl
 items_fused (suc n) inner nesting inside items tokens =
     items_fused_of (at_end nesting tokens) inside items (drop 1 tokens) (item inner nesting (drop 1 tokens) >>= λ x. items_at_most n inner nesting (And items x.0) x.1) (item inner nesting (drop 1 tokens) >>= λ x. judged_items_at_most n inner nesting inside (with_item (judged inside items) (judged_item inside x.0)) x.1)
     (giving-then (judged inside) (item inner nesting (drop 1 tokens)) (λ x. items_at_most n inner nesting (And items x.0) x.1) ∙ then-same (item inner nesting (drop 1 tokens)) _ _ (λ x rest e. items_fused n inner nesting inside (And items x) rest))
 
-list_starts_of : (inner : List Token → Read Items) (nesting : Nesting) (inside : Bool) (tokens : List Token) (draft : Item) (first : Judged trees.Item) (rest : List Token) → item inner nesting tokens ≡ Ok (draft, rest) → judged_item inside draft ≡ first → giving (judged inside) (list inner nesting tokens) ≡ judged_items_at_most (length rest + 1) inner nesting inside (with_item (Ok trees.NoItems) first) rest
+list_starts_of : (inner : List Token → Read DraftItems) (nesting : Nesting) (inside : Bool) (tokens : List Token) (draft : DraftItem) (first : Judged trees.Item) (rest : List Token) → item inner nesting tokens ≡ Ok (draft, rest) → judged_item inside draft ≡ first → giving (judged inside) (list inner nesting tokens) ≡ judged_items_at_most (length rest + 1) inner nesting inside (with_item (Ok trees.NoItems) first) rest
 unfolding list judged
 list_starts_of inner nesting inside tokens draft first rest e g =
     rw e (items_fused (length rest + 1) inner nesting inside (And NoItems draft) rest ∙ ap (λ (j : Judged trees.Item). judged_items_at_most (length rest + 1) inner nesting inside (with_item (Ok trees.NoItems) j) rest) g)
 
 -- after its first item
-pub list-starts : (inner : List Token → Read Items) (nesting : Nesting) (inside : Bool) (tokens : List Token) (first : Judged trees.Item) (rest : List Token) → giving (judged_item inside) (item inner nesting tokens) ≡ Ok (first, rest) → giving (judged inside) (list inner nesting tokens) ≡ judged_items_at_most (length rest + 1) inner nesting inside (with_item (Ok trees.NoItems) first) rest
+pub list-starts : (inner : List Token → Read DraftItems) (nesting : Nesting) (inside : Bool) (tokens : List Token) (first : Judged trees.Item) (rest : List Token) → giving (judged_item inside) (item inner nesting tokens) ≡ Ok (first, rest) → giving (judged inside) (list inner nesting tokens) ≡ judged_items_at_most (length rest + 1) inner nesting inside (with_item (Ok trees.NoItems) first) rest
 list-starts inner nesting inside tokens first rest e =
     let f = giving-ok (judged_item inside) (item inner nesting tokens) first rest e in
     list_starts_of inner nesting inside tokens f.x first rest f.is f.gives
 
-list_err : (inner : List Token → Read Items) (nesting : Nesting) (inside : Bool) (tokens : List Token) (cause : SelectorError) → item inner nesting tokens ≡ Err cause → giving (judged inside) (list inner nesting tokens) ≡ Err cause
+list_err : (inner : List Token → Read DraftItems) (nesting : Nesting) (inside : Bool) (tokens : List Token) (cause : SelectorError) → item inner nesting tokens ≡ Err cause → giving (judged inside) (list inner nesting tokens) ≡ Err cause
 unfolding list
 list_err inner nesting inside tokens cause e = rw e refl
 
-pub list-fails : (inner : List Token → Read Items) (nesting : Nesting) (inside : Bool) (tokens : List Token) (cause : SelectorError) → FailsUnlessMemory cause (giving (judged_item inside) (item inner nesting tokens)) → FailsUnlessMemory cause (giving (judged inside) (list inner nesting tokens))
+pub list-fails : (inner : List Token → Read DraftItems) (nesting : Nesting) (inside : Bool) (tokens : List Token) (cause : SelectorError) → FailsUnlessMemory cause (giving (judged_item inside) (item inner nesting tokens)) → FailsUnlessMemory cause (giving (judged inside) (list inner nesting tokens))
 list-fails inner nesting inside tokens cause h =
     fails-along cause (giving (judged_item inside) (item inner nesting tokens)) (giving (judged inside) (list inner nesting tokens)) (λ e. list_err inner nesting inside tokens cause (giving-err (judged_item inside) (item inner nesting tokens) cause e)) h
 
@@ -362,7 +362,7 @@ not_at_end : (nesting : Nesting) (tokens : List Token) → at_end nesting tokens
 not_at_end nesting [] e = absurd cc
 not_at_end nesting (token ∷ tokens) e = omega arith
 
-items_enough : (m n : ℕ) (inner : List Token → Read Items) → InnerLeaves inner → (nesting : Nesting) (inside : Bool) (items : Judged trees.Items) (tokens : List Token) → length tokens < m → length tokens < n → judged_items_at_most m inner nesting inside items tokens ≡ judged_items_at_most n inner nesting inside items tokens
+items_enough : (m n : ℕ) (inner : List Token → Read DraftItems) → InnerLeaves inner → (nesting : Nesting) (inside : Bool) (items : Judged trees.Items) (tokens : List Token) → length tokens < m → length tokens < n → judged_items_at_most m inner nesting inside items tokens ≡ judged_items_at_most n inner nesting inside items tokens
 unfolding judged_items_at_most
 items_enough zero n inner h nesting inside items tokens a b = absurd (omega arith)
 items_enough (suc m) zero inner h nesting inside items tokens a b = absurd (omega arith)
@@ -372,26 +372,26 @@ items_enough (suc m) (suc n) inner h nesting inside items tokens a b =
     let l = (item-leaves inner h nesting (drop 1 tokens)).left x rest is in
     items_enough m n inner h nesting inside (with_item items (judged_item inside x)) rest (omega (arith, l, length-drop 1 tokens, not_at_end nesting tokens e)) (omega (arith, l, length-drop 1 tokens, not_at_end nesting tokens e))))
 
-items_stop_of : (n : ℕ) (inner : List Token → Read Items) (nesting : Nesting) (inside : Bool) (items : Judged trees.Items) (tokens : List Token) → at_end nesting tokens ≡ true → judged_items_at_most (suc n) inner nesting inside items tokens ≡ Ok (items, drop 1 tokens)
+items_stop_of : (n : ℕ) (inner : List Token → Read DraftItems) (nesting : Nesting) (inside : Bool) (items : Judged trees.Items) (tokens : List Token) → at_end nesting tokens ≡ true → judged_items_at_most (suc n) inner nesting inside items tokens ≡ Ok (items, drop 1 tokens)
 unfolding judged_items_at_most
 items_stop_of n inner nesting inside items tokens e = rw e refl
 
 -- the end
-pub items-stop : (inner : List Token → Read Items) (nesting : Nesting) (inside : Bool) (items : Judged trees.Items) (tokens : List Token) → at_end nesting tokens ≡ true → judged_items_at_most (length tokens + 1) inner nesting inside items tokens ≡ Ok (items, drop 1 tokens)
+pub items-stop : (inner : List Token → Read DraftItems) (nesting : Nesting) (inside : Bool) (items : Judged trees.Items) (tokens : List Token) → at_end nesting tokens ≡ true → judged_items_at_most (length tokens + 1) inner nesting inside items tokens ≡ Ok (items, drop 1 tokens)
 items-stop inner nesting inside items tokens e = let n : length tokens + 1 ≡ suc (length tokens) = omega arith in rw n (items_stop_of (length tokens) inner nesting inside items tokens e)
 
 -- a further item was read
-pub record ItemRead (inner : List Token → Read Items) (nesting : Nesting) (inside : Bool) (items : Judged trees.Items) (tokens : List Token) (found : Judged trees.Item) (rest : List Token) : Type 0 where
+pub record ItemRead (inner : List Token → Read DraftItems) (nesting : Nesting) (inside : Bool) (items : Judged trees.Items) (tokens : List Token) (found : Judged trees.Item) (rest : List Token) : Type 0 where
   pub same : judged_items_at_most (length tokens + 1) inner nesting inside items tokens ≡ judged_items_at_most (length rest + 1) inner nesting inside (with_item items found) rest
   pub shorter : length rest < length tokens
 
-item_read_of : (n : ℕ) (inner : List Token → Read Items) → InnerLeaves inner → (nesting : Nesting) (inside : Bool) (items : Judged trees.Items) (tokens : List Token) (draft : Item) (found : Judged trees.Item) (rest : List Token) → n ≡ length tokens → at_end nesting tokens ≡ false → item inner nesting (drop 1 tokens) ≡ Ok (draft, rest) → judged_item inside draft ≡ found → judged_items_at_most (suc n) inner nesting inside items tokens ≡ judged_items_at_most (length rest + 1) inner nesting inside (with_item items found) rest
+item_read_of : (n : ℕ) (inner : List Token → Read DraftItems) → InnerLeaves inner → (nesting : Nesting) (inside : Bool) (items : Judged trees.Items) (tokens : List Token) (draft : DraftItem) (found : Judged trees.Item) (rest : List Token) → n ≡ length tokens → at_end nesting tokens ≡ false → item inner nesting (drop 1 tokens) ≡ Ok (draft, rest) → judged_item inside draft ≡ found → judged_items_at_most (suc n) inner nesting inside items tokens ≡ judged_items_at_most (length rest + 1) inner nesting inside (with_item items found) rest
 unfolding judged_items_at_most
 item_read_of n inner h nesting inside items tokens draft found rest l e is g =
     let left = (item-leaves inner h nesting (drop 1 tokens)).left draft rest is in
     rw (e, is) (items_enough n (length rest + 1) inner h nesting inside (with_item items (judged_item inside draft)) rest (omega (arith, left, length-drop 1 tokens, not_at_end nesting tokens e)) (omega arith) ∙ ap (λ (j : Judged trees.Item). judged_items_at_most (length rest + 1) inner nesting inside (with_item items j) rest) g)
 
-pub item-read : (inner : List Token → Read Items) → InnerLeaves inner → (nesting : Nesting) (inside : Bool) (items : Judged trees.Items) (tokens : List Token) (found : Judged trees.Item) (rest : List Token) → at_end nesting tokens ≡ false → giving (judged_item inside) (item inner nesting (drop 1 tokens)) ≡ Ok (found, rest) → ItemRead inner nesting inside items tokens found rest
+pub item-read : (inner : List Token → Read DraftItems) → InnerLeaves inner → (nesting : Nesting) (inside : Bool) (items : Judged trees.Items) (tokens : List Token) (found : Judged trees.Item) (rest : List Token) → at_end nesting tokens ≡ false → giving (judged_item inside) (item inner nesting (drop 1 tokens)) ≡ Ok (found, rest) → ItemRead inner nesting inside items tokens found rest
 item-read inner h nesting inside items tokens found rest e g =
     let f = giving-ok (judged_item inside) (item inner nesting (drop 1 tokens)) found rest g in
     let left = (item-leaves inner h nesting (drop 1 tokens)).left f.x rest f.is in
@@ -401,11 +401,11 @@ item-read inner h nesting inside items tokens found rest e g =
       shorter = omega (arith, left, length-drop 1 tokens, not_at_end nesting tokens e);
     }
 
-items_err : (n : ℕ) (inner : List Token → Read Items) (nesting : Nesting) (inside : Bool) (items : Judged trees.Items) (tokens : List Token) (cause : SelectorError) → at_end nesting tokens ≡ false → item inner nesting (drop 1 tokens) ≡ Err cause → judged_items_at_most (suc n) inner nesting inside items tokens ≡ Err cause
+items_err : (n : ℕ) (inner : List Token → Read DraftItems) (nesting : Nesting) (inside : Bool) (items : Judged trees.Items) (tokens : List Token) (cause : SelectorError) → at_end nesting tokens ≡ false → item inner nesting (drop 1 tokens) ≡ Err cause → judged_items_at_most (suc n) inner nesting inside items tokens ≡ Err cause
 unfolding judged_items_at_most
 items_err n inner nesting inside items tokens cause e is = rw (e, is) refl
 
-pub items-fail : (inner : List Token → Read Items) (nesting : Nesting) (inside : Bool) (items : Judged trees.Items) (tokens : List Token) (cause : SelectorError) → at_end nesting tokens ≡ false → FailsUnlessMemory cause (giving (judged_item inside) (item inner nesting (drop 1 tokens))) → FailsUnlessMemory cause (judged_items_at_most (length tokens + 1) inner nesting inside items tokens)
+pub items-fail : (inner : List Token → Read DraftItems) (nesting : Nesting) (inside : Bool) (items : Judged trees.Items) (tokens : List Token) (cause : SelectorError) → at_end nesting tokens ≡ false → FailsUnlessMemory cause (giving (judged_item inside) (item inner nesting (drop 1 tokens))) → FailsUnlessMemory cause (judged_items_at_most (length tokens + 1) inner nesting inside items tokens)
 items-fail inner nesting inside items tokens cause e h =
     let n : length tokens + 1 ≡ suc (length tokens) = omega arith in
     rw n (fails-along cause (giving (judged_item inside) (item inner nesting (drop 1 tokens))) (judged_items_at_most (suc (length tokens)) inner nesting inside items tokens) (λ is. items_err (length tokens) inner nesting inside items tokens cause e (giving-err (judged_item inside) (item inner nesting (drop 1 tokens)) cause is)) h)
@@ -417,12 +417,12 @@ unfolding inner_list
 inner_list-opens zero tokens h = absurd (h refl)
 inner_list-opens (suc room) tokens h = let e : suc room - 1 ≡ room = omega arith in rw e refl
 
-logical_of : (combination : LogicalCombination) (draft : Items) (found : Judged trees.Items) → judged true draft ≡ found → judged_part (Logical combination draft) ≡ (found >>= λ items. Ok (combination_part combination items))
+logical_of : (combination : LogicalCombination) (draft : DraftItems) (found : Judged trees.Items) → judged true draft ≡ found → judged_part (Logical combination draft) ≡ (found >>= λ items. Ok (combination_part combination items))
 unfolding judged_part judged
 logical_of combination draft found e = rw e refl
 
 -- the list of a logical combination was read
-pub logical-read : (combination : LogicalCombination) (read : Read Items) (found : Judged trees.Items) (rest : List Token) → giving (judged true) read ≡ Ok (found, rest) → giving judged_part (giving (λ items. Logical combination items) read) ≡ Ok ((found >>= λ items. Ok (combination_part combination items)), rest)
+pub logical-read : (combination : LogicalCombination) (read : Read DraftItems) (found : Judged trees.Items) (rest : List Token) → giving (judged true) read ≡ Ok (found, rest) → giving judged_part (giving (λ items. Logical combination items) read) ≡ Ok ((found >>= λ items. Ok (combination_part combination items)), rest)
 logical-read combination read found rest e =
     let f = giving-ok (judged true) read found rest e in
     rw f.is (ap (λ (j : Judged trees.Part). Ok (j, rest)) (logical_of combination f.x found f.gives))
@@ -430,33 +430,33 @@ logical-read combination read found rest e =
 giving_err : {A B : Type 0} (f : A → B) (read : Read A) (cause : SelectorError) → read ≡ Err cause → giving f read ≡ Err cause
 giving_err f read cause e = rw e refl
 
-pub logical-fails : (combination : LogicalCombination) (read : Read Items) (cause : SelectorError) → FailsUnlessMemory cause (giving (judged true) read) → FailsUnlessMemory cause (giving judged_part (giving (λ items. Logical combination items) read))
+pub logical-fails : (combination : LogicalCombination) (read : Read DraftItems) (cause : SelectorError) → FailsUnlessMemory cause (giving (judged true) read) → FailsUnlessMemory cause (giving judged_part (giving (λ items. Logical combination items) read))
 logical-fails combination read cause h =
     fails-along cause (giving (judged true) read) (giving judged_part (giving (λ items. Logical combination items) read)) (λ e. giving_err judged_part (giving (λ items. Logical combination items) read) cause (giving_err (λ items. Logical combination items) read cause (giving-err (judged true) read cause e))) h
 
 -- ---- what the code's answers cite
 
-pub not_empty-fails : (empty : SelectorError) (read : Read (Judged trees.Compound)) (cause : SelectorError) → FailsUnlessMemory cause read → FailsUnlessMemory cause (not_empty empty read)
+pub not_empty-fails : (empty : SelectorError) (read : Read (Judged trees.WrittenCompound)) (cause : SelectorError) → FailsUnlessMemory cause read → FailsUnlessMemory cause (not_empty empty read)
 not_empty-fails empty read cause h = then-fails cause read (λ x. cond (is_empty x.0) (Err empty) (Ok x)) h
 
-pub not_empty-refused : (empty : SelectorError) (read : Read (Judged trees.Compound)) (parts : Judged trees.Compound) (rest : List Token) → read ≡ Ok (parts, rest) → is_empty parts ≡ true → not_empty empty read ≡ Err empty
+pub not_empty-refused : (empty : SelectorError) (read : Read (Judged trees.WrittenCompound)) (parts : Judged trees.WrittenCompound) (rest : List Token) → read ≡ Ok (parts, rest) → is_empty parts ≡ true → not_empty empty read ≡ Err empty
 not_empty-refused empty read parts rest e h = rw (e, h) refl
 
-pub not_empty-kept : (empty : SelectorError) (read : Read (Judged trees.Compound)) (parts : Judged trees.Compound) (rest : List Token) → read ≡ Ok (parts, rest) → is_empty parts ≡ false → not_empty empty read ≡ Ok (parts, rest)
+pub not_empty-kept : (empty : SelectorError) (read : Read (Judged trees.WrittenCompound)) (parts : Judged trees.WrittenCompound) (rest : List Token) → read ≡ Ok (parts, rest) → is_empty parts ≡ false → not_empty empty read ≡ Ok (parts, rest)
 not_empty-kept empty read parts rest e h = rw (e, h) refl
 
-part_pseudo_err : (inner : List Token → Read Items) (nesting : Nesting) (rest : List Token) (cause : SelectorError) → pseudo inner nesting rest ≡ Err cause → giving (option_map judged_part) (part inner nesting (Delim (byte ":") ∷ rest)) ≡ Err cause
+part_pseudo_err : (inner : List Token → Read DraftItems) (nesting : Nesting) (rest : List Token) (cause : SelectorError) → pseudo inner nesting rest ≡ Err cause → giving (option_map judged_part) (part inner nesting (Delim (byte ":") ∷ rest)) ≡ Err cause
 unfolding part
 part_pseudo_err inner nesting rest cause e = rw e refl
 
-pub part-pseudo-fails : (inner : List Token → Read Items) (nesting : Nesting) (tokens rest : List Token) (cause : SelectorError) → tokens ≡ Delim (byte ":") ∷ rest → FailsUnlessMemory cause (giving judged_part (pseudo inner nesting rest)) → FailsUnlessMemory cause (giving (option_map judged_part) (part inner nesting tokens))
+pub part-pseudo-fails : (inner : List Token → Read DraftItems) (nesting : Nesting) (tokens rest : List Token) (cause : SelectorError) → tokens ≡ Delim (byte ":") ∷ rest → FailsUnlessMemory cause (giving judged_part (pseudo inner nesting rest)) → FailsUnlessMemory cause (giving (option_map judged_part) (part inner nesting tokens))
 part-pseudo-fails inner nesting tokens rest cause e h =
     rw e (fails-along cause (giving judged_part (pseudo inner nesting rest)) (giving (option_map judged_part) (part inner nesting (Delim (byte ":") ∷ rest))) (λ is. part_pseudo_err inner nesting rest cause (giving-err judged_part (pseudo inner nesting rest) cause is)) h)
 
-part_class_err : (inner : List Token → Read Items) (nesting : Nesting) (rest : List Token) (cause : SelectorError) → class_name nesting rest ≡ Err cause → giving (option_map judged_part) (part inner nesting (Delim (byte ".") ∷ rest)) ≡ Err cause
+part_class_err : (inner : List Token → Read DraftItems) (nesting : Nesting) (rest : List Token) (cause : SelectorError) → class_name nesting rest ≡ Err cause → giving (option_map judged_part) (part inner nesting (Delim (byte ".") ∷ rest)) ≡ Err cause
 unfolding part
 part_class_err inner nesting rest cause e = rw e refl
 
-pub part-class-fails : (inner : List Token → Read Items) (nesting : Nesting) (tokens rest : List Token) (cause : SelectorError) → tokens ≡ Delim (byte ".") ∷ rest → FailsUnlessMemory cause (giving (λ part. trees.Plain part) (class_name nesting rest)) → FailsUnlessMemory cause (giving (option_map judged_part) (part inner nesting tokens))
+pub part-class-fails : (inner : List Token → Read DraftItems) (nesting : Nesting) (tokens rest : List Token) (cause : SelectorError) → tokens ≡ Delim (byte ".") ∷ rest → FailsUnlessMemory cause (giving (λ part. trees.Plain part) (class_name nesting rest)) → FailsUnlessMemory cause (giving (option_map judged_part) (part inner nesting tokens))
 part-class-fails inner nesting tokens rest cause e h =
     rw e (fails-along cause (giving (λ part. trees.Plain part) (class_name nesting rest)) (giving (option_map judged_part) (part inner nesting (Delim (byte ".") ∷ rest))) (λ is. part_class_err inner nesting rest cause (giving-err (λ part. trees.Plain part) (class_name nesting rest) cause is)) h)

@@ -5,7 +5,7 @@ use Rattle.std.specs.Str.{byte}
 use Rattle.lol_css.specs.Points.{first_passes, is, decimal}
 use Rattle.lol_css.specs.Tokens.{Token, Numeral, sign_of, Space, Quoted, BadString, Hash, Number, Dimension, Percentage, Cdc, Function, Ident, Match, Delim}
 use Rattle.lol_css.specs.Trees.{Simple, LocalName, AnyName, Id, Class, Exists, Compares, Nth}
-use Rattle.lol_css.specs.Drafts.{By, Part, Plain, LatePseudoClass, LateNamespace, Logical, Compound, Nothing, With, Item, First, Then, Items, NoItems, And}
+use Rattle.lol_css.specs.Drafts.{By, DraftPart, Plain, LatePseudoClass, LateNamespace, Logical, DraftCompound, Nothing, With, DraftItem, First, Then, DraftItems, NoItems, And}
 use Rattle.lol_css.specs.Rules.{Read, ◌>>=◌, giving, keeping, is_delim, is_space, skip_space, Nesting, InFunction, InBrackets, closes, at_end, at_stop, required_token, block_end, says, lowercase, ident_of}
 use Rattle.lol_css.specs.AnPlusB.{with_sign, integer_value, unsigned_integer, in_i32, bounded_integer, digits_of_b, after_n, is_n_and_digits, rest_of, with_step, integer, an_plus_b_of_dimension, an_plus_b_of, an_plus_b}
 use Rattle.lol_css.specs.Reading.{utf8, combination_named, name_after_bar, bar_of, attribute_name, operator_of, value_of, flag_of, default_case_sensitivity, case_sensitivity, comparison, attribute, class_name, is_one_of, function_part, ident_part, pseudo, some, part, parts_at_most, more_parts, after_bar, any_namespace, no_namespace, type_part, is_nothing, compound, step_of, step, next_step, further, item, items_at_most, list, inner_list}
@@ -267,14 +267,14 @@ function_part-leaves name tokens =
     (giving_leaves (λ nth. LatePseudoClass) (an_plus_b tokens) n (an_plus_b-leaves tokens)) (err_leaves errors.UnsupportedPseudoClassOrElement n)))
 
 -- the list of a logical combination leaves no more than it is given
-pub record InnerLeaves (inner : List Token → Read Items) : Type 0 where
+pub record InnerLeaves (inner : List Token → Read DraftItems) : Type 0 where
   pub each : (tokens : List Token) → Leaves (inner tokens) (length tokens)
 
 refused_leaves : {A : Type 0} (b : Bool) (n : ℕ) → Leaves {A = A} (cond b (Err errors.UnexpectedEnd) (Err errors.UnsupportedPseudoClassOrElement)) n
 refused_leaves true n = err_leaves errors.UnexpectedEnd n
 refused_leaves false n = err_leaves errors.UnsupportedPseudoClassOrElement n
 
-pseudo_of-leaves : (inner : List Token → Read Items) → InnerLeaves inner → (nesting : Nesting) (token : Token) (tokens : List Token) → Leaves (elim token [
+pseudo_of-leaves : (inner : List Token → Read DraftItems) → InnerLeaves inner → (nesting : Nesting) (token : Token) (tokens : List Token) → Leaves (elim token [
   | Ident name ↦ keeping (ident_part name) tokens
   | Function name ↦ elim (combination_named name) [
     | None ↦ function_part name tokens
@@ -299,26 +299,26 @@ pseudo_of-leaves inner h nesting Percentage tokens = err_leaves errors.Unsupport
 pseudo_of-leaves inner h nesting Cdc tokens = err_leaves errors.UnsupportedPseudoClassOrElement (length (Cdc ∷ tokens))
 pseudo_of-leaves inner h nesting (Match c) tokens = err_leaves errors.UnsupportedPseudoClassOrElement (length (Match c ∷ tokens))
 
-pseudo-leaves : (inner : List Token → Read Items) → InnerLeaves inner → (nesting : Nesting) (tokens : List Token) → Leaves (pseudo inner nesting tokens) (length tokens)
+pseudo-leaves : (inner : List Token → Read DraftItems) → InnerLeaves inner → (nesting : Nesting) (tokens : List Token) → Leaves (pseudo inner nesting tokens) (length tokens)
 unfolding pseudo
 pseudo-leaves inner h nesting [] = err_leaves errors.UnexpectedEnd 0
 pseudo-leaves inner h nesting (token ∷ tokens) =
     if_leaves (at_stop nesting (token ∷ tokens)) (Err errors.UnexpectedEnd) _ (length (token ∷ tokens)) (err_leaves errors.UnexpectedEnd (length (token ∷ tokens))) (pseudo_of-leaves inner h nesting token tokens)
 
 -- where a part was read, a token was
-pub record Takes (read : Read (Option Part)) (n : ℕ) : Type 0 where
+pub record Takes (read : Read (Option DraftPart)) (n : ℕ) : Type 0 where
   pub all : (rest : List Token) → read ≡ Ok (None, rest) → length rest ≤ n
-  pub taken : (found : Part) (rest : List Token) → read ≡ Ok (Some found, rest) → length rest < n
+  pub taken : (found : DraftPart) (rest : List Token) → read ≡ Ok (Some found, rest) → length rest < n
 
 nothing_takes : (tokens : List Token) → Takes (Ok (None, tokens)) (length tokens)
 nothing_takes tokens = record {
-  all = λ rest e. let l = (ok_leaves {A = Option Part} None tokens (length tokens) (omega arith)).left None rest e in l;
+  all = λ rest e. let l = (ok_leaves {A = Option DraftPart} None tokens (length tokens) (omega arith)).left None rest e in l;
   taken = λ found rest e.
-      let nothing : Option Part = None in
-      let p : Option Part × List Token = (nothing, tokens) in
-      let q : Option Part × List Token = (Some found, rest) in
+      let nothing : Option DraftPart = None in
+      let p : Option DraftPart × List Token = (nothing, tokens) in
+      let q : Option DraftPart × List Token = (Some found, rest) in
       let same : p ≡ q = ok_same p q e in
-      let s : nothing ≡ Some found = ap (λ (t : Option Part × List Token). t.0) same in
+      let s : nothing ≡ Some found = ap (λ (t : Option DraftPart × List Token). t.0) same in
       absurd cc;
 }
 
@@ -326,17 +326,17 @@ err_takes : (cause : SelectorError) (n : ℕ) → Takes (Err cause) n
 err_takes cause n = record { all = λ rest e. absurd cc; taken = λ found rest e. absurd cc }
 
 -- after a token
-some_takes : {A : Type 0} (f : A → Part) (read : Read A) (token : Token) (tokens : List Token) → Leaves read (length tokens) → Takes (giving (λ found. some (f found)) read) (length (token ∷ tokens))
+some_takes : {A : Type 0} (f : A → DraftPart) (read : Read A) (token : Token) (tokens : List Token) → Leaves read (length tokens) → Takes (giving (λ found. some (f found)) read) (length (token ∷ tokens))
 some_takes f read token tokens l = record {
   all = λ rest e. omega (arith, (giving_leaves (λ found. some (f found)) read (length tokens) l).left None rest e);
   taken = λ found rest e. omega (arith, (giving_leaves (λ x. some (f x)) read (length tokens) l).left (some found) rest e);
 }
 
-if_takes : (b : Bool) (l r : Read (Option Part)) (n : ℕ) → Takes l n → Takes r n → Takes (cond b l r) n
+if_takes : (b : Bool) (l r : Read (Option DraftPart)) (n : ℕ) → Takes l n → Takes r n → Takes (cond b l r) n
 if_takes true l r n p q = p
 if_takes false l r n p q = q
 
-pub part-takes : (inner : List Token → Read Items) → InnerLeaves inner → (nesting : Nesting) (tokens : List Token) → Takes (part inner nesting tokens) (length tokens)
+pub part-takes : (inner : List Token → Read DraftItems) → InnerLeaves inner → (nesting : Nesting) (tokens : List Token) → Takes (part inner nesting tokens) (length tokens)
 unfolding part
 part-takes inner h nesting [] = nothing_takes []
 part-takes inner h nesting (Hash name is_id ∷ tokens) =
@@ -348,9 +348,9 @@ part-takes inner h nesting (Delim c ∷ tokens) =
     if_takes (eqb c (byte ".")) (giving (λ found. some (Plain found)) (class_name nesting tokens)) (cond (eqb c (byte "[")) (giving some (attribute tokens)) (cond (eqb c (byte ":")) (giving some (pseudo inner nesting tokens)) (Ok (None, Delim c ∷ tokens)))) n
     (some_takes (λ (s : Simple). Plain s) (class_name nesting tokens) (Delim c) tokens (class_name-leaves nesting tokens))
     (if_takes (eqb c (byte "[")) (giving some (attribute tokens)) (cond (eqb c (byte ":")) (giving some (pseudo inner nesting tokens)) (Ok (None, Delim c ∷ tokens))) n
-    (some_takes (λ (p : Part). p) (attribute tokens) (Delim c) tokens (attribute-leaves tokens))
+    (some_takes (λ (p : DraftPart). p) (attribute tokens) (Delim c) tokens (attribute-leaves tokens))
     (if_takes (eqb c (byte ":")) (giving some (pseudo inner nesting tokens)) (Ok (None, Delim c ∷ tokens)) n
-    (some_takes (λ (p : Part). p) (pseudo inner nesting tokens) (Delim c) tokens (pseudo-leaves inner h nesting tokens)) (nothing_takes (Delim c ∷ tokens))))
+    (some_takes (λ (p : DraftPart). p) (pseudo inner nesting tokens) (Delim c) tokens (pseudo-leaves inner h nesting tokens)) (nothing_takes (Delim c ∷ tokens))))
 part-takes inner h nesting (Space ∷ tokens) = nothing_takes (Space ∷ tokens)
 part-takes inner h nesting (Quoted text ∷ tokens) = nothing_takes (Quoted text ∷ tokens)
 part-takes inner h nesting (BadString ∷ tokens) = nothing_takes (BadString ∷ tokens)
@@ -365,14 +365,14 @@ part-takes inner h nesting (Match c ∷ tokens) = nothing_takes (Match c ∷ tok
 -- ---- compounds, items and lists
 
 -- a part that may be there
-part_leaves : (read : Read (Option Part)) (n : ℕ) → Takes read n → Leaves read n
+part_leaves : (read : Read (Option DraftPart)) (n : ℕ) → Takes read n → Leaves read n
 part_leaves read n t = record { left = λ x rest e. cases x rest e }
   where
-    cases : (x : Option Part) (rest : List Token) → read ≡ Ok (x, rest) → length rest ≤ n
+    cases : (x : Option DraftPart) (rest : List Token) → read ≡ Ok (x, rest) → length rest ≤ n
     cases None rest e = t.all rest e
     cases (Some found) rest e = omega (arith, t.taken found rest e)
 
-parts-leaves : (n : ℕ) (inner : List Token → Read Items) → InnerLeaves inner → (nesting : Nesting) (parts : Compound) (tokens : List Token) → Leaves (parts_at_most n inner nesting parts tokens) (length tokens)
+parts-leaves : (n : ℕ) (inner : List Token → Read DraftItems) → InnerLeaves inner → (nesting : Nesting) (parts : DraftCompound) (tokens : List Token) → Leaves (parts_at_most n inner nesting parts tokens) (length tokens)
 unfolding parts_at_most
 parts-leaves zero inner h nesting parts tokens = same_leaves parts tokens
 parts-leaves (suc n) inner h nesting parts tokens =
@@ -432,7 +432,7 @@ type_part-leaves nesting (Cdc ∷ tokens) = same_leaves (Some Nothing) (Cdc ∷ 
 type_part-leaves nesting (Function name ∷ tokens) = same_leaves (Some Nothing) (Function name ∷ tokens)
 type_part-leaves nesting (Match c ∷ tokens) = same_leaves (Some Nothing) (Match c ∷ tokens)
 
-compound-leaves : (inner : List Token → Read Items) → InnerLeaves inner → (nesting : Nesting) (empty : SelectorError) (tokens : List Token) → Leaves (compound inner nesting empty tokens) (length tokens)
+compound-leaves : (inner : List Token → Read DraftItems) → InnerLeaves inner → (nesting : Nesting) (empty : SelectorError) (tokens : List Token) → Leaves (compound inner nesting empty tokens) (length tokens)
 unfolding compound
 compound-leaves inner h nesting empty tokens =
     let n = length tokens in
@@ -461,7 +461,7 @@ next_step-leaves nesting tokens =
     (ok_leaves None (skip_space tokens) n (skip_space-shorter tokens))
     (giving_leaves (λ found. Some found) (step (first_passes is_space tokens) (skip_space tokens)) n (weaker (step (first_passes is_space tokens) (skip_space tokens)) (length (skip_space tokens)) n (step-token-leaves (first_passes is_space tokens) (skip_space tokens)) (skip_space-shorter tokens)))
 
-further-leaves : (room : ℕ) (inner : List Token → Read Items) → InnerLeaves inner → (nesting : Nesting) (front : Item) (tokens : List Token) → Leaves (further room inner nesting front tokens) (length tokens)
+further-leaves : (room : ℕ) (inner : List Token → Read DraftItems) → InnerLeaves inner → (nesting : Nesting) (front : DraftItem) (tokens : List Token) → Leaves (further room inner nesting front tokens) (length tokens)
 unfolding further
 further-leaves zero inner h nesting front tokens =
     let n = length tokens in
@@ -474,7 +474,7 @@ further-leaves (suc room) inner h nesting front tokens =
     (λ step. then_leaves (compound inner nesting errors.DanglingCombinator rest) (λ next. further room inner nesting (Then front step next.0) next.1) n n (weaker (compound inner nesting errors.DanglingCombinator rest) (length rest) n (compound-leaves inner h nesting errors.DanglingCombinator rest) l)
     (λ next rest2 l2. weaker (further room inner nesting (Then front step next) rest2) (length rest2) n (further-leaves room inner h nesting (Then front step next) rest2) l2)))
 
-pub item-leaves : (inner : List Token → Read Items) → InnerLeaves inner → (nesting : Nesting) (tokens : List Token) → Leaves (item inner nesting tokens) (length tokens)
+pub item-leaves : (inner : List Token → Read DraftItems) → InnerLeaves inner → (nesting : Nesting) (tokens : List Token) → Leaves (item inner nesting tokens) (length tokens)
 unfolding item
 item-leaves inner h nesting tokens =
     let n = length tokens in
@@ -482,7 +482,7 @@ item-leaves inner h nesting tokens =
     (weaker (compound inner nesting errors.EmptySelector (skip_space tokens)) (length (skip_space tokens)) n (compound-leaves inner h nesting errors.EmptySelector (skip_space tokens)) (skip_space-shorter tokens))
     (λ first rest l. weaker (further 1023 inner nesting (First first) rest) (length rest) n (further-leaves 1023 inner h nesting (First first) rest) l)
 
-items-leaves : (n : ℕ) (inner : List Token → Read Items) → InnerLeaves inner → (nesting : Nesting) (items : Items) (tokens : List Token) → Leaves (items_at_most n inner nesting items tokens) (length tokens)
+items-leaves : (n : ℕ) (inner : List Token → Read DraftItems) → InnerLeaves inner → (nesting : Nesting) (items : DraftItems) (tokens : List Token) → Leaves (items_at_most n inner nesting items tokens) (length tokens)
 unfolding items_at_most
 items-leaves zero inner h nesting items tokens = same_leaves items tokens
 items-leaves (suc m) inner h nesting items tokens =
@@ -493,7 +493,7 @@ items-leaves (suc m) inner h nesting items tokens =
     (weaker (item inner nesting (drop 1 tokens)) (length (drop 1 tokens)) n (item-leaves inner h nesting (drop 1 tokens)) (omega (arith, length-drop 1 tokens)))
     (λ x rest l. weaker (items_at_most m inner nesting (And items x) rest) (length rest) n (items-leaves m inner h nesting (And items x) rest) l))
 
-list-leaves : (inner : List Token → Read Items) → InnerLeaves inner → (nesting : Nesting) (tokens : List Token) → Leaves (list inner nesting tokens) (length tokens)
+list-leaves : (inner : List Token → Read DraftItems) → InnerLeaves inner → (nesting : Nesting) (tokens : List Token) → Leaves (list inner nesting tokens) (length tokens)
 unfolding list
 list-leaves inner h nesting tokens =
     let n = length tokens in

@@ -1,11 +1,11 @@
--- One token after the other, and one piece of a string after the other.
+-- One token after the other, and first_that piece of a string after the other.
 use Rattle.std.proofs.Common.{◌≡◌, ℕ, zero, suc, ◌+◌, ◌-◌, ◌<◌, ◌≤◌, Bool, true, false, cond, eqb, ◌&&◌, ◌||◌, List, [], ◌∷◌, ◌++◌, length, drop, Option, Some, None, refl, sym, ap, ◌∙◌, arith, append_assoc, length-drop}
 use Rattle.std.proofs.lemmas.List.{append-nil}
 use Rattle.std.proofs.lemmas.Bool.{eqb-true}
 use Rattle.std.proofs.lemmas.Str.{encodes-append}
 use Rattle.std.specs.Str.{encode_utf8_all}
 use Rattle.std.specs.Option.{option_map}
-use Rattle.lol_css.specs.Points.{is, first_passes, past, many, one, ◌or◌, is_decimal, is_sign, is_in_name, is_name_start, is_newline, is_white_space, begins_escape, begins_name, starts_identifier, starts_number, escaped_point, name, name_point}
+use Rattle.lol_css.specs.Points.{is, first_passes, past, many, first_that, ◌or◌, is_decimal, is_sign, is_in_name, is_name_start, is_newline, is_white_space, begins_escape, begins_name, starts_identifier, starts_number, escaped_point, name, name_point}
 use Rattle.std.specs.Str.{byte}
 use Rattle.lol_css.specs.declared.syntax.tokens.MatchOperator.{MatchOperator}
 use Rattle.lol_css.specs.Tokens.{match_operator, Token, Space, Quoted, BadString, Hash, Number, Dimension, Percentage, Function, Ident, Match, Delim, Cdc, comment, in_comment, space, string_escape, string_piece, string_text, string_after, string, hash, after_fraction, after_exponent, numeral, number, cdc, identifier, match_sign, delim, next, somes, with_first, tokens_of, concatenation}
@@ -51,8 +51,8 @@ comment_leaves (c ∷ cs) =
     (some_leaves None (drop 2 (many in_comment (drop 1 cs)).1) (length (c ∷ cs)) (omega (arith, length-drop 2 (many in_comment (drop 1 cs)).1, after_many in_comment in_comment-shrinks (drop 1 cs), length-drop 1 cs)))
     (none_leaves (length (c ∷ cs)))
 
-space_leaves_of : (b : Bool) (c : ℕ) (cs : List ℕ) → Leaves (option_map (λ (taken : ℕ × List ℕ). (Some Space, (many (one is_white_space) taken.1).1)) (cond {A = Option (ℕ × List ℕ)} b (Some (c, cs)) None)) (length (c ∷ cs))
-space_leaves_of true c cs = some_leaves (Some Space) (many (one is_white_space) cs).1 (length (c ∷ cs)) (omega (arith, after_many (one is_white_space) (one-shrinks is_white_space) cs))
+space_leaves_of : (b : Bool) (c : ℕ) (cs : List ℕ) → Leaves (option_map (λ (taken : ℕ × List ℕ). (Some Space, (many (first_that is_white_space) taken.1).1)) (cond {A = Option (ℕ × List ℕ)} b (Some (c, cs)) None)) (length (c ∷ cs))
+space_leaves_of true c cs = some_leaves (Some Space) (many (first_that is_white_space) cs).1 (length (c ∷ cs)) (omega (arith, after_many (first_that is_white_space) (one-shrinks is_white_space) cs))
 space_leaves_of false c cs = none_leaves (length (c ∷ cs))
 
 space_leaves : (text : List ℕ) → Leaves (space text) (length text)
@@ -115,8 +115,8 @@ hash_leaves (c ∷ cs) =
 
 -- numbers
 
-after_one-shorter : (p : ℕ → Bool) (text : List ℕ) → length (many (one p) text).1 ≤ length text
-after_one-shorter p text = after_many (one p) (one-shrinks p) text
+after_one-shorter : (p : ℕ → Bool) (text : List ℕ) → length (many (first_that p) text).1 ≤ length text
+after_one-shorter p text = after_many (first_that p) (one-shrinks p) text
 
 if_shorter : (b : Bool) (l r : List ℕ) (n : ℕ) → length l ≤ n → length r ≤ n → length (cond b l r) ≤ n
 if_shorter true l r n p q = p
@@ -125,12 +125,12 @@ if_shorter false l r n p q = q
 after_fraction-shorter : (text : List ℕ) → length (after_fraction text) ≤ length text
 unfolding after_fraction
 after_fraction-shorter text =
-    if_shorter (first_passes (is (byte ".")) text && first_passes is_decimal (drop 1 text)) (many (one is_decimal) (drop 1 text)).1 text (length text) (omega (arith, after_one-shorter is_decimal (drop 1 text), length-drop 1 text)) (omega arith)
+    if_shorter (first_passes (is (byte ".")) text && first_passes is_decimal (drop 1 text)) (many (first_that is_decimal) (drop 1 text)).1 text (length text) (omega (arith, after_one-shorter is_decimal (drop 1 text), length-drop 1 text)) (omega arith)
 
 after_exponent-shorter : (text : List ℕ) → length (after_exponent text) ≤ length text
 unfolding after_exponent
 after_exponent-shorter text =
-    if_shorter (first_passes (λ c. eqb c (byte "E") || eqb c (byte "e")) text && first_passes is_decimal (past is_sign (drop 1 text))) (many (one is_decimal) (past is_sign (drop 1 text))).1 text (length text)
+    if_shorter (first_passes (λ c. eqb c (byte "E") || eqb c (byte "e")) text && first_passes is_decimal (past is_sign (drop 1 text))) (many (first_that is_decimal) (past is_sign (drop 1 text))).1 text (length text)
     (omega (arith, after_one-shorter is_decimal (past is_sign (drop 1 text)), past-shorter is_sign (drop 1 text), length-drop 1 text)) (omega arith)
 
 -- digits, or a point with digits, take something
@@ -138,24 +138,24 @@ point_shrinks : (cs : List ℕ) → first_passes is_decimal cs ≡ true → leng
 unfolding after_fraction
 point_shrinks cs h = rw h (omega (arith, after_one-shorter is_decimal cs))
 
-digits_shrink : (c : ℕ) (cs : List ℕ) → is_decimal c ≡ true → length (many (one is_decimal) (c ∷ cs)).1 < length (c ∷ cs)
+digits_shrink : (c : ℕ) (cs : List ℕ) → is_decimal c ≡ true → length (many (first_that is_decimal) (c ∷ cs)).1 < length (c ∷ cs)
 digits_shrink c cs h =
-    let taken : one is_decimal (c ∷ cs) ≡ Some (c, cs) = rw h refl in
-    rw (many-some (one is_decimal) (one-shrinks is_decimal) (c ∷ cs) c cs taken) (omega (arith, after_one-shorter is_decimal cs))
+    let taken : first_that is_decimal (c ∷ cs) ≡ Some (c, cs) = rw h refl in
+    rw (many-some (first_that is_decimal) (one-shrinks is_decimal) (c ∷ cs) c cs taken) (omega (arith, after_one-shorter is_decimal cs))
 
-unsigned_shrinks_of : (b : Bool) (c : ℕ) (cs : List ℕ) → eqb c (byte ".") ≡ b → first_passes is_decimal (cond b cs (c ∷ cs)) ≡ true → length (after_fraction (many (one is_decimal) (c ∷ cs)).1) < length (c ∷ cs)
+unsigned_shrinks_of : (b : Bool) (c : ℕ) (cs : List ℕ) → eqb c (byte ".") ≡ b → first_passes is_decimal (cond b cs (c ∷ cs)) ≡ true → length (after_fraction (many (first_that is_decimal) (c ∷ cs)).1) < length (c ∷ cs)
 unsigned_shrinks_of true c cs e h =
-    rw (eqb-true c (byte ".") e) (rw (many-none (one is_decimal) (byte "." ∷ cs) refl) (point_shrinks cs h))
-unsigned_shrinks_of false c cs e h = omega (arith, after_fraction-shorter (many (one is_decimal) (c ∷ cs)).1, digits_shrink c cs h)
+    rw (eqb-true c (byte ".") e) (rw (many-none (first_that is_decimal) (byte "." ∷ cs) refl) (point_shrinks cs h))
+unsigned_shrinks_of false c cs e h = omega (arith, after_fraction-shorter (many (first_that is_decimal) (c ∷ cs)).1, digits_shrink c cs h)
 
-unsigned_shrinks : (text : List ℕ) → first_passes is_decimal (past (is (byte ".")) text) ≡ true → length (after_fraction (many (one is_decimal) text).1) < length text
+unsigned_shrinks : (text : List ℕ) → first_passes is_decimal (past (is (byte ".")) text) ≡ true → length (after_fraction (many (first_that is_decimal) text).1) < length text
 unsigned_shrinks [] h = absurd cc
 unsigned_shrinks (c ∷ cs) h = unsigned_shrinks_of (eqb c (byte ".")) c cs refl h
 
 numeral_shrinks : (text : List ℕ) → starts_number text ≡ true → length (numeral text).1 < length text
 unfolding numeral
 numeral_shrinks text h =
-    omega (arith, unsigned_shrinks (past is_sign text) h, past-shorter is_sign text, after_exponent-shorter (after_fraction (many (one is_decimal) (past is_sign text)).1))
+    omega (arith, unsigned_shrinks (past is_sign text) h, past-shorter is_sign text, after_exponent-shorter (after_fraction (many (first_that is_decimal) (past is_sign text)).1))
 
 number_leaves : (text : List ℕ) → Leaves (number text) (length text)
 unfolding number
@@ -246,7 +246,7 @@ next_shorter text =
 pub next-shrinks : Shrinks next
 next-shrinks = record { shorter = next_shorter }
 
--- ---- one round
+-- ---- first_that round
 
 -- what stands first, and the tokens of what is left
 pub tokens-goes_on : (text : List ℕ) (found : Option Token) (rest : List ℕ) → next text ≡ Some (found, rest) → tokens_of text ≡ with_first found (tokens_of rest)

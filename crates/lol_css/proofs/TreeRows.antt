@@ -15,7 +15,7 @@ use Rattle.lol_css.specs.TreeLaws.{list_of-roll, list_of-out, item_of-roll, item
 
 -- ---- one more at the end
 
-pub with_part_list-push : (front : trees.Compound) (parts : List SimpleSelector) (last : SimpleSelector) → with_part_list front (parts ++ last ∷ []) ≡ trees.With (with_part_list front parts) (part_of last)
+pub with_part_list-push : (front : trees.WrittenCompound) (parts : List SimpleSelector) (last : SimpleSelector) → with_part_list front (parts ++ last ∷ []) ≡ trees.With (with_part_list front parts) (part_of last)
 with_part_list-push front [] last = refl
 with_part_list-push front (part ∷ parts) last = with_part_list-push (trees.With front (part_of part)) parts last
 
@@ -52,7 +52,7 @@ list-none v e = list_of-roll v ∙ ap (λ (items : List ComplexSelector). with_i
 
 pub ruleset row_starts = (item-alone, list-none)
 
-not_nothing : (front : trees.Compound) (part : trees.Part) (parts : List SimpleSelector) → is_empty (Ok (with_part_list (trees.With front part) parts)) ≡ false
+not_nothing : (front : trees.WrittenCompound) (part : trees.Part) (parts : List SimpleSelector) → is_empty (Ok (with_part_list (trees.With front part) parts)) ≡ false
 not_nothing front part [] = refl
 not_nothing front part (next ∷ parts) = not_nothing (trees.With front part) (part_of next) parts
 

@@ -3,7 +3,7 @@ use Rattle.std.specs.Prelude.{ℕ, Bool, true, false, List, Result, Ok, Err}
 use Rattle.std.specs.Str.{chars, byte}
 use Rattle.lol_css.specs.Tokens.{tokens}
 use Rattle.lol_css.specs.Trees as trees
-use Rattle.lol_css.specs.Drafts.{Step, By, NextSibling, SubsequentSibling, Part, Plain, LatePseudoClass, LateNamespace, Logical, Compound, Nothing, With, Item, First, Then, Items, NoItems, And}
+use Rattle.lol_css.specs.Drafts.{Step, By, NextSibling, SubsequentSibling, DraftPart, Plain, LatePseudoClass, LateNamespace, Logical, DraftCompound, Nothing, With, DraftItem, First, Then, DraftItems, NoItems, And}
 use Rattle.lol_css.specs.Rules.{◌>>=◌}
 use Rattle.lol_css.specs.Reading.{selector}
 use Rattle.lol_css.specs.declared.selector.Combinator.{Combinator}
@@ -28,20 +28,20 @@ combination_part combinations.Is items = trees.Is items
 combination_part combinations.Where items = trees.Where items
 
 unfoldable mutual
-  pub judged_part : Part → Result trees.Part SelectorError
+  pub judged_part : DraftPart → Result trees.Part SelectorError
   judged_part (Plain part) = Ok (trees.Plain part)
   judged_part LatePseudoClass = Err UnsupportedPseudoClassOrElement
   judged_part LateNamespace = Err NamespacedSelector
   judged_part (Logical combination items) = judged true items >>= λ inner. Ok (combination_part combination inner)
 
-  pub judged_compound : Compound → Result trees.Compound SelectorError
+  pub judged_compound : DraftCompound → Result trees.WrittenCompound SelectorError
   judged_compound Nothing = Ok trees.Nothing
   judged_compound (With front part) = do
     parts ← judged_compound front
     last ← judged_part part
     Ok (trees.With parts last)
 
-  pub judged_item : Bool → Item → Result trees.Item SelectorError
+  pub judged_item : Bool → DraftItem → Result trees.Item SelectorError
   judged_item inside (First compound) = judged_compound compound >>= λ first. Ok (trees.First first)
   judged_item inside (Then front step compound) = do
     last ← judged_compound compound
@@ -49,7 +49,7 @@ unfoldable mutual
     before ← judged_item inside front
     Ok (trees.Then before combinator last)
 
-  pub judged : Bool → Items → Result trees.Items SelectorError
+  pub judged : Bool → DraftItems → Result trees.Items SelectorError
   judged inside NoItems = Ok trees.NoItems
   judged inside (And front item) = do
     items ← judged inside front

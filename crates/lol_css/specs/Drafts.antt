@@ -10,20 +10,20 @@ pub data Step : Type 0 where
   SubsequentSibling : Step  -- `~`
 
 mutual
-  pub data Part : Type 0 where
-    Plain : Simple → Part
-    LatePseudoClass : Part  -- `:root` and its like
-    LateNamespace : Part  -- `[*|a]`
-    Logical : LogicalCombination → Items → Part  -- `:not(..)`, `:is(..)` and `:where(..)`
+  pub data DraftPart : Type 0 where
+    Plain : Simple → DraftPart
+    LatePseudoClass : DraftPart  -- `:root` and its like
+    LateNamespace : DraftPart  -- `[*|a]`
+    Logical : LogicalCombination → DraftItems → DraftPart  -- `:not(..)`, `:is(..)` and `:where(..)`
 
-  pub data Compound : Type 0 where
-    Nothing : Compound
-    With : Compound → Part → Compound
+  pub data DraftCompound : Type 0 where
+    Nothing : DraftCompound
+    With : DraftCompound → DraftPart → DraftCompound
 
-  pub data Item : Type 0 where
-    First : Compound → Item
-    Then : Item → Step → Compound → Item
+  pub data DraftItem : Type 0 where
+    First : DraftCompound → DraftItem
+    Then : DraftItem → Step → DraftCompound → DraftItem
 
-  pub data Items : Type 0 where
-    NoItems : Items
-    And : Items → Item → Items
+  pub data DraftItems : Type 0 where
+    NoItems : DraftItems
+    And : DraftItems → DraftItem → DraftItems

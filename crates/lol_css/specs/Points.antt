@@ -13,7 +13,7 @@ abbrev pub first_passes : {A : Type 0} → (A → Bool) → List A → Bool
 first_passes p [] = false
 first_passes p (x ∷ xs) = p x
 
--- one more place on, where what stands there passes
+-- first_that more place on, where what stands there passes
 abbrev pub past : {A : Type 0} → (A → Bool) → List A → List A
 past p [] = []
 past p (x ∷ xs) = if p x then xs else x ∷ xs
@@ -28,14 +28,14 @@ unfoldable pub at_most : {A B : Type 0} → ℕ → (List B → Option (A × Lis
 at_most zero step text = ([], text)
 at_most (suc n) step text = took (step text) (at_most n step) text
 
--- as often as the step takes something from the front (each time one place at least), and what is left
+-- as often as the step takes something from the front (each time first_that place at least), and what is left
 abbrev pub many : {A B : Type 0} → (List B → Option (A × List B)) → List B → List A × List B
 many step text = at_most (length text) step text
 
--- one that passes
-abbrev pub one : {B : Type 0} → (B → Bool) → List B → Option (B × List B)
-one p [] = None
-one p (x ∷ xs) = if p x then Some (x, xs) else None
+-- first_that that passes
+abbrev pub first_that : {B : Type 0} → (B → Bool) → List B → Option (B × List B)
+first_that p [] = None
+first_that p (x ∷ xs) = if p x then Some (x, xs) else None
 
 -- the first of two that is there
 infixr 4 ◌or◌
@@ -138,7 +138,7 @@ begins_escape (c ∷ cs) = c == byte "\\" && not (first_passes is_newline cs)
 -- a code point of a name, plain or escaped
 unfoldable pub name_point : List ℕ → Option (ℕ × List ℕ)
 name_point text =
-    if first_passes is_in_name text then one is_in_name text
+    if first_passes is_in_name text then first_that is_in_name text
     else (if begins_escape text then Some (escaped_point (drop 1 text)) else None)
 
 -- the longest name, and what is left

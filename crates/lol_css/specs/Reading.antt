@@ -7,7 +7,7 @@ use Rattle.lol_css.specs.Points.{first_passes}
 use Rattle.lol_css.specs.Tokens.{Token, Quoted, Hash, Function, Ident, Match, Delim}
 use Rattle.lol_css.specs.CaselessAttributes.{caseless_attributes}
 use Rattle.lol_css.specs.Trees.{Simple, LocalName, AnyName, NoNamespace, Id, Class, Exists, Compares, Nth}
-use Rattle.lol_css.specs.Drafts.{Step, By, NextSibling, SubsequentSibling, Part, Plain, LatePseudoClass, LateNamespace, Logical, Compound, Nothing, With, Item, First, Then, Items, NoItems, And}
+use Rattle.lol_css.specs.Drafts.{Step, By, NextSibling, SubsequentSibling, DraftPart, Plain, LatePseudoClass, LateNamespace, Logical, DraftCompound, Nothing, With, DraftItem, First, Then, DraftItems, NoItems, And}
 use Rattle.lol_css.specs.Rules.{Read, ◌>>=◌, giving, keeping, is_delim, is_space, skip_space, Nesting, Outside, InFunction, InBrackets, at_end, at_stop, required_token, block_end, lowercase, says, ident_of}
 use Rattle.lol_css.specs.AnPlusB.{an_plus_b}
 use Rattle.lol_css.specs.declared.syntax.tokens.MatchOperator.TheVariants as operators
@@ -92,7 +92,7 @@ comparison name tokens =
       Ok (Compares name operator.0 (utf8 value.0) case.0, case.1))
 
 -- names are kept ASCII-lowercased
-unfoldable pub attribute : List Token → Read Part
+unfoldable pub attribute : List Token → Read DraftPart
 attribute tokens = do
   name ← attribute_name (skip_space tokens)
   part ← comparison (utf8 (lowercase name.0.0)) (skip_space name.1)
@@ -116,7 +116,7 @@ combination_named name =
     else (if says (codes "is") name then Some Is else (if says (codes "where") name then Some Where else None))
 
 -- a pseudo-class with another argument, after its parenthesis
-unfoldable pub function_part : List ℕ → List Token → Read Part
+unfoldable pub function_part : List ℕ → List Token → Read DraftPart
 function_part name tokens =
     if says (codes "nth-child") name then giving (λ nth. Plain (Nth false nth.0 nth.1)) (an_plus_b tokens)
     else (if says (codes "nth-of-type") name then giving (λ nth. Plain (Nth true nth.0 nth.1)) (an_plus_b tokens)
@@ -127,7 +127,7 @@ function_part name tokens =
 abbrev pub late_words : List (List ℕ)
 late_words = codes "last-child" ∷ codes "only-child" ∷ codes "last-of-type" ∷ codes "only-of-type" ∷ codes "root" ∷ codes "empty" ∷ codes "scope" ∷ []
 
-unfoldable pub ident_part : List ℕ → Result Part SelectorError
+unfoldable pub ident_part : List ℕ → Result DraftPart SelectorError
 ident_part name =
     if says (codes "first-child") name then Ok (Plain (Nth false (pos 0) (pos 1)))
     else (if says (codes "first-of-type") name then Ok (Plain (Nth true (pos 0) (pos 1)))
@@ -135,7 +135,7 @@ ident_part name =
     else Err UnsupportedPseudoClassOrElement))
 
 -- after a colon; inner reads the list of a logical combination
-unfoldable pub pseudo : (List Token → Read Items) → Nesting → List Token → Read Part
+unfoldable pub pseudo : (List Token → Read DraftItems) → Nesting → List Token → Read DraftPart
 pseudo inner nesting [] = Err UnexpectedEnd
 pseudo inner nesting (token ∷ tokens) =
     if at_stop nesting (token ∷ tokens) then Err UnexpectedEnd
@@ -149,11 +149,11 @@ pseudo inner nesting (token ∷ tokens) =
       | _ ↦ Err UnsupportedPseudoClassOrElement
     ]
 
-abbrev pub some : Part → Option Part
+abbrev pub some : DraftPart → Option DraftPart
 some found = Some found
 
 -- one more part, where the token begins one
-unfoldable pub part : (List Token → Read Items) → Nesting → List Token → Read (Option Part)
+unfoldable pub part : (List Token → Read DraftItems) → Nesting → List Token → Read (Option DraftPart)
 part inner nesting [] = Ok (None, [])
 part inner nesting (Hash name is_id ∷ tokens) = if is_id then Ok (some (Plain (Id (utf8 name))), tokens) else Ok (None, Hash name is_id ∷ tokens)
 part inner nesting (Delim c ∷ tokens) =
@@ -164,14 +164,14 @@ part inner nesting (Delim c ∷ tokens) =
 part inner nesting (token ∷ tokens) = Ok (None, token ∷ tokens)
 
 -- parts as long as a token begins one; each takes one token at least, so there are at most n
-unfoldable pub parts_at_most : ℕ → (List Token → Read Items) → Nesting → Compound → List Token → Read Compound
+unfoldable pub parts_at_most : ℕ → (List Token → Read DraftItems) → Nesting → DraftCompound → List Token → Read DraftCompound
 parts_at_most zero inner nesting parts tokens = Ok (parts, tokens)
 parts_at_most (suc n) inner nesting parts tokens = part inner nesting tokens >>= λ x. elim x.0 [
   | None ↦ Ok (parts, x.1)
   | Some found ↦ parts_at_most n inner nesting (With parts found) x.1
 ]
 
-abbrev pub more_parts : (List Token → Read Items) → Nesting → Compound → List Token → Read Compound
+abbrev pub more_parts : (List Token → Read DraftItems) → Nesting → DraftCompound → List Token → Read DraftCompound
 more_parts inner nesting parts tokens = parts_at_most (length tokens) inner nesting parts tokens
 
 -- directly after a bar: a name or `*`; at Stop the compound counts as one that reads nothing (None)
@@ -186,14 +186,14 @@ after_bar nesting (token ∷ tokens) =
     ]
 
 -- `*|` and `|` before what stands after the bar
-abbrev pub any_namespace : Simple → Compound
+abbrev pub any_namespace : Simple → DraftCompound
 any_namespace name = With Nothing (Plain name)
 
-abbrev pub no_namespace : Simple → Compound
+abbrev pub no_namespace : Simple → DraftCompound
 no_namespace name = With (With Nothing (Plain NoNamespace)) (Plain name)
 
 -- the type part, where one stands
-unfoldable pub type_part : Nesting → List Token → Read (Option Compound)
+unfoldable pub type_part : Nesting → List Token → Read (Option DraftCompound)
 type_part nesting [] = Ok (Some Nothing, [])
 type_part nesting (Ident name ∷ tokens) =
     if first_passes (is_delim (byte "|")) tokens then Err NamespacedSelector else Ok (Some (With Nothing (Plain (LocalName (utf8 name)))), tokens)
@@ -205,12 +205,12 @@ type_part nesting (Delim c ∷ tokens) =
     else Ok (Some Nothing, Delim c ∷ tokens))
 type_part nesting (token ∷ tokens) = Ok (Some Nothing, token ∷ tokens)
 
-abbrev pub is_nothing : Compound → Bool
+abbrev pub is_nothing : DraftCompound → Bool
 is_nothing Nothing = true
 is_nothing (With front last) = false
 
 -- a compound; one that reads nothing is refused with the cause given
-unfoldable pub compound : (List Token → Read Items) → Nesting → SelectorError → List Token → Read Compound
+unfoldable pub compound : (List Token → Read DraftItems) → Nesting → SelectorError → List Token → Read DraftCompound
 compound inner nesting empty tokens = do
   type ← type_part nesting tokens
   elim type.0 [
@@ -241,7 +241,7 @@ next_step nesting tokens =
     else giving (λ found. Some found) (step (first_passes is_space tokens) (skip_space tokens))
 
 -- the rest of an item, to which so many compounds may be added; a step past the last is refused where it is recognised
-unfoldable pub further : ℕ → (List Token → Read Items) → Nesting → Item → List Token → Read Item
+unfoldable pub further : ℕ → (List Token → Read DraftItems) → Nesting → DraftItem → List Token → Read DraftItem
 further zero inner nesting item tokens = next_step nesting tokens >>= λ found. elim found.0 [
   | None ↦ Ok (item, found.1)
   | Some step ↦ Err UnsupportedSyntax
@@ -252,28 +252,28 @@ further (suc left) inner nesting item tokens = next_step nesting tokens >>= λ f
 ]
 
 -- an item has at most 1,024 compounds
-unfoldable pub item : (List Token → Read Items) → Nesting → List Token → Read Item
+unfoldable pub item : (List Token → Read DraftItems) → Nesting → List Token → Read DraftItem
 item inner nesting tokens = do
   first ← compound inner nesting EmptySelector (skip_space tokens)
   further 1023 inner nesting (First first.0) first.1
 
 -- the rest of a list, with the end that closes it; each item begins after a comma, so there are at most n
-unfoldable pub items_at_most : ℕ → (List Token → Read Items) → Nesting → Items → List Token → Read Items
+unfoldable pub items_at_most : ℕ → (List Token → Read DraftItems) → Nesting → DraftItems → List Token → Read DraftItems
 items_at_most zero inner nesting items tokens = Ok (items, tokens)
 items_at_most (suc n) inner nesting items tokens =
     if at_end nesting tokens then Ok (items, drop 1 tokens)
     else item inner nesting (drop 1 tokens) >>= λ x. items_at_most n inner nesting (And items x.0) x.1
 
-unfoldable pub list : (List Token → Read Items) → Nesting → List Token → Read Items
+unfoldable pub list : (List Token → Read DraftItems) → Nesting → List Token → Read DraftItems
 list inner nesting tokens = do
   first ← item inner nesting tokens
   items_at_most (length first.1 + 1) inner nesting (And NoItems first.0) first.1
 
 -- the list of a logical combination, after its parenthesis, where combinations may be opened so deep, this one included
-unfoldable pub inner_list : ℕ → List Token → Read Items
+unfoldable pub inner_list : ℕ → List Token → Read DraftItems
 inner_list zero tokens = Err UnsupportedSyntax
 inner_list (suc depth) tokens = list (inner_list depth) InFunction tokens
 
 -- all of the tokens; a logical combination stands inside at most 127 others
-unfoldable pub selector : List Token → Read Items
+unfoldable pub selector : List Token → Read DraftItems
 selector tokens = list (inner_list 128) Outside tokens

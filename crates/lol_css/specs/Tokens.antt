@@ -9,9 +9,9 @@ use Rattle.lol_css.specs.declared.syntax.tokens.Sign.{Sign}
 use Rattle.lol_css.specs.declared.syntax.tokens.Sign.TheVariants.{Plus, Minus}
 use Rattle.lol_css.specs.declared.syntax.tokens.MatchOperator.{MatchOperator}
 use Rattle.lol_css.specs.declared.syntax.tokens.MatchOperator.TheVariants.{Include, Dash, Prefix, Suffix, Substring}
-use Rattle.lol_css.specs.Points.{is, first_passes, past, many, one, is_newline, is_white_space, is_decimal, is_sign, decimal, ◌or◌, escaped_point, begins_escape, is_in_name, name, starts_identifier, starts_number, preprocessed}
+use Rattle.lol_css.specs.Points.{is, first_passes, past, many, first_that, is_newline, is_white_space, is_decimal, is_sign, decimal, ◌or◌, escaped_point, begins_escape, is_in_name, name, starts_identifier, starts_number, preprocessed}
 
--- a number as it is written: its sign if one stands there, and its digits' value if it has neither fraction nor exponent
+-- a number as it is written: its sign if first_that stands there, and its digits' value if it has neither fraction nor exponent
 pub record Numeral : Type 0 where
   pub sign : Option Sign
   pub integer : Option ℕ
@@ -45,7 +45,7 @@ comment text = if first_passes (is (byte "/")) text && first_passes (is (byte "*
 
 -- row 2: white space
 unfoldable pub space : Row
-space text = option_map (λ taken. (Some Space, (many (one is_white_space) taken.1).1)) (one is_white_space text)
+space text = option_map (λ taken. (Some Space, (many (first_that is_white_space) taken.1).1)) (first_that is_white_space text)
 
 -- row 3 (4.3.5): a string, up to the same quote or the end
 -- what an escape in a string stands for, after the backslash: at the end and before LF nothing
@@ -92,17 +92,17 @@ abbrev pub leading_sign : List ℕ → Option Sign
 leading_sign [] = None
 leading_sign (c ∷ cs) = sign_of c
 
--- after a fraction and after an exponent, where one stands
+-- after a fraction and after an exponent, where first_that stands
 unfoldable pub after_fraction : List ℕ → List ℕ
-after_fraction text = if first_passes (is (byte ".")) text && first_passes is_decimal (drop 1 text) then (many (one is_decimal) (drop 1 text)).1 else text
+after_fraction text = if first_passes (is (byte ".")) text && first_passes is_decimal (drop 1 text) then (many (first_that is_decimal) (drop 1 text)).1 else text
 
 unfoldable pub after_exponent : List ℕ → List ℕ
 after_exponent text =
-    if first_passes (λ c. c == byte "E" || c == byte "e") text && first_passes is_decimal (past is_sign (drop 1 text)) then (many (one is_decimal) (past is_sign (drop 1 text))).1 else text
+    if first_passes (λ c. c == byte "E" || c == byte "e") text && first_passes is_decimal (past is_sign (drop 1 text)) then (many (first_that is_decimal) (past is_sign (drop 1 text))).1 else text
 
 unfoldable pub numeral : List ℕ → Numeral × List ℕ
 numeral text =
-    let digits = many (one is_decimal) (past is_sign text) in
+    let digits = many (first_that is_decimal) (past is_sign text) in
     let rest = after_exponent (after_fraction digits.1) in
     (record { sign = leading_sign text; integer = if length rest == length digits.1 then Some (decimal digits.0) else None }, rest)
 

@@ -12,7 +12,7 @@ use Rattle.lol_css.specs.TreeViews.{part_of, with_parts, with_further, with_item
 
 -- ---- rows are lists
 
-with_parts-list : (n : _) (k : Row_of-SimpleSelector n) (front : trees.Compound) → with_parts front k ≡ with_part_list front (items-the_row-SimpleSelector n k)
+with_parts-list : (n : _) (k : Row_of-SimpleSelector n) (front : trees.WrittenCompound) → with_parts front k ≡ with_part_list front (items-the_row-SimpleSelector n k)
 with_parts-list n end_of-SimpleSelector front = refl
 with_parts-list n (more_of-SimpleSelector {n = k} part rest) front = with_parts-list k rest (trees.With front (part_of part))
 
@@ -24,7 +24,7 @@ with_further-list : (n : _) (k : Row_of-ComplexSelector-rest-2 n) (front : trees
 with_further-list n end_of-ComplexSelector-rest-2 front = refl
 with_further-list n (more_of-ComplexSelector-rest-2 {n = k} combinator shape parts rest) front =
     let e : with_parts trees.Nothing parts ≡ compound_of (record { parts = shown-the_row-SimpleSelector-0 shape parts }) = search (rules, the_lemmas, with_parts-list) in
-    with_further-list k rest (trees.Then front combinator (with_parts trees.Nothing parts)) ∙ ap (λ (c : trees.Compound). with_compound_list (trees.Then front combinator c) (items-the_row-ComplexSelector-rest-2 k rest)) e
+    with_further-list k rest (trees.Then front combinator (with_parts trees.Nothing parts)) ∙ ap (λ (c : trees.WrittenCompound). with_compound_list (trees.Then front combinator c) (items-the_row-ComplexSelector-rest-2 k rest)) e
 
 pub list_of-roll : (v : Vec ComplexSelector) → list_of (roll-SelectorList (record { items = v })) ≡ with_item_list trees.NoItems v.items
 list_of-roll v = search (rules, the_lemmas, with_items-list)

@@ -22,7 +22,7 @@ abbrev mutual
   part_of (Is list) = trees.Is (list_of list)
   part_of (Where list) = trees.Where (list_of list)
 
-  pub with_parts : {m : _} → trees.Compound → Row_of-SimpleSelector m → trees.Compound
+  pub with_parts : {m : _} → trees.WrittenCompound → Row_of-SimpleSelector m → trees.WrittenCompound
   with_parts front end_of-SimpleSelector = front
   with_parts front (more_of-SimpleSelector part rest) = with_parts (trees.With front (part_of part)) rest
 
@@ -40,11 +40,11 @@ abbrev mutual
   with_items front end_of-ComplexSelector = front
   with_items front (more_of-ComplexSelector item rest) = with_items (trees.And front (item_of item)) rest
 
-abbrev pub with_part_list : trees.Compound → List SimpleSelector → trees.Compound
+abbrev pub with_part_list : trees.WrittenCompound → List SimpleSelector → trees.WrittenCompound
 with_part_list front [] = front
 with_part_list front (part ∷ parts) = with_part_list (trees.With front (part_of part)) parts
 
-abbrev pub compound_of : Compound → trees.Compound
+abbrev pub compound_of : Compound → trees.WrittenCompound
 compound_of compound = with_part_list trees.Nothing compound.parts.items
 
 abbrev pub with_compound_list : trees.Item → List (Combinator × Compound) → trees.Item

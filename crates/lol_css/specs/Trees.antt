@@ -24,13 +24,13 @@ mutual
     Is : Items → Part
     Where : Items → Part
 
-  pub data Compound : Type 0 where
-    Nothing : Compound
-    With : Compound → Part → Compound
+  pub data WrittenCompound : Type 0 where
+    Nothing : WrittenCompound
+    With : WrittenCompound → Part → WrittenCompound
 
   pub data Item : Type 0 where
-    First : Compound → Item
-    Then : Item → Combinator → Compound → Item
+    First : WrittenCompound → Item
+    Then : Item → Combinator → WrittenCompound → Item
 
   pub data Items : Type 0 where
     NoItems : Items

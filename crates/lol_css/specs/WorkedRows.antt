@@ -1,7 +1,7 @@
 -- Texts and what they stand for, worked by hand.
 use Rattle.std.specs.Prelude.{ℕ, zero, suc, true, false, List, [], ◌∷◌, ◌++◌, pos, negsuc, codes}
 use Rattle.std.specs.Str.{byte}
-use Rattle.lol_css.specs.Trees.{LocalName, AnyName, NoNamespace, Id, Class, Exists, Compares, Nth, Part, Plain, Not, Is, Where, Compound, Nothing, With, Item, First, Then, Items, NoItems, And}
+use Rattle.lol_css.specs.Trees.{LocalName, AnyName, NoNamespace, Id, Class, Exists, Compares, Nth, Part, Plain, Not, Is, Where, WrittenCompound, Nothing, With, Item, First, Then, Items, NoItems, And}
 use Rattle.lol_css.specs.declared.attribute.AttrSelectorOperator.TheVariants.{Equal, Includes, DashMatch, Prefix, Substring, Suffix}
 use Rattle.lol_css.specs.declared.attribute.ParsedCaseSensitivity.TheVariants.{ExplicitCaseSensitive, AsciiCaseInsensitive, CaseSensitive, AsciiCaseInsensitiveIfInHtmlElementInHtmlDocument}
 use Rattle.lol_css.specs.declared.selector.Combinator.TheVariants.{Child, Descendant}
@@ -10,7 +10,7 @@ use Rattle.lol_css.specs.declared.error.SelectorError.TheVariants.{UnexpectedTok
 
 -- ---- small trees
 
-abbrev pub only : Part → Compound
+abbrev pub only : Part → WrittenCompound
 only part = With Nothing part
 
 abbrev pub type : List ℕ → Part
@@ -19,8 +19,8 @@ type name = Plain (LocalName name)
 abbrev pub item : Part → Item
 item part = First (only part)
 
-abbrev pub one : Part → Items
-one part = And NoItems (item part)
+abbrev pub one_part : Part → Items
+one_part part = And NoItems (item part)
 
 -- a text and what it stands for
 pub record Accepted : Type 0 where
@@ -36,84 +36,84 @@ replacement = 239 ∷ 191 ∷ 189 ∷ []
 
 abbrev pub accepted_rows : List Accepted
 accepted_rows =
-    stands_for (codes "a") (one (type (codes "a")))
-    ∷ stands_for (codes "*") (one (Plain AnyName))
-    ∷ stands_for (codes "*|a") (one (type (codes "a")))
-    ∷ stands_for (codes "*|*") (one (Plain AnyName))
+    stands_for (codes "a") (one_part (type (codes "a")))
+    ∷ stands_for (codes "*") (one_part (Plain AnyName))
+    ∷ stands_for (codes "*|a") (one_part (type (codes "a")))
+    ∷ stands_for (codes "*|*") (one_part (Plain AnyName))
     ∷ stands_for (codes "|*") (And NoItems (First (With (only (Plain NoNamespace)) (Plain AnyName))))
     ∷ stands_for (codes "a |b") (And NoItems (Then (item (type (codes "a"))) Descendant (With (only (Plain NoNamespace)) (type (codes "b")))))
     ∷ stands_for (codes "a,b") (And (And NoItems (item (type (codes "a")))) (item (type (codes "b"))))
     ∷ stands_for (codes "a b > c") (And NoItems (Then (Then (item (type (codes "a"))) Descendant (only (type (codes "b")))) Child (only (type (codes "c")))))
-    ∷ stands_for (codes "div.foo#bar:not([baz])") (And NoItems (First (With (With (With (only (type (codes "div"))) (Plain (Class (codes "foo")))) (Plain (Id (codes "bar")))) (Not (one (Plain (Exists (codes "baz"))))))))
-    ∷ stands_for (codes "[foo=\"bar") (one (Plain (Compares (codes "foo") Equal (codes "bar") CaseSensitive)))
-    ∷ stands_for (codes "[FOO~=\"bar\" i]") (one (Plain (Compares (codes "foo") Includes (codes "bar") AsciiCaseInsensitive)))
-    ∷ stands_for (codes "[foo|=\"bar\" s]") (one (Plain (Compares (codes "foo") DashMatch (codes "bar") ExplicitCaseSensitive)))
-    ∷ stands_for (codes "[foo^=bar]") (one (Plain (Compares (codes "foo") Prefix (codes "bar") CaseSensitive)))
-    ∷ stands_for (codes "[foo*='']") (one (Plain (Compares (codes "foo") Substring [] CaseSensitive)))
-    ∷ stands_for (codes "[foo$=bar]") (one (Plain (Compares (codes "foo") Suffix (codes "bar") CaseSensitive)))
-    ∷ stands_for (codes "[type=TEXT]") (one (Plain (Compares (codes "type") Equal (codes "TEXT") AsciiCaseInsensitiveIfInHtmlElementInHtmlDocument)))
-    ∷ stands_for (codes "[a|=b]") (one (Plain (Compares (codes "a") DashMatch (codes "b") CaseSensitive)))
-    ∷ stands_for (codes "[|a]") (one (Plain (Exists (codes "a"))))
-    ∷ stands_for (codes "[foo") (one (Plain (Exists (codes "foo"))))
-    ∷ stands_for (codes "#\\31 a") (one (Plain (Id (codes "1a"))))
-    ∷ stands_for (codes ":NTH-CHILD( -2N + 7 )") (one (Plain (Nth false (negsuc 1) (pos 7))))
-    ∷ stands_for (codes ":nth-child(-2147483648)") (one (Plain (Nth false (pos 0) (negsuc 2147483647))))
-    ∷ stands_for (codes ":nth-child(-2147483648n-2147483648)") (one (Plain (Nth false (negsuc 2147483647) (negsuc 2147483647))))
-    ∷ stands_for (codes ":nth-of-type(+n)") (one (Plain (Nth true (pos 1) (pos 0))))
-    ∷ stands_for (codes ":nth-child(-n-1)") (one (Plain (Nth false (negsuc 0) (negsuc 0))))
-    ∷ stands_for (codes ":nth-child(EVEN)") (one (Plain (Nth false (pos 2) (pos 0))))
-    ∷ stands_for (codes ":nth-child(odd)") (one (Plain (Nth false (pos 2) (pos 1))))
-    ∷ stands_for (codes ":nth-child(3n +1)") (one (Plain (Nth false (pos 3) (pos 1))))
-    ∷ stands_for (codes ":nth-child(+/**/n)") (one (Plain (Nth false (pos 1) (pos 0))))
+    ∷ stands_for (codes "div.foo#bar:not([baz])") (And NoItems (First (With (With (With (only (type (codes "div"))) (Plain (Class (codes "foo")))) (Plain (Id (codes "bar")))) (Not (one_part (Plain (Exists (codes "baz"))))))))
+    ∷ stands_for (codes "[foo=\"bar") (one_part (Plain (Compares (codes "foo") Equal (codes "bar") CaseSensitive)))
+    ∷ stands_for (codes "[FOO~=\"bar\" i]") (one_part (Plain (Compares (codes "foo") Includes (codes "bar") AsciiCaseInsensitive)))
+    ∷ stands_for (codes "[foo|=\"bar\" s]") (one_part (Plain (Compares (codes "foo") DashMatch (codes "bar") ExplicitCaseSensitive)))
+    ∷ stands_for (codes "[foo^=bar]") (one_part (Plain (Compares (codes "foo") Prefix (codes "bar") CaseSensitive)))
+    ∷ stands_for (codes "[foo*='']") (one_part (Plain (Compares (codes "foo") Substring [] CaseSensitive)))
+    ∷ stands_for (codes "[foo$=bar]") (one_part (Plain (Compares (codes "foo") Suffix (codes "bar") CaseSensitive)))
+    ∷ stands_for (codes "[type=TEXT]") (one_part (Plain (Compares (codes "type") Equal (codes "TEXT") AsciiCaseInsensitiveIfInHtmlElementInHtmlDocument)))
+    ∷ stands_for (codes "[a|=b]") (one_part (Plain (Compares (codes "a") DashMatch (codes "b") CaseSensitive)))
+    ∷ stands_for (codes "[|a]") (one_part (Plain (Exists (codes "a"))))
+    ∷ stands_for (codes "[foo") (one_part (Plain (Exists (codes "foo"))))
+    ∷ stands_for (codes "#\\31 a") (one_part (Plain (Id (codes "1a"))))
+    ∷ stands_for (codes ":NTH-CHILD( -2N + 7 )") (one_part (Plain (Nth false (negsuc 1) (pos 7))))
+    ∷ stands_for (codes ":nth-child(-2147483648)") (one_part (Plain (Nth false (pos 0) (negsuc 2147483647))))
+    ∷ stands_for (codes ":nth-child(-2147483648n-2147483648)") (one_part (Plain (Nth false (negsuc 2147483647) (negsuc 2147483647))))
+    ∷ stands_for (codes ":nth-of-type(+n)") (one_part (Plain (Nth true (pos 1) (pos 0))))
+    ∷ stands_for (codes ":nth-child(-n-1)") (one_part (Plain (Nth false (negsuc 0) (negsuc 0))))
+    ∷ stands_for (codes ":nth-child(EVEN)") (one_part (Plain (Nth false (pos 2) (pos 0))))
+    ∷ stands_for (codes ":nth-child(odd)") (one_part (Plain (Nth false (pos 2) (pos 1))))
+    ∷ stands_for (codes ":nth-child(3n +1)") (one_part (Plain (Nth false (pos 3) (pos 1))))
+    ∷ stands_for (codes ":nth-child(+/**/n)") (one_part (Plain (Nth false (pos 1) (pos 0))))
     ∷ stands_for (codes ":first-child:first-of-type") (And NoItems (First (With (only (Plain (Nth false (pos 0) (pos 1)))) (Plain (Nth true (pos 0) (pos 1))))))
-    ∷ stands_for (codes ":not(a") (one (Not (one (type (codes "a")))))
-    ∷ stands_for (codes ":/**/not(a)") (one (Not (one (type (codes "a")))))
-    ∷ stands_for (codes ":not(:not(a, b))") (one (Not (one (Not (And (And NoItems (item (type (codes "a")))) (item (type (codes "b"))))))))
-    ∷ stands_for (codes ":is(header)") (one (Is (one (type (codes "header")))))
-    ∷ stands_for (codes ":where(p)") (one (Where (one (type (codes "p")))))
-    ∷ stands_for (codes ":IS(a") (one (Is (one (type (codes "a")))))
-    ∷ stands_for (codes ":wh\\65re(\\69s, is)") (one (Where (And (And NoItems (item (type (codes "is")))) (item (type (codes "is"))))))
-    ∷ stands_for (codes ":is(a.x, p)") (one (Is (And (And NoItems (First (With (only (type (codes "a"))) (Plain (Class (codes "x")))))) (item (type (codes "p"))))))
-    ∷ stands_for (codes ":not(:is(a, b))") (one (Not (one (Is (And (And NoItems (item (type (codes "a")))) (item (type (codes "b"))))))))
+    ∷ stands_for (codes ":not(a") (one_part (Not (one_part (type (codes "a")))))
+    ∷ stands_for (codes ":/**/not(a)") (one_part (Not (one_part (type (codes "a")))))
+    ∷ stands_for (codes ":not(:not(a, b))") (one_part (Not (one_part (Not (And (And NoItems (item (type (codes "a")))) (item (type (codes "b"))))))))
+    ∷ stands_for (codes ":is(header)") (one_part (Is (one_part (type (codes "header")))))
+    ∷ stands_for (codes ":where(p)") (one_part (Where (one_part (type (codes "p")))))
+    ∷ stands_for (codes ":IS(a") (one_part (Is (one_part (type (codes "a")))))
+    ∷ stands_for (codes ":wh\\65re(\\69s, is)") (one_part (Where (And (And NoItems (item (type (codes "is")))) (item (type (codes "is"))))))
+    ∷ stands_for (codes ":is(a.x, p)") (one_part (Is (And (And NoItems (First (With (only (type (codes "a"))) (Plain (Class (codes "x")))))) (item (type (codes "p"))))))
+    ∷ stands_for (codes ":not(:is(a, b))") (one_part (Not (one_part (Is (And (And NoItems (item (type (codes "a")))) (item (type (codes "b"))))))))
     ∷ stands_for (codes "a-->b") (And NoItems (Then (item (type (codes "a--"))) Child (only (type (codes "b")))))
     ∷ stands_for (codes "a /**/ b") (And NoItems (Then (item (type (codes "a"))) Descendant (only (type (codes "b")))))
-    ∷ stands_for (codes "a/* b") (one (type (codes "a")))
-    ∷ stands_for (codes "./**/a") (one (Plain (Class (codes "a"))))
-    ∷ stands_for (codes "*/**/|/**/a") (one (type (codes "a")))
-    ∷ stands_for (92 ∷ []) (one (type replacement))
-    ∷ stands_for (codes "#\\0") (one (Plain (Id replacement)))
-    ∷ stands_for (codes "\\110000") (one (type replacement))
-    ∷ stands_for (codes "\\D800 a") (one (type (replacement ++ codes "a")))
-    ∷ stands_for (97 ∷ 0 ∷ 98 ∷ []) (one (type (codes "a" ++ replacement ++ codes "b")))
-    ∷ stands_for (codes "[a=\"\\") (one (Plain (Compares (codes "a") Equal [] CaseSensitive)))
-    ∷ stands_for (codes "[a='x\\\ny']") (one (Plain (Compares (codes "a") Equal (codes "xy") CaseSensitive)))
+    ∷ stands_for (codes "a/* b") (one_part (type (codes "a")))
+    ∷ stands_for (codes "./**/a") (one_part (Plain (Class (codes "a"))))
+    ∷ stands_for (codes "*/**/|/**/a") (one_part (type (codes "a")))
+    ∷ stands_for (92 ∷ []) (one_part (type replacement))
+    ∷ stands_for (codes "#\\0") (one_part (Plain (Id replacement)))
+    ∷ stands_for (codes "\\110000") (one_part (type replacement))
+    ∷ stands_for (codes "\\D800 a") (one_part (type (replacement ++ codes "a")))
+    ∷ stands_for (97 ∷ 0 ∷ 98 ∷ []) (one_part (type (codes "a" ++ replacement ++ codes "b")))
+    ∷ stands_for (codes "[a=\"\\") (one_part (Plain (Compares (codes "a") Equal [] CaseSensitive)))
+    ∷ stands_for (codes "[a='x\\\ny']") (one_part (Plain (Compares (codes "a") Equal (codes "xy") CaseSensitive)))
     ∷ stands_for (codes "a\r\n\tb") (And NoItems (Then (item (type (codes "a"))) Descendant (only (type (codes "b")))))
     ∷ []
 
--- texts that are refused with this cause
+-- texts that are refused_texts with this cause
 pub record Refused : Type 0 where
   pub cause : SelectorError
   pub texts : List (List ℕ)
 
-abbrev pub refused : SelectorError → List (List ℕ) → Refused
-refused cause texts = record { cause = cause; texts = texts }
+abbrev pub refused_texts : SelectorError → List (List ℕ) → Refused
+refused_texts cause texts = record { cause = cause; texts = texts }
 
 abbrev pub refused_rows : List Refused
 refused_rows =
-    refused EmptySelector ([] ∷ codes ":not()" ∷ codes ":is()" ∷ codes ":where()" ∷ codes ":is(a,)" ∷ codes ":is(a, :where())" ∷ codes "*|" ∷ codes "a," ∷ codes ",a" ∷ codes "#1a" ∷ codes ".1a" ∷ codes "-->" ∷ [])
-    ∷ refused DanglingCombinator (codes "div >" ∷ codes "div @" ∷ codes "a > *|" ∷ codes "a >> b" ∷ codes "a #1" ∷ [])
-    ∷ refused UnexpectedEnd (codes "div." ∷ codes ":nth-child(3n-)" ∷ codes ":nth-child(+)" ∷ codes "[a=]" ∷ codes "a:" ∷ codes "a + ." ∷ [])
-    ∷ refused UnexpectedToken (codes "div@" ∷ codes ":nth-child(+ n)" ∷ codes ":nth-child(n of a)" ∷ codes ":nth-child(2147483648)" ∷ codes ":nth-child(2147483648n-" ∷ codes ":nth-child(n-2147483649)" ∷ codes ":nth-child(n+2147483648)" ∷ codes ":nth-child(n+-1)" ∷ codes ":nth-child(2e1n)" ∷ codes ":nth-child(1.0)" ∷ codes ":nth-child(--n)" ∷ codes "*|.a" ∷ codes "*|a|b" ∷ codes "*|*|a" ∷ codes "*| " ∷ codes "[a=b x]" ∷ codes "[a=b i s]" ∷ codes "a)" ∷ codes "a#1" ∷ codes "a.1b" ∷ codes "a/**/b" ∷ codes ":not(a]" ∷ codes ":is(a]" ∷ [])
-    ∷ refused MissingAttributeName (codes "div[=\"foo\"]" ∷ [])
-    ∷ refused UnexpectedTokenInAttribute (codes "div[foo~\"bar\"]" ∷ codes "[a=1]" ∷ codes "[a~/**/=b]" ∷ codes "[a=\"x\ny\"]" ∷ [])
-    ∷ refused NamespacedSelector (codes "svg|img" ∷ codes "[*|Foo]" ∷ codes "[*|Foo=bar]" ∷ codes "[a|b]" ∷ codes ":not(a [*|b])" ∷ codes ":is(a [*|b])" ∷ codes ":where([*|b], a > c)" ∷ [])
-    ∷ refused InvalidClassName (codes ".foo()" ∷ [])
-    ∷ refused (UnsupportedCombinator (byte "+")) (codes "div + span" ∷ [])
-    ∷ refused (UnsupportedCombinator (byte "~")) (codes "div ~ span" ∷ codes "div + span ~ p" ∷ codes "a + b c ~ d" ∷ [])
-    ∷ refused UnsupportedPseudoClassOrElement (codes "a: b" ∷ codes ":not/**/(a)" ∷ codes ":not(foo bar)" ∷ codes ":not(foo > bar)" ∷ codes ":not(* > .x)" ∷ codes ":not([*|b] a)" ∷ codes ":not(:nth-last-child(even))" ∷ codes ":is(:nth-last-child(1))" ∷ codes ":is(a > b)" ∷ codes ":where(a b)" ∷ codes ":is(a, [*|b] c)" ∷ codes ":where(a + b)" ∷ codes ":is" ∷ codes ":where" ∷ codes "::is(a)" ∷ codes "::where(a)" ∷ codes ":is/**/(a)" ∷ [])
+    refused_texts EmptySelector ([] ∷ codes ":not()" ∷ codes ":is()" ∷ codes ":where()" ∷ codes ":is(a,)" ∷ codes ":is(a, :where())" ∷ codes "*|" ∷ codes "a," ∷ codes ",a" ∷ codes "#1a" ∷ codes ".1a" ∷ codes "-->" ∷ [])
+    ∷ refused_texts DanglingCombinator (codes "div >" ∷ codes "div @" ∷ codes "a > *|" ∷ codes "a >> b" ∷ codes "a #1" ∷ [])
+    ∷ refused_texts UnexpectedEnd (codes "div." ∷ codes ":nth-child(3n-)" ∷ codes ":nth-child(+)" ∷ codes "[a=]" ∷ codes "a:" ∷ codes "a + ." ∷ [])
+    ∷ refused_texts UnexpectedToken (codes "div@" ∷ codes ":nth-child(+ n)" ∷ codes ":nth-child(n of a)" ∷ codes ":nth-child(2147483648)" ∷ codes ":nth-child(2147483648n-" ∷ codes ":nth-child(n-2147483649)" ∷ codes ":nth-child(n+2147483648)" ∷ codes ":nth-child(n+-1)" ∷ codes ":nth-child(2e1n)" ∷ codes ":nth-child(1.0)" ∷ codes ":nth-child(--n)" ∷ codes "*|.a" ∷ codes "*|a|b" ∷ codes "*|*|a" ∷ codes "*| " ∷ codes "[a=b x]" ∷ codes "[a=b i s]" ∷ codes "a)" ∷ codes "a#1" ∷ codes "a.1b" ∷ codes "a/**/b" ∷ codes ":not(a]" ∷ codes ":is(a]" ∷ [])
+    ∷ refused_texts MissingAttributeName (codes "div[=\"foo\"]" ∷ [])
+    ∷ refused_texts UnexpectedTokenInAttribute (codes "div[foo~\"bar\"]" ∷ codes "[a=1]" ∷ codes "[a~/**/=b]" ∷ codes "[a=\"x\ny\"]" ∷ [])
+    ∷ refused_texts NamespacedSelector (codes "svg|img" ∷ codes "[*|Foo]" ∷ codes "[*|Foo=bar]" ∷ codes "[a|b]" ∷ codes ":not(a [*|b])" ∷ codes ":is(a [*|b])" ∷ codes ":where([*|b], a > c)" ∷ [])
+    ∷ refused_texts InvalidClassName (codes ".foo()" ∷ [])
+    ∷ refused_texts (UnsupportedCombinator (byte "+")) (codes "div + span" ∷ [])
+    ∷ refused_texts (UnsupportedCombinator (byte "~")) (codes "div ~ span" ∷ codes "div + span ~ p" ∷ codes "a + b c ~ d" ∷ [])
+    ∷ refused_texts UnsupportedPseudoClassOrElement (codes "a: b" ∷ codes ":not/**/(a)" ∷ codes ":not(foo bar)" ∷ codes ":not(foo > bar)" ∷ codes ":not(* > .x)" ∷ codes ":not([*|b] a)" ∷ codes ":not(:nth-last-child(even))" ∷ codes ":is(:nth-last-child(1))" ∷ codes ":is(a > b)" ∷ codes ":where(a b)" ∷ codes ":is(a, [*|b] c)" ∷ codes ":where(a + b)" ∷ codes ":is" ∷ codes ":where" ∷ codes "::is(a)" ∷ codes "::where(a)" ∷ codes ":is/**/(a)" ∷ [])
     ∷ []
 
--- pseudo-classes and pseudo-elements that are refused, each alone
+-- pseudo-classes and pseudo-elements that are refused_texts, each alone
 abbrev pub refused_pseudo : List (List ℕ)
 refused_pseudo =
     codes ":active" ∷ codes ":any-link" ∷ codes ":blank" ∷ codes ":checked" ∷ codes ":current" ∷ codes ":default" ∷ codes ":defined" ∷ codes ":dir(rtl)"
@@ -134,14 +134,14 @@ times (suc n) text = text ++ times n text
 -- a name inside so many `:not`
 abbrev pub negated : ℕ → Part → Part
 negated zero part = part
-negated (suc n) part = Not (one (negated n part))
+negated (suc n) part = Not (one_part (negated n part))
 
 -- a name inside so many `:is`, each with a `:not` directly inside
 abbrev pub alternated : ℕ → Part → Part
 alternated zero part = part
-alternated (suc n) part = Is (one (Not (one (alternated n part))))
+alternated (suc n) part = Is (one_part (Not (one_part (alternated n part))))
 
--- a name so often, each inside the one before it
+-- a name so often, each inside the one_part before it
 abbrev pub inside : ℕ → Item → Item
 inside zero front = front
 inside (suc n) front = inside n (Then front Descendant (only (type (codes "a"))))

@@ -3,7 +3,7 @@
 ghost use Rattle.std.specs.Prelude.{◌≡◌, ◌++◌, Ok, Err, map, codes};
 ghost use Rattle.lol_css.specs.Accepting.{accept};
 ghost use Rattle.lol_css.specs.Trees.{And, NoItems};
-ghost use Rattle.lol_css.specs.WorkedRows.{accepted_rows, refused_rows, refused_pseudo, times, negated, alternated, inside, one, item, type};
+ghost use Rattle.lol_css.specs.WorkedRows.{accepted_rows, refused_rows, refused_pseudo, times, negated, alternated, inside, one_part, item, type};
 ghost use Rattle.lol_css.specs.declared.error.SelectorError.TheVariants.{UnsupportedPseudoClassOrElement, UnsupportedSyntax};
 
 /// Texts and the selectors that they stand for.
@@ -21,11 +21,11 @@ pub fn refused_pseudo_classes_and_elements()
     ensures { map accept refused_pseudo ≡ map (λ text. Err UnsupportedPseudoClassOrElement) refused_pseudo }
 {}
 
-/// The bounds: 128 of `:not`, `:is` and `:where` one inside the other, and 1,024 compounds an item.
+/// The bounds: 128 of `:not`, `:is` and `:where` one_part inside the other, and 1,024 compounds an item.
 pub fn bounds()
-    ensures negations { accept (times 128 (codes ":not(") ++ codes "a") ≡ Ok (one (negated 128 (type (codes "a")))) }
+    ensures negations { accept (times 128 (codes ":not(") ++ codes "a") ≡ Ok (one_part (negated 128 (type (codes "a")))) }
     ensures negations_past { accept (times 129 (codes ":not(") ++ codes "a") ≡ Err UnsupportedSyntax }
-    ensures combinations { accept (times 64 (codes ":is(:not(") ++ codes "a") ≡ Ok (one (alternated 64 (type (codes "a")))) }
+    ensures combinations { accept (times 64 (codes ":is(:not(") ++ codes "a") ≡ Ok (one_part (alternated 64 (type (codes "a")))) }
     ensures combinations_past { accept (codes ":where(" ++ times 64 (codes ":is(:not(") ++ codes "a") ≡ Err UnsupportedSyntax }
     ensures compounds { accept (times 1024 (codes "a ")) ≡ Ok (And NoItems (inside 1023 (item (type (codes "a"))))) }
     ensures compounds_past { accept (times 1025 (codes "a ")) ≡ Err UnsupportedSyntax }

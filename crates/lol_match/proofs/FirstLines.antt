@@ -12,7 +12,7 @@ chosen : (b : Bool) (x : Option Line) (line : Line) → (if b then x else None) 
 chosen true x line h = (refl, h)
 chosen false x line h = absurd (cc)
 
-first_start : (fields : List (List ℕ)) (line : Line) → first.start_at fields ≡ Some line → start_at true fields ≡ Some line
+first_start : (fields : List (List ℕ)) (line : Line) → first.start_now fields ≡ Some line → start_at true fields ≡ Some line
 first_start [] line h = h
 first_start (field ∷ []) line h = absurd (cc)
 first_start (field ∷ name ∷ []) line h =
@@ -35,19 +35,19 @@ first_end kind fields line h =
     let is : kind ≡ codes "end" = (bytes_eq-Decides kind (codes "end")).0 end.0 in
     rw is end.1
 
-first_tag : (kind : List ℕ) (fields : List (List ℕ)) (line : Line) → (if bytes_eq kind (codes "start") then first.start_at fields else (if bytes_eq kind (codes "end") then end_at fields else None)) ≡ Some line → of_kind kind fields ≡ Some line
+first_tag : (kind : List ℕ) (fields : List (List ℕ)) (line : Line) → (if bytes_eq kind (codes "start") then first.start_now fields else (if bytes_eq kind (codes "end") then end_at fields else None)) ≡ Some line → of_kind kind fields ≡ Some line
 first_tag kind fields line h =
     ⊎_elim (λ (is : kind ≡ codes "start"). rw is (first_start fields line (rw is at h)))
     (λ (not : bytes_eq kind (codes "start") ≡ false). first_end kind fields line (rw not at h)) (same_or_not kind (codes "start"))
 
-first_kind : (kind : List ℕ) (fields : List (List ℕ)) (line : Line) → first.of_kind kind fields ≡ Some line → of_kind kind fields ≡ Some line
+first_kind : (kind : List ℕ) (fields : List (List ℕ)) (line : Line) → first.kind_now kind fields ≡ Some line → of_kind kind fields ≡ Some line
 first_kind kind fields line h =
     ⊎_elim (λ (is : kind ≡ codes "select"). rw is (rw is at h))
     (λ (not : bytes_eq kind (codes "select") ≡ false). first_tag kind fields line (rw not at h)) (same_or_not kind (codes "select"))
 
-first_fields : (fields : List (List ℕ)) (line : Line) → first.from_fields fields ≡ Some line → from_fields fields ≡ Some line
+first_fields : (fields : List (List ℕ)) (line : Line) → first.fields_now fields ≡ Some line → from_fields fields ≡ Some line
 first_fields [] line h = h
 first_fields (kind ∷ fields) line h = first_kind kind fields line h
 
-pub first_line_is_line : (bytes : List ℕ) (line : Line) → first.line_at bytes ≡ Some line → line_at bytes ≡ Some line
+pub first_line_is_line : (bytes : List ℕ) (line : Line) → first.line_now bytes ≡ Some line → line_at bytes ≡ Some line
 first_line_is_line bytes line h = first_fields (slice_split is_tab bytes) line h

@@ -13,21 +13,21 @@ use Rattle.lol_match.specs.declared.lines.Line.TheVariants.{Select, Start, End}
 abbrev pub plain_tag : List ℕ → StartTag
 plain_tag name = record { name = name; namespace = Html; attributes = []; self_closing = false; finish = true }
 
-abbrev pub start_at : List (List ℕ) → Option script.Line
-start_at (field ∷ name ∷ []) = if bytes_eq field (codes "html") then (if some_bytes name then Some (script.StartLine (plain_tag name)) else None) else None
-start_at other = None
+abbrev pub start_now : List (List ℕ) → Option script.Line
+start_now (field ∷ name ∷ []) = if bytes_eq field (codes "html") then (if some_bytes name then Some (script.StartLine (plain_tag name)) else None) else None
+start_now other = None
 
-abbrev pub of_kind : List ℕ → List (List ℕ) → Option script.Line
-of_kind kind fields =
-    if bytes_eq kind (codes "select") then select_at fields else (if bytes_eq kind (codes "start") then start_at fields
+abbrev pub kind_now : List ℕ → List (List ℕ) → Option script.Line
+kind_now kind fields =
+    if bytes_eq kind (codes "select") then select_at fields else (if bytes_eq kind (codes "start") then start_now fields
     else (if bytes_eq kind (codes "end") then end_at fields else None))
 
-abbrev pub from_fields : List (List ℕ) → Option script.Line
-from_fields [] = None
-from_fields (kind ∷ fields) = of_kind kind fields
+abbrev pub fields_now : List (List ℕ) → Option script.Line
+fields_now [] = None
+fields_now (kind ∷ fields) = kind_now kind fields
 
-abbrev pub line_at : List ℕ → Option script.Line
-line_at bytes = from_fields (slice_split is_tab bytes)
+abbrev pub line_now : List ℕ → Option script.Line
+line_now bytes = fields_now (slice_split is_tab bytes)
 
 -- what the code's line says
 abbrev pub said_by : Line → script.Line

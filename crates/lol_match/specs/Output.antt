@@ -51,13 +51,13 @@ variant_name UnsupportedSyntax = codes "UnsupportedSyntax"
 variant_name Memory = codes "Memory"
 
 -- the sign of a combinator, in parentheses
-abbrev pub sign_of : SelectorError → List ℕ
-sign_of (UnsupportedCombinator sign) = codes "(" ++ (encode_utf8 sign ++ codes ")")
-sign_of other = []
+abbrev pub combinator_sign : SelectorError → List ℕ
+combinator_sign (UnsupportedCombinator sign) = codes "(" ++ (encode_utf8 sign ++ codes ")")
+combinator_sign other = []
 
 -- a cause, as in `UnsupportedCombinator(+)`
 abbrev pub error_name : SelectorError → List ℕ
-error_name error = variant_name error ++ sign_of error
+error_name error = variant_name error ++ combinator_sign error
 
 abbrev pub cause_name : Cause → List ℕ
 cause_name Form = codes "form"

@@ -22,8 +22,8 @@ pub record IsReading (code : Code) (s : Script) : Type 0 where
   pub ranges : All HasRangesInside code.events.items
 
 -- what was read stands for what the definition gives
-abbrev pub Reads : Code → Result Script BadLine → Type 0
-Reads code defined = (s : Script) × IsReading code s × (defined ≡ Ok s)
+abbrev pub ReadsScript : Code → Result Script BadLine → Type 0
+ReadsScript code defined = (s : Script) × IsReading code s × (defined ≡ Ok s)
 
 -- a bad line is that of the definition
 abbrev pub Stops : Stop → Result Script BadLine → Type 0

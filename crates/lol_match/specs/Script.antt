@@ -26,13 +26,13 @@ some_bytes [] = false
 some_bytes (b ∷ bytes) = true
 
 -- the number that decimal digits spell
-abbrev pub value_of : List ℕ → ℕ
-value_of digits = fold (λ n digit. 10 * n + (digit - 48)) 0 digits
+abbrev pub number_value : List ℕ → ℕ
+number_value digits = fold (λ n digit. 10 * n + (digit - 48)) 0 digits
 
 -- the number of one or more decimal digits, up to a greatest one
 abbrev pub number_up_to : ℕ → List ℕ → Option ℕ
 number_up_to most digits =
-    if some_bytes digits && (list_all is_digit digits && nat_le (value_of digits) most) then Some (value_of digits) else None
+    if some_bytes digits && (list_all is_digit digits && nat_le (number_value digits) most) then Some (number_value digits) else None
 
 -- a namespace, and whether the tag closes itself
 abbrev pub namespace_at : List ℕ → Option (Namespace × Bool)
@@ -78,14 +78,14 @@ limit_at (field ∷ []) = option_map SetLimit (number_up_to 18446744073709551615
 limit_at other = None
 
 -- a line without further fields
-abbrev pub alone : Line → List (List ℕ) → Option Line
-alone line [] = Some line
-alone line (field ∷ fields) = None
+abbrev pub bare_line : Line → List (List ℕ) → Option Line
+bare_line line [] = Some line
+bare_line line (field ∷ fields) = None
 
 abbrev pub of_kind : List ℕ → List (List ℕ) → Option Line
 of_kind kind fields =
-    if bytes_eq kind (codes "limit") then limit_at fields else (if bytes_eq kind (codes "esi") then alone TurnEsiOn fields
-    else (if bytes_eq kind (codes "tries") then alone ShowTries fields else (if bytes_eq kind (codes "select") then select_at fields
+    if bytes_eq kind (codes "limit") then limit_at fields else (if bytes_eq kind (codes "esi") then bare_line TurnEsiOn fields
+    else (if bytes_eq kind (codes "tries") then bare_line ShowTries fields else (if bytes_eq kind (codes "select") then select_at fields
     else (if bytes_eq kind (codes "start") then start_at true fields else (if bytes_eq kind (codes "drop") then start_at false fields
     else (if bytes_eq kind (codes "end") then end_at fields else None))))))
 

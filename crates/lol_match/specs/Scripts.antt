@@ -30,8 +30,8 @@ pub record Script : Type 0 where
   pub pairs : List (Path × ℕ)
   pub events : List Event
 
-abbrev pub empty : Script
-empty = record { limit = 18446744073709551615; esi = false; shows_tries = false; pairs = []; events = [] }
+abbrev pub empty_script : Script
+empty_script = record { limit = 18446744073709551615; esi = false; shows_tries = false; pairs = []; events = [] }
 
 abbrev pub malformed : ℕ → Result Script BadLine
 malformed number = Err (record { number = number; cause = Form })
@@ -70,7 +70,7 @@ module _ (says : List ℕ → Option Line) (runs : Path → Bool) where
   with_meaning number s None = malformed number
   with_meaning number s (Some line) = with_line number s line
 
-  -- an empty line is skipped
+  -- an empty_script line is skipped
   abbrev pub with_bytes : ℕ → Script → List ℕ → Result Script BadLine
   with_bytes number s [] = Ok s
   with_bytes number s (b ∷ bytes) = with_meaning number s (says (b ∷ bytes))
@@ -81,7 +81,7 @@ module _ (says : List ℕ → Option Line) (runs : Path → Bool) where
 
   -- Lines end with LF and are numbered from 1. The first bad line decides.
   abbrev pub read_script : List ℕ → Result Script BadLine
-  read_script bytes = read_lines 1 empty (slice_split (λ b. b == 10) bytes)
+  read_script bytes = read_lines 1 empty_script (slice_split (λ b. b == 10) bytes)
 
 -- each selector that is accepted
 abbrev pub every_path : Path → Bool
@@ -122,4 +122,4 @@ first_output_of (Ok s) = record { text = lines_of (map (shown_answer false) (ans
 first_output_of (Err bad) = record { text = bad_line bad; status = Bad }
 
 abbrev pub first_output : List ℕ → Output
-first_output bytes = first_output_of (read_script first.line_at path_runs bytes)
+first_output bytes = first_output_of (read_script first.line_now path_runs bytes)

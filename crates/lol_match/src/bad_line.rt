@@ -1,7 +1,7 @@
 //! A script's first bad line.
 
 ghost use Rattle.std.specs.Prelude.{◌≡◌, ◌++◌, ◌∷◌, [], OnOk};
-ghost use Rattle.lol_match.specs.Output.{variant_name, sign_of, error_name, cause_name, bad_line};
+ghost use Rattle.lol_match.specs.Output.{variant_name, combinator_sign, error_name, cause_name, bad_line};
 
 use crate::output::push_number;
 use lol_css::SelectorError;
@@ -46,7 +46,7 @@ fn variant_name(error: SelectorError) -> &'static str
 }
 
 fn push_sign(text: &mut Vec<u8>, sign: char) -> Result<(), AllocError>
-    ensures { OnOk result (text.new.items ≡ text.old.items ++ sign_of (SelectorError.UnsupportedCombinator sign)) }
+    ensures { OnOk result (text.new.items ≡ text.old.items ++ combinator_sign (SelectorError.UnsupportedCombinator sign)) }
 {
     let mut buffer = [0u8; 4];
     text.push(b'(')?;

@@ -53,18 +53,18 @@ pub fn worked_tags()
 
 /// What is good at first is good, and says the same.
 pub fn first_lines_are_lines()
-    ensures { (bytes : List ℕ) (line : Line) → first.line_at bytes ≡ Some line → line_at bytes ≡ Some line }
+    ensures { (bytes : List ℕ) (line : Line) → first.line_now bytes ≡ Some line → line_at bytes ≡ Some line }
 {}
 
 /// What isn't good yet.
 pub fn worked_first_lines()
-    ensures foreign { first.line_at (codes "start\tsvg\tg") ≡ None }
-    ensures self_closing { first.line_at (codes "start\thtml/\tdiv") ≡ None }
-    ensures attribute { first.line_at (codes "start\thtml\tdiv\ta") ≡ None }
-    ensures dropped { first.line_at (codes "drop\thtml\tdiv") ≡ None }
-    ensures esi { first.line_at (codes "esi") ≡ None }
-    ensures tries { first.line_at (codes "tries") ≡ None }
-    ensures limit { first.line_at (codes "limit\t5") ≡ None }
+    ensures foreign { first.line_now (codes "start\tsvg\tg") ≡ None }
+    ensures self_closing { first.line_now (codes "start\thtml/\tdiv") ≡ None }
+    ensures attribute { first.line_now (codes "start\thtml\tdiv\ta") ≡ None }
+    ensures dropped { first.line_now (codes "drop\thtml\tdiv") ≡ None }
+    ensures esi { first.line_now (codes "esi") ≡ None }
+    ensures tries { first.line_now (codes "tries") ≡ None }
+    ensures limit { first.line_now (codes "limit\t5") ≡ None }
 {}
 
 /// Whole scripts: what is written, and how the run ends.

@@ -4,7 +4,7 @@ ghost use Rattle.std.specs.Prelude.{◌≡◌, ◌∷◌, [], MatchOption, List,
 ghost use Rattle.std.specs.Str.{is_utf8};
 ghost use Rattle.std.specs.List.{slice_split};
 ghost use Rattle.lol_match.specs.Script.{is_tab, number_up_to, select_at, end_at};
-ghost use Rattle.lol_match.specs.First.{line_at, start_at, said_by};
+ghost use Rattle.lol_match.specs.First.{line_now, start_now, said_by};
 
 /// What a line says.
 #[derive(Clone, Copy, Debug, PartialEq, Eq)]
@@ -79,7 +79,7 @@ fn select_of(rest: &[u8]) -> Option<Line<'_>>
 
 #[tactic(auto, using(crate::proofs::Fields::start_too_long))]
 fn start_of(rest: &[u8]) -> Option<Line<'_>>
-    ensures { option_map said_by result ≡ start_at (slice_split is_tab rest.now) }
+    ensures { option_map said_by result ≡ start_now (slice_split is_tab rest.now) }
 {
     let (namespace, name) = cut(rest)?;
     if cut(name).is_some() || name.is_empty() || namespace != b"html".as_slice() {
@@ -100,7 +100,7 @@ fn end_of(rest: &[u8]) -> Option<Line<'_>>
 
 /// What a line says, or nothing where it has none of the forms.
 pub fn line_of(bytes: &[u8]) -> Option<Line<'_>>
-    ensures { option_map said_by result ≡ line_at bytes.now }
+    ensures { option_map said_by result ≡ line_now bytes.now }
 {
     let (kind, rest) = cut(bytes)?;
     if kind == b"select".as_slice() {

@@ -6,10 +6,10 @@ ghost use Rattle.lol_program.specs.Runs.{path_runs};
 ghost use Rattle.lol_vm.specs.Events.{Event, Start};
 ghost use Rattle.lol_vm.specs.Views.{IsPlainHtml, HasRangesInside, event_of};
 ghost use Rattle.lol_match.specs.Script.{Select};
-ghost use Rattle.lol_match.specs.First.{line_at, plain_tag};
+ghost use Rattle.lol_match.specs.First.{line_now, plain_tag};
 ghost use Rattle.lol_match.specs.Scripts as scripts;
 ghost use Rattle.lol_match.specs.Scripts.{with_bytes, with_line, with_event, read_script};
-ghost use Rattle.lol_match.specs.Readings.{IsReading, Reads, Stops};
+ghost use Rattle.lol_match.specs.Readings.{IsReading, ReadsScript, Stops};
 ghost use Rattle.lol_css.specs.declared.error.SelectorError.TheVariants.{UnsupportedSyntax};
 ghost use Rattle.lol_match.specs.declared.script.Stop.TheVariants.{Memory};
 
@@ -38,15 +38,15 @@ pub enum Stop {
     Bad(BadLine),
 }
 
-/// Reads a script, up to its first bad line. `none` are the attributes of its tags, which have none for now.
+/// ReadsScript a script, up to its first bad line. `none` are the attributes of its tags, which have none for now.
 pub fn read_script<'s>(
     alloc: Global,
     bytes: &'s [u8],
     none: &'s AttributeBuffer,
 ) -> Result<Script<'s>, Stop>
     requires { none.now.items ≡ [] }
-    ensures read { IfOk result (λ script. Reads script (read_script line_at path_runs bytes.now)) }
-    ensures stop { IfErr result (λ stop. Stops stop (read_script line_at path_runs bytes.now)) }
+    ensures read { IfOk result (λ script. ReadsScript script (read_script line_now path_runs bytes.now)) }
+    ensures stop { IfErr result (λ stop. Stops stop (read_script line_now path_runs bytes.now)) }
 {
     let mut script = Script {
         ast: Ast::new(alloc),
@@ -67,8 +67,8 @@ fn take_line<'s>(
     none: &'s AttributeBuffer,
 ) -> Result<(), Stop>
     requires { none.now.items ≡ [] }
-    ensures taken { OnOk result ((s : scripts.Script) → IsReading script.old s → Reads script.new (with_bytes line_at path_runs number s line.now)) }
-    ensures stop { IfErr result (λ stop. (s : scripts.Script) → IsReading script.old s → Stops stop (with_bytes line_at path_runs number s line.now)) }
+    ensures taken { OnOk result ((s : scripts.Script) → IsReading script.old s → ReadsScript script.new (with_bytes line_now path_runs number s line.now)) }
+    ensures stop { IfErr result (λ stop. (s : scripts.Script) → IsReading script.old s → Stops stop (with_bytes line_now path_runs number s line.now)) }
 {
     if line.is_empty() {
         return Ok(());
@@ -138,8 +138,8 @@ fn take_selector(
     id: u32,
     text: &str,
 ) -> Result<(), Stop>
-    ensures taken { OnOk result ((s : scripts.Script) → IsReading script.old s → Reads script.new (with_line line_at path_runs number s (Select id text.now))) }
-    ensures stop { IfErr result (λ stop. (s : scripts.Script) → IsReading script.old s → Stops stop (with_line line_at path_runs number s (Select id text.now))) }
+    ensures taken { OnOk result ((s : scripts.Script) → IsReading script.old s → ReadsScript script.new (with_line line_now path_runs number s (Select id text.now))) }
+    ensures stop { IfErr result (λ stop. (s : scripts.Script) → IsReading script.old s → Stops stop (with_line line_now path_runs number s (Select id text.now))) }
 {
     if !script.events.is_empty() {
         return Err(malformed(number));

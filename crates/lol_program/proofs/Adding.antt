@@ -10,7 +10,7 @@ use Rattle.lol_program.specs.Growth.{Adds, AddsFirst}
 use Rattle.lol_program.specs.IdsForNodes.{pairs_with}
 use Rattle.lol_program.specs.Sets.{Joins, SameMembers, IsBetween}
 use Rattle.lol_program.specs.AstPaths.{AllIn}
-use Rattle.lol_program.specs.Views.{steps_of, tests_in}
+use Rattle.lol_program.specs.Views.{steps_of, tests_of_compound}
 use Rattle.lol_css.specs.declared.selector.ComplexSelector.{ComplexSelector}
 use Rattle.lol_program.specs.NodeMemberLaws.{HasNode, HasPair, BringsNode, BringsPair, BringsFirst}
 use Rattle.lol_program.proofs.Grown.{has_added, has_added_first}
@@ -59,4 +59,4 @@ module _ (c : Compound) (rest : List (Combinator × Compound)) (old new : Forest
 
 pub keeps_all : (old new : Forest) → Keeps old new → (items : List ComplexSelector) → AllIn old items → AllIn new items
 keeps_all old new k [] h = tt
-keeps_all old new k (item ∷ items) h = (k (tests_in (out-ComplexSelector item).first) (steps_of (out-ComplexSelector item).rest.items) h.0, keeps_all old new k items h.1)
+keeps_all old new k (item ∷ items) h = (k (tests_of_compound (out-ComplexSelector item).first) (steps_of (out-ComplexSelector item).rest.items) h.0, keeps_all old new k items h.1)

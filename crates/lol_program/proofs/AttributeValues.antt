@@ -18,10 +18,10 @@ use Rattle.lol_css.specs.declared.attribute.CaseSensitivity.{CaseSensitivity}
 use Rattle.lol_css.specs.declared.attribute.CaseSensitivity.TheVariants.{CaseSensitive, AsciiCaseInsensitive}
 use Rattle.memchr.specs.Find.{FindsNeedle, IsFirstByte, OccursAt, Nowhere, Passes, is_byte2}
 use Rattle.memchr.proofs.lemmas.MatchLemmas.{OccursAt-part, OccursAt-from_part}
-use Rattle.lol_program.specs.Tests.{compared, words, is_white, is_empty, stands_in}
+use Rattle.lol_program.specs.Tests.{compared, words, is_white, is_empty_text, stands_in}
 use Rattle.lol_program.specs.Attributes.{ignores, value_holds}
 use Rattle.memchr.proofs.lemmas.FindLemmas.{IsFirst-agree}
-use Rattle.lol_program.specs.Words.{is_letter, NoLetter, IsLetterEnd}
+use Rattle.lol_program.specs.Words.{is_letter_of, NoLetter, IsLetterEnd}
 use Rattle.lol_program.specs.Substrings.{stands_in_caseless, IsAfterLetter}
 
 -- 1. What is compared of a part is that part of what is compared
@@ -245,19 +245,19 @@ stands_in-found hay needle (Some at) found = sym (stands_in-true hay needle at f
 pub substring_found : (value operand rest : List ℕ) (first : ℕ) (r : Option ℕ) → operand ≡ first ∷ rest → FindsNeedle value operand 0 r
     → is_some r ≡ value_holds Substring CaseSensitive value operand
 substring_found value operand rest first r is found =
-    stands_in-found value operand r found ∙ ap (λ (part : List ℕ). not (is_empty part) && stands_in value operand) (sym is)
+    stands_in-found value operand r found ∙ ap (λ (part : List ℕ). not (is_empty_text part) && stands_in value operand) (sym is)
 
 -- 6. Substrings without case
 
 abbrev pub IsLetterAt : ℕ → List ℕ → ℕ → Type 0
-IsLetterAt first hay at = Passes (is_letter AsciiCaseInsensitive first) hay at
+IsLetterAt first hay at = Passes (is_letter_of AsciiCaseInsensitive first) hay at
 
 same_letter : (a b : ℕ) → is_byte2 (to_ascii_lowercase b) (to_ascii_uppercase b) a ≡ eqb (to_ascii_lowercase b) (to_ascii_lowercase a)
 same_letter a b = grind (arith, nat_tests)
 
 -- a byte and its other case are a letter
 pub caseless_letter : (letter lower upper : ℕ) (value : List ℕ) (r : Option ℕ) → lower ≡ to_ascii_lowercase letter → upper ≡ to_ascii_uppercase letter
-    → IsFirstByte (is_byte2 lower upper) value r → IsFirstByte (is_letter AsciiCaseInsensitive letter) value r
+    → IsFirstByte (is_byte2 lower upper) value r → IsFirstByte (is_letter_of AsciiCaseInsensitive letter) value r
 caseless_letter letter lower upper value r low up found =
     let both : IsFirstByte (is_byte2 (to_ascii_lowercase letter) (to_ascii_uppercase letter)) value r = rw (← low, ← up) found in
     IsFirst-agree (Passes (is_byte2 (to_ascii_lowercase letter) (to_ascii_uppercase letter)) value) (IsLetterAt letter value) 0 (length value)
@@ -287,7 +287,7 @@ letter_here first (b ∷ hay) rest zero within none passes =
 letter_here first (b ∷ hay) rest (suc at) within none passes =
     other_letter first b hay rest (none 0 (omega arith) (omega arith)) ∙ letter_here first hay rest at (omega arith) (later_letter first b hay at none) passes
 
-pub letter_found : (first place : ℕ) (value left : List ℕ) → IsFirstByte (is_letter AsciiCaseInsensitive first) value (Some place) → left ≡ drop (place + 1) value → IsAfterLetter first value (Some left)
+pub letter_found : (first place : ℕ) (value left : List ℕ) → IsFirstByte (is_letter_of AsciiCaseInsensitive first) value (Some place) → left ≡ drop (place + 1) value → IsAfterLetter first value (Some left)
 letter_found first place value left found left_is =
     let left_after : left ≡ drop (suc place) value = left_is ∙ ap (λ (n : ℕ). drop n value) (add-one place) in
     let high = found.0.high in (
@@ -297,18 +297,18 @@ letter_found first place value left found left_is =
 
 -- 7. The place of a letter in what is left
 
-no_letter_before : (case : CaseSensitivity) (value : List ℕ) (letter from place to : ℕ) → Nowhere (Passes (is_letter case letter) (drop from value)) 0 place → to ≤ from + place → NoLetter case value letter from to
+no_letter_before : (case : CaseSensitivity) (value : List ℕ) (letter from place to : ℕ) → Nowhere (Passes (is_letter_of case letter) (drop from value)) 0 place → to ≤ from + place → NoLetter case value letter from to
 no_letter_before case value letter from place to none within k low high =
     let at : from + (k - from) ≡ k = omega arith in
     ⊎_elim
-    (λ yes. absurd (none (k - from) (omega arith) (omega arith) (ap (is_letter case letter) (get_or-drop from value (k - from) 0 ∙ ap (λ (i : ℕ). get_or value i 0) at) ∙ yes)))
+    (λ yes. absurd (none (k - from) (omega arith) (omega arith) (ap (is_letter_of case letter) (get_or-drop from value (k - from) 0 ∙ ap (λ (i : ℕ). get_or value i 0) at) ∙ yes)))
     (λ no. no)
-    (cases_Bool (is_letter case letter (get_or value k 0)))
+    (cases_Bool (is_letter_of case letter (get_or value k 0)))
 
-pub no_letter_left : (case : CaseSensitivity) (value : List ℕ) (letter from : ℕ) → IsFirstByte (is_letter case letter) (drop from value) None → from ≤ length value → NoLetter case value letter from (length value)
+pub no_letter_left : (case : CaseSensitivity) (value : List ℕ) (letter from : ℕ) → IsFirstByte (is_letter_of case letter) (drop from value) None → from ≤ length value → NoLetter case value letter from (length value)
 no_letter_left case value letter from none within = no_letter_before case value letter from (length (drop from value)) (length value) none (omega (arith, length-drop from value))
 
-pub letter_left : (case : CaseSensitivity) (value : List ℕ) (letter from place : ℕ) → IsFirstByte (is_letter case letter) (drop from value) (Some place) → from ≤ length value → IsLetterEnd case value letter from (from + place + 1)
+pub letter_left : (case : CaseSensitivity) (value : List ℕ) (letter from place : ℕ) → IsFirstByte (is_letter_of case letter) (drop from value) (Some place) → from ≤ length value → IsLetterEnd case value letter from (from + place + 1)
 letter_left case value letter from place found within =
     let high = found.0.high in
     let low : place < length value - from = omega (arith, length-drop from value) in

@@ -7,7 +7,7 @@ use Rattle.lol_program.specs.Compounds.{Compound}
 use Rattle.lol_program.specs.Paths.{Path, Then}
 use Rattle.lol_program.specs.Forest.{Forest, none, more, Node, link, SiblingsDiffer, HasTop}
 use Rattle.lol_program.specs.Growth.{fresh, AtRoot, Takes, Under, Adds, AddsFirst}
-use Rattle.lol_program.specs.NodeMemberLaws.{Has, HasIn, IsAt, IsPair, HasNode, HasPair, BringsNode, BringsPair, BringsFirst, HasAdded, HasAddedFirst}
+use Rattle.lol_program.specs.NodeMemberLaws.{HasUnder, HasIn, IsPlacedAt, IsPair, HasNode, HasPair, BringsNode, BringsPair, BringsFirst, HasAdded, HasAddedFirst}
 
 of_rest : {A B N : Type 0} → B ⊎ N → (A ⊎ B) ⊎ N
 of_rest (inl b) = inl (inr b)
@@ -46,26 +46,26 @@ module _ (Own : Path → List ℕ → Type 0) (New : Type 0) (make : Compound �
   from_fresh at_fresh (inl (inr (inr x))) = absurd x
   from_fresh at_fresh (inr new) = inr new
 
-  only_none : (Own (make c) [] → New) → Grows → (m : Node) → R (fresh c) m → Has Own make (link m none) → ⊥ ⊎ New
+  only_none : (Own (make c) [] → New) → Grows → (m : Node) → R (fresh c) m → HasUnder Own make (link m none) → ⊥ ⊎ New
   only_none at_fresh grows m r (inl here) = from_fresh at_fresh ((grows (fresh c) m refl r).0 here)
   only_none at_fresh grows m r (inr x) = absurd x
 
-  only_new : (Own (make c) [] → New) → Grows → (old new : Forest) → AtRoot c R old new → Has Own make new → Has Own make old ⊎ New
-  only_new at_fresh grows none new h has = only_none at_fresh grows h.0 h.1 (subst (Has Own make) h.2 has)
+  only_new : (Own (make c) [] → New) → Grows → (old new : Forest) → AtRoot c R old new → HasUnder Own make new → HasUnder Own make old ⊎ New
+  only_new at_fresh grows none new h has = only_none at_fresh grows h.0 h.1 (subst (HasUnder Own make) h.2 has)
   only_new at_fresh grows (more d ids children descendants rest) new (inl h) has =
-      only_first (λ x. (grows (record { compound = d; ids = ids; children = children; descendants = descendants }) h.1 h.0 h.2).0 x) (subst (Has Own make) h.3 has)
+      only_first (λ x. (grows (record { compound = d; ids = ids; children = children; descendants = descendants }) h.1 h.0 h.2).0 x) (subst (HasUnder Own make) h.3 has)
   only_new at_fresh grows (more d ids children descendants rest) new (inr h) has =
-      only_rest (λ x. only_new at_fresh grows rest h.1 h.2 x) (subst (Has Own make) h.3 has)
+      only_rest (λ x. only_new at_fresh grows rest h.1 h.2 x) (subst (HasUnder Own make) h.3 has)
 
-  kept_and_new : Grows → (old new : Forest) → AtRoot c R old new → Has Own make old ⊎ New → Has Own make new
+  kept_and_new : Grows → (old new : Forest) → AtRoot c R old new → HasUnder Own make old ⊎ New → HasUnder Own make new
   kept_and_new grows none new h (inl x) = absurd x
-  kept_and_new grows none new h (inr x) = subst (Has Own make) (sym h.2) (inl ((grows (fresh c) h.0 refl h.1).1 (inr x)))
+  kept_and_new grows none new h (inr x) = subst (HasUnder Own make) (sym h.2) (inl ((grows (fresh c) h.0 refl h.1).1 (inr x)))
   kept_and_new grows (more d ids children descendants rest) new (inl h) has =
-      subst (Has Own make) (sym h.3) (kept_first (λ x. (grows (record { compound = d; ids = ids; children = children; descendants = descendants }) h.1 h.0 h.2).1 x) has)
+      subst (HasUnder Own make) (sym h.3) (kept_first (λ x. (grows (record { compound = d; ids = ids; children = children; descendants = descendants }) h.1 h.0 h.2).1 x) has)
   kept_and_new grows (more d ids children descendants rest) new (inr h) has =
-      subst (Has Own make) (sym h.3) (kept_rest (λ x. kept_and_new grows rest h.1 h.2 x) has)
+      subst (HasUnder Own make) (sym h.3) (kept_rest (λ x. kept_and_new grows rest h.1 h.2 x) has)
 
-  pub at_root_has : (Own (make c) [] → New) → Grows → (old new : Forest) → AtRoot c R old new → Has Own make new ↔ (Has Own make old ⊎ New)
+  pub at_root_has : (Own (make c) [] → New) → Grows → (old new : Forest) → AtRoot c R old new → HasUnder Own make new ↔ (HasUnder Own make old ⊎ New)
   at_root_has at_fresh grows old new h = (only_new at_fresh grows old new h, kept_and_new grows old new h)
 
 -- what is new at a node, or under it
@@ -104,7 +104,7 @@ module _ (Own : Path → List ℕ → Type 0) (Here Below : Type 0) (make : Comp
 
   pub grows_under : (step : Combinator) (R : Forest → Forest → Type 0) (n m : Node)
       → (Here → Own (make n.compound) n.ids)
-      → ((old new : Forest) → R old new → Has Own (Then (make n.compound) step) new ↔ (Has Own (Then (make n.compound) step) old ⊎ Below))
+      → ((old new : Forest) → R old new → HasUnder Own (Then (make n.compound) step) new ↔ (HasUnder Own (Then (make n.compound) step) old ⊎ Below))
       → Under step R n m → HasIn Own make m ↔ (HasIn Own make n ⊎ (Here ⊎ Below))
   grows_under Child R n m here law u =
       subst (λ (k : Node). HasIn Own make k ↔ (HasIn Own make n ⊎ (Here ⊎ Below))) (sym u.2)
@@ -114,14 +114,14 @@ module _ (Own : Path → List ℕ → Type 0) (Here Below : Type 0) (make : Comp
       (only_descendant (λ x. (law n.descendants u.0 u.1).0 x), all_descendant here (λ x. (law n.descendants u.0 u.1).1 x))
 
 -- a node that takes an id, or none
-takes_node : (make : Compound → Path) (path : Path) (id : Option ℕ) (n m : Node) → Takes id n m → HasIn (IsAt path) make m ↔ (HasIn (IsAt path) make n ⊎ (make n.compound ≡ path))
-takes_node make path None n m t = subst (λ (k : Node). HasIn (IsAt path) make k ↔ (HasIn (IsAt path) make n ⊎ (make n.compound ≡ path))) (sym t) ((λ x. inl x), merge)
+takes_node : (make : Compound → Path) (path : Path) (id : Option ℕ) (n m : Node) → Takes id n m → HasIn (IsPlacedAt path) make m ↔ (HasIn (IsPlacedAt path) make n ⊎ (make n.compound ≡ path))
+takes_node make path None n m t = subst (λ (k : Node). HasIn (IsPlacedAt path) make k ↔ (HasIn (IsPlacedAt path) make n ⊎ (make n.compound ≡ path))) (sym t) ((λ x. inl x), merge)
   where
     merge : {A B : Type 0} → (A ⊎ B) ⊎ A → A ⊎ B
     merge (inl x) = x
     merge (inr a) = inl a
 takes_node make path (Some id) n m t =
-    subst (λ (k : Node). HasIn (IsAt path) make k ↔ (HasIn (IsAt path) make n ⊎ (make n.compound ≡ path))) (sym t.2) ((λ x. inl x), merge)
+    subst (λ (k : Node). HasIn (IsPlacedAt path) make k ↔ (HasIn (IsPlacedAt path) make n ⊎ (make n.compound ≡ path))) (sym t.2) ((λ x. inl x), merge)
   where
     merge : {A B : Type 0} → (A ⊎ B) ⊎ A → A ⊎ B
     merge (inl x) = x
@@ -181,13 +181,13 @@ drop_never {A} {B} {C} h = (λ a. to (h.0 a), λ x. h.1 (from x))
 
 pub added_nodes : (id : Option ℕ) (make : Compound → Path) (path : Path) (c : Compound) (rest : List (Combinator × Compound)) (old new : Forest) → Adds id c rest old new → HasNode make new path ↔ (HasNode make old path ⊎ BringsNode make c rest path)
 added_nodes id make path c [] old new h =
-    at_root_has (IsAt path) (make c ≡ path) make c (Takes id) (λ own. own)
-    (λ n m e t. subst (λ (d : Compound). HasIn (IsAt path) make m ↔ (HasIn (IsAt path) make n ⊎ (make d ≡ path))) e (takes_node make path id n m t))
+    at_root_has (IsPlacedAt path) (make c ≡ path) make c (Takes id) (λ own. own)
+    (λ n m e t. subst (λ (d : Compound). HasIn (IsPlacedAt path) make m ↔ (HasIn (IsPlacedAt path) make n ⊎ (make d ≡ path))) e (takes_node make path id n m t))
     old new h
 added_nodes id make path c (step ∷ rest) old new h =
-    at_root_has (IsAt path) ((make c ≡ path) ⊎ BringsNode (Then (make c) step.0) step.1 rest path) make c (Under step.0 (Adds id step.1 rest)) (λ own. inl own)
-    (λ n m e u. subst (λ (d : Compound). HasIn (IsAt path) make m ↔ (HasIn (IsAt path) make n ⊎ ((make d ≡ path) ⊎ BringsNode (Then (make d) step.0) step.1 rest path))) e
-    (grows_under (IsAt path) (make n.compound ≡ path) (BringsNode (Then (make n.compound) step.0) step.1 rest path) make step.0 (Adds id step.1 rest) n m (λ x. x)
+    at_root_has (IsPlacedAt path) ((make c ≡ path) ⊎ BringsNode (Then (make c) step.0) step.1 rest path) make c (Under step.0 (Adds id step.1 rest)) (λ own. inl own)
+    (λ n m e u. subst (λ (d : Compound). HasIn (IsPlacedAt path) make m ↔ (HasIn (IsPlacedAt path) make n ⊎ ((make d ≡ path) ⊎ BringsNode (Then (make d) step.0) step.1 rest path))) e
+    (grows_under (IsPlacedAt path) (make n.compound ≡ path) (BringsNode (Then (make n.compound) step.0) step.1 rest path) make step.0 (Adds id step.1 rest) n m (λ x. x)
     (λ o w k. added_nodes id (Then (make n.compound) step.0) path step.1 rest o w k) u))
     old new h
 
@@ -220,18 +220,18 @@ without_never {A} {B} h = (λ a. to (h.0 a), λ b. h.1 (inl b))
 pub first_nodes : (k : ℕ) (make : Compound → Path) (path : Path) (c : Compound) (rest : List (Combinator × Compound)) (old new : Forest) → AddsFirst k c rest old new → HasNode make new path ↔ (HasNode make old path ⊎ BringsFirst k make c rest path)
 first_nodes zero make path c rest old new h = with_never (ap (λ f. HasNode make f path) h)
 first_nodes (suc k) make path c [] old new h =
-    at_root_has (IsAt path) (make c ≡ path) make c (λ n m. m ≡ n) (λ own. own)
-    (λ n m e t. subst (λ (i : Node). HasIn (IsAt path) make i ↔ (HasIn (IsAt path) make n ⊎ (make c ≡ path))) (sym t)
-    (subst (λ (d : Compound). HasIn (IsAt path) make n ↔ (HasIn (IsAt path) make n ⊎ (make d ≡ path))) e ((λ y. inl y), merge)))
+    at_root_has (IsPlacedAt path) (make c ≡ path) make c (λ n m. m ≡ n) (λ own. own)
+    (λ n m e t. subst (λ (i : Node). HasIn (IsPlacedAt path) make i ↔ (HasIn (IsPlacedAt path) make n ⊎ (make c ≡ path))) (sym t)
+    (subst (λ (d : Compound). HasIn (IsPlacedAt path) make n ↔ (HasIn (IsPlacedAt path) make n ⊎ (make d ≡ path))) e ((λ y. inl y), merge)))
     old new h
   where
     merge : {A B : Type 0} → (A ⊎ B) ⊎ A → A ⊎ B
     merge (inl y) = y
     merge (inr a) = inl a
 first_nodes (suc k) make path c (step ∷ rest) old new h =
-    at_root_has (IsAt path) ((make c ≡ path) ⊎ BringsFirst k (Then (make c) step.0) step.1 rest path) make c (Under step.0 (AddsFirst k step.1 rest)) (λ own. inl own)
-    (λ n m e u. subst (λ (d : Compound). HasIn (IsAt path) make m ↔ (HasIn (IsAt path) make n ⊎ ((make d ≡ path) ⊎ BringsFirst k (Then (make d) step.0) step.1 rest path))) e
-    (grows_under (IsAt path) (make n.compound ≡ path) (BringsFirst k (Then (make n.compound) step.0) step.1 rest path) make step.0 (AddsFirst k step.1 rest) n m (λ x. x)
+    at_root_has (IsPlacedAt path) ((make c ≡ path) ⊎ BringsFirst k (Then (make c) step.0) step.1 rest path) make c (Under step.0 (AddsFirst k step.1 rest)) (λ own. inl own)
+    (λ n m e u. subst (λ (d : Compound). HasIn (IsPlacedAt path) make m ↔ (HasIn (IsPlacedAt path) make n ⊎ ((make d ≡ path) ⊎ BringsFirst k (Then (make d) step.0) step.1 rest path))) e
+    (grows_under (IsPlacedAt path) (make n.compound ≡ path) (BringsFirst k (Then (make n.compound) step.0) step.1 rest path) make step.0 (AddsFirst k step.1 rest) n m (λ x. x)
     (λ o w t. first_nodes k (Then (make n.compound) step.0) path step.1 rest o w t) u))
     old new h
 

@@ -6,32 +6,32 @@ use Rattle.std.proofs.Math.Seq.{take-length, drop-cons}
 use Rattle.std.proofs.lemmas.Grind.{flat_map-append}
 use Rattle.lol_program.specs.Paths.{Path, beginnings, all_beginnings}
 use Rattle.lol_program.specs.Forest.{Forest}
-use Rattle.lol_program.specs.AstPaths.{shown, IsIn, AllIn}
+use Rattle.lol_program.specs.AstPaths.{path_shown, IsIn, AllIn}
 use Rattle.lol_css.specs.declared.selector.ComplexSelector.{ComplexSelector}
 use Rattle.lol_program.proofs.Joining.{flat_map-front}
 
 -- the beginnings of paths
 abbrev pub all_of : List ComplexSelector → List Path
-all_of paths = flat_map beginnings (map shown paths)
+all_of paths = flat_map beginnings (map path_shown paths)
 
 -- their pairs under an id
 abbrev pub pairs_for : ℕ → List ComplexSelector → List (Path × ℕ)
-pairs_for id paths = map (λ path. (shown path, id)) paths
+pairs_for id paths = map (λ path. (path_shown path, id)) paths
 
 pub all_of-append : (xs ys : List ComplexSelector) → all_of (xs ++ ys) ≡ all_of xs ++ all_of ys
-all_of-append xs ys = ap (flat_map beginnings) (map-append shown xs ys) ∙ flat_map-append beginnings (map shown xs) (map shown ys)
+all_of-append xs ys = ap (flat_map beginnings) (map-append path_shown xs ys) ∙ flat_map-append beginnings (map path_shown xs) (map path_shown ys)
 
-pub all_of-one : (x : ComplexSelector) → all_of (x ∷ []) ≡ beginnings (shown x)
-all_of-one x = append-nil (beginnings (shown x))
+pub all_of-one : (x : ComplexSelector) → all_of (x ∷ []) ≡ beginnings (path_shown x)
+all_of-one x = append-nil (beginnings (path_shown x))
 
 pub one_more : (paths : List ComplexSelector) (i : ℕ) (x : ComplexSelector) → i < length paths → x ≡ get_or paths i x → take (i + 1) paths ≡ take i paths ++ x ∷ []
 one_more paths i x within at = take_more paths i x within ∙ ap (λ (y : ComplexSelector). take i paths ++ y ∷ []) (sym at)
 
-pub all_of-more : (paths : List ComplexSelector) (i : ℕ) (x : ComplexSelector) → i < length paths → x ≡ get_or paths i x → all_of (take (i + 1) paths) ≡ all_of (take i paths) ++ beginnings (shown x)
+pub all_of-more : (paths : List ComplexSelector) (i : ℕ) (x : ComplexSelector) → i < length paths → x ≡ get_or paths i x → all_of (take (i + 1) paths) ≡ all_of (take i paths) ++ beginnings (path_shown x)
 all_of-more paths i x within at = ap all_of (one_more paths i x within at) ∙ all_of-append (take i paths) (x ∷ []) ∙ ap (λ (l : List Path). all_of (take i paths) ++ l) (all_of-one x)
 
-pub pairs_for-more : (id : ℕ) (paths : List ComplexSelector) (i : ℕ) (x : ComplexSelector) → i < length paths → x ≡ get_or paths i x → pairs_for id (take (i + 1) paths) ≡ pairs_for id (take i paths) ++ (shown x, id) ∷ []
-pairs_for-more id paths i x within at = ap (pairs_for id) (one_more paths i x within at) ∙ map-append (λ (path : ComplexSelector). (shown path, id)) (take i paths) (x ∷ [])
+pub pairs_for-more : (id : ℕ) (paths : List ComplexSelector) (i : ℕ) (x : ComplexSelector) → i < length paths → x ≡ get_or paths i x → pairs_for id (take (i + 1) paths) ≡ pairs_for id (take i paths) ++ (path_shown x, id) ∷ []
+pairs_for-more id paths i x within at = ap (pairs_for id) (one_more paths i x within at) ∙ map-append (λ (path : ComplexSelector). (path_shown path, id)) (take i paths) (x ∷ [])
 
 -- those that are left, with the one that is taken next
 pub one_left : (paths : List ComplexSelector) (i : ℕ) (x : ComplexSelector) → i < length paths → x ≡ get_or paths i x → drop i paths ≡ x ∷ drop (i + 1) paths
@@ -51,7 +51,7 @@ all_taken paths i is = ap (λ (k : ℕ). take k paths) is ∙ take-length paths
 pub part_of_all : (paths : List ComplexSelector) (i : ℕ) (path : Path) → Contains (all_of (take i paths)) path → Contains (all_of paths) path
 part_of_all paths i path h =
     subst (λ (l : List ComplexSelector). Contains (all_of l) path) (take-append-drop i paths)
-    (subst (λ (l : List Path). Contains (flat_map beginnings l) path) (sym (map-append shown (take i paths) (drop i paths))) (flat_map-front beginnings (map shown (take i paths)) (map shown (drop i paths)) path h))
+    (subst (λ (l : List Path). Contains (flat_map beginnings l) path) (sym (map-append path_shown (take i paths) (drop i paths))) (flat_map-front beginnings (map path_shown (take i paths)) (map path_shown (drop i paths)) path h))
 
 pub AllIn-push : (f : Forest) (xs : List ComplexSelector) (x : ComplexSelector) → AllIn f xs → IsIn f x → AllIn f (xs ++ x ∷ [])
 AllIn-push f [] x h is = (is, tt)
@@ -80,11 +80,11 @@ AllIn-at f (y ∷ paths) zero x within at h = subst (IsIn f) (sym at) h.0
 AllIn-at f (y ∷ paths) (suc i) x within at h = AllIn-at f paths i x (omega (arith, within)) at h.1
 
 -- others, and a last one
-pub all_of-last : (paths others : List ComplexSelector) (last : ComplexSelector) → paths ≡ others ++ last ∷ [] → all_of paths ≡ all_of others ++ beginnings (shown last)
+pub all_of-last : (paths others : List ComplexSelector) (last : ComplexSelector) → paths ≡ others ++ last ∷ [] → all_of paths ≡ all_of others ++ beginnings (path_shown last)
 all_of-last paths others last is = ap all_of is ∙ all_of-append others (last ∷ []) ∙ ap (λ (l : List Path). all_of others ++ l) (all_of-one last)
 
-pub pairs_for-last : (id : ℕ) (paths others : List ComplexSelector) (last : ComplexSelector) → paths ≡ others ++ last ∷ [] → pairs_for id paths ≡ pairs_for id others ++ (shown last, id) ∷ []
-pairs_for-last id paths others last is = ap (pairs_for id) is ∙ map-append (λ (path : ComplexSelector). (shown path, id)) others (last ∷ [])
+pub pairs_for-last : (id : ℕ) (paths others : List ComplexSelector) (last : ComplexSelector) → paths ≡ others ++ last ∷ [] → pairs_for id paths ≡ pairs_for id others ++ (path_shown last, id) ∷ []
+pairs_for-last id paths others last is = ap (pairs_for id) is ∙ map-append (λ (path : ComplexSelector). (path_shown path, id)) others (last ∷ [])
 
 -- a list of one item
 pub one_item : (items : List ComplexSelector) (x : ComplexSelector) → 1 ≤ length items → length items < 2 → x ≡ get_or items 0 x → items ≡ x ∷ []

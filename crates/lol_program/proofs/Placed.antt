@@ -10,7 +10,7 @@ use Rattle.lol_css.specs.declared.selector.Compound as css
 use Rattle.lol_program.proofs.Grown.{added_differ, first_differ}
 use Rattle.lol_program.specs.Places.{IsPlace, HasPlace, IsNowhere}
 use Rattle.lol_program.specs.Growth.{fresh, AtRoot, Takes, Under, Adds, AddsFirst}
-use Rattle.lol_program.specs.Views.{node_of, forest_of, linked, steps_of, tests_in}
+use Rattle.lol_program.specs.Views.{node_of, forest_of, linked, steps_of, tests_of_compound}
 use Rattle.lol_program.specs.declared.ast_node.AstNode.{AstNode}
 use Rattle.lol_program.specs.declared.ast_node.AstNode.TheOpen.{AstNode-F}
 use Rattle.lol_program.specs.declared.ast_node.AstNode.TheViews.{out-AstNode, roll-AstNode}
@@ -69,18 +69,18 @@ adds_none id c [] old new e h = h
 adds_none id c (s ∷ rest) old new e h = absurd (omega (arith, e))
 
 pub adds_some : (id : Option ℕ) (c : Compound) (all rest : List (Combinator × css.Compound)) (s : Combinator × css.Compound) (step : Combinator) (old new : Forest) → all ≡ s ∷ rest → s.0 ≡ step
-    → AtRoot c (Under step (Adds id (tests_in s.1) (steps_of rest))) old new → Adds id c (steps_of all) old new
+    → AtRoot c (Under step (Adds id (tests_of_compound s.1) (steps_of rest))) old new → Adds id c (steps_of all) old new
 adds_some id c all rest s step old new e f h =
-    subst (λ (ss : List (Combinator × css.Compound)). Adds id c (steps_of ss) old new) (sym e) (subst (λ (t : Combinator). AtRoot c (Under t (Adds id (tests_in s.1) (steps_of rest))) old new) (sym f) h)
+    subst (λ (ss : List (Combinator × css.Compound)). Adds id c (steps_of ss) old new) (sym e) (subst (λ (t : Combinator). AtRoot c (Under t (Adds id (tests_of_compound s.1) (steps_of rest))) old new) (sym f) h)
 
 pub first_none : (c : Compound) (rest : List (Combinator × css.Compound)) (old new : Forest) → length rest ≡ 0 → AtRoot c (Takes None) old new → AddsFirst 1 c (steps_of rest) old new
 first_none c [] old new e h = h
 first_none c (s ∷ rest) old new e h = absurd (omega (arith, e))
 
 pub first_some : (k : ℕ) (c : Compound) (all rest : List (Combinator × css.Compound)) (s : Combinator × css.Compound) (step : Combinator) (old new : Forest) → all ≡ s ∷ rest → s.0 ≡ step
-    → AtRoot c (Under step (AddsFirst k (tests_in s.1) (steps_of rest))) old new → AddsFirst (suc k) c (steps_of all) old new
+    → AtRoot c (Under step (AddsFirst k (tests_of_compound s.1) (steps_of rest))) old new → AddsFirst (suc k) c (steps_of all) old new
 first_some k c all rest s step old new e f h =
-    subst (λ (ss : List (Combinator × css.Compound)). AddsFirst (suc k) c (steps_of ss) old new) (sym e) (subst (λ (t : Combinator). AtRoot c (Under t (AddsFirst k (tests_in s.1) (steps_of rest))) old new) (sym f) h)
+    subst (λ (ss : List (Combinator × css.Compound)). AddsFirst (suc k) c (steps_of ss) old new) (sym e) (subst (λ (t : Combinator). AtRoot c (Under t (AddsFirst k (tests_of_compound s.1) (steps_of rest))) old new) (sym f) h)
 
 pub differ_after : {T E : Type 0} (r : Result T E) (id : Option ℕ) (c : Compound) (rest : List (Combinator × Compound)) (old new : Forest)
     → OnOk r (Adds id c rest old new) → OnErr r ((k : ℕ) × AddsFirst k c rest old new) → SiblingsDiffer old → SiblingsDiffer new

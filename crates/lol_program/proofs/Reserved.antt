@@ -5,7 +5,7 @@ use Rattle.lol_css.specs.declared.selector.SimpleSelector.TheViews.{out-ComplexS
 use Rattle.lol_program.specs.AstPaths.{IsIn, IsInWith, AreEnough}
 use Rattle.lol_program.specs.Forest.{Forest}
 use Rattle.lol_program.specs.IdsForNodes.{AllReserve, HasRoomAmong}
-use Rattle.lol_program.specs.Views.{tests_in, steps_of}
+use Rattle.lol_program.specs.Views.{tests_of_compound, steps_of}
 use Rattle.lol_program.specs.declared.reserved_id.ReservedId.{ReservedId}
 use Rattle.lol_program.proofs.Standing.{KeepsWith, Keeps}
 
@@ -63,6 +63,6 @@ module _ (id : ℕ) (f : Forest) where
 pub enough-kept : (id : ℕ) (old new : Forest) → KeepsWith (HasRoomAmong id) old new → Keeps old new → (items : List ComplexSelector) (count : ℕ) → AreEnough id old items count → AreEnough id new items count
 enough-kept id old new rooms paths [] count h = tt
 enough-kept id old new rooms paths (x ∷ items) count (inl h) =
-    inl (rooms (tests_in (out-ComplexSelector x).first) (steps_of (out-ComplexSelector x).rest.items) h.0, enough-kept id old new rooms paths items count h.1)
+    inl (rooms (tests_of_compound (out-ComplexSelector x).first) (steps_of (out-ComplexSelector x).rest.items) h.0, enough-kept id old new rooms paths items count h.1)
 enough-kept id old new rooms paths (x ∷ items) count (inr h) =
-    inr (paths (tests_in (out-ComplexSelector x).first) (steps_of (out-ComplexSelector x).rest.items) h.0, h.1, h.2, enough-kept id old new rooms paths items h.1 h.3)
+    inr (paths (tests_of_compound (out-ComplexSelector x).first) (steps_of (out-ComplexSelector x).rest.items) h.0, h.1, h.2, enough-kept id old new rooms paths items h.1 h.3)

@@ -9,12 +9,12 @@ use Rattle.lol_css.specs.declared.selector.ComplexSelector.{ComplexSelector}
 use Rattle.lol_css.specs.declared.selector.SelectorList.{SelectorList}
 use Rattle.lol_css.specs.declared.selector.SimpleSelector.TheViews.{out-ComplexSelector, out-SelectorList}
 use Rattle.lol_css.specs.TreeViews.{part_of, item_of, list_of, compound_of, with_part_list}
-use Rattle.lol_program.specs.AstPaths.{shown}
+use Rattle.lol_program.specs.AstPaths.{path_shown}
 use Rattle.lol_program.specs.Compounds.{all_of, any_of}
 use Rattle.lol_program.specs.Conditions.{part_test, items_compounds, item_compound, written_tests, compound_tests, path_of, paths_of}
 use Rattle.lol_program.specs.Paths.{Path, First, Then, extended}
 use Rattle.lol_program.specs.Runs.{test_runs, compound_runs, all_run, path_runs}
-use Rattle.lol_program.specs.Views.{tests_in, steps_of}
+use Rattle.lol_program.specs.Views.{tests_of_compound, steps_of}
 use Rattle.lol_program.proofs.Items.{shown-path_of, paths_of-list}
 use Rattle.lol_program.proofs.Tests.{test_in, compound_in, written_tests-parts, items_compounds-items, items_compounds-list}
 
@@ -54,7 +54,7 @@ pub written-pass : (parts : List SimpleSelector) → compound_runs (written_test
 written-pass parts = ap compound_runs (written_tests-parts parts) ∙ tests_pass parts
 
 -- from right to left
-reversed-front : (front : trees.Compound) (parts : List SimpleSelector) → compound_runs (compound_tests (with_part_list front parts)) ≡ (compound_runs (compound_tests front) && list_all part_passes parts)
+reversed-front : (front : trees.WrittenCompound) (parts : List SimpleSelector) → compound_runs (compound_tests (with_part_list front parts)) ≡ (compound_runs (compound_tests front) && list_all part_passes parts)
 reversed-front front [] = with_true _
 reversed-front front (part ∷ parts) = reversed-front (trees.With front (part_of part)) parts ∙ swapped (part_passes part) (compound_runs (compound_tests front)) (list_all part_passes parts)
 
@@ -75,13 +75,13 @@ list-pass list =
 
 steps_pass : (front : Path) (steps : List (Combinator × css.Compound)) → path_runs (extended front (steps_of steps)) ≡ (path_runs front && list_all step_passes steps)
 steps_pass front [] = with_true _
-steps_pass front (step ∷ steps) = steps_pass (Then front step.0 (tests_in step.1)) steps ∙ grouped (path_runs front) (step_passes step) (list_all step_passes steps)
+steps_pass front (step ∷ steps) = steps_pass (Then front step.0 (tests_of_compound step.1)) steps ∙ grouped (path_runs front) (step_passes step) (list_all step_passes steps)
 
 pub item-pass : (item : ComplexSelector)
     → item_passes item ≡ (compound_runs (compound_tests (compound_of (out-ComplexSelector item).first)) && list_all step_passes (out-ComplexSelector item).rest.items)
-item-pass item = ap path_runs (sym (shown-path_of item)) ∙ steps_pass (First (tests_in (out-ComplexSelector item).first)) (out-ComplexSelector item).rest.items
+item-pass item = ap path_runs (sym (shown-path_of item)) ∙ steps_pass (First (tests_of_compound (out-ComplexSelector item).first)) (out-ComplexSelector item).rest.items
 
-shown_pass : (items : List ComplexSelector) → list_all path_runs (map shown items) ≡ list_all item_passes items
+shown_pass : (items : List ComplexSelector) → list_all path_runs (map path_shown items) ≡ list_all item_passes items
 shown_pass [] = refl
 shown_pass (item ∷ items) = λ i. path_runs (shown-path_of item i) && shown_pass items i
 

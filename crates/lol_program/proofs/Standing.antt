@@ -7,10 +7,10 @@ use Rattle.lol_css.specs.declared.selector.Combinator.{Combinator}
 use Rattle.lol_css.specs.declared.selector.Combinator.TheVariants.{Child, Descendant}
 use Rattle.lol_program.specs.Compounds.{Compound}
 use Rattle.lol_program.specs.Forest.{Node, Forest, none, more}
-use Rattle.lol_program.specs.Growth.{fresh, AtRoot, Takes, Under, under, Adds, AddsFirst, AtTop, StandsWith, Stands, IsWith}
+use Rattle.lol_program.specs.Growth.{fresh, AtRoot, Takes, Under, grown_under, Adds, AddsFirst, AtTop, StandsWith, StandsUnder, IsWith}
 use Rattle.lol_program.specs.Places.{IsPlace, HasPlace, IsNowhere}
 use Rattle.lol_program.specs.IdsForNodes.{SetTakes, HasRoomAmong}
-use Rattle.lol_program.specs.Views.{node_of, forest_of, linked, steps_of, tests_in}
+use Rattle.lol_program.specs.Views.{node_of, forest_of, linked, steps_of, tests_of_compound}
 use Rattle.lol_css.specs.declared.selector.Compound as css
 use Rattle.lol_program.specs.declared.ast_node.AstNode.{AstNode}
 use Rattle.lol_program.specs.declared.ast_node.AstNode.TheViews.{out-AstNode}
@@ -62,7 +62,7 @@ module _ (c : Compound) (P : Node → Type 0) where
 module _ (P : List ℕ → Type 0) where
   pub stands_nowhere : (c : Compound) (rest : List (Combinator × Compound)) (nodes : List Node) → IsNowhere c nodes → StandsWith P c rest (linked nodes) → ⊥
   stands_nowhere c [] nodes nowhere s = at_top_nowhere c (λ n. P n.ids) nodes nowhere s
-  stands_nowhere c (step ∷ rest) nodes nowhere s = at_top_nowhere c (λ n. StandsWith P step.1 rest (under step.0 n)) nodes nowhere s
+  stands_nowhere c (step ∷ rest) nodes nowhere s = at_top_nowhere c (λ n. StandsWith P step.1 rest (grown_under step.0 n)) nodes nowhere s
 
   -- a path of one compound
   pub stands_none : (c : Compound) (rest : List (Combinator × css.Compound)) (f : Forest) → length rest ≡ 0 → StandsWith P c (steps_of rest) f ≡ AtTop c (λ n. P n.ids) f
@@ -71,9 +71,9 @@ module _ (P : List ℕ → Type 0) where
 
   -- a path of several
   pub stands_some : (c : Compound) (all rest : List (Combinator × css.Compound)) (s : Combinator × css.Compound) (step : Combinator) (f : Forest) → all ≡ s ∷ rest → s.0 ≡ step
-      → StandsWith P c (steps_of all) f ≡ AtTop c (λ n. StandsWith P (tests_in s.1) (steps_of rest) (under step n)) f
+      → StandsWith P c (steps_of all) f ≡ AtTop c (λ n. StandsWith P (tests_of_compound s.1) (steps_of rest) (grown_under step n)) f
   stands_some c all rest s step f e g =
-      ap (λ (ss : List (Combinator × css.Compound)). StandsWith P c (steps_of ss) f) e ∙ ap (λ (t : Combinator). AtTop c (λ n. StandsWith P (tests_in s.1) (steps_of rest) (under t n)) f) g
+      ap (λ (ss : List (Combinator × css.Compound)). StandsWith P c (steps_of ss) f) e ∙ ap (λ (t : Combinator). AtTop c (λ n. StandsWith P (tests_of_compound s.1) (steps_of rest) (grown_under t n)) f) g
 
   -- what stands of a path of one compound, or of several, at the node that was found
   pub stands_here : (c : Compound) (rest : List (Combinator × css.Compound)) (nodes : List AstNode) (i : ℕ) (n : AstNode) → length rest ≡ 0 → IsPlace c (map node_of nodes) i → n ≡ get_or nodes i n
@@ -85,10 +85,10 @@ module _ (P : List ℕ → Type 0) where
 
   pub stands_further : (c : Compound) (all rest : List (Combinator × css.Compound)) (s : Combinator × css.Compound) (step : Combinator) (nodes : List AstNode) (i : ℕ) (n : AstNode)
       → all ≡ s ∷ rest → s.0 ≡ step → IsPlace c (map node_of nodes) i → n ≡ get_or nodes i n
-      → StandsWith P c (steps_of all) (forest_of nodes) ↔ StandsWith P (tests_in s.1) (steps_of rest) (under step (shape (out-AstNode n)))
+      → StandsWith P c (steps_of all) (forest_of nodes) ↔ StandsWith P (tests_of_compound s.1) (steps_of rest) (grown_under step (shape (out-AstNode n)))
   stands_further c all rest s step nodes i n e g p at =
       let same = stands_some c all rest s step (forest_of nodes) e g in
-      let law = top_is_at c (λ m. StandsWith P (tests_in s.1) (steps_of rest) (under step m)) nodes i n p at in
+      let law = top_is_at c (λ m. StandsWith P (tests_of_compound s.1) (steps_of rest) (grown_under step m)) nodes i n p at in
       (λ t. law.0 (subst (λ (X : Type 0). X) same t), λ h. subst (λ (X : Type 0). X) (sym same) (law.1 h))
 
 -- A path that stands so, stands in a weaker way too.
@@ -100,7 +100,7 @@ at_top_weaker c P Q law (more d ids children descendants rest) (inr t) = inr (t.
 pub stands_weaker : (P Q : List ℕ → Type 0) → ((ids : List ℕ) → P ids → Q ids) → (c : Compound) (rest : List (Combinator × Compound)) (f : Forest) → StandsWith P c rest f → StandsWith Q c rest f
 stands_weaker P Q law c [] f s = at_top_weaker c (λ n. P n.ids) (λ n. Q n.ids) (λ n. law n.ids) f s
 stands_weaker P Q law c (step ∷ rest) f s =
-    at_top_weaker c (λ n. StandsWith P step.1 rest (under step.0 n)) (λ n. StandsWith Q step.1 rest (under step.0 n)) (λ n. stands_weaker P Q law step.1 rest (under step.0 n)) f s
+    at_top_weaker c (λ n. StandsWith P step.1 rest (grown_under step.0 n)) (λ n. StandsWith Q step.1 rest (grown_under step.0 n)) (λ n. stands_weaker P Q law step.1 rest (grown_under step.0 n)) f s
 
 -- What stands stays while a forest grows, and so does what more ids leave true.
 abbrev pub KeepsWith : (List ℕ → Type 0) → Forest → Forest → Type 0
@@ -110,10 +110,10 @@ module _ (P : List ℕ → Type 0) (more_ids : (xs ys : List ℕ) → ((x : ℕ)
   abbrev KeepsIn : Node → Node → Type 0
   KeepsIn n m = (m.compound ≡ n.compound) × ((P n.ids → P m.ids) × (KeepsWith P n.children m.children × KeepsWith P n.descendants m.descendants))
 
-  -- what a node has, and has under it
+  -- what a node has, and has grown_under it
   abbrev InNode : List (Combinator × Compound) → Node → Type 0
   InNode [] n = P n.ids
-  InNode (step ∷ rest) n = StandsWith P step.1 rest (under step.0 n)
+  InNode (step ∷ rest) n = StandsWith P step.1 rest (grown_under step.0 n)
 
   stands_in : (c : Compound) (rest : List (Combinator × Compound)) (f : Forest) → StandsWith P c rest f ≡ AtTop c (InNode rest) f
   stands_in c [] f = refl
@@ -123,7 +123,7 @@ module _ (P : List ℕ → Type 0) (more_ids : (xs ys : List ℕ) → ((x : ℕ)
   kept_in [] n m k h = k.1.0 h
   kept_in (step ∷ rest) n m k h = by_step step.0 h
     where
-      by_step : (s : Combinator) → StandsWith P step.1 rest (under s n) → StandsWith P step.1 rest (under s m)
+      by_step : (s : Combinator) → StandsWith P step.1 rest (grown_under s n) → StandsWith P step.1 rest (grown_under s m)
       by_step Child t = k.1.1.0 step.1 rest t
       by_step Descendant t = k.1.1.1 step.1 rest t
 
@@ -191,12 +191,12 @@ under_same : (step : Combinator) (R : Forest → Forest → Type 0) (n m : Node)
 under_same Child R n m u = ap (λ k. k.compound) u.2
 under_same Descendant R n m u = ap (λ k. k.compound) u.2
 
-under_stands : (step : Combinator) (R : Forest → Forest → Type 0) (Q : Forest → Type 0) → ((old new : Forest) → R old new → Q new) → (n m : Node) → Under step R n m → Q (under step m)
+under_stands : (step : Combinator) (R : Forest → Forest → Type 0) (Q : Forest → Type 0) → ((old new : Forest) → R old new → Q new) → (n m : Node) → Under step R n m → Q (grown_under step m)
 under_stands Child R Q law n m u = subst (λ (k : Node). Q k.children) (sym u.2) (law n.children u.0 u.1)
 under_stands Descendant R Q law n m u = subst (λ (k : Node). Q k.descendants) (sym u.2) (law n.descendants u.0 u.1)
 
-pub adds_stands : (id : Option ℕ) (c : Compound) (rest : List (Combinator × Compound)) (old new : Forest) → Adds id c rest old new → Stands c rest new
+pub adds_stands : (id : Option ℕ) (c : Compound) (rest : List (Combinator × Compound)) (old new : Forest) → Adds id c rest old new → StandsUnder c rest new
 adds_stands id c [] old new h = root_stands c (Takes id) (takes_same id) (λ n. Unit {0}) (λ n m t. tt) old new h
 adds_stands id c (step ∷ rest) old new h =
-    root_stands c (Under step.0 (Adds id step.1 rest)) (under_same step.0 (Adds id step.1 rest)) (λ n. Stands step.1 rest (under step.0 n))
-    (under_stands step.0 (Adds id step.1 rest) (Stands step.1 rest) (λ o w k. adds_stands id step.1 rest o w k)) old new h
+    root_stands c (Under step.0 (Adds id step.1 rest)) (under_same step.0 (Adds id step.1 rest)) (λ n. StandsUnder step.1 rest (grown_under step.0 n))
+    (under_stands step.0 (Adds id step.1 rest) (StandsUnder step.1 rest) (λ o w k. adds_stands id step.1 rest o w k)) old new h

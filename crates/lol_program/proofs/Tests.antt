@@ -9,7 +9,7 @@ use Rattle.lol_css.specs.declared.selector.Combinator.{Combinator}
 use Rattle.lol_css.specs.declared.selector.SelectorList.{SelectorList}
 use Rattle.lol_css.specs.declared.selector.SimpleSelector.TheViews.{out-SelectorList, out-ComplexSelector}
 use Rattle.lol_css.specs.TreeViews.{part_of, item_of, list_of, compound_of, with_part_list, with_item_list, with_compound_list}
-use Rattle.lol_program.specs.Compounds.{Test, Compound, AndTest, Compounds, OrCompound, all_of, any_of, with_test, with_compound}
+use Rattle.lol_program.specs.Compounds.{Test, Compound, AndTest, Compounds, OrCompound, all_of, any_of, with_test, compounds_with}
 use Rattle.lol_program.specs.Conditions.{part_test, items_compounds, item_compound, written_tests, compound_tests}
 use Rattle.lol_css.specs.TreeLaws.{list_of-out, item_of-out}
 
@@ -19,7 +19,7 @@ pub all_of-push : (tests : List Test) (test : Test) → all_of (tests ++ test �
 all_of-push [] test = refl
 all_of-push (t ∷ tests) test = ap (AndTest t) (all_of-push tests test)
 
-pub any_of-push : (compounds : List Compound) (compound : Compound) → any_of (compounds ++ compound ∷ []) ≡ with_compound (any_of compounds) compound
+pub any_of-push : (compounds : List Compound) (compound : Compound) → any_of (compounds ++ compound ∷ []) ≡ compounds_with (any_of compounds) compound
 any_of-push [] compound = refl
 any_of-push (c ∷ compounds) compound = ap (OrCompound c) (any_of-push compounds compound)
 
@@ -49,7 +49,7 @@ test_in part = part_test (part_of part)
 abbrev pub compound_in : ComplexSelector → Compound
 compound_in item = item_compound (item_of item)
 
-written-front : (front : trees.Compound) (tests : List Test) (parts : List SimpleSelector) → written_tests front ≡ all_of tests → written_tests (with_part_list front parts) ≡ all_of (tests ++ map test_in parts)
+written-front : (front : trees.WrittenCompound) (tests : List Test) (parts : List SimpleSelector) → written_tests front ≡ all_of tests → written_tests (with_part_list front parts) ≡ all_of (tests ++ map test_in parts)
 written-front front tests [] h = h ∙ ap all_of (sym (append-nil tests))
 written-front front tests (part ∷ parts) h =
     written-front (trees.With front (part_of part)) (tests ++ test_in part ∷ []) parts (ap (λ (c : Compound). with_test c (test_in part)) h ∙ sym (all_of-push tests (test_in part)))
@@ -58,7 +58,7 @@ written-front front tests (part ∷ parts) h =
 pub written_tests-parts : (parts : List SimpleSelector) → written_tests (with_part_list trees.Nothing parts) ≡ all_of (map test_in parts)
 written_tests-parts parts = written-front trees.Nothing [] parts refl
 
-reversed-front : (front : trees.Compound) (tests : List Test) (parts : List SimpleSelector) → compound_tests front ≡ all_of tests → compound_tests (with_part_list front parts) ≡ all_of (reverse (map test_in parts) ++ tests)
+reversed-front : (front : trees.WrittenCompound) (tests : List Test) (parts : List SimpleSelector) → compound_tests front ≡ all_of tests → compound_tests (with_part_list front parts) ≡ all_of (reverse (map test_in parts) ++ tests)
 reversed-front front tests [] h = h
 reversed-front front tests (part ∷ parts) h =
     reversed-front (trees.With front (part_of part)) (test_in part ∷ tests) parts (ap (AndTest (test_in part)) h)
@@ -70,7 +70,7 @@ compound_tests-parts parts = reversed-front trees.Nothing [] parts refl ∙ ap a
 items-front : (front : trees.Items) (compounds : List Compound) (items : List ComplexSelector) → items_compounds front ≡ any_of compounds → items_compounds (with_item_list front items) ≡ any_of (compounds ++ map compound_in items)
 items-front front compounds [] h = h ∙ ap any_of (sym (append-nil compounds))
 items-front front compounds (item ∷ items) h =
-    items-front (trees.And front (item_of item)) (compounds ++ compound_in item ∷ []) items (ap (λ (c : Compounds). with_compound c (compound_in item)) h ∙ sym (any_of-push compounds (compound_in item)))
+    items-front (trees.And front (item_of item)) (compounds ++ compound_in item ∷ []) items (ap (λ (c : Compounds). compounds_with c (compound_in item)) h ∙ sym (any_of-push compounds (compound_in item)))
     ∙ ap any_of (append_assoc compounds (compound_in item ∷ []) (map compound_in items))
 
 pub items_compounds-items : (items : List ComplexSelector) → items_compounds (with_item_list trees.NoItems items) ≡ any_of (map compound_in items)

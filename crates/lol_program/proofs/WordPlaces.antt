@@ -12,7 +12,7 @@ use Rattle.lol_css.specs.declared.attribute.CaseSensitivity.{CaseSensitivity}
 use Rattle.lol_css.specs.declared.attribute.CaseSensitivity.TheVariants.{CaseSensitive, AsciiCaseInsensitive}
 use Rattle.lol_program.specs.Tests.{compared, is_white}
 use Rattle.lol_program.specs.Attributes.{ignores, value_holds}
-use Rattle.lol_program.specs.Words.{is_letter, IsWordStart, IsWordEnd, IsWordBefore, NoLetter, IsLetterEnd}
+use Rattle.lol_program.specs.Words.{is_letter_of, IsWordStart, IsWordEnd, IsWordBefore, NoLetter, IsLetterEnd}
 use Rattle.lol_program.proofs.AttributeValues.{NoWhite, SoFar, SoFar-init, SoFar-found, SoFar-next, SoFar-more, SoFar-end, white_stays, length-compared}
 
 -- 1. Parts that are the operand
@@ -33,7 +33,7 @@ same_at AsciiCaseInsensitive part operand same k below =
     ∙ ap (λ (bytes : List ℕ). get_or bytes k 0) ((bytes_eq-Decides (map to_ascii_lowercase part) (map to_ascii_lowercase operand)).0 same)
     ∙ get_or-map to_ascii_lowercase operand k 0 0 below
 
-letter_from_same : (case : CaseSensitivity) (a letter : ℕ) → IsSameByte case a letter → is_letter case letter a ≡ true
+letter_from_same : (case : CaseSensitivity) (a letter : ℕ) → IsSameByte case a letter → is_letter_of case letter a ≡ true
 letter_from_same CaseSensitive a letter same = eq-eqb a letter same
 letter_from_same AsciiCaseInsensitive a letter same = eq-eqb (to_ascii_lowercase letter) (to_ascii_lowercase a) (sym same)
 
@@ -101,26 +101,26 @@ module _ (case : CaseSensitivity) (value operand : List ℕ) where
       (cases_Bool (value_holds Equal case (slice_range value start end) operand))
 
   module _ (some : 0 < length operand) where
-    word_letter : (start end : ℕ) → start ≤ end → end ≤ length value → value_holds Equal case (slice_range value start end) operand ≡ true → is_letter case last (get_or value (end - 1) 0) ≡ true
+    word_letter : (start end : ℕ) → start ≤ end → end ≤ length value → value_holds Equal case (slice_range value start end) operand ≡ true → is_letter_of case last (get_or value (end - 1) 0) ≡ true
     word_letter start end ordered within same =
         let long = word_length start end ordered within same in
         let k = length operand - 1 in
         let place : start + k ≡ end - 1 = omega arith in
         let read : get_or (slice_range value start end) k 0 ≡ get_or value (end - 1) 0 = byte_of_slice value start end k within (omega arith) ∙ ap (λ (i : ℕ). get_or value i 0) place in
-        ap (is_letter case last) (sym read) ∙ letter_from_same case _ last (same_at case (slice_range value start end) operand same k (omega arith))
+        ap (is_letter_of case last) (sym read) ∙ letter_from_same case _ last (same_at case (slice_range value start end) operand same k (omega arith))
 
     pub IsMissed-init : IsMissed 0
     IsMissed-init start begins ordered none ends =
         ⊎_elim (λ same. let long = word_length start 0 ordered (omega arith) same in absurd (omega arith)) (λ no. no) (cases_Bool (value_holds Equal case (slice_range value start 0) operand))
 
     -- a word that ends after another byte is not the operand
-    missed_after : (at : ℕ) → at < length value → is_letter case last (get_or value at 0) ≡ false → IsMissed (at + 1)
+    missed_after : (at : ℕ) → at < length value → is_letter_of case last (get_or value at 0) ≡ false → IsMissed (at + 1)
     missed_after at within other start begins ordered none ends =
         let place : at + 1 - 1 ≡ at = omega arith in
         ⊎_elim
         (λ same.
         let letter = word_letter start (at + 1) ordered (omega arith) same in
-        absurd (false≢true (sym other ∙ ap (λ (i : ℕ). is_letter case last (get_or value i 0)) (sym place) ∙ letter)))
+        absurd (false≢true (sym other ∙ ap (λ (i : ℕ). is_letter_of case last (get_or value i 0)) (sym place) ∙ letter)))
         (λ no. no)
         (cases_Bool (value_holds Equal case (slice_range value start (at + 1)) operand))
 

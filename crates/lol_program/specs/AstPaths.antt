@@ -4,20 +4,20 @@ use Rattle.lol_css.specs.declared.selector.ComplexSelector.{ComplexSelector}
 use Rattle.lol_css.specs.declared.selector.SimpleSelector.TheViews.{out-ComplexSelector}
 use Rattle.lol_program.specs.Paths.{Path, First, extended}
 use Rattle.lol_program.specs.Forest.{Forest}
-use Rattle.lol_program.specs.Growth.{StandsWith, Stands}
+use Rattle.lol_program.specs.Growth.{StandsWith, StandsUnder}
 use Rattle.lol_program.specs.IdsForNodes.{HasRoomAmong}
-use Rattle.lol_program.specs.Views.{tests_in, steps_of}
+use Rattle.lol_program.specs.Views.{tests_of_compound, steps_of}
 
-abbrev pub shown : ComplexSelector → Path
-shown item = extended (First (tests_in (out-ComplexSelector item).first)) (steps_of (out-ComplexSelector item).rest.items)
+abbrev pub path_shown : ComplexSelector → Path
+path_shown item = extended (First (tests_of_compound (out-ComplexSelector item).first)) (steps_of (out-ComplexSelector item).rest.items)
 
 -- the path stands in a forest, and P holds of the ids of its last node
 abbrev pub IsInWith : (List ℕ → Type 0) → Forest → ComplexSelector → Type 0
-IsInWith P f item = StandsWith P (tests_in (out-ComplexSelector item).first) (steps_of (out-ComplexSelector item).rest.items) f
+IsInWith P f item = StandsWith P (tests_of_compound (out-ComplexSelector item).first) (steps_of (out-ComplexSelector item).rest.items) f
 
 -- the path stands in a forest
 abbrev pub IsIn : Forest → ComplexSelector → Type 0
-IsIn f item = Stands (tests_in (out-ComplexSelector item).first) (steps_of (out-ComplexSelector item).rest.items) f
+IsIn f item = StandsUnder (tests_of_compound (out-ComplexSelector item).first) (steps_of (out-ComplexSelector item).rest.items) f
 
 abbrev pub AllIn : Forest → List ComplexSelector → Type 0
 AllIn f [] = Unit {0}

@@ -6,16 +6,16 @@ use Rattle.lol_base.specs.Names.{lowercased}
 use Rattle.lol_css.specs.declared.attribute.AttrSelectorOperator.{AttrSelectorOperator}
 use Rattle.lol_css.specs.declared.attribute.AttrSelectorOperator.TheVariants.{Includes}
 use Rattle.lol_css.specs.declared.attribute.ParsedCaseSensitivity.{ParsedCaseSensitivity}
-use Rattle.lol_program.specs.Tests.{Element, HasId, HasClass, HasAttribute, Compares, attribute_holds, has_value, operator_holds, compared, needs_operand, is_empty, ignores_case, value_of}
+use Rattle.lol_program.specs.Tests.{Element, HasId, HasClass, HasAttribute, Compares, attribute_holds, has_value, operator_holds, compared, needs_operand, is_empty_text, ignores_case, value_of}
 use Rattle.lol_program.specs.Attributes.{TagAttributes, tag_attributes, value_in, operands_hold}
 use Rattle.lol_program.specs.declared.attribute_matcher.AttrExprOperands.{AttrExprOperands}
 
-is_empty-compared : (ignoring : Bool) (bytes : List ℕ) → is_empty (compared ignoring bytes) ≡ is_empty bytes
+is_empty-compared : (ignoring : Bool) (bytes : List ℕ) → is_empty_text (compared ignoring bytes) ≡ is_empty_text bytes
 is_empty-compared true [] = refl
 is_empty-compared true (b ∷ bytes) = refl
 is_empty-compared false bytes = refl
 
-lacks-compared : (operator : AttrSelectorOperator) (ignoring : Bool) (operand : List ℕ) → (needs_operand operator && is_empty (compared ignoring operand)) ≡ (needs_operand operator && is_empty operand)
+lacks-compared : (operator : AttrSelectorOperator) (ignoring : Bool) (operand : List ℕ) → (needs_operand operator && is_empty_text (compared ignoring operand)) ≡ (needs_operand operator && is_empty_text operand)
 lacks-compared operator ignoring operand = ap (λ (empty : Bool). needs_operand operator && empty) (is_empty-compared ignoring operand)
 
 has_value-false : (value : Option (List ℕ)) → has_value value (λ v. false) ≡ false
@@ -33,7 +33,7 @@ module _ (seen : TagAttributes) (e : Element) (same : seen ≡ tag_attributes e.
   holds-HasAttribute name = ap (λ (s : TagAttributes). has_value (value_in name s) (λ value. true)) same
 
   pub holds-Compares : (name operand : List ℕ) (operator : AttrSelectorOperator) (case : ParsedCaseSensitivity) (operands : AttrExprOperands)
-      → operands.name.items ≡ lowercased name → operands.value.items ≡ operand → operands.case_sensitivity ≡ case → (needs_operand operator && is_empty operand) ≡ false
+      → operands.name.items ≡ lowercased name → operands.value.items ≡ operand → operands.case_sensitivity ≡ case → (needs_operand operator && is_empty_text operand) ≡ false
       → operands_hold operator operands seen ≡ attribute_holds (Compares name operator operand case) e
   holds-Compares name operand operator case operands names values cases enough =
       let ignoring = ignores_case case e.tag.namespace in
@@ -45,7 +45,7 @@ module _ (seen : TagAttributes) (e : Element) (same : seen ≡ tag_attributes e.
       ∙ sym (ap (λ (lacks : Bool). has_value (value_of (lowercased name) e.tag) (λ value. not lacks && test value)) (lacks-compared operator ignoring operand ∙ enough))
 
 -- An operator that needs an operand and has an empty one holds nowhere.
-pub never-Compares : (name operand : List ℕ) (operator : AttrSelectorOperator) (case : ParsedCaseSensitivity) (e : Element) → (needs_operand operator && is_empty operand) ≡ true
+pub never-Compares : (name operand : List ℕ) (operator : AttrSelectorOperator) (case : ParsedCaseSensitivity) (e : Element) → (needs_operand operator && is_empty_text operand) ≡ true
     → attribute_holds (Compares name operator operand case) e ≡ false
 never-Compares name operand operator case e lacks =
     let ignoring = ignores_case case e.tag.namespace in

@@ -42,9 +42,9 @@ with_test NoTests test = AndTest test NoTests
 with_test (AndTest first others) test = AndTest first (with_test others test)
 
 -- one compound more at the end
-abbrev pub with_compound : Compounds → Compound → Compounds
-with_compound NoCompounds compound = OrCompound compound NoCompounds
-with_compound (OrCompound first others) compound = OrCompound first (with_compound others compound)
+abbrev pub compounds_with : Compounds → Compound → Compounds
+compounds_with NoCompounds compound = OrCompound compound NoCompounds
+compounds_with (OrCompound first others) compound = OrCompound first (compounds_with others compound)
 
 -- 2. Truth
 

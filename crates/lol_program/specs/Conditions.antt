@@ -3,7 +3,7 @@ use Rattle.std.specs.Prelude.{ℕ, if◌then◌else◌, List, [], ◌∷◌, ◌
 use Rattle.lol_css.specs.Trees as trees
 use Rattle.lol_css.specs.Trees.{Simple, Part, Plain, Not, Is, Where, Nothing, With, Item, Items, NoItems, And}
 use Rattle.lol_program.specs.Tests.{AnyName, NoName, HasName, IsNthChild, IsNthOfType, HasId, HasClass, HasAttribute, Compares}
-use Rattle.lol_program.specs.Compounds.{Test, OfName, OfAttributes, NoneOf, SomeOf, Compound, NoTests, AndTest, Compounds, NoCompounds, with_test, with_compound}
+use Rattle.lol_program.specs.Compounds.{Test, OfName, OfAttributes, NoneOf, SomeOf, Compound, NoTests, AndTest, Compounds, NoCompounds, with_test, compounds_with}
 use Rattle.lol_program.specs.Paths.{Path, First, Then}
 
 -- The test of a part without parts of its own (Selectors 4, sections 5, 6 and 13). Each element has a namespace, so no element has a
@@ -36,18 +36,18 @@ abbrev mutual
 
   pub items_compounds : Items → Compounds
   items_compounds NoItems = NoCompounds
-  items_compounds (And items item) = with_compound (items_compounds items) (item_compound item)
+  items_compounds (And items item) = compounds_with (items_compounds items) (item_compound item)
 
   pub item_compound : Item → Compound
   item_compound (trees.First compound) = written_tests compound
   item_compound (trees.Then front step compound) = written_tests compound
 
-  pub written_tests : trees.Compound → Compound
+  pub written_tests : trees.WrittenCompound → Compound
   written_tests Nothing = NoTests
   written_tests (With front part) = with_test (written_tests front) (part_test part)
 
 -- The tests of a compound: its parts are taken from right to left.
-abbrev pub compound_tests : trees.Compound → Compound
+abbrev pub compound_tests : trees.WrittenCompound → Compound
 compound_tests Nothing = NoTests
 compound_tests (With front part) = AndTest (part_test part) (compound_tests front)
 

@@ -5,7 +5,7 @@ use Rattle.lol_css.specs.declared.selector.Combinator.TheVariants.{Child, Descen
 use Rattle.lol_program.specs.Compounds.{Compound}
 use Rattle.lol_program.specs.Forest.{Forest, none, more, Node, link}
 
--- a node without ids, with nothing under it
+-- a node without ids, with nothing grown_under it
 abbrev pub fresh : Compound → Node
 fresh c = record { compound = c; ids = []; children = none; descendants = none }
 
@@ -24,10 +24,10 @@ abbrev pub Takes : Option ℕ → Node → Node → Type 0
 Takes None n m = m ≡ n
 Takes (Some id) n m = (ids : List ℕ) × IsWith id n.ids ids × (m ≡ record { compound = n.compound; ids = ids; children = n.children; descendants = n.descendants })
 
--- what is under a node by a step
-abbrev pub under : Combinator → Node → Forest
-under Child n = n.children
-under Descendant n = n.descendants
+-- what is grown_under a node by a step
+abbrev pub grown_under : Combinator → Node → Forest
+grown_under Child n = n.children
+grown_under Descendant n = n.descendants
 
 -- it changes as R says, and nothing else
 abbrev pub Under : Combinator → (Forest → Forest → Type 0) → Node → Node → Type 0
@@ -54,8 +54,8 @@ AtTop c P (more d ids children descendants rest) =
 -- the path from a compound on stands, and P holds of the ids of its last node
 abbrev pub StandsWith : (List ℕ → Type 0) → Compound → List (Combinator × Compound) → Forest → Type 0
 StandsWith P c [] f = AtTop c (λ n. P n.ids) f
-StandsWith P c (step ∷ rest) f = AtTop c (λ n. StandsWith P step.1 rest (under step.0 n)) f
+StandsWith P c (step ∷ rest) f = AtTop c (λ n. StandsWith P step.1 rest (grown_under step.0 n)) f
 
 -- the path from a compound on stands
-abbrev pub Stands : Compound → List (Combinator × Compound) → Forest → Type 0
-Stands c rest f = StandsWith (λ ids. Unit {0}) c rest f
+abbrev pub StandsUnder : Compound → List (Combinator × Compound) → Forest → Type 0
+StandsUnder c rest f = StandsWith (λ ids. Unit {0}) c rest f

@@ -23,7 +23,7 @@ NodesStayTheBeginnings =
 abbrev pub TreesAreClosed : Type 0
 TreesAreClosed = (ast : Ast) → AreClosed (record { pairs = pairs_of ast; nodes = nodes_of ast })
 
--- So are those of pairs alone, where nothing was refused.
+-- So are those of pairs one_test, where nothing was refused.
 abbrev pub BeginningsAreClosed : Type 0
 BeginningsAreClosed = (s : Selectors) → AreNodes s.pairs s.nodes → AreClosed s
 
@@ -39,9 +39,9 @@ ValuesAreByNames = (c : Compound) (e : Element) (attributes : List Attribute) (s
 abbrev pub tag : List ℕ → Part
 tag name = Plain (trees.LocalName name)
 
--- a list of one compound of one part, and of two
-abbrev pub one : Part → Items
-one a = And NoItems (trees.First (With Nothing a))
+-- a list of one_part compound of one_part part, and of two
+abbrev pub one_part : Part → Items
+one_part a = And NoItems (trees.First (With Nothing a))
 
 abbrev pub two : Part → Part → Items
 two a b = And (And NoItems (trees.First (With Nothing a))) (trees.First (With Nothing b))
@@ -49,30 +49,30 @@ two a b = And (And NoItems (trees.First (With Nothing a))) (trees.First (With No
 abbrev pub named : List ℕ → Test
 named name = OfName (HasName name)
 
--- a compound of one test
-abbrev pub alone : Test → Compound
-alone test = AndTest test NoTests
+-- a compound of one_part test
+abbrev pub one_test : Test → Compound
+one_test test = AndTest test NoTests
 
 -- Worked rows: the tests of compounds.
 pub record AreRows : Type 0 where
   -- `|div`
-  pub no_namespace : compound_tests (With (With Nothing (Plain trees.NoNamespace)) (tag (codes "div"))) ≡ AndTest (named (codes "div")) (alone (OfName NoName))
+  pub no_namespace : compound_tests (With (With Nothing (Plain trees.NoNamespace)) (tag (codes "div"))) ≡ AndTest (named (codes "div")) (one_test (OfName NoName))
   -- `:not(a, b)`
-  pub neither : compound_tests (With Nothing (Not (two (tag (codes "a")) (tag (codes "b"))))) ≡ alone (NoneOf (any_of (alone (named (codes "a")) ∷ alone (named (codes "b")) ∷ [])))
+  pub neither : compound_tests (With Nothing (Not (two (tag (codes "a")) (tag (codes "b"))))) ≡ one_test (NoneOf (any_of (one_test (named (codes "a")) ∷ one_test (named (codes "b")) ∷ [])))
   -- `:not(:not(a, b))`
   pub not_neither :
-      compound_tests (With Nothing (Not (one (Not (two (tag (codes "a")) (tag (codes "b")))))))
-      ≡ alone (NoneOf (any_of (alone (NoneOf (any_of (alone (named (codes "a")) ∷ alone (named (codes "b")) ∷ []))) ∷ [])))
+      compound_tests (With Nothing (Not (one_part (Not (two (tag (codes "a")) (tag (codes "b")))))))
+      ≡ one_test (NoneOf (any_of (one_test (NoneOf (any_of (one_test (named (codes "a")) ∷ one_test (named (codes "b")) ∷ []))) ∷ [])))
   -- `div.foo#bar:not([baz])`
   pub mixed :
-      compound_tests (With (With (With (With Nothing (tag (codes "div"))) (Plain (trees.Class (codes "foo")))) (Plain (trees.Id (codes "bar")))) (Not (one (Plain (trees.Exists (codes "baz"))))))
-      ≡ all_of (NoneOf (any_of (alone (OfAttributes (HasAttribute (codes "baz"))) ∷ [])) ∷ OfAttributes (HasId (codes "bar")) ∷ OfAttributes (HasClass (codes "foo")) ∷ named (codes "div") ∷ [])
+      compound_tests (With (With (With (With Nothing (tag (codes "div"))) (Plain (trees.Class (codes "foo")))) (Plain (trees.Id (codes "bar")))) (Not (one_part (Plain (trees.Exists (codes "baz"))))))
+      ≡ all_of (NoneOf (any_of (one_test (OfAttributes (HasAttribute (codes "baz"))) ∷ [])) ∷ OfAttributes (HasId (codes "bar")) ∷ OfAttributes (HasClass (codes "foo")) ∷ named (codes "div") ∷ [])
   -- `:is(a.x, p)`: the parts inside stand in written order
   pub either_of :
       compound_tests (With Nothing (Is (And (And NoItems (trees.First (With (With Nothing (tag (codes "a"))) (Plain (trees.Class (codes "x")))))) (trees.First (With Nothing (tag (codes "p")))))))
-      ≡ alone (SomeOf (any_of (all_of (named (codes "a") ∷ OfAttributes (HasClass (codes "x")) ∷ []) ∷ alone (named (codes "p")) ∷ [])))
-  -- `:is(a)` and `:where(a)` are one, `:is(a)` and `a` two, and so are `:not(a, b)` and `:not(b, a)`, `:not(:not(a))` and `a`
-  pub is_and_where : compound_tests (With Nothing (Is (one (tag (codes "a"))))) ≡ compound_tests (With Nothing (Where (one (tag (codes "a")))))
-  pub is_and_name : same_compound (compound_tests (With Nothing (Is (one (tag (codes "a")))))) (compound_tests (With Nothing (tag (codes "a")))) ≡ false
+      ≡ one_test (SomeOf (any_of (all_of (named (codes "a") ∷ OfAttributes (HasClass (codes "x")) ∷ []) ∷ one_test (named (codes "p")) ∷ [])))
+  -- `:is(a)` and `:where(a)` are one_part, `:is(a)` and `a` two, and so are `:not(a, b)` and `:not(b, a)`, `:not(:not(a))` and `a`
+  pub is_and_where : compound_tests (With Nothing (Is (one_part (tag (codes "a"))))) ≡ compound_tests (With Nothing (Where (one_part (tag (codes "a")))))
+  pub is_and_name : same_compound (compound_tests (With Nothing (Is (one_part (tag (codes "a")))))) (compound_tests (With Nothing (tag (codes "a")))) ≡ false
   pub order_counts : same_compound (compound_tests (With Nothing (Not (two (tag (codes "a")) (tag (codes "b")))))) (compound_tests (With Nothing (Not (two (tag (codes "b")) (tag (codes "a")))))) ≡ false
-  pub not_not : same_compound (compound_tests (With Nothing (Not (one (Not (one (tag (codes "a")))))))) (compound_tests (With Nothing (tag (codes "a")))) ≡ false
+  pub not_not : same_compound (compound_tests (With Nothing (Not (one_part (Not (one_part (tag (codes "a")))))))) (compound_tests (With Nothing (tag (codes "a")))) ≡ false

@@ -7,26 +7,26 @@ use Rattle.lol_program.specs.Paths.{Path, Then}
 use Rattle.lol_program.specs.Forest.{Forest, none, more, Node}
 
 -- what a node has itself, or one under it
-abbrev pub Has : (Path → List ℕ → Type 0) → (Compound → Path) → Forest → Type 0
-Has Own make none = ⊥
-Has Own make (more c ids children descendants rest) =
-    (Own (make c) ids ⊎ (Has Own (Then (make c) Child) children ⊎ Has Own (Then (make c) Descendant) descendants)) ⊎ Has Own make rest
+abbrev pub HasUnder : (Path → List ℕ → Type 0) → (Compound → Path) → Forest → Type 0
+HasUnder Own make none = ⊥
+HasUnder Own make (more c ids children descendants rest) =
+    (Own (make c) ids ⊎ (HasUnder Own (Then (make c) Child) children ⊎ HasUnder Own (Then (make c) Descendant) descendants)) ⊎ HasUnder Own make rest
 
 abbrev pub HasIn : (Path → List ℕ → Type 0) → (Compound → Path) → Node → Type 0
 HasIn Own make n =
-    Own (make n.compound) n.ids ⊎ (Has Own (Then (make n.compound) Child) n.children ⊎ Has Own (Then (make n.compound) Descendant) n.descendants)
+    Own (make n.compound) n.ids ⊎ (HasUnder Own (Then (make n.compound) Child) n.children ⊎ HasUnder Own (Then (make n.compound) Descendant) n.descendants)
 
-abbrev pub IsAt : Path → Path → List ℕ → Type 0
-IsAt path at ids = at ≡ path
+abbrev pub IsPlacedAt : Path → Path → List ℕ → Type 0
+IsPlacedAt path at ids = at ≡ path
 
 abbrev pub IsPair : Path → ℕ → Path → List ℕ → Type 0
 IsPair path id at ids = (at ≡ path) × Contains ids id
 
 abbrev pub HasNode : (Compound → Path) → Forest → Path → Type 0
-HasNode make f path = Has (IsAt path) make f
+HasNode make f path = HasUnder (IsPlacedAt path) make f
 
 abbrev pub HasPair : (Compound → Path) → Forest → Path → ℕ → Type 0
-HasPair make f path id = Has (IsPair path id) make f
+HasPair make f path id = HasUnder (IsPair path id) make f
 
 -- the nodes and the pair that the path from a compound on brings
 abbrev pub BringsNode : (Compound → Path) → Compound → List (Combinator × Compound) → Path → Type 0

@@ -10,9 +10,9 @@ each_once [] = []
 each_once (path ∷ paths) = let rest = each_once paths in if list_any (same_path path) rest then rest else path ∷ rest
 
 -- The beginnings of the paths, each once.
-abbrev pub nodes_of : List (Path × ℕ) → List Path
-nodes_of pairs = each_once (all_beginnings pairs)
+abbrev pub nodes_of_pairs : List (Path × ℕ) → List Path
+nodes_of_pairs pairs = each_once (all_beginnings pairs)
 
 -- What is looked for where no selector was refused.
 abbrev pub selectors_of : List (Path × ℕ) → Selectors
-selectors_of pairs = record { pairs = pairs; nodes = nodes_of pairs }
+selectors_of pairs = record { pairs = pairs; nodes = nodes_of_pairs pairs }

@@ -5,7 +5,7 @@ use Rattle.std.specs.List.{list_any, IsDistinct, AllByRecursion}
 use Rattle.std.proofs.lemmas.Map.Made.{AllPairs-from_IsDistinct}
 use Rattle.lol_program.specs.Paths.{Path, AreNodes, beginnings, all_beginnings}
 use Rattle.lol_program.specs.Same.{same_path}
-use Rattle.lol_program.specs.Nodes.{each_once, nodes_of}
+use Rattle.lol_program.specs.Nodes.{each_once, nodes_of_pairs}
 use Rattle.lol_program.specs.Sets.{Joins}
 use Rattle.lol_base.specs.MemberLaws.{Among, among_from_contains, contains_from_among, among_front, among_back, among_either}
 use Rattle.lol_program.specs.SamePathLaws.{same_path-Decides}
@@ -59,13 +59,13 @@ distinct (p ∷ paths) = by_test (list_any (same_path p) (each_once paths)) refl
     by_test false is rest = (none_passes (same_path p) (each_once paths) is, rest)
 
 -- The nodes of pairs are the beginnings of their paths, each once.
-pub nodes_of-AreNodes : (pairs : List (Path × ℕ)) → AreNodes pairs (nodes_of pairs)
+pub nodes_of-AreNodes : (pairs : List (Path × ℕ)) → AreNodes pairs (nodes_of_pairs pairs)
 nodes_of-AreNodes pairs = record {
   members = λ path. (
     λ h. contains_from_among _ path (no_other (all_beginnings pairs) path (among_from_contains _ path h)),
     λ h. contains_from_among _ path (kept (all_beginnings pairs) path (among_from_contains _ path h)),
   );
-  each_once = AllPairs-from_IsDistinct same_path-Decides (nodes_of pairs) (distinct (all_beginnings pairs));
+  each_once = AllPairs-from_IsDistinct same_path-Decides (nodes_of_pairs pairs) (distinct (all_beginnings pairs));
 }
 
 -- a beginning of a path of some pair

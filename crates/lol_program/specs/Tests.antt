@@ -66,9 +66,9 @@ is_white b = (((b == 32 || b == 10) || b == 13) || b == 9) || b == 12
 abbrev pub words : List ℕ → List (List ℕ)
 words value = slice_split is_white value
 
-abbrev pub is_empty : List ℕ → Bool
-is_empty [] = true
-is_empty (b ∷ bytes) = false
+abbrev pub is_empty_text : List ℕ → Bool
+is_empty_text [] = true
+is_empty_text (b ∷ bytes) = false
 
 -- whether a part stands somewhere in a list
 abbrev pub stands_in : List ℕ → List ℕ → Bool
@@ -81,7 +81,7 @@ operator_holds Equal value operand = bytes_eq value operand
 operator_holds Includes value operand = list_any (λ word. bytes_eq word operand) (words value)
 operator_holds DashMatch value operand = bytes_eq value operand || starts_with ◌==◌ value (operand ++ 45 ∷ [])
 operator_holds Prefix value operand = starts_with ◌==◌ value operand
-operator_holds Substring value operand = not (is_empty operand) && stands_in value operand
+operator_holds Substring value operand = not (is_empty_text operand) && stands_in value operand
 operator_holds Suffix value operand = ends_with ◌==◌ value operand
 
 -- The operators that an empty operand makes false (Selectors 4, "Attribute presence and value selectors" and "Substring matching
@@ -95,7 +95,7 @@ needs_operand Substring = true
 needs_operand Suffix = true
 
 abbrev pub compares : AttrSelectorOperator → List ℕ → List ℕ → Bool
-compares operator value operand = not (needs_operand operator && is_empty operand) && operator_holds operator value operand
+compares operator value operand = not (needs_operand operator && is_empty_text operand) && operator_holds operator value operand
 
 abbrev pub is_html : Namespace → Bool
 is_html Html = true

@@ -2,8 +2,8 @@
 use Rattle.std.specs.Prelude.{ℕ}
 use Rattle.lol_program.specs.declared.tries.Tries.{Tries}
 
-abbrev pub name_tries : Tries → ℕ
-name_tries tries = tries.names
+abbrev pub names_counted : Tries → ℕ
+names_counted tries = tries.names
 
-abbrev pub attribute_tries : Tries → ℕ
-attribute_tries tries = tries.attributes
+abbrev pub attributes_counted : Tries → ℕ
+attributes_counted tries = tries.attributes

@@ -34,12 +34,12 @@ abbrev pub forest_of : List AstNode → Forest
 forest_of nodes = linked (map node_of nodes)
 
 -- the tests of a compound of a selector
-abbrev pub tests_in : css.Compound → Compound
-tests_in compound = compound_tests (compound_of compound)
+abbrev pub tests_of_compound : css.Compound → Compound
+tests_of_compound compound = compound_tests (compound_of compound)
 
 -- further compounds, each by a step
-abbrev pub step_of : Combinator × css.Compound → Combinator × Compound
-step_of step = (step.0, tests_in step.1)
+abbrev pub step_shown : Combinator × css.Compound → Combinator × Compound
+step_shown step = (step.0, tests_of_compound step.1)
 
 abbrev pub steps_of : List (Combinator × css.Compound) → List (Combinator × Compound)
-steps_of steps = map step_of steps
+steps_of steps = map step_shown steps

@@ -8,9 +8,9 @@ use Rattle.lol_program.specs.Tests.{is_white}
 use Rattle.lol_program.specs.Attributes.{value_holds}
 
 -- whether a byte is this letter
-abbrev pub is_letter : CaseSensitivity → ℕ → ℕ → Bool
-is_letter CaseSensitive letter b = b == letter
-is_letter AsciiCaseInsensitive letter b = to_ascii_lowercase letter == to_ascii_lowercase b
+abbrev pub is_letter_of : CaseSensitivity → ℕ → ℕ → Bool
+is_letter_of CaseSensitive letter b = b == letter
+is_letter_of AsciiCaseInsensitive letter b = to_ascii_lowercase letter == to_ascii_lowercase b
 
 -- the value begins at a place, or white space stands before it
 abbrev pub IsWordStart : List ℕ → ℕ → Type 0
@@ -29,7 +29,7 @@ pub record IsWordBefore (case : CaseSensitivity) (value operand : List ℕ) (end
 
 -- no byte from one place up to another is the letter
 abbrev pub NoLetter : CaseSensitivity → List ℕ → ℕ → ℕ → ℕ → Type 0
-NoLetter case value letter from to = (k : ℕ) → from ≤ k → k < to → is_letter case letter (slice_index value k) ≡ false
+NoLetter case value letter from to = (k : ℕ) → from ≤ k → k < to → is_letter_of case letter (slice_index value k) ≡ false
 
 -- a letter's first place from `from` on is before `end`
 pub record IsLetterEnd (case : CaseSensitivity) (value : List ℕ) (letter from end : ℕ) : Type 0 where

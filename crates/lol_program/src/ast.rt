@@ -29,7 +29,7 @@ impl Ast {
     ghost use Rattle.lol_program.specs.Runs.{path_runs};
     ghost use Rattle.lol_program.specs.Conditions.{pairs_under};
     ghost use Rattle.lol_program.specs.IdsForNodes.{id_in, pairs_with, Fits, HasRoomAmong, AllReserve};
-    ghost use Rattle.lol_program.specs.AstPaths.{shown, IsIn, IsInWith, AllIn, AreEnough};
+    ghost use Rattle.lol_program.specs.AstPaths.{path_shown, IsIn, IsInWith, AllIn, AreEnough};
     ghost use Rattle.lol_program.specs.Sets.{Joins, SameMembers, IsBetween};
     ghost use Rattle.lol_program.specs.Asts.{trees_of, nodes_of, pairs_of};
 
@@ -106,11 +106,11 @@ impl Ast {
     }
 
     fn add_path(&mut self, item: &ComplexSelector, id: IdForNode) -> Result<(), AllocError>
-        ensures pairs { OnOk result (Joins (pairs_of self.old) (pairs_of self.new) (pairs_with (id_in id) (shown item.now))) }
-        ensures nodes { OnOk result (Joins (nodes_of self.old) (nodes_of self.new) (beginnings (shown item.now))) }
+        ensures pairs { OnOk result (Joins (pairs_of self.old) (pairs_of self.new) (pairs_with (id_in id) (path_shown item.now))) }
+        ensures nodes { OnOk result (Joins (nodes_of self.old) (nodes_of self.new) (beginnings (path_shown item.now))) }
         ensures stands { OnOk result (IsIn (trees_of self.new) item.now) }
         ensures refused_pairs { OnErr result (SameMembers (pairs_of self.old) (pairs_of self.new)) }
-        ensures refused_nodes { OnErr result (IsBetween (nodes_of self.old) (nodes_of self.new) (beginnings (shown item.now))) }
+        ensures refused_nodes { OnErr result (IsBetween (nodes_of self.old) (nodes_of self.new) (beginnings (path_shown item.now))) }
         ensures keeps { (items : List ComplexSelector) → AllIn (trees_of self.old) items → AllIn (trees_of self.new) items }
         ensures keeps_enough { (match_id : ℕ) (items : List ComplexSelector) (count : ℕ) → AreEnough match_id (trees_of self.old) items count → AreEnough match_id (trees_of self.new) items count }
         ensures free { IsInWith (Fits id) (trees_of self.old) item.now → IsOk result }
@@ -128,9 +128,9 @@ impl Ast {
     /// Makes the nodes of paths that aren't there.
     fn add_nodes(&mut self, items: &[ComplexSelector]) -> Result<(), AllocError>
         ensures pairs { SameMembers (pairs_of self.old) (pairs_of self.new) }
-        ensures nodes { OnOk result (Joins (nodes_of self.old) (nodes_of self.new) (flat_map beginnings (map shown items.now))) }
+        ensures nodes { OnOk result (Joins (nodes_of self.old) (nodes_of self.new) (flat_map beginnings (map path_shown items.now))) }
         ensures stands { OnOk result (AllIn (trees_of self.new) items.now) }
-        ensures refused_nodes { OnErr result (IsBetween (nodes_of self.old) (nodes_of self.new) (flat_map beginnings (map shown items.now))) }
+        ensures refused_nodes { OnErr result (IsBetween (nodes_of self.old) (nodes_of self.new) (flat_map beginnings (map path_shown items.now))) }
     {
         for item in items {
             self.add_path(item, IdForNode::Nothing)?;
@@ -141,10 +141,10 @@ impl Ast {
     /// Gives an id to the last nodes of paths that stand. All that may be refused comes before the first change.
     fn add_id(&mut self, items: &[ComplexSelector], match_id: MatchId) -> Result<(), AllocError>
         requires { AllIn (trees_of self.old) items.now }
-        ensures pairs { OnOk result (Joins (pairs_of self.old) (pairs_of self.new) (map (λ item. (shown item, match_id)) items.now)) }
-        ensures nodes { OnOk result (Joins (nodes_of self.old) (nodes_of self.new) (flat_map beginnings (map shown items.now))) }
+        ensures pairs { OnOk result (Joins (pairs_of self.old) (pairs_of self.new) (map (λ item. (path_shown item, match_id)) items.now)) }
+        ensures nodes { OnOk result (Joins (nodes_of self.old) (nodes_of self.new) (flat_map beginnings (map path_shown items.now))) }
         ensures refused_pairs { OnErr result (SameMembers (pairs_of self.old) (pairs_of self.new)) }
-        ensures refused_nodes { OnErr result (IsBetween (nodes_of self.old) (nodes_of self.new) (flat_map beginnings (map shown items.now))) }
+        ensures refused_nodes { OnErr result (IsBetween (nodes_of self.old) (nodes_of self.new) (flat_map beginnings (map path_shown items.now))) }
     {
         let reserved_ids = self.reserve_ids(items, match_id)?;
         self.add_reserved_ids(items, match_id, reserved_ids);
@@ -186,8 +186,8 @@ impl Ast {
     )
         requires alike { AllReserve match_id reserved_ids.items }
         requires enough { AreEnough match_id (trees_of self.old) items.now (vec_len reserved_ids) }
-        ensures pairs { Joins (pairs_of self.old) (pairs_of self.new) (map (λ item. (shown item, match_id)) items.now) }
-        ensures nodes { Joins (nodes_of self.old) (nodes_of self.new) (flat_map beginnings (map shown items.now)) }
+        ensures pairs { Joins (pairs_of self.old) (pairs_of self.new) (map (λ item. (path_shown item, match_id)) items.now) }
+        ensures nodes { Joins (nodes_of self.old) (nodes_of self.new) (flat_map beginnings (map path_shown items.now)) }
     {
         for item in items {
             self.add_reserved_id(item, match_id, &mut reserved_ids);
@@ -206,8 +206,8 @@ impl Ast {
         ensures alike { AllReserve match_id reserved_ids.new.items }
         ensures enough { (items : List ComplexSelector) → AreEnough match_id (trees_of self.old) (item.now ∷ items) (vec_len reserved_ids.old)
             → AreEnough match_id (trees_of self.new) items (vec_len reserved_ids.new) }
-        ensures pairs { Joins (pairs_of self.old) (pairs_of self.new) ((shown item.now, match_id) ∷ []) }
-        ensures nodes { Joins (nodes_of self.old) (nodes_of self.new) (beginnings (shown item.now)) }
+        ensures pairs { Joins (pairs_of self.old) (pairs_of self.new) ((path_shown item.now, match_id) ∷ []) }
+        ensures nodes { Joins (nodes_of self.old) (nodes_of self.new) (beginnings (path_shown item.now)) }
     {
         if self.has_room(item, match_id) {
             let Ok(()) = self.add_path(item, IdForNode::Id(match_id)) else {

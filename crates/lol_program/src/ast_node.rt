@@ -2,7 +2,7 @@
 
 ghost use Rattle.std.specs.Prelude.{ℕ, ◌≡◌, ◌+◌, ◌↔◌, IsTrue, IfOk, OnOk, OnErr, IsOk, IfSome, IfNone, [], ◌∷◌, map};
 ghost use Rattle.lol_program.specs.Predicates.{tests_of};
-ghost use Rattle.lol_program.specs.Views.{node_of, linked, forest_of, tests_in, steps_of};
+ghost use Rattle.lol_program.specs.Views.{node_of, linked, forest_of, tests_of_compound, steps_of};
 ghost use Rattle.lol_program.specs.ForestRuns.{forest_runs};
 ghost use Rattle.lol_program.specs.Forest.{size};
 ghost use Rattle.lol_program.specs.Growth.{fresh, Adds, AddsFirst, StandsWith};
@@ -51,8 +51,8 @@ fn fresh_node(alloc: Global, predicate: Predicate) -> AstNode
 
 /// The place of the first node with the tests of a compound.
 fn place_of(nodes: &[AstNode], compound: &Compound) -> Option<usize>
-    ensures some { IfSome result (λ i. IsPlace (tests_in compound.now) (map node_of nodes.now) i) }
-    ensures none { IfNone result (IsNowhere (tests_in compound.now) (map node_of nodes.now)) }
+    ensures some { IfSome result (λ i. IsPlace (tests_of_compound compound.now) (map node_of nodes.now) i) }
+    ensures none { IfNone result (IsNowhere (tests_of_compound compound.now) (map node_of nodes.now)) }
 {
     for (i, node) in nodes.iter().enumerate() {
         if node.predicate.is_of(compound) {
@@ -69,8 +69,8 @@ fn place_for(
     count: &mut usize,
     compound: &Compound,
 ) -> Result<usize, AllocError>
-    ensures place { IfOk result (λ i. HasPlace (tests_in compound.now) (map node_of nodes.old.items) (map node_of nodes.new.items) i) }
-    ensures free { OnErr result (IsNowhere (tests_in compound.now) (map node_of nodes.old.items)) }
+    ensures place { IfOk result (λ i. HasPlace (tests_of_compound compound.now) (map node_of nodes.old.items) (map node_of nodes.new.items) i) }
+    ensures free { OnErr result (IsNowhere (tests_of_compound compound.now) (map node_of nodes.old.items)) }
     ensures unchanged { OnErr result (nodes.new.items ≡ nodes.old.items) }
     ensures count { count.new + size (forest_of nodes.old.items) ≡ count.old + size (forest_of nodes.new.items) }
 {
@@ -96,9 +96,9 @@ pub(crate) fn add_path(
     rest: &[(Combinator, Compound)],
     id: IdForNode,
 ) -> Result<(), AllocError>
-    ensures added { OnOk result (Adds (id_in id) (tests_in first.now) (steps_of rest.now) (forest_of nodes.old.items) (forest_of nodes.new.items)) }
-    ensures partly { OnErr result ((k : ℕ) × AddsFirst k (tests_in first.now) (steps_of rest.now) (forest_of nodes.old.items) (forest_of nodes.new.items)) }
-    ensures free { StandsWith (Fits id) (tests_in first.now) (steps_of rest.now) (forest_of nodes.old.items) → IsOk result }
+    ensures added { OnOk result (Adds (id_in id) (tests_of_compound first.now) (steps_of rest.now) (forest_of nodes.old.items) (forest_of nodes.new.items)) }
+    ensures partly { OnErr result ((k : ℕ) × AddsFirst k (tests_of_compound first.now) (steps_of rest.now) (forest_of nodes.old.items) (forest_of nodes.new.items)) }
+    ensures free { StandsWith (Fits id) (tests_of_compound first.now) (steps_of rest.now) (forest_of nodes.old.items) → IsOk result }
     ensures count { count.new + size (forest_of nodes.old.items) ≡ count.old + size (forest_of nodes.new.items) }
 {
     let place = place_for(alloc, nodes, count, first)?;
@@ -121,7 +121,7 @@ pub(crate) fn has_room(
     rest: &[(Combinator, Compound)],
     id: MatchId,
 ) -> bool
-    ensures { IsTrue result ↔ StandsWith (HasRoomAmong id) (tests_in first.now) (steps_of rest.now) (forest_of nodes.now) }
+    ensures { IsTrue result ↔ StandsWith (HasRoomAmong id) (tests_of_compound first.now) (steps_of rest.now) (forest_of nodes.now) }
 {
     let Some(place) = place_of(nodes, first) else {
         return false;

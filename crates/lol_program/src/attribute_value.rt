@@ -7,7 +7,7 @@ ghost use Rattle.lol_css.specs.declared.attribute.AttrSelectorOperator.TheVarian
 ghost use Rattle.lol_program.specs.Tests.{is_white};
 ghost use Rattle.lol_program.specs.Attributes.{value_holds};
 ghost use Rattle.memchr.specs.Find.{IsFirstByte};
-ghost use Rattle.lol_program.specs.Words.{is_letter, NoLetter, IsLetterEnd, IsWordBefore};
+ghost use Rattle.lol_program.specs.Words.{is_letter_of, NoLetter, IsLetterEnd, IsWordBefore};
 ghost use Rattle.lol_program.specs.Substrings.{stands_in_caseless, IsAfterLetter};
 
 use lol_css::CaseSensitivity;
@@ -106,7 +106,7 @@ fn letter_end(value: &[u8], from: usize, letter: u8, case: CaseSensitivity) -> O
 
 // A letter's first place.
 fn next_letter(value: &[u8], letter: u8, case: CaseSensitivity) -> Option<usize>
-    ensures { IsFirstByte (is_letter case letter) value.now result }
+    ensures { IsFirstByte (is_letter_of case letter) value.now result }
 {
     match case {
         CaseSensitivity::CaseSensitive => memchr(letter, value),

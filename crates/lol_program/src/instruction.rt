@@ -3,7 +3,7 @@
 ghost use Rattle.std.specs.Prelude.{◌≡◌, ◌<◌, ◌+◌, [], None, if◌then◌else◌};
 ghost use Rattle.std.specs.Option.{option_copied};
 ghost use Rattle.lol_memory.specs.Ids.{no_ids};
-ghost use Rattle.lol_program.specs.Tries.{name_tries, attribute_tries};
+ghost use Rattle.lol_program.specs.Tries.{names_counted, attributes_counted};
 ghost use Rattle.lol_program.specs.Compiled.{sight, tests_in, predicate_value, predicate_holds};
 ghost use Rattle.lol_program.specs.Running.{Answers, branch_if, tries_of_attributes};
 
@@ -62,11 +62,11 @@ impl Instruction {
         local_name: &LocalName<'_>,
         tries: &mut Tries,
     ) -> TryExecResult<'_>
-        requires names_fit { name_tries tries.old < u64.MAX }
-        requires attributes_fit { attribute_tries tries.old < u64.MAX }
+        requires names_fit { names_counted tries.old < u64.MAX }
+        requires attributes_fit { attributes_counted tries.old < u64.MAX }
         ensures answer { Answers result (predicate_value self.now.predicate (sight state.now local_name.now)) self.now.associated_branch }
-        ensures names { name_tries tries.new ≡ name_tries tries.old + 1 }
-        ensures attributes { attribute_tries tries.new ≡ attribute_tries tries.old }
+        ensures names { names_counted tries.new ≡ names_counted tries.old + 1 }
+        ensures attributes { attributes_counted tries.new ≡ attributes_counted tries.old }
     {
         tries.add_name();
         match self.predicate.by_names(state, local_name) {
@@ -86,11 +86,11 @@ impl Instruction {
         matcher: &AttributeMatcher<'_>,
         tries: &mut Tries,
     ) -> Option<&ExecutionBranch>
-        requires names_fit { name_tries tries.old < u64.MAX }
-        requires attributes_fit { attribute_tries tries.old < u64.MAX }
+        requires names_fit { names_counted tries.old < u64.MAX }
+        requires attributes_fit { attributes_counted tries.old < u64.MAX }
         ensures answer { option_copied result ≡ branch_if (predicate_holds self.now.predicate (sight state.now local_name.now) matcher.now) self.now.associated_branch }
-        ensures names { name_tries tries.new ≡ name_tries tries.old }
-        ensures attributes { attribute_tries tries.new ≡ attribute_tries tries.old + tries_of_attributes (predicate_value self.now.predicate (sight state.now local_name.now)) }
+        ensures names { names_counted tries.new ≡ names_counted tries.old }
+        ensures attributes { attributes_counted tries.new ≡ attributes_counted tries.old + tries_of_attributes (predicate_value self.now.predicate (sight state.now local_name.now)) }
     {
         match self.predicate.by_names(state, local_name) {
             NameValue::True => Some(&self.associated_branch),
@@ -116,11 +116,11 @@ impl Instruction {
         matcher: &AttributeMatcher<'_>,
         tries: &mut Tries,
     ) -> Option<&ExecutionBranch>
-        requires names_fit { name_tries tries.old < u64.MAX }
-        requires attributes_fit { attribute_tries tries.old < u64.MAX }
+        requires names_fit { names_counted tries.old < u64.MAX }
+        requires attributes_fit { attributes_counted tries.old < u64.MAX }
         ensures answer { option_copied result ≡ branch_if (predicate_holds self.now.predicate (sight state.now local_name.now) matcher.now) self.now.associated_branch }
-        ensures names { name_tries tries.new ≡ name_tries tries.old + 1 }
-        ensures attributes { attribute_tries tries.new ≡ attribute_tries tries.old + tries_of_attributes (predicate_value self.now.predicate (sight state.now local_name.now)) }
+        ensures names { names_counted tries.new ≡ names_counted tries.old + 1 }
+        ensures attributes { attributes_counted tries.new ≡ attributes_counted tries.old + tries_of_attributes (predicate_value self.now.predicate (sight state.now local_name.now)) }
     {
         let branch = self.complete_exec_with_attrs(state, local_name, matcher, tries);
         tries.add_name();

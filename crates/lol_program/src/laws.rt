@@ -2,13 +2,13 @@
 
 ghost use Rattle.std.specs.Prelude.{ℕ, List};
 ghost use Rattle.lol_program.specs.Paths.{Path, AreNodes};
-ghost use Rattle.lol_program.specs.Nodes.{nodes_of};
+ghost use Rattle.lol_program.specs.Nodes.{nodes_of_pairs};
 ghost use Rattle.lol_program.specs.Laws.{NodesStayTheBeginnings, TreesAreClosed, BeginningsAreClosed, ValuesDecide, ValuesAreByNames, AreRows};
 ghost use Rattle.lol_program.specs.Layouts.{LayoutsArePrograms, RangesAreApart, WorkedLayout};
 
 /// The nodes of pairs are the beginnings of their paths, each once.
 pub fn nodes_are_the_beginnings()
-    ensures { (pairs : List (Path × ℕ)) → AreNodes pairs (nodes_of pairs) }
+    ensures { (pairs : List (Path × ℕ)) → AreNodes pairs (nodes_of_pairs pairs) }
 {}
 
 /// Nodes that take in what the pairs' paths bring stay their beginnings: so the nodes of a tree are, where no add was refused.

@@ -10,12 +10,12 @@ pub struct Tries {
 }
 
 impl Tries {
-    ghost use Rattle.lol_program.specs.Tries.{name_tries, attribute_tries};
+    ghost use Rattle.lol_program.specs.Tries.{names_counted, attributes_counted};
 
     /// None yet.
     pub fn new() -> Self
-        ensures names { name_tries result ≡ 0 }
-        ensures attributes { attribute_tries result ≡ 0 }
+        ensures names { names_counted result ≡ 0 }
+        ensures attributes { attributes_counted result ≡ 0 }
     {
         Tries {
             names: 0,
@@ -25,14 +25,14 @@ impl Tries {
 
     /// The nodes that were tried by their name tests.
     pub fn names(&self) -> u64
-        ensures { result ≡ name_tries self.now }
+        ensures { result ≡ names_counted self.now }
     {
         self.names
     }
 
     /// The nodes that were tried by their attribute tests.
     pub fn attributes(&self) -> u64
-        ensures { result ≡ attribute_tries self.now }
+        ensures { result ≡ attributes_counted self.now }
     {
         self.attributes
     }
@@ -40,9 +40,9 @@ impl Tries {
     /// Counts a node more by its name tests.
     #[inline(always)]
     pub(crate) fn add_name(&mut self)
-        requires { name_tries self.old < u64.MAX }
-        ensures names { name_tries self.new ≡ name_tries self.old + 1 }
-        ensures attributes { attribute_tries self.new ≡ attribute_tries self.old }
+        requires { names_counted self.old < u64.MAX }
+        ensures names { names_counted self.new ≡ names_counted self.old + 1 }
+        ensures attributes { attributes_counted self.new ≡ attributes_counted self.old }
     {
         self.names += 1;
     }
@@ -50,9 +50,9 @@ impl Tries {
     /// Counts a node more by its attribute tests.
     #[inline(always)]
     pub(crate) fn add_attributes(&mut self)
-        requires { attribute_tries self.old < u64.MAX }
-        ensures names { name_tries self.new ≡ name_tries self.old }
-        ensures attributes { attribute_tries self.new ≡ attribute_tries self.old + 1 }
+        requires { attributes_counted self.old < u64.MAX }
+        ensures names { names_counted self.new ≡ names_counted self.old }
+        ensures attributes { attributes_counted self.new ≡ attributes_counted self.old + 1 }
     {
         self.attributes += 1;
     }

@@ -5,7 +5,7 @@ use Rattle.lol_program.specs.Tests.{Element, is_html}
 use Rattle.lol_program.specs.Paths.{Selectors}
 use Rattle.lol_base.specs.MemberLaws.{Among}
 use Rattle.lol_vm.specs.Documents.{element_of}
-use Rattle.lol_vm.specs.Answers.{document, with_number, ascending, matching_ids}
+use Rattle.lol_vm.specs.Answers.{document, with_number, ascending_once, matching_ids}
 use Rattle.lol_vm.specs.ReportLaws.{ascending_is_determined, ascending_ascends, pairs_from_ascends, matching_ids_ascend, among_with_number, number_among, others_among}
 use Rattle.lol_program.specs.Programs.{all_places}
 use Rattle.lol_vm.specs.Machines.{HoldOnce, LeftMatches, ranges_to_run}
@@ -17,22 +17,22 @@ use Rattle.lol_vm.proofs.Counted.{places_count_tries}
 use Rattle.lol_vm.proofs.Gathered.{runs_give_reports}
 use Rattle.lol_vm.proofs.Stops.{stopped_starts_are_whole}
 
-pub among_ascending : (ns : List ℕ) (m : ℕ) → Among (ascending ns) m → Among ns m
+pub among_ascending : (ns : List ℕ) (m : ℕ) → Among (ascending_once ns) m → Among ns m
 among_ascending [] m h = h
-among_ascending (n ∷ ns) m h = let more = among_ascending ns m in elim (among_with_number n (ascending ns) m h) [ inl is ↦ inl is | inr a ↦ inr (more a) ]
+among_ascending (n ∷ ns) m h = let more = among_ascending ns m in elim (among_with_number n (ascending_once ns) m h) [ inl is ↦ inl is | inr a ↦ inr (more a) ]
 
-pub ascending_among : (ns : List ℕ) (m : ℕ) → Among ns m → Among (ascending ns) m
+pub ascending_among : (ns : List ℕ) (m : ℕ) → Among ns m → Among (ascending_once ns) m
 ascending_among [] m h = h
-ascending_among (n ∷ ns) m (inl is) = subst (Among (with_number n (ascending ns))) is (number_among n (ascending ns))
-ascending_among (n ∷ ns) m (inr a) = others_among n (ascending ns) m (ascending_among ns m a)
+ascending_among (n ∷ ns) m (inl is) = subst (Among (with_number n (ascending_once ns))) is (number_among n (ascending_once ns))
+ascending_among (n ∷ ns) m (inr a) = others_among n (ascending_once ns) m (ascending_among ns m a)
 
 -- a list with the members of a report, put in order, is the report
-in_order : (ids : List ℕ) (s : Selectors) (e : Element) (outer : List Element) → ((id : ℕ) → Contains ids id ↔ Contains (matching_ids s.pairs e outer) id) → ascending ids ≡ matching_ids s.pairs e outer
+in_order : (ids : List ℕ) (s : Selectors) (e : Element) (outer : List Element) → ((id : ℕ) → Contains ids id ↔ Contains (matching_ids s.pairs e outer) id) → ascending_once ids ≡ matching_ids s.pairs e outer
 in_order ids s e outer same =
-    ascending_is_determined (ascending ids) (matching_ids s.pairs e outer) (pairs_from_ascends (ascending ids) (ascending_ascends ids)) (matching_ids_ascend e outer s.pairs)
+    ascending_is_determined (ascending_once ids) (matching_ids s.pairs e outer) (pairs_from_ascends (ascending_once ids) (ascending_ascends ids)) (matching_ids_ascend e outer s.pairs)
     (λ id. (
-      λ h. (same id).0 (to_contains ids id (among_ascending ids id (to_among (ascending ids) id h))),
-      λ h. to_contains (ascending ids) id (ascending_among ids id (to_among ids id ((same id).1 h))),
+      λ h. (same id).0 (to_contains ids id (among_ascending ids id (to_among (ascending_once ids) id h))),
+      λ h. to_contains (ascending_once ids) id (ascending_among ids id (to_among ids id ((same id).1 h))),
     ))
 
 pub starts_answer : StartsAnswer

@@ -13,7 +13,7 @@ use Rattle.lol_vm.proofs.Bools.{and_true, same_bool}
 use Rattle.lol_program.specs.Compounds.{is_open}
 use Rattle.lol_program.specs.Programs.{Range, Program, IsAt, IsProgramOf, AreClosed, places, all_places}
 use Rattle.lol_vm.specs.Machines.{HoldOnce, LeftMatches}
-use Rattle.lol_vm.specs.PlaceRuns.{value_of, is_open_at}
+use Rattle.lol_vm.specs.PlaceRuns.{instruction_value, is_open_at}
 use Rattle.lol_vm.specs.MachineLaws.{PlacesCountTries, sum_of_lengths}
 use Rattle.lol_vm.proofs.Lists.{to_contains, to_among, to_distinct, at_among, at_within, is_at, is_at_of, is_at_is, below, among_below, distinct_below, count_by_places, count_same, count_all, same_passing, any_among, among_any}
 use Rattle.lol_vm.proofs.Held.{instruction_at, place_of_node}
@@ -54,7 +54,7 @@ module _ (s : Selectors) (paths : List Path) (p : Program) (closed : AreClosed s
       open_at : (place : ℕ) (path : Path) → IsAt paths place path → LeftMatches outer path → is_open_at p e place ≡ needs_attributes e outer path
       open_at place path at fits =
           let i = instruction_at s paths p program place path at in
-          let value : is_open_at p e place ≡ is_open (i.0.value e) = ap (λ o. is_open (value_of e o)) i.1 in
+          let value : is_open_at p e place ≡ is_open (i.0.value e) = ap (λ o. is_open (instruction_value e o)) i.1 in
           value ∙ (ap is_open ((program.each place path i.0 at i.1).means e).0 ∙ sym (and_true (left_matches path outer) _ fits))
 
       left_of_needing : (path : Path) → needs_attributes e outer path ≡ true → LeftMatches outer path

@@ -3,14 +3,14 @@ use Rattle.std.proofs.Common.{◌≡◌, ◌≢◌, ap, refl, ℕ, true, false, 
 use Rattle.std.proofs.lemmas.Bool.Decides.{nat_tests}
 use Rattle.std.specs.Bool.{if◌then◌else◌}
 use Rattle.lol_program.specs.Counters.{full_count}
-use Rattle.lol_vm.specs.Levels.{one_more, is_at, counted_last, count_if_at}
+use Rattle.lol_vm.specs.Levels.{one_more, is_at_level, counted_at_last, count_if_at}
 
-pub is_at-append : (index : ℕ) (xs : List (ℕ × ℕ)) (x : ℕ × ℕ) → is_at index (xs ++ x ∷ []) ≡ nat_eq x.0 index
+pub is_at-append : (index : ℕ) (xs : List (ℕ × ℕ)) (x : ℕ × ℕ) → is_at_level index (xs ++ x ∷ []) ≡ nat_eq x.0 index
 is_at-append index [] x = refl
 is_at-append index (y ∷ []) x = refl
 is_at-append index (y ∷ z ∷ xs) x = is_at-append index (z ∷ xs) x
 
-pub counted_last-append : (xs : List (ℕ × ℕ)) (x : ℕ × ℕ) → counted_last (xs ++ x ∷ []) ≡ xs ++ (x.0, one_more x.1) ∷ []
+pub counted_last-append : (xs : List (ℕ × ℕ)) (x : ℕ × ℕ) → counted_at_last (xs ++ x ∷ []) ≡ xs ++ (x.0, one_more x.1) ∷ []
 counted_last-append [] x = refl
 counted_last-append (y ∷ []) x = refl
 counted_last-append (y ∷ z ∷ xs) x = ap (λ rest. y ∷ rest) (counted_last-append (z ∷ xs) x)

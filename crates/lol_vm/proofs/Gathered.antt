@@ -13,7 +13,7 @@ use Rattle.lol_vm.specs.ReportLaws.{among_matching_ids, matching_ids_among}
 use Rattle.lol_base.specs.BoolLaws.{and_parts, and_of}
 use Rattle.lol_program.specs.Programs.{Range, Instruction, Program, IsAt, IsRangeOf, IsProgramOf, AreClosed, all_places}
 use Rattle.lol_vm.specs.Machines.{HasRanges, Matches, HoldOnce, LeftMatches, jumps_of, hereditary_jumps_of}
-use Rattle.lol_vm.specs.PlaceRuns.{given, gathered, ids_of}
+use Rattle.lol_vm.specs.PlaceRuns.{given_by, gathered_from_places, ids_list}
 use Rattle.lol_vm.specs.MachineLaws.{RunsGiveReports}
 use Rattle.lol_vm.proofs.Lists.{to_contains, to_among, to_once, to_distinct, among_flat_map, flat_map_among, distinct_flat_map}
 use Rattle.lol_vm.proofs.Held.{instruction_at, place_of_node, range_of_reached, one_owner}
@@ -28,12 +28,12 @@ module _ {A : Type 0} (what : Instruction → List A) (e : Element) where
   to_cond true xs y h a = a
   to_cond false xs y h a = cc
 
-  pub of_given : (o : Option Instruction) (y : A) → Among (given what e o) y → (i : Instruction) × (o ≡ Some i) × (i.holds e ≡ true) × Among (what i) y
+  pub of_given : (o : Option Instruction) (y : A) → Among (given_by what e o) y → (i : Instruction) × (o ≡ Some i) × (i.holds e ≡ true) × Among (what i) y
   of_given None y h = absurd h
   of_given (Some i) y h = let at = of_cond (i.holds e) (what i) y h in (i, refl, at.0, at.1)
 
-  pub to_given : (o : Option Instruction) (i : Instruction) (y : A) → o ≡ Some i → i.holds e ≡ true → Among (what i) y → Among (given what e o) y
-  to_given o i y is holds a = subst (λ z. Among (given what e z) y) (sym is) (to_cond (i.holds e) (what i) y holds a)
+  pub to_given : (o : Option Instruction) (i : Instruction) (y : A) → o ≡ Some i → i.holds e ≡ true → Among (what i) y → Among (given_by what e o) y
+  to_given o i y is holds a = subst (λ z. Among (given_by what e z) y) (sym is) (to_cond (i.holds e) (what i) y holds a)
 
 of_option : {A : Type 0} (o : Option A) (y : A) → Among (option_to_list o) y → o ≡ Some y
 of_option None y h = absurd h
@@ -59,31 +59,31 @@ module _ (s : Selectors) (paths : List Path) (p : Program) (closed : AreClosed s
       (((program.each place path i at at').means e).1 ∙ both.0, both.1)
 
   module _ {A : Type 0} (what : Instruction → List A) where
-    gathered_from : (y : A) → Among (gathered what p e (all_places ranges)) y → (place : ℕ) × (path : Path) × (i : Instruction) × IsAt paths place path × IsAt p.instructions place i × (matches path e outer ≡ true) × Among (what i) y
+    gathered_from : (y : A) → Among (gathered_from_places what p e (all_places ranges)) y → (place : ℕ) × (path : Path) × (i : Instruction) × IsAt paths place path × IsAt p.instructions place i × (matches path e outer ≡ true) × Among (what i) y
     gathered_from y h =
-        let at = among_flat_map (λ place. given what e (slice_get p.instructions place)) (all_places ranges) y h in
+        let at = among_flat_map (λ place. given_by what e (slice_get p.instructions place)) (all_places ranges) y h in
         let x = path_held s paths p closed program ranges outer held at.0 at.1 in
         let i = of_given what e (slice_get p.instructions at.0) y at.2 in
         (at.0, x.0, i.0, x.1, i.1, holds_matches at.0 x.0 i.0 x.1 i.1 x.2 i.2, i.3)
 
-    gathered_at : (y : A) (place : ℕ) (path : Path) (i : Instruction) → IsAt paths place path → IsAt p.instructions place i → matches path e outer ≡ true → Among (what i) y → Among (gathered what p e (all_places ranges)) y
+    gathered_at : (y : A) (place : ℕ) (path : Path) (i : Instruction) → IsAt paths place path → IsAt p.instructions place i → matches path e outer ≡ true → Among (what i) y → Among (gathered_from_places what p e (all_places ranges)) y
     gathered_at y place path i at at' fits a =
         let both = matches_holds place path i at at' fits in
-        flat_map_among (λ place. given what e (slice_get p.instructions place)) (all_places ranges) place y
+        flat_map_among (λ place. given_by what e (slice_get p.instructions place)) (all_places ranges) place y
         (held_at s paths p closed program ranges outer held place path at both.1)
         (to_given what e (slice_get p.instructions place) i y at' both.0 a)
 
-  ids_reported : (id : ℕ) → Contains (gathered ids_of p e (all_places ranges)) id ↔ Contains (matching_ids s.pairs e outer) id
+  ids_reported : (id : ℕ) → Contains (gathered_from_places ids_list p e (all_places ranges)) id ↔ Contains (matching_ids s.pairs e outer) id
   ids_reported id = (
     λ c.
-        let h = gathered_from ids_of id (to_among _ id c) in
+        let h = gathered_from ids_list id (to_among _ id c) in
         to_contains _ id (matching_ids_among e outer s.pairs h.1 id (to_among s.pairs (h.1, id) (((program.each h.0 h.1 h.2 h.3 h.4).ids id).0 (to_contains h.2.ids id h.6))) h.5),
     λ c.
         let m = among_matching_ids e outer s.pairs id (to_among _ id c) in
         let pair = to_contains s.pairs (m.0, id) m.1 in
         let place = place_of_node s paths p program m.0 (closed.paths m.0 id pair) in
         let i = instruction_at s paths p program place.0 m.0 place.1 in
-        to_contains _ id (gathered_at ids_of id place.0 m.0 i.0 place.1 i.1 m.2 (to_among i.0.ids id (((program.each place.0 m.0 i.0 place.1 i.1).ids id).1 pair))),
+        to_contains _ id (gathered_at ids_list id place.0 m.0 i.0 place.1 i.1 m.2 (to_among i.0.ids id (((program.each place.0 m.0 i.0 place.1 i.1).ids id).1 pair))),
   )
 
   module _ (which : Instruction → Option Range) (step : Combinator)
@@ -91,11 +91,11 @@ module _ (s : Selectors) (paths : List Path) (p : Program) (closed : AreClosed s
     abbrev list_of : Instruction → List Range
     list_of i = option_to_list (which i)
 
-    one_each : (o : Option Instruction) → Distinct (given list_of e o)
+    one_each : (o : Option Instruction) → Distinct (given_by list_of e o)
     one_each None = tt
     one_each (Some i) = one_option (i.holds e) (which i)
 
-    one_place_each : (j k : ℕ) (r : Range) → Among (all_places ranges) j → Among (all_places ranges) k → Among (given list_of e (slice_get p.instructions j)) r → Among (given list_of e (slice_get p.instructions k)) r → j ≡ k
+    one_place_each : (j k : ℕ) (r : Range) → Among (all_places ranges) j → Among (all_places ranges) k → Among (given_by list_of e (slice_get p.instructions j)) r → Among (given_by list_of e (slice_get p.instructions k)) r → j ≡ k
     one_place_each j k r a b in_j in_k =
         let x = path_held s paths p closed program ranges outer held j a in
         let y = path_held s paths p closed program ranges outer held k b in
@@ -106,9 +106,9 @@ module _ (s : Selectors) (paths : List Path) (p : Program) (closed : AreClosed s
         let some = (range_of_reached s paths p program closed which step has j x.0 i.0 r x.1 i.1 is).1 in
         one_owner s paths p program closed which step has j k x.0 y.0 i.0 i'.0 r r r.start x.1 y.1 i.1 i'.1 is is' (omega arith, some) (omega arith, some)
 
-    ranges_had : HasRanges which paths p (Matches e outer) (gathered list_of p e (all_places ranges))
+    ranges_had : HasRanges which paths p (Matches e outer) (gathered_from_places list_of p e (all_places ranges))
     ranges_had = record {
-      once = to_once _ (distinct_flat_map (λ place. given list_of e (slice_get p.instructions place)) (all_places ranges) (to_distinct (all_places ranges) held.once)
+      once = to_once _ (distinct_flat_map (λ place. given_by list_of e (slice_get p.instructions place)) (all_places ranges) (to_distinct (all_places ranges) held.once)
           (λ place a. one_each (slice_get p.instructions place)) one_place_each);
       members = λ r. (
         λ c. let h = gathered_from list_of r (to_among _ r c) in (h.0, h.1, h.2, h.3, h.4, of_option (which h.2) r h.6, h.5),

@@ -14,9 +14,9 @@ use Rattle.lol_memory.proofs.LawLemmas.{ascending_rises}
 use Rattle.lol_program.specs.ProgramViews.{range_shown, instruction_shown}
 use Rattle.lol_program.specs.declared.instruction.Instruction as code
 use Rattle.lol_program.proofs.IdSets.{listed, held}
-use Rattle.lol_vm.specs.Answers.{ascending}
+use Rattle.lol_vm.specs.Answers.{ascending_once}
 use Rattle.lol_vm.specs.ReportLaws.{ascending_is_determined, ascending_ascends, pairs_from_ascends}
-use Rattle.lol_vm.specs.Contexts.{gathered}
+use Rattle.lol_vm.specs.Contexts.{with_branch}
 use Rattle.lol_vm.specs.WithRange.{with_range}
 use Rattle.lol_vm.specs.PlaceRuns.{Context, branch}
 use Rattle.lol_vm.specs.Gathering.{Gathers, NewElementsGather, BranchesGather, GatheredIdsAscend}
@@ -54,7 +54,7 @@ branches_gather ids_of with_ids keeps ctx context i by_type has_context = by_con
   where
     by_content : {E : Type 0} (ids_of : E → Ids) (with_ids : E → Ids → E) → ((e : E) (w : Ids) → ids_of (with_ids e w) ≡ w) → (ctx : ExecutionCtx E) (context : Context) (i : code.Instruction) (by_type : Bool)
         → Gathers ids_of ctx.stack_item context → (b : Bool)
-        → Gathers ids_of (gathered ids_of with_ids (record ctx { with_content = b }) i.associated_branch).stack_item (branch b context (instruction_shown by_type i))
+        → Gathers ids_of (with_branch ids_of with_ids (record ctx { with_content = b }) i.associated_branch).stack_item (branch b context (instruction_shown by_type i))
     by_content ids_of with_ids keeps ctx context i by_type h true =
         let data_ids = keeps ctx.stack_item.element_data (union (ids_of ctx.stack_item.element_data) i.associated_branch.matched_ids) in
         record {
@@ -75,8 +75,8 @@ branches_gather ids_of with_ids keeps ctx context i by_type has_context = by_con
 pub gathered_ids_ascend : {N E : Type 0} → GatheredIdsAscend N E
 gathered_ids_ascend ids_of item context h =
     let s = ids_of item.element_data in
-    ascending_is_determined (sets.ascending s) (ascending context.ids) (AllPairs-from_increasing (sets.ascending s) (ascending_rises s)) (pairs_from_ascends (ascending context.ids) (ascending_ascends context.ids))
+    ascending_is_determined (sets.ascending s) (ascending_once context.ids) (AllPairs-from_increasing (sets.ascending s) (ascending_rises s)) (pairs_from_ascends (ascending_once context.ids) (ascending_ascends context.ids))
     (λ id. (
-      λ c. contains_from_among (ascending context.ids) id (ascending_among context.ids id (among_from_contains context.ids id ((h.ids id).0 (held s id c)))),
-      λ c. listed s id ((h.ids id).1 (contains_from_among context.ids id (among_ascending context.ids id (among_from_contains (ascending context.ids) id c)))),
+      λ c. contains_from_among (ascending_once context.ids) id (ascending_among context.ids id (among_from_contains context.ids id ((h.ids id).0 (held s id c)))),
+      λ c. listed s id ((h.ids id).1 (contains_from_among context.ids id (among_ascending context.ids id (among_from_contains (ascending_once context.ids) id c)))),
     ))

@@ -13,7 +13,7 @@ use Rattle.lol_vm.specs.Matching.{matches, left_matches, parent_passes, some_anc
 use Rattle.lol_base.specs.BoolLaws.{and_parts, and_of, or_parts, or_of}
 use Rattle.lol_vm.proofs.Bools.{not_both, true_or_not}
 use Rattle.lol_program.specs.Programs.{Range, Instruction, Program, IsWithin, IsAt, HoldsPlaces, IsRangeOf, IsProgramOf, AreClosed, above, places, all_places}
-use Rattle.lol_vm.specs.Machines.{Item, IsReached, HasRanges, IsItem, AreItems, Matches, HoldOnce, LeftMatches, active_of, is_active, same_range, last_jumps, ranges_of, jumps_of, hereditary_jumps_of}
+use Rattle.lol_vm.specs.Machines.{OpenItem, IsReached, HasRanges, IsItem, AreItems, Matches, HoldOnce, LeftMatches, active_of, is_active, same_range, last_jumps, ranges_of_active, jumps_of, hereditary_jumps_of}
 use Rattle.lol_vm.specs.MachineLaws.{ProgramsHaveEachNode, RangesHoldLeftMatches, PlacesAreWithin}
 use Rattle.lol_vm.proofs.Lists.{same_length, to_contains, to_among, to_once, to_distinct, distinct_append, at_among, among_at, same_at, one_place, at_within, within_at, among_flat_map, flat_map_among, distinct_flat_map, among_range, range_among, distinct_range, among_map, map_among, among_filter, filter_among, distinct_filter, any_among, among_any}
 
@@ -132,12 +132,12 @@ range_is a b h =
 pub range_same : (a b : Range) → a ≡ b → same_range a b ≡ true
 range_same a b is = and_of (a.start == b.start) (a.end == b.end) ((Decides-eqb a.start b.start).1 (ap (λ (r : Range). r.start) is)) ((Decides-eqb a.end b.end).1 (ap (λ (r : Range). r.end) is))
 
-pub active_among : (active : List (Range × ℕ)) (r : Range) → is_active active r ≡ true → Among (ranges_of active) r
+pub active_among : (active : List (Range × ℕ)) (r : Range) → is_active active r ≡ true → Among (ranges_of_active active) r
 active_among active r h =
     let at = among_any (λ (a : Range × ℕ). same_range a.0 r) active h in
-    subst (Among (ranges_of active)) (range_is at.0.0 r at.2) (map_among (λ (a : Range × ℕ). a.0) active at.0 at.1)
+    subst (Among (ranges_of_active active)) (range_is at.0.0 r at.2) (map_among (λ (a : Range × ℕ). a.0) active at.0 at.1)
 
-pub among_active : (active : List (Range × ℕ)) (r : Range) → Among (ranges_of active) r → is_active active r ≡ true
+pub among_active : (active : List (Range × ℕ)) (r : Range) → Among (ranges_of_active active) r → is_active active r ≡ true
 among_active active r h =
     let at = among_map (λ (a : Range × ℕ). a.0) active r h in
     any_among (λ (a : Range × ℕ). same_range a.0 r) active at.0 at.1 (range_same at.0.0 r at.2)
@@ -145,13 +145,13 @@ among_active active r h =
 abbrev new_ranges : List (Range × ℕ) → List Range → List Range
 new_ranges active ranges = filter (λ r. not (is_active active r)) ranges
 
-placed : (place : ℕ) (ranges : List Range) → ranges_of (map (λ (r : Range). (r, place)) ranges) ≡ ranges
+placed : (place : ℕ) (ranges : List Range) → ranges_of_active (map (λ (r : Range). (r, place)) ranges) ≡ ranges
 placed place [] = refl
 placed place (r ∷ ranges) = ap (λ rs. r ∷ rs) (placed place ranges)
 
-active_more : (item : Item) (outer : List Item) → ranges_of (active_of (item ∷ outer)) ≡ ranges_of (active_of outer) ++ new_ranges (active_of outer) item.hereditary_jumps
+active_more : (item : OpenItem) (outer : List OpenItem) → ranges_of_active (active_of (item ∷ outer)) ≡ ranges_of_active (active_of outer) ++ new_ranges (active_of outer) item.hereditary_jumps
 active_more item outer =
-    map-append (λ (a : Range × ℕ). a.0) (active_of outer) _ ∙ ap (λ rs. ranges_of (active_of outer) ++ rs) (placed (length outer) _)
+    map-append (λ (a : Range × ℕ). a.0) (active_of outer) _ ∙ ap (λ rs. ranges_of_active (active_of outer) ++ rs) (placed (length outer) _)
 
 abbrev SomeAncestorMatches : List Element → Path → Type 0
 SomeAncestorMatches elements path = some_ancestor_passes (matches path) elements ≡ true
@@ -160,53 +160,53 @@ abbrev ParentMatches : List Element → Path → Type 0
 ParentMatches elements path = parent_passes (matches path) elements ≡ true
 
 module _ (paths : List Path) (p : Program) where
-  abbrev ActiveAre : List Item → List Element → Type 0
-  ActiveAre items elements = Distinct (ranges_of (active_of items)) × ((r : Range) → Among (ranges_of (active_of items)) r ↔ IsReached hereditary_jumps_of paths p (SomeAncestorMatches elements) r)
+  abbrev ActiveAre : List OpenItem → List Element → Type 0
+  ActiveAre items elements = Distinct (ranges_of_active (active_of items)) × ((r : Range) → Among (ranges_of_active (active_of items)) r ↔ IsReached hereditary_jumps_of paths p (SomeAncestorMatches elements) r)
 
   reached_by : (which : Instruction → Option Range) (P Q : Path → Type 0) → ((path : Path) → P path → Q path) → (r : Range) → IsReached which paths p P r → IsReached which paths p Q r
   reached_by which P Q f r h = (h.0, h.1, h.2, h.3, h.4, h.5, f h.1 h.6)
 
-  active_are : (items : List Item) (elements : List Element) → AreItems paths p items elements → ActiveAre items elements
+  active_are : (items : List OpenItem) (elements : List Element) → AreItems paths p items elements → ActiveAre items elements
   active_are [] [] are = (tt, λ r. (λ h. absurd h, λ h. let e = h.6 in cc))
   active_are [] (e ∷ outer) are = absurd are
   active_are (item ∷ items) [] are = absurd are
   active_are (item ∷ items) (e ∷ outer) are = more item items e outer are.0 (active_are items outer are.1)
     where
-      more : (item : Item) (items : List Item) (e : Element) (outer : List Element) → IsItem paths p item e outer → ActiveAre items outer → ActiveAre (item ∷ items) (e ∷ outer)
+      more : (item : OpenItem) (items : List OpenItem) (e : Element) (outer : List Element) → IsItem paths p item e outer → ActiveAre items outer → ActiveAre (item ∷ items) (e ∷ outer)
       more item items e outer is before =
           let old : List (Range × ℕ) = active_of items in
           let test : Range → Bool = λ r. not (is_active old r) in (
-            subst Distinct (sym (active_more item items)) (distinct_append (ranges_of old) (filter test item.hereditary_jumps) before.0
+            subst Distinct (sym (active_more item items)) (distinct_append (ranges_of_active old) (filter test item.hereditary_jumps) before.0
                 (distinct_filter test item.hereditary_jumps (to_distinct item.hereditary_jumps is.hereditary_jumps.once))
                 (λ r in_old in_new. not_both (is_active old r) (among_filter test item.hereditary_jumps r in_new).1 (among_active old r in_old))),
             λ r. (
-              λ h. elim (among_either (ranges_of old) (filter test item.hereditary_jumps) r (subst (λ rs. Among rs r) (active_more item items) h)) [
+              λ h. elim (among_either (ranges_of_active old) (filter test item.hereditary_jumps) r (subst (λ rs. Among rs r) (active_more item items) h)) [
                 | inl a ↦ reached_by hereditary_jumps_of (SomeAncestorMatches outer) (SomeAncestorMatches (e ∷ outer)) (λ path fits. or_of (matches path e outer) _ (inr fits)) r ((before.1 r).0 a)
                 | inr a ↦ reached_by hereditary_jumps_of (Matches e outer) (SomeAncestorMatches (e ∷ outer)) (λ path fits. or_of (matches path e outer) _ (inl fits)) r
                     ((is.hereditary_jumps.members r).0 (to_contains item.hereditary_jumps r (among_filter test item.hereditary_jumps r a).0))
               ],
               λ h. subst (λ rs. Among rs r) (sym (active_more item items)) (elim (or_parts (matches h.1 e outer) _ h.6) [
                 | inl fits ↦ elim (true_or_not (is_active old r)) [
-                  | inl is_old ↦ among_front (ranges_of old) (filter test item.hereditary_jumps) r (active_among old r is_old)
-                  | inr is_new ↦ among_back (ranges_of old) (filter test item.hereditary_jumps) r (filter_among test item.hereditary_jumps r
+                  | inl is_old ↦ among_front (ranges_of_active old) (filter test item.hereditary_jumps) r (active_among old r is_old)
+                  | inr is_new ↦ among_back (ranges_of_active old) (filter test item.hereditary_jumps) r (filter_among test item.hereditary_jumps r
                       (to_among item.hereditary_jumps r ((is.hereditary_jumps.members r).1 (h.0, h.1, h.2, h.3, h.4, h.5, fits))) is_new)
                 ]
-                | inr fits ↦ among_front (ranges_of old) (filter test item.hereditary_jumps) r ((before.1 r).1 (h.0, h.1, h.2, h.3, h.4, h.5, fits))
+                | inr fits ↦ among_front (ranges_of_active old) (filter test item.hereditary_jumps) r ((before.1 r).1 (h.0, h.1, h.2, h.3, h.4, h.5, fits))
               ]),
             ),
           )
 
-  active_have : (items : List Item) (elements : List Element) → AreItems paths p items elements → HasRanges hereditary_jumps_of paths p (SomeAncestorMatches elements) (ranges_of (active_of items))
+  active_have : (items : List OpenItem) (elements : List Element) → AreItems paths p items elements → HasRanges hereditary_jumps_of paths p (SomeAncestorMatches elements) (ranges_of_active (active_of items))
   active_have items elements are =
       let all = active_are items elements are in
       record {
-        once = to_once (ranges_of (active_of items)) all.0;
-        members = λ r. (λ h. (all.1 r).0 (to_among (ranges_of (active_of items)) r h), λ h. to_contains (ranges_of (active_of items)) r ((all.1 r).1 h));
+        once = to_once (ranges_of_active (active_of items)) all.0;
+        members = λ r. (λ h. (all.1 r).0 (to_among (ranges_of_active (active_of items)) r h), λ h. to_contains (ranges_of_active (active_of items)) r ((all.1 r).1 h));
       }
 
   -- 5. The last item's jumps
 
-  last_have : (items : List Item) (elements : List Element) → AreItems paths p items elements → HasRanges jumps_of paths p (ParentMatches elements) (last_jumps items)
+  last_have : (items : List OpenItem) (elements : List Element) → AreItems paths p items elements → HasRanges jumps_of paths p (ParentMatches elements) (last_jumps items)
   last_have [] [] are = record {
     once = to_once [] tt;
     members = λ r. (λ h. absurd (to_among [] r h), λ h. let e = h.6 in cc);
@@ -282,11 +282,11 @@ none_under path step P none under = let e = under.1 in cc
 pub ranges_hold_left_matches : RangesHoldLeftMatches
 ranges_hold_left_matches s paths p items elements closed program are =
     let jumps = hold_under s paths p program closed jumps_of Child (λ place path i at at'. (program.each place path i at at').jumps) (ParentMatches elements) (last_jumps items) (last_have paths p items elements are) in
-    let active = hold_under s paths p program closed hereditary_jumps_of Descendant (λ place path i at at'. (program.each place path i at at').hereditary_jumps) (SomeAncestorMatches elements) (ranges_of (active_of items))
+    let active = hold_under s paths p program closed hereditary_jumps_of Descendant (λ place path i at at'. (program.each place path i at at').hereditary_jumps) (SomeAncestorMatches elements) (ranges_of_active (active_of items))
     (active_have paths p items elements are) in
-    let below = joined paths (last_jumps items) (ranges_of (active_of items)) (Under Child (ParentMatches elements)) (Under Descendant (SomeAncestorMatches elements))
+    let below = joined paths (last_jumps items) (ranges_of_active (active_of items)) (Under Child (ParentMatches elements)) (Under Descendant (SomeAncestorMatches elements))
     (λ path. Under Child (ParentMatches elements) path ⊎ Under Descendant (SomeAncestorMatches elements) path) jumps active (λ path. steps_differ path (ParentMatches elements) (SomeAncestorMatches elements)) (λ path. (λ h. h, λ h. h)) in
-    joined paths (p.entry ∷ []) (last_jumps items ++ ranges_of (active_of items)) (λ path. above path ≡ None) (λ path. Under Child (ParentMatches elements) path ⊎ Under Descendant (SomeAncestorMatches elements) path) (LeftMatches elements)
+    joined paths (p.entry ∷ []) (last_jumps items ++ ranges_of_active (active_of items)) (λ path. above path ≡ None) (λ path. Under Child (ParentMatches elements) path ⊎ Under Descendant (SomeAncestorMatches elements) path) (LeftMatches elements)
     (entry_holds paths p.entry program.entry) below
     (λ path none either_. elim either_ [ inl h ↦ none_under path Child (ParentMatches elements) none h | inr h ↦ none_under path Descendant (SomeAncestorMatches elements) none h ])
     (λ path. (left_of elements path, λ h. elim h [ inl none ↦ none_left elements path none | inr (inl c) ↦ child_left elements path c | inr (inr d) ↦ descendant_left elements path d ]))

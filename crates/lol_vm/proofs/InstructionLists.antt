@@ -7,7 +7,7 @@ use Rattle.std.proofs.lemmas.List.{drop-map, take_more, flat_map_more, length-ap
 use Rattle.std.proofs.lemmas.List.Elements.{All-get_or}
 use Rattle.std.proofs.lemmas.List.Sums.{sum_by-append, count_by-le-length}
 use Rattle.std.proofs.lemmas.List.Folds.{length-flat_map-take}
-use Rattle.lol_program.specs.Tries.{name_tries, attribute_tries}
+use Rattle.lol_program.specs.Tries.{names_counted, attributes_counted}
 use Rattle.lol_program.specs.declared.tries.Tries.{Tries}
 use Rattle.lol_memory.specs.Ids.{Ids}
 use Rattle.lol_program.specs.Attributes.{TagAttributes}
@@ -17,7 +17,7 @@ use Rattle.lol_program.specs.Running.{tries_of_attributes}
 use Rattle.lol_program.specs.declared.name_value.NameValue.{NameValue}
 use Rattle.lol_program.specs.declared.name_value.NameValue.TheVariants.{True, False, Open}
 use Rattle.lol_program.specs.declared.instruction.Instruction.{Instruction}
-use Rattle.lol_vm.specs.InstructionRuns.{value_seen, holds_seen, is_true, with_branch_if, open_among, first_open_from, gathered_by_names, gathered_with_attributes, instructions_at, all_at, no_range, AreRunnable, IsInsideOf, HasRoomFor, ranges_in, ranges_from, IsStopIn}
+use Rattle.lol_vm.specs.InstructionRuns.{value_seen, holds_seen, is_true, with_branch_if, open_among, first_open_from, gathered_by_names, gathered_with_attributes, instructions_at, all_at, no_range, AreRunnable, IsInsideOf, HasTriesLeft, ranges_in, ranges_from, IsStopIn}
 use Rattle.lol_vm.specs.declared.instruction_runs.Stop.{Stop}
 use Rattle.lol_vm.specs.declared.execution_ctx.ExecutionCtx.{ExecutionCtx}
 
@@ -143,16 +143,16 @@ module _ (instructions : List Instruction) (ranges : List (Range ℕ)) (at : ℕ
     length_here : length here ≡ r.end - r.start
     length_here = omega (arith, is_inside, length-take (r.end - r.start) (drop r.start instructions), length-drop r.start instructions)
 
-    has_room : name_tries now ≤ name_tries tries + length before → attribute_tries now ≤ attribute_tries tries + length before → HasRoomFor now (r.end - r.start)
+    has_room : names_counted now ≤ names_counted tries + length before → attributes_counted now ≤ attributes_counted tries + length before → HasTriesLeft now (r.end - r.start)
     has_room names attributes =
         let fits = length-flat_map-take (instructions_at instructions) ranges at no_range within in
         (omega (arith, names, fits, length_here, runnable.room.0), omega (arith, attributes, fits, length_here, runnable.room.1))
 
     -- these are what is lent
-    pub is_lent : (part : List Instruction) → (IsInsideOf instructions r → HasRoomFor now (r.end - r.start) → part ≡ here) → name_tries now ≤ name_tries tries + length before → attribute_tries now ≤ attribute_tries tries + length before → part ≡ here
+    pub is_lent : (part : List Instruction) → (IsInsideOf instructions r → HasTriesLeft now (r.end - r.start) → part ≡ here) → names_counted now ≤ names_counted tries + length before → attributes_counted now ≤ attributes_counted tries + length before → part ≡ here
     is_lent part lent names attributes = lent is_inside (has_room names attributes)
 
-    pub open_within : (s : Sight) → attribute_tries now ≡ attribute_tries tries + open_among s before → attribute_tries now ≤ attribute_tries tries + length before
+    pub open_within : (s : Sight) → attributes_counted now ≡ attributes_counted tries + open_among s before → attributes_counted now ≤ attributes_counted tries + length before
     open_within s is = omega (arith, is, count_by-le-length (λ i. is_open (value_seen s i)) before)
 
   module _ (part : List Instruction) (is : part ≡ here) where
@@ -249,16 +249,16 @@ module _ (instructions : List Instruction) (ranges : List (Range ℕ)) (stop : S
     length_rest : length (all_at instructions (ranges_from ranges stop)) ≡ length (instructions_at instructions left) + length (all_at instructions others)
     length_rest = length-append (instructions_at instructions left) (all_at instructions others)
 
-    pub is_left : (l : Range ℕ) → (stopped.start + stop.offset ≤ stopped.end → l ≡ left) → (IsInsideOf instructions l → HasRoomFor tries (l.end - l.start) → part ≡ instructions_at instructions l) → part ≡ instructions_at instructions left
+    pub is_left : (l : Range ℕ) → (stopped.start + stop.offset ≤ stopped.end → l ≡ left) → (IsInsideOf instructions l → HasTriesLeft tries (l.end - l.start) → part ≡ instructions_at instructions l) → part ≡ instructions_at instructions left
     is_left l is lent =
-        subst (λ m. IsInsideOf instructions m → HasRoomFor tries (m.end - m.start) → part ≡ instructions_at instructions m) (is offset_inside) lent
+        subst (λ m. IsInsideOf instructions m → HasTriesLeft tries (m.end - m.start) → part ≡ instructions_at instructions m) (is offset_inside) lent
         inside_left (omega (arith, runnable.room.0, length_rest, length_left), omega (arith, runnable.room.1, length_rest, length_left))
 
     module _ (is : part ≡ instructions_at instructions left) where
       pub length_from : length (all_at instructions (ranges_from ranges stop)) ≡ length part + length (all_at instructions others)
       length_from = omega (arith, length_rest, ap length is)
 
-      pub others_run : (mid : Tries) → name_tries mid ≤ name_tries tries + length part → attribute_tries mid ≤ attribute_tries tries + length part → AreRunnable instructions others mid
+      pub others_run : (mid : Tries) → names_counted mid ≤ names_counted tries + length part → attributes_counted mid ≤ attributes_counted tries + length part → AreRunnable instructions others mid
       others_run mid names attributes = record {
         inside = λ k d within. runnable.inside (suc k) d (omega (arith, within));
         room = (omega (arith, runnable.room.0, length_from, names), omega (arith, runnable.room.1, length_from, attributes));

@@ -19,7 +19,7 @@ use Rattle.lol_program.specs.declared.name_value.NameValue.TheVariants.{True, Fa
 use Rattle.lol_vm.specs.Gathering.{Gathers}
 use Rattle.lol_vm.specs.InstructionLaws.{InstructionsAreAsOpen, InstructionsGather}
 use Rattle.lol_vm.specs.InstructionRuns.{IsInsideOf, instructions_at, all_at, value_seen, is_true, holds_seen, open_among, first_open_from, with_branch_if, gathered_by_names, gathered_with_attributes}
-use Rattle.lol_vm.specs.PlaceRuns.{Context, value_of, value_at, is_open_at, first_open, branch, step_with_attributes, step_by_names, run, run_by_names}
+use Rattle.lol_vm.specs.PlaceRuns.{Context, instruction_value, value_at, is_open_at, first_open, branch, step_with_attributes, step_by_names, run, run_by_names}
 use Rattle.lol_vm.specs.declared.execution_ctx.ExecutionCtx.{ExecutionCtx}
 use Rattle.lol_vm.proofs.GatheringLemmas.{branches_gather}
 use Rattle.lol_vm.proofs.Lists.{within_at}
@@ -65,7 +65,7 @@ module _ (p : Program) (by_type : Bool) (instructions : List code.Instruction) (
 
   module _ (e : Element) where
     same_value : (k : ℕ) (i : code.Instruction) → slice_get p.instructions k ≡ stands i → value_at p e k ≡ value_seen (sight_of by_type e) i
-    same_value k i at = ap (value_of e) at
+    same_value k i at = ap (instruction_value e) at
 
     head_is : (k : ℕ) (ps : List ℕ) (i : code.Instruction) (is : List code.Instruction) → map (slice_get p.instructions) (k ∷ ps) ≡ map stands (i ∷ is) → slice_get p.instructions k ≡ stands i
     head_is k ps i is h = cc
@@ -124,7 +124,7 @@ module _ (p : Program) (by_type : Bool) (instructions : List code.Instruction) (
       gather_names (k ∷ ps) (i ∷ is) ctx context h has =
           subst
           (λ o. Gathers ids_of (gathered_by_names ids_of with_ids (sight_of by_type e) ctx (i ∷ is)).stack_item
-          (if is_open (value_of e o) then (record { context = context; left = k ∷ ps }) else run_by_names p ctx.with_content e (step_by_names ctx.with_content context (value_of e o) o) ps).context)
+          (if is_open (instruction_value e o) then (record { context = context; left = k ∷ ps }) else run_by_names p ctx.with_content e (step_by_names ctx.with_content context (instruction_value e o) o) ps).context)
           (sym (head_is k ps i is h))
           (by_value (value_seen (sight_of by_type e) i)
           (gather_names ps is (with_branch_if ids_of with_ids true ctx i) (branch ctx.with_content context (instruction_shown by_type i)) (tail_is k ps i is h) (branches_gather ids_of with_ids keeps ctx context i by_type has))

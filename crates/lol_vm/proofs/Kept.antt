@@ -19,9 +19,9 @@ use Rattle.lol_vm.specs.Refusals.{longest, longest_from}
 use Rattle.lol_vm.proofs.Runs.{document_push, position-map}
 use Rattle.lol_base.specs.BoolLaws.{not_true}
 use Rattle.lol_program.specs.Programs.{Range, Program, AreClosed, all_places}
-use Rattle.lol_vm.specs.Machines.{Item, AreItems, HasRanges, Matches, HoldOnce, LeftMatches, active_of, newly_active, is_active, ranges_to_run, jumps_of, hereditary_jumps_of}
+use Rattle.lol_vm.specs.Machines.{OpenItem, AreItems, HasRanges, Matches, HoldOnce, LeftMatches, active_of, newly_active, is_active, ranges_to_run, jumps_of, hereditary_jumps_of}
 use Rattle.lol_vm.specs.PlaceRuns.{Context, context_of, run}
-use Rattle.lol_vm.specs.Standing.{Machine, AreTyped, TypedStand, AreCounted, StandsOn, StandsFor, counted_root, counted_last, counted_typed, counted, slots_after, opened, cut, closes, ended, started, machine_after, Descend, IsOrdered, DocumentsAreOrdered, SlotsGrow, NewStands, StandingIsKept, EndsKeepItems, unfinished, finished, RequestsStand, FinishingIsKept, EndsHandOut, CountersArePlaces, or_root}
+use Rattle.lol_vm.specs.Standing.{Machine, AreTyped, TypedStand, AreCounted, StandsOn, StandsFor, counted_root, counted_last, counted_typed, counted, slots_after, opened, cut, closed_count, ended, started, machine_after, Descend, IsOrdered, DocumentsAreOrdered, SlotsGrow, NewStands, StandingIsKept, EndsKeepItems, unfinished, finished, RequestsStand, FinishingIsKept, EndsHandOut, CountersArePlaces, or_root}
 use Rattle.lol_vm.proofs.Held.{ranges_hold_left_matches}
 use Rattle.lol_vm.proofs.Gathered.{runs_give_reports}
 use Rattle.lol_vm.proofs.Stops.{requests_finish, asks_by_names}
@@ -144,7 +144,7 @@ descend_drop zero bound outer d = d
 descend_drop (suc n) bound [] d = tt
 descend_drop (suc n) bound (e ∷ outer) d = let below = d.0 in descend_drop n bound outer (descend_lower e.number bound outer (omega (arith, below)) d.1)
 
-pub outer_is : (o : Option ℕ) (xs : List Element) → outer_part o xs ≡ drop (closes o) xs
+pub outer_is : (o : Option ℕ) (xs : List Element) → outer_part o xs ≡ drop (closed_count o) xs
 outer_is None xs = refl
 outer_is (Some k) xs = refl
 
@@ -167,7 +167,7 @@ ordered_end d most name h =
     let place = place_of name d.open_elements in
     record {
       numbers = descend_lower d.events (d.events + 1) (outer_part place d.open_elements) (omega arith)
-          (subst (Descend d.events) (sym (outer_is place d.open_elements)) (descend_drop (closes place) d.events d.open_elements h.numbers));
+          (subst (Descend d.events) (sym (outer_is place d.open_elements)) (descend_drop (closed_count place) d.events d.open_elements h.numbers));
       fresh = λ n above. h.fresh n (omega (arith, above));
       enough = omega arith;
     }
@@ -195,37 +195,37 @@ documents_are_ordered s esi events = ordered_from s esi empty events (record { n
 -- 4. Items
 
 module _ (paths : List Path) (p : Program) where
-  items_length : (items : List Item) (elements : List Element) → AreItems paths p items elements → length items ≡ length elements
+  items_length : (items : List OpenItem) (elements : List Element) → AreItems paths p items elements → length items ≡ length elements
   items_length [] [] h = refl
   items_length [] (e ∷ outer) h = absurd h
   items_length (item ∷ items) [] h = absurd h
   items_length (item ∷ items) (e ∷ outer) h = ap suc (items_length items outer h.1)
 
-  items_drop : (n : ℕ) (items : List Item) (elements : List Element) → AreItems paths p items elements → AreItems paths p (drop n items) (drop n elements)
+  items_drop : (n : ℕ) (items : List OpenItem) (elements : List Element) → AreItems paths p items elements → AreItems paths p (drop n items) (drop n elements)
   items_drop zero items elements h = h
   items_drop (suc n) [] [] h = tt
   items_drop (suc n) [] (e ∷ outer) h = absurd h
   items_drop (suc n) (item ∷ items) [] h = absurd h
   items_drop (suc n) (item ∷ items) (e ∷ outer) h = items_drop n items outer h.1
 
-  same_names : (items : List Item) (elements : List Element) → AreItems paths p items elements → map (λ (item : Item). lowercased item.name) items ≡ map (λ (e : Element). lowercased e.tag.name) elements
+  same_names : (items : List OpenItem) (elements : List Element) → AreItems paths p items elements → map (λ (item : OpenItem). lowercased item.name) items ≡ map (λ (e : Element). lowercased e.tag.name) elements
   same_names [] [] h = refl
   same_names [] (e ∷ outer) h = absurd h
   same_names (item ∷ items) [] h = absurd h
   same_names (item ∷ items) (e ∷ outer) h = λ i. (bytes_eq-Decides (lowercased item.name) (lowercased e.tag.name)).0 h.0.name i ∷ same_names items outer h.1 i
 
-  same_place : (name : List ℕ) (items : List Item) (elements : List Element) → AreItems paths p items elements → position (λ (item : Item). same_name item.name name) items ≡ place_of name elements
+  same_place : (name : List ℕ) (items : List OpenItem) (elements : List Element) → AreItems paths p items elements → position (λ (item : OpenItem). same_name item.name name) items ≡ place_of name elements
   same_place name items elements h =
-      sym (position-map (λ n. bytes_eq n (lowercased name)) (λ (item : Item). lowercased item.name) items)
+      sym (position-map (λ n. bytes_eq n (lowercased name)) (λ (item : OpenItem). lowercased item.name) items)
       ∙ (ap (position (λ n. bytes_eq n (lowercased name))) (same_names items elements h)
       ∙ position-map (λ n. bytes_eq n (lowercased name)) (λ (e : Element). lowercased e.tag.name) elements)
 
 pub ends_keep_items : EndsKeepItems
 ends_keep_items paths m d name h =
-    let place = position (λ (item : Item). same_name item.name name) m.items in
-    subst (AreItems paths m.program (drop (closes place) m.items))
-    (ap (λ o. drop (closes o) d.open_elements) (same_place paths m.program name m.items d.open_elements h) ∙ sym (outer_is (place_of name d.open_elements) d.open_elements))
-    (items_drop paths m.program (closes place) m.items d.open_elements h)
+    let place = position (λ (item : OpenItem). same_name item.name name) m.items in
+    subst (AreItems paths m.program (drop (closed_count place) m.items))
+    (ap (λ o. drop (closed_count o) d.open_elements) (same_place paths m.program name m.items d.open_elements h) ∙ sym (outer_is (place_of name d.open_elements) d.open_elements))
+    (items_drop paths m.program (closed_count place) m.items d.open_elements h)
 
 -- 5. Active ranges of fewer items
 
@@ -246,7 +246,7 @@ all_kept : (n place : ℕ) (ranges : List Range) → place < n → kept_active n
 all_kept n place [] h = refl
 all_kept n place (r ∷ ranges) h = λ i. cond (below_kept n place h i) ((r, place) ∷ all_kept n place ranges h i) (kept_active n (map (λ (r : Range). (r, place)) ranges))
 
-whole_kept : (n : ℕ) (items : List Item) → length items ≤ n → kept_active n (active_of items) ≡ active_of items
+whole_kept : (n : ℕ) (items : List OpenItem) → length items ≤ n → kept_active n (active_of items) ≡ active_of items
 whole_kept n [] h = refl
 whole_kept n (item ∷ items) h =
     filter-append (λ (a : Range × ℕ). nat_lt a.1 n) (active_of items) (newly_active (active_of items) (length items) item.hereditary_jumps)
@@ -255,7 +255,7 @@ whole_kept n (item ∷ items) h =
 drop_shorter : {A : Type 0} (n : ℕ) (xs : List A) → length (drop n xs) ≤ length xs
 drop_shorter n xs = omega (arith, length-drop n xs)
 
-pub active_drop : (n : ℕ) (items : List Item) → kept_active (length (drop n items)) (active_of items) ≡ active_of (drop n items)
+pub active_drop : (n : ℕ) (items : List OpenItem) → kept_active (length (drop n items)) (active_of items) ≡ active_of (drop n items)
 active_drop zero items = whole_kept (length items) items (omega arith)
 active_drop (suc n) [] = refl
 active_drop (suc n) (item ∷ items) =
@@ -433,10 +433,10 @@ module _ (s : Selectors) (esi : Bool) (paths : List Path) (m : Machine) (d : Doc
 
   ended_stands : (name : List ℕ) → StandsOn s esi paths (ended m name) (after_end d name) (max most (length (after_end d name).open_elements))
   ended_stands name =
-      let place = position (λ (item : Item). same_name item.name name) m.items in
-      let rest : drop (closes place) d.open_elements ≡ outer_part (place_of name d.open_elements) d.open_elements =
-      ap (λ o. drop (closes o) d.open_elements) (same_place paths m.program name m.items d.open_elements stands.items) ∙ sym (outer_is (place_of name d.open_elements) d.open_elements) in
-      subst (λ xs. StandsOn s esi paths (ended m name) (record { events = d.events + 1; children = d.children; open_elements = xs }) (max most (length xs))) rest (cut_stands (closes place))
+      let place = position (λ (item : OpenItem). same_name item.name name) m.items in
+      let rest : drop (closed_count place) d.open_elements ≡ outer_part (place_of name d.open_elements) d.open_elements =
+      ap (λ o. drop (closed_count o) d.open_elements) (same_place paths m.program name m.items d.open_elements stands.items) ∙ sym (outer_is (place_of name d.open_elements) d.open_elements) in
+      subst (λ xs. StandsOn s esi paths (ended m name) (record { events = d.events + 1; children = d.children; open_elements = xs }) (max most (length xs))) rest (cut_stands (closed_count place))
 
   started_stands : AreClosed s → (tag : StartTag) (opens : Bool) → StandsOn s esi paths (started m opens (element_of d tag)) (after_start d tag opens) (max most (length (after_start d tag opens).open_elements))
   started_stands closed tag false = counted_stands tag
@@ -575,10 +575,10 @@ finishing_is_kept s esi paths m events tag context left closed finish h stands r
 
 pub ends_hand_out : EndsHandOut
 ends_hand_out paths m d name numbers are is =
-    ap reverse (ap (take (closes (position (λ (item : Item). same_name item.name name) m.items))) is
-    ∙ (take-map (λ (e : Element). e.number) (closes (position (λ (item : Item). same_name item.name name) m.items)) d.open_elements
-    ∙ ap (map (λ (e : Element). e.number)) (ap (λ o. take (closes o) d.open_elements) (same_place paths m.program name m.items d.open_elements are) ∙ inner_is (place_of name d.open_elements) d.open_elements)))
+    ap reverse (ap (take (closed_count (position (λ (item : OpenItem). same_name item.name name) m.items))) is
+    ∙ (take-map (λ (e : Element). e.number) (closed_count (position (λ (item : OpenItem). same_name item.name name) m.items)) d.open_elements
+    ∙ ap (map (λ (e : Element). e.number)) (ap (λ o. take (closed_count o) d.open_elements) (same_place paths m.program name m.items d.open_elements are) ∙ inner_is (place_of name d.open_elements) d.open_elements)))
   where
-    inner_is : (o : Option ℕ) (xs : List Element) → take (closes o) xs ≡ inner_part o xs
+    inner_is : (o : Option ℕ) (xs : List Element) → take (closed_count o) xs ≡ inner_part o xs
     inner_is None xs = refl
     inner_is (Some k) xs = refl

@@ -10,7 +10,7 @@ use Rattle.lol_base.specs.MemberLaws.{Among}
 use Rattle.lol_vm.specs.Events.{Event, Start, End, has_content}
 use Rattle.lol_vm.specs.Documents.{Document, empty, element_of, after_start}
 use Rattle.lol_vm.specs.Answers.{Match, Started, Dropped, is_dropped, asks, report, matching_ids, name_tries, attribute_tries, after, answers_from}
-use Rattle.lol_vm.specs.RunLaws.{reports, SamePathsUnder, OneIdsPathsDecide}
+use Rattle.lol_vm.specs.RunLaws.{reports_id, SamePathsUnder, OneIdsPathsDecide}
 use Rattle.lol_vm.specs.ReportLaws.{among_matching_ids, matching_ids_among}
 use Rattle.lol_vm.proofs.Bools.{same_bool}
 use Rattle.lol_vm.proofs.Lists.{to_contains, to_among, among_map, map_among, any_among, among_any}
@@ -55,9 +55,9 @@ module _ (s t : Selectors) (id : ℕ) (same : SamePathsUnder id s t) (esi : Bool
 
   abbrev told : Selectors → Document → StartTag → Bool → Bool
   told r d tag dropped =
-      reports id (cond dropped Dropped (Started (report r esi (element_of d tag) d.open_elements) (asks r (element_of d tag) d.open_elements) (name_tries r.nodes d.open_elements) (attribute_tries r.nodes (element_of d tag) d.open_elements)))
+      reports_id id (cond dropped Dropped (Started (report r esi (element_of d tag) d.open_elements) (asks r (element_of d tag) d.open_elements) (name_tries r.nodes d.open_elements) (attribute_tries r.nodes (element_of d tag) d.open_elements)))
 
-  told_alike : (d : Document) (events : List Event) → NoneDropped s d events → NoneDropped t d events → map (reports id) (answers_from s esi d events) ≡ map (reports id) (answers_from t esi d events)
+  told_alike : (d : Document) (events : List Event) → NoneDropped s d events → NoneDropped t d events → map (reports_id id) (answers_from s esi d events) ≡ map (reports_id id) (answers_from t esi d events)
   told_alike d [] first second = refl
   told_alike d (End name ∷ events) first second =
       ap (λ more. false ∷ more) (told_alike (after s esi d (End name)) events (λ a. first (inr a)) (λ a. second (inr a)))
@@ -69,7 +69,7 @@ module _ (s t : Selectors) (id : ℕ) (same : SamePathsUnder id s t) (esi : Bool
       ap (told s d tag) here ∙ (reported_alike e d.open_elements ∙ sym (ap (told t d tag) there)) in
       let next : after s esi d (Start tag) ≡ after t esi d (Start tag) = λ i. after_start d tag (has_content esi tag && not ((here ∙ sym there) i)) in
       let later = told_alike (after s esi d (Start tag)) events (λ a. first (inr a)) (λ a. second (inr (subst (λ x. Among (answers_from t esi x events) Dropped) next a))) in
-      (λ i. now i ∷ later i) ∙ ap (λ x. told t d tag (is_dropped t e d.open_elements) ∷ map (reports id) (answers_from t esi x events)) next
+      (λ i. now i ∷ later i) ∙ ap (λ x. told t d tag (is_dropped t e d.open_elements) ∷ map (reports_id id) (answers_from t esi x events)) next
 
 pub one_ids_paths_decide : OneIdsPathsDecide
 one_ids_paths_decide s t id same esi events first second =

@@ -16,9 +16,9 @@ use Rattle.lol_vm.specs.Events as events
 use Rattle.lol_vm.specs.Events.{Event, has_content, has_content_in}
 use Rattle.lol_vm.specs.Documents.{Document, element_of, closed, after_start, after_end, place_of, inner_part, outer_part}
 use Rattle.lol_vm.specs.Answers as answered
-use Rattle.lol_vm.specs.Answers.{Answer, answer, after, answers_from, document_from, matching_ids, ascending, asks, needs_attributes, report}
+use Rattle.lol_vm.specs.Answers.{Answer, answer, after, answers_from, document_from, matching_ids, ascending_once, asks, needs_attributes, report}
 use Rattle.lol_vm.specs.Views.{without_tries}
-use Rattle.lol_vm.specs.OpenNames.{Spells, AreNamed, Stands, shown}
+use Rattle.lol_vm.specs.OpenNames.{Spells, AreNamed, AreOpenIn, open_name_shown}
 use Rattle.lol_vm.specs.declared.matching.OpenElement.{OpenElement}
 
 -- 1. An answer without attributes
@@ -63,16 +63,16 @@ module _ {A B : Type 0} (p : B → Bool) (f : A → B) where
 abbrev kept_of : Element → List ℕ × ℕ
 kept_of e = (lowercased e.tag.name, e.number)
 
-module _ (elements : List OpenElement) (d : Document) (stands : Stands elements d) where
+module _ (elements : List OpenElement) (d : Document) (stands : AreOpenIn elements d) where
   pub named_by_stands : AreNamed elements d.open_elements
   named_by_stands =
-      sym (map-map (λ (s : List ℕ × ℕ). s.0) shown (reverse elements))
+      sym (map-map (λ (s : List ℕ × ℕ). s.0) open_name_shown (reverse elements))
       ∙ (ap (map (λ (s : List ℕ × ℕ). s.0)) stands ∙ map-map (λ (s : List ℕ × ℕ). s.0) kept_of d.open_elements)
 
   module _ (name : Name) (bytes : List ℕ) (spelled : Spells name bytes) where
     place-stands : position (λ (e : OpenElement). same_local_name e.name name) (reverse elements) ≡ place_of bytes d.open_elements
     place-stands =
-        sym (position-map (λ (s : List ℕ × ℕ). bytes_eq s.0 name.lowercased) shown (reverse elements))
+        sym (position-map (λ (s : List ℕ × ℕ). bytes_eq s.0 name.lowercased) open_name_shown (reverse elements))
         ∙ (ap (position (λ (s : List ℕ × ℕ). bytes_eq s.0 name.lowercased)) stands
         ∙ (position-map (λ (s : List ℕ × ℕ). bytes_eq s.0 name.lowercased) kept_of d.open_elements
         ∙ ap (λ n. position (λ (e : Element). bytes_eq (lowercased e.tag.name) n) d.open_elements) (sym spelled)))
@@ -81,7 +81,7 @@ module _ (elements : List OpenElement) (d : Document) (stands : Stands elements 
     pub closes_nothing : position (λ (e : OpenElement). same_local_name e.name name) (reverse elements) ≡ None → closed bytes d ≡ []
     closes_nothing none = ap (λ place. reverse (map (λ (e : Element). e.number) (inner_part place d.open_elements))) (sym place-stands ∙ none)
 
-    pub stands_still : position (λ (e : OpenElement). same_local_name e.name name) (reverse elements) ≡ None → Stands elements (after_end d bytes)
+    pub stands_still : position (λ (e : OpenElement). same_local_name e.name name) (reverse elements) ≡ None → AreOpenIn elements (after_end d bytes)
     stands_still none = stands ∙ ap (λ place. map kept_of (outer_part place d.open_elements)) (sym (sym place-stands ∙ none))
 
     module _ (back : ℕ) (found : position (λ (e : OpenElement). same_local_name e.name name) (reverse elements) ≡ Some back) (within : back + 1 ≤ length elements) where
@@ -90,15 +90,15 @@ module _ (elements : List OpenElement) (d : Document) (stands : Stands elements 
           sym (reverse-reverse (map (λ (e : OpenElement). e.number) (drop (length elements - (back + 1)) elements)))
           ∙ (ap reverse (sym (map-reverse (λ (e : OpenElement). e.number) (drop (length elements - (back + 1)) elements))
           ∙ (ap (map (λ (e : OpenElement). e.number)) (sym (take-reverse (back + 1) elements within))
-          ∙ (sym (map-map (λ (s : List ℕ × ℕ). s.1) shown (take (back + 1) (reverse elements)))
-          ∙ (ap (map (λ (s : List ℕ × ℕ). s.1)) (sym (take-map shown (back + 1) (reverse elements)) ∙ (ap (take (back + 1)) stands ∙ take-map kept_of (back + 1) d.open_elements))
+          ∙ (sym (map-map (λ (s : List ℕ × ℕ). s.1) open_name_shown (take (back + 1) (reverse elements)))
+          ∙ (ap (map (λ (s : List ℕ × ℕ). s.1)) (sym (take-map open_name_shown (back + 1) (reverse elements)) ∙ (ap (take (back + 1)) stands ∙ take-map kept_of (back + 1) d.open_elements))
           ∙ map-map (λ (s : List ℕ × ℕ). s.1) kept_of (take (back + 1) d.open_elements)))))
           ∙ ap (λ place. reverse (map (λ (e : Element). e.number) (inner_part place d.open_elements))) (sym (sym place-stands ∙ found)))
 
-      pub stands_cut : Stands (take (length elements - (back + 1)) elements) (after_end d bytes)
+      pub stands_cut : AreOpenIn (take (length elements - (back + 1)) elements) (after_end d bytes)
       stands_cut =
-          ap (map shown) (sym (drop-reverse (back + 1) elements within))
-          ∙ (sym (drop-map shown (back + 1) (reverse elements)) ∙ (ap (drop (back + 1)) stands ∙ (drop-map kept_of (back + 1) d.open_elements
+          ap (map open_name_shown) (sym (drop-reverse (back + 1) elements within))
+          ∙ (sym (drop-map open_name_shown (back + 1) (reverse elements)) ∙ (ap (drop (back + 1)) stands ∙ (drop-map kept_of (back + 1) d.open_elements
           ∙ ap (λ place. map kept_of (outer_part place d.open_elements)) (sym (sym place-stands ∙ found)))))
 
 -- without ESI an HTML tag has content unless its name is void

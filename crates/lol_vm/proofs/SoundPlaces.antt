@@ -7,20 +7,20 @@ use Rattle.std.proofs.lemmas.List.{append-nil}
 use Rattle.lol_base.specs.LocalNames.{Name, same_local_name}
 use Rattle.lol_vm.specs.Levels.{without_last}
 use Rattle.lol_vm.specs.Stacks.{without_places, last_below}
-use Rattle.lol_vm.specs.SoundStacks.{places_from, last_place_from}
+use Rattle.lol_vm.specs.SoundStacks.{name_places_from, last_place_from}
 use Rattle.lol_vm.specs.declared.stack_item.StackItemOf.{StackItemOf}
 
 module _ {E : Type 0} where
   pub places_from-append : (place : ℕ) (xs ys : List (StackItemOf Name E)) (name : Name)
-      → places_from place (xs ++ ys) name ≡ places_from place xs name ++ places_from (place + length xs) ys name
-  places_from-append place [] ys name = let same : place + 0 ≡ place = omega arith in ap (λ p. places_from p ys name) (sym same)
+      → name_places_from place (xs ++ ys) name ≡ name_places_from place xs name ++ name_places_from (place + length xs) ys name
+  places_from-append place [] ys name = let same : place + 0 ≡ place = omega arith in ap (λ p. name_places_from p ys name) (sym same)
   places_from-append place (x ∷ xs) ys name =
       let same : (place + 1) + length xs ≡ place + suc (length xs) = omega arith in
-      let rest = places_from-append (place + 1) xs ys name ∙ ap (λ p. places_from (place + 1) xs name ++ places_from p ys name) same in
+      let rest = places_from-append (place + 1) xs ys name ∙ ap (λ p. name_places_from (place + 1) xs name ++ name_places_from p ys name) same in
       elim (same_local_name x.local_name name) as
       (λ own.
-      (if own then place ∷ places_from (place + 1) (xs ++ ys) name else places_from (place + 1) (xs ++ ys) name)
-      ≡ (if own then place ∷ places_from (place + 1) xs name else places_from (place + 1) xs name) ++ places_from (place + suc (length xs)) ys name) [
+      (if own then place ∷ name_places_from (place + 1) (xs ++ ys) name else name_places_from (place + 1) (xs ++ ys) name)
+      ≡ (if own then place ∷ name_places_from (place + 1) xs name else name_places_from (place + 1) xs name) ++ name_places_from (place + suc (length xs)) ys name) [
         | true ↦ ap (λ more. place ∷ more) rest
         | false ↦ rest
       ]
@@ -47,22 +47,22 @@ module _ {E : Type 0} where
       ap (without_places ys name) (without_last-append front z zs) ∙ off (without_last (z ∷ zs)) (length-without_last z zs ∙ omega arith)
 
   -- as many places go as there are elements of the name
-  taken_off : (place : ℕ) (ys : List (StackItemOf Name E)) (name : Name) (front back : List ℕ) → length back ≡ length (places_from place ys name)
+  taken_off : (place : ℕ) (ys : List (StackItemOf Name E)) (name : Name) (front back : List ℕ) → length back ≡ length (name_places_from place ys name)
       → without_places ys name (front ++ back) ≡ front
   taken_off place [] name front [] same = append-nil front
   taken_off place [] name front (b ∷ back) same = absurd (omega arith)
   taken_off place (y ∷ ys) name front back same =
       elim (same_local_name y.local_name name) as
-      (λ own. length back ≡ length (if own then place ∷ places_from (place + 1) ys name else places_from (place + 1) ys name)
+      (λ own. length back ≡ length (if own then place ∷ name_places_from (place + 1) ys name else name_places_from (place + 1) ys name)
       → without_places ys name (if own then without_last (front ++ back) else front ++ back) ≡ front) [
-        | true ↦ λ many. one_off ys name front (length (places_from (place + 1) ys name)) (λ zs few. taken_off (place + 1) ys name front zs few) back many
+        | true ↦ λ many. one_off ys name front (length (name_places_from (place + 1) ys name)) (λ zs few. taken_off (place + 1) ys name front zs few) back many
         | false ↦ λ many. taken_off (place + 1) ys name front back many
       ] same
 
   pub without_places-closed : (xs ys : List (StackItemOf Name E)) (name : Name)
-      → without_places ys name (places_from 0 (xs ++ ys) name) ≡ places_from 0 xs name
+      → without_places ys name (name_places_from 0 (xs ++ ys) name) ≡ name_places_from 0 xs name
   without_places-closed xs ys name =
-      ap (without_places ys name) (places_from-append 0 xs ys name) ∙ taken_off (0 + length xs) ys name (places_from 0 xs name) (places_from (0 + length xs) ys name) refl
+      ap (without_places ys name) (places_from-append 0 xs ys name) ∙ taken_off (0 + length xs) ys name (name_places_from 0 xs name) (name_places_from (0 + length xs) ys name) refl
 
 -- the last place that is there, of places that are all below a bound
 
@@ -90,18 +90,18 @@ option_or-none None = refl
 option_or-none (Some x) = refl
 
 module _ {E : Type 0} where
-  places_from-below : (n place : ℕ) (items : List (StackItemOf Name E)) (name : Name) → place + length items ≤ n → AllBelow n (places_from place items name)
+  places_from-below : (n place : ℕ) (items : List (StackItemOf Name E)) (name : Name) → place + length items ≤ n → AllBelow n (name_places_from place items name)
   places_from-below n place [] name fits = tt
   places_from-below n place (item ∷ items) name fits =
       let rest = places_from-below n (place + 1) items name (omega arith) in
       elim (same_local_name item.local_name name) as
-      (λ own. AllBelow n (if own then place ∷ places_from (place + 1) items name else places_from (place + 1) items name)) [
+      (λ own. AllBelow n (if own then place ∷ name_places_from (place + 1) items name else name_places_from (place + 1) items name)) [
         | true ↦ (omega arith, rest)
         | false ↦ rest
       ]
 
   pub last_below-places : (n place : ℕ) (items : List (StackItemOf Name E)) (name : Name) → place + length items ≤ n
-      → last_below n (places_from place items name) ≡ last_place_from place items name
+      → last_below n (name_places_from place items name) ≡ last_place_from place items name
   last_below-places n place [] name fits = refl
   last_below-places n place (item ∷ items) name fits =
       let rest = last_below-places n (place + 1) items name (omega arith) in
@@ -109,8 +109,8 @@ module _ {E : Type 0} where
       let first : place < n = omega arith in
       elim (same_local_name item.local_name name) as
       (λ own.
-      last_below n (if own then place ∷ places_from (place + 1) items name else places_from (place + 1) items name)
+      last_below n (if own then place ∷ name_places_from (place + 1) items name else name_places_from (place + 1) items name)
       ≡ option_or (last_place_from (place + 1) items name) (if own then Some place else None)) [
-        | true ↦ last_below-cons n place (places_from (place + 1) items name) (first, below) ∙ ap (λ o. option_or o (Some place)) rest
+        | true ↦ last_below-cons n place (name_places_from (place + 1) items name) (first, below) ∙ ap (λ o. option_or o (Some place)) rest
         | false ↦ rest ∙ sym (option_or-none (last_place_from (place + 1) items name))
       ]

@@ -6,7 +6,7 @@ use Rattle.std.proofs.lemmas.Bool.Decides.{nat_tests}
 use Rattle.std.proofs.lemmas.List.Elements.{filter-append}
 use Rattle.std.proofs.lemmas.List.{append-nil}
 use Rattle.std.specs.declared.ops.Range.{Range}
-use Rattle.lol_vm.specs.Active.{activated, active_after, is_active}
+use Rattle.lol_vm.specs.Active.{activated, active_after, is_range_active}
 
 -- those of the elements before a place
 abbrev pub before : ℕ → List (Range ℕ × ℕ) → List (Range ℕ × ℕ)
@@ -26,7 +26,7 @@ before-activated bound place active [] above = refl
 before-activated bound place active (r ∷ ranges) above =
     let off : nat_lt place bound ≡ false = grind (arith, nat_tests) in
     let one : before bound ((r, place) ∷ []) ≡ [] = rw off refl in
-    elim (is_active active r) as (λ there. before bound (activated (if there then active else active ++ (r, place) ∷ []) place ranges) ≡ before bound active) [
+    elim (is_range_active active r) as (λ there. before bound (activated (if there then active else active ++ (r, place) ∷ []) place ranges) ≡ before bound active) [
       | true ↦ before-activated bound place active ranges above
       | false ↦
           before-activated bound place (active ++ (r, place) ∷ []) ranges above
@@ -45,7 +45,7 @@ kept-activated bound place active (r ∷ ranges) below kept =
     let on : nat_lt place bound ≡ true = grind (arith, nat_tests) in
     let one : before bound ((r, place) ∷ []) ≡ (r, place) ∷ [] = rw on refl in
     let more = filter-append (λ a. nat_lt a.1 bound) active ((r, place) ∷ []) ∙ (ap (λ front. front ++ before bound ((r, place) ∷ [])) kept ∙ ap (λ back. active ++ back) one) in
-    elim (is_active active r) as
+    elim (is_range_active active r) as
     (λ there. before bound (activated (if there then active else active ++ (r, place) ∷ []) place ranges) ≡ activated (if there then active else active ++ (r, place) ∷ []) place ranges) [
       | true ↦ kept-activated bound place active ranges below kept
       | false ↦ kept-activated bound place (active ++ (r, place) ∷ []) ranges below more

@@ -56,15 +56,15 @@ name_either_way a b =
     (λ h. (bytes_eq-Decides (lowercased a) (lowercased b)).1 (sym ((bytes_eq-Decides (lowercased b) (lowercased a)).0 h)))
 
 keeps_typed_counted : (kept : Option (List TypedCount)) (by_type : Bool) (top : ℕ) (counts : ℕ → List ℕ → ℕ) (name : List ℕ) → (by_type ≡ true → counts top name < full_count)
-    → KeepsTyped kept by_type top counts → KeepsTyped (option_map (λ ts. typed.counted ts top (local_name name)) kept) by_type top (counted_typed counts top name)
+    → KeepsTyped kept by_type top counts → KeepsTyped (option_map (λ ts. typed.counted_by_type ts top (local_name name)) kept) by_type top (counted_typed counts top name)
 keeps_typed_counted None by_type top counts name free keeps = keeps
 keeps_typed_counted (Some ts) by_type top counts name free keeps = (keeps.0, climb_counted top ts (local_name name) keeps.1, λ level q. by_test level q (level == top) refl)
   where
-    by_test : (level : ℕ) (q : List ℕ) (b : Bool) → (level == top) ≡ b → cond (b && same_name q name) (counts level q + 1) (counts level q) ≡ typed_shown (typed.counted ts top (local_name name)) level (local_name q)
+    by_test : (level : ℕ) (q : List ℕ) (b : Bool) → (level == top) ≡ b → cond (b && same_name q name) (counts level q + 1) (counts level q) ≡ typed_shown (typed.counted_by_type ts top (local_name name)) level (local_name q)
     by_test level q true at =
         let here : level ≡ top = (Decides-eqb level top).0 at in
         let own = keeps.2 top q in
-        subst (λ l. cond (same_name q name) (counts l q + 1) (counts l q) ≡ typed_shown (typed.counted ts top (local_name name)) l (local_name q)) (sym here)
+        subst (λ l. cond (same_name q name) (counts l q + 1) (counts l q) ≡ typed_shown (typed.counted_by_type ts top (local_name name)) l (local_name q)) (sym here)
         ((λ i. cond (sym (name_either_way name q) i) (own i + 1) (own i))
         ∙ sym (shown_counted top ts (local_name name) (local_name q) keeps.1 (subst (λ n. n < full_count) (keeps.2 top name) (free keeps.0))))
     by_test level q false at =
@@ -95,13 +95,13 @@ module _ {E : Type 0} where
       let count = items_counted s m keeps in
       let none_last : slice_get (items_in s) (length (items_in s) - 1) ≡ None = ap (λ xs. slice_get xs (length xs - 1)) none in
       let no_children : m.children ≡ [] = keeps.children ∙ ap children_shown none in
-      let after = with_typed s (option_map (λ ts. typed.counted ts (length (items_in s)) (local_name name)) (typed_in s)) in
+      let after = with_typed s (option_map (λ ts. typed.counted_by_type ts (length (items_in s)) (local_name name)) (typed_in s)) in
       subst (λ o. Keeps (counted_if after o) (counted m name)) (sym none_last) (record {
         items = keeps.items;
         active = keeps.active;
         root_children = (λ i. counted_root (no_children i) (keeps.root_children i));
         children = ap counted_last no_children ∙ (sym no_children ∙ keeps.children);
-        typed = subst (λ top. KeepsTyped (option_map (λ ts. typed.counted ts top (local_name name)) (typed_in s)) m.program.by_type (length m.items) (counted_typed m.typed (length m.items) name)) count
+        typed = subst (λ top. KeepsTyped (option_map (λ ts. typed.counted_by_type ts top (local_name name)) (typed_in s)) m.program.by_type (length m.items) (counted_typed m.typed (length m.items) name)) count
             (keeps_typed_counted (typed_in s) m.program.by_type (length m.items) m.typed name free keeps.typed);
         item_bytes = keeps.item_bytes;
         slots = keeps.slots;
@@ -116,13 +116,13 @@ module _ {E : Type 0} where
       ap (λ ys. slice_set ys (length ys - 1) (counted_item end.last)) whole
       ∙ (ap (λ k. slice_set (end.front ++ end.last ∷ []) k (counted_item end.last)) (last_place end.front end.last) ∙ last_set end.front end.last (counted_item end.last)) in
       let children = children_end s m keeps end.front end.last whole in
-      let after = with_typed s (option_map (λ ts. typed.counted ts (length (items_in s)) (local_name name)) (typed_in s)) in
+      let after = with_typed s (option_map (λ ts. typed.counted_by_type ts (length (items_in s)) (local_name name)) (typed_in s)) in
       subst (λ o. Keeps (counted_if after o) (counted m name)) (sym here) (record {
         items = keeps.items ∙ (ap items_shown whole ∙ (shown_push item_shown end.front end.last ∙ (sym (shown_push item_shown end.front (counted_item end.last)) ∙ sym (ap items_shown set))));
         active = keeps.active;
         root_children = ap (λ cs. counted_root cs m.root_children) children ∙ keeps.root_children;
         children = ap counted_last children ∙ (sym (shown_push (λ (y : StackItemOf Name E). y.child_counter) end.front (counted_item end.last)) ∙ sym (ap children_shown set));
-        typed = subst (λ top. KeepsTyped (option_map (λ ts. typed.counted ts top (local_name name)) (typed_in s)) m.program.by_type (length m.items) (counted_typed m.typed (length m.items) name)) count
+        typed = subst (λ top. KeepsTyped (option_map (λ ts. typed.counted_by_type ts top (local_name name)) (typed_in s)) m.program.by_type (length m.items) (counted_typed m.typed (length m.items) name)) count
             (keeps_typed_counted (typed_in s) m.program.by_type (length m.items) m.typed name free keeps.typed);
         item_bytes = keeps.item_bytes;
         slots = keeps.slots;
@@ -133,7 +133,7 @@ module _ {E : Type 0} where
 
   -- 4. What is seen
 
-  seen_children : (s : StackOf Name StackNames E) (m : Machine) → Keeps s m → (items : List (StackItemOf Name E)) → items_in s ≡ items → last_count s ≡ standing.last_count m
+  seen_children : (s : StackOf Name StackNames E) (m : Machine) → Keeps s m → (items : List (StackItemOf Name E)) → items_in s ≡ items → last_count s ≡ standing.innermost_count m
   seen_children s m keeps [] none =
       ap (λ xs. count_or s.root_child_counter (slice_get xs (length xs - 1))) none
       ∙ (sym keeps.root_children ∙ sym (ap (λ cs. or_root cs m.root_children) (keeps.children ∙ ap children_shown none)))
@@ -190,16 +190,16 @@ typed_fewer parent name cs =
 pub typed_counts_are_fewer : TypedCountsAreFewer
 typed_counts_are_fewer m d name counted sizes by_type = by_elements d.open_elements refl
   where
-    by_elements : (elements : List Element) → d.open_elements ≡ elements → m.typed (length m.items) name ≤ standing.last_count m
+    by_elements : (elements : List Element) → d.open_elements ≡ elements → m.typed (length m.items) name ≤ standing.innermost_count m
     by_elements [] none =
         let levels : (n : List ℕ) → m.typed 0 n ≡ typed_children_of None n d.children = subst (AreTyped m.typed d.children) none (counted.typed by_type).levels in
         let own : m.typed (length m.items) name ≡ typed_children_of None name d.children = ap (λ k. m.typed k name) (sizes ∙ ap length none) ∙ levels name in
-        let last : standing.last_count m ≡ children_of None d.children =
+        let last : standing.innermost_count m ≡ children_of None d.children =
         ap (λ cs. or_root cs m.root_children) (counted.children ∙ ap (map (λ (e : Element). children_of (Some e.number) d.children)) none) ∙ counted.root in
         omega (arith, own, last, typed_fewer None name d.children)
     by_elements (e ∷ outer) some =
         let levels = subst (AreTyped m.typed d.children) some (counted.typed by_type).levels in
         let own : m.typed (length m.items) name ≡ typed_children_of (Some e.number) name d.children = ap (λ k. m.typed k name) (sizes ∙ ap length some) ∙ levels.0 name in
-        let last : standing.last_count m ≡ children_of (Some e.number) d.children =
+        let last : standing.innermost_count m ≡ children_of (Some e.number) d.children =
         ap (λ cs. or_root cs m.root_children) (counted.children ∙ ap (map (λ (x : Element). children_of (Some x.number) d.children)) some) in
         omega (arith, own, last, typed_fewer (Some e.number) name d.children)

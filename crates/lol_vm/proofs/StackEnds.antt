@@ -8,7 +8,7 @@ use Rattle.std.proofs.lemmas.Iterator.Adapters.{position_from-zero}
 use Rattle.std.proofs.lemmas.List.{reverse-append}
 use Rattle.lol_base.specs.Names.{lowercased}
 use Rattle.lol_base.specs.LocalNames.{Name, local_name}
-use Rattle.lol_vm.specs.Machines.{Item}
+use Rattle.lol_vm.specs.Machines.{OpenItem}
 use Rattle.lol_vm.specs.Standing.{Machine, ended}
 use Rattle.lol_vm.specs.Stacks.{items_in, place_to_close, IsEndedAt}
 use Rattle.lol_vm.specs.SoundStacks.{last_place_from, last_place}
@@ -53,7 +53,7 @@ same_option f g same None = refl
 same_option f g same (Some k) = ap Some (same k)
 
 module _ (name : List ℕ) where
-  abbrev is_named : Item → Bool
+  abbrev is_named : OpenItem → Bool
   is_named item = bytes_eq item.name (lowercased name)
 
   last_is : {E : Type 0} (place : ℕ) (xs : List (StackItemOf Name E)) → option_map (from_last place (length xs)) (position_from is_named 0 (items_shown xs)) ≡ last_place_from place xs (local_name name)

@@ -4,7 +4,7 @@ use Rattle.std.specs.Bool.{if◌then◌else◌}
 use Rattle.std.proofs.lemmas.List.{append-nil}
 use Rattle.std.proofs.Math.Seq.{take-append_seam}
 use Rattle.std.specs.declared.ops.Range.{Range}
-use Rattle.lol_vm.specs.Active.{activated, is_active}
+use Rattle.lol_vm.specs.Active.{activated, is_range_active}
 use Rattle.lol_vm.specs.Levels.{without_last}
 use Rattle.lol_vm.specs.Stacks.{last_below}
 use Rattle.lol_vm.proofs.TypedLists.{without_last-push}
@@ -22,7 +22,7 @@ pub record Extends (active more : List (Range ℕ × ℕ)) : Type 0 where
 pub activated-extends : (active : List (Range ℕ × ℕ)) (place : ℕ) (ranges : List (Range ℕ)) → Extends active (activated active place ranges)
 activated-extends active place [] = record { added = []; whole = sym (append-nil active) }
 activated-extends active place (r ∷ ranges) =
-    elim (is_active active r) as
+    elim (is_range_active active r) as
     (λ there. Extends active (activated (if there then active else active ++ (r, place) ∷ []) place ranges)) [
       | true ↦ activated-extends active place ranges
       | false ↦

@@ -17,9 +17,9 @@ use Rattle.lol_program.specs.Programs.{Range}
 use Rattle.lol_program.specs.ProgramViews.{range_shown}
 use Rattle.lol_vm.specs.Active as active
 use Rattle.lol_vm.specs.Active.{activated}
-use Rattle.lol_vm.specs.Machines.{Item, active_of, is_active, same_range, newly_active}
+use Rattle.lol_vm.specs.Machines.{OpenItem, active_of, is_active, same_range, newly_active}
 use Rattle.lol_vm.specs.TypedCounts.{TypedCount, cut_to}
-use Rattle.lol_vm.specs.Standing.{Machine, slots_after, cut, closes, ended}
+use Rattle.lol_vm.specs.Standing.{Machine, slots_after, cut, closed_count, ended}
 use Rattle.lol_vm.specs.Stacks.{items_in, active_in, typed_in, IsSame, IsClosed, IsEndedAt}
 use Rattle.lol_vm.specs.StackMachines.{item_shown, items_shown, children_shown, active_shown, in_lower_case, Climb, levels_in, KeepsTyped, Keeps, NewStackKeeps, SameStackKeeps, OpeningStackKeeps}
 use Rattle.lol_vm.specs.declared.stack_item.StackItemOf.{StackItemOf}
@@ -41,9 +41,9 @@ shown_length f xs = length-reverse (map f xs) ∙ length-map xs f
 
 -- 2. Active ranges
 
-active_same : (xs : List (std.Range ℕ × ℕ)) (r : std.Range ℕ) → is_active (active_shown xs) (range_shown r) ≡ active.is_active xs r
+active_same : (xs : List (std.Range ℕ × ℕ)) (r : std.Range ℕ) → is_active (active_shown xs) (range_shown r) ≡ active.is_range_active xs r
 active_same [] r = refl
-active_same (a ∷ xs) r = ap (λ b. active.same_range a.0 r || b) (active_same xs r)
+active_same (a ∷ xs) r = ap (λ b. active.is_same_range a.0 r || b) (active_same xs r)
 
 -- one more active range makes no other range active
 active_push : (xs : List (Range × ℕ)) (a : Range × ℕ) (r : Range) → is_active (xs ++ a ∷ []) r ≡ (is_active xs r || same_range a.0 r)
@@ -80,7 +80,7 @@ pub activated_shown : (xs : List (std.Range ℕ × ℕ)) (place : ℕ) (rs : Lis
     → active_shown (activated xs place rs) ≡ active_shown xs ++ newly_active (active_shown xs) place (map range_shown rs)
 activated_shown xs place [] d = sym (append-nil (active_shown xs))
 activated_shown xs place (r ∷ rs) d =
-    by_test (active.is_active xs r) (is_active (active_shown xs) (range_shown r)) (active_same xs r) (activated_shown xs place rs d.1) (activated_shown (xs ++ (r, place) ∷ []) place rs d.1)
+    by_test (active.is_range_active xs r) (is_active (active_shown xs) (range_shown r)) (active_same xs r) (activated_shown xs place rs d.1) (activated_shown (xs ++ (r, place) ∷ []) place rs d.1)
   where
     by_test : (a b : Bool) → b ≡ a → Shown place rs xs → Shown place rs (xs ++ (r, place) ∷ [])
         → active_shown (activated (if a then xs else xs ++ (r, place) ∷ []) place rs) ≡ active_shown xs ++ map {B = Range × ℕ} (λ (q : Range). (q, place)) (cond (not b) (range_shown r ∷ not_active xs rs) (not_active xs rs))
@@ -201,9 +201,9 @@ keeps_typed_stray (Some ts) by_type top counts keeps =
 
 -- the place, from the outermost on, of the innermost item of a name
 abbrev pub place_of_last : Machine → List ℕ → Option ℕ
-place_of_last m name = option_map (λ k. length m.items - (k + 1)) (position (λ (item : Item). same_name item.name name) m.items)
+place_of_last m name = option_map (λ k. length m.items - (k + 1)) (position (λ (item : OpenItem). same_name item.name name) m.items)
 
-found_within : (p : Item → Bool) (xs : List Item) (k : ℕ) → position p xs ≡ Some k → k < length xs
+found_within : (p : OpenItem → Bool) (xs : List OpenItem) (k : ℕ) → position p xs ≡ Some k → k < length xs
 found_within p xs k is = (position-Some p xs k (record { name = []; jumps = []; hereditary_jumps = [] }) is).0
 
 module _ {E : Type 0} (old new : StackOf Name StackNames E) (m : Machine) (keeps : Keeps old m) where
@@ -237,7 +237,7 @@ module _ {E : Type 0} (old new : StackOf Name StackNames E) (m : Machine) (keeps
         slots = kept.slots;
       }
 
-  by_place : m.active ≡ active_of m.items → (o : Option ℕ) → ((k : ℕ) → o ≡ Some k → k < length m.items) → IsEndedAt (option_map (λ k. length m.items - (k + 1)) o) old new → Keeps new (cut (closes o) m)
+  by_place : m.active ≡ active_of m.items → (o : Option ℕ) → ((k : ℕ) → o ≡ Some k → k < length m.items) → IsEndedAt (option_map (λ k. length m.items - (k + 1)) o) old new → Keeps new (cut (closed_count o) m)
   by_place active None within ended = stray_keeps active ended
   by_place active (Some k) within ended =
       let below = within k refl in
@@ -246,4 +246,4 @@ module _ {E : Type 0} (old new : StackOf Name StackNames E) (m : Machine) (keeps
 
 pub ended_at_last_keeps : {E : Type 0} (old new : StackOf Name StackNames E) (m : Machine) (name : List ℕ) → Keeps old m → m.active ≡ active_of m.items → IsEndedAt (place_of_last m name) old new → Keeps new (ended m name)
 ended_at_last_keeps old new m name keeps active ended =
-    by_place old new m keeps active (position (λ (item : Item). same_name item.name name) m.items) (λ k is. found_within (λ (item : Item). same_name item.name name) m.items k is) ended
+    by_place old new m keeps active (position (λ (item : OpenItem). same_name item.name name) m.items) (λ k is. found_within (λ (item : OpenItem). same_name item.name name) m.items k is) ended

@@ -21,10 +21,10 @@ use Rattle.lol_program.specs.Programs.{Range, Instruction, Program, IsAt, IsProg
 use Rattle.lol_program.specs.declared.name_value.NameValue.{NameValue}
 use Rattle.lol_program.specs.declared.name_value.NameValue.TheVariants.{True, False, Open}
 use Rattle.lol_program.proofs.Values.{values_decide, values_are_by_names}
-use Rattle.lol_vm.specs.PlaceRuns.{Context, no_context, Stop, given, gathered, context_of, branch, step_with_attributes, step_by_names, run, run_by_names, value_of, value_at, is_open_at, stop_in, stop_or, first_open, ids_of, jumps_list, hereditary_jumps_list}
+use Rattle.lol_vm.specs.PlaceRuns.{Context, no_context, Stop, given_by, gathered_from_places, context_of, branch, step_with_attributes, step_by_names, run, run_by_names, instruction_value, value_at, is_open_at, stop_in, stop_or, first_open, ids_list, jumps_list, hereditary_jumps_list}
 use Rattle.lol_vm.proofs.Held.{path_at}
 use Rattle.lol_vm.proofs.Counted.{places_count_tries}
-use Rattle.lol_vm.specs.MachineLaws.{RunsDontSeeTheRest, StoppedStartsAreWhole, StopsAreRequests, ForeignTagsAsk, RequestsFinish, RunsGather, RunsGoOn, RunsByNamesGoOn, StopsLeave, NumbersAreOffsets, from_number, then_by_names, joined, ValuesDecideAt, IsStop, starts_open, left_from, RunsStopWhereAsked, StopsAreOffsets, OffsetsGoOn}
+use Rattle.lol_vm.specs.MachineLaws.{RunsDontSeeTheRest, StoppedStartsAreWhole, StopsAreRequests, ForeignTagsAsk, RequestsFinish, RunsGather, RunsGoOn, RunsByNamesGoOn, StopsLeave, NumbersAreOffsets, from_number, then_by_names, with_context, ValuesDecideAt, IsStop, starts_open, left_from, RunsStopWhereAsked, StopsAreOffsets, OffsetsGoOn}
 
 -- 1. Runs gather
 
@@ -38,13 +38,13 @@ if_more false xs ys zs = refl
 
 -- one place more in front
 gather_one : (content : Bool) (e : Element) (context : Context) (o : Option Instruction) (ids : List ℕ) (jumps hereditary : List Range) →
-    joined (step_with_attributes content e context o) (record { ids = ids; jumps = cond content jumps []; hereditary_jumps = cond content hereditary [] })
-    ≡ joined context (record { ids = given ids_of e o ++ ids; jumps = cond content (given jumps_list e o ++ jumps) []; hereditary_jumps = cond content (given hereditary_jumps_list e o ++ hereditary) [] })
+    with_context (step_with_attributes content e context o) (record { ids = ids; jumps = cond content jumps []; hereditary_jumps = cond content hereditary [] })
+    ≡ with_context context (record { ids = given_by ids_list e o ++ ids; jumps = cond content (given_by jumps_list e o ++ jumps) []; hereditary_jumps = cond content (given_by hereditary_jumps_list e o ++ hereditary) [] })
 gather_one content e context None ids jumps hereditary = refl
 gather_one content e context (Some i) ids jumps hereditary = by_test (i.holds e)
   where
-    by_test : (b : Bool) → joined (cond b (branch content context i) context) (record { ids = ids; jumps = cond content jumps []; hereditary_jumps = cond content hereditary [] })
-        ≡ joined context (record { ids = cond b i.ids [] ++ ids; jumps = cond content (cond b (option_to_list i.jumps) [] ++ jumps) []; hereditary_jumps = cond content (cond b (option_to_list i.hereditary_jumps) [] ++ hereditary) [] })
+    by_test : (b : Bool) → with_context (cond b (branch content context i) context) (record { ids = ids; jumps = cond content jumps []; hereditary_jumps = cond content hereditary [] })
+        ≡ with_context context (record { ids = cond b i.ids [] ++ ids; jumps = cond content (cond b (option_to_list i.jumps) [] ++ jumps) []; hereditary_jumps = cond content (cond b (option_to_list i.hereditary_jumps) [] ++ hereditary) [] })
     by_test true = λ k. record {
       ids = append_assoc context.ids i.ids ids k;
       jumps = if_more content context.jumps (option_to_list i.jumps) jumps k;
@@ -64,7 +64,7 @@ runs_gather p content e context [] = λ k. record {
 }
 runs_gather p content e context (place ∷ ps) =
     runs_gather p content e (step_with_attributes content e context (slice_get p.instructions place)) ps
-    ∙ gather_one content e context (slice_get p.instructions place) (gathered ids_of p e ps) (gathered jumps_list p e ps) (gathered hereditary_jumps_list p e ps)
+    ∙ gather_one content e context (slice_get p.instructions place) (gathered_from_places ids_list p e ps) (gathered_from_places jumps_list p e ps) (gathered_from_places hereditary_jumps_list p e ps)
 
 pub run-append : (p : Program) (content : Bool) (e : Element) (context : Context) (ps qs : List ℕ) → run p content e context (ps ++ qs) ≡ run p content e (run p content e context ps) qs
 run-append p content e context [] qs = refl
@@ -73,8 +73,8 @@ run-append p content e context (place ∷ ps) qs = run-append p content e (step_
 -- 2. Stops
 
 -- at a place that isn't open both steps are the same
-same_step : (content : Bool) (e : Element) (context : Context) (o : Option Instruction) → is_open (value_of e o) ≡ false → ((i : Instruction) → o ≡ Some i → Decides (i.value e) (i.holds e))
-    → step_by_names content context (value_of e o) o ≡ step_with_attributes content e context o
+same_step : (content : Bool) (e : Element) (context : Context) (o : Option Instruction) → is_open (instruction_value e o) ≡ false → ((i : Instruction) → o ≡ Some i → Decides (i.value e) (i.holds e))
+    → step_by_names content context (instruction_value e o) o ≡ step_with_attributes content e context o
 same_step content e context None not_open decides = refl
 same_step content e context (Some i) not_open decides = by_value (i.value e) (i.holds e) not_open (decides i refl)
   where
@@ -227,7 +227,7 @@ module _ (s : Selectors) (paths : List Path) (p : Program) (program : IsProgramO
     abbrev other : Element
     other = with_rest e attributes self_closing finish
 
-    same_value : (place : ℕ) (o : Option Instruction) → slice_get p.instructions place ≡ o → value_of other o ≡ value_of e o
+    same_value : (place : ℕ) (o : Option Instruction) → slice_get p.instructions place ≡ o → instruction_value other o ≡ instruction_value e o
     same_value place None at = refl
     same_value place (Some i) at =
         let path = path_at s paths p program place i at in

@@ -8,7 +8,7 @@ use Rattle.std.proofs.lemmas.Bool.Decides.{nat_tests}
 use Rattle.std.proofs.lemmas.Slice.Eq.{bytes_eq-Decides}
 use Rattle.lol_base.specs.LocalNames.{Name, same_local_name}
 use Rattle.lol_program.specs.Counters.{full_count}
-use Rattle.lol_vm.specs.Levels.{is_at, one_more, count_if_at}
+use Rattle.lol_vm.specs.Levels.{is_at_level, one_more, count_if_at}
 use Rattle.lol_vm.specs.TypedCounts.{TypedCount, is_of, level_of, levels_of, last_counted, all_above, cut_to}
 use Rattle.lol_vm.specs.TypedLaws.{contributes, typed_of, IsAscending, IsRising, CountsAtTheirLevel, CountingAddsOne, CuttingDropsAbove}
 use Rattle.lol_vm.proofs.CounterLevels.{one_more-free}
@@ -25,10 +25,10 @@ typed_of-push (u ∷ ts) t l q = omega (arith, typed_of-push ts t l q)
 
 -- ---- one more of the last counter
 
-is_at-more : (level : ℕ) (name : Name) (ts : List TypedCount) (x : ℕ × ℕ) → list_any (is_of name) ts ≡ true → is_at level (x ∷ levels_of name ts) ≡ is_at level (levels_of name ts)
+is_at-more : (level : ℕ) (name : Name) (ts : List TypedCount) (x : ℕ × ℕ) → list_any (is_of name) ts ≡ true → is_at_level level (x ∷ levels_of name ts) ≡ is_at_level level (levels_of name ts)
 is_at-more level name [] x some = absurd (true≢false (sym some))
 is_at-more level name (t ∷ ts) x some =
-    elim (is_of name t) as (λ b. is_of name t ≡ b → (b || list_any (is_of name) ts) ≡ true → is_at level (x ∷ levels_of name (t ∷ ts)) ≡ is_at level (levels_of name (t ∷ ts))) [
+    elim (is_of name t) as (λ b. is_of name t ≡ b → (b || list_any (is_of name) ts) ≡ true → is_at_level level (x ∷ levels_of name (t ∷ ts)) ≡ is_at_level level (levels_of name (t ∷ ts))) [
       | true ↦ λ is h. rw (levels_of-cons name t ts true is) refl
       | false ↦ λ is h. rw (levels_of-cons name t ts false is) (is_at-more level name ts x h)
     ] refl some
@@ -55,7 +55,7 @@ own_count t level name same_level same_name =
     let n : bytes_eq t.name.lowercased name.lowercased ≡ true = (bytes_eq-Decides t.name.lowercased name.lowercased).1 same_name in
     ap (λ b. if b && bytes_eq t.name.lowercased name.lowercased then t.count else 0) l ∙ ap (λ b. if b then t.count else 0) n
 
-typed_of-last : (ts : List TypedCount) (level : ℕ) (name : Name) → is_at level (levels_of name ts) ≡ true → typed_of ts level name.lowercased < full_count → (l : ℕ) (q : List ℕ)
+typed_of-last : (ts : List TypedCount) (level : ℕ) (name : Name) → is_at_level level (levels_of name ts) ≡ true → typed_of ts level name.lowercased < full_count → (l : ℕ) (q : List ℕ)
     → typed_of (last_counted ts name) l q ≡ typed_of ts l q + added level name l q
 typed_of-last [] level name at free l q = absurd (true≢false (sym at))
 typed_of-last (t ∷ ts) level name at free l q =
@@ -64,10 +64,10 @@ typed_of-last (t ∷ ts) level name at free l q =
     → typed_of (if more then t ∷ last_counted ts name else (if same_local_name t.name name then record t { count = one_more t.count } else t) ∷ ts) l q
     ≡ (contributes l q t + typed_of ts l q) + added level name l q) [
       | true ↦ λ some.
-          let rest : is_at level (levels_of name ts) ≡ true =
-          elim (is_of name t) as (λ b. is_of name t ≡ b → is_at level (levels_of name ts) ≡ true) [
-            | true ↦ λ is. sym (is_at-more level name ts (level_of t) some) ∙ (sym (ap (is_at level) (levels_of-cons name t ts true is)) ∙ at)
-            | false ↦ λ is. sym (ap (is_at level) (levels_of-cons name t ts false is)) ∙ at
+          let rest : is_at_level level (levels_of name ts) ≡ true =
+          elim (is_of name t) as (λ b. is_of name t ≡ b → is_at_level level (levels_of name ts) ≡ true) [
+            | true ↦ λ is. sym (is_at-more level name ts (level_of t) some) ∙ (sym (ap (is_at_level level) (levels_of-cons name t ts true is)) ∙ at)
+            | false ↦ λ is. sym (ap (is_at_level level) (levels_of-cons name t ts false is)) ∙ at
           ] refl
           in
           let few : typed_of ts level name.lowercased < full_count = omega (arith, free) in
@@ -78,21 +78,21 @@ typed_of-last (t ∷ ts) level name at free l q =
           → typed_of ((if b then record t { count = one_more t.count } else t) ∷ ts) l q ≡ (contributes l q t + typed_of ts l q) + added level name l q) [
             | true ↦ λ is.
                 let only = levels_of-cons name t ts true is ∙ ap (λ rest. level_of t ∷ rest) (levels_of-none name ts none) in
-                let same_level : t.level ≡ level = (unsigned_Decides t.level level).0 (sym (ap (is_at level) only) ∙ at) in
+                let same_level : t.level ≡ level = (unsigned_Decides t.level level).0 (sym (ap (is_at_level level) only) ∙ at) in
                 let same_name = (bytes_eq-Decides t.name.lowercased name.lowercased).0 is in
                 let own = own_count t level name same_level same_name in
                 let few : t.count < full_count = omega (arith, own, free) in
                 omega (arith, bumped t level name l q same_level same_name few)
             | false ↦ λ is.
                 let empty = levels_of-cons name t ts false is ∙ levels_of-none name ts none in
-                absurd (true≢false (sym at ∙ ap (is_at level) empty))
+                absurd (true≢false (sym at ∙ ap (is_at_level level) empty))
           ] refl
     ] refl
 
 pub counting_adds_one : CountingAddsOne
 counting_adds_one ts level name free l q =
-    elim (is_at level (levels_of name ts)) as
-    (λ at. is_at level (levels_of name ts) ≡ at
+    elim (is_at_level level (levels_of name ts)) as
+    (λ at. is_at_level level (levels_of name ts) ≡ at
     → typed_of (if at then last_counted ts name else ts ++ record { level = level; name = name; count = 1 } ∷ []) l q ≡ typed_of ts l q + added level name l q) [
       | true ↦ λ at. typed_of-last ts level name at free l q
       | false ↦ λ other. typed_of-push ts (record { level = level; name = name; count = 1 }) l q

@@ -7,9 +7,9 @@ use Rattle.std.proofs.lemmas.List.{map-append}
 use Rattle.std.specs.Str.{bytes_eq}
 use Rattle.std.proofs.lemmas.Slice.Eq.{bytes_eq-Decides}
 use Rattle.lol_base.specs.LocalNames.{Name, same_local_name}
-use Rattle.lol_vm.specs.Levels.{one_more, is_at, counted_last, without_last}
-use Rattle.lol_vm.specs.TypedCounts.{TypedCount, key_of, is_of, level_of, levels_of, last_counted, counted, all_above, cut_to}
-use Rattle.lol_vm.specs.TypedViews.{first_count, without_first, joined, AreLevels}
+use Rattle.lol_vm.specs.Levels.{one_more, is_at_level, counted_at_last, without_last}
+use Rattle.lol_vm.specs.TypedCounts.{TypedCount, key_of, is_of, level_of, levels_of, last_counted, counted_by_type, all_above, cut_to}
+use Rattle.lol_vm.specs.TypedViews.{first_count, without_first, typed_counts_of, AreLevels}
 
 -- ---- names
 
@@ -33,7 +33,7 @@ levels_of-same name q same ts = ap (map level_of) (filter-congr (is_of q) (is_of
 
 -- ---- the counters from their keys and their levels
 
-pub joined-keys : (ks : List (ℕ × Name)) (levels : Name → List (ℕ × ℕ)) → map key_of (joined ks levels) ≡ ks
+pub joined-keys : (ks : List (ℕ × Name)) (levels : Name → List (ℕ × ℕ)) → map key_of (typed_counts_of ks levels) ≡ ks
 joined-keys [] levels = refl
 joined-keys (k ∷ ks) levels = ap (λ rest. k ∷ rest) (joined-keys ks (without_first k.1 levels))
 
@@ -50,26 +50,26 @@ without_first-levels t ts levels are q =
       | false ↦ λ other. are q ∙ levels_of-cons q t ts false other
     ] refl
 
-pub joined-is : (ts : List TypedCount) (levels : Name → List (ℕ × ℕ)) → AreLevels levels ts → joined (map key_of ts) levels ≡ ts
+pub joined-is : (ts : List TypedCount) (levels : Name → List (ℕ × ℕ)) → AreLevels levels ts → typed_counts_of (map key_of ts) levels ≡ ts
 joined-is [] levels are = refl
 joined-is (t ∷ ts) levels are =
     let first : first_count (levels t.name) ≡ t.count = ap first_count (are t.name ∙ levels_of-cons t.name t ts true (name_is_its_own t.name)) in
     let rest = joined-is ts (without_first t.name levels) (without_first-levels t ts levels are) in
-    ap (λ count. record { level = t.level; name = t.name; count = count } ∷ joined (map key_of ts) (without_first t.name levels)) first
+    ap (λ count. record { level = t.level; name = t.name; count = count } ∷ typed_counts_of (map key_of ts) (without_first t.name levels)) first
     ∙ ap (λ more. t ∷ more) rest
 
 -- where the keys and the levels are those of some counters, these are the counters
-pub view-is : (ts : List TypedCount) (ks : List (ℕ × Name)) (levels : Name → List (ℕ × ℕ)) → ks ≡ map key_of ts → AreLevels levels ts → joined ks levels ≡ ts
-view-is ts ks levels keys are = ap (λ k. joined k levels) keys ∙ joined-is ts levels are
+pub view-is : (ts : List TypedCount) (ks : List (ℕ × Name)) (levels : Name → List (ℕ × ℕ)) → ks ≡ map key_of ts → AreLevels levels ts → typed_counts_of ks levels ≡ ts
+view-is ts ks levels keys are = ap (λ k. typed_counts_of k levels) keys ∙ joined-is ts levels are
 
-pub view-keeps : (ts : List TypedCount) (ks : List (ℕ × Name)) (levels : Name → List (ℕ × ℕ)) → ks ≡ map key_of ts → AreLevels levels ts → AreLevels levels (joined ks levels)
+pub view-keeps : (ts : List TypedCount) (ks : List (ℕ × Name)) (levels : Name → List (ℕ × ℕ)) → ks ≡ map key_of ts → AreLevels levels ts → AreLevels levels (typed_counts_of ks levels)
 view-keeps ts ks levels keys are = subst (AreLevels levels) (sym (view-is ts ks levels keys are)) are
 
 -- what is known of counters that were seen
-pub keys-seen : (ts : List TypedCount) (ks : List (ℕ × Name)) (levels : Name → List (ℕ × ℕ)) → joined ks levels ≡ ts → ks ≡ map key_of ts
+pub keys-seen : (ts : List TypedCount) (ks : List (ℕ × Name)) (levels : Name → List (ℕ × ℕ)) → typed_counts_of ks levels ≡ ts → ks ≡ map key_of ts
 keys-seen ts ks levels seen = sym (joined-keys ks levels) ∙ ap (map key_of) seen
 
-pub levels-seen : (ts : List TypedCount) (ks : List (ℕ × Name)) (levels : Name → List (ℕ × ℕ)) → joined ks levels ≡ ts → AreLevels levels (joined ks levels) → AreLevels levels ts
+pub levels-seen : (ts : List TypedCount) (ks : List (ℕ × Name)) (levels : Name → List (ℕ × ℕ)) → typed_counts_of ks levels ≡ ts → AreLevels levels (typed_counts_of ks levels) → AreLevels levels ts
 levels-seen ts ks levels seen are = subst (AreLevels levels) seen are
 
 pub levels-kept : (ts : List TypedCount) (old new : Name → List (ℕ × ℕ)) → AreLevels old ts → ((q : Name) → new q ≡ old q) → AreLevels new ts
@@ -80,7 +80,7 @@ pub levels-uncounted : (ts : List TypedCount) (name : Name) (old new : Name → 
 levels-uncounted ts name old new are same q =
     same q ∙ (elim (same_local_name name q) as (λ b. (if b then old q else old q) ≡ old q) [ true ↦ refl | false ↦ refl ] ∙ are q)
 
--- ---- one more counted by the last counter of a name
+-- ---- one more counted_by_type by the last counter of a name
 
 pub keys-last_counted : (ts : List TypedCount) (name : Name) → map key_of (last_counted ts name) ≡ map key_of ts
 keys-last_counted [] name = refl
@@ -103,40 +103,40 @@ levels_of-none name (t ∷ ts) none =
       | false ↦ λ is h. levels_of-cons name t ts false is ∙ levels_of-none name ts h
     ] refl none
 
-counted_last-cons : (name : Name) (ts : List TypedCount) (x : ℕ × ℕ) → list_any (is_of name) ts ≡ true → counted_last (x ∷ levels_of name ts) ≡ x ∷ counted_last (levels_of name ts)
+counted_last-cons : (name : Name) (ts : List TypedCount) (x : ℕ × ℕ) → list_any (is_of name) ts ≡ true → counted_at_last (x ∷ levels_of name ts) ≡ x ∷ counted_at_last (levels_of name ts)
 counted_last-cons name [] x some = absurd (true≢false (sym some))
 counted_last-cons name (t ∷ ts) x some =
-    elim (is_of name t) as (λ b. is_of name t ≡ b → (b || list_any (is_of name) ts) ≡ true → counted_last (x ∷ levels_of name (t ∷ ts)) ≡ x ∷ counted_last (levels_of name (t ∷ ts))) [
+    elim (is_of name t) as (λ b. is_of name t ≡ b → (b || list_any (is_of name) ts) ≡ true → counted_at_last (x ∷ levels_of name (t ∷ ts)) ≡ x ∷ counted_at_last (levels_of name (t ∷ ts))) [
       | true ↦ λ is h. rw (levels_of-cons name t ts true is) refl
       | false ↦ λ is h. rw (levels_of-cons name t ts false is) (counted_last-cons name ts x h)
     ] refl some
 
 -- of the name itself
-own_levels : (ts : List TypedCount) (name : Name) → levels_of name (last_counted ts name) ≡ counted_last (levels_of name ts)
+own_levels : (ts : List TypedCount) (name : Name) → levels_of name (last_counted ts name) ≡ counted_at_last (levels_of name ts)
 own_levels [] name = refl
 own_levels (t ∷ ts) name =
     elim (list_any (is_of name) ts) as
     (λ more. list_any (is_of name) ts ≡ more
-    → levels_of name (if more then t ∷ last_counted ts name else (if same_local_name t.name name then record t { count = one_more t.count } else t) ∷ ts) ≡ counted_last (levels_of name (t ∷ ts))) [
+    → levels_of name (if more then t ∷ last_counted ts name else (if same_local_name t.name name then record t { count = one_more t.count } else t) ∷ ts) ≡ counted_at_last (levels_of name (t ∷ ts))) [
       | true ↦ λ some.
-          elim (is_of name t) as (λ b. is_of name t ≡ b → levels_of name (t ∷ last_counted ts name) ≡ counted_last (levels_of name (t ∷ ts))) [
+          elim (is_of name t) as (λ b. is_of name t ≡ b → levels_of name (t ∷ last_counted ts name) ≡ counted_at_last (levels_of name (t ∷ ts))) [
             | true ↦ λ is.
                 levels_of-cons name t (last_counted ts name) true is
                 ∙ (ap (λ rest. level_of t ∷ rest) (own_levels ts name)
-                ∙ (sym (counted_last-cons name ts (level_of t) some) ∙ ap counted_last (sym (levels_of-cons name t ts true is))))
+                ∙ (sym (counted_last-cons name ts (level_of t) some) ∙ ap counted_at_last (sym (levels_of-cons name t ts true is))))
             | false ↦ λ is.
-                levels_of-cons name t (last_counted ts name) false is ∙ (own_levels ts name ∙ ap counted_last (sym (levels_of-cons name t ts false is)))
+                levels_of-cons name t (last_counted ts name) false is ∙ (own_levels ts name ∙ ap counted_at_last (sym (levels_of-cons name t ts false is)))
           ] refl
       | false ↦ λ none.
           elim (same_local_name t.name name) as
-          (λ b. same_local_name t.name name ≡ b → levels_of name ((if b then record t { count = one_more t.count } else t) ∷ ts) ≡ counted_last (levels_of name (t ∷ ts))) [
+          (λ b. same_local_name t.name name ≡ b → levels_of name ((if b then record t { count = one_more t.count } else t) ∷ ts) ≡ counted_at_last (levels_of name (t ∷ ts))) [
             | true ↦ λ is.
                 levels_of-cons name (record t { count = one_more t.count }) ts true is
                 ∙ (ap (λ rest. (t.level, one_more t.count) ∷ rest) (levels_of-none name ts none)
-                ∙ ap counted_last (sym (levels_of-cons name t ts true is ∙ ap (λ rest. level_of t ∷ rest) (levels_of-none name ts none))))
+                ∙ ap counted_at_last (sym (levels_of-cons name t ts true is ∙ ap (λ rest. level_of t ∷ rest) (levels_of-none name ts none))))
             | false ↦ λ is.
                 levels_of-cons name t ts false is
-                ∙ (levels_of-none name ts none ∙ ap counted_last (sym (levels_of-cons name t ts false is ∙ levels_of-none name ts none)))
+                ∙ (levels_of-none name ts none ∙ ap counted_at_last (sym (levels_of-cons name t ts false is ∙ levels_of-none name ts none)))
           ] refl
     ] refl
 
@@ -166,13 +166,13 @@ other_levels (t ∷ ts) name q other =
     ]
 
 pub levels-last_counted : (ts : List TypedCount) (name : Name) (old new : Name → List (ℕ × ℕ)) → AreLevels old ts
-    → ((q : Name) → new q ≡ (if same_local_name name q then counted_last (old q) else old q)) → AreLevels new (last_counted ts name)
+    → ((q : Name) → new q ≡ (if same_local_name name q then counted_at_last (old q) else old q)) → AreLevels new (last_counted ts name)
 levels-last_counted ts name old new are changed q =
     changed q
     ∙ elim (same_local_name name q) as
-    (λ same. same_local_name name q ≡ same → (if same then counted_last (old q) else old q) ≡ levels_of q (last_counted ts name)) [
+    (λ same. same_local_name name q ≡ same → (if same then counted_at_last (old q) else old q) ≡ levels_of q (last_counted ts name)) [
       | true ↦ λ same.
-          ap counted_last (are q ∙ levels_of-same name q same ts) ∙ (sym (own_levels ts name) ∙ sym (levels_of-same name q same (last_counted ts name)))
+          ap counted_at_last (are q ∙ levels_of-same name q same ts) ∙ (sym (own_levels ts name) ∙ sym (levels_of-same name q same (last_counted ts name)))
       | false ↦ λ other. are q ∙ sym (other_levels ts name q other)
     ] refl
 
@@ -289,13 +289,13 @@ cut_to-within level (u ∷ ts) t within =
     ap (λ all. if all then [] else u ∷ cut_to level (ts ++ t ∷ [])) (all_above-push level (u ∷ ts) t false is ∙ and-false (all_above level (u ∷ ts)))
     ∙ ap (λ rest. u ∷ rest) (cut_to-within level ts t within)
 
--- ---- a child that is counted
+-- ---- a child that is counted_by_type
 
-pub counted-again : (ts : List TypedCount) (level : ℕ) (name : Name) → is_at level (levels_of name ts) ≡ true → last_counted ts name ≡ counted ts level name
+pub counted-again : (ts : List TypedCount) (level : ℕ) (name : Name) → is_at_level level (levels_of name ts) ≡ true → last_counted ts name ≡ counted_by_type ts level name
 counted-again ts level name at = rw at refl
 
-pub counted-first : (ts : List TypedCount) (level : ℕ) (name : Name) → is_at level (levels_of name ts) ≡ false
-    → ts ++ record { level = level; name = name; count = 1 } ∷ [] ≡ counted ts level name
+pub counted-first : (ts : List TypedCount) (level : ℕ) (name : Name) → is_at_level level (levels_of name ts) ≡ false
+    → ts ++ record { level = level; name = name; count = 1 } ∷ [] ≡ counted_by_type ts level name
 counted-first ts level name at = rw at refl
 
 -- ---- the last of a list

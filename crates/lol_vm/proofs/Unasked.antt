@@ -19,7 +19,7 @@ use Rattle.lol_program.proofs.Values.{values_decide, values_are_by_names}
 use Rattle.lol_vm.specs.Events.{Event, Start, End, has_content, has_content_in}
 use Rattle.lol_vm.specs.Documents.{Document, empty, element_of, parent_of, children_of, typed_children_of, place_of, inner_part, outer_part}
 use Rattle.lol_vm.specs.Matching.{matches, left_matches, parent_passes, some_ancestor_passes}
-use Rattle.lol_vm.specs.Answers.{Answer, Started, Dropped, Ended, ascending, matching_ids, report, name_tries, attribute_tries, needs_attributes, asks, is_dropped, answer, answers_from, after, document_from}
+use Rattle.lol_vm.specs.Answers.{Answer, Started, Dropped, Ended, ascending_once, matching_ids, report, name_tries, attribute_tries, needs_attributes, asks, is_dropped, answer, answers_from, after, document_from}
 use Rattle.lol_vm.specs.RunLaws.{with_attributes, matches_at, matches_from, UnaskedAttributesChangeNothing}
 use Rattle.lol_base.specs.BoolLaws.{not_true, or_of}
 use Rattle.lol_vm.proofs.Lists.{to_contains, to_among, count_same, any_among}
@@ -132,7 +132,7 @@ module _ (s : Selectors) (closed : AreClosed s) where
 
       same_ids : matching_ids s.pairs x xs ≡ matching_ids s.pairs y ys
       same_ids =
-          ap (λ (pairs : List (Path × ℕ)). ascending (map (λ (p : Path × ℕ). p.1) pairs))
+          ap (λ (pairs : List (Path × ℕ)). ascending_once (map (λ (p : Path × ℕ). p.1) pairs))
           (filter_same (λ (p : Path × ℕ). matches p.0 x xs) (λ (p : Path × ℕ). matches p.0 y ys) s.pairs (λ p a. matching p.0 (closed.paths p.0 p.1 (to_contains s.pairs p a))))
 
       same_report : report s esi x xs ≡ report s esi y ys

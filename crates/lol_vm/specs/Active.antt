@@ -3,17 +3,17 @@ use Rattle.std.specs.Prelude.{ℕ, Bool, ◌&&◌, ◌==◌, ◌+◌, if◌then�
 use Rattle.std.specs.List.{list_any}
 use Rattle.std.specs.declared.ops.Range.{Range}
 
-abbrev pub same_range : Range ℕ → Range ℕ → Bool
-same_range a b = (a.start == b.start) && (a.end == b.end)
+abbrev pub is_same_range : Range ℕ → Range ℕ → Bool
+is_same_range a b = (a.start == b.start) && (a.end == b.end)
 
 -- whether a range is among the active ones
-abbrev pub is_active : List (Range ℕ × ℕ) → Range ℕ → Bool
-is_active active r = list_any (λ a. same_range a.0 r) active
+abbrev pub is_range_active : List (Range ℕ × ℕ) → Range ℕ → Bool
+is_range_active active r = list_any (λ a. is_same_range a.0 r) active
 
 -- The active ranges with those of an element that weren't among them, each with the element's place.
 abbrev pub activated : List (Range ℕ × ℕ) → ℕ → List (Range ℕ) → List (Range ℕ × ℕ)
 activated active place [] = active
-activated active place (r ∷ ranges) = activated (if is_active active r then active else active ++ (r, place) ∷ []) place ranges
+activated active place (r ∷ ranges) = activated (if is_range_active active r then active else active ++ (r, place) ∷ []) place ranges
 
 -- The active ranges after more elements, from a place on, each with its hereditary ranges.
 abbrev pub active_after : List (Range ℕ × ℕ) → ℕ → List (List (Range ℕ)) → List (Range ℕ × ℕ)
@@ -21,5 +21,5 @@ active_after active place [] = active
 active_after active place (ranges ∷ more) = active_after (activated active place ranges) (place + 1) more
 
 -- The distinct ranges of elements by first appearance, from the outermost on, each with the place of the first element that has it.
-abbrev pub active_of : List (List (Range ℕ)) → List (Range ℕ × ℕ)
-active_of ranges = active_after [] 0 ranges
+abbrev pub active_ranges_of : List (List (Range ℕ)) → List (Range ℕ × ℕ)
+active_ranges_of ranges = active_after [] 0 ranges

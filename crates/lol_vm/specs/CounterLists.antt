@@ -4,13 +4,13 @@ use Rattle.lol_vm.specs.declared.counters.CounterItem.{CounterItem}
 use Rattle.lol_vm.specs.declared.counters.CounterList.{CounterList}
 
 -- a level, and what was counted there
-abbrev pub level_of : CounterItem → ℕ × ℕ
-level_of item = (item.index, item.counter)
+abbrev pub item_level : CounterItem → ℕ × ℕ
+item_level item = (item.index, item.counter)
 
 -- the levels of one name, the last one last
-abbrev pub levels_of : CounterList → List (ℕ × ℕ)
-levels_of list = map level_of list.items.items ++ level_of list.current ∷ []
+abbrev pub list_levels : CounterList → List (ℕ × ℕ)
+list_levels list = map item_level list.items.items ++ item_level list.current ∷ []
 
 abbrev pub levels_if : Option CounterList → List (ℕ × ℕ)
 levels_if None = []
-levels_if (Some list) = levels_of list
+levels_if (Some list) = list_levels list

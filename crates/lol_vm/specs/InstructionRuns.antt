@@ -6,13 +6,13 @@ use Rattle.lol_memory.specs.Ids.{Ids}
 use Rattle.lol_program.specs.Attributes.{TagAttributes}
 use Rattle.lol_program.specs.Compiled.{Sight, predicate_value, predicate_holds}
 use Rattle.lol_program.specs.Compounds.{is_open}
-use Rattle.lol_program.specs.Tries.{name_tries, attribute_tries}
+use Rattle.lol_program.specs.Tries.{names_counted, attributes_counted}
 use Rattle.lol_program.specs.declared.tries.Tries.{Tries}
 use Rattle.lol_program.specs.declared.instruction.Instruction.{Instruction}
 use Rattle.lol_program.specs.declared.name_value.NameValue.{NameValue}
 use Rattle.lol_program.specs.declared.name_value.NameValue.TheVariants.{True, False, Open}
 use Rattle.lol_vm.specs.declared.instruction_runs.Stop.{Stop}
-use Rattle.lol_vm.specs.Contexts.{gathered}
+use Rattle.lol_vm.specs.Contexts.{with_branch}
 use Rattle.lol_vm.specs.declared.execution_ctx.ExecutionCtx.{ExecutionCtx}
 
 -- the value by names of an instruction
@@ -57,13 +57,13 @@ abbrev pub IsInsideOf : List Instruction → Range ℕ → Type 0
 IsInsideOf instructions r = (r.start ≤ r.end) × (r.end ≤ length instructions)
 
 -- so many more tries can be counted
-abbrev pub HasRoomFor : Tries → ℕ → Type 0
-HasRoomFor tries n = (name_tries tries + n < 2 ^ 64) × (attribute_tries tries + n < 2 ^ 64)
+abbrev pub HasTriesLeft : Tries → ℕ → Type 0
+HasTriesLeft tries n = (names_counted tries + n < 2 ^ 64) × (attributes_counted tries + n < 2 ^ 64)
 
 -- Instructions that can be run: the ranges are inside, and so many tries can be counted.
 pub record AreRunnable (instructions : List Instruction) (ranges : List (Range ℕ)) (tries : Tries) : Type 0 where
   pub inside : All (IsInsideOf instructions) ranges
-  pub room : HasRoomFor tries (length (all_at instructions ranges))
+  pub room : HasTriesLeft tries (length (all_at instructions ranges))
 
 -- Where a run by names stopped: at an instruction of one of the ranges.
 abbrev pub place_in : List Instruction → List (Range ℕ) → Option Stop → Option ℕ
@@ -87,16 +87,16 @@ ranges_from ranges stop =
 
 module _ {E : Type 0} (ids : E → Ids) (with_ids : E → Ids → E) where
   abbrev pub with_branch_if : Bool → ExecutionCtx E → Instruction → ExecutionCtx E
-  with_branch_if true ctx i = gathered ids with_ids ctx i.associated_branch
+  with_branch_if true ctx i = with_branch ids with_ids ctx i.associated_branch
   with_branch_if false ctx i = ctx
 
-  -- What is gathered by names, up to the first open one.
+  -- What is with_branch by names, up to the first open one.
   abbrev pub gathered_by_names : Sight → ExecutionCtx E → List Instruction → ExecutionCtx E
   gathered_by_names s ctx [] = ctx
   gathered_by_names s ctx (i ∷ instructions) =
       if is_open (value_seen s i) then ctx else gathered_by_names s (with_branch_if (is_true (value_seen s i)) ctx i) instructions
 
-  -- What is gathered with attributes.
+  -- What is with_branch with attributes.
   abbrev pub gathered_with_attributes : Sight → TagAttributes → ExecutionCtx E → List Instruction → ExecutionCtx E
   gathered_with_attributes s a ctx [] = ctx
   gathered_with_attributes s a ctx (i ∷ instructions) = gathered_with_attributes s a (with_branch_if (holds_seen s a i) ctx i) instructions

@@ -7,7 +7,7 @@ use Rattle.lol_program.specs.Compounds.{Decides, with_rest}
 use Rattle.lol_program.specs.Paths.{Path, Selectors}
 use Rattle.lol_program.specs.Programs.{Range, Program, Instruction, AreClosed, IsProgramOf, IsAt, places, all_places}
 use Rattle.lol_vm.specs.Answers.{name_tries, attribute_tries, needs_attributes, matching_ids}
-use Rattle.lol_vm.specs.Machines.{Item, AreItems, HasRanges, Matches, HoldOnce, LeftMatches, active_of, ranges_to_run, jumps_of, hereditary_jumps_of}
+use Rattle.lol_vm.specs.Machines.{OpenItem, AreItems, HasRanges, Matches, HoldOnce, LeftMatches, active_of, ranges_to_run, jumps_of, hereditary_jumps_of}
 use Rattle.lol_vm.specs.PlaceRuns.{Context, Stop, no_context, is_open_at, context_of, run, run_by_names, first_open, stop_in, places_from}
 
 -- 1. Which places are run
@@ -23,7 +23,7 @@ ProgramsHaveEachNode = (s : Selectors) (paths : List Path) (p : Program) → Are
 -- The ranges that are run for a start tag hold the place of each node whose left part matches exactly once, and no other place.
 abbrev pub RangesHoldLeftMatches : Type 0
 RangesHoldLeftMatches =
-    (s : Selectors) (paths : List Path) (p : Program) (items : List Item) (elements : List Element)
+    (s : Selectors) (paths : List Path) (p : Program) (items : List OpenItem) (elements : List Element)
     → AreClosed s → IsProgramOf s paths p → AreItems paths p items elements
     → HoldOnce paths (ranges_to_run p items (active_of items)) (LeftMatches elements)
 
@@ -63,13 +63,13 @@ RunsGiveReports =
     → GivesReport s paths p (context_of p true e (all_places ranges)) e outer
 
 -- what one context gathered, and then the other
-abbrev pub joined : Context → Context → Context
-joined a b = record { ids = a.ids ++ b.ids; jumps = a.jumps ++ b.jumps; hereditary_jumps = a.hereditary_jumps ++ b.hereditary_jumps }
+abbrev pub with_context : Context → Context → Context
+with_context a b = record { ids = a.ids ++ b.ids; jumps = a.jumps ++ b.jumps; hereditary_jumps = a.hereditary_jumps ++ b.hereditary_jumps }
 
 -- A run place by place gathers what its places give, in their order.
 abbrev pub RunsGather : Type 0
 RunsGather =
-    (p : Program) (content : Bool) (e : Element) (context : Context) (ps : List ℕ) → run p content e context ps ≡ joined context (context_of p content e ps)
+    (p : Program) (content : Bool) (e : Element) (context : Context) (ps : List ℕ) → run p content e context ps ≡ with_context context (context_of p content e ps)
 
 -- A run over places and then over others is the run over the latter, from what the former give.
 abbrev pub RunsGoOn : Type 0

@@ -8,7 +8,7 @@ use Rattle.lol_vm.specs.Matching.{matches, left_matches}
 use Rattle.lol_program.specs.Programs.{Range, Instruction, Program, IsAt, Once, all_places}
 
 -- An open element: its name, and the ranges that it gives to elements right inside it, and to all inside it.
-pub record Item : Type 0 where
+pub record OpenItem : Type 0 where
   pub name : List ℕ
   pub jumps : List Range
   pub hereditary_jumps : List Range
@@ -33,13 +33,13 @@ abbrev pub hereditary_jumps_of : Instruction → Option Range
 hereditary_jumps_of i = i.hereditary_jumps
 
 -- the item of an element inside these ones
-pub record IsItem (paths : List Path) (p : Program) (item : Item) (e : Element) (outer : List Element) : Type 0 where
+pub record IsItem (paths : List Path) (p : Program) (item : OpenItem) (e : Element) (outer : List Element) : Type 0 where
   pub name : same_name item.name e.tag.name ≡ true
   pub jumps : HasRanges jumps_of paths p (Matches e outer) item.jumps
   pub hereditary_jumps : HasRanges hereditary_jumps_of paths p (Matches e outer) item.hereditary_jumps
 
 -- The items, the innermost first, are those of the open elements. This part alone survives a refusal.
-abbrev pub AreItems : List Path → Program → List Item → List Element → Type 0
+abbrev pub AreItems : List Path → Program → List OpenItem → List Element → Type 0
 AreItems paths p [] [] = Unit {0}
 AreItems paths p (item ∷ items) (e ∷ outer) = IsItem paths p item e outer × AreItems paths p items outer
 AreItems paths p [] (e ∷ outer) = ⊥
@@ -59,21 +59,21 @@ newly_active active place ranges = map (λ r. (r, place)) (filter (λ r. not (is
 
 -- The distinct hereditary ranges of the items by first appearance, from the outermost item on, each with the place of the first
 -- item that has it, counted from the outermost, which is 0.
-abbrev pub active_of : List Item → List (Range × ℕ)
+abbrev pub active_of : List OpenItem → List (Range × ℕ)
 active_of [] = []
 active_of (item ∷ outer) = active_of outer ++ newly_active (active_of outer) (length outer) item.hereditary_jumps
 
 -- What is run for a start tag: the entry points, the last open item's jumps, the active ranges.
 
-abbrev pub last_jumps : List Item → List Range
+abbrev pub last_jumps : List OpenItem → List Range
 last_jumps [] = []
 last_jumps (item ∷ outer) = item.jumps
 
-abbrev pub ranges_of : List (Range × ℕ) → List Range
-ranges_of active = map (λ a. a.0) active
+abbrev pub ranges_of_active : List (Range × ℕ) → List Range
+ranges_of_active active = map (λ a. a.0) active
 
-abbrev pub ranges_to_run : Program → List Item → List (Range × ℕ) → List Range
-ranges_to_run p items active = p.entry ∷ (last_jumps items ++ ranges_of active)
+abbrev pub ranges_to_run : Program → List OpenItem → List (Range × ℕ) → List Range
+ranges_to_run p items active = p.entry ∷ (last_jumps items ++ ranges_of_active active)
 
 -- ranges that hold the place of each path with P once, and no other place
 pub record HoldOnce (paths : List Path) (ranges : List Range) (P : Path → Type 0) : Type 0 where
@@ -86,5 +86,5 @@ LeftMatches outer path = left_matches path outer ≡ true
 -- Items that are kept the outermost first: one more at the end makes its new ranges active, at its place.
 abbrev pub PushedItemsAreActive : Type 0
 PushedItemsAreActive =
-    (items : List Item) (item : Item)
+    (items : List OpenItem) (item : OpenItem)
     → active_of (reverse (items ++ item ∷ [])) ≡ active_of (reverse items) ++ newly_active (active_of (reverse items)) (length items) item.hereditary_jumps

@@ -36,12 +36,12 @@ names_of elements = map (λ e. e.name.lowercased) (reverse elements)
 abbrev pub AreNamed : List OpenElement → List Element → Type 0
 AreNamed elements outer = names_of elements ≡ map (λ e. lowercased e.tag.name) outer
 
-abbrev pub shown : OpenElement → List ℕ × ℕ
-shown e = (e.name.lowercased, e.number)
+abbrev pub open_name_shown : OpenElement → List ℕ × ℕ
+open_name_shown e = (e.name.lowercased, e.number)
 
 -- the code's list is that of the document's open elements
-abbrev pub Stands : List OpenElement → Document → Type 0
-Stands elements d = map shown (reverse elements) ≡ map (λ e. (lowercased e.tag.name, e.number)) d.open_elements
+abbrev pub AreOpenIn : List OpenElement → Document → Type 0
+AreOpenIn elements d = map open_name_shown (reverse elements) ≡ map (λ e. (lowercased e.tag.name, e.number)) d.open_elements
 
 -- What a test says of a name. Of a position and of attributes nothing is known.
 abbrev pub name_passes : Name → NameTest → Bool

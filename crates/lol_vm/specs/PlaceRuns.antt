@@ -9,7 +9,7 @@ use Rattle.lol_program.specs.declared.name_value.NameValue.TheVariants.{True, Fa
 
 -- 1. What all places give
 
--- What a start tag has gathered: ids, and ranges for the elements inside.
+-- What a start tag has gathered_from_places: ids, and ranges for the elements inside.
 pub record Context : Type 0 where
   pub ids : List ℕ
   pub jumps : List Range
@@ -19,15 +19,15 @@ abbrev pub no_context : Context
 no_context = record { ids = []; jumps = []; hereditary_jumps = [] }
 
 -- what the instruction at a place gives, where it holds
-abbrev pub given : {A : Type 0} → (Instruction → List A) → Element → Option Instruction → List A
-given what e None = []
-given what e (Some i) = if i.holds e then what i else []
+abbrev pub given_by : {A : Type 0} → (Instruction → List A) → Element → Option Instruction → List A
+given_by what e None = []
+given_by what e (Some i) = if i.holds e then what i else []
 
-abbrev pub gathered : {A : Type 0} → (Instruction → List A) → Program → Element → List ℕ → List A
-gathered what p e ps = flat_map (λ place. given what e (slice_get p.instructions place)) ps
+abbrev pub gathered_from_places : {A : Type 0} → (Instruction → List A) → Program → Element → List ℕ → List A
+gathered_from_places what p e ps = flat_map (λ place. given_by what e (slice_get p.instructions place)) ps
 
-abbrev pub ids_of : Instruction → List ℕ
-ids_of i = i.ids
+abbrev pub ids_list : Instruction → List ℕ
+ids_list i = i.ids
 
 abbrev pub jumps_list : Instruction → List Range
 jumps_list i = option_to_list i.jumps
@@ -35,13 +35,13 @@ jumps_list i = option_to_list i.jumps
 abbrev pub hereditary_jumps_list : Instruction → List Range
 hereditary_jumps_list i = option_to_list i.hereditary_jumps
 
--- What is gathered from places, in their order; ranges only for an element with content.
+-- What is gathered_from_places from places, in their order; ranges only for an element with content.
 abbrev pub context_of : Program → Bool → Element → List ℕ → Context
 context_of p content e ps =
     record {
-      ids = gathered ids_of p e ps;
-      jumps = if content then gathered jumps_list p e ps else [];
-      hereditary_jumps = if content then gathered hereditary_jumps_list p e ps else [];
+      ids = gathered_from_places ids_list p e ps;
+      jumps = if content then gathered_from_places jumps_list p e ps else [];
+      hereditary_jumps = if content then gathered_from_places hereditary_jumps_list p e ps else [];
     }
 
 -- 2. Place by place
@@ -63,18 +63,18 @@ abbrev pub run : Program → Bool → Element → Context → List ℕ → Conte
 run p content e context [] = context
 run p content e context (place ∷ ps) = run p content e (step_with_attributes content e context (slice_get p.instructions place)) ps
 
-abbrev pub value_of : Element → Option Instruction → NameValue
-value_of e None = False
-value_of e (Some i) = i.value e
+abbrev pub instruction_value : Element → Option Instruction → NameValue
+instruction_value e None = False
+instruction_value e (Some i) = i.value e
 
 -- the value by names of the instruction at a place
 abbrev pub value_at : Program → Element → ℕ → NameValue
-value_at p e place = value_of e (slice_get p.instructions place)
+value_at p e place = instruction_value e (slice_get p.instructions place)
 
 abbrev pub is_open_at : Program → Element → ℕ → Bool
 is_open_at p e place = is_open (value_at p e place)
 
--- Where a run without attributes ends: what it gathered, and the places that are left. None are left, or the first of them is open.
+-- Where a run without attributes ends: what it gathered_from_places, and the places that are left. None are left, or the first of them is open.
 pub record Stop : Type 0 where
   pub context : Context
   pub left : List ℕ

@@ -9,10 +9,10 @@ use Rattle.lol_program.specs.Tests.{Element}
 use Rattle.lol_program.specs.Paths.{Path, Selectors}
 use Rattle.lol_base.specs.MemberLaws.{Among, among_from_contains, contains_from_among}
 use Rattle.lol_vm.specs.Matching.{matches}
-use Rattle.lol_vm.specs.Answers.{with_number, ascending, matching_ids, report}
+use Rattle.lol_vm.specs.Answers.{with_number, ascending_once, matching_ids, report}
 use Rattle.lol_vm.specs.Laws.{IsStrictlyAscending, AscendingIsDetermined, IsReport, ids_of}
 
--- 1. Strictly ascending lists
+-- 1. Strictly ascending_once lists
 
 abbrev Ascends : List ℕ → Type 0
 Ascends [] = Unit {0}
@@ -102,18 +102,18 @@ module _ (n : ℕ) where
 
 -- 3. Reports
 
-pub ascending_ascends : (ns : List ℕ) → Ascends (ascending ns)
+pub ascending_ascends : (ns : List ℕ) → Ascends (ascending_once ns)
 ascending_ascends [] = tt
-ascending_ascends (n ∷ ns) = with_number_ascends n (ascending ns) (ascending_ascends ns)
+ascending_ascends (n ∷ ns) = with_number_ascends n (ascending_once ns) (ascending_ascends ns)
 
-among_ascending : (ns : List ℕ) (m : ℕ) → Among (ascending ns) m → Among ns m
+among_ascending : (ns : List ℕ) (m : ℕ) → Among (ascending_once ns) m → Among ns m
 among_ascending [] m h = h
-among_ascending (n ∷ ns) m h = let more = among_ascending ns m in elim (among_with_number n (ascending ns) m h) [ inl is ↦ inl is | inr a ↦ inr (more a) ]
+among_ascending (n ∷ ns) m h = let more = among_ascending ns m in elim (among_with_number n (ascending_once ns) m h) [ inl is ↦ inl is | inr a ↦ inr (more a) ]
 
-ascending_among : (ns : List ℕ) (m : ℕ) → Among ns m → Among (ascending ns) m
+ascending_among : (ns : List ℕ) (m : ℕ) → Among ns m → Among (ascending_once ns) m
 ascending_among [] m h = h
-ascending_among (n ∷ ns) m (inl is) = subst (Among (with_number n (ascending ns))) is (number_among n (ascending ns))
-ascending_among (n ∷ ns) m (inr a) = others_among n (ascending ns) m (ascending_among ns m a)
+ascending_among (n ∷ ns) m (inl is) = subst (Among (with_number n (ascending_once ns))) is (number_among n (ascending_once ns))
+ascending_among (n ∷ ns) m (inr a) = others_among n (ascending_once ns) m (ascending_among ns m a)
 
 abbrev ids_matching : List (Path × ℕ) → Element → List Element → List ℕ
 ids_matching pairs e outer = map (λ (p : Path × ℕ). p.1) (filter (λ (p : Path × ℕ). matches p.0 e outer) pairs)

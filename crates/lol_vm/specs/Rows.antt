@@ -18,13 +18,13 @@ use Rattle.lol_vm.specs.Answers.{Answer, Started, Dropped, Ended, Match, answers
 use Rattle.lol_vm.specs.Refusals.{Cause, refused}
 
 -- Selectors under ids, tags, and what is answered to each of them.
-pub record Row : Type 0 where
+pub record WorkedRun : Type 0 where
   pub pairs : List (Path × ℕ)
   pub esi : Bool
   pub events : List Event
   pub answers : List Answer
 
-abbrev pub Holds : Row → Type 0
+abbrev pub Holds : WorkedRun → Type 0
 Holds row = answers (selectors_of row.pairs) row.esi row.events ≡ row.answers
 
 -- a compound of some tests, and of one
@@ -67,7 +67,7 @@ abbrev void : ℕ → Match
 void id = record { id = id; with_content = false }
 
 -- `div p` under 0 and `div > p` under 1
-abbrev pub descendant_and_child : Row
+abbrev pub descendant_and_child : WorkedRun
 descendant_and_child =
     record {
       pairs = (Then (First (named (codes "div"))) Descendant (named (codes "p")), 0) ∷ (Then (First (named (codes "div"))) Child (named (codes "p")), 1) ∷ [];
@@ -77,7 +77,7 @@ descendant_and_child =
     }
 
 -- `.a p` under 0 and `p` under 1
-abbrev pub class_above : Row
+abbrev pub class_above : WorkedRun
 class_above =
     record {
       pairs = (Then (First (alone (class (codes "a")))) Descendant (named (codes "p")), 0) ∷ (First (named (codes "p")), 1) ∷ [];
@@ -87,7 +87,7 @@ class_above =
     }
 
 -- `div div` under 0: as many tries at each depth
-abbrev pub nested_divs : Row
+abbrev pub nested_divs : WorkedRun
 nested_divs =
     record {
       pairs = (Then (First (named (codes "div"))) Descendant (named (codes "div")), 0) ∷ [];
@@ -97,7 +97,7 @@ nested_divs =
     }
 
 -- `:not(div.foo)` under 0: attributes are asked for where the name fits
-abbrev pub not_a_compound : Row
+abbrev pub not_a_compound : WorkedRun
 not_a_compound =
     record {
       pairs = (First (alone (none_of (compound (name (codes "div") ∷ class (codes "foo") ∷ []) ∷ []))), 0) ∷ [];
@@ -107,7 +107,7 @@ not_a_compound =
     }
 
 -- `:not(:not(a, b))` under 0
-abbrev pub not_neither : Row
+abbrev pub not_neither : WorkedRun
 not_neither =
     record {
       pairs = (First (alone (none_of (alone (none_of (named (codes "a") ∷ named (codes "b") ∷ [])) ∷ []))), 0) ∷ [];
@@ -117,7 +117,7 @@ not_neither =
     }
 
 -- `:not(.a, p)` under 0
-abbrev pub neither_class_nor_name : Row
+abbrev pub neither_class_nor_name : WorkedRun
 neither_class_nor_name =
     record {
       pairs = (First (alone (none_of (alone (class (codes "a")) ∷ named (codes "p") ∷ []))), 0) ∷ [];
@@ -127,7 +127,7 @@ neither_class_nor_name =
     }
 
 -- `div:not([a*=""])` under 0
-abbrev pub not_an_empty_substring : Row
+abbrev pub not_an_empty_substring : WorkedRun
 not_an_empty_substring =
     record {
       pairs = (First (compound (none_of (alone (OfAttributes (Compares (codes "a") Substring [] CaseSensitive)) ∷ []) ∷ name (codes "div") ∷ [])), 0) ∷ [];
@@ -137,7 +137,7 @@ not_an_empty_substring =
     }
 
 -- `:not(*)` under 0 and `:not(|a)` under 1
-abbrev pub nothing_and_anything : Row
+abbrev pub nothing_and_anything : WorkedRun
 nothing_and_anything =
     record {
       pairs = (First (alone (none_of (alone (OfName AnyName) ∷ []))), 0) ∷ (First (alone (none_of (compound (name (codes "a") ∷ OfName NoName ∷ []) ∷ []))), 1) ∷ [];
@@ -147,7 +147,7 @@ nothing_and_anything =
     }
 
 -- `:is(a.x, p)` under 0
-abbrev pub some_compound : Row
+abbrev pub some_compound : WorkedRun
 some_compound =
     record {
       pairs = (First (alone (some_of (compound (name (codes "a") ∷ class (codes "x") ∷ []) ∷ named (codes "p") ∷ []))), 0) ∷ [];
@@ -157,7 +157,7 @@ some_compound =
     }
 
 -- `:not(:is(a, b))` under 0
-abbrev pub none_of_some : Row
+abbrev pub none_of_some : WorkedRun
 none_of_some =
     record {
       pairs = (First (alone (none_of (alone (some_of (named (codes "a") ∷ named (codes "b") ∷ [])) ∷ []))), 0) ∷ [];
@@ -167,7 +167,7 @@ none_of_some =
     }
 
 -- `:is(h1, h2) > a` under 0
-abbrev pub child_of_some : Row
+abbrev pub child_of_some : WorkedRun
 child_of_some =
     record {
       pairs = (Then (First (alone (some_of (named (codes "h1") ∷ named (codes "h2") ∷ [])))) Child (named (codes "a")), 0) ∷ [];
@@ -177,7 +177,7 @@ child_of_some =
     }
 
 -- `br:first-child` under 0 and `p:nth-child(2)` under 1: an element without content counts
-abbrev pub second_child : Row
+abbrev pub second_child : WorkedRun
 second_child =
     record {
       pairs =
@@ -189,7 +189,7 @@ second_child =
     }
 
 -- `span:nth-of-type(2)` under 0, whatever the case of names
-abbrev pub second_span : Row
+abbrev pub second_span : WorkedRun
 second_span =
     record {
       pairs = (First (compound (OfName (IsNthOfType (record { step = pos 0; offset = pos 2 })) ∷ name (codes "span") ∷ [])), 0) ∷ [];
@@ -199,7 +199,7 @@ second_span =
     }
 
 -- `[type="TEXT"]` under 0, without case in HTML alone
-abbrev pub caseless_in_html : Row
+abbrev pub caseless_in_html : WorkedRun
 caseless_in_html =
     record {
       pairs = (First (alone (OfAttributes (Compares (codes "type") Equal (codes "TEXT") AsciiCaseInsensitiveIfInHtmlElementInHtmlDocument))), 0) ∷ [];
@@ -210,7 +210,7 @@ caseless_in_html =
     }
 
 -- `[a*=""]` under 0, which is never true, and `:not([a*=""])` under 1
-abbrev pub empty_operand : Row
+abbrev pub empty_operand : WorkedRun
 empty_operand =
     record {
       pairs = (First (alone (OfAttributes (Compares (codes "a") Substring [] CaseSensitive))), 0)
@@ -221,7 +221,7 @@ empty_operand =
     }
 
 -- `*` under 0, with ESI: its names are void as they are spelled
-abbrev pub esi_names : Row
+abbrev pub esi_names : WorkedRun
 esi_names =
     record {
       pairs = (First (alone (OfName AnyName)), 0) ∷ [];
@@ -231,7 +231,7 @@ esi_names =
     }
 
 -- `:nth-child(2)` under 0: a dropped tag counts and isn't opened
-abbrev pub dropped_tag : Row
+abbrev pub dropped_tag : WorkedRun
 dropped_tag =
     record {
       pairs = (First (alone (OfName (IsNthChild (record { step = pos 0; offset = pos 2 })))), 0) ∷ [];
@@ -241,7 +241,7 @@ dropped_tag =
     }
 
 -- `circle` under 0: attributes are always asked for outside HTML, and a tag that closes itself isn't opened
-abbrev pub self_closing_tag : Row
+abbrev pub self_closing_tag : WorkedRun
 self_closing_tag =
     record {
       pairs = (First (named (codes "circle")), 0) ∷ [];
@@ -251,7 +251,7 @@ self_closing_tag =
     }
 
 -- `a[href]` under 0: attributes are asked for where the name fits
-abbrev pub links : Row
+abbrev pub links : WorkedRun
 links =
     record {
       pairs = (First (compound (OfAttributes (HasAttribute (codes "href")) ∷ name (codes "a") ∷ [])), 0) ∷ [];
@@ -261,7 +261,7 @@ links =
     }
 
 -- `:nth-child(-2n+3)` under 0: the first and the third, and an `html` tag that closes itself is opened
-abbrev pub negative_step : Row
+abbrev pub negative_step : WorkedRun
 negative_step =
     record {
       pairs = (First (alone (OfName (IsNthChild (record { step = negsuc 1; offset = pos 3 })))), 0) ∷ [];
@@ -271,7 +271,7 @@ negative_step =
     }
 
 -- `mi` under 0 in MathML: asked for, and opened unless the tag closes itself
-abbrev pub of_mathml : Row
+abbrev pub of_mathml : WorkedRun
 of_mathml =
     record {
       pairs = (First (named (codes "mi")), 0) ∷ [];
@@ -281,8 +281,8 @@ of_mathml =
     }
 
 -- An HTML element with these attributes, at a third place that is the second of its name
-abbrev pub with_attributes : List Attribute → Element
-with_attributes attributes =
+abbrev pub element_with_attributes : List Attribute → Element
+element_with_attributes attributes =
     record { number = 0; tag = record { name = codes "P"; namespace = Html; attributes = attributes; self_closing = false; finish = true }; position = 3; typed_position = 2 }
 
 abbrev pub written : List ℕ → List ℕ → Attribute
@@ -293,7 +293,7 @@ unwritten attribute = record { name = attribute; value = None }
 
 -- whether a value stands to an operand, byte by byte
 abbrev pub stands : AttrSelectorOperator → List ℕ → List ℕ → Bool
-stands operator operand value = attribute_holds (Compares (codes "a") operator operand CaseSensitive) (with_attributes (written (codes "a") value ∷ []))
+stands operator operand value = attribute_holds (Compares (codes "a") operator operand CaseSensitive) (element_with_attributes (written (codes "a") value ∷ []))
 
 -- the same for each operator: Equal, Includes, DashMatch, Prefix, Substring, Suffix
 abbrev pub all_stand : List ℕ → List ℕ → List Bool
@@ -302,32 +302,32 @@ all_stand operand value =
 
 -- whether an element has an id, and a class, of this name
 abbrev pub has_id : List ℕ → List Attribute → Bool
-has_id id attributes = attribute_holds (HasId id) (with_attributes attributes)
+has_id id attributes = attribute_holds (HasId id) (element_with_attributes attributes)
 
 abbrev pub has_class : List ℕ → List ℕ → Bool
-has_class class value = attribute_holds (HasClass class) (with_attributes (written (codes "class") value ∷ []))
+has_class class value = attribute_holds (HasClass class) (element_with_attributes (written (codes "class") value ∷ []))
 
 -- the value by names of a test at the element
-abbrev pub value_at : Test → NameValue
-value_at test = by_names (alone test) (with_attributes [])
+abbrev pub value_here : Test → NameValue
+value_here test = by_names (alone test) (element_with_attributes [])
 
 -- The value by names of each kind of test.
 pub record AreValues : Type 0 where
-  pub any : value_at (OfName AnyName) ≡ True
-  pub none : value_at (OfName NoName) ≡ False
-  pub same_name : value_at (name (codes "p")) ≡ True
-  pub other_name : value_at (name (codes "q")) ≡ False
-  pub third : value_at (OfName (IsNthChild (record { step = pos 0; offset = pos 3 }))) ≡ True
-  pub second_of_type : value_at (OfName (IsNthOfType (record { step = pos 2; offset = pos 0 }))) ≡ True
-  pub attribute : value_at (class (codes "a")) ≡ Open
-  pub never : value_at (OfAttributes (Compares (codes "a") Prefix [] CaseSensitive)) ≡ Open
-  pub none_of_open : value_at (none_of (alone (class (codes "a")) ∷ [])) ≡ Open
-  pub none_of_true : value_at (none_of (alone (class (codes "a")) ∷ named (codes "p") ∷ [])) ≡ False
-  pub none_of_false : value_at (none_of (named (codes "q") ∷ [])) ≡ True
-  pub some_of_open : value_at (some_of (named (codes "q") ∷ alone (class (codes "a")) ∷ [])) ≡ Open
-  pub some_of_true : value_at (some_of (alone (class (codes "a")) ∷ named (codes "p") ∷ [])) ≡ True
-  pub some_of_none : value_at (some_of []) ≡ False
-  pub false_and_open : value_at (some_of (compound (class (codes "a") ∷ name (codes "q") ∷ []) ∷ [])) ≡ False
+  pub any : value_here (OfName AnyName) ≡ True
+  pub none : value_here (OfName NoName) ≡ False
+  pub same_name : value_here (name (codes "p")) ≡ True
+  pub other_name : value_here (name (codes "q")) ≡ False
+  pub third : value_here (OfName (IsNthChild (record { step = pos 0; offset = pos 3 }))) ≡ True
+  pub second_of_type : value_here (OfName (IsNthOfType (record { step = pos 2; offset = pos 0 }))) ≡ True
+  pub attribute : value_here (class (codes "a")) ≡ Open
+  pub never : value_here (OfAttributes (Compares (codes "a") Prefix [] CaseSensitive)) ≡ Open
+  pub none_of_open : value_here (none_of (alone (class (codes "a")) ∷ [])) ≡ Open
+  pub none_of_true : value_here (none_of (alone (class (codes "a")) ∷ named (codes "p") ∷ [])) ≡ False
+  pub none_of_false : value_here (none_of (named (codes "q") ∷ [])) ≡ True
+  pub some_of_open : value_here (some_of (named (codes "q") ∷ alone (class (codes "a")) ∷ [])) ≡ Open
+  pub some_of_true : value_here (some_of (alone (class (codes "a")) ∷ named (codes "p") ∷ [])) ≡ True
+  pub some_of_none : value_here (some_of []) ≡ False
+  pub false_and_open : value_here (some_of (compound (class (codes "a") ∷ name (codes "q") ∷ []) ∷ [])) ≡ False
 
 -- `*` under 0, over so many nested `d`, with items of 64 bytes and a fresh limiter of this maximum: what is refused
 abbrev pub refused_at : ℕ → ℕ → Option (ℕ × Cause)

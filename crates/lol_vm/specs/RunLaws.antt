@@ -30,11 +30,11 @@ MarksTellContent =
 
 -- 2. One id
 
--- whether an answer reports an id
-abbrev pub reports : ℕ → Answer → Bool
-reports id (Started matched asked name_tries attribute_tries) = list_any (λ m. m.id == id) matched
-reports id Dropped = false
-reports id (Ended closed) = false
+-- whether an answer reports_id an id
+abbrev pub reports_id : ℕ → Answer → Bool
+reports_id id (Started matched asked name_tries attribute_tries) = list_any (λ m. m.id == id) matched
+reports_id id Dropped = false
+reports_id id (Ended closed) = false
 
 -- the same paths under an id
 abbrev pub SamePathsUnder : ℕ → Selectors → Selectors → Type 0
@@ -48,7 +48,7 @@ IsFinished s esi events = Contains (answers s esi events) Dropped → ⊥
 abbrev pub OneIdsPathsDecide : Type 0
 OneIdsPathsDecide =
     (s t : Selectors) (id : ℕ) → SamePathsUnder id s t → (esi : Bool) (events : List Event) → IsFinished s esi events → IsFinished t esi events
-    → map (reports id) (answers s esi events) ≡ map (reports id) (answers t esi events)
+    → map (reports_id id) (answers s esi events) ≡ map (reports_id id) (answers t esi events)
 
 -- 3. End tags
 

@@ -3,7 +3,7 @@ use Rattle.std.specs.Prelude.{ℕ, ◌≡◌, ◌+◌, ◌≤◌, if◌then◌el
 use Rattle.std.specs.Option.{option_or}
 use Rattle.std.specs.declared.ops.Range.{Range}
 use Rattle.lol_base.specs.LocalNames.{Name, same_local_name}
-use Rattle.lol_vm.specs.Active.{active_of}
+use Rattle.lol_vm.specs.Active.{active_ranges_of}
 use Rattle.lol_vm.specs.Stacks.{items_in, active_in, places_in, counted_in, place_to_close, IsSame, IsPushed, IsClosed}
 use Rattle.lol_vm.specs.declared.stack_item.StackItemOf.{StackItemOf}
 use Rattle.lol_vm.specs.declared.stack.StackOf.{StackOf}
@@ -11,14 +11,14 @@ use Rattle.lol_vm.specs.declared.stack.StackNames.{StackNames}
 
 module _ {E : Type 0} where
   -- the hereditary ranges of elements
-  abbrev pub hereditary_jumps_of : List (StackItemOf Name E) → List (List (Range ℕ))
-  hereditary_jumps_of items = map (λ item. item.hereditary_jumps) items
+  abbrev pub hereditary_jumps_in : List (StackItemOf Name E) → List (List (Range ℕ))
+  hereditary_jumps_in items = map (λ item. item.hereditary_jumps) items
 
   -- the places of the elements of a name, where the first element stands at this place
-  abbrev pub places_from : ℕ → List (StackItemOf Name E) → Name → List ℕ
-  places_from place [] name = []
-  places_from place (item ∷ items) name =
-      if same_local_name item.local_name name then place ∷ places_from (place + 1) items name else places_from (place + 1) items name
+  abbrev pub name_places_from : ℕ → List (StackItemOf Name E) → Name → List ℕ
+  name_places_from place [] name = []
+  name_places_from place (item ∷ items) name =
+      if same_local_name item.local_name name then place ∷ name_places_from (place + 1) items name else name_places_from (place + 1) items name
 
   -- the last of these places
   abbrev pub last_place_from : ℕ → List (StackItemOf Name E) → Name → Option ℕ
@@ -32,8 +32,8 @@ module _ {E : Type 0} where
 
   -- The active ranges are those of the open elements, and the places of each name are theirs.
   pub record IsSound (s : StackOf Name StackNames E) : Type 0 where
-    pub active : active_in s ≡ active_of (hereditary_jumps_of (items_in s))
-    pub places : (name : Name) → places_in s name ≡ places_from 0 (items_in s) name
+    pub active : active_in s ≡ active_ranges_of (hereditary_jumps_in (items_in s))
+    pub places : (name : Name) → places_in s name ≡ name_places_from 0 (items_in s) name
 
 -- What is so of a new stack, and what each call keeps.
 

@@ -11,7 +11,7 @@ use Rattle.lol_program.specs.Programs.{Range, Program, Once}
 use Rattle.lol_program.specs.ProgramViews.{range_shown}
 use Rattle.lol_program.specs.declared.selector_state.SelectorState.{SelectorState}
 use Rattle.lol_vm.specs.Documents.{Document, element_of}
-use Rattle.lol_vm.specs.Machines.{Item, active_of}
+use Rattle.lol_vm.specs.Machines.{OpenItem, active_of}
 use Rattle.lol_vm.specs.PlaceRuns.{Context}
 use Rattle.lol_vm.specs.Standing.{Machine, AreCounted, new_machine, counted, opened, ended}
 use Rattle.lol_vm.specs.Standing as standing
@@ -25,12 +25,12 @@ use Rattle.lol_vm.specs.declared.stack.StackNames.{StackNames}
 -- 1. What a stack shows
 
 module _ {E : Type 0} where
-  abbrev pub item_shown : StackItemOf Name E → Item
+  abbrev pub item_shown : StackItemOf Name E → OpenItem
   item_shown item =
       record { name = item.local_name.lowercased; jumps = map range_shown item.jumps; hereditary_jumps = map range_shown item.hereditary_jumps }
 
   -- the open elements, the innermost first
-  abbrev pub items_shown : List (StackItemOf Name E) → List Item
+  abbrev pub items_shown : List (StackItemOf Name E) → List OpenItem
   items_shown items = reverse (map item_shown items)
 
   -- how many children each of them had
@@ -41,7 +41,7 @@ abbrev pub active_shown : List (std.Range ℕ × ℕ) → List (Range × ℕ)
 active_shown active = map (λ a. (range_shown a.0, a.1)) active
 
 -- an item with its name in ASCII lower case
-abbrev pub in_lower_case : Item → Item
+abbrev pub in_lower_case : OpenItem → OpenItem
 in_lower_case item = record { name = lowercased item.name; jumps = item.jumps; hereditary_jumps = item.hereditary_jumps }
 
 -- 2. Counts by type
@@ -122,7 +122,7 @@ CountingStackKeeps E =
 
 -- the counters of the innermost open element, or of the root, for a child of this name
 pub record AreSeen {E : Type 0} (s : StackOf Name StackNames E) (m : Machine) (name : List ℕ) : Type 0 where
-  pub cumulative : last_count s ≡ standing.last_count m
+  pub cumulative : last_count s ≡ standing.innermost_count m
   pub typed : typed_count s (local_name name) ≡ (if m.program.by_type then Some (m.typed (length m.items) name) else None)
 
 -- They are seen once a child of that name is counted.
@@ -134,7 +134,7 @@ CountersAreSeen E =
 abbrev pub TypedCountsAreFewer : Type 0
 TypedCountsAreFewer =
     (m : Machine) (d : Document) (name : List ℕ) → AreCounted m d → length m.items ≡ length d.open_elements → m.program.by_type ≡ true
-    → m.typed (length m.items) name ≤ standing.last_count m
+    → m.typed (length m.items) name ≤ standing.innermost_count m
 
 -- What tests see through a state of these counters, once a start tag is counted, is what they see of its element.
 abbrev pub StatesShowElements : Type 0 → Type 0

@@ -6,7 +6,7 @@ use Rattle.lol_base.specs.LocalNames.{Name, same_local_name}
 use Rattle.lol_memory.specs.LimitedVec.{LimitedVec, pushed, with_items}
 use Rattle.lol_vm.specs.Active.{activated}
 use Rattle.lol_vm.specs.Levels.{without_last}
-use Rattle.lol_vm.specs.TypedCounts.{TypedCount, counted, cut_to, count_at}
+use Rattle.lol_vm.specs.TypedCounts.{TypedCount, counted_by_type, cut_to, count_at}
 use Rattle.lol_vm.specs.OpenPlaces.{places_of}
 use Rattle.lol_vm.specs.declared.stack_item.StackItemOf.{StackItemOf}
 use Rattle.lol_vm.specs.declared.stack.StackOf.{StackOf}
@@ -89,9 +89,9 @@ count_by_type (Some ts) level name = count_at ts level name
 abbrev pub typed_count : {E : Type 0} → StackOf Name StackNames E → Name → Option ℕ
 typed_count s name = count_by_type (typed_in s) (length (items_in s)) name
 
--- A child of a name is counted: by the counter of the last open element, or of the root, and by type.
+-- A child of a name is counted_by_type: by the counter of the last open element, or of the root, and by type.
 abbrev pub counted_in : {E : Type 0} → StackOf Name StackNames E → Name → StackOf Name StackNames E
-counted_in s name = child_counted (with_typed s (option_map (λ ts. counted ts (length (items_in s)) name) (typed_in s)))
+counted_in s name = child_counted (with_typed s (option_map (λ ts. counted_by_type ts (length (items_in s)) name) (typed_in s)))
 
 -- 3. Opening and closing
 

@@ -7,10 +7,10 @@ use Rattle.lol_program.specs.Tests.{Element, is_html}
 use Rattle.lol_program.specs.Paths.{Path, Selectors}
 use Rattle.lol_vm.specs.Events.{Event, Start, End, has_content}
 use Rattle.lol_vm.specs.Documents.{Document, Child, empty, element_of, children_of, typed_children_of, after_end, closed}
-use Rattle.lol_vm.specs.Answers.{document, after, is_dropped, asks, ascending, matching_ids, name_tries, attribute_tries}
+use Rattle.lol_vm.specs.Answers.{document, after, is_dropped, asks, ascending_once, matching_ids, name_tries, attribute_tries}
 use Rattle.lol_vm.specs.Refusals.{longest}
 use Rattle.lol_program.specs.Programs.{Range, Program, IsProgramOf, AreClosed, all_places}
-use Rattle.lol_vm.specs.Machines.{Item, AreItems, active_of, newly_active, ranges_to_run}
+use Rattle.lol_vm.specs.Machines.{OpenItem, AreItems, active_of, newly_active, ranges_to_run}
 use Rattle.lol_vm.specs.PlaceRuns.{Context, context_of, is_open_at, run}
 use Rattle.lol_vm.specs.MachineLaws.{IsRequest, starts_open, started_by_names, sum_of_lengths}
 
@@ -20,7 +20,7 @@ use Rattle.lol_vm.specs.MachineLaws.{IsRequest, starts_open, started_by_names, s
 pub record Machine : Type 0 where
   pub program : Program
   pub esi : Bool
-  pub items : List Item
+  pub items : List OpenItem
   pub active : List (Range × ℕ)
   pub root_children : ℕ
   pub children : List ℕ
@@ -112,14 +112,14 @@ cut n m =
       typed = λ level name. if nat_le level (length (drop n m.items)) then m.typed level name else 0;
     }
 
--- how many items an end tag closes, by the place of the first of its name
-abbrev pub closes : Option ℕ → ℕ
-closes None = 0
-closes (Some place) = place + 1
+-- how many items an end tag closed_count, by the place of the first of its name
+abbrev pub closed_count : Option ℕ → ℕ
+closed_count None = 0
+closed_count (Some place) = place + 1
 
--- an end tag closes the innermost item of its name and all inside it
+-- an end tag closed_count the innermost item of its name and all inside it
 abbrev pub ended : Machine → List ℕ → Machine
-ended m name = cut (closes (position (λ item. same_name item.name name) m.items)) m
+ended m name = cut (closed_count (position (λ item. same_name item.name name) m.items)) m
 
 -- the ranges that are run for a start tag
 abbrev pub ranges_of_machine : Machine → List Range
@@ -175,14 +175,14 @@ or_root [] root = root
 or_root (c ∷ children) root = c
 
 -- the counter of the innermost open element, or the root's
-abbrev pub last_count : Machine → ℕ
-last_count m = or_root m.children m.root_children
+abbrev pub innermost_count : Machine → ℕ
+innermost_count m = or_root m.children m.root_children
 
 -- The counters of a counted start tag are its element's places.
 abbrev pub CountersArePlaces : Type 0
 CountersArePlaces =
     (m : Machine) (d : Document) (tag : StartTag) → AreCounted m d → length m.items ≡ length d.open_elements
-    → (last_count (counted m tag.name) ≡ (element_of d tag).position)
+    → (innermost_count (counted m tag.name) ≡ (element_of d tag).position)
     × (m.program.by_type ≡ true → (counted m tag.name).typed (length m.items) tag.name ≡ (element_of d tag).typed_position)
 
 -- What a machine answers to a start tag: what it asks, reports and counts is what the definition says.
@@ -190,7 +190,7 @@ pub record AnswersStart (s : Selectors) (m : Machine) (e : Element) (outer : Lis
   pub asked :
       (not (is_html e.tag.namespace) || starts_open m.program e (started_by_names m.program true e (ranges_of_machine m)).left)
       ≡ asks s e outer
-  pub matched : ascending (context_of m.program true e (all_places (ranges_of_machine m))).ids ≡ matching_ids s.pairs e outer
+  pub matched : ascending_once (context_of m.program true e (all_places (ranges_of_machine m))).ids ≡ matching_ids s.pairs e outer
   pub names : sum_of_lengths (ranges_of_machine m) ≡ name_tries s.nodes outer
   pub attributes : count_by (is_open_at m.program e) (all_places (ranges_of_machine m)) ≡ attribute_tries s.nodes e outer
 
@@ -240,4 +240,4 @@ abbrev pub EndsHandOut : Type 0
 EndsHandOut =
     (paths : List Path) (m : Machine) (d : Document) (name : List ℕ) (numbers : List ℕ)
     → AreItems paths m.program m.items d.open_elements → numbers ≡ map (λ e. e.number) d.open_elements
-    → reverse (take (closes (position (λ item. same_name item.name name) m.items)) numbers) ≡ closed name d
+    → reverse (take (closed_count (position (λ item. same_name item.name name) m.items)) numbers) ≡ closed name d

@@ -2,7 +2,7 @@
 use Rattle.std.specs.Prelude.{ℕ, ◌≡◌, ◌<◌, Bool, if◌then◌else◌, nat_lt, List, [], ◌∷◌, ◌++◌, map, filter, Option, MatchBool}
 use Rattle.std.specs.List.{list_any, list_all}
 use Rattle.lol_base.specs.LocalNames.{Name, same_local_name}
-use Rattle.lol_vm.specs.Levels.{one_more, is_at, count_if_at}
+use Rattle.lol_vm.specs.Levels.{one_more, is_at_level, count_if_at}
 
 -- A counter of the children of one name that an element has had: its level (how many elements were open), the name, the count.
 pub record TypedCount : Type 0 where
@@ -25,21 +25,21 @@ level_of t = (t.level, t.count)
 abbrev pub levels_of : Name → List TypedCount → List (ℕ × ℕ)
 levels_of name ts = map level_of (filter (is_of name) ts)
 
--- What the last counter of a name has counted, if it is at this level.
+-- What the last counter of a name has counted_by_type, if it is at this level.
 abbrev pub count_at : List TypedCount → ℕ → Name → Option ℕ
 count_at ts level name = count_if_at level (levels_of name ts)
 
--- with one more counted by the last counter of a name
+-- with one more counted_by_type by the last counter of a name
 abbrev pub last_counted : List TypedCount → Name → List TypedCount
 last_counted [] name = []
 last_counted (t ∷ ts) name =
     if list_any (is_of name) ts then t ∷ last_counted ts name
     else (if same_local_name t.name name then record t { count = one_more t.count } else t) ∷ ts
 
--- A child of a name is counted at a level: by the last counter of that name, if it is at that level, and else by a new one.
-abbrev pub counted : List TypedCount → ℕ → Name → List TypedCount
-counted ts level name =
-    if is_at level (levels_of name ts) then last_counted ts name else ts ++ record { level = level; name = name; count = 1 } ∷ []
+-- A child of a name is counted_by_type at a level: by the last counter of that name, if it is at that level, and else by a new one.
+abbrev pub counted_by_type : List TypedCount → ℕ → Name → List TypedCount
+counted_by_type ts level name =
+    if is_at_level level (levels_of name ts) then last_counted ts name else ts ++ record { level = level; name = name; count = 1 } ∷ []
 
 abbrev pub all_above : ℕ → List TypedCount → Bool
 all_above level ts = list_all (λ t. nat_lt level t.level) ts

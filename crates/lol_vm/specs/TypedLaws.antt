@@ -3,12 +3,12 @@ use Rattle.std.specs.Prelude.{ℕ, ◌+◌, ◌≤◌, ◌<◌, ◌≡◌, ◌&&
 use Rattle.std.specs.Str.{bytes_eq}
 use Rattle.lol_base.specs.LocalNames.{Name}
 use Rattle.lol_program.specs.Counters.{full_count}
-use Rattle.lol_vm.specs.TypedCounts.{TypedCount, counted, cut_to, count_at, levels_of}
+use Rattle.lol_vm.specs.TypedCounts.{TypedCount, counted_by_type, cut_to, count_at, levels_of}
 
 abbrev pub contributes : ℕ → List ℕ → TypedCount → ℕ
 contributes level name t = if (t.level == level) && bytes_eq t.name.lowercased name then t.count else 0
 
--- What is counted of a name, by its bytes in lower case, at a level.
+-- What is counted_by_type of a name, by its bytes in lower case, at a level.
 abbrev pub typed_of : List TypedCount → ℕ → List ℕ → ℕ
 typed_of [] level name = 0
 typed_of (t ∷ ts) level name = contributes level name t + typed_of ts level name
@@ -18,11 +18,11 @@ abbrev pub IsAscending : ℕ → List TypedCount → Type 0
 IsAscending level [] = Unit {0}
 IsAscending level (t ∷ ts) = (level ≤ t.level) × IsAscending t.level ts
 
--- A child that is counted is one more at its level and name, and changes nothing else.
+-- A child that is counted_by_type is one more at its level and name, and changes nothing else.
 abbrev pub CountingAddsOne : Type 0
 CountingAddsOne =
     (ts : List TypedCount) (level : ℕ) (name : Name) → typed_of ts level name.lowercased < full_count → (l : ℕ) (q : List ℕ)
-    → typed_of (counted ts level name) l q ≡ typed_of ts l q + (if (level == l) && bytes_eq name.lowercased q then 1 else 0)
+    → typed_of (counted_by_type ts level name) l q ≡ typed_of ts l q + (if (level == l) && bytes_eq name.lowercased q then 1 else 0)
 
 -- What is cut off are the levels above.
 abbrev pub CuttingDropsAbove : Type 0
@@ -36,7 +36,7 @@ IsRising level [] = Unit {0}
 IsRising level (x ∷ []) = x.0 ≤ level
 IsRising level (x ∷ y ∷ xs) = (x.0 < y.0) × IsRising level (y ∷ xs)
 
--- The counter that is found for a name at a level, not below one that the name has a counter at, has counted what is counted there.
+-- The counter that is found for a name at a level, not below one that the name has a counter at, has counted_by_type what is counted_by_type there.
 abbrev pub CountsAtTheirLevel : Type 0
 CountsAtTheirLevel =
     (ts : List TypedCount) (level : ℕ) (name : Name) → IsRising level (levels_of name ts) → unwrap_or (count_at ts level name) 0 ≡ typed_of ts level name.lowercased

@@ -7,7 +7,7 @@ use Rattle.lol_base.specs.declared.start_tag.AuxStartTagInfo.{AuxStartTagInfo}
 use Rattle.lol_memory.specs.declared.match_info.MatchInfo.{MatchInfo}
 use Rattle.lol_program.specs.Paths.{Selectors}
 use Rattle.lol_program.specs.Asts.{pairs_of, nodes_of}
-use Rattle.lol_program.specs.Tries.{name_tries, attribute_tries}
+use Rattle.lol_program.specs.Tries.{names_counted, attributes_counted}
 use Rattle.lol_program.specs.declared.ast.Ast.{Ast}
 use Rattle.lol_vm.specs.Events as events
 use Rattle.lol_vm.specs.Answers as answers
@@ -41,7 +41,7 @@ match_of m = record { id = m.match_id; with_content = m.with_content }
 
 -- The answer that a report gives.
 abbrev pub answer_of : TagReport → Answer
-answer_of (Started matched asked tries) = answers.Started (map match_of matched.items) asked (name_tries tries) (attribute_tries tries)
+answer_of (Started matched asked tries) = answers.Started (map match_of matched.items) asked (names_counted tries) (attributes_counted tries)
 answer_of Dropped = answers.Dropped
 answer_of (Ended closed) = answers.Ended closed.items
 

@@ -1,7 +1,7 @@
 //! Ranges that hold for all elements inside the open ones.
 
 ghost use Rattle.std.specs.Prelude.{◌≡◌, ℕ, ◌+◌, ◌≤◌, length, filter, take, nat_lt, vec_len, vec_capacity, OnOk, OnErr, []};
-ghost use Rattle.lol_vm.specs.Active.{activated, is_active};
+ghost use Rattle.lol_vm.specs.Active.{activated, is_range_active};
 
 use lol_program::AddressRange;
 use std::alloc::{AllocError, Global};
@@ -86,7 +86,7 @@ fn add_missing(active: &mut Vec<(AddressRange, usize)>, ranges: &[AddressRange],
 }
 
 fn contains(active: &[(AddressRange, usize)], range: &AddressRange) -> bool
-    ensures { result ≡ is_active active.now range.now }
+    ensures { result ≡ is_range_active active.now range.now }
 {
     active.iter().any(|(other, _)| other.start == range.start && other.end == range.end)
 }

@@ -4,10 +4,10 @@ ghost use Rattle.std.specs.Prelude.{◌≡◌, ℕ, ◌+◌, ◌++◌, ◌∷◌
 ghost use Rattle.std.specs.Option.{option_copied};
 ghost use Rattle.std.specs.HashMap.{get};
 ghost use Rattle.lol_base.specs.LocalNames.{Name, same_local_name};
-ghost use Rattle.lol_vm.specs.Levels.{is_at, counted_last, without_last, count_if_at};
-ghost use Rattle.lol_vm.specs.CounterLists.{levels_of};
+ghost use Rattle.lol_vm.specs.Levels.{is_at_level, counted_at_last, without_last, count_if_at};
+ghost use Rattle.lol_vm.specs.CounterLists.{list_levels};
 ghost use Rattle.lol_vm.specs.CounterMaps.{counters_of};
-ghost use Rattle.lol_vm.specs.TypedCounts.{counted, cut_to, key_of, count_at, PopsAbove};
+ghost use Rattle.lol_vm.specs.TypedCounts.{counted_by_type, cut_to, key_of, count_at, PopsAbove};
 
 use lol_base::LocalName;
 use lol_program::ChildCounter;
@@ -31,9 +31,9 @@ pub struct CounterList {
 }
 
 impl CounterList {
-    /// One counter, which has counted one, at the level `start`. It takes no memory.
+    /// One counter, which has counted_by_type one, at the level `start`. It takes no memory.
     pub fn new(alloc: Global, start: usize) -> Self
-        ensures { levels_of result ≡ (start, 1) ∷ [] }
+        ensures { list_levels result ≡ (start, 1) ∷ [] }
     {
         CounterList {
             items: Vec::new(alloc),
@@ -46,8 +46,8 @@ impl CounterList {
 
     /// Counts one more at the last level, if that is `index`; answers whether it is. A full counter stays.
     fn count(&mut self, index: usize) -> bool
-        ensures is { result ≡ is_at index (levels_of self.old) }
-        ensures counted { levels_of self.new ≡ (if result then counted_last (levels_of self.old) else levels_of self.old) }
+        ensures is { result ≡ is_at_level index (list_levels self.old) }
+        ensures counted { list_levels self.new ≡ (if result then counted_at_last (list_levels self.old) else list_levels self.old) }
     {
         let CounterItem {
             counter,
@@ -64,7 +64,7 @@ impl CounterList {
 
     /// The last counter, if it is at this level.
     fn counter_at(&self, index: usize) -> Option<&ChildCounter>
-        ensures { option_copied result ≡ count_if_at index (levels_of self.now) }
+        ensures { option_copied result ≡ count_if_at index (list_levels self.now) }
     {
         if self.current.index == index {
             Some(&self.current.counter)
@@ -73,10 +73,10 @@ impl CounterList {
         }
     }
 
-    /// Starts a counter at one more level, which has counted one.
+    /// Starts a counter at one more level, which has counted_by_type one.
     fn push(&mut self, index: usize) -> Result<(), AllocError>
-        ensures ok { OnOk result (levels_of self.new ≡ levels_of self.old ++ (index, 1) ∷ []) }
-        ensures err { OnErr result (levels_of self.new ≡ levels_of self.old) }
+        ensures ok { OnOk result (list_levels self.new ≡ list_levels self.old ++ (index, 1) ∷ []) }
+        ensures err { OnErr result (list_levels self.new ≡ list_levels self.old) }
     {
         self.items.reserve(1)?;
         let started = CounterItem {
@@ -90,7 +90,7 @@ impl CounterList {
 
     /// Drops the last counter, unless it is the only one; answers whether it was dropped.
     fn pop(&mut self) -> bool
-        ensures { MatchBool result (levels_of self.new ≡ without_last (levels_of self.old)) (without_last (levels_of self.old) ≡ []) }
+        ensures { MatchBool result (list_levels self.new ≡ without_last (list_levels self.old)) (without_last (list_levels self.old) ≡ []) }
     {
         match self.items.pop() {
             Some(outer) => {
@@ -121,8 +121,8 @@ impl CounterLists {
 
     /// Counts one more at the name's last level, if that is `index`; answers whether it is.
     fn count(&mut self, name: &LocalName<'static>, index: usize) -> bool
-        ensures is { result ≡ is_at index (counters_of self.old name.now) }
-        ensures counted { (q : Name) → counters_of self.new q ≡ (if same_local_name name.now q then (if result then counted_last (counters_of self.old q) else counters_of self.old q) else counters_of self.old q) }
+        ensures is { result ≡ is_at_level index (counters_of self.old name.now) }
+        ensures counted { (q : Name) → counters_of self.new q ≡ (if same_local_name name.now q then (if result then counted_at_last (counters_of self.old q) else counters_of self.old q) else counters_of self.old q) }
     {
         match self.map.get_mut(name) {
             Some(list) => list.count(index),
@@ -130,7 +130,7 @@ impl CounterLists {
         }
     }
 
-    /// Starts a counter of the name at one more level, which has counted one.
+    /// Starts a counter of the name at one more level, which has counted_by_type one.
     fn start(&mut self, name: &LocalName<'static>, index: usize) -> Result<(), AllocError>
         ensures ok { (q : Name) → OnOk result (counters_of self.new q ≡ (if same_local_name name.now q then counters_of self.old q ++ (index, 1) ∷ [] else counters_of self.old q)) }
         ensures err { (q : Name) → OnErr result (counters_of self.new q ≡ counters_of self.old q) }
@@ -175,7 +175,7 @@ impl CounterLists {
 }
 
 /// The counters of children by type of the open elements (lol_html's `TypedChildCounterMap`). They are kept in the order in which they
-/// were started; the levels ascend where each child is counted at a level that is not below one that is kept.
+/// were started; the levels ascend where each child is counted_by_type at a level that is not below one that is kept.
 #[derive(Drop)]
 pub struct TypedChildCounterMap {
     lists: CounterLists,
@@ -189,12 +189,12 @@ impl Model for TypedChildCounterMap {
 
     ghost Value = { List TypedCount };
 
-    ghost use Rattle.lol_vm.specs.TypedViews.{joined, AreLevels};
+    ghost use Rattle.lol_vm.specs.TypedViews.{typed_counts_of, AreLevels};
     ghost use Rattle.lol_vm.specs.CounterMaps.{counters_of};
 
-    ghost view = { λ t. joined t.kept.items (counters_of t.lists) };
+    ghost view = { λ t. typed_counts_of t.kept.items (counters_of t.lists) };
 
-    ghost invariant = { λ t. AreLevels (counters_of t.lists) (joined t.kept.items (counters_of t.lists)) };
+    ghost invariant = { λ t. AreLevels (counters_of t.lists) (typed_counts_of t.kept.items (counters_of t.lists)) };
 }
 
 impl TypedChildCounterMap {
@@ -212,7 +212,7 @@ impl TypedChildCounterMap {
     /// Counts a child of this name at the level `index`, which is not below a level that is kept, and whose counter for the name is not
     /// full. It is refused only for want of memory, and then nothing has changed.
     pub fn add_child(&mut self, name: &LocalName<'_>, index: usize) -> Result<(), AllocError>
-        ensures ok { OnOk result (self.new ≡ counted self.old index name.now) }
+        ensures ok { OnOk result (self.new ≡ counted_by_type self.old index name.now) }
         ensures err { OnErr result (self.new ≡ self.old) }
     {
         let name = name.try_clone(self.alloc)?;

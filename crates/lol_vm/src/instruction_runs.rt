@@ -2,8 +2,8 @@
 
 ghost use Rattle.std.specs.Prelude.{◌≡◌, ◌+◌, ◌-◌, ◌≤◌, IfOk, Ok, Some, length};
 ghost use Rattle.lol_program.specs.Compiled.{sight};
-ghost use Rattle.lol_program.specs.Tries.{name_tries, attribute_tries};
-ghost use Rattle.lol_vm.specs.InstructionRuns.{AreRunnable, all_at, place_in, IsStopIn, HasRoomFor, IsInsideOf, ranges_in, ranges_from, instructions_at, open_among, first_open_from, tried_until, gathered_by_names, gathered_with_attributes};
+ghost use Rattle.lol_program.specs.Tries.{names_counted, attributes_counted};
+ghost use Rattle.lol_vm.specs.InstructionRuns.{AreRunnable, all_at, place_in, IsStopIn, HasTriesLeft, IsInsideOf, ranges_in, ranges_from, instructions_at, open_among, first_open_from, tried_until, gathered_by_names, gathered_with_attributes};
 
 use crate::element_data::ElementData;
 use crate::execution_ctx::ExecutionCtx;
@@ -22,13 +22,13 @@ pub(crate) fn try_instructions<E: ElementData>(
     ctx: &mut ExecutionCtx<'_, E>,
     tries: &mut Tries,
 ) -> Result<Option<usize>, AllocError>
-    requires names_fit { name_tries tries.old + length instructions.now ≤ u64.MAX }
-    requires attributes_fit { attribute_tries tries.old + length instructions.now ≤ u64.MAX }
+    requires names_fit { names_counted tries.old + length instructions.now ≤ u64.MAX }
+    requires attributes_fit { attributes_counted tries.old + length instructions.now ≤ u64.MAX }
     ensures stop { IfOk result (λ stop. stop ≡ first_open_from (sight state.now ctx.old.stack_item.local_name) 0 instructions.now) }
     ensures ctx { IfOk result (λ stop. ctx.new ≡ gathered_by_names E.ids E.with_ids (sight state.now ctx.old.stack_item.local_name) ctx.old instructions.now) }
-    ensures names { IfOk result (λ stop. name_tries tries.new ≡ name_tries tries.old + tried_until stop (length instructions.now)) }
-    ensures names_bound { name_tries tries.new ≤ name_tries tries.old + length instructions.now }
-    ensures attributes { attribute_tries tries.new ≡ attribute_tries tries.old }
+    ensures names { IfOk result (λ stop. names_counted tries.new ≡ names_counted tries.old + tried_until stop (length instructions.now)) }
+    ensures names_bound { names_counted tries.new ≤ names_counted tries.old + length instructions.now }
+    ensures attributes { attributes_counted tries.new ≡ attributes_counted tries.old }
     ensures name { ctx.new.stack_item.local_name ≡ ctx.old.stack_item.local_name }
 {
     for (at, instruction) in instructions.iter().enumerate() {
@@ -52,13 +52,13 @@ pub(crate) fn exec_instructions<E: ElementData>(
     ctx: &mut ExecutionCtx<'_, E>,
     tries: &mut Tries,
 ) -> Result<(), AllocError>
-    requires names_fit { name_tries tries.old + length instructions.now ≤ u64.MAX }
-    requires attributes_fit { attribute_tries tries.old + length instructions.now ≤ u64.MAX }
+    requires names_fit { names_counted tries.old + length instructions.now ≤ u64.MAX }
+    requires attributes_fit { attributes_counted tries.old + length instructions.now ≤ u64.MAX }
     ensures ctx { IfOk result (λ done. ctx.new ≡ gathered_with_attributes E.ids E.with_ids (sight state.now ctx.old.stack_item.local_name) matcher.now ctx.old instructions.now) }
-    ensures names { IfOk result (λ done. name_tries tries.new ≡ name_tries tries.old + length instructions.now) }
-    ensures attributes { IfOk result (λ done. attribute_tries tries.new ≡ attribute_tries tries.old + open_among (sight state.now ctx.old.stack_item.local_name) instructions.now) }
-    ensures names_bound { name_tries tries.new ≤ name_tries tries.old + length instructions.now }
-    ensures attributes_bound { attribute_tries tries.new ≤ attribute_tries tries.old + length instructions.now }
+    ensures names { IfOk result (λ done. names_counted tries.new ≡ names_counted tries.old + length instructions.now) }
+    ensures attributes { IfOk result (λ done. attributes_counted tries.new ≡ attributes_counted tries.old + open_among (sight state.now ctx.old.stack_item.local_name) instructions.now) }
+    ensures names_bound { names_counted tries.new ≤ names_counted tries.old + length instructions.now }
+    ensures attributes_bound { attributes_counted tries.new ≤ attributes_counted tries.old + length instructions.now }
     ensures name { ctx.new.stack_item.local_name ≡ ctx.old.stack_item.local_name }
 {
     for instruction in instructions {
@@ -77,8 +77,8 @@ fn instructions_in<'p>(
     range: &AddressRange,
     tries: &Tries,
 ) -> &'p [Instruction]
-    ensures value { IsInsideOf instructions.now range.now → HasRoomFor tries.now (range.now.end - range.now.start) → result.now ≡ instructions_at instructions.now range.now }
-    ensures room { HasRoomFor tries.now (length result.now) }
+    ensures value { IsInsideOf instructions.now range.now → HasTriesLeft tries.now (range.now.end - range.now.start) → result.now ≡ instructions_at instructions.now range.now }
+    ensures room { HasTriesLeft tries.now (length result.now) }
 {
     let (names, attributes) = (tries.names(), tries.attributes());
     if range.start > range.end || range.end > instructions.len() {
@@ -111,8 +111,8 @@ pub(crate) fn try_ranges<E: ElementData>(
     ensures stop { AreRunnable instructions.now ranges.now tries.old → IfOk result (λ stop. place_in instructions.now ranges.now stop ≡ first_open_from (sight state.now ctx.old.stack_item.local_name) 0 (all_at instructions.now ranges.now)) }
     ensures within { AreRunnable instructions.now ranges.now tries.old → (stop : Stop) → result ≡ Ok (Some stop) → IsStopIn instructions.now ranges.now stop }
     ensures ctx { AreRunnable instructions.now ranges.now tries.old → IfOk result (λ stop. ctx.new ≡ gathered_by_names E.ids E.with_ids (sight state.now ctx.old.stack_item.local_name) ctx.old (all_at instructions.now ranges.now)) }
-    ensures names { AreRunnable instructions.now ranges.now tries.old → IfOk result (λ stop. name_tries tries.new ≡ name_tries tries.old + tried_until (place_in instructions.now ranges.now stop) (length (all_at instructions.now ranges.now))) }
-    ensures attributes { attribute_tries tries.new ≡ attribute_tries tries.old }
+    ensures names { AreRunnable instructions.now ranges.now tries.old → IfOk result (λ stop. names_counted tries.new ≡ names_counted tries.old + tried_until (place_in instructions.now ranges.now stop) (length (all_at instructions.now ranges.now))) }
+    ensures attributes { attributes_counted tries.new ≡ attributes_counted tries.old }
     ensures name { ctx.new.stack_item.local_name ≡ ctx.old.stack_item.local_name }
 {
     for (at, range) in ranges.iter().enumerate() {
@@ -136,8 +136,8 @@ pub(crate) fn exec_ranges<E: ElementData>(
     tries: &mut Tries,
 ) -> Result<(), AllocError>
     ensures ctx { AreRunnable instructions.now ranges.now tries.old → IfOk result (λ done. ctx.new ≡ gathered_with_attributes E.ids E.with_ids (sight state.now ctx.old.stack_item.local_name) matcher.now ctx.old (all_at instructions.now ranges.now)) }
-    ensures names { AreRunnable instructions.now ranges.now tries.old → IfOk result (λ done. name_tries tries.new ≡ name_tries tries.old + length (all_at instructions.now ranges.now)) }
-    ensures attributes { AreRunnable instructions.now ranges.now tries.old → IfOk result (λ done. attribute_tries tries.new ≡ attribute_tries tries.old + open_among (sight state.now ctx.old.stack_item.local_name) (all_at instructions.now ranges.now)) }
+    ensures names { AreRunnable instructions.now ranges.now tries.old → IfOk result (λ done. names_counted tries.new ≡ names_counted tries.old + length (all_at instructions.now ranges.now)) }
+    ensures attributes { AreRunnable instructions.now ranges.now tries.old → IfOk result (λ done. attributes_counted tries.new ≡ attributes_counted tries.old + open_among (sight state.now ctx.old.stack_item.local_name) (all_at instructions.now ranges.now)) }
     ensures name { ctx.new.stack_item.local_name ≡ ctx.old.stack_item.local_name }
 {
     for range in ranges {
@@ -160,8 +160,8 @@ pub(crate) fn try_active<E: ElementData>(
     ensures stop { AreRunnable instructions.now (ranges_in active.now) tries.old → IfOk result (λ stop. place_in instructions.now (ranges_in active.now) stop ≡ first_open_from (sight state.now ctx.old.stack_item.local_name) 0 (all_at instructions.now (ranges_in active.now))) }
     ensures within { AreRunnable instructions.now (ranges_in active.now) tries.old → (stop : Stop) → result ≡ Ok (Some stop) → IsStopIn instructions.now (ranges_in active.now) stop }
     ensures ctx { AreRunnable instructions.now (ranges_in active.now) tries.old → IfOk result (λ stop. ctx.new ≡ gathered_by_names E.ids E.with_ids (sight state.now ctx.old.stack_item.local_name) ctx.old (all_at instructions.now (ranges_in active.now))) }
-    ensures names { AreRunnable instructions.now (ranges_in active.now) tries.old → IfOk result (λ stop. name_tries tries.new ≡ name_tries tries.old + tried_until (place_in instructions.now (ranges_in active.now) stop) (length (all_at instructions.now (ranges_in active.now)))) }
-    ensures attributes { attribute_tries tries.new ≡ attribute_tries tries.old }
+    ensures names { AreRunnable instructions.now (ranges_in active.now) tries.old → IfOk result (λ stop. names_counted tries.new ≡ names_counted tries.old + tried_until (place_in instructions.now (ranges_in active.now) stop) (length (all_at instructions.now (ranges_in active.now)))) }
+    ensures attributes { attributes_counted tries.new ≡ attributes_counted tries.old }
     ensures name { ctx.new.stack_item.local_name ≡ ctx.old.stack_item.local_name }
 {
     for (at, active_range) in active.iter().enumerate() {
@@ -185,8 +185,8 @@ pub(crate) fn exec_active<E: ElementData>(
     tries: &mut Tries,
 ) -> Result<(), AllocError>
     ensures ctx { AreRunnable instructions.now (ranges_in active.now) tries.old → IfOk result (λ done. ctx.new ≡ gathered_with_attributes E.ids E.with_ids (sight state.now ctx.old.stack_item.local_name) matcher.now ctx.old (all_at instructions.now (ranges_in active.now))) }
-    ensures names { AreRunnable instructions.now (ranges_in active.now) tries.old → IfOk result (λ done. name_tries tries.new ≡ name_tries tries.old + length (all_at instructions.now (ranges_in active.now))) }
-    ensures attributes { AreRunnable instructions.now (ranges_in active.now) tries.old → IfOk result (λ done. attribute_tries tries.new ≡ attribute_tries tries.old + open_among (sight state.now ctx.old.stack_item.local_name) (all_at instructions.now (ranges_in active.now))) }
+    ensures names { AreRunnable instructions.now (ranges_in active.now) tries.old → IfOk result (λ done. names_counted tries.new ≡ names_counted tries.old + length (all_at instructions.now (ranges_in active.now))) }
+    ensures attributes { AreRunnable instructions.now (ranges_in active.now) tries.old → IfOk result (λ done. attributes_counted tries.new ≡ attributes_counted tries.old + open_among (sight state.now ctx.old.stack_item.local_name) (all_at instructions.now (ranges_in active.now))) }
     ensures name { ctx.new.stack_item.local_name ≡ ctx.old.stack_item.local_name }
 {
     for active_range in active {
@@ -207,13 +207,13 @@ pub(crate) fn complete_instructions<E: ElementData>(
     ctx: &mut ExecutionCtx<'_, E>,
     tries: &mut Tries,
 ) -> Result<(), AllocError>
-    requires names_fit { name_tries tries.old + length instructions.now ≤ u64.MAX }
-    requires attributes_fit { attribute_tries tries.old + length instructions.now ≤ u64.MAX }
+    requires names_fit { names_counted tries.old + length instructions.now ≤ u64.MAX }
+    requires attributes_fit { attributes_counted tries.old + length instructions.now ≤ u64.MAX }
     ensures ctx { IfOk result (λ done. ctx.new ≡ gathered_with_attributes E.ids E.with_ids (sight state.now ctx.old.stack_item.local_name) matcher.now ctx.old instructions.now) }
-    ensures names { IfOk result (λ done. name_tries tries.new ≡ name_tries tries.old + (length instructions.now - 1)) }
-    ensures attributes { IfOk result (λ done. attribute_tries tries.new ≡ attribute_tries tries.old + open_among (sight state.now ctx.old.stack_item.local_name) instructions.now) }
-    ensures names_bound { name_tries tries.new ≤ name_tries tries.old + length instructions.now }
-    ensures attributes_bound { attribute_tries tries.new ≤ attribute_tries tries.old + length instructions.now }
+    ensures names { IfOk result (λ done. names_counted tries.new ≡ names_counted tries.old + (length instructions.now - 1)) }
+    ensures attributes { IfOk result (λ done. attributes_counted tries.new ≡ attributes_counted tries.old + open_among (sight state.now ctx.old.stack_item.local_name) instructions.now) }
+    ensures names_bound { names_counted tries.new ≤ names_counted tries.old + length instructions.now }
+    ensures attributes_bound { attributes_counted tries.new ≤ attributes_counted tries.old + length instructions.now }
     ensures name { ctx.new.stack_item.local_name ≡ ctx.old.stack_item.local_name }
 {
     let Some((first, others)) = instructions.split_first() else {
@@ -248,8 +248,8 @@ pub(crate) fn complete_ranges<E: ElementData>(
     tries: &mut Tries,
 ) -> Result<(), AllocError>
     ensures ctx { IsStopIn instructions.now ranges.now stop → AreRunnable instructions.now (ranges_from ranges.now stop) tries.old → IfOk result (λ done. ctx.new ≡ gathered_with_attributes E.ids E.with_ids (sight state.now ctx.old.stack_item.local_name) matcher.now ctx.old (all_at instructions.now (ranges_from ranges.now stop))) }
-    ensures names { IsStopIn instructions.now ranges.now stop → AreRunnable instructions.now (ranges_from ranges.now stop) tries.old → IfOk result (λ done. name_tries tries.new + 1 ≡ name_tries tries.old + length (all_at instructions.now (ranges_from ranges.now stop))) }
-    ensures attributes { IsStopIn instructions.now ranges.now stop → AreRunnable instructions.now (ranges_from ranges.now stop) tries.old → IfOk result (λ done. attribute_tries tries.new ≡ attribute_tries tries.old + open_among (sight state.now ctx.old.stack_item.local_name) (all_at instructions.now (ranges_from ranges.now stop))) }
+    ensures names { IsStopIn instructions.now ranges.now stop → AreRunnable instructions.now (ranges_from ranges.now stop) tries.old → IfOk result (λ done. names_counted tries.new + 1 ≡ names_counted tries.old + length (all_at instructions.now (ranges_from ranges.now stop))) }
+    ensures attributes { IsStopIn instructions.now ranges.now stop → AreRunnable instructions.now (ranges_from ranges.now stop) tries.old → IfOk result (λ done. attributes_counted tries.new ≡ attributes_counted tries.old + open_among (sight state.now ctx.old.stack_item.local_name) (all_at instructions.now (ranges_from ranges.now stop))) }
     ensures name { ctx.new.stack_item.local_name ≡ ctx.old.stack_item.local_name }
 {
     if stop.range >= ranges.len() {
@@ -276,8 +276,8 @@ pub(crate) fn complete_active<E: ElementData>(
     tries: &mut Tries,
 ) -> Result<(), AllocError>
     ensures ctx { IsStopIn instructions.now (ranges_in active.now) stop → AreRunnable instructions.now (ranges_from (ranges_in active.now) stop) tries.old → IfOk result (λ done. ctx.new ≡ gathered_with_attributes E.ids E.with_ids (sight state.now ctx.old.stack_item.local_name) matcher.now ctx.old (all_at instructions.now (ranges_from (ranges_in active.now) stop))) }
-    ensures names { IsStopIn instructions.now (ranges_in active.now) stop → AreRunnable instructions.now (ranges_from (ranges_in active.now) stop) tries.old → IfOk result (λ done. name_tries tries.new + 1 ≡ name_tries tries.old + length (all_at instructions.now (ranges_from (ranges_in active.now) stop))) }
-    ensures attributes { IsStopIn instructions.now (ranges_in active.now) stop → AreRunnable instructions.now (ranges_from (ranges_in active.now) stop) tries.old → IfOk result (λ done. attribute_tries tries.new ≡ attribute_tries tries.old + open_among (sight state.now ctx.old.stack_item.local_name) (all_at instructions.now (ranges_from (ranges_in active.now) stop))) }
+    ensures names { IsStopIn instructions.now (ranges_in active.now) stop → AreRunnable instructions.now (ranges_from (ranges_in active.now) stop) tries.old → IfOk result (λ done. names_counted tries.new + 1 ≡ names_counted tries.old + length (all_at instructions.now (ranges_from (ranges_in active.now) stop))) }
+    ensures attributes { IsStopIn instructions.now (ranges_in active.now) stop → AreRunnable instructions.now (ranges_from (ranges_in active.now) stop) tries.old → IfOk result (λ done. attributes_counted tries.new ≡ attributes_counted tries.old + open_among (sight state.now ctx.old.stack_item.local_name) (all_at instructions.now (ranges_from (ranges_in active.now) stop))) }
     ensures name { ctx.new.stack_item.local_name ≡ ctx.old.stack_item.local_name }
 {
     if stop.range >= active.len() {

@@ -4,7 +4,7 @@ ghost use Rattle.std.specs.Prelude.{◌≡◌, ◌∷◌, [], Some, None, true, 
 ghost use Rattle.lol_program.specs.Tests.{HasAttribute, attribute_holds};
 ghost use Rattle.lol_memory.specs.Slots.{slots};
 ghost use Rattle.lol_vm.specs.Refusals.{Limit};
-ghost use Rattle.lol_vm.specs.Rows.{Holds, refused_at, descendant_and_child, class_above, nested_divs, not_a_compound, not_neither, neither_class_nor_name, not_an_empty_substring, nothing_and_anything, some_compound, none_of_some, child_of_some, negative_step, of_mathml, AreValues, all_stand, has_id, has_class, with_attributes, written, unwritten, second_child, second_span, caseless_in_html, empty_operand, esi_names, dropped_tag, self_closing_tag, links};
+ghost use Rattle.lol_vm.specs.Rows.{Holds, refused_at, descendant_and_child, class_above, nested_divs, not_a_compound, not_neither, neither_class_nor_name, not_an_empty_substring, nothing_and_anything, some_compound, none_of_some, child_of_some, negative_step, of_mathml, AreValues, all_stand, has_id, has_class, element_with_attributes, written, unwritten, second_child, second_span, caseless_in_html, empty_operand, esi_names, dropped_tag, self_closing_tag, links};
 
 /// Answers to some tags.
 pub fn answers_to_tags()
@@ -61,8 +61,8 @@ pub fn ids_and_classes()
     ensures class_case { has_class (codes "A") (codes " a  b") ≡ false }
     ensures class_spaces { has_class (codes "b") (97 ∷ 9 ∷ 98 ∷ 10 ∷ 99 ∷ 12 ∷ 100 ∷ 13 ∷ []) ≡ true }
     ensures other_spaces { has_class (codes "b") (97 ∷ 11 ∷ 98 ∷ []) ≡ false }
-    ensures capital_kept { attribute_holds (HasAttribute (codes "FOO")) (with_attributes (written (codes "foo") [] ∷ [])) ≡ false }
-    ensures capital_found { attribute_holds (HasAttribute (codes "foo")) (with_attributes (written (codes "FOO") [] ∷ [])) ≡ true }
+    ensures capital_kept { attribute_holds (HasAttribute (codes "FOO")) (element_with_attributes (written (codes "foo") [] ∷ [])) ≡ false }
+    ensures capital_found { attribute_holds (HasAttribute (codes "foo")) (element_with_attributes (written (codes "FOO") [] ∷ [])) ≡ true }
 {}
 
 /// Slots for items of 64, 512 and 7 bytes, and the tag at which a limit is passed.

@@ -14,7 +14,7 @@ ghost use Rattle.lol_program.specs.Views.{forest_of};
 ghost use Rattle.lol_vm.specs.Documents.{Document, closed, after_end, after_start, element_of};
 ghost use Rattle.lol_vm.specs.Answers.{matching_ids, answer, answers, after, report};
 ghost use Rattle.lol_vm.specs.Events.{has_content};
-ghost use Rattle.lol_vm.specs.OpenNames.{Spells, IsNamed, AreNamed, Stands};
+ghost use Rattle.lol_vm.specs.OpenNames.{Spells, IsNamed, AreNamed, AreOpenIn};
 ghost use Rattle.lol_vm.specs.Views.{IsPlainHtml, HasRangesInside, event_of, answer_of, match_of, without_tries, selectors};
 ghost use Rattle.lol_vm.specs.declared.events.RunCause.TheVariants.{Memory};
 
@@ -90,10 +90,10 @@ fn answer<'i>(
 ) -> Result<TagReport, AllocError>
     requires html { IsPlainHtml event.now }
     requires runs { forest_runs (trees_of ast.now) ≡ true }
-    ensures answer { IfOk result (λ told. (d : Document) → Stands elements.old.items d
+    ensures answer { IfOk result (λ told. (d : Document) → AreOpenIn elements.old.items d
         → answer_of told ≡ without_tries (answer (selectors ast.now) false d (event_of event.now))) }
-    ensures stands { OnOk result ((d : Document) → Stands elements.old.items d → d.events ≡ number
-        → Stands elements.new.items (after (selectors ast.now) false d (event_of event.now))) }
+    ensures stands { OnOk result ((d : Document) → AreOpenIn elements.old.items d → d.events ≡ number
+        → AreOpenIn elements.new.items (after (selectors ast.now) false d (event_of event.now))) }
 {
     match event {
         TagEvent::Start { name, .. } => {
@@ -120,10 +120,10 @@ fn start<'i>(
     name: LocalName<'i>,
 ) -> Result<Vec<MatchInfo>, AllocError>
     requires { forest_runs (trees_of ast.now) ≡ true }
-    ensures report { IfOk result (λ matched. (d : Document) (tag : StartTag) → IsNamed name.entry tag → Stands elements.old.items d
+    ensures report { IfOk result (λ matched. (d : Document) (tag : StartTag) → IsNamed name.entry tag → AreOpenIn elements.old.items d
         → map match_of matched.items ≡ report (selectors ast.now) false (element_of d tag) d.open_elements) }
-    ensures stands { OnOk result ((d : Document) (tag : StartTag) → IsNamed name.entry tag → Stands elements.old.items d → d.events ≡ number
-        → Stands elements.new.items (after_start d tag (has_content false tag))) }
+    ensures stands { OnOk result ((d : Document) (tag : StartTag) → IsNamed name.entry tag → AreOpenIn elements.old.items d → d.events ≡ number
+        → AreOpenIn elements.new.items (after_start d tag (has_content false tag))) }
 {
     let with_content = !is_void(&name);
     let ids = matching(alloc, ast.root(), &name, elements)?;
@@ -181,8 +181,8 @@ fn close(
     elements: &mut Vec<OpenElement>,
     name: &LocalName,
 ) -> Result<Vec<usize>, AllocError>
-    ensures closed { IfOk result (λ numbers. (d : Document) (bytes : List ℕ) → Spells name.now bytes → Stands elements.old.items d → numbers.items ≡ closed bytes d) }
-    ensures stands { OnOk result ((d : Document) (bytes : List ℕ) → Spells name.now bytes → Stands elements.old.items d → Stands elements.new.items (after_end d bytes)) }
+    ensures closed { IfOk result (λ numbers. (d : Document) (bytes : List ℕ) → Spells name.now bytes → AreOpenIn elements.old.items d → numbers.items ≡ closed bytes d) }
+    ensures stands { OnOk result ((d : Document) (bytes : List ℕ) → Spells name.now bytes → AreOpenIn elements.old.items d → AreOpenIn elements.new.items (after_end d bytes)) }
 {
     let Some(back) = last_place(elements, name) else {
         return Ok(Vec::new(alloc));

@@ -4,7 +4,7 @@ ghost use Rattle.std.specs.Prelude.{◌≡◌};
 ghost use Rattle.lol_css.specs.Rules.{giving};
 ghost use Rattle.lol_css.specs.Reading.{function_part, ident_part, is_one_of, late_words};
 ghost use Rattle.lol_css.specs.Accepting.{judged_part};
-ghost use Rattle.lol_css.specs.Views.{Reads, points_of, judgement, answer};
+ghost use Rattle.lol_css.specs.Views.{Reads, points_of, judgement, reader_answer};
 ghost use Rattle.lol_css.specs.TreeViews.{part_of};
 
 use crate::error::SelectorError;
@@ -30,7 +30,7 @@ fn is_late_word(name: Name<'_>) -> bool
 /// A pseudo-class without an argument.
 #[tactic(auto, unfolding(crate::specs::Reading::ident_part, crate::specs::Accepting::judged_part))]
 pub(crate) fn ident_part(name: Name<'_>) -> Result<Judged<SimpleSelector>, SelectorError>
-    ensures { answer (judgement part_of) result ≡ answer judged_part (ident_part (points_of name.entry)) }
+    ensures { reader_answer (judgement part_of) result ≡ reader_answer judged_part (ident_part (points_of name.entry)) }
 {
     let first = NthChild::new(0, 1);
     if name.is_word("first-child") {

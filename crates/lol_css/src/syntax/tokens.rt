@@ -2,7 +2,7 @@
 
 ghost use Rattle.std.specs.Prelude.{◌≡◌, ◌<◌, ◌≤◌, length, drop, IfSome};
 ghost use Rattle.std.specs.Option.{option_map};
-ghost use Rattle.lol_css.specs.Points.{many, one, is_white_space, is_decimal, is_sign, past, name};
+ghost use Rattle.lol_css.specs.Points.{many, first_that, is_white_space, is_decimal, is_sign, past, name};
 ghost use Rattle.lol_css.specs.Tokens.{comment, in_comment, space, hash, cdc, identifier, match_operator, match_sign, delim, next, numeral, number, string, leading_sign, after_fraction, after_exponent, tokens_of};
 ghost use Rattle.lol_css.specs.Views.{Took, IsFirst, token_of, numeral_of};
 
@@ -39,7 +39,7 @@ pub(crate) enum MatchOperator {
 /// A number as it is written.
 #[derive(Clone, Copy)]
 pub(crate) struct Numeral<'a> {
-    /// The sign, if one is written.
+    /// The sign, if first_that is written.
     pub sign: Option<Sign>,
     /// The digits, if there are neither fraction nor exponent.
     pub integer: Option<&'a [char]>,
@@ -115,7 +115,7 @@ fn comment(text: &[char]) -> Found<'_>
 }
 
 fn white_space(text: &[char]) -> Option<(char, &[char])>
-    ensures value { Took (λ x. (x.0, x.1.now)) result (one is_white_space text.now) }
+    ensures value { Took (λ x. (x.0, x.1.now)) result (first_that is_white_space text.now) }
     ensures shorter { IfSome result (λ x. length x.1.now < length text.now) }
 {
     match text {
@@ -187,7 +187,7 @@ fn hash(text: &[char]) -> Found<'_>
 }
 
 fn decimal_digit(text: &[char]) -> Option<(char, &[char])>
-    ensures value { Took (λ x. (x.0, x.1.now)) result (one is_decimal text.now) }
+    ensures value { Took (λ x. (x.0, x.1.now)) result (first_that is_decimal text.now) }
     ensures shorter { IfSome result (λ x. length x.1.now < length text.now) }
 {
     match text {
@@ -199,7 +199,7 @@ fn decimal_digit(text: &[char]) -> Option<(char, &[char])>
 /// What stands after the decimal digits here.
 #[tactic(auto, using(crate::proofs::Loops::decimal_steps))]
 fn after_digits(text: &[char]) -> &[char]
-    ensures value { result.now ≡ (many (one is_decimal) text.now).1 }
+    ensures value { result.now ≡ (many (first_that is_decimal) text.now).1 }
     ensures shorter { length result.now ≤ length text.now }
 {
     let mut rest = text;

@@ -13,7 +13,7 @@ use Rattle.lol_program.specs.Conditions.{paths_of, pairs_under}
 use Rattle.lol_program.specs.Sets.{SameMembers}
 use Rattle.lol_vm.specs.Views.{event_of}
 use Rattle.lol_match.specs.Script.{Select}
-use Rattle.lol_match.specs.First.{line_at}
+use Rattle.lol_match.specs.First.{line_now}
 use Rattle.lol_match.specs.Scripts as scripts
 use Rattle.lol_match.specs.Readings.{Stops}
 use Rattle.lol_match.specs.declared.bad_line.BadLine.{BadLine}
@@ -55,5 +55,5 @@ returns-then-not-selector_runs-clause-stop c = λ s reading.
     let empty : c.args.script.now.events.items ≡ [] = nil_from_length _ (grind (arith, nat_tests, c.args.script.now.events.ok.0)) in
     let none : s.events ≡ [] = sym reading.events ∙ ap (map event_of) empty in
     let run : list_all (λ (pair : Path × ℕ). path_runs pair.0) added ≡ false = pairs_run c.args.id (paths_of items) ∙ sym c.selector_runs.ensures ∙ c.if-not-selector_runs.true in
-    subst (λ stop. Stops stop (scripts.with_line line_at path_runs c.args.number s (Select c.args.id c.args.text.now))) (sym c.unsupported.ensures)
+    subst (λ stop. Stops stop (scripts.with_line line_now path_runs c.args.number s (Select c.args.id c.args.text.now))) (sym c.unsupported.ensures)
     (selector_taken c.args.number s c.args.id s.events _ _ none c.in-Ok.ensures.ok ∙ ap (judged c.args.number s added) run)

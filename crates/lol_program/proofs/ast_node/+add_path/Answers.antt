@@ -5,8 +5,8 @@ use Rattle.std.proofs.lemmas.Result.{on_ok_weaker, on_err_weaker}
 use Rattle.lol_memory.specs.Ids.{Ids}
 use Rattle.lol_css.specs.declared.selector.Combinator.TheVariants.{Child, Descendant}
 use Rattle.lol_program.specs.IdsForNodes.{id_in, Fits}
-use Rattle.lol_program.specs.Views.{node_of, forest_of, steps_of, tests_in}
-use Rattle.lol_program.specs.Growth.{Adds, AddsFirst, Takes, Under, StandsWith, under}
+use Rattle.lol_program.specs.Views.{node_of, forest_of, steps_of, tests_of_compound}
+use Rattle.lol_program.specs.Growth.{Adds, AddsFirst, Takes, Under, StandsWith, grown_under}
 use Rattle.lol_program.specs.declared.ast_node.AstNode.TheViews.{out-AstNode, roll-AstNode}
 use Rattle.lol_program.proofs.Nodes.{shape}
 use Rattle.lol_program.proofs.Placed.{set_place, size_set, place_within, adds_none, adds_some, first_none, first_some}
@@ -15,7 +15,7 @@ use Rattle.lol_program.proofs.ast_node.+add_path.Goals as goal
 
 pub returns-in_err-place-clause-free : goal.returns-in_err-place-clause-free
 returns-in_err-place-clause-free t c stands =
-    absurd (stands_nowhere (Fits c.args.id) (tests_in c.args.first.now) (steps_of c.args.rest.now) (map node_of c.args.nodes.now.items) c.in_err-place.ensures.free stands)
+    absurd (stands_nowhere (Fits c.args.id) (tests_of_compound c.args.first.now) (steps_of c.args.rest.now) (map node_of c.args.nodes.now.items) c.in_err-place.ensures.free stands)
 
 pub returns-in-None-clause-free : goal.returns-in-None-clause-free
 returns-in-None-clause-free t c stands =
@@ -23,7 +23,7 @@ returns-in-None-clause-free t c stands =
     let old = c.args.nodes.now.items in
     let mid = c.place_for.new.nodes.items in
     let i = c.in_ok-place.place in
-    let fc = tests_in c.args.first.now in
+    let fc = tests_of_compound c.args.first.now in
     let fits = Fits c.args.id in
     let inside = subst (λ (X : Type 0). X) (stands_none fits fc c.args.rest.now (forest_of old) c.in-None.ensures.cases) stands in
     c.add_to.ensures.free (stands_at fc (λ m. fits m.ids) old mid i n c.in_ok-place.ensures.place c.index_mut-node.ensures.value inside)
@@ -34,7 +34,7 @@ returns-in-None-clause-added t c =
     let old = c.args.nodes.now.items in
     let mid = c.place_for.new.nodes.items in
     let i = c.in_ok-place.place in
-    let fc = tests_in c.args.first.now in
+    let fc = tests_of_compound c.args.first.now in
     let at = c.in_ok-place.ensures.place in
     let is = c.index_mut-node.ensures.value in
     let id = id_in c.args.id in
@@ -49,7 +49,7 @@ returns-in-None-clause-partly t c =
     let old = c.args.nodes.now.items in
     let mid = c.place_for.new.nodes.items in
     let i = c.in_ok-place.place in
-    let fc = tests_in c.args.first.now in
+    let fc = tests_of_compound c.args.first.now in
     let at = c.in_ok-place.ensures.place in
     let is = c.index_mut-node.ensures.value in
     on_err_weaker c.add_to.result
@@ -67,7 +67,7 @@ returns-in-None-clause-count t c =
     let old = c.args.nodes.now.items in
     let mid = c.place_for.new.nodes.items in
     let i = c.in_ok-place.place in
-    let fc = tests_in c.args.first.now in
+    let fc = tests_of_compound c.args.first.now in
     let at = c.in_ok-place.ensures.place in
     let is = c.index_mut-node.ensures.value in
     omega (arith, size_set mid i n (record { predicate = (out-AstNode n).predicate; children = (out-AstNode n).children; descendants = (out-AstNode n).descendants; match_ids = c.add_to.new.ids }) (place_within fc old mid i at) is, c.in_ok-place.ensures.count)
@@ -78,13 +78,13 @@ returns-in-Child-clause-added t c =
     let old = c.args.nodes.now.items in
     let mid = c.place_for.new.nodes.items in
     let i = c.in_ok-place.place in
-    let fc = tests_in c.args.first.now in
+    let fc = tests_of_compound c.args.first.now in
     let at = c.in_ok-place.ensures.place in
     let is = c.index_mut-node.ensures.value in
     let id = id_in c.args.id in
     on_ok_weaker c.add_path.result
     (λ a. adds_some id fc c.args.rest.now c.in-Some.rest.now c.in-Some.field-0-0.now Child (forest_of old) (forest_of (slice_set mid i (roll-AstNode (record { predicate = (out-AstNode n).predicate; children = c.add_path.new.nodes; descendants = (out-AstNode n).descendants; match_ids = (out-AstNode n).match_ids })))) c.in-Some.ensures.cases.0 c.in-Child.is
-    (set_place fc (Under Child (Adds id (tests_in c.in-Some.field-0-0.now.1) (steps_of c.in-Some.rest.now))) old mid i n (record { predicate = (out-AstNode n).predicate; children = c.add_path.new.nodes; descendants = (out-AstNode n).descendants; match_ids = (out-AstNode n).match_ids }) at is (forest_of c.add_path.new.nodes.items, a, refl)))
+    (set_place fc (Under Child (Adds id (tests_of_compound c.in-Some.field-0-0.now.1) (steps_of c.in-Some.rest.now))) old mid i n (record { predicate = (out-AstNode n).predicate; children = c.add_path.new.nodes; descendants = (out-AstNode n).descendants; match_ids = (out-AstNode n).match_ids }) at is (forest_of c.add_path.new.nodes.items, a, refl)))
     c.add_path.ensures.added
 
 pub returns-in-Child-clause-partly : goal.returns-in-Child-clause-partly
@@ -93,14 +93,14 @@ returns-in-Child-clause-partly t c =
     let old = c.args.nodes.now.items in
     let mid = c.place_for.new.nodes.items in
     let i = c.in_ok-place.place in
-    let fc = tests_in c.args.first.now in
+    let fc = tests_of_compound c.args.first.now in
     let at = c.in_ok-place.ensures.place in
     let is = c.index_mut-node.ensures.value in
     on_err_weaker c.add_path.result
     (λ a. (
       suc a.0,
       first_some a.0 fc c.args.rest.now c.in-Some.rest.now c.in-Some.field-0-0.now Child (forest_of old) (forest_of (slice_set mid i (roll-AstNode (record { predicate = (out-AstNode n).predicate; children = c.add_path.new.nodes; descendants = (out-AstNode n).descendants; match_ids = (out-AstNode n).match_ids })))) c.in-Some.ensures.cases.0 c.in-Child.is
-          (set_place fc (Under Child (AddsFirst a.0 (tests_in c.in-Some.field-0-0.now.1) (steps_of c.in-Some.rest.now))) old mid i n (record { predicate = (out-AstNode n).predicate; children = c.add_path.new.nodes; descendants = (out-AstNode n).descendants; match_ids = (out-AstNode n).match_ids }) at is (forest_of c.add_path.new.nodes.items, a.1, refl)),
+          (set_place fc (Under Child (AddsFirst a.0 (tests_of_compound c.in-Some.field-0-0.now.1) (steps_of c.in-Some.rest.now))) old mid i n (record { predicate = (out-AstNode n).predicate; children = c.add_path.new.nodes; descendants = (out-AstNode n).descendants; match_ids = (out-AstNode n).match_ids }) at is (forest_of c.add_path.new.nodes.items, a.1, refl)),
     ))
     c.add_path.ensures.partly
 
@@ -110,10 +110,10 @@ returns-in-Child-clause-free t c stands =
     let old = c.args.nodes.now.items in
     let mid = c.place_for.new.nodes.items in
     let i = c.in_ok-place.place in
-    let fc = tests_in c.args.first.now in
+    let fc = tests_of_compound c.args.first.now in
     let fits = Fits c.args.id in
     let inside = subst (λ (X : Type 0). X) (stands_some fits fc c.args.rest.now c.in-Some.rest.now c.in-Some.field-0-0.now Child (forest_of old) c.in-Some.ensures.cases.0 c.in-Child.is) stands in
-    c.add_path.ensures.free (stands_at fc (λ m. StandsWith fits (tests_in c.in-Some.field-0-0.now.1) (steps_of c.in-Some.rest.now) (under Child m)) old mid i n c.in_ok-place.ensures.place c.index_mut-node.ensures.value inside)
+    c.add_path.ensures.free (stands_at fc (λ m. StandsWith fits (tests_of_compound c.in-Some.field-0-0.now.1) (steps_of c.in-Some.rest.now) (grown_under Child m)) old mid i n c.in_ok-place.ensures.place c.index_mut-node.ensures.value inside)
 
 pub returns-in-Child-clause-count : goal.returns-in-Child-clause-count
 returns-in-Child-clause-count t c =
@@ -121,7 +121,7 @@ returns-in-Child-clause-count t c =
     let old = c.args.nodes.now.items in
     let mid = c.place_for.new.nodes.items in
     let i = c.in_ok-place.place in
-    let fc = tests_in c.args.first.now in
+    let fc = tests_of_compound c.args.first.now in
     let at = c.in_ok-place.ensures.place in
     let is = c.index_mut-node.ensures.value in
     omega (arith, size_set mid i n (record { predicate = (out-AstNode n).predicate; children = c.add_path.new.nodes; descendants = (out-AstNode n).descendants; match_ids = (out-AstNode n).match_ids }) (place_within fc old mid i at) is, c.in_ok-place.ensures.count, c.add_path.ensures.count)
@@ -132,13 +132,13 @@ returns-in-Descendant-clause-added t c =
     let old = c.args.nodes.now.items in
     let mid = c.place_for.new.nodes.items in
     let i = c.in_ok-place.place in
-    let fc = tests_in c.args.first.now in
+    let fc = tests_of_compound c.args.first.now in
     let at = c.in_ok-place.ensures.place in
     let is = c.index_mut-node.ensures.value in
     let id = id_in c.args.id in
     on_ok_weaker c.add_path-in-Descendant.result
     (λ a. adds_some id fc c.args.rest.now c.in-Some.rest.now c.in-Some.field-0-0.now Descendant (forest_of old) (forest_of (slice_set mid i (roll-AstNode (record { predicate = (out-AstNode n).predicate; children = (out-AstNode n).children; descendants = c.add_path-in-Descendant.new.nodes; match_ids = (out-AstNode n).match_ids })))) c.in-Some.ensures.cases.0 c.in-Descendant.is
-    (set_place fc (Under Descendant (Adds id (tests_in c.in-Some.field-0-0.now.1) (steps_of c.in-Some.rest.now))) old mid i n (record { predicate = (out-AstNode n).predicate; children = (out-AstNode n).children; descendants = c.add_path-in-Descendant.new.nodes; match_ids = (out-AstNode n).match_ids }) at is (forest_of c.add_path-in-Descendant.new.nodes.items, a, refl)))
+    (set_place fc (Under Descendant (Adds id (tests_of_compound c.in-Some.field-0-0.now.1) (steps_of c.in-Some.rest.now))) old mid i n (record { predicate = (out-AstNode n).predicate; children = (out-AstNode n).children; descendants = c.add_path-in-Descendant.new.nodes; match_ids = (out-AstNode n).match_ids }) at is (forest_of c.add_path-in-Descendant.new.nodes.items, a, refl)))
     c.add_path-in-Descendant.ensures.added
 
 pub returns-in-Descendant-clause-partly : goal.returns-in-Descendant-clause-partly
@@ -147,14 +147,14 @@ returns-in-Descendant-clause-partly t c =
     let old = c.args.nodes.now.items in
     let mid = c.place_for.new.nodes.items in
     let i = c.in_ok-place.place in
-    let fc = tests_in c.args.first.now in
+    let fc = tests_of_compound c.args.first.now in
     let at = c.in_ok-place.ensures.place in
     let is = c.index_mut-node.ensures.value in
     on_err_weaker c.add_path-in-Descendant.result
     (λ a. (
       suc a.0,
       first_some a.0 fc c.args.rest.now c.in-Some.rest.now c.in-Some.field-0-0.now Descendant (forest_of old) (forest_of (slice_set mid i (roll-AstNode (record { predicate = (out-AstNode n).predicate; children = (out-AstNode n).children; descendants = c.add_path-in-Descendant.new.nodes; match_ids = (out-AstNode n).match_ids })))) c.in-Some.ensures.cases.0 c.in-Descendant.is
-          (set_place fc (Under Descendant (AddsFirst a.0 (tests_in c.in-Some.field-0-0.now.1) (steps_of c.in-Some.rest.now))) old mid i n (record { predicate = (out-AstNode n).predicate; children = (out-AstNode n).children; descendants = c.add_path-in-Descendant.new.nodes; match_ids = (out-AstNode n).match_ids }) at is (forest_of c.add_path-in-Descendant.new.nodes.items, a.1, refl)),
+          (set_place fc (Under Descendant (AddsFirst a.0 (tests_of_compound c.in-Some.field-0-0.now.1) (steps_of c.in-Some.rest.now))) old mid i n (record { predicate = (out-AstNode n).predicate; children = (out-AstNode n).children; descendants = c.add_path-in-Descendant.new.nodes; match_ids = (out-AstNode n).match_ids }) at is (forest_of c.add_path-in-Descendant.new.nodes.items, a.1, refl)),
     ))
     c.add_path-in-Descendant.ensures.partly
 
@@ -164,10 +164,10 @@ returns-in-Descendant-clause-free t c stands =
     let old = c.args.nodes.now.items in
     let mid = c.place_for.new.nodes.items in
     let i = c.in_ok-place.place in
-    let fc = tests_in c.args.first.now in
+    let fc = tests_of_compound c.args.first.now in
     let fits = Fits c.args.id in
     let inside = subst (λ (X : Type 0). X) (stands_some fits fc c.args.rest.now c.in-Some.rest.now c.in-Some.field-0-0.now Descendant (forest_of old) c.in-Some.ensures.cases.0 c.in-Descendant.is) stands in
-    c.add_path-in-Descendant.ensures.free (stands_at fc (λ m. StandsWith fits (tests_in c.in-Some.field-0-0.now.1) (steps_of c.in-Some.rest.now) (under Descendant m)) old mid i n c.in_ok-place.ensures.place c.index_mut-node.ensures.value inside)
+    c.add_path-in-Descendant.ensures.free (stands_at fc (λ m. StandsWith fits (tests_of_compound c.in-Some.field-0-0.now.1) (steps_of c.in-Some.rest.now) (grown_under Descendant m)) old mid i n c.in_ok-place.ensures.place c.index_mut-node.ensures.value inside)
 
 pub returns-in-Descendant-clause-count : goal.returns-in-Descendant-clause-count
 returns-in-Descendant-clause-count t c =
@@ -175,7 +175,7 @@ returns-in-Descendant-clause-count t c =
     let old = c.args.nodes.now.items in
     let mid = c.place_for.new.nodes.items in
     let i = c.in_ok-place.place in
-    let fc = tests_in c.args.first.now in
+    let fc = tests_of_compound c.args.first.now in
     let at = c.in_ok-place.ensures.place in
     let is = c.index_mut-node.ensures.value in
     omega (arith, size_set mid i n (record { predicate = (out-AstNode n).predicate; children = (out-AstNode n).children; descendants = c.add_path-in-Descendant.new.nodes; match_ids = (out-AstNode n).match_ids }) (place_within fc old mid i at) is, c.in_ok-place.ensures.count, c.add_path-in-Descendant.ensures.count)

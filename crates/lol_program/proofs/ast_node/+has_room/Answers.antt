@@ -1,6 +1,6 @@
 use Rattle.std.proofs.Common.{map, sym, subst, ap, true≢false}
 use Rattle.lol_css.specs.declared.selector.Combinator.TheVariants.{Child, Descendant}
-use Rattle.lol_program.specs.Views.{node_of, forest_of, steps_of, tests_in}
+use Rattle.lol_program.specs.Views.{node_of, forest_of, steps_of, tests_of_compound}
 use Rattle.lol_program.specs.Growth.{StandsWith}
 use Rattle.lol_program.specs.IdsForNodes.{HasRoomAmong}
 use Rattle.lol_program.specs.declared.ast_node.AstNode.TheViews.{out-AstNode}
@@ -11,13 +11,13 @@ use Rattle.lol_program.proofs.ast_node.+has_room.Goals as goal
 pub returns-in_default : goal.returns-in_default
 returns-in_default t c = (
   λ never. absurd (true≢false (sym never)),
-  λ stands. absurd (stands_nowhere (HasRoomAmong c.args.id) (tests_in c.args.first.now) (steps_of c.args.rest.now) (map node_of c.args.nodes.now) c.in_default.ensures.none stands),
+  λ stands. absurd (stands_nowhere (HasRoomAmong c.args.id) (tests_of_compound c.args.first.now) (steps_of c.args.rest.now) (map node_of c.args.nodes.now) c.in_default.ensures.none stands),
 )
 
 pub returns-in-None : goal.returns-in-None
 returns-in-None t c =
     let node = c.index-nodes-place.result in
-    let law = stands_here (HasRoomAmong c.args.id) (tests_in c.args.first.now) c.args.rest.now c.args.nodes.now c.in-Some.place node c.in-None.ensures.cases c.in-Some.ensures.some c.index-nodes-place.is in
+    let law = stands_here (HasRoomAmong c.args.id) (tests_of_compound c.args.first.now) c.args.rest.now c.args.nodes.now c.in-Some.place node c.in-None.ensures.cases c.in-Some.ensures.some c.index-nodes-place.is in
     let room = room_listed (out-AstNode node).match_ids c.args.id in
     (λ h. law.1 (room.0 (c.has_room.ensures.0 h)), λ stands. c.has_room.ensures.1 (room.1 (law.0 stands)))
 
@@ -27,8 +27,8 @@ returns-in-Child t c =
     let P = HasRoomAmong c.args.id in
     let step = c.in-Some-split_first.field-0-0.now in
     let rest = c.in-Some-split_first.rest.now in
-    let law = stands_further P (tests_in c.args.first.now) c.args.rest.now rest step Child c.args.nodes.now c.in-Some.place node c.in-Some-split_first.ensures.cases.0 c.in-Child.is c.in-Some.ensures.some c.index-nodes-place.is in
-    let same = ap (λ nodes. StandsWith P (tests_in step.1) (steps_of rest) (forest_of nodes)) c.deref.ensures.value in (
+    let law = stands_further P (tests_of_compound c.args.first.now) c.args.rest.now rest step Child c.args.nodes.now c.in-Some.place node c.in-Some-split_first.ensures.cases.0 c.in-Child.is c.in-Some.ensures.some c.index-nodes-place.is in
+    let same = ap (λ nodes. StandsWith P (tests_of_compound step.1) (steps_of rest) (forest_of nodes)) c.deref.ensures.value in (
       λ h. law.1 (subst (λ (X : Type 0). X) same (c.has_room-in-Child.ensures.0 h)),
       λ stands. c.has_room-in-Child.ensures.1 (subst (λ (X : Type 0). X) (sym same) (law.0 stands)),
     )
@@ -39,8 +39,8 @@ returns-in-Descendant t c =
     let P = HasRoomAmong c.args.id in
     let step = c.in-Some-split_first.field-0-0.now in
     let rest = c.in-Some-split_first.rest.now in
-    let law = stands_further P (tests_in c.args.first.now) c.args.rest.now rest step Descendant c.args.nodes.now c.in-Some.place node c.in-Some-split_first.ensures.cases.0 c.in-Descendant.is c.in-Some.ensures.some c.index-nodes-place.is in
-    let same = ap (λ nodes. StandsWith P (tests_in step.1) (steps_of rest) (forest_of nodes)) c.deref-in-Descendant.ensures.value in (
+    let law = stands_further P (tests_of_compound c.args.first.now) c.args.rest.now rest step Descendant c.args.nodes.now c.in-Some.place node c.in-Some-split_first.ensures.cases.0 c.in-Descendant.is c.in-Some.ensures.some c.index-nodes-place.is in
+    let same = ap (λ nodes. StandsWith P (tests_of_compound step.1) (steps_of rest) (forest_of nodes)) c.deref-in-Descendant.ensures.value in (
       λ h. law.1 (subst (λ (X : Type 0). X) same (c.has_room-in-Descendant.ensures.0 h)),
       λ stands. c.has_room-in-Descendant.ensures.1 (subst (λ (X : Type 0). X) (sym same) (law.0 stands)),
     )

@@ -2,7 +2,7 @@ use Rattle.std.proofs.Common.{◌≤◌, ◌≡◌, ◌+◌, length, drop, arith
 use Rattle.std.specs.Result.{IfOk}
 use Rattle.std.proofs.lemmas.Result.{IfOk-weaker}
 use Rattle.lol_program.specs.Compiled.{sight}
-use Rattle.lol_program.specs.Tries.{name_tries, attribute_tries}
+use Rattle.lol_program.specs.Tries.{names_counted, attributes_counted}
 use Rattle.lol_vm.specs.InstructionRuns.{ranges_in, AreRunnable, all_at, ranges_from, open_among, gathered_with_attributes}
 use Rattle.lol_vm.proofs.InstructionLists.{active_sliced, active_at, is_left, others_run, length_from, length_part, open_from, gathered_from}
 use Rattle.lol_vm.proofs.instruction_runs.complete_active.Goals as goal
@@ -50,11 +50,11 @@ returns-clause-names g c = λ is_stop runnable.
     let is = is_left all ranges stop is_stop tries runnable part l (active_at active stop.range (λ r. r.start + stop.offset ≤ r.end → l ≡ record { start = r.start + stop.offset; end = r.end }) c.range_from-left.ensures) c.instructions_in-part.ensures.value in
     let others = others_run all ranges stop is_stop tries runnable part is mid told.names_bound told.attributes_bound in
     let run = subst
-    (λ rs. AreRunnable all rs mid → IfOk c.exec_active.result (λ done. name_tries c.exec_active.new.tries ≡ name_tries mid + length (all_at all rs)))
+    (λ rs. AreRunnable all rs mid → IfOk c.exec_active.result (λ done. names_counted c.exec_active.new.tries ≡ names_counted mid + length (all_at all rs)))
     (active_sliced active (stop.range + 1)) c.exec_active.ensures.names in
     IfOk-weaker c.exec_active.result
-    (λ done. name_tries c.exec_active.new.tries ≡ name_tries mid + length (all_at all (drop (stop.range + 1) ranges)))
-    (λ done. name_tries c.exec_active.new.tries + 1 ≡ name_tries tries + length (all_at all (ranges_from ranges stop)))
+    (λ done. names_counted c.exec_active.new.tries ≡ names_counted mid + length (all_at all (drop (stop.range + 1) ranges)))
+    (λ done. names_counted c.exec_active.new.tries + 1 ≡ names_counted tries + length (all_at all (ranges_from ranges stop)))
     (λ done counted. omega (arith, counted, told.names, length_part all ranges stop is_stop tries runnable part is, length_from all ranges stop is_stop tries runnable part is))
     (run others)
 
@@ -75,10 +75,10 @@ returns-clause-attributes g c = λ is_stop runnable.
     let is = is_left all ranges stop is_stop tries runnable part l (active_at active stop.range (λ r. r.start + stop.offset ≤ r.end → l ≡ record { start = r.start + stop.offset; end = r.end }) c.range_from-left.ensures) c.instructions_in-part.ensures.value in
     let others = others_run all ranges stop is_stop tries runnable part is mid told.names_bound told.attributes_bound in
     let run = subst
-    (λ rs. AreRunnable all rs mid → IfOk c.exec_active.result (λ done. attribute_tries c.exec_active.new.tries ≡ attribute_tries mid + open_among t (all_at all rs)))
+    (λ rs. AreRunnable all rs mid → IfOk c.exec_active.result (λ done. attributes_counted c.exec_active.new.tries ≡ attributes_counted mid + open_among t (all_at all rs)))
     (active_sliced active (stop.range + 1)) c.exec_active.ensures.attributes in
     IfOk-weaker c.exec_active.result
-    (λ done. attribute_tries c.exec_active.new.tries ≡ attribute_tries mid + open_among t (all_at all (drop (stop.range + 1) ranges)))
-    (λ done. attribute_tries c.exec_active.new.tries ≡ attribute_tries tries + open_among s (all_at all (ranges_from ranges stop)))
+    (λ done. attributes_counted c.exec_active.new.tries ≡ attributes_counted mid + open_among t (all_at all (drop (stop.range + 1) ranges)))
+    (λ done. attributes_counted c.exec_active.new.tries ≡ attributes_counted tries + open_among s (all_at all (ranges_from ranges stop)))
     (λ done counted. omega (arith, counted, told.attributes, open_from all ranges stop is_stop tries runnable part is t s same))
     (run others)

@@ -2,7 +2,7 @@ use Rattle.std.proofs.Common.{◌≡◌, ◌+◌, ◌∷◌, arith, ap, rules}
 use Rattle.std.proofs.lemmas.Grind.{common_steps}
 use Rattle.std.proofs.lemmas.Result.{IfOk-weaker}
 use Rattle.lol_program.specs.Compiled.{sight}
-use Rattle.lol_program.specs.Tries.{attribute_tries}
+use Rattle.lol_program.specs.Tries.{attributes_counted}
 use Rattle.lol_vm.specs.InstructionRuns.{open_among}
 use Rattle.lol_vm.proofs.InstructionLists.{open_split}
 use Rattle.lol_vm.proofs.instruction_runs.complete_instructions.Goals as goal
@@ -22,8 +22,8 @@ returns-clause-attributes g c =
     ] in
     let split : all ≡ c.in-Some.first.now ∷ others = search rules in
     IfOk-weaker c.exec_instructions.result
-    (λ done. attribute_tries c.exec_instructions.new.tries ≡ attribute_tries mid + open_among t others)
-    (λ done. attribute_tries c.exec_instructions.new.tries ≡ attribute_tries c.args.tries.now + open_among s all)
+    (λ done. attributes_counted c.exec_instructions.new.tries ≡ attributes_counted mid + open_among t others)
+    (λ done. attributes_counted c.exec_instructions.new.tries ≡ attributes_counted c.args.tries.now + open_among s all)
     (λ done counted.
     omega (arith, counted, c.complete_exec_with_attrs.ensures.attributes, open_split s all c.in-Some.first.now others split, ap (λ n. open_among (sight c.args.state.now n) others) name))
     c.exec_instructions.ensures.attributes

@@ -2,7 +2,7 @@ use Rattle.std.specs.declared.ops.Range.{Range}
 use Rattle.std.proofs.lemmas.List.{length-map}
 use Rattle.std.proofs.Common.{ℕ, ◌-◌, ◌≡◌, ◌<◌, length, get_or, arith, ap, ◌∙◌}
 use Rattle.lol_program.specs.Compiled.{sight}
-use Rattle.lol_vm.specs.InstructionRuns.{no_range, AreRunnable, IsInsideOf, HasRoomFor, ranges_in, instructions_at, all_at, gathered_with_attributes}
+use Rattle.lol_vm.specs.InstructionRuns.{no_range, AreRunnable, IsInsideOf, HasTriesLeft, ranges_in, instructions_at, all_at, gathered_with_attributes}
 use Rattle.lol_vm.proofs.InstructionLists.{active_at, is_lent, open_within, length_next, open_next, attributes_next}
 use Rattle.lol_vm.proofs.instruction_runs.exec_active.Goals as goal
 
@@ -22,7 +22,7 @@ loop-active_range-preserved g c =
     let same : t ≡ s = ap (sight c.args.state.now) so_far.name in
     let is : AreRunnable all ranges tries → part ≡ instructions_at all (get_or ranges at no_range) =
     λ runnable.
-    is_lent all ranges at within tries now runnable part (active_at c.args.active.now at (λ r. IsInsideOf all r → HasRoomFor now (r.end - r.start) → part ≡ instructions_at all r) c.instructions_in-part.ensures.value) (omega (arith, so_far.names runnable))
+    is_lent all ranges at within tries now runnable part (active_at c.args.active.now at (λ r. IsInsideOf all r → HasTriesLeft now (r.end - r.start) → part ≡ instructions_at all r) c.instructions_in-part.ensures.value) (omega (arith, so_far.names runnable))
     (open_within all ranges at within tries now runnable s (so_far.attributes runnable)) in
     record {
       names = λ runnable. omega (arith, told.names, so_far.names runnable, length_next all ranges at within part (is runnable));

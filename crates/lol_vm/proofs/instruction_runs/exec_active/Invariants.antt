@@ -1,6 +1,6 @@
 use Rattle.std.proofs.Common.{◌≡◌, ◌+◌, drop, take, length}
 use Rattle.lol_program.specs.Compiled.{sight}
-use Rattle.lol_program.specs.Tries.{name_tries, attribute_tries}
+use Rattle.lol_program.specs.Tries.{names_counted, attributes_counted}
 use Rattle.lol_vm.specs.InstructionRuns.{AreRunnable, ranges_in, all_at, open_among, gathered_with_attributes}
 use Rattle.lol_vm.proofs.instruction_runs.exec_active.Given as goal
 
@@ -13,8 +13,8 @@ invariant-loop-active_range g l =
     let before = all_at l.instructions (take l.active_range-index (ranges_in l.active)) in
     let after = all_at l.instructions (drop l.active_range-index (ranges_in l.active)) in
     record {
-      names : runnable → name_tries l.tries ≡ name_tries l.fn.tries + length before;
-      attributes : runnable → attribute_tries l.tries ≡ attribute_tries l.fn.tries + open_among s before;
+      names : runnable → names_counted l.tries ≡ names_counted l.fn.tries + length before;
+      attributes : runnable → attributes_counted l.tries ≡ attributes_counted l.fn.tries + open_among s before;
       name : l.ctx.stack_item.local_name ≡ l.fn.ctx.stack_item.local_name;
       rest :
           runnable

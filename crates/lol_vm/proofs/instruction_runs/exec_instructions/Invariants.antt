@@ -1,6 +1,6 @@
 use Rattle.std.proofs.Common.{◌≡◌, ◌+◌, ◌≤◌, drop, take}
 use Rattle.lol_program.specs.Compiled.{sight}
-use Rattle.lol_program.specs.Tries.{name_tries, attribute_tries}
+use Rattle.lol_program.specs.Tries.{names_counted, attributes_counted}
 use Rattle.lol_vm.specs.InstructionRuns.{open_among, gathered_with_attributes}
 use Rattle.lol_vm.proofs.instruction_runs.exec_instructions.Given as goal
 
@@ -10,9 +10,9 @@ invariant-loop-instruction g l =
     let with_ids = g.E.ElementData.with_ids in
     let s = sight l.state l.fn.ctx.stack_item.local_name in
     record {
-      names : name_tries l.tries ≡ name_tries l.fn.tries + l.instruction-index;
-      attributes : attribute_tries l.tries ≡ attribute_tries l.fn.tries + open_among s (take l.instruction-index l.instructions);
-      within : attribute_tries l.tries ≤ attribute_tries l.fn.tries + l.instruction-index;
+      names : names_counted l.tries ≡ names_counted l.fn.tries + l.instruction-index;
+      attributes : attributes_counted l.tries ≡ attributes_counted l.fn.tries + open_among s (take l.instruction-index l.instructions);
+      within : attributes_counted l.tries ≤ attributes_counted l.fn.tries + l.instruction-index;
       name : l.ctx.stack_item.local_name ≡ l.fn.ctx.stack_item.local_name;
       rest :
           gathered_with_attributes ids with_ids s l.matcher l.fn.ctx l.instructions

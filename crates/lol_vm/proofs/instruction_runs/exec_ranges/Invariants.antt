@@ -1,6 +1,6 @@
 use Rattle.std.proofs.Common.{◌≡◌, ◌+◌, drop, take, length}
 use Rattle.lol_program.specs.Compiled.{sight}
-use Rattle.lol_program.specs.Tries.{name_tries, attribute_tries}
+use Rattle.lol_program.specs.Tries.{names_counted, attributes_counted}
 use Rattle.lol_vm.specs.InstructionRuns.{AreRunnable, all_at, open_among, gathered_with_attributes}
 use Rattle.lol_vm.proofs.instruction_runs.exec_ranges.Given as goal
 
@@ -13,8 +13,8 @@ invariant-loop-range g l =
     let before = all_at l.instructions (take l.range-index l.ranges) in
     let after = all_at l.instructions (drop l.range-index l.ranges) in
     record {
-      names : runnable → name_tries l.tries ≡ name_tries l.fn.tries + length before;
-      attributes : runnable → attribute_tries l.tries ≡ attribute_tries l.fn.tries + open_among s before;
+      names : runnable → names_counted l.tries ≡ names_counted l.fn.tries + length before;
+      attributes : runnable → attributes_counted l.tries ≡ attributes_counted l.fn.tries + open_among s before;
       name : l.ctx.stack_item.local_name ≡ l.fn.ctx.stack_item.local_name;
       rest :
           runnable

@@ -4,8 +4,8 @@ use Rattle.std.specs.declared.ops.Range.{Range}
 use Rattle.std.proofs.lemmas.List.{length-map}
 use Rattle.std.proofs.Common.{ℕ, subst, ◌-◌, ◌≡◌, ◌+◌, ◌<◌, length, get_or, arith, sym, ap, Some, None, ◌∙◌}
 use Rattle.lol_program.specs.Compiled.{sight}
-use Rattle.lol_program.specs.Tries.{name_tries}
-use Rattle.lol_vm.specs.InstructionRuns.{no_range, IsStopIn, AreRunnable, IsInsideOf, HasRoomFor, ranges_in, instructions_at, tried_until, first_open_from, all_at}
+use Rattle.lol_program.specs.Tries.{names_counted}
+use Rattle.lol_vm.specs.InstructionRuns.{no_range, IsStopIn, AreRunnable, IsInsideOf, HasTriesLeft, ranges_in, instructions_at, tried_until, first_open_from, all_at}
 use Rattle.lol_vm.proofs.InstructionLists.{active_at, is_lent, length_next, stop_next, stop_here, names_next, names_here}
 use Rattle.lol_vm.proofs.instruction_runs.try_active.Goals as goal
 
@@ -24,9 +24,9 @@ loop-at-preserved g c =
     let s = sight c.args.state.now c.args.ctx.now.stack_item.local_name in
     let same : t ≡ s = ap (sight c.args.state.now) so_far.name in
     let is : AreRunnable all ranges tries → part ≡ instructions_at all (get_or ranges at no_range) =
-    λ runnable. is_lent all ranges at within tries now runnable part (active_at c.args.active.now at (λ r. IsInsideOf all r → HasRoomFor now (r.end - r.start) → part ≡ instructions_at all r) c.instructions_in-part.ensures.value) (omega (arith, so_far.names runnable)) (omega (arith, so_far.attributes)) in
-    let passed : name_tries c.try_instructions.new.tries ≡ name_tries now + length part =
-    told.names ∙ ap (λ o. name_tries now + tried_until o (length part)) c.in_default.is in
+    λ runnable. is_lent all ranges at within tries now runnable part (active_at c.args.active.now at (λ r. IsInsideOf all r → HasTriesLeft now (r.end - r.start) → part ≡ instructions_at all r) c.instructions_in-part.ensures.value) (omega (arith, so_far.names runnable)) (omega (arith, so_far.attributes)) in
+    let passed : names_counted c.try_instructions.new.tries ≡ names_counted now + length part =
+    told.names ∙ ap (λ o. names_counted now + tried_until o (length part)) c.in_default.is in
     let none : first_open_from t 0 part ≡ None = sym told.stop ∙ c.in_default.is in
     record {
       names = λ runnable. omega (arith, passed, so_far.names runnable, length_next all ranges at within part (is runnable));
@@ -53,7 +53,7 @@ returns-in-Some-clause-stop g c = λ runnable.
     let s = sight c.args.state.now c.args.ctx.now.stack_item.local_name in
     let same : t ≡ s = ap (sight c.args.state.now) so_far.name in
     let is : part ≡ instructions_at all (get_or ranges at no_range) =
-    is_lent all ranges at within tries now runnable part (active_at c.args.active.now at (λ r. IsInsideOf all r → HasRoomFor now (r.end - r.start) → part ≡ instructions_at all r) c.instructions_in-part.ensures.value) (omega (arith, so_far.names runnable)) (omega (arith, so_far.attributes)) in
+    is_lent all ranges at within tries now runnable part (active_at c.args.active.now at (λ r. IsInsideOf all r → HasTriesLeft now (r.end - r.start) → part ≡ instructions_at all r) c.instructions_in-part.ensures.value) (omega (arith, so_far.names runnable)) (omega (arith, so_far.attributes)) in
     let some : first_open_from t 0 part ≡ Some c.in-Some.offset = sym told.stop ∙ c.in-Some.is in
     stop_here all ranges at within part is t s same (first_open_from s 0 (all_at all ranges)) c.in-Some.offset (so_far.stop runnable) some
 
@@ -72,7 +72,7 @@ returns-in-Some-clause-ctx g c = λ runnable.
     let s = sight c.args.state.now c.args.ctx.now.stack_item.local_name in
     let same : t ≡ s = ap (sight c.args.state.now) so_far.name in
     let is : part ≡ instructions_at all (get_or ranges at no_range) =
-    is_lent all ranges at within tries now runnable part (active_at c.args.active.now at (λ r. IsInsideOf all r → HasRoomFor now (r.end - r.start) → part ≡ instructions_at all r) c.instructions_in-part.ensures.value) (omega (arith, so_far.names runnable)) (omega (arith, so_far.attributes)) in
+    is_lent all ranges at within tries now runnable part (active_at c.args.active.now at (λ r. IsInsideOf all r → HasTriesLeft now (r.end - r.start) → part ≡ instructions_at all r) c.instructions_in-part.ensures.value) (omega (arith, so_far.names runnable)) (omega (arith, so_far.attributes)) in
     let some : first_open_from t 0 part ≡ Some c.in-Some.offset = sym told.stop ∙ c.in-Some.is in
     names_here all ranges at within part is t s same g.E.ElementData.ids g.E.ElementData.with_ids _ c.loop-at.ctx c.try_instructions.new.ctx c.in-Some.offset (so_far.rest runnable) some told.ctx
 
@@ -88,9 +88,9 @@ returns-in-Some-clause-within g c = λ runnable stop is_stop.
     let part = c.instructions_in-part.result.now in
     let told = c.in_ok-offset.ensures in
     let is : part ≡ instructions_at all (get_or ranges at no_range) =
-    is_lent all ranges at within tries now runnable part (active_at c.args.active.now at (λ r. IsInsideOf all r → HasRoomFor now (r.end - r.start) → part ≡ instructions_at all r) c.instructions_in-part.ensures.value) (omega (arith, so_far.names runnable)) (omega (arith, so_far.attributes)) in
-    let stopped : name_tries c.try_instructions.new.tries ≡ name_tries now + (c.in-Some.offset + 1) =
-    told.names ∙ ap (λ o. name_tries now + tried_until o (length part)) c.in-Some.is in
+    is_lent all ranges at within tries now runnable part (active_at c.args.active.now at (λ r. IsInsideOf all r → HasTriesLeft now (r.end - r.start) → part ≡ instructions_at all r) c.instructions_in-part.ensures.value) (omega (arith, so_far.names runnable)) (omega (arith, so_far.attributes)) in
+    let stopped : names_counted c.try_instructions.new.tries ≡ names_counted now + (c.in-Some.offset + 1) =
+    told.names ∙ ap (λ o. names_counted now + tried_until o (length part)) c.in-Some.is in
     let offset_within : c.in-Some.offset < length (instructions_at all (get_or ranges at no_range)) = omega (arith, stopped, told.names_bound, ap length is) in
     let here : Stop = record { range = at; offset = c.in-Some.offset } in
     let same_stop : here ≡ stop = grind (arith, common_steps, is_stop) in

@@ -1,6 +1,6 @@
 use Rattle.std.proofs.Common.{◌≡◌, ◌+◌, drop}
 use Rattle.lol_program.specs.Compiled.{sight}
-use Rattle.lol_program.specs.Tries.{name_tries, attribute_tries}
+use Rattle.lol_program.specs.Tries.{names_counted, attributes_counted}
 use Rattle.lol_vm.specs.InstructionRuns.{first_open_from, gathered_by_names}
 use Rattle.lol_vm.proofs.instruction_runs.try_instructions.Given as goal
 
@@ -10,8 +10,8 @@ invariant-loop-at g l =
     let with_ids = g.E.ElementData.with_ids in
     let s = sight l.state l.fn.ctx.stack_item.local_name in
     record {
-      names : name_tries l.tries ≡ name_tries l.fn.tries + l.at;
-      attributes : attribute_tries l.tries ≡ attribute_tries l.fn.tries;
+      names : names_counted l.tries ≡ names_counted l.fn.tries + l.at;
+      attributes : attributes_counted l.tries ≡ attributes_counted l.fn.tries;
       name : l.ctx.stack_item.local_name ≡ l.fn.ctx.stack_item.local_name;
       stop : first_open_from s 0 l.instructions ≡ first_open_from s l.at (drop l.at l.instructions);
       rest :

@@ -1,6 +1,6 @@
 use Rattle.std.proofs.Common.{◌≡◌, ◌+◌, ◌<◌, length, get_or, arith, sym, ap, Some, None, ◌∙◌}
 use Rattle.lol_program.specs.Compiled.{sight}
-use Rattle.lol_program.specs.Tries.{name_tries}
+use Rattle.lol_program.specs.Tries.{names_counted}
 use Rattle.lol_vm.specs.InstructionRuns.{no_range, AreRunnable, instructions_at, tried_until, first_open_from, all_at}
 use Rattle.lol_vm.proofs.InstructionLists.{is_lent, length_next, stop_next, stop_here, names_next, names_here}
 use Rattle.lol_vm.proofs.instruction_runs.try_ranges.Goals as goal
@@ -21,8 +21,8 @@ loop-at-preserved g c =
     let same : t ≡ s = ap (sight c.args.state.now) so_far.name in
     let is : AreRunnable all ranges tries → part ≡ instructions_at all (get_or ranges at no_range) =
     λ runnable. is_lent all ranges at within tries now runnable part c.instructions_in-part.ensures.value (omega (arith, so_far.names runnable)) (omega (arith, so_far.attributes)) in
-    let passed : name_tries c.try_instructions.new.tries ≡ name_tries now + length part =
-    told.names ∙ ap (λ o. name_tries now + tried_until o (length part)) c.in_default.is in
+    let passed : names_counted c.try_instructions.new.tries ≡ names_counted now + length part =
+    told.names ∙ ap (λ o. names_counted now + tried_until o (length part)) c.in_default.is in
     let none : first_open_from t 0 part ≡ None = sym told.stop ∙ c.in_default.is in
     record {
       names = λ runnable. omega (arith, passed, so_far.names runnable, length_next all ranges at within part (is runnable));

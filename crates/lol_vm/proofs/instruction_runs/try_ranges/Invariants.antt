@@ -1,6 +1,6 @@
 use Rattle.std.proofs.Common.{◌≡◌, ◌+◌, drop, take, length}
 use Rattle.lol_program.specs.Compiled.{sight}
-use Rattle.lol_program.specs.Tries.{name_tries, attribute_tries}
+use Rattle.lol_program.specs.Tries.{names_counted, attributes_counted}
 use Rattle.lol_vm.specs.InstructionRuns.{AreRunnable, all_at, first_open_from, gathered_by_names}
 use Rattle.lol_vm.proofs.instruction_runs.try_ranges.Given as goal
 
@@ -13,8 +13,8 @@ invariant-loop-at g l =
     let before = all_at l.instructions (take l.at l.ranges) in
     let after = all_at l.instructions (drop l.at l.ranges) in
     record {
-      names : runnable → name_tries l.tries ≡ name_tries l.fn.tries + length before;
-      attributes : attribute_tries l.tries ≡ attribute_tries l.fn.tries;
+      names : runnable → names_counted l.tries ≡ names_counted l.fn.tries + length before;
+      attributes : attributes_counted l.tries ≡ attributes_counted l.fn.tries;
       name : l.ctx.stack_item.local_name ≡ l.fn.ctx.stack_item.local_name;
       stop : runnable → first_open_from s 0 (all_at l.instructions l.ranges) ≡ first_open_from s (length before) after;
       rest : runnable → gathered_by_names ids with_ids s l.fn.ctx (all_at l.instructions l.ranges) ≡ gathered_by_names ids with_ids s l.ctx after;

@@ -2,7 +2,7 @@ use Rattle.std.proofs.Common.{◌≡◌, ◌+◌, ◌≤◌, ◌-◌, List, subs
 use Rattle.std.proofs.lemmas.List.{take_rest}
 use Rattle.lol_base.specs.LocalNames.{same_local_name}
 use Rattle.lol_vm.specs.Documents.{after_end}
-use Rattle.lol_vm.specs.OpenNames.{Stands}
+use Rattle.lol_vm.specs.OpenNames.{AreOpenIn}
 use Rattle.lol_vm.specs.declared.matching.OpenElement.{OpenElement}
 use Rattle.lol_vm.proofs.Runs.{closes_nothing, stands_still, closes_back, stands_cut}
 use Rattle.lol_vm.proofs.run.close.Goals as goal
@@ -35,4 +35,4 @@ returns-clause-stands c = λ d bytes spelled stands.
     let found = ap (λ (es : List OpenElement). position (λ (e : OpenElement). same_local_name e.name c.args.name.now) (reverse es)) (sym c.deref.ensures.value) ∙ sym c.in-Some.ensures.value in
     let within : back + 1 ≤ length elements = omega (arith, c.in-Some.ensures.within, ap (length {A = OpenElement}) c.deref.ensures.value) in
     let place : c.len.result - 1 - back ≡ length elements - (back + 1) = omega (arith, c.len.ensures, c.args.elements.now.ok.0) in
-    subst (λ es. Stands es (after_end d bytes)) (sym (c.truncate.ensures.items ∙ ap (λ n. take n elements) place)) (stands_cut elements d stands c.args.name.now bytes spelled back found within)
+    subst (λ es. AreOpenIn es (after_end d bytes)) (sym (c.truncate.ensures.items ∙ ap (λ n. take n elements) place)) (stands_cut elements d stands c.args.name.now bytes spelled back found within)

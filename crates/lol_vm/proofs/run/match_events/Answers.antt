@@ -3,7 +3,7 @@ use Rattle.std.proofs.lemmas.List.{map_push, take_more, length-map, length-take-
 use Rattle.std.specs.Prelude.{if◌then◌else◌}
 use Rattle.lol_vm.specs.Documents.{empty}
 use Rattle.lol_vm.specs.Answers.{answers, answer, document}
-use Rattle.lol_vm.specs.OpenNames.{Stands}
+use Rattle.lol_vm.specs.OpenNames.{AreOpenIn}
 use Rattle.lol_vm.specs.Views.{event_of, answer_of, without_tries, selectors}
 use Rattle.lol_vm.specs.declared.events.TagEvent.{TagEvent}
 use Rattle.lol_vm.proofs.Runs.{document_push, answers_push, events-document}
@@ -34,7 +34,7 @@ loop-number-preserved c =
       stands =
           let s = selectors c.args.ast in
           let count : (document s false before).events ≡ n = omega (arith, events-document s false empty before, length-map (take n all) event_of, length-take-le n all (omega arith)) in
-          subst (Stands c.answer.new.elements.items) (sym (ap (document s false) front ∙ document_push s false empty before (event_of event)))
+          subst (AreOpenIn c.answer.new.elements.items) (sym (ap (document s false) front ∙ document_push s false empty before (event_of event)))
           (c.in-Ok.ensures.stands (document s false before) c.loop-number.invariant.stands count);
     }
 

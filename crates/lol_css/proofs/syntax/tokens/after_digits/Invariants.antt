@@ -1,10 +1,10 @@
 use Rattle.std.proofs.Common.{◌≡◌, ◌≤◌, length}
-use Rattle.lol_css.specs.Points.{many, one, is_decimal}
+use Rattle.lol_css.specs.Points.{many, first_that, is_decimal}
 use Rattle.lol_css.proofs.syntax.tokens.after_digits.Given as goal
 
 abbrev pub invariant-loop-after : goal.invariant-loop-after
 invariant-loop-after l = record {
-  value : (many (one is_decimal) l.rest).1 ≡ (many (one is_decimal) l.fn.text).1;
+  value : (many (first_that is_decimal) l.rest).1 ≡ (many (first_that is_decimal) l.fn.text).1;
   shorter : length l.rest ≤ length l.fn.text;
 }
 

@@ -3,7 +3,7 @@ use Rattle.std.proofs.Common.{List, arith, subst}
 use Rattle.std.proofs.lemmas.Result.{on_ok_weaker, on_err_weaker}
 use Rattle.lol_css.specs.declared.selector.Combinator.{Combinator}
 use Rattle.lol_program.specs.IdsForNodes.{id_in, HasRoomAmong}
-use Rattle.lol_program.specs.Views.{forest_of, steps_of, tests_in}
+use Rattle.lol_program.specs.Views.{forest_of, steps_of, tests_of_compound}
 use Rattle.lol_program.specs.Growth.{Adds, AddsFirst}
 use Rattle.lol_css.specs.declared.selector.Compound as css
 use Rattle.lol_program.proofs.Reserved.{enough-kept}
@@ -16,14 +16,14 @@ pub invariant_of-self : goal.invariant_of-self
 invariant_of-self c =
     record {
       counted = omega (arith, c.add_path.ensures.count, c.args.self.now.counted);
-      siblings = differ_after c.add_path.result (id_in c.args.id) (tests_in (out-ComplexSelector c.args.item.now).first) (steps_of c.deref.result.now) (forest_of c.args.self.now.root.items) (forest_of c.add_path.new.nodes.items) c.add_path.ensures.added c.add_path.ensures.partly c.args.self.now.siblings;
+      siblings = differ_after c.add_path.result (id_in c.args.id) (tests_of_compound (out-ComplexSelector c.args.item.now).first) (steps_of c.deref.result.now) (forest_of c.args.self.now.root.items) (forest_of c.add_path.new.nodes.items) c.add_path.ensures.added c.add_path.ensures.partly c.args.self.now.siblings;
     }
 
 pub returns-clause-pairs : goal.returns-clause-pairs
 returns-clause-pairs c =
     let old = forest_of c.args.self.now.root.items in
     let new = forest_of c.add_path.new.nodes.items in
-    let first = tests_in (out-ComplexSelector c.args.item.now).first in
+    let first = tests_of_compound (out-ComplexSelector c.args.item.now).first in
     let id = id_in c.args.id in
     on_ok_weaker c.add_path.result (λ h. added_pairs first (steps_of (out-ComplexSelector c.args.item.now).rest.items) old new id (subst (λ (r : List (Combinator × css.Compound)). Adds id first (steps_of r) old new) c.deref.ensures.value h)) c.add_path.ensures.added
 
@@ -31,7 +31,7 @@ pub returns-clause-nodes : goal.returns-clause-nodes
 returns-clause-nodes c =
     let old = forest_of c.args.self.now.root.items in
     let new = forest_of c.add_path.new.nodes.items in
-    let first = tests_in (out-ComplexSelector c.args.item.now).first in
+    let first = tests_of_compound (out-ComplexSelector c.args.item.now).first in
     let id = id_in c.args.id in
     on_ok_weaker c.add_path.result (λ h. added_nodes first (steps_of (out-ComplexSelector c.args.item.now).rest.items) old new id (subst (λ (r : List (Combinator × css.Compound)). Adds id first (steps_of r) old new) c.deref.ensures.value h)) c.add_path.ensures.added
 
@@ -39,7 +39,7 @@ pub returns-clause-stands : goal.returns-clause-stands
 returns-clause-stands c =
     let old = forest_of c.args.self.now.root.items in
     let new = forest_of c.add_path.new.nodes.items in
-    let first = tests_in (out-ComplexSelector c.args.item.now).first in
+    let first = tests_of_compound (out-ComplexSelector c.args.item.now).first in
     let id = id_in c.args.id in
     on_ok_weaker c.add_path.result (λ h. adds_stands id first (steps_of (out-ComplexSelector c.args.item.now).rest.items) old new (subst (λ (r : List (Combinator × css.Compound)). Adds id first (steps_of r) old new) c.deref.ensures.value h)) c.add_path.ensures.added
 
@@ -47,27 +47,27 @@ pub returns-clause-refused_pairs : goal.returns-clause-refused_pairs
 returns-clause-refused_pairs c =
     let old = forest_of c.args.self.now.root.items in
     let new = forest_of c.add_path.new.nodes.items in
-    let first = tests_in (out-ComplexSelector c.args.item.now).first in
+    let first = tests_of_compound (out-ComplexSelector c.args.item.now).first in
     on_err_weaker c.add_path.result (λ h. first_pairs first (steps_of c.deref.result.now) old new h.0 h.1) c.add_path.ensures.partly
 
 pub returns-clause-refused_nodes : goal.returns-clause-refused_nodes
 returns-clause-refused_nodes c =
     let old = forest_of c.args.self.now.root.items in
     let new = forest_of c.add_path.new.nodes.items in
-    let first = tests_in (out-ComplexSelector c.args.item.now).first in
+    let first = tests_of_compound (out-ComplexSelector c.args.item.now).first in
     on_err_weaker c.add_path.result (λ h. first_nodes first (steps_of (out-ComplexSelector c.args.item.now).rest.items) old new h.0 (subst (λ (r : List (Combinator × css.Compound)). AddsFirst h.0 first (steps_of r) old new) c.deref.ensures.value h.1)) c.add_path.ensures.partly
 
 pub returns-clause-keeps : goal.returns-clause-keeps
 returns-clause-keeps c =
     let old = forest_of c.args.self.now.root.items in
     let new = forest_of c.add_path.new.nodes.items in
-    keeps_all old new (keeps_either (tests_in (out-ComplexSelector c.args.item.now).first) (steps_of c.deref.result.now) old new (λ ids. Unit {0}) anyhow c.add_path.result (id_in c.args.id) c.add_path.ensures.added c.add_path.ensures.partly)
+    keeps_all old new (keeps_either (tests_of_compound (out-ComplexSelector c.args.item.now).first) (steps_of c.deref.result.now) old new (λ ids. Unit {0}) anyhow c.add_path.result (id_in c.args.id) c.add_path.ensures.added c.add_path.ensures.partly)
 
 pub returns-clause-keeps_enough : goal.returns-clause-keeps_enough
 returns-clause-keeps_enough c match_id =
     let old = forest_of c.args.self.now.root.items in
     let new = forest_of c.add_path.new.nodes.items in
-    let first = tests_in (out-ComplexSelector c.args.item.now).first in
+    let first = tests_of_compound (out-ComplexSelector c.args.item.now).first in
     let rest = steps_of c.deref.result.now in
     let rooms : KeepsWith (HasRoomAmong match_id) old new = keeps_either first rest old new (HasRoomAmong match_id) (more_room match_id) c.add_path.result (id_in c.args.id) c.add_path.ensures.added c.add_path.ensures.partly in
     let paths : Keeps old new = keeps_either first rest old new (λ ids. Unit {0}) anyhow c.add_path.result (id_in c.args.id) c.add_path.ensures.added c.add_path.ensures.partly in

@@ -1,5 +1,5 @@
 use Rattle.std.proofs.Common.{ℕ, [], ◌∷◌, vec_len, sym, subst, ◌∙◌, true≢false}
-use Rattle.lol_program.specs.AstPaths.{shown, IsInWith}
+use Rattle.lol_program.specs.AstPaths.{path_shown, IsInWith}
 use Rattle.lol_program.specs.IdsForNodes.{HasRoomAmong, AllReserve}
 use Rattle.lol_program.specs.Sets.{Joins}
 use Rattle.lol_program.specs.Asts.{trees_of, pairs_of}
@@ -26,4 +26,4 @@ returns-clause-enough c items enough =
 pub returns-clause-pairs : goal.returns-clause-pairs
 returns-clause-pairs c =
     let alike = AllReserve-pop c.args.match_id c.pop.new.self.items c.in-Some.reserved (subst (AllReserve c.args.match_id) c.in-Some.ensures.items c.requires.alike) in
-    subst (λ (k : ℕ). Joins (pairs_of c.args.self.now) (pairs_of c.add_path-2.new.self) ((shown c.args.item.now, k) ∷ [])) alike.1 c.in-Ok-add_path.ensures.pairs
+    subst (λ (k : ℕ). Joins (pairs_of c.args.self.now) (pairs_of c.add_path-2.new.self) ((path_shown c.args.item.now, k) ∷ [])) alike.1 c.in-Ok-add_path.ensures.pairs

@@ -1,7 +1,7 @@
 use Rattle.std.proofs.Common.{◌∙◌, sym, ap, ◌++◌, ◌∷◌, []}
-use Rattle.lol_vm.specs.Levels.{is_at}
+use Rattle.lol_vm.specs.Levels.{is_at_level}
 use Rattle.lol_vm.specs.CounterMaps.{counters_of}
-use Rattle.lol_vm.specs.TypedCounts.{TypedCount, last_counted, counted}
+use Rattle.lol_vm.specs.TypedCounts.{TypedCount, last_counted, counted_by_type}
 use Rattle.lol_vm.proofs.Refusals.{on_err}
 use Rattle.lol_vm.proofs.TypedLists.{view-is, view-keeps, keys-seen, levels-seen, levels-kept, levels-uncounted, counted-again, counted-first, keys-last_counted, levels-last_counted, levels-started, keys-push}
 use Rattle.lol_vm.proofs.counters.TypedChildCounterMap.add_child.Goals as goal
@@ -25,7 +25,7 @@ returns-then-count-clause-ok c =
     view-is (last_counted ts name) c.self.inside.kept.items (counters_of c.count.new.self) (keys ∙ sym (keys-last_counted ts name))
     (levels-last_counted ts name (counters_of c.self.inside.lists) (counters_of c.count.new.self) levels c.if-count.ensures.counted)
     in
-    now ∙ (counted-again ts c.args.index name (sym (c.if-count.ensures.is ∙ ap (is_at c.args.index) (levels name))) ∙ ap (counted ts c.args.index) c.in_ok-name.ensures.same)
+    now ∙ (counted-again ts c.args.index name (sym (c.if-count.ensures.is ∙ ap (is_at_level c.args.index) (levels name))) ∙ ap (counted_by_type ts c.args.index) c.in_ok-name.ensures.same)
 
 pub invariant_of-self-in_err-reserve : goal.invariant_of-self-in_err-reserve
 invariant_of-self-in_err-reserve c =
@@ -88,4 +88,4 @@ returns-clause-ok c =
     (c.push_reserved.ensures.items ∙ (ap (λ front. front ++ (c.args.index, name) ∷ []) (c.reserve.ensures.items ∙ keys) ∙ sym (keys-push ts new)))
     (levels-started ts new (counters_of c.count.new.self) (counters_of c.start.new.self) uncounted c.in_ok-start.ensures.ok)
     in
-    now ∙ (counted-first ts c.args.index name (sym (c.if-count.ensures.is ∙ ap (is_at c.args.index) (levels name))) ∙ ap (counted ts c.args.index) c.in_ok-name.ensures.same)
+    now ∙ (counted-first ts c.args.index name (sym (c.if-count.ensures.is ∙ ap (is_at_level c.args.index) (levels name))) ∙ ap (counted_by_type ts c.args.index) c.in_ok-name.ensures.same)
