@@ -62,7 +62,10 @@ fn of_names(rt: HostRuntime) -> Result<(), Fail> {
         (":not(:not(:not(div)))", 3),
     ] {
         let test = negated(alloc, name(alloc, "div")?, times)?;
-        assert!(rt; is_one_node(&tree(alloc, text)?, &alone(alloc, test)?), "{text}");
+        assert!(rt;
+            is_one_node(&tree(alloc, text)?, &alone(alloc, test)?),
+            "{text}"
+        );
     }
     Ok(())
 }
@@ -104,7 +107,12 @@ fn of_attributes(rt: HostRuntime) -> Result<(), Fail> {
     let id = OnAttributesExpr::Id(String::from_str(alloc, "foo")?);
     assert!(rt; is_one_node(&tree(alloc, "#foo")?, &alone(alloc, Test::Attribute(id))?));
     let class = OnAttributesExpr::Class(String::from_str(alloc, "bar")?);
-    assert!(rt; is_one_node(&tree(alloc, ".bar")?, &alone(alloc, Test::Attribute(class))?));
+    assert!(rt;
+        is_one_node(
+            &tree(alloc, ".bar")?,
+            &alone(alloc, Test::Attribute(class))?
+        )
+    );
     for text in ["[foo]", "[FOO]"] {
         let name = OnAttributesExpr::AttributeExists(String::from_str(alloc, "foo")?);
         assert!(rt; is_one_node(&tree(alloc, text)?, &alone(alloc, Test::Attribute(name))?));

@@ -14,7 +14,7 @@ last_below-push n [] place = refl
 last_below-push n (p ∷ []) place = refl
 last_below-push n (p ∷ q ∷ places) place = last_below-push n (q ∷ places) place
 
--- active ranges are only added behind those that were there
+-- active ranges are only added after those that were there
 pub record Extends (active more : List (Range ℕ × ℕ)) : Type 0 where
   pub added : List (Range ℕ × ℕ)
   pub whole : more ≡ active ++ added

@@ -54,7 +54,7 @@ element_of d tag =
 abbrev pub place_of : List ℕ → List Element → Option ℕ
 place_of name elements = position (λ e. same_name e.tag.name name) elements
 
--- the elements up to a place and with it, and those behind it
+-- the elements up to a place and with it, and those after it
 abbrev pub inner_part : Option ℕ → List Element → List Element
 inner_part None elements = []
 inner_part (Some place) elements = take (place + 1) elements

@@ -1,4 +1,5 @@
 -- Laws over the definitions, which later layers stand on.
+use Rattle.lol_program.specs.Sets.{SameMembers}
 use Rattle.std.specs.Prelude.{ℕ, ◌≡◌, ◌≢◌, ◌<◌, ◌↔◌, true, Bool, List, [], map, None, Contains, AllPairs}
 use Rattle.lol_program.specs.Tests.{Element}
 use Rattle.lol_program.specs.Paths.{Path, Selectors}
@@ -11,7 +12,7 @@ use Rattle.lol_vm.specs.Answers.{Match, Ended, report, answer, answers, after}
 use Rattle.lol_vm.specs.Views.{selectors}
 use Rattle.lol_vm.specs.Refusals.{Allowance, refused}
 
--- each number of a list is below all behind it
+-- each number of a list is below all after it
 abbrev pub IsStrictlyAscending : List ℕ → Type 0
 IsStrictlyAscending ns = AllPairs (λ m n. m < n) ns
 
@@ -33,13 +34,10 @@ abbrev pub AscendingIsDetermined : Type 0
 AscendingIsDetermined =
     (ms ns : List ℕ) → IsStrictlyAscending ms → IsStrictlyAscending ns → ((n : ℕ) → Contains ms n ↔ Contains ns n) → ms ≡ ns
 
-abbrev pub SameMembers : {T : Type 0} → List T → List T → Type 0
-SameMembers {T} xs ys = (x : T) → Contains xs x ↔ Contains ys x
-
 -- the same pairs, in any order and number, and the same nodes, each once, in any order
 pub record SameSelectors (s t : Selectors) : Type 0 where
-  pub pairs : SameMembers s.pairs t.pairs
-  pub nodes : SameMembers s.nodes t.nodes
+  pub pairs : SameMembers t.pairs s.pairs
+  pub nodes : SameMembers t.nodes s.nodes
   pub each_once : AllPairs (λ a b. a ≢ b) s.nodes
   pub each_once' : AllPairs (λ a b. a ≢ b) t.nodes
 
@@ -59,5 +57,5 @@ StrayEndChangesNothing =
 -- Two trees of the same pairs, with the same nodes, answer alike: in whatever order their selectors were added.
 abbrev pub TreesAnswerAlike : Type 0
 TreesAnswerAlike =
-    (a b : Ast) → SameMembers (pairs_of a) (pairs_of b) → SameMembers (nodes_of a) (nodes_of b)
+    (a b : Ast) → SameMembers (pairs_of b) (pairs_of a) → SameMembers (nodes_of b) (nodes_of a)
     → (esi : Bool) (events : List Event) → answers (selectors a) esi events ≡ answers (selectors b) esi events

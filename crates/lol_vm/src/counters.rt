@@ -210,7 +210,7 @@ impl TypedChildCounterMap {
     }
 
     /// Counts a child of this name at the level `index`, which is not below a level that is kept, and whose counter for the name is not
-    /// full. It is refused only for want of memory, and then nothing has changed.
+    /// full. It is refused only where memory is out, and then nothing has changed.
     pub fn add_child(&mut self, name: &LocalName<'_>, index: usize) -> Result<(), AllocError>
         ensures ok { OnOk result (self.new ≡ counted_by_type self.old index name.now) }
         ensures err { OnErr result (self.new ≡ self.old) }

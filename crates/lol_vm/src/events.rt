@@ -4,7 +4,7 @@ use lol_base::{AuxStartTagInfo, Namespace};
 use lol_memory::MatchInfo;
 use lol_program::Tries;
 
-/// A tag of a document. (Not in the crate, whose rewriter calls the machine tag by tag.)
+/// A tag of a document. (Not in lol_html, whose rewriter calls the machine tag by tag.)
 #[derive(Clone, Copy)]
 pub enum TagEvent<'i> {
     /// A start tag. Where its attributes are asked for they are handed over if `finish` is true; otherwise the tag is dropped.
@@ -20,7 +20,7 @@ pub enum TagEvent<'i> {
     },
 }
 
-/// What is answered to a tag. (Not in the crate.)
+/// What is answered to a tag. (Not in lol_html.)
 #[derive(Drop)]
 pub enum TagReport {
     /// A start tag: what it is reported under, ascending by id, whether its attributes were asked for, and what was tried.
@@ -37,7 +37,7 @@ pub enum TagReport {
     },
 }
 
-/// Why a run was refused. (Not in the crate.)
+/// Why a run was refused. (Not in lol_html.)
 #[derive(Debug, Clone, Copy, PartialEq, Eq)]
 pub enum RunCause {
     /// An element's charge would have passed the limiter's maximum.
@@ -48,7 +48,7 @@ pub enum RunCause {
     Memory,
 }
 
-/// A refused run: the reports of the events before `event`, which was refused. (Not in the crate.)
+/// A refused run: the reports of the events before `event`, which was refused. (Not in lol_html.)
 #[derive(Drop)]
 pub struct RunRefusal {
     pub reports: Vec<TagReport>,

@@ -44,7 +44,7 @@ impl<'i, E: ElementData> ExecutionCtx<'i, E> {
     }
 
     /// Adds what an instruction gives: its ids and, where the element has content, those of its two ranges that are there. It is
-    /// refused only for want of memory, and then nothing has changed.
+    /// refused only where memory is out, and then nothing has changed.
     pub fn add_execution_branch(
         &mut self,
         alloc: Global,

@@ -321,11 +321,11 @@ impl StackNames {
 }
 
 /// Takes the last place of each element's name off, in the order of the elements.
-fn remove_names<E>(open: &mut OpenNames, closed: &[StackItem<'static, E>])
-    ensures { (q : Name) → places_of open.new q ≡ without_places closed.now q (places_of open.old q) }
+fn remove_names<E>(open_names: &mut OpenNames, closed: &[StackItem<'static, E>])
+    ensures { (q : Name) → places_of open_names.new q ≡ without_places closed.now q (places_of open_names.old q) }
 {
     for item in closed {
-        open.remove(&item.local_name);
+        open_names.remove(&item.local_name);
     }
 }
 

@@ -42,8 +42,7 @@ step_is_reached-loop-place-preserved t c = λ outer runs named.
     let inner = innermost_at c.args.elements.now c.loop-place.place (get_or c.args.elements.now (c.loop-place.place - 1) c.index-elements-place.result) left.0 c.loop-place-test.true c.loop-place.auto.place (ap (get_or c.args.elements.now (c.loop-place.place - 1)) c.index-elements-place.is) left.1 in
     let test = matches (path_up (reverse c.args.front.now)) in
     let told = c.path_matches.ensures inner.parent inner.around runs inner.spelled inner.named in
-    let descendant : c.args.combinator ≡ Descendant = not_child c.args.combinator (sym c.eq.ensures ∙ c.if-eq.false) in
-    (
+    let descendant : c.args.combinator ≡ Descendant = not_child c.args.combinator (sym c.eq.ensures ∙ c.if-eq.false) in (
       inner.around,
       inner.named,
       left.2 ∙ (λ i. step_reaches (descendant i) test (inner.is i)) ∙ reaches_further test inner.parent inner.around (sym told ∙ c.if-path_matches.false) ∙ ap (λ step. step_reaches step test inner.around) (sym descendant),

@@ -6,4 +6,4 @@ use Rattle.lol_vm.proofs.stack.remove_names.Given as goal
 
 abbrev pub invariant-loop-item : goal.invariant-loop-item
 invariant-loop-item g l =
-    (q : Name) → without_places (drop l.item-index l.closed) q (places_of l.open q) ≡ without_places l.closed q (places_of l.initial.open q)
+    (q : Name) → without_places (drop l.item-index l.closed) q (places_of l.open_names q) ≡ without_places l.closed q (places_of l.initial.open_names q)
