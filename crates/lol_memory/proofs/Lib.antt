@@ -1,4 +1,3 @@
 pub mod WordsLemmas
 pub mod IterLemmas
 pub mod DrainLemmas
-pub mod LawLemmas

@@ -7,3 +7,4 @@ pub mod Ids
 pub mod Words
 pub mod WordsOf
 pub mod SetLaws
+pub mod AscendingLaws

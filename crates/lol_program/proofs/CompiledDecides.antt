@@ -8,7 +8,7 @@ use Rattle.lol_program.specs.declared.name_value.NameValue.{NameValue}
 use Rattle.lol_program.specs.declared.name_value.NameValue.TheVariants.{True, False}
 use Rattle.lol_program.specs.declared.compiled_predicate.CompiledTest.{CompiledTest, Name, Attribute, NoneOf', SomeOf', Row_of-CompiledPredicate, end_of-CompiledPredicate, more_of-CompiledPredicate}
 use Rattle.lol_program.specs.declared.compiled_predicate.CompiledPredicate.{CompiledPredicate, Row_of-CompiledTest, end_of-CompiledTest, more_of-CompiledTest}
-use Rattle.lol_program.proofs.Values.{decides_bool, decides_opposite, decides_both, decides_either}
+use Rattle.lol_program.specs.ValueLaws.{decides_bool, decides_opposite, decides_both, decides_either}
 
 module _ (s : Sight) (a : TagAttributes) where
   mutual

@@ -1,8 +1,6 @@
 pub mod Tests
 pub mod Grown
-pub mod Nodes
 pub mod Placed
-pub mod IdSets
 pub mod Standing
 pub mod Joining
 pub mod Adding
@@ -10,9 +8,7 @@ pub mod Items
 pub mod Reserved
 pub mod PathLists
 pub mod Selectors
-pub mod Running
 pub mod TestRows
-pub mod Values
 pub mod RunningTests
 pub mod RunningParts
 mod AttributeValues

@@ -14,7 +14,7 @@ use Rattle.lol_program.specs.Views.{node_of, forest_of, linked, steps_of, tests_
 use Rattle.lol_program.specs.declared.ast_node.AstNode.{AstNode}
 use Rattle.lol_program.specs.declared.ast_node.AstNode.TheOpen.{AstNode-F}
 use Rattle.lol_program.specs.declared.ast_node.AstNode.TheViews.{out-AstNode, roll-AstNode}
-use Rattle.lol_program.proofs.Nodes.{shape, node_roll, node_out}
+use Rattle.lol_program.specs.NodeViewLaws.{shape, node_roll, node_out}
 
 module _ (c : Compound) (R : Node → Node → Type 0) (m : Node) where
   at_found : (nodes : List Node) (i : ℕ) (d : Node) → IsPlace c nodes i → R (get_or nodes i d) m → AtRoot c R (linked nodes) (linked (slice_set nodes i m))

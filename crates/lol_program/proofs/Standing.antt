@@ -14,8 +14,8 @@ use Rattle.lol_program.specs.Views.{node_of, forest_of, linked, steps_of, tests_
 use Rattle.lol_css.specs.declared.selector.Compound as css
 use Rattle.lol_program.specs.declared.ast_node.AstNode.{AstNode}
 use Rattle.lol_program.specs.declared.ast_node.AstNode.TheViews.{out-AstNode}
-use Rattle.lol_program.proofs.Nodes.{shape, node_out}
-use Rattle.lol_program.proofs.IdSets.{with_id-IsWith}
+use Rattle.lol_program.specs.NodeViewLaws.{shape, node_out}
+use Rattle.lol_program.specs.IdSetLaws.{with_id-IsWith}
 use Rattle.lol_program.proofs.Placed.{place_within}
 
 -- a node's set that takes an id, or none

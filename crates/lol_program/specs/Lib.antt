@@ -37,3 +37,8 @@ pub mod Running
 pub mod Layouts
 pub mod ProgramViews
 pub mod Laying
+pub mod ValueLaws
+pub mod IdSetLaws
+pub mod NodeViewLaws
+pub mod ForestRunLaws
+pub mod PredicateListLaws

@@ -10,10 +10,10 @@ use Rattle.lol_base.specs.MemberLaws.{contains-append, among_from_contains, cont
 use Rattle.lol_memory.specs.Ids.{Ids, has, no_ids, union}
 use Rattle.lol_memory.specs.Ids as sets
 use Rattle.lol_memory.specs.SetLaws.{has-no_ids, has-union}
-use Rattle.lol_memory.proofs.LawLemmas.{ascending_rises}
+use Rattle.lol_memory.specs.AscendingLaws.{ascending_rises}
 use Rattle.lol_program.specs.ProgramViews.{range_shown, instruction_shown}
 use Rattle.lol_program.specs.declared.instruction.Instruction as code
-use Rattle.lol_program.proofs.IdSets.{listed, held}
+use Rattle.lol_program.specs.IdSetLaws.{listed, held}
 use Rattle.lol_vm.specs.Answers.{ascending_once}
 use Rattle.lol_vm.specs.ReportLaws.{ascending_is_determined, ascending_ascends, pairs_from_ascends}
 use Rattle.lol_vm.specs.Contexts.{with_branch}

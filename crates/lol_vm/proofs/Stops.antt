@@ -20,7 +20,7 @@ use Rattle.lol_program.specs.Compounds.{is_open, Decides, by_names, with_rest}
 use Rattle.lol_program.specs.Programs.{Range, Instruction, Program, IsAt, IsProgramOf, places, all_places}
 use Rattle.lol_program.specs.declared.name_value.NameValue.{NameValue}
 use Rattle.lol_program.specs.declared.name_value.NameValue.TheVariants.{True, False, Open}
-use Rattle.lol_program.proofs.Values.{values_decide, values_are_by_names}
+use Rattle.lol_program.specs.ValueLaws.{values_decide, values_are_by_names}
 use Rattle.lol_vm.specs.PlaceRuns.{Context, no_context, Stop, given_by, gathered_from_places, context_of, branch, step_with_attributes, step_by_names, run, run_by_names, instruction_value, value_at, is_open_at, stop_in, stop_or, first_open, ids_list, jumps_list, hereditary_jumps_list}
 use Rattle.lol_vm.proofs.Held.{path_at}
 use Rattle.lol_vm.proofs.Counted.{places_count_tries}

@@ -10,7 +10,7 @@ use Rattle.lol_css.specs.declared.selector.Combinator.TheVariants.{Child, Descen
 use Rattle.lol_memory.specs.Ids as ids
 use Rattle.lol_memory.specs.Ids.{Ids, has, no_ids}
 use Rattle.lol_memory.specs.SetLaws.{has-no_ids}
-use Rattle.lol_memory.proofs.LawLemmas.{ascending_rises}
+use Rattle.lol_memory.specs.AscendingLaws.{ascending_rises}
 use Rattle.lol_program.specs.Tests.{Element, is_html, name_holds}
 use Rattle.lol_program.specs.Compounds.{Test, OfName, OfAttributes, NoneOf, SomeOf, Compound, NoTests, AndTest, Compounds, NoCompounds, OrCompound, value_of_bool, opposite, either, test_by_names, by_names, some_by_names, is_open}
 use Rattle.lol_program.specs.Compounds as compounds
@@ -22,9 +22,9 @@ use Rattle.lol_program.specs.Runs.{test_runs, compound_runs, all_run}
 use Rattle.lol_program.specs.ForestRuns.{forest_runs}
 use Rattle.lol_base.specs.MemberLaws.{Among, among_front, among_back, among_either, among_from_contains, contains_from_among}
 use Rattle.lol_program.specs.Runs.{path_runs}
-use Rattle.lol_program.proofs.IdSets.{listed, held}
+use Rattle.lol_program.specs.IdSetLaws.{listed, held}
 use Rattle.lol_program.specs.NodeListLaws.{nodes_listed}
-use Rattle.lol_program.proofs.Running as running
+use Rattle.lol_program.specs.ForestRunLaws as running
 use Rattle.lol_program.specs.ClosedLaws.{trees_are_closed}
 use Rattle.lol_vm.specs.Views.{selectors}
 use Rattle.lol_vm.specs.Laws.{TreesAnswerAlike}

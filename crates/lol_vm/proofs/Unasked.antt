@@ -15,7 +15,7 @@ use Rattle.lol_program.specs.Programs.{AreClosed}
 use Rattle.lol_program.specs.declared.name_value.NameValue.{NameValue}
 use Rattle.lol_program.specs.declared.name_value.NameValue.TheVariants.{True, False, Open}
 use Rattle.lol_base.specs.MemberLaws.{Among}
-use Rattle.lol_program.proofs.Values.{values_decide, values_are_by_names}
+use Rattle.lol_program.specs.ValueLaws.{values_decide, values_are_by_names}
 use Rattle.lol_vm.specs.Events.{Event, Start, End, has_content, has_content_in}
 use Rattle.lol_vm.specs.Documents.{Document, empty, element_of, parent_of, children_of, typed_children_of, place_of, inner_part, outer_part}
 use Rattle.lol_vm.specs.Matching.{matches, left_matches, parent_passes, some_ancestor_passes}

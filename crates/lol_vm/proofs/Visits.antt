@@ -16,8 +16,8 @@ use Rattle.lol_program.specs.ForestRuns.{forest_runs}
 use Rattle.lol_program.specs.Predicates.{tests_of}
 use Rattle.lol_program.specs.declared.ast_node.AstNode.{AstNode}
 use Rattle.lol_program.specs.declared.ast_node.AstNode.TheViews.{out-AstNode}
-use Rattle.lol_program.proofs.Nodes.{node_out}
-use Rattle.lol_program.proofs.IdSets.{listed, held}
+use Rattle.lol_program.specs.NodeViewLaws.{node_out}
+use Rattle.lol_program.specs.IdSetLaws.{listed, held}
 use Rattle.lol_vm.specs.Matching.{matches}
 use Rattle.lol_vm.specs.OpenNames.{StepsRun, NodeRuns, Reports, ReportsIn, Gains, path_up, path_to}
 use Rattle.lol_vm.specs.declared.matching.Step.{Step}

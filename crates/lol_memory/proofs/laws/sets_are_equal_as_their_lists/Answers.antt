@@ -1,7 +1,7 @@
 use Rattle.std.proofs.Common.{ap}
 use Rattle.lol_memory.specs.Ids.{ascending}
 use Rattle.lol_memory.specs.SetLaws.{same_keys, same_ids-Decides}
-use Rattle.lol_memory.proofs.LawLemmas.{ascending_rises}
+use Rattle.lol_memory.specs.AscendingLaws.{ascending_rises}
 use Rattle.lol_memory.proofs.laws.sets_are_equal_as_their_lists.Goals as goal
 
 pub returns-clause-equal : goal.returns-clause-equal

@@ -5,7 +5,7 @@ use Rattle.std.proofs.lemmas.Cmp.{eq_by_cmp_equiv}
 use Rattle.std.proofs.lemmas.Map.Views.{Contains-from_any, list_any-from_Contains}
 use Rattle.lol_memory.specs.Ids.{has, ascending}
 use Rattle.lol_memory.specs.SetLaws.{same_set, has-keys, has-no_ids, has-with_id, has-union}
-use Rattle.lol_memory.proofs.LawLemmas.{either_passes, passes_by}
+use Rattle.lol_memory.specs.AscendingLaws.{either_passes, passes_by}
 use Rattle.lol_memory.proofs.laws.sets_are_known_by_their_ids.Goals as goal
 
 pub returns-clause-equal : goal.returns-clause-equal

@@ -8,7 +8,7 @@ use Rattle.lol_program.specs.IdsForNodes.{id_in, Fits}
 use Rattle.lol_program.specs.Views.{node_of, forest_of, steps_of, tests_of_compound}
 use Rattle.lol_program.specs.Growth.{Adds, AddsFirst, Takes, Under, StandsWith, grown_under}
 use Rattle.lol_program.specs.declared.ast_node.AstNode.TheViews.{out-AstNode, roll-AstNode}
-use Rattle.lol_program.proofs.Nodes.{shape}
+use Rattle.lol_program.specs.NodeViewLaws.{shape}
 use Rattle.lol_program.proofs.Placed.{set_place, size_set, place_within, adds_none, adds_some, first_none, first_some}
 use Rattle.lol_program.proofs.Standing.{SetTakes-Takes, stands_at, stands_nowhere, stands_none, stands_some}
 use Rattle.lol_program.proofs.ast_node.+add_path.Goals as goal

@@ -4,7 +4,7 @@ use Rattle.lol_program.specs.Views.{node_of, forest_of, steps_of, tests_of_compo
 use Rattle.lol_program.specs.Growth.{StandsWith}
 use Rattle.lol_program.specs.IdsForNodes.{HasRoomAmong}
 use Rattle.lol_program.specs.declared.ast_node.AstNode.TheViews.{out-AstNode}
-use Rattle.lol_program.proofs.IdSets.{room_listed}
+use Rattle.lol_program.specs.IdSetLaws.{room_listed}
 use Rattle.lol_program.proofs.Standing.{stands_nowhere, stands_here, stands_further}
 use Rattle.lol_program.proofs.ast_node.+has_room.Goals as goal
 

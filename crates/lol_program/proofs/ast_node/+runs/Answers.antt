@@ -1,5 +1,5 @@
 use Rattle.std.proofs.Common.{sym}
-use Rattle.lol_program.proofs.Running.{runs_more, runs_not}
+use Rattle.lol_program.specs.ForestRunLaws.{runs_more, runs_not}
 use Rattle.lol_program.proofs.ast_node.+runs.Goals as goal
 
 pub all_run_now-returns-then-not-runs_now : goal.all_run_now-returns-then-not-runs_now

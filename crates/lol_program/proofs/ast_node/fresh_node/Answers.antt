@@ -2,8 +2,8 @@ use Rattle.std.proofs.Common.{ap, ◌∙◌}
 use Rattle.lol_memory.specs.Ids.{ascending}
 use Rattle.lol_program.specs.Predicates.{tests_of}
 use Rattle.lol_program.specs.Views.{forest_of}
-use Rattle.lol_program.proofs.IdSets.{ascending-no_ids}
-use Rattle.lol_program.proofs.Nodes.{node_roll}
+use Rattle.lol_program.specs.IdSetLaws.{ascending-no_ids}
+use Rattle.lol_program.specs.NodeViewLaws.{node_roll}
 use Rattle.lol_program.proofs.ast_node.fresh_node.Goals as goal
 
 pub returns : goal.returns

@@ -1,6 +1,6 @@
 use Rattle.lol_program.specs.Predicates.{tests_of}
 use Rattle.std.proofs.Common.{arith}
-use Rattle.lol_program.proofs.Nodes.{size_push}
+use Rattle.lol_program.specs.NodeViewLaws.{size_push}
 use Rattle.lol_program.proofs.ast_node.place_for.Goals as goal
 
 pub returns-clause-count : goal.returns-clause-count

@@ -1,6 +1,6 @@
 use Rattle.std.proofs.Common.{true≢false, IsOk, sym, subst, ap, ◌∙◌}
 use Rattle.lol_memory.specs.Ids.{Ids, HasRoom, HasRoomFor, union}
-use Rattle.lol_program.proofs.IdSets.{room_beside, union-alone}
+use Rattle.lol_program.specs.IdSetLaws.{room_beside, union-alone}
 use Rattle.lol_program.proofs.id_for_node.insert_reserved.Goals as goal
 
 pub returns-in_err-union-clause-free : goal.returns-in_err-union-clause-free

@@ -1,4 +1,4 @@
-use Rattle.lol_program.proofs.Values.{values_decide}
+use Rattle.lol_program.specs.ValueLaws.{values_decide}
 use Rattle.lol_program.proofs.laws.values_by_names_decide.Goals as goal
 
 pub returns : goal.returns

@@ -12,7 +12,8 @@ use Rattle.lol_program.specs.declared.predicate.Test.{Test}
 use Rattle.lol_program.specs.Conditions.{part_test, item_compound, written_tests}
 use Rattle.lol_program.specs.Predicates.{test_shown, tests_of}
 use Rattle.lol_program.proofs.Tests.{test_in, compound_in, all_of-equal, any_of-equal, written_tests-parts, items_compounds-items, counts_first, counts_last}
-use Rattle.lol_program.proofs.TestRows.{test_shown-NoneOf, test_shown-SomeOf, same_lists}
+use Rattle.lol_program.specs.PredicateListLaws.{test_shown-NoneOf, test_shown-SomeOf}
+use Rattle.lol_program.proofs.TestRows.{same_lists}
 use Rattle.lol_program.proofs.predicate.+comparing.Goals as goal
 use Rattle.lol_program.proofs.predicate.+comparing.Goals.{Predicate::is_of_item-in-empty, Predicate::is_of_item-in-len1-up}
 

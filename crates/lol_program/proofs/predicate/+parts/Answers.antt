@@ -9,7 +9,7 @@ use Rattle.lol_css.specs.declared.selector.SimpleSelector.{SimpleSelector}
 use Rattle.lol_program.specs.Compounds.{NoneOf, SomeOf, all_of, any_of}
 use Rattle.lol_program.specs.Conditions.{part_test, written_tests}
 use Rattle.lol_program.specs.Predicates.{test_shown, tests_of}
-use Rattle.lol_program.proofs.TestRows.{test_shown-NoneOf, test_shown-SomeOf}
+use Rattle.lol_program.specs.PredicateListLaws.{test_shown-NoneOf, test_shown-SomeOf}
 use Rattle.lol_program.proofs.Tests.{test_in, compound_in, written_tests-parts, items_compounds-items, items_compounds-list, counts_first, counts_last}
 use Rattle.lol_program.proofs.predicate.+parts.Goals as goal
 use Rattle.lol_program.proofs.predicate.+parts.Goals.{Predicate::from_item-in-empty, Predicate::from_item-in-len1-up}

@@ -4,7 +4,7 @@ use Rattle.lol_program.specs.Compounds.{all_of, any_of}
 use Rattle.lol_program.specs.Predicates.{test_shown, tests_of}
 use Rattle.lol_program.specs.Runs.{test_runs, compound_runs, all_run}
 use Rattle.lol_program.specs.declared.predicate.Test.{Test}
-use Rattle.lol_program.proofs.TestRows.{test_shown-NoneOf, test_shown-SomeOf}
+use Rattle.lol_program.specs.PredicateListLaws.{test_shown-NoneOf, test_shown-SomeOf}
 use Rattle.lol_program.specs.declared.predicate.Predicate.{Predicate}
 use Rattle.lol_program.proofs.RunningTests.{code_test_runs, predicate_runs, compound_runs-list, all_run-list}
 use Rattle.lol_program.proofs.predicate.+running.Goals as goal

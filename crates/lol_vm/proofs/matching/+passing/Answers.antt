@@ -4,7 +4,7 @@ use Rattle.lol_program.specs.Compounds.{all_of, any_of}
 use Rattle.lol_program.specs.Predicates.{test_shown, tests_of}
 use Rattle.lol_program.specs.declared.predicate.Test.{Test}
 use Rattle.lol_program.specs.declared.predicate.Predicate.{Predicate}
-use Rattle.lol_program.proofs.TestRows.{test_shown-NoneOf, test_shown-SomeOf}
+use Rattle.lol_program.specs.PredicateListLaws.{test_shown-NoneOf, test_shown-SomeOf}
 use Rattle.lol_vm.specs.OpenNames.{test_passes, compound_passes, some_passes}
 use Rattle.lol_vm.proofs.Passing.{code_test_passes, code_predicate_passes, compound_passes-list, some_passes-list}
 use Rattle.lol_vm.proofs.matching.+passing.Goals as goal

@@ -5,7 +5,7 @@ use Rattle.lol_program.specs.ForestRuns.{forest_runs}
 use Rattle.lol_program.specs.Views.{forest_of}
 use Rattle.lol_program.specs.NodeListLaws.{nodes_listed, pairs_listed}
 use Rattle.lol_program.specs.ClosedLaws.{pair_at_node}
-use Rattle.lol_program.proofs.Running.{runs_all, all_run}
+use Rattle.lol_program.specs.ForestRunLaws.{runs_all, all_run}
 use Rattle.lol_program.proofs.ast.Ast.runs_now.Goals as goal
 
 pub returns-clause-nodes : goal.returns-clause-nodes
