@@ -27,7 +27,7 @@ ascending_among (n ∷ ns) m (inl is) = subst (Among (with_number n (ascending_o
 ascending_among (n ∷ ns) m (inr a) = others_among n (ascending_once ns) m (ascending_among ns m a)
 
 -- a list with the members of a report, put in order, is the report
-in_order : (ids : List ℕ) (s : Selectors) (e : Element) (outer : List Element) → ((id : ℕ) → Contains ids id ↔ Contains (matching_ids s.pairs e outer) id) → ascending_once ids ≡ matching_ids s.pairs e outer
+pub in_order : (ids : List ℕ) (s : Selectors) (e : Element) (outer : List Element) → ((id : ℕ) → Contains ids id ↔ Contains (matching_ids s.pairs e outer) id) → ascending_once ids ≡ matching_ids s.pairs e outer
 in_order ids s e outer same =
     ascending_is_determined (ascending_once ids) (matching_ids s.pairs e outer) (pairs_from_ascends (ascending_once ids) (ascending_ascends ids)) (matching_ids_ascend e outer s.pairs)
     (λ id. (

@@ -1,5 +1,5 @@
 -- The places that ranges hold.
-use Rattle.std.proofs.Common.{◌≡◌, ℕ, ◌-◌, ◌<◌, Bool, true, not, List, [], ◌∷◌, ◌++◌, length, map, filter, Option, Some, None, ◌⊎◌, ◌↔◌, inl, inr, refl, sym, ap, ◌∙◌, subst, arith, Contains}
+use Rattle.std.proofs.Common.{◌≡◌, ℕ, ◌-◌, ◌<◌, ◌≤◌, Bool, true, not, List, [], ◌∷◌, ◌++◌, length, map, filter, Option, Some, None, ◌⊎◌, ◌↔◌, inl, inr, refl, sym, ap, ◌∙◌, subst, arith, Contains}
 use Rattle.std.specs.Prelude.{◌==◌}
 use Rattle.std.proofs.lemmas.List.{map-append, append-nil}
 use Rattle.std.proofs.lemmas.Grind.{flat_map-append}
@@ -13,7 +13,7 @@ use Rattle.lol_vm.specs.Matching.{matches, left_matches, parent_passes, some_anc
 use Rattle.lol_base.specs.BoolLaws.{and_parts, and_of, or_parts, or_of}
 use Rattle.lol_vm.proofs.Bools.{not_both, true_or_not}
 use Rattle.lol_program.specs.Programs.{Range, Instruction, Program, IsWithin, IsAt, HoldsPlaces, IsRangeOf, IsProgramOf, AreClosed, above, places, all_places}
-use Rattle.lol_vm.specs.Machines.{OpenItem, IsReached, HasRanges, IsItem, AreItems, Matches, HoldOnce, LeftMatches, active_of, is_active, same_range, last_jumps, ranges_of_active, jumps_of, hereditary_jumps_of}
+use Rattle.lol_vm.specs.Machines.{OpenItem, ranges_to_run, IsReached, HasRanges, IsItem, AreItems, Matches, HoldOnce, LeftMatches, active_of, is_active, same_range, last_jumps, ranges_of_active, jumps_of, hereditary_jumps_of}
 use Rattle.lol_vm.specs.MachineLaws.{ProgramsHaveEachNode, RangesHoldLeftMatches, PlacesAreWithin}
 use Rattle.lol_vm.proofs.Lists.{same_length, to_contains, to_among, to_once, to_distinct, distinct_append, at_among, among_at, same_at, one_place, at_within, within_at, among_flat_map, flat_map_among, distinct_flat_map, among_range, range_among, distinct_range, among_map, map_among, among_filter, filter_among, distinct_filter, any_among, among_any}
 
@@ -290,6 +290,24 @@ ranges_hold_left_matches s paths p items elements closed program are =
     (entry_holds paths p.entry program.entry) below
     (λ path none either_. elim either_ [ inl h ↦ none_under path Child (ParentMatches elements) none h | inr h ↦ none_under path Descendant (SomeAncestorMatches elements) none h ])
     (λ path. (left_of elements path, λ h. elim h [ inl none ↦ none_left elements path none | inr (inl c) ↦ child_left elements path c | inr (inr d) ↦ descendant_left elements path d ]))
+
+-- Each of them lies within the instructions.
+pub ranges_are_inside : (s : Selectors) (paths : List Path) (p : Program) (items : List OpenItem) (elements : List Element) → AreClosed s → IsProgramOf s paths p → AreItems paths p items elements
+    → (r : Range) → Among (ranges_to_run p items (active_of items)) r → (r.start ≤ r.end) × (r.end ≤ length p.instructions)
+ranges_are_inside s paths p items elements closed program are r (inl is) =
+    subst (λ (q : Range). (q.start ≤ q.end) × (q.end ≤ length p.instructions)) is (let inside = program.entry.inside in let count = program.count in (program.entry.ordered, omega (arith, inside, count)))
+ranges_are_inside s paths p items elements closed program are r (inr a) =
+    elim (among_either (last_jumps items) (ranges_of_active (active_of items)) r a) [
+      | inl j ↦
+          let h = ((last_have paths p items elements are).members r).0 (to_contains (last_jumps items) r j) in
+          inside Child ((range_of_reached s paths p program closed jumps_of Child (λ place path i at at'. (program.each place path i at at').jumps) h.0 h.1 h.2 r h.3 h.4 h.5).0)
+      | inr j ↦
+          let h = ((active_have paths p items elements are).members r).0 (to_contains (ranges_of_active (active_of items)) r j) in
+          inside Descendant ((range_of_reached s paths p program closed hereditary_jumps_of Descendant (λ place path i at at'. (program.each place path i at at').hereditary_jumps) h.0 h.1 h.2 r h.3 h.4 h.5).0)
+    ]
+  where
+    inside : (step : Combinator) {path : Path} → HoldsPlaces paths r (Some (path, step)) → (r.start ≤ r.end) × (r.end ≤ length p.instructions)
+    inside step h = let within = h.inside in let count = program.count in (h.ordered, omega (arith, within, count))
 
 pub places_are_within : PlacesAreWithin
 places_are_within s paths p ranges outer program held place c =

@@ -148,7 +148,7 @@ pub outer_is : (o : Option ℕ) (xs : List Element) → outer_part o xs ≡ drop
 outer_is None xs = refl
 outer_is (Some k) xs = refl
 
-ordered_start : (d : Document) (most : ℕ) (tag : StartTag) (opens : Bool) → IsOrdered d most → IsOrdered (after_start d tag opens) (length (after_start d tag opens).open_elements)
+pub ordered_start : (d : Document) (most : ℕ) (tag : StartTag) (opens : Bool) → IsOrdered d most → IsOrdered (after_start d tag opens) (length (after_start d tag opens).open_elements)
 ordered_start d most tag opens h = record {
   numbers = numbers opens;
   fresh = λ n above. (
@@ -162,7 +162,7 @@ ordered_start d most tag opens h = record {
     numbers true = (omega arith, h.numbers)
     numbers false = descend_lower d.events (d.events + 1) d.open_elements (omega arith) h.numbers
 
-ordered_end : (d : Document) (most : ℕ) (name : List ℕ) → IsOrdered d most → IsOrdered (after_end d name) (length (after_end d name).open_elements)
+pub ordered_end : (d : Document) (most : ℕ) (name : List ℕ) → IsOrdered d most → IsOrdered (after_end d name) (length (after_end d name).open_elements)
 ordered_end d most name h =
     let place = place_of name d.open_elements in
     record {
@@ -195,7 +195,7 @@ documents_are_ordered s esi events = ordered_from s esi empty events (record { n
 -- 4. Items
 
 module _ (paths : List Path) (p : Program) where
-  items_length : (items : List OpenItem) (elements : List Element) → AreItems paths p items elements → length items ≡ length elements
+  pub items_length : (items : List OpenItem) (elements : List Element) → AreItems paths p items elements → length items ≡ length elements
   items_length [] [] h = refl
   items_length [] (e ∷ outer) h = absurd h
   items_length (item ∷ items) [] h = absurd h
@@ -379,7 +379,7 @@ module _ (s : Selectors) (esi : Bool) (paths : List Path) (m : Machine) (d : Doc
   same_slots : (n : ℕ) → n ≤ length d.open_elements → m.slots ≡ slots m.item_bytes (max most n)
   same_slots n h = let within = ordered.enough in let sizes : most ≡ max most n = omega (arith, h, within) in stands.charged ∙ ap (slots m.item_bytes) sizes
 
-  counted_stands : (tag : StartTag) → StandsOn s esi paths (counted m tag.name) (after_start d tag false) (max most (length d.open_elements))
+  pub counted_stands : (tag : StartTag) → StandsOn s esi paths (counted m tag.name) (after_start d tag false) (max most (length d.open_elements))
   counted_stands tag = record {
     program = stands.program;
     items = stands.items;
@@ -431,7 +431,7 @@ module _ (s : Selectors) (esi : Bool) (paths : List Path) (m : Machine) (d : Doc
         above = λ l name high. too_high l (length (drop n d.open_elements)) (m.typed l name) high;
       }
 
-  ended_stands : (name : List ℕ) → StandsOn s esi paths (ended m name) (after_end d name) (max most (length (after_end d name).open_elements))
+  pub ended_stands : (name : List ℕ) → StandsOn s esi paths (ended m name) (after_end d name) (max most (length (after_end d name).open_elements))
   ended_stands name =
       let place = position (λ (item : OpenItem). same_name item.name name) m.items in
       let rest : drop (closed_count place) d.open_elements ≡ outer_part (place_of name d.open_elements) d.open_elements =
@@ -519,7 +519,7 @@ module _ (s : Selectors) (esi : Bool) (events : List Event) (tag : StartTag) whe
       not_dropped false false = refl
 
   -- the document after the event as dropped
-  after_unfinished : asked_for → document s esi (events ++ Start (unfinished tag) ∷ []) ≡ after_start before tag false
+  pub after_unfinished : asked_for → document s esi (events ++ Start (unfinished tag) ∷ []) ≡ after_start before tag false
   after_unfinished h = document_push s esi empty events (Start (unfinished tag)) ∙ ap (after_start before (unfinished tag)) (and_not (asks s (element_of before (unfinished tag)) before.open_elements) (has_content esi (unfinished tag)) (asks_by_names (element_of before tag) tag.attributes tag.self_closing false before.open_elements s ∙ h))
 
   after_finished : tag.finish ≡ true → document s esi (events ++ Start tag ∷ []) ≡ after_start before tag (has_content esi tag)

@@ -1,6 +1,12 @@
 pub mod Passing
 pub mod Plain
 pub mod Visits
+mod TagRuns
+mod Starts
+mod VmStarts
+mod Directives
+mod VmFinishes
+mod VmRefusals
 pub mod Trees
 pub mod Runs
 pub mod CounterLevels

@@ -1,21 +1,22 @@
 -- Stacks that count children as a machine does.
 use Rattle.std.proofs.Common.{◌≡◌, ℕ, ◌+◌, ◌-◌, ◌<◌, ◌≤◌, Bool, true, false, cond, List, [], ◌∷◌, ◌++◌, length, map, Option, Some, None, refl, sym, ap, ◌∙◌, subst, arith, length-append}
 use Rattle.std.specs.Prelude.{◌&&◌, ◌==◌, count_by, slice_get, slice_set, unwrap_or, if◌then◌else◌}
-use Rattle.std.specs.Option.{option_map, option_copied}
+use Rattle.std.specs.Option.{option_map}
 use Rattle.std.proofs.lemmas.Bool.Decides.{Decides-eqb}
 use Rattle.std.proofs.lemmas.Slice.Eq.{bytes_eq-Decides}
 use Rattle.lol_base.specs.BoolLaws.{and_parts}
 use Rattle.lol_base.specs.MemberLaws.{count_by-cons}
 use Rattle.lol_base.specs.Names.{same_name, lowercased}
 use Rattle.lol_base.specs.LocalNames.{Name, local_name, same_local_name}
+use Rattle.lol_base.specs.StartTags.{StartTag}
 use Rattle.lol_program.specs.Counters.{full_count}
 use Rattle.lol_program.specs.Tests.{Element}
-use Rattle.lol_vm.specs.Documents.{Child, element_of, same_parent, children_of, typed_children_of}
+use Rattle.lol_vm.specs.Documents.{Child, Document, element_of, same_parent, children_of, typed_children_of}
 use Rattle.lol_vm.specs.Standing.{Machine, AreTyped, AreCounted, counted, counted_root, counted_last, counted_typed, or_root}
 use Rattle.lol_vm.specs.Standing as standing
 use Rattle.lol_vm.specs.TypedCounts as typed
 use Rattle.lol_vm.specs.TypedCounts.{TypedCount, count_at}
-use Rattle.lol_vm.specs.Stacks.{items_in, typed_in, last_count, count_or, counted_in, counted_if, counted_item, with_typed, count_by_type}
+use Rattle.lol_vm.specs.Stacks.{items_in, typed_in, last_count, typed_count, count_or, counted_in, counted_if, counted_item, with_typed, count_by_type}
 use Rattle.lol_vm.specs.StackMachines.{item_shown, items_shown, children_shown, typed_shown, KeepsTyped, Keeps, CountingStackKeeps, CountersAreSeen, StatesShowElements, TypedCountsAreFewer}
 use Rattle.lol_vm.specs.declared.stack_item.StackItemOf.{StackItemOf}
 use Rattle.lol_vm.specs.declared.stack.StackOf.{StackOf}
@@ -27,16 +28,16 @@ use Rattle.lol_vm.proofs.TypedCounting.{climb_counted, shown_at_top, shown_count
 
 -- 1. The last of a list
 
-record Ends {A : Type 0} (xs : List A) : Type 0 where
-  front : List A
-  last : A
-  whole : xs ≡ front ++ last ∷ []
+pub record Ends {A : Type 0} (xs : List A) : Type 0 where
+  pub front : List A
+  pub last : A
+  pub whole : xs ≡ front ++ last ∷ []
 
-ends : {A : Type 0} (x : A) (xs : List A) → Ends (x ∷ xs)
+pub ends : {A : Type 0} (x : A) (xs : List A) → Ends (x ∷ xs)
 ends x [] = record { front = []; last = x; whole = refl }
 ends x (y ∷ xs) = let rest = ends y xs in record { front = x ∷ rest.front; last = rest.last; whole = ap (λ more. x ∷ more) rest.whole }
 
-last_at : {A : Type 0} (front : List A) (x : A) → slice_get (front ++ x ∷ []) (length front) ≡ Some x
+pub last_at : {A : Type 0} (front : List A) (x : A) → slice_get (front ++ x ∷ []) (length front) ≡ Some x
 last_at [] x = refl
 last_at (y ∷ front) x = last_at front x
 
@@ -44,7 +45,7 @@ last_set : {A : Type 0} (front : List A) (x y : A) → slice_set (front ++ x ∷
 last_set [] x y = refl
 last_set (z ∷ front) x y = ap (λ more. z ∷ more) (last_set front x y)
 
-last_place : {A : Type 0} (front : List A) (x : A) → length (front ++ x ∷ []) - 1 ≡ length front
+pub last_place : {A : Type 0} (front : List A) (x : A) → length (front ++ x ∷ []) - 1 ≡ length front
 last_place front x = ap (λ n. n - 1) (length-append front (x ∷ [])) ∙ omega arith
 
 -- 2. Counts by type
@@ -133,7 +134,7 @@ module _ {E : Type 0} where
 
   -- 4. What is seen
 
-  seen_children : (s : StackOf Name StackNames E) (m : Machine) → Keeps s m → (items : List (StackItemOf Name E)) → items_in s ≡ items → last_count s ≡ standing.innermost_count m
+  pub seen_children : (s : StackOf Name StackNames E) (m : Machine) → Keeps s m → (items : List (StackItemOf Name E)) → items_in s ≡ items → last_count s ≡ standing.innermost_count m
   seen_children s m keeps [] none =
       ap (λ xs. count_or s.root_child_counter (slice_get xs (length xs - 1))) none
       ∙ (sym keeps.root_children ∙ sym (ap (λ cs. or_root cs m.root_children) (keeps.children ∙ ap children_shown none)))
@@ -151,19 +152,25 @@ module _ {E : Type 0} where
         (seen_typed (typed_in s) m.program.by_type (length m.items) m.typed name keeps.typed some);
   }
 
-  pub states_show_elements : StatesShowElements E
-  states_show_elements s m d tag state counts sizes keeps cumulative typed_is =
+  -- the counters of a stack that counted a tag show its element's places
+  pub seen_places : (s : StackOf Name StackNames E) (m : Machine) (d : Document) (tag : StartTag) → AreCounted m d → length m.items ≡ length d.open_elements → Keeps s (counted m tag.name)
+      → (last_count s ≡ (element_of d tag).position) × (typed_count s (local_name tag.name) ≡ (if m.program.by_type then Some (element_of d tag).typed_position else None))
+  seen_places s m d tag counts sizes keeps =
       let places = counters_are_places m d tag counts sizes in
       let e = element_of d tag in
       let seen = counters_are_seen s (counted m tag.name) tag.name keeps (λ by_type. let is = places.1 by_type in omega (arith, is)) in
-      let position : state.cumulative.now ≡ e.position = cumulative ∙ (seen.cumulative ∙ places.0) in
-      let typed_position : option_copied state.typed ≡ (if m.program.by_type then Some e.typed_position else None) =
-      typed_is ∙ (seen.typed ∙ by_test m.program.by_type ((counted m tag.name).typed (length m.items) tag.name) e.typed_position (λ by_type. places.1 by_type)) in
-      λ i. record { name = lowercased tag.name; position = position i; typed_position = typed_position i }
+      (seen.cumulative ∙ places.0, seen.typed ∙ by_test m.program.by_type ((counted m tag.name).typed (length m.items) tag.name) e.typed_position (λ by_type. places.1 by_type))
     where
       by_test : (b : Bool) (x y : ℕ) → (b ≡ true → x ≡ y) → (if b then Some x else None) ≡ (if b then Some y else None)
       by_test true x y same = ap Some (same refl)
       by_test false x y same = refl
+
+  pub states_show_elements : StatesShowElements E
+  states_show_elements s m d tag state counts sizes keeps cumulative typed_is =
+      let places = seen_places s m d tag counts sizes keeps in
+      let position = cumulative ∙ places.0 in
+      let typed_position = typed_is ∙ places.1 in
+      λ i. record { name = lowercased tag.name; position = position i; typed_position = typed_position i }
 
 -- 5. Children of a name are children
 

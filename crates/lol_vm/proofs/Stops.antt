@@ -244,7 +244,7 @@ module _ (s : Selectors) (paths : List Path) (p : Program) (program : IsProgramO
 pub runs_dont_see_the_rest : RunsDontSeeTheRest
 runs_dont_see_the_rest s paths p e attributes self_closing finish content context ps program = same_stop s paths p program e attributes self_closing finish content context ps
 
-left_counted : (test : ℕ → Bool) (before left : List ℕ) → ((place : ℕ) → Among before place → test place ≡ false) → count_by test left ≡ count_by test (before ++ left)
+pub left_counted : (test : ℕ → Bool) (before left : List ℕ) → ((place : ℕ) → Among before place → test place ≡ false) → count_by test left ≡ count_by test (before ++ left)
 left_counted test [] left h = refl
 left_counted test (place ∷ before) left h =
     left_counted test before left (λ k a. h k (inr a))

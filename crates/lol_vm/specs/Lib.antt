@@ -6,6 +6,8 @@ pub mod Refusals
 pub mod Rows
 pub mod OpenNames
 pub mod Views
+pub mod VmErrors
+pub mod Vms
 pub mod InstructionRuns
 pub mod Laws
 pub mod RangesOf
@@ -16,6 +18,7 @@ pub mod Contexts
 pub mod OrderLaws
 pub mod ReportLaws
 pub mod Levels
+pub mod TagRuns
 pub mod TypedCounts
 pub mod TypedViews
 pub mod CounterLists

@@ -5,7 +5,9 @@ use Rattle.lol_memory.specs.LimitedVec.{with_items}
 use Rattle.lol_vm.specs.Lending.{with_data}
 use Rattle.lol_vm.specs.declared.stack_item.StackItemOf.{StackItemOf}
 use Rattle.lol_vm.specs.declared.stack.StackOf.{StackOf}
+use Rattle.lol_vm.specs.declared.vm.VmOf.{VmOf}
 use Rattle.lol_vm.specs.contracts.stack.StackOf.{the_row as stack_row}
+use Rattle.lol_vm.specs.contracts.vm.VmOf.{the_row as vm_row}
 
 module _ {N E : Type 0} where
   abbrev pub with_data_if : List (StackItemOf N E) → ℕ → E → Option (StackItemOf N E) → List (StackItemOf N E)
@@ -20,6 +22,14 @@ module _ {N E : Type 0} where
   abbrev pub with_current : {M : Type 0} → StackOf N M E → E → StackOf N M E
   with_current s w = record s { items = with_items s.items (with_data_at s.items.items (length s.items.items - 1) w) }
 
+  -- the machine, with other data of its last element
+  abbrev pub with_current_in : {P M : Type 0} → VmOf P N M E → E → VmOf P N M E
+  with_current_in vm w = record vm { stack = with_current vm.stack w }
+
 -- once the borrow r ends, the last element has the data that r shows last
 abbrev pub lends_current : (N M E : RattleType) → MutBor (StackOf N.Denot M.Denot E.Denot) → Option (MutBor E.Denot) → Fml
 lends_current N M E s r = LendsIf (stack_row N M E) E s r (with_current s.now) s.now
+
+-- the same of a machine
+abbrev pub lends_current_of_vm : (P N M E : RattleType) → MutBor (VmOf P.Denot N.Denot M.Denot E.Denot) → Option (MutBor E.Denot) → Fml
+lends_current_of_vm P N M E vm r = LendsIf (vm_row P N M E) E vm r (with_current_in vm.now) vm.now

@@ -6,6 +6,7 @@ mod address_ranges;
 mod counters;
 mod directive;
 mod element_data;
+mod error;
 mod events;
 mod execution_ctx;
 mod instruction_runs;
@@ -20,11 +21,14 @@ mod stack;
 mod stack_item;
 pub mod stack_laws;
 pub mod stack_machine_laws;
+mod tag_runs;
+mod vm;
 mod void;
 
 pub use address_ranges::AddressRanges;
 pub use counters::{CounterItem, CounterList, TypedChildCounterMap};
 pub use element_data::ElementData;
+pub use error::{AuxStartTagInfoRequest, VmError};
 pub use events::{RunCause, RunRefusal, TagEvent, TagReport};
 pub use execution_ctx::ExecutionCtx;
 pub use lol_base::{
@@ -47,3 +51,4 @@ pub use lol_program::{
 pub use run::match_events;
 pub use stack::{AddChildError, Stack, StackNames, StackOf};
 pub use stack_item::{StackDirective, StackItem, StackItemOf};
+pub use vm::{SelectorMatchingVm, VmOf};

@@ -133,6 +133,7 @@ impl<E> StackOf<LocalName<'static>, StackNames, E> {
         ensures ok { OnOk result (self.new ≡ counted_in self.old name.now) }
         ensures slots { KeepsSlots self.old self.new }
         ensures full { (result ≡ Err AddChildError.CounterFull) ↔ (last_count self.old ≡ full_count) }
+        ensures room { OnOk result (last_count self.old < full_count) }
         ensures err { OnErr result (self.new ≡ self.old) }
     {
         if self.child_counter().is_full() {

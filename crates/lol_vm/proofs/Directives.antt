@@ -1,0 +1,39 @@
+-- What is known of a tag by its element's directive.
+use Rattle.std.proofs.Common.{◌≡◌, ℕ, Bool, true, false, cond, List, refl, not}
+use Rattle.std.specs.Prelude.{◌||◌, ◌&&◌}
+use denote.Enum.Bare.{sameb}
+use Rattle.lol_base.specs.Names.{is_void, is_esi}
+use Rattle.lol_base.specs.StartTags.{StartTag}
+use Rattle.lol_base.specs.declared.namespace.Namespace.{Namespace}
+use Rattle.lol_base.specs.declared.namespace.Namespace.TheVariants.{Html, Svg, MathML}
+use Rattle.lol_program.specs.Tests.{is_html}
+use Rattle.lol_vm.specs.Directives.{directive_in}
+use Rattle.lol_vm.specs.Events.{has_content, has_content_in}
+use Rattle.lol_vm.specs.contracts.stack_item.StackDirective.{the_type}
+use Rattle.lol_vm.specs.declared.stack_item.StackDirective.TheVariants.{Push, PushIfNotSelfClosing, PopImmediately}
+
+pub foreign_if : (ns : Namespace) (esi : Bool) (name : List ℕ) → sameb the_type (directive_in ns esi name) PushIfNotSelfClosing ≡ true → is_html ns ≡ false
+foreign_if Html esi name h = by_test (is_void name || (esi && is_esi name)) h
+  where
+    by_test : (b : Bool) → sameb the_type (cond b PopImmediately Push) PushIfNotSelfClosing ≡ true → true ≡ false
+    by_test true h = cc
+    by_test false h = cc
+foreign_if Svg esi name h = refl
+foreign_if MathML esi name h = refl
+
+pub html_if : (ns : Namespace) (esi : Bool) (name : List ℕ) → sameb the_type (directive_in ns esi name) PushIfNotSelfClosing ≡ false → is_html ns ≡ true
+html_if Html esi name h = refl
+html_if Svg esi name h = cc
+html_if MathML esi name h = cc
+
+pub content_is : (tag : StartTag) (esi : Bool) → is_html tag.namespace ≡ true → sameb the_type (directive_in tag.namespace esi tag.name) Push ≡ has_content esi tag
+content_is tag esi html = by_namespace tag.namespace html
+  where
+    by_namespace : (ns : Namespace) → is_html ns ≡ true → sameb the_type (directive_in ns esi tag.name) Push ≡ has_content_in ns esi tag
+    by_namespace Html h = by_test (is_void tag.name || (esi && is_esi tag.name))
+      where
+        by_test : (b : Bool) → sameb the_type (cond b PopImmediately Push) Push ≡ not b
+        by_test true = refl
+        by_test false = refl
+    by_namespace Svg h = cc
+    by_namespace MathML h = cc

@@ -1,0 +1,381 @@
+-- What the machine of the code runs for a start tag, and what that gives.
+use Rattle.std.proofs.Common.{◌≡◌, ℕ, suc, zero, ◌+◌, ◌-◌, ◌<◌, ◌≤◌, ◌^◌, Bool, true, false, cond, List, [], ◌∷◌, ◌++◌, length, map, drop, take, get_or, All, Option, Some, None, inl, inr, refl, sym, ap, ◌∙◌, subst, arith}
+use Rattle.std.specs.Prelude.{slice_get, if◌then◌else◌, count_by}
+use Rattle.std.proofs.lemmas.List.{map-append}
+use Rattle.std.proofs.lemmas.List.Concat.{length-flat_map}
+use Rattle.std.proofs.lemmas.List.Sums.{count_by-le-length}
+use Rattle.std.proofs.lemmas.List.{length-map, length-take, length-drop}
+use Rattle.std.proofs.lemmas.List.FromFn.{length-range_with_len}
+use Rattle.std.proofs.lemmas.List.Elements.{All-take}
+use Rattle.std.specs.Option.{option_map}
+use Rattle.std.specs.List.{range_with_len}
+use Rattle.std.specs.declared.ops.Range as std
+use Rattle.lol_base.specs.LocalNames.{Name}
+use Rattle.lol_base.specs.MemberLaws.{Among}
+use Rattle.lol_memory.specs.Ids.{Ids}
+use Rattle.lol_program.specs.Attributes.{TagAttributes}
+use Rattle.lol_program.specs.Compiled.{Sight, sight_of}
+use Rattle.lol_program.specs.Compounds.{is_open}
+use Rattle.lol_program.specs.Paths.{Path, Selectors}
+use Rattle.lol_program.specs.Programs.{Range, AreClosed, IsProgramOf, places, all_places}
+use Rattle.lol_program.specs.Programs as programs
+use Rattle.lol_program.specs.ProgramViews.{range_shown, instruction_shown, code_of, program_shown}
+use Rattle.lol_program.specs.Tests.{Element}
+use Rattle.lol_program.specs.Tries.{names_counted, attributes_counted}
+use Rattle.lol_program.specs.declared.instruction.Instruction.{Instruction}
+use Rattle.lol_program.specs.declared.name_value.NameValue.{NameValue}
+use Rattle.lol_program.specs.declared.name_value.NameValue.TheVariants.{True, False, Open}
+use Rattle.lol_program.specs.declared.program.Program.{Program}
+use Rattle.lol_program.specs.declared.tries.Tries.{Tries}
+use Rattle.lol_vm.specs.Answers.{name_tries, attribute_tries}
+use Rattle.lol_vm.specs.Contexts.{with_branch}
+use Rattle.lol_vm.specs.Gathering.{Gathers}
+use Rattle.lol_vm.specs.InstructionRuns.{AreRunnable, IsInsideOf, all_at, place_in, ranges_in, ranges_from, no_range, value_seen, is_true, holds_seen, first_open_from, with_branch_if, gathered_by_names, gathered_with_attributes}
+use Rattle.lol_vm.specs.InstructionLaws.{AreRangesOf, AreAsOpen}
+use Rattle.lol_vm.specs.MachineLaws.{WholeStart, started_by_names, starts_open, from_number}
+use Rattle.lol_vm.specs.Machines.{OpenItem, AreItems, HoldOnce, LeftMatches, active_of, last_jumps, ranges_of_active, ranges_to_run}
+use Rattle.lol_vm.specs.Matching as matching
+use Rattle.lol_vm.specs.PlaceRuns.{Context, no_context, context_of, branch, is_open_at, value_at, first_open, run, run_by_names, step_by_names, step_with_attributes}
+use Rattle.lol_vm.specs.StackMachines.{Keeps, in_lower_case, item_shown, items_shown, active_shown}
+use Rattle.lol_vm.specs.Stacks.{items_in, active_in}
+use Rattle.lol_vm.specs.Standing.{Machine, ranges_of_machine}
+use Rattle.lol_vm.specs.TagRuns.{AreTried, jumps_in, jumps_of_item, ranges_to_run_in, sight_in}
+use Rattle.lol_vm.specs.Vms.{content_of}
+use Rattle.lol_vm.specs.declared.execution_ctx.ExecutionCtx.{ExecutionCtx}
+use Rattle.lol_vm.specs.declared.instruction_runs.Stop.{Stop}
+use Rattle.lol_vm.specs.declared.stack_item.StackItemOf.{StackItemOf}
+use Rattle.lol_vm.specs.declared.stack.StackOf.{StackOf}
+use Rattle.lol_vm.specs.declared.stack.StackNames.{StackNames}
+use Rattle.lol_vm.proofs.Counted.{places_count_tries}
+use Rattle.lol_vm.proofs.Held.{ranges_are_inside, ranges_hold_left_matches, programs_have_each_node}
+use Rattle.lol_vm.proofs.InstructionPlaces.{instructions_are_as_open, instructions_gather}
+use Rattle.lol_vm.proofs.Lists.{map_among}
+use Rattle.lol_vm.proofs.StackCounting.{ends, last_at, last_place}
+use Rattle.lol_vm.proofs.StackMachines.{shown_push}
+use Rattle.lol_vm.proofs.Stops.{stopped_starts_are_whole, stops_leave, numbers_are_offsets}
+
+-- 1. Lists
+
+all_among : {A : Type 0} (P : A → Type 0) (xs : List A) → ((x : A) → Among xs x → P x) → All P xs
+all_among P [] each zero d within = absurd (omega (arith, within))
+all_among P [] each (suc k) d within = absurd (omega (arith, within))
+all_among P (x ∷ xs) each zero d within = each x (inl refl)
+all_among P (x ∷ xs) each (suc k) d within = all_among P xs (λ y a. each y (inr a)) k d (omega (arith, within))
+
+-- a list around one of its elements
+around : {A : Type 0} (xs : List A) (k : ℕ) (d : A) → k < length xs → xs ≡ take k xs ++ get_or xs k d ∷ drop (k + 1) xs
+around [] k d within = absurd (omega (arith, within))
+around (x ∷ xs) zero d within = refl
+around (x ∷ xs) (suc k) d within =
+    let next : suc k + 1 ≡ suc (k + 1) = omega arith in
+    ap (λ ys. x ∷ ys) (around xs k d (omega (arith, within))) ∙ ap (λ n. x ∷ (take k xs ++ get_or xs k d ∷ drop n (x ∷ xs))) (sym next)
+
+-- 2. What a stack shows
+
+last_in_lower : (items : List OpenItem) → last_jumps (map in_lower_case items) ≡ last_jumps items
+last_in_lower [] = refl
+last_in_lower (item ∷ items) = refl
+
+active_ranges_shown : (xs : List (std.Range ℕ × ℕ)) → ranges_of_active (active_shown xs) ≡ map range_shown (ranges_in xs)
+active_ranges_shown [] = refl
+active_ranges_shown (a ∷ xs) = ap (λ rs. range_shown a.0 ∷ rs) (active_ranges_shown xs)
+
+last_shown : {E : Type 0} (items : List (StackItemOf Name E)) → last_jumps (items_shown items) ≡ map range_shown (jumps_of_item (slice_get items (length items - 1)))
+last_shown [] = refl
+last_shown (x ∷ xs) =
+    let end = ends x xs in
+    ap (λ ys. last_jumps (items_shown ys)) end.whole
+    ∙ (ap last_jumps (shown_push item_shown end.front end.last)
+    ∙ sym (ap (λ ys. map range_shown (jumps_of_item (slice_get ys (length ys - 1)))) end.whole
+    ∙ (ap (λ k. map range_shown (jumps_of_item (slice_get (end.front ++ end.last ∷ []) k))) (last_place end.front end.last) ∙ ap (λ o. map range_shown (jumps_of_item o)) (last_at end.front end.last))))
+
+-- the ranges that the code runs are those of the machine
+pub ranges_shown : {E : Type 0} (stack : StackOf Name StackNames E) (m : Machine) (prog : Program) → Keeps stack m → m.program ≡ program_shown prog
+    → map range_shown (ranges_to_run_in prog stack) ≡ ranges_of_machine m
+ranges_shown stack m prog keeps is =
+    let jumps : map range_shown (jumps_in stack) ≡ last_jumps m.items = sym (sym (last_in_lower m.items) ∙ (ap last_jumps keeps.items ∙ last_shown (items_in stack))) in
+    let active : map range_shown (ranges_in (active_in stack)) ≡ ranges_of_active m.active = sym (ap ranges_of_active keeps.active ∙ active_ranges_shown (active_in stack)) in
+    let front : range_shown prog.entry_points ≡ m.program.entry = sym (ap (λ (p : programs.Program). p.entry) is) in
+    let back : map range_shown (jumps_in stack ++ ranges_in (active_in stack)) ≡ last_jumps m.items ++ ranges_of_active m.active =
+    map-append range_shown (jumps_in stack) (ranges_in (active_in stack)) ∙ (λ i. jumps i ++ active i) in
+    λ i. front i ∷ back i
+
+-- 3. What is run
+
+module _ {E : Type 0} (s : Selectors) (paths : List Path) (m : Machine) (outer : List Element) (closed : AreClosed s) (program : IsProgramOf s paths m.program) (items : AreItems paths m.program m.items outer) (active : m.active ≡ active_of m.items)
+    (stack : StackOf Name StackNames E) (prog : Program) (keeps : Keeps stack m) (is : m.program ≡ program_shown prog) where
+  abbrev ranges : List Range
+  ranges = ranges_of_machine m
+
+  abbrev code_ranges : List (std.Range ℕ)
+  code_ranges = ranges_to_run_in prog stack
+
+  abbrev instructions : List Instruction
+  instructions = prog.instructions.items
+
+  pub held : HoldOnce paths ranges (LeftMatches outer)
+  held = subst (λ a. HoldOnce paths (ranges_to_run m.program m.items a) (LeftMatches outer)) (sym active) (ranges_hold_left_matches s paths m.program m.items outer closed program items)
+
+  shown : m.program.instructions ≡ code_of m.program.by_type instructions
+  shown = ap (λ (p : programs.Program). p.instructions) is ∙ ap (λ b. code_of b instructions) (sym (ap (λ (p : programs.Program). p.by_type) is))
+
+  as_many : length m.program.instructions ≡ length instructions
+  as_many = ap length shown ∙ length-map instructions (instruction_shown m.program.by_type)
+
+  inside : All (IsInsideOf instructions) code_ranges
+  inside = all_among (IsInsideOf instructions) code_ranges (λ r a.
+      let among : Among (ranges_to_run m.program m.items (active_of m.items)) (range_shown r) =
+      subst (λ xs. Among (ranges_to_run m.program m.items xs) (range_shown r)) active (subst (λ rs. Among rs (range_shown r)) (ranges_shown stack m prog keeps is) (map_among range_shown code_ranges r a)) in
+      let within = ranges_are_inside s paths m.program m.items outer closed program items (range_shown r) among in
+      (within.0, omega (arith, within.1, as_many)))
+
+  pub are_ranges : AreRangesOf m.program m.program.by_type instructions code_ranges
+  are_ranges = record { shown = shown; inside = inside }
+
+  module _ (e : Element) where
+    pub as_open : AreAsOpen m.program m.program.by_type e instructions code_ranges
+    as_open = instructions_are_as_open m.program m.program.by_type e instructions code_ranges are_ranges
+
+    pub all_shown : all_places (map range_shown code_ranges) ≡ all_places ranges
+    all_shown = ap all_places (ranges_shown stack m prog keeps is)
+
+    pub whole : (content : Bool) → WholeStart s m.program ranges e outer content
+    whole content = stopped_starts_are_whole s paths m.program ranges e outer content closed program held
+
+    -- so many instructions are run
+    pub counted : length (all_at instructions code_ranges) ≡ name_tries s.nodes outer
+    counted = as_open.count ∙ (ap length all_shown ∙ (length-flat_map places ranges ∙ (places_count_tries s paths m.program ranges e outer closed program held).names))
+
+    pub within_bounds : name_tries s.nodes outer ≤ length instructions
+    within_bounds =
+        let nodes = (programs_have_each_node s paths m.program closed program).count in
+        omega (arith, nodes, as_many, count_by-le-length (λ node. matching.left_matches node outer) s.nodes)
+
+    pub runnable : (tries : Tries) → names_counted tries ≡ 0 → attributes_counted tries ≡ 0 → length instructions < 2 ^ 63 → AreRunnable instructions code_ranges tries
+    runnable tries names attributes size = record {
+      inside = inside;
+      room = (omega (arith, names, size, counted, within_bounds), omega (arith, attributes, size, counted, within_bounds));
+    }
+
+-- 4. Content
+
+branch_content : (content : Bool) (x : Context) (i : programs.Instruction) → branch content (content_of content x) i ≡ content_of content (branch true x i)
+branch_content true x i = refl
+branch_content false x i = refl
+
+stepped_by_names : (content : Bool) (x : Context) (v : NameValue) (o : Option programs.Instruction) → step_by_names content (content_of content x) v o ≡ content_of content (step_by_names true x v o)
+stepped_by_names content x True (Some i) = branch_content content x i
+stepped_by_names content x True None = refl
+stepped_by_names content x False o = refl
+stepped_by_names content x Open o = refl
+
+stepped : (content : Bool) (e : Element) (x : Context) (o : Option programs.Instruction) → step_with_attributes content e (content_of content x) o ≡ content_of content (step_with_attributes true e x o)
+stepped content e x None = refl
+stepped content e x (Some i) = by_test (i.holds e)
+  where
+    by_test : (b : Bool) → cond b (branch content (content_of content x) i) (content_of content x) ≡ content_of content (cond b (branch true x i) x)
+    by_test true = branch_content content x i
+    by_test false = refl
+
+-- a run for an element without content gathers the same ids
+pub run_content : (p : programs.Program) (content : Bool) (e : Element) (x : Context) (ps : List ℕ) → run p content e (content_of content x) ps ≡ content_of content (run p true e x ps)
+run_content p content e x [] = refl
+run_content p content e x (place ∷ ps) =
+    ap (λ c. run p content e c ps) (stepped content e x (slice_get p.instructions place)) ∙ run_content p content e (step_with_attributes true e x (slice_get p.instructions place)) ps
+
+pub by_names_content : (p : programs.Program) (content : Bool) (e : Element) (x : Context) (ps : List ℕ)
+    → (run_by_names p content e (content_of content x) ps).context ≡ content_of content (run_by_names p true e x ps).context
+by_names_content p content e x [] = refl
+by_names_content p content e x (place ∷ ps) =
+    by_test (is_open_at p e place)
+    (ap (λ c. (run_by_names p content e c ps).context) (stepped_by_names content x (value_at p e place) (slice_get p.instructions place))
+    ∙ by_names_content p content e (step_by_names true x (value_at p e place) (slice_get p.instructions place)) ps)
+  where
+    by_test : (b : Bool)
+        → (run_by_names p content e (step_by_names content (content_of content x) (value_at p e place) (slice_get p.instructions place)) ps).context
+        ≡ content_of content (run_by_names p true e (step_by_names true x (value_at p e place) (slice_get p.instructions place)) ps).context
+        → (cond b (record { context = content_of content x; left = place ∷ ps }) (run_by_names p content e (step_by_names content (content_of content x) (value_at p e place) (slice_get p.instructions place)) ps)).context
+        ≡ content_of content (cond b (record { context = x; left = place ∷ ps }) (run_by_names p true e (step_by_names true x (value_at p e place) (slice_get p.instructions place)) ps)).context
+    by_test true later = refl
+    by_test false later = later
+
+pub nothing_content : (content : Bool) → no_context ≡ content_of content no_context
+nothing_content true = refl
+nothing_content false = refl
+
+pub content_ids : (content : Bool) (x : Context) → (content_of content x).ids ≡ x.ids
+content_ids true x = refl
+content_ids false x = refl
+
+-- 5. What stays of a context while it gathers
+
+pub record StaysThe {E : Type 0} (old new : ExecutionCtx E) : Type 0 where
+  pub name : new.stack_item.local_name ≡ old.stack_item.local_name
+  pub children : new.stack_item.child_counter ≡ old.stack_item.child_counter
+  pub content : new.with_content ≡ old.with_content
+  pub namespace : new.ns ≡ old.ns
+
+module _ {E : Type 0} (ids : E → Ids) (with_ids : E → Ids → E) where
+  stays_trans : (a b c : ExecutionCtx E) → StaysThe a b → StaysThe b c → StaysThe a c
+  stays_trans a b c x y = record { name = y.name ∙ x.name; children = y.children ∙ x.children; content = y.content ∙ x.content; namespace = y.namespace ∙ x.namespace }
+
+  stays_same : (a : ExecutionCtx E) → StaysThe a a
+  stays_same a = record { name = refl; children = refl; content = refl; namespace = refl }
+
+  branch_stays : (b : Bool) (ctx : ExecutionCtx E) (i : Instruction) → StaysThe ctx (with_branch_if ids with_ids b ctx i)
+  branch_stays false ctx i = stays_same ctx
+  branch_stays true ctx i = by_content ctx.with_content
+    where
+      by_content : (c : Bool) → StaysThe (record ctx { with_content = c }) (with_branch ids with_ids (record ctx { with_content = c }) i.associated_branch)
+      by_content true = record { name = refl; children = refl; content = refl; namespace = refl }
+      by_content false = record { name = refl; children = refl; content = refl; namespace = refl }
+
+  pub names_stay : (s : Sight) (ctx : ExecutionCtx E) (is : List Instruction) → StaysThe ctx (gathered_by_names ids with_ids s ctx is)
+  names_stay s ctx [] = stays_same ctx
+  names_stay s ctx (i ∷ is) =
+      let next = with_branch_if ids with_ids (is_true (value_seen s i)) ctx i in
+      by_test (is_open (value_seen s i)) (gathered_by_names ids with_ids s next is)
+      (stays_trans ctx next (gathered_by_names ids with_ids s next is) (branch_stays (is_true (value_seen s i)) ctx i) (names_stay s next is))
+    where
+      by_test : (b : Bool) (later : ExecutionCtx E) → StaysThe ctx later → StaysThe ctx (if b then ctx else later)
+      by_test true later h = stays_same ctx
+      by_test false later h = h
+
+  pub attributes_stay : (s : Sight) (a : TagAttributes) (ctx : ExecutionCtx E) (is : List Instruction) → StaysThe ctx (gathered_with_attributes ids with_ids s a ctx is)
+  attributes_stay s a ctx [] = stays_same ctx
+  attributes_stay s a ctx (i ∷ is) =
+      stays_trans ctx (with_branch_if ids with_ids (holds_seen s a i) ctx i) (gathered_with_attributes ids with_ids s a (with_branch_if ids with_ids (holds_seen s a i) ctx i) is) (branch_stays (holds_seen s a i) ctx i) (attributes_stay s a (with_branch_if ids with_ids (holds_seen s a i) ctx i) is)
+
+-- 6. Tries by names, and what is left of them
+
+-- what is left of a range from an offset on
+range_after : (start end offset : ℕ) → start + offset ≤ end → drop offset (places (record { start = start; end = end })) ≡ places (record { start = start + offset; end = end })
+range_after start end offset inside =
+    let sizes : offset + (end - (start + offset)) ≡ end - start = omega (arith, inside) in
+    ap (λ n. drop offset (range_with_len start n)) (sym sizes) ∙ dropped_range start offset (end - (start + offset))
+  where
+    dropped_range : (start offset n : ℕ) → drop offset (range_with_len start (offset + n)) ≡ range_with_len (start + offset) n
+    dropped_range start zero n =
+        let same : zero + n ≡ n = omega arith in
+        let at : start ≡ start + zero = omega arith in
+        λ i. range_with_len (at i) (same i)
+    dropped_range start (suc offset) n =
+        let more : suc offset + n ≡ suc (offset + n) = omega arith in
+        let at : (start + 1) + offset ≡ start + suc offset = omega arith in
+        ap (λ k. drop (suc offset) (range_with_len start k)) more ∙ (dropped_range (start + 1) offset n ∙ ap (λ k. range_with_len k n) at)
+
+module _ (p : programs.Program) (e : Element) where
+  first_is_open : (ps : List ℕ) (n : ℕ) → first_open p e ps ≡ Some n → starts_open p e (drop n ps) ≡ true
+  first_is_open [] n found = cc
+  first_is_open (place ∷ ps) n found = by_test (is_open_at p e place) refl (first_open p e ps) (first_is_open ps) n found
+    where
+      by_test : (b : Bool) → is_open_at p e place ≡ b → (o : Option ℕ) → ((k : ℕ) → o ≡ Some k → starts_open p e (drop k ps) ≡ true) → (n : ℕ) → (if b then Some 0 else option_map suc o) ≡ Some n → starts_open p e (drop n (place ∷ ps)) ≡ true
+      by_test true is o later n h = let first : 0 ≡ n = cc in subst (λ k. starts_open p e (drop k (place ∷ ps)) ≡ true) first is
+      by_test false is None later n h = cc
+      by_test false is (Some k) later n h = let next : suc k ≡ n = cc in subst (λ m. starts_open p e (drop m (place ∷ ps)) ≡ true) next (later k refl)
+
+  first_is_within : (ps : List ℕ) (n : ℕ) → first_open p e ps ≡ Some n → n < length ps
+  first_is_within [] n found = cc
+  first_is_within (place ∷ ps) n found = by_test (is_open_at p e place) (first_open p e ps) (first_is_within ps) n found
+    where
+      by_test : (b : Bool) (o : Option ℕ) → ((k : ℕ) → o ≡ Some k → k < length ps) → (n : ℕ) → (if b then Some 0 else option_map suc o) ≡ Some n → n < suc (length ps)
+      by_test true o later n h = let first : 0 ≡ n = cc in omega (arith, first)
+      by_test false None later n h = cc
+      by_test false (Some k) later n h = let next : suc k ≡ n = cc in let within = later k refl in omega (arith, next, within)
+
+module _ {E : Type 0} (s : Selectors) (paths : List Path) (m : Machine) (outer : List Element) (closed : AreClosed s) (program : IsProgramOf s paths m.program) (items : AreItems paths m.program m.items outer) (active : m.active ≡ active_of m.items)
+    (stack : StackOf Name StackNames E) (prog : Program) (keeps : Keeps stack m) (is : m.program ≡ program_shown prog)
+    (ids : E → Ids) (with_ids : E → Ids → E) (lends : (w : E) (more : Ids) → ids (with_ids w more) ≡ more) (e : Element) (name : Name) (seen : sight_in stack name ≡ sight_of m.program.by_type e) where
+  abbrev p : programs.Program
+  p = m.program
+
+  abbrev all : List Instruction
+  all = prog.instructions.items
+
+  abbrev tag_code : List (std.Range ℕ)
+  tag_code = ranges_to_run_in prog stack
+
+  abbrev rs : List Range
+  rs = ranges_of_machine m
+
+  are : AreRangesOf p p.by_type all tag_code
+  are = are_ranges s paths m outer closed program items active stack prog keeps is
+
+  same_places : all_places (map range_shown tag_code) ≡ all_places rs
+  same_places = all_shown s paths m outer closed program items active stack prog keeps is e
+
+  module _ (old new : ExecutionCtx E) (before after : Tries) (stop : Option Stop) (tried : AreTried ids with_ids (sight_in stack name) all tag_code old new before after stop) where
+    pub stays : StaysThe old new
+    stays = subst (StaysThe old) (sym tried.gathered) (names_stay ids with_ids (sight_in stack name) old (all_at all tag_code))
+
+    pub stop_shown : place_in all tag_code stop ≡ first_open p e (all_places rs)
+    stop_shown =
+        tried.stops
+        ∙ (ap (λ z. first_open_from z 0 (all_at all tag_code)) seen
+        ∙ ((as_open s paths m outer closed program items active stack prog keeps is e).stop ∙ ap (first_open p e) same_places))
+
+    -- what was gathered is what the run by names gathers
+    pub gathered : Gathers ids old.stack_item no_context → Gathers ids new.stack_item (content_of new.with_content (started_by_names p true e rs).context)
+    gathered none =
+        let by_names = (instructions_gather ids with_ids lends p p.by_type e all tag_code old no_context are none).names in
+        let is_new : gathered_by_names ids with_ids (sight_of p.by_type e) old (all_at all tag_code) ≡ new = sym (tried.gathered ∙ ap (λ z. gathered_by_names ids with_ids z old (all_at all tag_code)) seen) in
+        let context : (run_by_names p old.with_content e no_context (all_places (map range_shown tag_code))).context ≡ content_of old.with_content (started_by_names p true e rs).context =
+        ap (λ ps. (run_by_names p old.with_content e no_context ps).context) same_places
+        ∙ (ap (λ x. (run_by_names p old.with_content e x (all_places rs)).context) (nothing_content old.with_content) ∙ by_names_content p old.with_content e no_context (all_places rs)) in
+        subst (λ c. Gathers ids new.stack_item (content_of c (started_by_names p true e rs).context)) (sym stays.content)
+        (subst (Gathers ids new.stack_item) context (subst (λ (x : ExecutionCtx E). Gathers ids x.stack_item (run_by_names p old.with_content e no_context (all_places (map range_shown tag_code))).context) is_new by_names))
+
+  -- where no instruction needs attributes
+  module _ (old new : ExecutionCtx E) (before after : Tries) (tried : AreTried ids with_ids (sight_in stack name) all tag_code old new before after None) where
+    pub none_left : (started_by_names p true e rs).left ≡ []
+    none_left = stops_leave p true e no_context (all_places rs) ∙ ap (λ o. from_number o (all_places rs)) (sym (stop_shown old new before after None tried))
+
+    pub gathered_all : (started_by_names p true e rs).context ≡ context_of p true e (all_places rs)
+    gathered_all =
+        ap (λ ps. run p true e (started_by_names p true e rs).context ps) (sym none_left) ∙ (whole s paths m outer closed program items active stack prog keeps is e true).whole
+
+    pub names_all : names_counted before ≡ 0 → names_counted after ≡ name_tries s.nodes outer
+    names_all none = omega (arith, none, tried.names, counted s paths m outer closed program items active stack prog keeps is e)
+
+    pub no_attributes : 0 ≡ attribute_tries s.nodes e outer
+    no_attributes = ap (count_by (is_open_at p e)) (sym none_left) ∙ (whole s paths m outer closed program items active stack prog keeps is e true).attributes
+
+    pub no_need : starts_open p e (started_by_names p true e rs).left ≡ false
+    no_need = ap (starts_open p e) none_left
+
+  -- where one does
+  module _ (old new : ExecutionCtx E) (before after : Tries) (stop : Stop) (tried : AreTried ids with_ids (sight_in stack name) all tag_code old new before after (Some stop)) where
+    abbrev number : ℕ
+    number = length (all_at all (take stop.range tag_code)) + stop.offset
+
+    abbrev stopped : std.Range ℕ
+    stopped = get_or tag_code stop.range no_range
+
+    found : first_open p e (all_places rs) ≡ Some number
+    found = sym (stop_shown old new before after (Some stop) tried)
+
+    pub needs : starts_open p e (started_by_names p true e rs).left ≡ true
+    needs = ap (starts_open p e) (stops_leave p true e no_context (all_places rs) ∙ ap (λ o. from_number o (all_places rs)) found) ∙ first_is_open p e (all_places rs) number found
+
+    -- what is left are the places of the ranges from the stop on
+    pub left_places : (started_by_names p true e rs).left ≡ all_places (map range_shown (ranges_from tag_code stop))
+    left_places =
+        let within = tried.within in
+        let front = take stop.range tag_code in
+        let back = drop (stop.range + 1) tag_code in
+        let parts = around tag_code stop.range no_range within.0 in
+        let shown_parts : map range_shown tag_code ≡ map range_shown front ++ range_shown stopped ∷ map range_shown back = ap (map range_shown) parts ∙ map-append range_shown front (stopped ∷ back) in
+        let same_count = (instructions_are_as_open p p.by_type e all front (record { shown = are.shown; inside = All-take (IsInsideOf all) stop.range tag_code are.inside })).count in
+        let offset_inside : stopped.start + stop.offset ≤ stopped.end = omega (arith, within.1, length-take (stopped.end - stopped.start) (drop stopped.start all)) in
+        let sizes = length-range_with_len stopped.start (stopped.end - stopped.start) in
+        stops_leave p true e no_context (all_places rs)
+        ∙ (ap (λ o. from_number o (all_places rs)) found
+        ∙ (ap (drop number) (sym same_places ∙ ap all_places shown_parts)
+        ∙ (ap (λ n. drop (n + stop.offset) (all_places (map range_shown front ++ range_shown stopped ∷ map range_shown back))) same_count
+        ∙ (numbers_are_offsets (map range_shown front) (range_shown stopped) (map range_shown back) stop.offset (omega (arith, offset_inside, sizes))
+        ∙ ap (λ ps. ps ++ all_places (map range_shown back)) (range_after stopped.start stopped.end stop.offset offset_inside)))))
+
+    pub names_left : names_counted before ≡ 0 → names_counted after + length (started_by_names p true e rs).left ≡ length (all_places rs) + 1
+    names_left none =
+        let left = ap length (stops_leave p true e no_context (all_places rs) ∙ ap (λ o. from_number o (all_places rs)) found) ∙ length-drop number (all_places rs) in
+        omega (arith, none, tried.names, left, first_is_within p e (all_places rs) number found)

@@ -1,0 +1,245 @@
+-- Requests that are finished, and what the machine of the code answers to them.
+use Rattle.std.proofs.Common.{◌≡◌, ℕ, suc, zero, ◌+◌, ◌-◌, ◌<◌, ◌≤◌, ◌^◌, Bool, true, false, not, List, [], ◌∷◌, ◌++◌, length, map, drop, get_or, All, Option, Some, None, refl, sym, ap, ◌∙◌, subst, arith}
+use Rattle.std.specs.Prelude.{◌&&◌, if◌then◌else◌, count_by}
+use Rattle.std.proofs.lemmas.List.{length-append, length-take}
+use Rattle.std.proofs.lemmas.List.Concat.{length-flat_map}
+use Rattle.std.proofs.lemmas.List.Elements.{All-drop}
+use Rattle.std.specs.declared.ops.Range as std
+use Rattle.lol_base.specs.MemberLaws.{map-map, contains_from_among}
+use Rattle.lol_base.specs.StartTags.{StartTag}
+use Rattle.lol_base.specs.declared.namespace.Namespace.{Namespace}
+use Rattle.lol_base.specs.declared.namespace.Namespace.TheVariants.{Html, Svg, MathML}
+use Rattle.lol_memory.specs.Ids.{Ids, ascending}
+use Rattle.lol_memory.specs.declared.match_info.MatchInfo.{MatchInfo}
+use Rattle.lol_program.specs.Attributes.{tag_attributes}
+use Rattle.lol_program.specs.Compiled.{Sight}
+use Rattle.lol_program.specs.Paths.{Selectors}
+use Rattle.lol_program.specs.Programs.{Range, places, all_places}
+use Rattle.lol_program.specs.ProgramViews.{range_shown}
+use Rattle.lol_program.specs.Tests.{Element, is_html}
+use Rattle.lol_program.specs.Tries.{names_counted, attributes_counted}
+use Rattle.lol_program.specs.declared.instruction.Instruction.{Instruction}
+use Rattle.lol_program.specs.declared.tries.Tries.{Tries}
+use Rattle.lol_vm.specs.Answers.{Match, Started, Dropped, answer, document, ascending_once, matching_ids, name_tries, attribute_tries, report}
+use Rattle.lol_vm.specs.Calls.{IsCalledAtEach, reports}
+use Rattle.lol_vm.specs.Documents.{Document, element_of}
+use Rattle.lol_vm.specs.Events.{Event, Start, has_content, has_content_in}
+use Rattle.lol_vm.specs.Gathering.{Gathers}
+use Rattle.lol_vm.specs.InstructionRuns.{gathered_with_attributes, AreRunnable, IsInsideOf, all_at, no_range, open_among, ranges_in}
+use Rattle.lol_vm.specs.InstructionLaws.{AreRangesOf}
+use Rattle.lol_vm.specs.Machines.{AreItems}
+use Rattle.lol_vm.specs.PlaceRuns.{no_context, context_of, is_open_at, run}
+use Rattle.lol_vm.specs.StackMachines.{IsItemOf}
+use Rattle.lol_vm.specs.Stacks.{active_in}
+use Rattle.lol_vm.specs.Standing.{Machine, StandsFor, ranges_of_machine}
+use Rattle.lol_vm.specs.TagRuns.{AreExecuted, IsPointIn, jumps_in, ranges_left, ranges_to_run_in, sight_in, stop_at, tag_ranges, tried_at, IsStopOf}
+use Rattle.lol_vm.specs.Vms.{Vm, Shows, IsAnswered, IsEntered, IsPending, GoesOnAt, content_at, content_of, info_of, data_in}
+use Rattle.lol_vm.specs.declared.error.AuxStartTagInfoRequest.{AuxStartTagInfoRequest}
+use Rattle.lol_vm.specs.declared.execution_ctx.ExecutionCtx.{ExecutionCtx}
+use Rattle.lol_vm.specs.declared.instruction_runs.Stop.{Stop}
+use Rattle.lol_vm.specs.declared.tag_runs.RecoveryPoint.{RecoveryPoint}
+use Rattle.lol_vm.specs.declared.tag_runs.RecoveryPoint.TheVariants.{AtOnce, EntryPoints, Jumps, HereditaryJumps}
+use Rattle.lol_vm.proofs.Answered.{in_order}
+use Rattle.lol_vm.proofs.Counted.{places_count_tries}
+use Rattle.lol_vm.proofs.Gathered.{runs_give_reports}
+use Rattle.lol_vm.proofs.GatheringLemmas.{gathered_ids_ascend}
+use Rattle.lol_vm.proofs.InstructionPlaces.{instructions_are_as_open, instructions_gather}
+use Rattle.lol_vm.proofs.Kept.{after_unfinished, finishing_is_kept}
+use Rattle.lol_vm.proofs.Starts.{StaysThe, held, are_ranges, within_bounds, attributes_stay, run_content, content_ids}
+use Rattle.lol_vm.proofs.Stops.{left_counted, requests_finish}
+use Rattle.lol_vm.proofs.TagRuns.{stop_before, stop_after}
+use Rattle.lol_vm.proofs.VmStarts.{opened_if, entered_stands, map-id, once_of, opened_as}
+
+-- 1. Content
+
+foreign_content : (tag : StartTag) (esi : Bool) → is_html tag.namespace ≡ false → not tag.self_closing ≡ has_content esi tag
+foreign_content tag esi foreign = by_namespace tag.namespace foreign
+  where
+    by_namespace : (ns : Namespace) → is_html ns ≡ false → not tag.self_closing ≡ has_content_in ns esi tag
+    by_namespace Html h = cc
+    by_namespace Svg h = refl
+    by_namespace MathML h = refl
+
+-- 2. What is left
+
+module _ (instructions : List Instruction) (ranges : List (std.Range ℕ)) (inside : All (IsInsideOf instructions) ranges) where
+  left_inside : (stop : Option Stop) → IsStopOf instructions ranges stop → All (IsInsideOf instructions) (ranges_left ranges stop)
+  left_inside None is = inside
+  left_inside (Some stop) is = one_more (IsInsideOf instructions) _ (drop (stop.range + 1) ranges) first (All-drop (IsInsideOf instructions) (stop.range + 1) ranges inside)
+    where
+      one_more : {A : Type 0} (P : A → Type 0) (x : A) (xs : List A) → P x → All P xs → All P (x ∷ xs)
+      one_more P x xs here later zero d within = here
+      one_more P x xs here later (suc k) d within = later k d (omega (arith, within))
+
+      first : IsInsideOf instructions (record { start = (get_or ranges stop.range no_range).start + stop.offset; end = (get_or ranges stop.range no_range).end })
+      first =
+          let r = get_or ranges stop.range no_range in
+          let whole = inside stop.range no_range is.0 in
+          (omega (arith, is.1, length-take (r.end - r.start) (drop r.start instructions)), whole.1)
+
+-- a recovery point is a stop in all ranges
+point_is_stop : (instructions : List Instruction) (entry : std.Range ℕ) (jumps active : List (std.Range ℕ)) (point : RecoveryPoint) → IsPointIn instructions entry jumps active point → IsStopOf instructions (tag_ranges entry jumps active) (stop_at entry jumps point)
+point_is_stop instructions entry jumps active AtOnce is = tt
+point_is_stop instructions entry jumps active (EntryPoints stop) is = stop_before instructions (entry ∷ []) (jumps ++ active) stop is
+point_is_stop instructions entry jumps active (Jumps stop) is = stop_after instructions (entry ∷ []) (jumps ++ active) _ (stop_before instructions jumps active stop is)
+point_is_stop instructions entry jumps active (HereditaryJumps stop) is = stop_after instructions (entry ∷ jumps) active stop is
+
+-- 3. A request
+
+module _ {E : Type 0} (ids : E → Ids) (with_ids : E → Ids → E) (lends : (w : E) (more : Ids) → ids (with_ids w more) ≡ more) (vm : Vm E) (s : Selectors) (esi : Bool) (events : List Event) (tag : StartTag) (request : AuxStartTagInfoRequest E)
+    (pending : IsPending ids s esi events tag vm request) where
+  abbrev m : Machine
+  m = pending.machine
+
+  abbrev d : Document
+  d = document s esi events
+
+  abbrev e : Element
+  e = element_of d tag
+
+  abbrev rs : List Range
+  rs = ranges_of_machine m
+
+  abbrev all : List Instruction
+  all = vm.program.instructions.items
+
+  abbrev stop : Option Stop
+  stop = stop_at vm.program.entry_points (jumps_in vm.stack) request.point
+
+  abbrev left_code : List (std.Range ℕ)
+  left_code = ranges_left (ranges_to_run_in vm.program vm.stack) stop
+
+  items : AreItems pending.paths m.program m.items d.open_elements
+  items = subst (λ (x : Document). AreItems pending.paths m.program m.items x.open_elements) (after_unfinished s esi events tag pending.asks) pending.standing.items
+
+  are : AreRangesOf m.program m.program.by_type all (ranges_to_run_in vm.program vm.stack)
+  are = are_ranges s pending.paths m d.open_elements pending.closed pending.standing.program items pending.standing.active vm.stack vm.program pending.shown.stack pending.shown.program
+
+  are_left : AreRangesOf m.program m.program.by_type all left_code
+  are_left = record {
+    shown = are.shown;
+    inside = left_inside all (ranges_to_run_in vm.program vm.stack) are.inside stop (point_is_stop all vm.program.entry_points (jumps_in vm.stack) (ranges_in (active_in vm.stack)) request.point pending.stopped);
+  }
+
+  left_count : length (all_at all left_code) ≡ length pending.left
+  left_count = (instructions_are_as_open m.program m.program.by_type e all left_code are_left).count ∙ ap length (sym pending.places_left)
+
+  all_count : length (all_places rs) ≡ name_tries s.nodes d.open_elements
+  all_count =
+      length-flat_map places rs
+      ∙ (places_count_tries s pending.paths m.program rs e d.open_elements pending.closed pending.standing.program
+      (held s pending.paths m d.open_elements pending.closed pending.standing.program items pending.standing.active vm.stack vm.program pending.shown.stack pending.shown.program)).names
+
+  pub can_finish : length all < 2 ^ 63 → AreRunnable all left_code vm.tries
+  can_finish size =
+      let bounds = within_bounds s pending.paths m d.open_elements pending.closed pending.standing.program items pending.standing.active vm.stack vm.program pending.shown.stack pending.shown.program e in
+      let names = pending.names in
+      let tried = at_most_one stop in
+      let parts = ap length pending.is_request.parts ∙ length-append pending.is_request.before pending.left in
+      record {
+        inside = are_left.inside;
+        room = (omega (arith, names, tried, left_count, all_count, bounds, size), omega (arith, pending.attributes, left_count, parts, all_count, bounds, size));
+      }
+    where
+      at_most_one : (o : Option Stop) → tried_at o ≤ 1
+      at_most_one None = omega arith
+      at_most_one (Some stop) = omega arith
+
+  content_now : (self_closing : Bool) → self_closing ≡ tag.self_closing → content_at request.point request.ctx.with_content self_closing ≡ has_content esi tag
+  content_now self_closing is = by_point request.point (pending.goes_on)
+    where
+      by_point : (point : RecoveryPoint) → GoesOnAt (is_html tag.namespace) (has_content esi tag) pending.context (stop_at vm.program.entry_points (jumps_in vm.stack) point) request.ctx.with_content → content_at point request.ctx.with_content self_closing ≡ has_content esi tag
+      by_point AtOnce h = ap not is ∙ foreign_content tag esi h.0
+      by_point (EntryPoints at) h = h.1
+      by_point (Jumps at) h = h.1
+      by_point (HereditaryJumps at) h = h.1
+
+  gathered_before : (self_closing : Bool) → Gathers ids request.ctx.stack_item (content_of (content_at request.point request.ctx.with_content self_closing) pending.context)
+  gathered_before self_closing = by_point request.point pending.goes_on
+    where
+      nothing : (a b : Bool) → content_of a no_context ≡ content_of b no_context
+      nothing true true = refl
+      nothing true false = refl
+      nothing false true = refl
+      nothing false false = refl
+
+      by_point : (point : RecoveryPoint) → GoesOnAt (is_html tag.namespace) (has_content esi tag) pending.context (stop_at vm.program.entry_points (jumps_in vm.stack) point) request.ctx.with_content
+          → Gathers ids request.ctx.stack_item (content_of (content_at point request.ctx.with_content self_closing) pending.context)
+      by_point AtOnce h =
+          subst (Gathers ids request.ctx.stack_item) (ap (content_of request.ctx.with_content) h.1 ∙ (nothing request.ctx.with_content (not self_closing) ∙ sym (ap (content_of (not self_closing)) h.1))) pending.gathered
+      by_point (EntryPoints at) h = pending.gathered
+      by_point (Jumps at) h = pending.gathered
+      by_point (HereditaryJumps at) h = pending.gathered
+
+  module _ (self_closing : Bool) (is_closing : self_closing ≡ tag.self_closing) (finish : tag.finish ≡ true) (new_ctx : ExecutionCtx E) (after : Tries) where
+    abbrev ctx : ExecutionCtx E
+    ctx = record request.ctx { with_content = content_at request.point request.ctx.with_content self_closing }
+
+    abbrev Executed : Type 0
+    Executed = AreExecuted ids with_ids (sight_in vm.stack request.ctx.stack_item.local_name) all left_code ctx new_ctx vm.tries after (tag_attributes tag) (tried_at stop)
+
+    pub answered : Executed → {F : Type 0} (step : F → MatchInfo → Unit {0} → F → Type 0) (f g : F) (next : Vm E)
+        → IsCalledAtEach step f (reports new_ctx.with_content (ascending (ids new_ctx.stack_item.element_data))) g
+        → IsEntered new_ctx.with_content new_ctx.stack_item (record vm { tries = after }) next
+        → IsAnswered ids step s esi events tag true vm next f g
+    answered executed step f g next called entered =
+        let same : StaysThe ctx new_ctx = subst (StaysThe ctx) (sym executed.gathered) (attributes_stay ids with_ids (sight_in vm.stack request.ctx.stack_item.local_name) (tag_attributes tag) ctx (all_at all left_code)) in
+        let here : new_ctx.with_content ≡ has_content esi tag = same.content ∙ content_now self_closing is_closing in
+        let x = context_of m.program true e (all_places rs) in
+        let is_held = held s pending.paths m d.open_elements pending.closed pending.standing.program items pending.standing.active vm.stack vm.program pending.shown.stack pending.shown.program in
+        let finishes : run m.program true e pending.context pending.left ≡ x = requests_finish m.program true e rs pending.context pending.left pending.is_request tag.attributes tag.self_closing tag.finish in
+        let gathers = (instructions_gather ids with_ids lends m.program m.program.by_type e all left_code ctx (content_of ctx.with_content pending.context) are_left (gathered_before self_closing)).attributes in
+        let new_is = executed.gathered ∙ ap (λ z. gathered_with z) pending.seen in
+        let ran : run m.program ctx.with_content e (content_of ctx.with_content pending.context) (all_places (map range_shown left_code)) ≡ content_of (has_content esi tag) x =
+        ap (run m.program ctx.with_content e (content_of ctx.with_content pending.context)) (sym pending.places_left)
+        ∙ (run_content m.program ctx.with_content e pending.context pending.left ∙ (λ i. content_of (content_now self_closing is_closing i) (finishes i))) in
+        let all_gathered : Gathers ids new_ctx.stack_item (content_of (has_content esi tag) x) =
+        subst (λ (c : ExecutionCtx E). Gathers ids c.stack_item (content_of (has_content esi tag) x)) (sym new_is)
+        (subst (Gathers ids _) ran gathers) in
+        let given = runs_give_reports s pending.paths m.program rs e d.open_elements pending.closed pending.standing.program is_held in
+        let tries = places_count_tries s pending.paths m.program rs e d.open_elements pending.closed pending.standing.program is_held in
+        let names : names_counted after ≡ name_tries s.nodes d.open_elements = omega (arith, executed.names, pending.names, left_count, all_count) in
+        let opens : open_among (sight_in vm.stack request.ctx.stack_item.local_name) (all_at all left_code) ≡ attribute_tries s.nodes e d.open_elements =
+        ap (λ z. open_among z (all_at all left_code)) pending.seen
+        ∙ ((instructions_are_as_open m.program m.program.by_type e all left_code are_left).opens
+        ∙ (ap (count_by (is_open_at m.program e)) (sym pending.places_left)
+        ∙ (left_counted (is_open_at m.program e) pending.is_request.before pending.left (λ place a. pending.is_request.closed place (contains_from_among pending.is_request.before place a))
+        ∙ (ap (count_by (is_open_at m.program e)) (sym pending.is_request.parts) ∙ tries.attributes)))) in
+        let attributes : attributes_counted after ≡ attribute_tries s.nodes e d.open_elements = executed.attributes ∙ (ap (λ n. n + open_among (sight_in vm.stack request.ctx.stack_item.local_name) (all_at all left_code)) pending.attributes ∙ (zero_more _ ∙ opens)) in
+        let matched : ascending (ids new_ctx.stack_item.element_data) ≡ matching_ids s.pairs e d.open_elements =
+        gathered_ids_ascend ids new_ctx.stack_item (content_of (has_content esi tag) x) all_gathered ∙ (ap ascending_once (content_ids (has_content esi tag) x) ∙ in_order x.ids s e d.open_elements given.ids) in
+        let told : answer s esi d (Start tag) ≡ Started (report s esi e d.open_elements) true (names_counted after) (attributes_counted after) =
+        (λ i. if (pending.asks i && not (finish i)) then Dropped else Started (report s esi e d.open_elements) (pending.asks i) (name_tries s.nodes d.open_elements) (attribute_tries s.nodes e d.open_elements))
+        ∙ (λ i. Started (report s esi e d.open_elements) true (sym names i) (sym attributes i)) in
+        let reported = (λ i. reports (here i) (matched i)) ∙ sym (map-map info_of (λ id. record { id = id; with_content = has_content esi tag }) (matching_ids s.pairs e d.open_elements)) in
+        let item : IsItemOf new_ctx.stack_item tag.name (content_of (has_content esi tag) x) = record {
+          named = same.name ∙ pending.named.0;
+          jumps = all_gathered.jumps;
+          hereditary_jumps = all_gathered.hereditary_jumps;
+          once = once_of (has_content esi tag) x given.hereditary_jumps.once;
+          children = same.children ∙ pending.childless;
+        } in
+        let shown_now : Shows (record vm { tries = after }) m = record { stack = pending.shown.stack; sound = pending.shown.sound; program = pending.shown.program; switch = pending.shown.switch; refused = pending.shown.refused } in
+        let entering = entered_stands vm vm.stack after m shown_now tag.name x new_ctx.stack_item next (has_content esi tag) item
+        (subst (λ b. IsEntered b new_ctx.stack_item (record vm { tries = after }) next) here entered) in
+        record {
+          matched = report s esi e d.open_elements;
+          answered = told ∙ (λ i. Started (report s esi e d.open_elements) true (names_counted (sym entering.tries i)) (attributes_counted (sym entering.tries i)));
+          reported = subst (λ infos. IsCalledAtEach step f infos g) reported called;
+          stands = record {
+            paths = pending.paths;
+            machine = opened_if (has_content esi tag) m tag.name x;
+            closed = pending.closed;
+            shown = entering.shown;
+            standing = subst (λ c. StandsFor s esi pending.paths (opened_if (has_content esi tag) m tag.name c) (events ++ Start tag ∷ [])) finishes
+                (finishing_is_kept s esi pending.paths m events tag pending.context pending.left pending.closed finish pending.asks pending.standing pending.is_request);
+          };
+          opened = opened_as ids (has_content esi tag) (report s esi e d.open_elements) new_ctx.stack_item (matched ∙ sym (map-map (λ (r : Match). r.id) (λ id. record { id = id; with_content = has_content esi tag }) (matching_ids s.pairs e d.open_elements) ∙ map-id (matching_ids s.pairs e d.open_elements)))
+              (data_in vm) (data_in next) (data_in vm) refl entering.has;
+        }
+      where
+        zero_more : (n : ℕ) → 0 + n ≡ n
+        zero_more n = omega arith
+
+        gathered_with : Sight → ExecutionCtx E
+        gathered_with z = gathered_with_attributes ids with_ids z (tag_attributes tag) ctx (all_at all left_code)

@@ -1,0 +1,258 @@
+-- What survives a refusal, and what end tags do.
+use Rattle.std.proofs.Common.{◌≡◌, Result, Ok, Err, ℕ, ◌<◌, ◌≤◌, Bool, true, false, List, [], ◌∷◌, ◌++◌, length, take, drop, Option, Some, None, refl, sym, ap, ◌∙◌, subst, arith}
+use Rattle.std.specs.Result.{OnErr}
+use Rattle.std.specs.Prelude.{max, nat_lt, if◌then◌else◌}
+use Rattle.std.specs.List.{take-map, drop-map}
+use Rattle.std.proofs.lemmas.Bool.Decides.{nat_tests}
+use Rattle.std.proofs.lemmas.List.{length-map, length-take, take_all, drop_all}
+use Rattle.lol_base.specs.LocalNames.{Name, local_name}
+use Rattle.lol_base.specs.StartTags.{StartTag}
+use Rattle.lol_base.specs.declared.namespace.Namespace.TheVariants.{Html}
+use Rattle.lol_memory.specs.LimitedVec.{LimitedVec}
+use Rattle.lol_program.specs.Asts.{nodes_of}
+use Rattle.lol_program.specs.ClosedLaws.{trees_are_closed}
+use Rattle.lol_program.specs.Counters.{full_count}
+use Rattle.lol_program.specs.Programs.{IsProgramOf}
+use Rattle.lol_program.specs.declared.ast.Ast.{Ast}
+use Rattle.lol_program.specs.declared.program.Program.{Program}
+use Rattle.lol_program.specs.Paths.{Path, Selectors}
+use Rattle.lol_program.specs.ProgramViews.{program_shown}
+use Rattle.lol_program.specs.Tests.{Element}
+use Rattle.lol_vm.specs.Answers.{document}
+use Rattle.lol_vm.specs.Documents.{Document, after_start, after_end}
+use Rattle.lol_vm.specs.Events.{Event, End}
+use Rattle.lol_vm.specs.SoundStacks.{IsSound}
+use Rattle.lol_vm.specs.StackMachines.{Keeps, IsNew}
+use Rattle.lol_vm.specs.Stacks.{items_in, places_in, last_count, counted_in, closed_from, element_data_of, place_to_close, last_below, IsSame, IsEnded, IsEndedAt}
+use Rattle.lol_vm.specs.Standing.{Machine, new_machine, AreCounted, StandsOn, IsOrdered, counted, ended}
+use Rattle.lol_vm.specs.Views.{selectors}
+use Rattle.lol_vm.specs.Vms.{Vm, Shows, Stands, HasOpen, IsFailedAs, IsRequested, IsNameOf, open_after, data_in}
+use Rattle.lol_vm.specs.declared.error.VmError.{VmError}
+use Rattle.lol_vm.specs.declared.error.VmError.TheVariants.{InfoRequest, MemoryLimitExceeded, Memory, CounterFull, Failed}
+use Rattle.lol_vm.specs.declared.execution_ctx.ExecutionCtx.{ExecutionCtx}
+use Rattle.lol_vm.specs.declared.stack_item.StackItemOf.{StackItemOf}
+use Rattle.lol_vm.specs.declared.tag_runs.RecoveryPoint.{RecoveryPoint}
+use Rattle.lol_vm.specs.declared.stack.StackOf.{StackOf}
+use Rattle.lol_vm.specs.declared.stack.StackNames.{StackNames}
+use Rattle.lol_vm.proofs.Kept.{items_length, counted_stands, ended_stands, documents_are_ordered, ordered_start, ordered_end, new_stands, standing_is_kept}
+use Rattle.lol_vm.proofs.SoundLemmas.{new_is_sound, same_is_sound, closing_keeps_sound, counting_keeps_sound}
+use Rattle.lol_vm.proofs.StackCounting.{counting_stack_keeps, seen_children, typed_counts_are_fewer}
+use Rattle.lol_vm.proofs.StackEnds.{ending_stack_keeps}
+use Rattle.lol_vm.proofs.VmStarts.{counted_data}
+use Rattle.lol_vm.proofs.StackMachines.{new_stack_keeps, items_counted, same_stack_keeps}
+
+-- 1. Machines that stand
+
+unrefused : (s : Selectors) (esi : Bool) (paths : List Path) (m : Machine) (d : Document) (most : ℕ) → StandsOn s esi paths m d most → StandsOn s esi paths (record m { refused = false }) d most
+unrefused s esi paths m d most h = record { program = h.program; items = h.items; counted = record { root = h.counted.root; children = h.counted.children; typed = h.counted.typed }; active = h.active; charged = h.charged; switch = h.switch; never_refused = refl }
+
+pub stands_has_open : {E : Type 0} (s : Selectors) (esi : Bool) (vm : Vm E) (events : List Event) → Stands s esi vm events → HasOpen vm (document s esi events).open_elements
+stands_has_open s esi vm events h = record {
+  selectors = s;
+  esi = esi;
+  paths = h.paths;
+  machine = h.machine;
+  document = document s esi events;
+  most = _;
+  shown = h.shown;
+  standing = unrefused s esi h.paths h.machine (document s esi events) _ h.standing;
+  ordered = documents_are_ordered s esi events;
+  same = refl;
+}
+
+wider : (d : Document) (a b : ℕ) → a ≤ b → IsOrdered d a → IsOrdered d b
+wider d a b le h = let enough = h.enough in record { numbers = h.numbers; fresh = h.fresh; enough = omega (arith, le, enough) }
+
+module _ {E : Type 0} where
+  keeps_as : (stack : StackOf Name StackNames E) (m : Machine) (refused : Bool) → Keeps stack m → Keeps stack (record m { refused = refused })
+  keeps_as stack m refused k = record { items = k.items; active = k.active; root_children = k.root_children; children = k.children; typed = k.typed; item_bytes = k.item_bytes; slots = k.slots }
+
+  -- what a machine shows with another stack
+  shows_as : (vm new : Vm E) (m next : Machine) → Shows vm m → Keeps new.stack next → IsSound new.stack → next.program ≡ m.program → next.esi ≡ m.esi → new.program ≡ vm.program → new.enable_esi_tags ≡ vm.enable_esi_tags
+      → Shows new (record next { refused = new.failed })
+  shows_as vm new m next shown keeps sound program switch same_program same_switch = record {
+    stack = keeps_as new.stack next new.failed keeps;
+    sound = sound;
+    program = program ∙ (shown.program ∙ sym (ap program_shown same_program));
+    switch = switch ∙ (shown.switch ∙ sym same_switch);
+    refused = refl;
+  }
+
+  pub has_open_same : (vm new : Vm E) (elements : List Element) → IsSame vm.stack new.stack → new.program ≡ vm.program → new.enable_esi_tags ≡ vm.enable_esi_tags → HasOpen vm elements → HasOpen new elements
+  has_open_same vm new elements same same_program same_switch h = record {
+    selectors = h.selectors;
+    esi = h.esi;
+    paths = h.paths;
+    machine = record h.machine { refused = new.failed };
+    document = h.document;
+    most = h.most;
+    shown = shows_as vm new h.machine h.machine h.shown (same_stack_keeps vm.stack new.stack h.machine h.shown.stack same) (same_is_sound vm.stack new.stack h.shown.sound same) refl refl same_program same_switch;
+    standing = h.standing;
+    ordered = h.ordered;
+    same = h.same;
+  }
+
+  -- a refused tag may be counted
+  pub has_open_counted : (vm new : Vm E) (elements : List Element) (bytes : List ℕ) → new.stack ≡ counted_in vm.stack (local_name bytes) → last_count vm.stack < full_count
+      → new.program ≡ vm.program → new.enable_esi_tags ≡ vm.enable_esi_tags → HasOpen vm elements → HasOpen new elements
+  has_open_counted vm new elements bytes is room same_program same_switch h =
+      let m = h.machine in
+      let d = h.document in
+      let tag : StartTag = record { name = bytes; namespace = Html; attributes = []; self_closing = false; finish = false } in
+      let are : AreCounted m d = record { root = h.standing.counted.root; children = h.standing.counted.children; typed = h.standing.counted.typed } in
+      let sizes = items_length h.paths m.program m.items d.open_elements h.standing.items in
+      let last = seen_children vm.stack m h.shown.stack (items_in vm.stack) refl in
+      let keeps = counting_stack_keeps vm.stack m bytes h.shown.stack (λ by_type. let fewer = typed_counts_are_fewer m d bytes are sizes by_type in omega (arith, fewer, last, room)) in
+      record {
+        selectors = h.selectors;
+        esi = h.esi;
+        paths = h.paths;
+        machine = record (counted m bytes) { refused = new.failed };
+        document = after_start d tag false;
+        most = max h.most (length d.open_elements);
+        shown = shows_as vm new m (counted m bytes) h.shown (subst (λ x. Keeps x (counted m bytes)) (sym is) keeps)
+            (subst (λ (x : StackOf Name StackNames E). IsSound x) (sym is) (counting_keeps_sound vm.stack (local_name bytes) h.shown.sound)) refl refl same_program same_switch;
+        standing = counted_stands h.selectors h.esi h.paths (record m { refused = false }) d h.most h.ordered h.standing tag;
+        ordered = wider (after_start d tag false) (length d.open_elements) (max h.most (length d.open_elements)) (omega arith) (ordered_start d h.most tag false h.ordered);
+        same = h.same;
+      }
+
+-- 2. End tags
+
+below : (n : ℕ) (ps : List ℕ) (k : ℕ) → last_below n ps ≡ Some k → k < n
+below n [] k is = cc
+below n (p ∷ []) k is = by_test (nat_lt p n) refl is
+  where
+    by_test : (b : Bool) → nat_lt p n ≡ b → (if b then Some p else None) ≡ Some k → k < n
+    by_test true less h = let same : p ≡ k = cc in grind (arith, nat_tests, less, same)
+    by_test false less h = cc
+below n (p ∷ q ∷ ps) k is = below n (q ∷ ps) k is
+
+module _ {E : Type 0} where
+  sound_at : (old new : StackOf Name StackNames E) (o : Option ℕ) → ((k : ℕ) → o ≡ Some k → k < length (items_in old)) → IsEndedAt o old new → IsSound old → IsSound new
+  sound_at old new None within ended sound = same_is_sound old new sound ended
+  sound_at old new (Some place) within ended sound = let less = within place refl in closing_keeps_sound place old new (omega (arith, less)) sound ended
+
+  sound_after : (old new : StackOf Name StackNames E) (name : Name) → IsEnded old name new → IsSound old → IsSound new
+  sound_after old new name ended sound = sound_at old new (place_to_close old name) (λ k is. below (length (items_in old)) (places_in old name) k is) ended sound
+
+  pub has_open_ended : (vm new : Vm E) (elements : List Element) (name : List ℕ) → IsEnded vm.stack (local_name name) new.stack → new.program ≡ vm.program → new.enable_esi_tags ≡ vm.enable_esi_tags
+      → HasOpen vm elements → HasOpen new (open_after name elements)
+  has_open_ended vm new elements name is same_program same_switch h =
+      let m = h.machine in
+      let d = h.document in
+      record {
+        selectors = h.selectors;
+        esi = h.esi;
+        paths = h.paths;
+        machine = record (ended m name) { refused = new.failed };
+        document = after_end d name;
+        most = max h.most (length (after_end d name).open_elements);
+        shown = shows_as vm new m (ended m name) h.shown (ending_stack_keeps vm.stack new.stack m name h.shown.stack h.standing.active h.shown.sound is) (sound_after vm.stack new.stack (local_name name) is h.shown.sound)
+            refl refl same_program same_switch;
+        standing = ended_stands h.selectors h.esi h.paths (record m { refused = false }) d h.most h.ordered h.standing name;
+        ordered = wider (after_end d name) (length (after_end d name).open_elements) (max h.most (length (after_end d name).open_elements)) (omega arith) (ordered_end d h.most name h.ordered);
+        same = ap (open_after name) h.same;
+      }
+
+  pub stands_ended : (s : Selectors) (esi : Bool) (vm new : Vm E) (events : List Event) (name : List ℕ) → IsEnded vm.stack (local_name name) new.stack → new.program ≡ vm.program → new.enable_esi_tags ≡ vm.enable_esi_tags → new.failed ≡ vm.failed
+      → Stands s esi vm events → Stands s esi new (events ++ End name ∷ [])
+  stands_ended s esi vm new events name is same_program same_switch same_failed h =
+      let m = h.machine in
+      let shown = shows_as vm new m (ended m name) h.shown (ending_stack_keeps vm.stack new.stack m name h.shown.stack h.standing.active h.shown.sound is) (sound_after vm.stack new.stack (local_name name) is h.shown.sound)
+      refl refl same_program same_switch in
+      record {
+        paths = h.paths;
+        machine = ended m name;
+        closed = h.closed;
+        shown = record { stack = keeps_as new.stack _ m.refused shown.stack; sound = shown.sound; program = shown.program; switch = shown.switch; refused = h.shown.refused ∙ sym same_failed };
+        standing = standing_is_kept s esi h.paths m events (End name) h.closed h.standing;
+      }
+
+  record EndsAt (vm new : Vm E) (n : ℕ) (o : Option ℕ) : Type 0 where
+    pub kept : data_in new ≡ take n (data_in vm)
+    pub handed : element_data_of (closed_from o (items_in vm.stack)) ≡ drop n (data_in vm)
+
+  -- what stays, and what is handed out
+  pub record EndsData (vm new : Vm E) (name : List ℕ) (elements : List Element) : Type 0 where
+    pub kept : data_in new ≡ take (length (open_after name elements)) (data_in vm)
+    pub handed : element_data_of (closed_from (place_to_close vm.stack (local_name name)) (items_in vm.stack)) ≡ drop (length (open_after name elements)) (data_in vm)
+
+  pub ends_data : (vm new : Vm E) (elements : List Element) (name : List ℕ) → IsEnded vm.stack (local_name name) new.stack → new.program ≡ vm.program → new.enable_esi_tags ≡ vm.enable_esi_tags → HasOpen vm elements → EndsData vm new name elements
+  ends_data vm new elements name is same_program same_switch h =
+      let after = has_open_ended vm new elements name is same_program same_switch h in
+      let many : length (open_after name elements) ≡ length (items_in new.stack) =
+      sym (ap length after.same) ∙ (sym (items_length after.paths after.machine.program after.machine.items after.document.open_elements after.standing.items) ∙ items_counted new.stack after.machine after.shown.stack) in
+      let at_end = by_place (place_to_close vm.stack (local_name name)) (λ k at. below (length (items_in vm.stack)) (places_in vm.stack (local_name name)) k at) is (length (open_after name elements)) many in
+      record { kept = at_end.kept; handed = at_end.handed }
+    where
+      by_place : (o : Option ℕ) → ((k : ℕ) → o ≡ Some k → k < length (items_in vm.stack)) → IsEndedAt o vm.stack new.stack → (n : ℕ) → n ≡ length (items_in new.stack)
+          → EndsAt vm new n o
+      by_place None within ended n many =
+          let items : items_in new.stack ≡ items_in vm.stack = ap (λ (v : LimitedVec (StackItemOf Name E)). v.items) ended.items in
+          let size = length-map (items_in vm.stack) (λ (i : StackItemOf Name E). i.element_data) in
+          let enough : length (data_in vm) ≤ n = omega (arith, many, size, ap length items) in
+          record { kept = ap element_data_of items ∙ sym (take_all n (data_in vm) enough); handed = sym (drop_all n (data_in vm) enough) }
+      by_place (Some place) within ended n many =
+          let items : items_in new.stack ≡ take place (items_in vm.stack) = ap (λ (v : LimitedVec (StackItemOf Name E)). v.items) ended.items in
+          let less = within place refl in
+          let at : place ≡ n = omega (arith, many, less, ap length items ∙ length-take place (items_in vm.stack)) in
+          record {
+            kept = ap element_data_of items ∙ (sym (take-map (λ (i : StackItemOf Name E). i.element_data) place (items_in vm.stack)) ∙ ap (λ k. take k (data_in vm)) at);
+            handed = sym (drop-map (λ (i : StackItemOf Name E). i.element_data) place (items_in vm.stack)) ∙ ap (λ k. drop k (data_in vm)) at;
+          }
+
+-- 3. Stacks that don't change
+
+pub same_stack : {E : Type 0} (stack : StackOf Name StackNames E) → IsSame stack stack
+same_stack stack = record { root = refl; items = refl; active = refl; typed = refl; places = λ q. refl }
+
+pub has_open_failed : {E : Type 0} (vm mid new : Vm E) (elements : List Element) → mid.stack ≡ vm.stack → mid.program ≡ vm.program → mid.enable_esi_tags ≡ vm.enable_esi_tags → IsFailedAs mid new → HasOpen vm elements → HasOpen new elements
+has_open_failed vm mid new elements stack program switch failed h =
+    has_open_same vm new elements (subst (λ s. IsSame s new.stack) stack failed.0) (ap (λ (v : Vm _). v.program) failed.1 ∙ program) (ap (λ (v : Vm _). v.enable_esi_tags) failed.1 ∙ switch) h
+
+-- 4. New machines
+
+pub new_vm_stands : {E : Type 0} (ast : Ast) (prog : Program) (stack : StackOf Name StackNames E) (vm : Vm E) (esi : Bool) (item_bytes : ℕ)
+    → IsProgramOf (selectors ast) (nodes_of ast) (program_shown prog) → IsNew stack (program_shown prog).by_type item_bytes → ((q : Name) → places_in stack q ≡ [])
+    → vm.program ≡ prog → vm.stack ≡ stack → vm.enable_esi_tags ≡ esi → vm.failed ≡ false → Stands (selectors ast) esi vm []
+new_vm_stands ast prog stack vm esi item_bytes is new places program has switch failed = record {
+  paths = nodes_of ast;
+  machine = new_machine (program_shown prog) esi item_bytes;
+  closed = trees_are_closed ast;
+  shown = record {
+    stack = subst (λ s. Keeps s (new_machine (program_shown prog) esi item_bytes)) (sym has) (new_stack_keeps stack (program_shown prog) esi item_bytes new);
+    sound = subst (λ (s : StackOf Name StackNames _). IsSound s) (sym has) (new_is_sound stack (ap (λ (v : LimitedVec (StackItemOf Name _)). v.items) new.items) new.active places);
+    program = ap program_shown (sym program);
+    switch = sym switch;
+    refused = sym failed;
+  };
+  standing = new_stands (selectors ast) esi (nodes_of ast) (program_shown prog) item_bytes is;
+}
+
+-- 5. Refused start tags
+
+pub on_err : {T X P : Type 0} (r : Result T X) → P → OnErr r P
+on_err (Ok v) p = tt
+on_err (Err e) p = p
+
+-- a request, and one that memory was refused for, leave the rest as it is
+pub record KeepsRest {E : Type 0} (old new : Vm E) : Type 0 where
+  pub stack : new.stack ≡ old.stack
+  pub program : new.program ≡ old.program
+  pub switch : new.enable_esi_tags ≡ old.enable_esi_tags
+
+pub requested_keeps : {E : Type 0} (ctx : ExecutionCtx E) (point : RecoveryPoint) (old new : Vm E) (result : Result (Unit {0}) (VmError E)) → IsRequested ctx point old new result → KeepsRest old new
+requested_keeps ctx point old new (Ok done) h = absurd h
+requested_keeps ctx point old new (Err (InfoRequest request)) h = record { stack = ap (λ (v : Vm _). v.stack) h.1; program = ap (λ (v : Vm _). v.program) h.1; switch = ap (λ (v : Vm _). v.enable_esi_tags) h.1 }
+requested_keeps ctx point old new (Err (MemoryLimitExceeded error)) h = absurd h
+requested_keeps ctx point old new (Err (Memory error)) h = record { stack = ap (λ (v : Vm _). v.stack) h; program = ap (λ (v : Vm _). v.program) h; switch = ap (λ (v : Vm _). v.enable_esi_tags) h }
+requested_keeps ctx point old new (Err CounterFull) h = absurd h
+requested_keeps ctx point old new (Err Failed) h = absurd h
+
+module _ {E : Type 0} (vm : Vm E) (name : Name) (stack : StackOf Name StackNames E) (ok : stack ≡ counted_in vm.stack name) (room : last_count vm.stack < full_count) where
+  pub data_after : (new : Vm E) → new.stack ≡ stack → data_in new ≡ data_in vm
+  data_after new is = ap (λ (s : StackOf Name StackNames E). element_data_of (items_in s)) (is ∙ ok) ∙ counted_data vm.stack name
+
+  pub open_counted : (new : Vm E) → new.stack ≡ stack → new.program ≡ vm.program → new.enable_esi_tags ≡ vm.enable_esi_tags → (bytes : List ℕ) (elements : List Element) → IsNameOf name bytes → HasOpen vm elements → HasOpen new elements
+  open_counted new is program switch bytes elements named h = has_open_counted vm new elements bytes (is ∙ (ok ∙ ap (counted_in vm.stack) named)) room program switch h

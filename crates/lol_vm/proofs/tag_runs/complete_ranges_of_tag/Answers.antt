@@ -1,0 +1,146 @@
+use Rattle.std.proofs.Common.{◌≡◌, ◌∷◌, ◌++◌, [], List, ℕ, length, sym, ap, ◌∙◌, subst}
+use Rattle.std.specs.Result.{IfOk}
+use Rattle.std.proofs.lemmas.Result.{IfOk-weaker}
+use Rattle.std.specs.declared.ops.Range.{Range}
+use Rattle.lol_program.specs.Compiled.{sight}
+use Rattle.lol_vm.specs.InstructionRuns.{AreRunnable, IsStopIn, ranges_in, ranges_from}
+use Rattle.lol_vm.specs.TagRuns.{AreExecuted, IsPointOf, left_of, stop_of, tried_at, later_stop}
+use Rattle.lol_vm.specs.declared.tag_runs.RecoveryPoint.{RecoveryPoint}
+use Rattle.lol_vm.proofs.TagRuns.{executed_if, executed_after, runnable_after, none_tried, front_runnable, left_before, left_after}
+use Rattle.lol_vm.proofs.tag_runs.complete_ranges_of_tag.Goals as goal
+
+pub returns-in_ok-exec_ranges-in-AtOnce-2-clause-executed : goal.returns-in_ok-exec_ranges-in-AtOnce-2-clause-executed
+returns-in_ok-exec_ranges-in-AtOnce-2-clause-executed g c =
+    let all = c.args.instructions.now in
+    let given = c.args.ranges.now in
+    let entry : List (Range ℕ) = given.entry_points.now ∷ [] in
+    let jumps = given.jumps.now in
+    let active = ranges_in given.hereditary_jumps.now in
+    let ids = g.E.ElementData.ids in
+    let with_ids = g.E.ElementData.with_ids in
+    let a = c.args.matcher.now in
+    let tries = c.args.tries.now in
+    let ctx = c.args.ctx.now in
+    let s = sight c.args.state.now ctx.stack_item.local_name in
+    let P : RecoveryPoint → Type 0 = λ p. IsPointOf all given p → AreRunnable all (left_of given p) tries
+    → IfOk c.exec_active.result (λ done. AreExecuted ids with_ids s all (left_of given p) ctx c.exec_active.new.ctx tries c.exec_active.new.tries a (tried_at (stop_of given p))) in
+    subst P (sym c.in-AtOnce.is) (λ point runnable.
+    let whole : AreRunnable all (entry ++ (jumps ++ active)) tries = runnable in
+    let run-1 = executed_if ids with_ids s s all entry c.from_ref-entry_points.result.now ctx c.exec_ranges.new.ctx tries c.exec_ranges.new.tries a 0 c.from_ref-entry_points.ensures.value (λ i. s) c.exec_ranges.result
+    (c.exec_ranges.ensures.ctx (subst (λ rs. AreRunnable all rs tries) (sym c.from_ref-entry_points.ensures.value) (front_runnable all entry (jumps ++ active) tries whole))) (none_tried c.exec_ranges.result _ _ (c.exec_ranges.ensures.names (subst (λ rs. AreRunnable all rs tries) (sym c.from_ref-entry_points.ensures.value) (front_runnable all entry (jumps ++ active) tries whole)))) (c.exec_ranges.ensures.attributes (subst (λ rs. AreRunnable all rs tries) (sym c.from_ref-entry_points.ensures.value) (front_runnable all entry (jumps ++ active) tries whole))) in
+    let done-1 = subst (λ r. IfOk r (λ done. AreExecuted ids with_ids s all entry ctx c.exec_ranges.new.ctx tries c.exec_ranges.new.tries a 0)) c.in_ok-exec_ranges-in-AtOnce.was run-1 in
+    let t-1 = sight c.args.state.now c.exec_ranges.new.ctx.stack_item.local_name in
+    let same-1 : t-1 ≡ s = ap (sight c.args.state.now) c.exec_ranges.ensures.name in
+    let more-1 = runnable_after ids with_ids s all entry (jumps ++ active) ctx c.exec_ranges.new.ctx tries c.exec_ranges.new.tries a 0 done-1 whole in
+    let run-2 = executed_if ids with_ids s t-1 all jumps jumps c.exec_ranges.new.ctx c.exec_ranges-in-AtOnce.new.ctx c.exec_ranges.new.tries c.exec_ranges-in-AtOnce.new.tries a 0 (λ i. jumps) same-1 c.exec_ranges-in-AtOnce.result
+    (c.exec_ranges-in-AtOnce.ensures.ctx (front_runnable all jumps active c.exec_ranges.new.tries more-1)) (none_tried c.exec_ranges-in-AtOnce.result _ _ (c.exec_ranges-in-AtOnce.ensures.names (front_runnable all jumps active c.exec_ranges.new.tries more-1))) (c.exec_ranges-in-AtOnce.ensures.attributes (front_runnable all jumps active c.exec_ranges.new.tries more-1)) in
+    let done-2 = subst (λ r. IfOk r (λ done. AreExecuted ids with_ids s all jumps c.exec_ranges.new.ctx c.exec_ranges-in-AtOnce.new.ctx c.exec_ranges.new.tries c.exec_ranges-in-AtOnce.new.tries a 0)) c.in_ok-exec_ranges-in-AtOnce-2.was run-2 in
+    let t-2 = sight c.args.state.now c.exec_ranges-in-AtOnce.new.ctx.stack_item.local_name in
+    let same-2 : t-2 ≡ s = ap (sight c.args.state.now) c.exec_ranges-in-AtOnce.ensures.name ∙ same-1 in
+    let more-2 = runnable_after ids with_ids s all jumps active c.exec_ranges.new.ctx c.exec_ranges-in-AtOnce.new.ctx c.exec_ranges.new.tries c.exec_ranges-in-AtOnce.new.tries a 0 done-2 more-1 in
+    let run-3 = executed_if ids with_ids s t-2 all active active c.exec_ranges-in-AtOnce.new.ctx c.exec_active.new.ctx c.exec_ranges-in-AtOnce.new.tries c.exec_active.new.tries a 0 (λ i. active) same-2 c.exec_active.result
+    (c.exec_active.ensures.ctx more-2) (none_tried c.exec_active.result _ _ (c.exec_active.ensures.names more-2)) (c.exec_active.ensures.attributes more-2) in
+    IfOk-weaker c.exec_active.result (λ done. AreExecuted ids with_ids s all active c.exec_ranges-in-AtOnce.new.ctx c.exec_active.new.ctx c.exec_ranges-in-AtOnce.new.tries c.exec_active.new.tries a 0)
+    (λ done. AreExecuted ids with_ids s all (entry ++ (jumps ++ active)) ctx c.exec_active.new.ctx tries c.exec_active.new.tries a 0)
+    (λ done last. executed_after ids with_ids s all entry (jumps ++ active) a ctx c.exec_ranges.new.ctx c.exec_active.new.ctx tries c.exec_ranges.new.tries c.exec_active.new.tries 0 done-1
+    (executed_after ids with_ids s all jumps active a c.exec_ranges.new.ctx c.exec_ranges-in-AtOnce.new.ctx c.exec_active.new.ctx c.exec_ranges.new.tries c.exec_ranges-in-AtOnce.new.tries c.exec_active.new.tries 0 done-2 last))
+    run-3)
+
+pub returns-in_ok-exec_ranges-in-EntryPoints-clause-executed : goal.returns-in_ok-exec_ranges-in-EntryPoints-clause-executed
+returns-in_ok-exec_ranges-in-EntryPoints-clause-executed g c =
+    let all = c.args.instructions.now in
+    let given = c.args.ranges.now in
+    let entry : List (Range ℕ) = given.entry_points.now ∷ [] in
+    let jumps = given.jumps.now in
+    let active = ranges_in given.hereditary_jumps.now in
+    let ids = g.E.ElementData.ids in
+    let with_ids = g.E.ElementData.with_ids in
+    let a = c.args.matcher.now in
+    let tries = c.args.tries.now in
+    let ctx = c.args.ctx.now in
+    let s = sight c.args.state.now ctx.stack_item.local_name in
+    let P : RecoveryPoint → Type 0 = λ p. IsPointOf all given p → AreRunnable all (left_of given p) tries
+    → IfOk c.exec_active-in-EntryPoints.result (λ done. AreExecuted ids with_ids s all (left_of given p) ctx c.exec_active-in-EntryPoints.new.ctx tries c.exec_active-in-EntryPoints.new.tries a (tried_at (stop_of given p))) in
+    subst P (sym c.in-EntryPoints.is) (λ point runnable.
+    let stop = c.in-EntryPoints.stop in
+    let here : IsStopIn all entry stop = point in
+    let parts = left_before all entry (jumps ++ active) stop here.0 in
+    let whole = subst (λ rs. AreRunnable all rs tries) parts runnable in
+    let same_left = ap (λ rs. ranges_from rs stop) c.from_ref-entry_points.ensures.value in
+    let run-1 = executed_if ids with_ids s s all (ranges_from entry stop) (ranges_from c.from_ref-entry_points.result.now stop) ctx c.complete_ranges.new.ctx tries c.complete_ranges.new.tries a 1 same_left (λ i. s) c.complete_ranges.result
+    (c.complete_ranges.ensures.ctx (subst (λ rs. IsStopIn all rs stop) (sym c.from_ref-entry_points.ensures.value) here) (subst (λ rs. AreRunnable all rs tries) (sym same_left) (front_runnable all (ranges_from entry stop) (jumps ++ active) tries whole))) (c.complete_ranges.ensures.names (subst (λ rs. IsStopIn all rs stop) (sym c.from_ref-entry_points.ensures.value) here) (subst (λ rs. AreRunnable all rs tries) (sym same_left) (front_runnable all (ranges_from entry stop) (jumps ++ active) tries whole))) (c.complete_ranges.ensures.attributes (subst (λ rs. IsStopIn all rs stop) (sym c.from_ref-entry_points.ensures.value) here) (subst (λ rs. AreRunnable all rs tries) (sym same_left) (front_runnable all (ranges_from entry stop) (jumps ++ active) tries whole))) in
+    let done-1 = subst (λ r. IfOk r (λ done. AreExecuted ids with_ids s all (ranges_from entry stop) ctx c.complete_ranges.new.ctx tries c.complete_ranges.new.tries a 1)) c.in_ok-complete_ranges-in-EntryPoints.was run-1 in
+    let t-1 = sight c.args.state.now c.complete_ranges.new.ctx.stack_item.local_name in
+    let same-1 : t-1 ≡ s = ap (sight c.args.state.now) c.complete_ranges.ensures.name in
+    let more-1 = runnable_after ids with_ids s all (ranges_from entry stop) (jumps ++ active) ctx c.complete_ranges.new.ctx tries c.complete_ranges.new.tries a 1 done-1 whole in
+    let run-2 = executed_if ids with_ids s t-1 all jumps jumps c.complete_ranges.new.ctx c.exec_ranges-in-EntryPoints.new.ctx c.complete_ranges.new.tries c.exec_ranges-in-EntryPoints.new.tries a 0 (λ i. jumps) same-1 c.exec_ranges-in-EntryPoints.result
+    (c.exec_ranges-in-EntryPoints.ensures.ctx (front_runnable all jumps active c.complete_ranges.new.tries more-1)) (none_tried c.exec_ranges-in-EntryPoints.result _ _ (c.exec_ranges-in-EntryPoints.ensures.names (front_runnable all jumps active c.complete_ranges.new.tries more-1))) (c.exec_ranges-in-EntryPoints.ensures.attributes (front_runnable all jumps active c.complete_ranges.new.tries more-1)) in
+    let done-2 = subst (λ r. IfOk r (λ done. AreExecuted ids with_ids s all jumps c.complete_ranges.new.ctx c.exec_ranges-in-EntryPoints.new.ctx c.complete_ranges.new.tries c.exec_ranges-in-EntryPoints.new.tries a 0)) c.in_ok-exec_ranges-in-EntryPoints.was run-2 in
+    let t-2 = sight c.args.state.now c.exec_ranges-in-EntryPoints.new.ctx.stack_item.local_name in
+    let same-2 : t-2 ≡ s = ap (sight c.args.state.now) c.exec_ranges-in-EntryPoints.ensures.name ∙ same-1 in
+    let more-2 = runnable_after ids with_ids s all jumps active c.complete_ranges.new.ctx c.exec_ranges-in-EntryPoints.new.ctx c.complete_ranges.new.tries c.exec_ranges-in-EntryPoints.new.tries a 0 done-2 more-1 in
+    let run-3 = executed_if ids with_ids s t-2 all active active c.exec_ranges-in-EntryPoints.new.ctx c.exec_active-in-EntryPoints.new.ctx c.exec_ranges-in-EntryPoints.new.tries c.exec_active-in-EntryPoints.new.tries a 0 (λ i. active) same-2 c.exec_active-in-EntryPoints.result
+    (c.exec_active-in-EntryPoints.ensures.ctx more-2) (none_tried c.exec_active-in-EntryPoints.result _ _ (c.exec_active-in-EntryPoints.ensures.names more-2)) (c.exec_active-in-EntryPoints.ensures.attributes more-2) in
+    IfOk-weaker c.exec_active-in-EntryPoints.result (λ done. AreExecuted ids with_ids s all active c.exec_ranges-in-EntryPoints.new.ctx c.exec_active-in-EntryPoints.new.ctx c.exec_ranges-in-EntryPoints.new.tries c.exec_active-in-EntryPoints.new.tries a 0)
+    (λ done. AreExecuted ids with_ids s all (ranges_from (entry ++ (jumps ++ active)) stop) ctx c.exec_active-in-EntryPoints.new.ctx tries c.exec_active-in-EntryPoints.new.tries a 1)
+    (λ done last. subst (λ rs. AreExecuted ids with_ids s all rs ctx c.exec_active-in-EntryPoints.new.ctx tries c.exec_active-in-EntryPoints.new.tries a 1) (sym parts) (executed_after ids with_ids s all (ranges_from entry stop) (jumps ++ active) a ctx c.complete_ranges.new.ctx c.exec_active-in-EntryPoints.new.ctx tries c.complete_ranges.new.tries c.exec_active-in-EntryPoints.new.tries 1 done-1
+    (executed_after ids with_ids s all jumps active a c.complete_ranges.new.ctx c.exec_ranges-in-EntryPoints.new.ctx c.exec_active-in-EntryPoints.new.ctx c.complete_ranges.new.tries c.exec_ranges-in-EntryPoints.new.tries c.exec_active-in-EntryPoints.new.tries 0 done-2 last)))
+    run-3)
+
+pub returns-in_ok-complete_ranges-in-Jumps-clause-executed : goal.returns-in_ok-complete_ranges-in-Jumps-clause-executed
+returns-in_ok-complete_ranges-in-Jumps-clause-executed g c =
+    let all = c.args.instructions.now in
+    let given = c.args.ranges.now in
+    let entry : List (Range ℕ) = given.entry_points.now ∷ [] in
+    let jumps = given.jumps.now in
+    let active = ranges_in given.hereditary_jumps.now in
+    let ids = g.E.ElementData.ids in
+    let with_ids = g.E.ElementData.with_ids in
+    let a = c.args.matcher.now in
+    let tries = c.args.tries.now in
+    let ctx = c.args.ctx.now in
+    let s = sight c.args.state.now ctx.stack_item.local_name in
+    let P : RecoveryPoint → Type 0 = λ p. IsPointOf all given p → AreRunnable all (left_of given p) tries
+    → IfOk c.exec_active-in-Jumps.result (λ done. AreExecuted ids with_ids s all (left_of given p) ctx c.exec_active-in-Jumps.new.ctx tries c.exec_active-in-Jumps.new.tries a (tried_at (stop_of given p))) in
+    subst P (sym c.in-Jumps.is) (λ point runnable.
+    let stop = c.in-Jumps.stop in
+    let here : IsStopIn all jumps stop = point in
+    let parts = left_after all entry (jumps ++ active) stop ∙ left_before all jumps active stop here.0 in
+    let whole = subst (λ rs. AreRunnable all rs tries) parts runnable in
+    let run-1 = executed_if ids with_ids s s all (ranges_from jumps stop) (ranges_from jumps stop) ctx c.complete_ranges-in-Jumps.new.ctx tries c.complete_ranges-in-Jumps.new.tries a 1 (λ i. ranges_from jumps stop) (λ i. s) c.complete_ranges-in-Jumps.result
+    (c.complete_ranges-in-Jumps.ensures.ctx here (front_runnable all (ranges_from jumps stop) active tries whole)) (c.complete_ranges-in-Jumps.ensures.names here (front_runnable all (ranges_from jumps stop) active tries whole)) (c.complete_ranges-in-Jumps.ensures.attributes here (front_runnable all (ranges_from jumps stop) active tries whole)) in
+    let done-1 = subst (λ r. IfOk r (λ done. AreExecuted ids with_ids s all (ranges_from jumps stop) ctx c.complete_ranges-in-Jumps.new.ctx tries c.complete_ranges-in-Jumps.new.tries a 1)) c.in_ok-complete_ranges-in-Jumps.was run-1 in
+    let t-1 = sight c.args.state.now c.complete_ranges-in-Jumps.new.ctx.stack_item.local_name in
+    let same-1 : t-1 ≡ s = ap (sight c.args.state.now) c.complete_ranges-in-Jumps.ensures.name in
+    let more-1 = runnable_after ids with_ids s all (ranges_from jumps stop) active ctx c.complete_ranges-in-Jumps.new.ctx tries c.complete_ranges-in-Jumps.new.tries a 1 done-1 whole in
+    let run-2 = executed_if ids with_ids s t-1 all active active c.complete_ranges-in-Jumps.new.ctx c.exec_active-in-Jumps.new.ctx c.complete_ranges-in-Jumps.new.tries c.exec_active-in-Jumps.new.tries a 0 (λ i. active) same-1 c.exec_active-in-Jumps.result
+    (c.exec_active-in-Jumps.ensures.ctx more-1) (none_tried c.exec_active-in-Jumps.result _ _ (c.exec_active-in-Jumps.ensures.names more-1)) (c.exec_active-in-Jumps.ensures.attributes more-1) in
+    IfOk-weaker c.exec_active-in-Jumps.result (λ done. AreExecuted ids with_ids s all active c.complete_ranges-in-Jumps.new.ctx c.exec_active-in-Jumps.new.ctx c.complete_ranges-in-Jumps.new.tries c.exec_active-in-Jumps.new.tries a 0)
+    (λ done. AreExecuted ids with_ids s all (ranges_from (entry ++ (jumps ++ active)) (later_stop (length entry) stop)) ctx c.exec_active-in-Jumps.new.ctx tries c.exec_active-in-Jumps.new.tries a 1)
+    (λ done last. subst (λ rs. AreExecuted ids with_ids s all rs ctx c.exec_active-in-Jumps.new.ctx tries c.exec_active-in-Jumps.new.tries a 1) (sym parts)
+    (executed_after ids with_ids s all (ranges_from jumps stop) active a ctx c.complete_ranges-in-Jumps.new.ctx c.exec_active-in-Jumps.new.ctx tries c.complete_ranges-in-Jumps.new.tries c.exec_active-in-Jumps.new.tries 1 done-1 last))
+    run-2)
+
+pub returns-in-HereditaryJumps-clause-executed : goal.returns-in-HereditaryJumps-clause-executed
+returns-in-HereditaryJumps-clause-executed g c =
+    let all = c.args.instructions.now in
+    let given = c.args.ranges.now in
+    let entry : List (Range ℕ) = given.entry_points.now ∷ [] in
+    let jumps = given.jumps.now in
+    let active = ranges_in given.hereditary_jumps.now in
+    let ids = g.E.ElementData.ids in
+    let with_ids = g.E.ElementData.with_ids in
+    let a = c.args.matcher.now in
+    let tries = c.args.tries.now in
+    let ctx = c.args.ctx.now in
+    let s = sight c.args.state.now ctx.stack_item.local_name in
+    let P : RecoveryPoint → Type 0 = λ p. IsPointOf all given p → AreRunnable all (left_of given p) tries
+    → IfOk c.complete_active.result (λ done. AreExecuted ids with_ids s all (left_of given p) ctx c.complete_active.new.ctx tries c.complete_active.new.tries a (tried_at (stop_of given p))) in
+    subst P (sym c.in-HereditaryJumps.is) (λ point runnable.
+    let stop = c.in-HereditaryJumps.stop in
+    let here : IsStopIn all active stop = point in
+    let parts : ranges_from (entry ++ (jumps ++ active)) (later_stop (length (entry ++ jumps)) stop) ≡ ranges_from active stop = left_after all (entry ++ jumps) active stop in
+    let whole = subst (λ rs. AreRunnable all rs tries) parts runnable in
+    let run-1 = executed_if ids with_ids s s all (ranges_from (entry ++ (jumps ++ active)) (later_stop (length (entry ++ jumps)) stop)) (ranges_from active stop) ctx c.complete_active.new.ctx tries c.complete_active.new.tries a 1 (sym parts) (λ i. s) c.complete_active.result
+    (c.complete_active.ensures.ctx here whole) (c.complete_active.ensures.names here whole) (c.complete_active.ensures.attributes here whole) in
+    run-1)

@@ -1,0 +1,138 @@
+use Rattle.std.proofs.Common.{◌≡◌, true, Ok, refl, sym, ap, ◌∙◌, subst}
+use Rattle.std.specs.Result.{IfOk}
+use Rattle.std.specs.Option.{IfSome, IsSome}
+use denote.Enum.Bare.{sameb}
+use Rattle.lol_program.specs.Tests.{is_html}
+use Rattle.lol_vm.specs.Directives.{directive_in}
+use Rattle.lol_vm.specs.Events.{has_content}
+use Rattle.lol_vm.specs.InstructionRuns.{ranges_in}
+use Rattle.lol_base.specs.LocalNames.{Name}
+use Rattle.lol_memory.specs.LimitedVec.{LimitedVec}
+use Rattle.lol_vm.specs.Stacks.{active_in, element_data_of, IsSame}
+use Rattle.lol_vm.specs.TagRuns.{AreTried, IsPointIn, jumps_in, ranges_to_run_in, sight_in, stop_found}
+use Rattle.lol_vm.specs.Vms.{Vm}
+use Rattle.lol_vm.specs.contracts.stack_item.StackDirective.{the_type}
+use Rattle.lol_vm.specs.declared.execution_ctx.ExecutionCtx.{ExecutionCtx}
+use Rattle.lol_vm.specs.declared.stack_item.StackItemOf.{StackItemOf}
+use Rattle.lol_vm.specs.declared.stack_item.StackDirective.TheVariants.{Push, PushIfNotSelfClosing}
+use Rattle.lol_vm.proofs.Directives.{foreign_if, html_if, content_is}
+use Rattle.lol_vm.proofs.VmStarts.{answered, pending_at_once, pending_point, can_run, requested_is}
+use Rattle.lol_vm.proofs.VmRefusals.{data_after, has_open_failed, has_open_same, on_err, open_counted, requested_keeps, same_stack}
+use Rattle.lol_vm.proofs.vm.VmOf+Program+LocalName+StackNames+E.exec_for_start_tag.Goals as goal
+
+pub returns-then-eq-clause-asked : goal.returns-then-eq-clause-asked
+returns-then-eq-clause-asked g c = λ request is s esi events tag stands named.
+    let vm = c.args.self.now in
+    let new = c.new-ctx.ensures.item in
+    let directive = c.get_stack_directive-directive.ensures tag.name (new.name ∙ named.0) in
+    let foreign = foreign_if c.args.ns vm.enable_esi_tags tag.name (ap (λ x. sameb the_type x PushIfNotSelfClosing) (sym directive) ∙ (sym c.eq.ensures ∙ c.if-eq.true)) in
+    let pending = pending_at_once g.E.ElementData.ids g.E.ElementData.with_ids g.met.E.ElementData.ids_of_changed vm c.args.local_name c.args.ns s esi events tag stands named c.add_child.new.self c.in_default.ensures.ok c.in_default.ensures.room
+    (ap is_html named.1 ∙ foreign) c.new-ctx.result c.new-self.result new c.new-ctx.ensures.ns c.new-ctx.ensures.with_content c.new-self.ensures.names c.new-self.ensures.attributes in
+    requested_is g.E.ElementData.ids s esi events tag c.new-ctx.result _ _ c.request.new.self request c.request.result is c.request.ensures.requested pending
+
+pub returns-in-Ok-answer-clause-answered : goal.returns-in-Ok-answer-clause-answered
+returns-in-Ok-answer-clause-answered g c = λ s esi events tag stands named.
+    let vm = c.args.self.now in
+    let ids = g.E.ElementData.ids in
+    let with_ids = g.E.ElementData.with_ids in
+    let lends = g.met.E.ElementData.ids_of_changed in
+    let name = c.args.local_name in
+    let stack = c.add_child.new.self in
+    let ok = c.in_default.ensures.ok in
+    let room = c.in_default.ensures.room in
+    let new = c.new-ctx.ensures.item in
+    let tries = c.new-self.result in
+    let after = c.try_tag-tried.new.tries in
+    let directive = c.get_stack_directive-directive.ensures tag.name (new.name ∙ named.0) in
+    let html : is_html tag.namespace ≡ true =
+    ap is_html named.1 ∙ html_if c.args.ns vm.enable_esi_tags tag.name (ap (λ x. sameb the_type x PushIfNotSelfClosing) (sym directive) ∙ (sym c.eq.ensures ∙ c.if-eq.false)) in
+    let content : c.eq-2.result ≡ has_content vm.enable_esi_tags tag =
+    c.eq-2.ensures ∙ (ap (λ x. sameb the_type x Push) (directive ∙ ap (λ ns. directive_in ns vm.enable_esi_tags tag.name) (sym named.1)) ∙ content_is tag vm.enable_esi_tags html) in
+    let switch : vm.enable_esi_tags ≡ esi = sym stands.shown.switch ∙ stands.standing.switch in
+    let ctx : ExecutionCtx _ = record c.new-ctx.result { with_content = c.eq-2.result } in
+    let runnable = can_run ids with_ids lends vm name c.args.ns s esi events tag stands named stack ok room tries c.new-self.ensures.names c.new-self.ensures.attributes c.try_tag-tried.ensures.size in
+    let of_name = subst (λ n. IfOk c.try_tag-tried.result (λ point. AreTried ids with_ids (sight_in stack n) vm.program.instructions.items (ranges_to_run_in vm.program stack) ctx c.try_tag-tried.new.ctx tries after (stop_found vm.program.entry_points (jumps_in stack) point))) new.name in
+    let no_tries = c.try_tag-tried.ensures.attributes ∙ c.new-self.ensures.attributes in
+    let holds = content ∙ ap (λ b. has_content b tag) switch in
+    let tried = subst (λ r. IfOk r (λ point. AreTried ids with_ids (sight_in stack name) vm.program.instructions.items (ranges_to_run_in vm.program stack) ctx c.try_tag-tried.new.ctx tries after (stop_found vm.program.entry_points (jumps_in stack) point)))
+    (c.in-Ok.is ∙ ap Ok c.in_default-stopped.is) (of_name (c.try_tag-tried.ensures.tried runnable)) in
+    answered ids with_ids lends vm name c.args.ns s esi events tag stands named stack ok room ctx c.try_tag-tried.new.ctx tries after new holds c.new-ctx.ensures.ns html c.new-self.ensures.names no_tries tried _
+    c.args.match_handler.now c.answer.new.match_handler c.answer.new.self c.in-Ok-answer.ensures.reported c.in-Ok-answer.ensures.ok
+
+pub returns-in-Some-clause-asked : goal.returns-in-Some-clause-asked
+returns-in-Some-clause-asked g c = λ request is s esi events tag stands named.
+    let vm = c.args.self.now in
+    let ids = g.E.ElementData.ids in
+    let with_ids = g.E.ElementData.with_ids in
+    let lends = g.met.E.ElementData.ids_of_changed in
+    let name = c.args.local_name in
+    let stack = c.add_child.new.self in
+    let ok = c.in_default.ensures.ok in
+    let room = c.in_default.ensures.room in
+    let new = c.new-ctx.ensures.item in
+    let tries = c.new-self.result in
+    let after = c.try_tag-tried.new.tries in
+    let directive = c.get_stack_directive-directive.ensures tag.name (new.name ∙ named.0) in
+    let html : is_html tag.namespace ≡ true =
+    ap is_html named.1 ∙ html_if c.args.ns vm.enable_esi_tags tag.name (ap (λ x. sameb the_type x PushIfNotSelfClosing) (sym directive) ∙ (sym c.eq.ensures ∙ c.if-eq.false)) in
+    let content : c.eq-2.result ≡ has_content vm.enable_esi_tags tag =
+    c.eq-2.ensures ∙ (ap (λ x. sameb the_type x Push) (directive ∙ ap (λ ns. directive_in ns vm.enable_esi_tags tag.name) (sym named.1)) ∙ content_is tag vm.enable_esi_tags html) in
+    let switch : vm.enable_esi_tags ≡ esi = sym stands.shown.switch ∙ stands.standing.switch in
+    let ctx : ExecutionCtx _ = record c.new-ctx.result { with_content = c.eq-2.result } in
+    let runnable = can_run ids with_ids lends vm name c.args.ns s esi events tag stands named stack ok room tries c.new-self.ensures.names c.new-self.ensures.attributes c.try_tag-tried.ensures.size in
+    let of_name = subst (λ n. IfOk c.try_tag-tried.result (λ point. AreTried ids with_ids (sight_in stack n) vm.program.instructions.items (ranges_to_run_in vm.program stack) ctx c.try_tag-tried.new.ctx tries after (stop_found vm.program.entry_points (jumps_in stack) point))) new.name in
+    let no_tries = c.try_tag-tried.ensures.attributes ∙ c.new-self.ensures.attributes in
+    let holds = content ∙ ap (λ b. has_content b tag) switch in
+    let entry = vm.program.entry_points in
+    let jumps = jumps_in stack in
+    let at = c.in-Ok.is ∙ ap Ok c.in-Some.is in
+    let point = c.in-Some.point in
+    let tried = subst (λ r. IfOk r (λ point. AreTried ids with_ids (sight_in stack name) vm.program.instructions.items (ranges_to_run_in vm.program stack) ctx c.try_tag-tried.new.ctx tries after (stop_found entry jumps point))) at (of_name (c.try_tag-tried.ensures.tried runnable)) in
+    let inside = subst (λ r. IfOk r (λ point. IfSome point (IsPointIn vm.program.instructions.items entry jumps (ranges_in (active_in stack))))) at (c.try_tag-tried.ensures.point runnable) in
+    let some = subst (λ r. IfOk r (λ point. IsSome point → IsSome (stop_found entry jumps point))) at c.try_tag-tried.ensures.stop refl in
+    let pending = pending_point ids with_ids lends vm name c.args.ns s esi events tag stands named stack ok room ctx c.try_tag-tried.new.ctx tries after new holds c.new-ctx.ensures.ns html c.new-self.ensures.names no_tries point some inside tried in
+    requested_is ids s esi events tag c.try_tag-tried.new.ctx point _ c.request-in-Some.new.self request c.request-in-Some.result is c.request-in-Some.ensures.requested pending
+
+pub returns-in-Err-clause-still_open : goal.returns-in-Err-clause-still_open
+returns-in-Err-clause-still_open g c = λ bytes elements named h.
+    has_open_same c.args.self.now _ elements (subst (IsSame c.args.self.now.stack) (sym c.in-Err.ensures.err) (same_stack c.args.self.now.stack)) refl refl h
+
+pub returns-then-eq-clause-unchanged : goal.returns-then-eq-clause-unchanged
+returns-then-eq-clause-unchanged g c =
+    let rest = requested_keeps _ _ _ c.request.new.self c.request.result c.request.ensures.requested in
+    on_err c.request.result (data_after c.args.self.now c.args.local_name c.add_child.new.self c.in_default.ensures.ok c.in_default.ensures.room c.request.new.self rest.stack)
+
+pub returns-then-eq-clause-still_open : goal.returns-then-eq-clause-still_open
+returns-then-eq-clause-still_open g c =
+    let rest = requested_keeps _ _ _ c.request.new.self c.request.result c.request.ensures.requested in
+    on_err c.request.result (open_counted c.args.self.now c.args.local_name c.add_child.new.self c.in_default.ensures.ok c.in_default.ensures.room c.request.new.self rest.stack rest.program rest.switch)
+
+pub returns-in-Err-tried-clause-unchanged : goal.returns-in-Err-tried-clause-unchanged
+returns-in-Err-tried-clause-unchanged g c =
+    data_after c.args.self.now c.args.local_name c.add_child.new.self c.in_default.ensures.ok c.in_default.ensures.room
+    (record c.args.self.now { stack = c.add_child.new.self; tries = c.try_tag-tried.new.tries; failed = true }) refl
+
+pub returns-in-Err-tried-clause-still_open : goal.returns-in-Err-tried-clause-still_open
+returns-in-Err-tried-clause-still_open g c = open_counted c.args.self.now c.args.local_name c.add_child.new.self c.in_default.ensures.ok c.in_default.ensures.room _ refl refl refl
+
+pub returns-in-Some-clause-unchanged : goal.returns-in-Some-clause-unchanged
+returns-in-Some-clause-unchanged g c =
+    let rest = requested_keeps _ _ _ c.request-in-Some.new.self c.request-in-Some.result c.request-in-Some.ensures.requested in
+    on_err c.request-in-Some.result (data_after c.args.self.now c.args.local_name c.add_child.new.self c.in_default.ensures.ok c.in_default.ensures.room c.request-in-Some.new.self rest.stack)
+
+pub returns-in-Some-clause-still_open : goal.returns-in-Some-clause-still_open
+returns-in-Some-clause-still_open g c =
+    let rest = requested_keeps _ _ _ c.request-in-Some.new.self c.request-in-Some.result c.request-in-Some.ensures.requested in
+    on_err c.request-in-Some.result (open_counted c.args.self.now c.args.local_name c.add_child.new.self c.in_default.ensures.ok c.in_default.ensures.room c.request-in-Some.new.self rest.stack rest.program rest.switch)
+
+pub returns-in-Err-answer-clause-unchanged : goal.returns-in-Err-answer-clause-unchanged
+returns-in-Err-answer-clause-unchanged g c =
+    let mid : Vm _ = record c.args.self.now { stack = c.add_child.new.self; tries = c.try_tag-tried.new.tries } in
+    ap (λ (v : LimitedVec (StackItemOf Name _)). element_data_of v.items) c.in-Err-answer.ensures.err.0.items
+    ∙ data_after c.args.self.now c.args.local_name c.add_child.new.self c.in_default.ensures.ok c.in_default.ensures.room mid refl
+
+pub returns-in-Err-answer-clause-still_open : goal.returns-in-Err-answer-clause-still_open
+returns-in-Err-answer-clause-still_open g c = λ bytes elements named h.
+    let mid : Vm _ = record c.args.self.now { stack = c.add_child.new.self; tries = c.try_tag-tried.new.tries } in
+    has_open_failed mid mid c.answer.new.self elements refl refl refl c.in-Err-answer.ensures.err
+    (open_counted c.args.self.now c.args.local_name c.add_child.new.self c.in_default.ensures.ok c.in_default.ensures.room mid refl refl refl bytes elements named h)

@@ -1,0 +1,226 @@
+-- When a machine stands for the events that it was told of, and how it answers one more.
+use Rattle.std.specs.Prelude.{ℕ, ◌+◌, ◌≡◌, Bool, true, false, not, List, [], ◌∷◌, ◌++◌, map, length, Option, Some, None, Result, Ok, Err}
+use Rattle.std.specs.declared.ops.Range as std
+use Rattle.lol_base.specs.LocalNames.{Name, local_name}
+use Rattle.lol_base.specs.StartTags.{StartTag, attributes_of}
+use Rattle.lol_base.specs.declared.namespace.Namespace.{Namespace}
+use Rattle.lol_base.specs.declared.start_tag.AuxStartTagInfo.{AuxStartTagInfo}
+use Rattle.lol_memory.specs.Ids.{Ids, ascending}
+use Rattle.lol_memory.specs.declared.match_info.MatchInfo.{MatchInfo}
+use Rattle.lol_program.specs.Compiled.{sight_of}
+use Rattle.lol_program.specs.Paths.{Path, Selectors}
+use Rattle.lol_program.specs.Programs.{AreClosed, all_places}
+use Rattle.lol_program.specs.ProgramViews.{range_shown, program_shown}
+use Rattle.lol_program.specs.Tests.{Element, is_html}
+use Rattle.lol_program.specs.Tries.{names_counted, attributes_counted}
+use Rattle.lol_program.specs.declared.program.Program.{Program}
+use Rattle.lol_program.specs.declared.tries.Tries.{Tries}
+use Rattle.lol_program.specs.declared.instruction.Instruction.{Instruction}
+use Rattle.lol_vm.specs.Answers.{Match, Started, answer, asks, document}
+use Rattle.lol_vm.specs.Calls.{IsCalledAtEach}
+use Rattle.lol_vm.specs.Documents.{Document, element_of, place_of, outer_part}
+use Rattle.lol_vm.specs.Events.{Event, Start, has_content}
+use Rattle.lol_vm.specs.Gathering.{Gathers}
+use Rattle.lol_vm.specs.InstructionRuns.{ranges_in}
+use Rattle.lol_vm.specs.MachineLaws.{IsRequest}
+use Rattle.lol_vm.specs.PlaceRuns.{Context, no_context}
+use Rattle.lol_vm.specs.SoundStacks.{IsSound}
+use Rattle.lol_vm.specs.StackMachines.{Keeps}
+use Rattle.lol_vm.specs.Stacks.{items_in, active_in, element_data_of, slots_in, item_bytes_in, IsSame, IsPushed}
+use Rattle.lol_vm.specs.Standing.{Machine, StandsOn, IsOrdered, StandsFor, ranges_of_machine, unfinished}
+use Rattle.lol_vm.specs.TagRuns.{sight_in, jumps_in, ranges_to_run_in, stop_at, ranges_left, IsPointIn, tried_at}
+use Rattle.lol_vm.specs.declared.error.AuxStartTagInfoRequest.{AuxStartTagInfoRequest}
+use Rattle.lol_vm.specs.declared.error.VmError.{VmError}
+use Rattle.lol_vm.specs.declared.error.VmError.TheVariants.{InfoRequest, MemoryLimitExceeded, Memory, CounterFull, Failed}
+use Rattle.lol_vm.specs.declared.execution_ctx.ExecutionCtx.{ExecutionCtx}
+use Rattle.lol_vm.specs.declared.instruction_runs.Stop.{Stop}
+use Rattle.lol_vm.specs.declared.stack_item.StackItemOf.{StackItemOf}
+use Rattle.lol_vm.specs.declared.stack.StackOf.{StackOf}
+use Rattle.lol_vm.specs.declared.stack.StackNames.{StackNames}
+use Rattle.lol_vm.specs.declared.tag_runs.RecoveryPoint.{RecoveryPoint}
+use Rattle.lol_vm.specs.declared.tag_runs.RecoveryPoint.TheVariants.{AtOnce, EntryPoints, Jumps, HereditaryJumps}
+use Rattle.lol_vm.specs.declared.vm.VmOf.{VmOf}
+
+abbrev pub Vm : Type 0 → Type 0
+Vm E = VmOf Program Name StackNames E
+
+-- 1. The parts of a machine
+
+module _ {E : Type 0} where
+  abbrev pub stack_in : Vm E → StackOf Name StackNames E
+  stack_in vm = vm.stack
+
+  abbrev pub tries_in : Vm E → Tries
+  tries_in vm = vm.tries
+
+  abbrev pub esi_in : Vm E → Bool
+  esi_in vm = vm.enable_esi_tags
+
+  -- whether a tag was refused
+  abbrev pub has_failed : Vm E → Bool
+  has_failed vm = vm.failed
+
+  -- the data of the open elements, the outermost first
+  abbrev pub data_in : Vm E → List E
+  data_in vm = element_data_of (items_in vm.stack)
+
+  abbrev pub slots_charged : Vm E → ℕ
+  slots_charged vm = slots_in vm.stack
+
+  abbrev pub slot_bytes : Vm E → ℕ
+  slot_bytes vm = item_bytes_in vm.stack
+
+  abbrev pub instructions_in : Vm E → List Instruction
+  instructions_in vm = vm.program.instructions.items
+
+  -- what a start tag is run through
+  abbrev pub ranges_to_try : Vm E → List (std.Range ℕ)
+  ranges_to_try vm = ranges_to_run_in vm.program vm.stack
+
+  abbrev pub stop_to_try : Vm E → RecoveryPoint → Option Stop
+  stop_to_try vm point = stop_at vm.program.entry_points (jumps_in vm.stack) point
+
+-- 2. Standing
+
+-- A machine of the code is one of the definitions.
+pub record Shows {E : Type 0} (vm : Vm E) (m : Machine) : Type 0 where
+  pub stack : Keeps vm.stack m
+  pub sound : IsSound vm.stack
+  pub program : m.program ≡ program_shown vm.program
+  pub switch : m.esi ≡ vm.enable_esi_tags
+  pub refused : m.refused ≡ vm.failed
+
+-- It stands for events: with selectors and the ESI switch.
+pub record Stands {E : Type 0} (s : Selectors) (esi : Bool) (vm : Vm E) (events : List Event) : Type 0 where
+  pub paths : List Path
+  pub machine : Machine
+  pub closed : AreClosed s
+  pub shown : Shows vm machine
+  pub standing : StandsFor s esi paths machine events
+
+-- It has these open elements, the innermost first: but for a refusal it stands on a document that has them. This survives a refusal.
+pub record HasOpen {E : Type 0} (vm : Vm E) (elements : List Element) : Type 0 where
+  pub selectors : Selectors
+  pub esi : Bool
+  pub paths : List Path
+  pub machine : Machine
+  pub document : Document
+  pub most : ℕ
+  pub shown : Shows vm machine
+  pub standing : StandsOn selectors esi paths (record machine { refused = false }) document most
+  pub ordered : IsOrdered document most
+  pub same : document.open_elements ≡ elements
+
+-- 3. Parts of the calls
+
+module _ {E : Type 0} where
+  abbrev pub with_failure : Vm E → Vm E
+  with_failure vm = record vm { failed = true }
+
+  -- a request that owns the context, or memory was refused for that
+  abbrev pub IsRequested : ExecutionCtx E → RecoveryPoint → Vm E → Vm E → Result (Unit {0}) (VmError E) → Type 0
+  IsRequested ctx point old new (Ok done) = ⊥
+  IsRequested ctx point old new (Err (InfoRequest request)) = (request ≡ record { ctx = ctx; point = point }) × (new ≡ old)
+  IsRequested ctx point old new (Err (MemoryLimitExceeded error)) = ⊥
+  IsRequested ctx point old new (Err (Memory error)) = new ≡ with_failure old
+  IsRequested ctx point old new (Err CounterFull) = ⊥
+  IsRequested ctx point old new (Err Failed) = ⊥
+
+  -- an element with content is opened
+  abbrev pub IsEntered : Bool → StackItemOf Name E → Vm E → Vm E → Type 0
+  IsEntered false item old new = new ≡ old
+  IsEntered true item old new = IsPushed old.stack item new.stack × (new ≡ record old { stack = new.stack })
+
+  -- nothing was opened, and no more tags are answered
+  abbrev pub IsFailedAs : Vm E → Vm E → Type 0
+  IsFailedAs old new = IsSame old.stack new.stack × (new ≡ with_failure (record old { stack = new.stack }))
+
+-- 4. Start tags
+
+abbrev pub IsNameOf : Name → List ℕ → Type 0
+IsNameOf name bytes = name ≡ local_name bytes
+
+abbrev pub IsTagOf : Name → Namespace → StartTag → Type 0
+IsTagOf name ns tag = IsNameOf name tag.name × (tag.namespace ≡ ns)
+
+-- the rest of a tag that is handed over
+abbrev pub IsRestOf : AuxStartTagInfo → StartTag → Type 0
+IsRestOf aux tag = (tag.attributes ≡ attributes_of aux) × (tag.self_closing ≡ aux.self_closing) × (tag.finish ≡ true)
+
+-- each answer but a request refuses the tag, and all that come later
+abbrev pub IsRefusal : {E : Type 0} → VmError E → Type 0
+IsRefusal (InfoRequest request) = ⊥
+IsRefusal (MemoryLimitExceeded error) = Unit {0}
+IsRefusal (Memory error) = Unit {0}
+IsRefusal CounterFull = Unit {0}
+IsRefusal Failed = Unit {0}
+
+-- what is answered before anything is reported
+abbrev pub IsSilent : {E : Type 0} → VmError E → Type 0
+IsSilent (InfoRequest request) = Unit {0}
+IsSilent (MemoryLimitExceeded error) = ⊥
+IsSilent (Memory error) = ⊥
+IsSilent CounterFull = Unit {0}
+IsSilent Failed = Unit {0}
+
+-- the elements that stay open after an end tag
+abbrev pub open_after : List ℕ → List Element → List Element
+open_after name elements = outer_part (place_of name elements) elements
+
+abbrev pub info_of : Match → MatchInfo
+info_of m = record { match_id = m.id; with_content = m.with_content }
+
+-- what is gathered for an element with content, or for one without
+abbrev pub content_of : Bool → Context → Context
+content_of true context = context
+content_of false context = record { ids = context.ids; jumps = []; hereditary_jumps = [] }
+
+-- whether an element has content, once it is known whether its tag closes itself
+abbrev pub content_at : RecoveryPoint → Bool → Bool → Bool
+content_at AtOnce with_content self_closing = not self_closing
+content_at (EntryPoints stop) with_content self_closing = with_content
+content_at (Jumps stop) with_content self_closing = with_content
+content_at (HereditaryJumps stop) with_content self_closing = with_content
+
+-- where a request goes on: outside HTML at once, with nothing gathered
+abbrev pub GoesOnAt : Bool → Bool → Context → Option Stop → Bool → Type 0
+GoesOnAt html content context None with_content = (html ≡ false) × (context ≡ no_context) × (with_content ≡ true)
+GoesOnAt html content context (Some stop) with_content = (html ≡ true) × (with_content ≡ content)
+
+module _ {E : Type 0} (ids_of : E → Ids) where
+  -- An element with content comes last, whose data hold exactly the ids that it is reported under; no other data change.
+  abbrev pub AreOpened : Bool → List Match → List E → List E → Type 0
+  AreOpened false matched old new = new ≡ old
+  AreOpened true matched old new = (w : E) × (new ≡ old ++ w ∷ []) × (ascending (ids_of w) ≡ map (λ m. m.id) matched)
+
+  -- A start tag is answered: the handler was called with exactly its report, in order, the tries are those of the definition, and the
+  -- machine stands for the events with this one.
+  pub record IsAnswered {F : Type 0} (step : F → MatchInfo → Unit {0} → F → Type 0) (s : Selectors) (esi : Bool) (events : List Event) (tag : StartTag) (asked : Bool) (old new : Vm E) (f g : F) : Type 0 where
+    pub matched : List Match
+    pub answered : answer s esi (document s esi events) (Start tag) ≡ Started matched asked (names_counted new.tries) (attributes_counted new.tries)
+    pub reported : IsCalledAtEach step f (map info_of matched) g
+    pub stands : Stands s esi new (events ++ Start tag ∷ [])
+    pub opened : AreOpened (has_content esi tag) matched (data_in old) (data_in new)
+
+  -- 5. Requests
+
+  -- The request for the rest of a tag, made by the machine that now stands for the events with the tag dropped.
+  pub record IsPending (s : Selectors) (esi : Bool) (events : List Event) (tag : StartTag) (vm : Vm E) (request : AuxStartTagInfoRequest E) : Type 0 where
+    pub paths : List Path
+    pub machine : Machine
+    pub closed : AreClosed s
+    pub shown : Shows vm machine
+    pub standing : StandsFor s esi paths machine (events ++ Start (unfinished tag) ∷ [])
+    pub asks : asks s (element_of (document s esi events) tag) (document s esi events).open_elements ≡ true
+    pub context : Context
+    pub left : List ℕ
+    pub is_request : IsRequest machine.program true (element_of (document s esi events) tag) (ranges_of_machine machine) context left
+    pub named : IsTagOf request.ctx.stack_item.local_name request.ctx.ns tag
+    pub seen : sight_in vm.stack request.ctx.stack_item.local_name ≡ sight_of machine.program.by_type (element_of (document s esi events) tag)
+    pub childless : request.ctx.stack_item.child_counter ≡ 0
+    pub gathered : Gathers ids_of request.ctx.stack_item (content_of request.ctx.with_content context)
+    pub goes_on : GoesOnAt (is_html tag.namespace) (has_content esi tag) context (stop_to_try vm request.point) request.ctx.with_content
+    pub stopped : IsPointIn (instructions_in vm) vm.program.entry_points (jumps_in vm.stack) (ranges_in (active_in vm.stack)) request.point
+    pub places_left : left ≡ all_places (map range_shown (ranges_left (ranges_to_try vm) (stop_to_try vm request.point)))
+    pub names : names_counted vm.tries + length left ≡ length (all_places (ranges_of_machine machine)) + tried_at (stop_to_try vm request.point)
+    pub attributes : attributes_counted vm.tries ≡ 0

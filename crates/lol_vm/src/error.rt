@@ -1,0 +1,58 @@
+//! Why a start tag wasn't answered.
+
+use crate::execution_ctx::ExecutionCtx;
+use crate::stack::AddChildError;
+use crate::tag_runs::RecoveryPoint;
+use lol_memory::{MemoryLimitExceededError, PushError};
+use std::alloc::AllocError;
+
+/// A request for the attributes of a start tag, and for whether it closes itself (lol_html's `AuxStartTagInfoRequest`). It is handed to
+/// `finish_start_tag`, or dropped: then its element isn't opened.
+#[derive(Drop)]
+pub struct AuxStartTagInfoRequest<E> {
+    pub(crate) ctx: ExecutionCtx<'static, E>,
+    pub(crate) point: RecoveryPoint,
+}
+
+/// Why a start tag wasn't answered (lol_html's `VmError`).
+#[derive(Drop)]
+pub enum VmError<E> {
+    /// Its attributes are asked for.
+    InfoRequest(AuxStartTagInfoRequest<E>),
+    /// The charge for its element would pass the limiter's maximum.
+    MemoryLimitExceeded(MemoryLimitExceededError),
+    /// Memory was refused.
+    Memory(AllocError),
+    /// Its parent has as many children as can be counted.
+    CounterFull,
+    /// An earlier tag was refused.
+    Failed,
+}
+
+impl<E> From<AddChildError> for VmError<E> {
+    ghost use Rattle.std.specs.Prelude.{◌≡◌};
+    ghost use Rattle.lol_vm.specs.VmErrors.{child_error};
+
+    ghost from_gives = { λ error vm_error. vm_error ≡ child_error error };
+
+    fn from(error: AddChildError) -> Self {
+        match error {
+            AddChildError::CounterFull => VmError::CounterFull,
+            AddChildError::Memory(error) => VmError::Memory(error),
+        }
+    }
+}
+
+impl<E> From<PushError> for VmError<E> {
+    ghost use Rattle.std.specs.Prelude.{◌≡◌};
+    ghost use Rattle.lol_vm.specs.VmErrors.{push_error};
+
+    ghost from_gives = { λ error vm_error. vm_error ≡ push_error error };
+
+    fn from(error: PushError) -> Self {
+        match error {
+            PushError::Limit(error) => VmError::MemoryLimitExceeded(error),
+            PushError::Memory(error) => VmError::Memory(error),
+        }
+    }
+}

@@ -1,0 +1,318 @@
+//! The machine, tag by tag.
+
+ghost use Rattle.std.specs.Prelude.{List, Bool, Err, ℕ, ◌≡◌, ◌≤◌, ◌<◌, ◌-◌, ◌*◌, ◌↔◌, ◌++◌, ◌∷◌, [], true, false, take, drop, length, slice_get, OnOk, OnErr, IfOk, IsOk, IsSome, IsErrOf, IsNone};
+ghost use Rattle.std.specs.Option.{option_copied_mut, option_map};
+ghost use Rattle.std.specs.Borrow.{sem};
+ghost use Rattle.lol_base.specs.StartTags.{StartTag, RangesAreInside};
+ghost use Rattle.lol_memory.specs.Ids.{ascending};
+ghost use Rattle.lol_memory.specs.Limiter.{charged};
+ghost use Rattle.lol_memory.specs.LimitedVec.{IsLimited};
+ghost use Rattle.lol_program.specs.Counters.{full_count};
+ghost use Rattle.lol_program.specs.Paths.{Selectors};
+ghost use Rattle.lol_program.specs.Tests.{Element};
+ghost use Rattle.lol_program.specs.Tries.{names_counted, attributes_counted};
+ghost use Rattle.lol_vm.specs.Calls.{IsCalledAtEach, reports};
+ghost use Rattle.lol_vm.specs.Events.{Event, End};
+ghost use Rattle.lol_vm.specs.StackLending.{lends_current_of_vm};
+ghost use Rattle.lol_vm.specs.Stacks.{items_in, slots_in, list_in, last_count};
+ghost use Rattle.lol_vm.specs.Views.{selectors};
+ghost use Rattle.lol_vm.specs.Vms.{Stands, HasOpen, IsNameOf, IsTagOf, IsRestOf, IsAnswered, IsPending, IsRefusal, IsSilent, content_at, open_after, stack_in, tries_in, has_failed, data_in, slots_charged, slot_bytes, IsRequested, IsEntered, IsFailedAs};
+
+use crate::element_data::ElementData;
+use crate::error::{AuxStartTagInfoRequest, VmError};
+use crate::execution_ctx::ExecutionCtx;
+use crate::stack::{Stack, StackNames, StackOf};
+use crate::stack_item::StackDirective;
+use crate::tag_runs::{RecoveryPoint, complete_tag, try_tag};
+use lol_base::{AuxStartTagInfo, LocalName, Namespace};
+use lol_memory::{MatchInfo, PushError, SharedMemoryLimiter};
+use lol_program::{AddressRange, Ast, AttributeMatcher, Compiler, Program, SelectorState, Tries};
+use std::alloc::{AllocError, Global};
+
+/// The machine: see `SelectorMatchingVm`.
+pub struct VmOf<P, N, M, E> {
+    program: P,
+    enable_esi_tags: bool,
+    stack: StackOf<N, M, E>,
+    tries: Tries,
+    failed: bool,
+    alloc: Global,
+}
+
+/// Matches selectors against the start tags of a document, as its tags come (lol_html's `SelectorMatchingVm`). It can't be dropped: it is
+/// given to `release`, with the limiter that its calls were lent.
+pub type SelectorMatchingVm<E> = VmOf<Program, LocalName<'static>, StackNames, E>;
+
+impl<P, N, M, E> VmOf<P, N, M, E> {
+    fn with_parts(alloc: Global, program: P, enable_esi_tags: bool, stack: StackOf<N, M, E>) -> Self
+        ensures program { result.program ≡ program }
+        ensures enable_esi_tags { result.enable_esi_tags ≡ enable_esi_tags }
+        ensures stack { result.stack ≡ stack }
+        ensures names { names_counted result.tries ≡ 0 }
+        ensures attributes { attributes_counted result.tries ≡ 0 }
+        ensures failed { result.failed ≡ false }
+    {
+        VmOf {
+            program,
+            enable_esi_tags,
+            stack,
+            tries: Tries::new(),
+            failed: false,
+            alloc,
+        }
+    }
+
+    /// Lends the data of the last open element, to be changed in place; none exactly if no element is open. Until they are changed, they
+    /// hold exactly the ids that the element is reported under. What is written there changes no later report. It takes no memory.
+    pub fn current_element_data_mut(&mut self) -> Option<&mut E>
+        ensures* lends { sem 𝓛 (lends_current_of_vm P.row N.row M.row E.row self.entry result) }
+        ensures value { option_copied_mut result ≡ option_map (λ item. item.element_data) (slice_get (items_in self.old.stack) (length (items_in self.old.stack) - 1)) }
+        ensures some { IsSome result ↔ (0 < length (items_in self.old.stack)) }
+    {
+        self.stack.current_element_data_mut()
+    }
+
+    /// How many nodes were tried for the last start tag that wasn't answered `Failed`, its finishing included. (Not in lol_html.)
+    pub fn tries(&self) -> Tries
+        ensures { result ≡ self.now.tries }
+    {
+        self.tries
+    }
+
+    /// The number of elements that there is room for, all of them charged. (Not in lol_html.)
+    pub fn charged_slots(&self) -> usize
+        ensures { result ≡ slots_in self.now.stack }
+    {
+        self.stack.charged_slots()
+    }
+}
+
+impl<E: ElementData> VmOf<Program, LocalName<'static>, StackNames, E> {
+    /// A machine for the selectors of a tree, which charges `item_bytes` for each open element. With `enable_esi_tags` the names of ESI
+    /// are void. It is refused where memory is.
+    pub fn new(
+        alloc: Global,
+        ast: Ast,
+        item_bytes: usize,
+        enable_esi_tags: bool,
+    ) -> Result<Self, AllocError>
+        requires { 1 ≤ item_bytes }
+        ensures stands { IfOk result (λ vm. Stands (selectors ast) enable_esi_tags vm []) }
+        ensures bytes { IfOk result (λ vm. slot_bytes vm ≡ item_bytes) }
+        ensures empty { IfOk result (λ vm. data_in vm ≡ []) }
+        ensures names { IfOk result (λ vm. names_counted (tries_in vm) ≡ 0) }
+        ensures attributes { IfOk result (λ vm. attributes_counted (tries_in vm) ≡ 0) }
+    {
+        let program = Compiler::new(alloc).compile(ast)?;
+        let by_type = program.enable_nth_of_type;
+        let stack: Stack<E> = StackOf::new(alloc, item_bytes, by_type);
+        Ok(VmOf::with_parts(alloc, program, enable_esi_tags, stack))
+    }
+
+    /// Matches a start tag: counts it, reports it and, if its element has content, opens it.
+    ///
+    /// Where its attributes are needed, or it isn't of HTML, nothing is reported, and it answers a request for them: finished by
+    /// `finish_start_tag`, or dropped. A dropped one leaves its element counted, unopened and unreported.
+    ///
+    /// # Errors
+    /// `Failed` exactly after a refusal; else `CounterFull` exactly if the parent has as many children as can be counted;
+    /// `MemoryLimitExceeded` only where the element can't be charged, after its reports; `Memory` only where memory is refused, after all
+    /// reports or none; else `InfoRequest`, which refuses nothing.
+    pub fn exec_for_start_tag<F: FnMut(MatchInfo)>(
+        &mut self,
+        local_name: LocalName<'_>,
+        ns: Namespace,
+        limiter: &mut SharedMemoryLimiter,
+        match_handler: &mut F,
+    ) -> Result<(), VmError<E>>
+        requires { F.IsAlwaysCallable match_handler.old }
+        ensures again { F.IsAlwaysCallable match_handler.new }
+        ensures answered { OnOk result ((s : Selectors) (esi : Bool) (events : List Event) (tag : StartTag) → Stands s esi self.old events → IsTagOf local_name.entry ns tag
+            → IsAnswered E.ids F.step s esi events tag false self.old self.new match_handler.old match_handler.new) }
+        ensures asked { (request : AuxStartTagInfoRequest E) → result ≡ Err (VmError.InfoRequest request) → (s : Selectors) (esi : Bool) (events : List Event) (tag : StartTag) → Stands s esi self.old events → IsTagOf local_name.entry ns tag
+            → IsPending E.ids s esi events tag self.new request }
+        ensures charged { OnOk result (limiter.new ≡ charged limiter.old ((slots_charged self.new - slots_charged self.old) * slot_bytes self.old)) }
+        ensures uncharged { OnErr result (limiter.new ≡ limiter.old) }
+        ensures unchanged { OnErr result (data_in self.new ≡ data_in self.old) }
+        ensures still_open { OnErr result ((bytes : List ℕ) (elements : List Element) → IsNameOf local_name.entry bytes → HasOpen self.old elements → HasOpen self.new elements) }
+        ensures failed { (result ≡ Err VmError.Failed) ↔ (has_failed self.old ≡ true) }
+        ensures stuck { has_failed self.old ≡ true → self.new ≡ self.old }
+        ensures full { (result ≡ Err VmError.CounterFull) ↔ ((has_failed self.old ≡ false) × (last_count (stack_in self.old) ≡ full_count)) }
+        ensures refused { (error : VmError E) → result ≡ Err error → IsRefusal error → has_failed self.new ≡ true }
+        ensures silent { (error : VmError E) → result ≡ Err error → IsSilent error → match_handler.new ≡ match_handler.old }
+        ensures limited { IsErrOf result (VmError.MemoryLimitExceeded (record {})) → IsLimited (list_in (stack_in self.old)) limiter.old }
+    {
+        if self.failed {
+            return Err(VmError::Failed);
+        }
+        self.tries = Tries::new();
+        if let Err(error) = self.stack.add_child(&local_name) {
+            self.failed = true;
+            return Err(VmError::from(error));
+        }
+        let mut ctx = ExecutionCtx::new(self.alloc, local_name, ns, self.enable_esi_tags);
+        let directive = Stack::get_stack_directive(&ctx.stack_item, ns, self.enable_esi_tags);
+        if directive == StackDirective::PushIfNotSelfClosing {
+            return self.request(ctx, RecoveryPoint::AtOnce);
+        }
+        ctx.with_content = directive == StackDirective::Push;
+        let tried = try_tag(
+            &self.program,
+            &self.stack,
+            self.alloc,
+            &mut ctx,
+            &mut self.tries,
+        );
+        let stopped = match tried {
+            Ok(stopped) => stopped,
+            Err(error) => {
+                self.failed = true;
+                return Err(VmError::Memory(error));
+            }
+        };
+        if let Some(point) = stopped {
+            return self.request(ctx, point);
+        }
+        match self.answer(ctx, limiter, match_handler) {
+            Ok(()) => Ok(()),
+            Err(error) => Err(VmError::from(error)),
+        }
+    }
+
+    /// A request for the rest of a tag, which owns what is known of it.
+    fn request(&mut self, ctx: ExecutionCtx<'_, E>, point: RecoveryPoint) -> Result<(), VmError<E>>
+        ensures requested { IsRequested ctx.entry point self.old self.new result }
+        ensures free { IsNone ctx.entry.stack_item.local_name.spelling → self.new ≡ self.old }
+    {
+        match ctx.into_owned(self.alloc) {
+            Ok(ctx) => Err(VmError::InfoRequest(AuxStartTagInfoRequest { ctx, point })),
+            Err(error) => {
+                self.failed = true;
+                Err(VmError::Memory(error))
+            }
+        }
+    }
+
+    /// Reports what was gathered, and opens the element if it has content.
+    fn answer<F: FnMut(MatchInfo)>(
+        &mut self,
+        ctx: ExecutionCtx<'_, E>,
+        limiter: &mut SharedMemoryLimiter,
+        match_handler: &mut F,
+    ) -> Result<(), PushError>
+        requires { F.IsAlwaysCallable match_handler.old }
+        ensures again { F.IsAlwaysCallable match_handler.new }
+        ensures reported { IsCalledAtEach F.step match_handler.old (reports ctx.entry.with_content (ascending (E.ids ctx.entry.stack_item.element_data))) match_handler.new }
+        ensures ok { OnOk result (IsEntered ctx.entry.with_content ctx.entry.stack_item self.old self.new) }
+        ensures charged { OnOk result (limiter.new ≡ charged limiter.old ((slots_charged self.new - slots_charged self.old) * slot_bytes self.old)) }
+        ensures limited { IsErrOf result (PushError.Limit (record {})) → (ctx.entry.with_content ≡ true) × IsLimited (list_in self.old.stack) limiter.old }
+        ensures unlimited { OnOk result (ctx.entry.with_content ≡ true → IsLimited (list_in self.old.stack) limiter.old → ⊥) }
+        ensures closed { ctx.entry.with_content ≡ false → IsOk result }
+        ensures err { OnErr result (IsFailedAs self.old self.new) }
+        ensures err_limiter { OnErr result (limiter.new ≡ limiter.old) }
+    {
+        let mut ctx = ctx;
+        ctx.handle_matched_ids(match_handler);
+        if !ctx.with_content {
+            return Ok(());
+        }
+        let ExecutionCtx { stack_item, .. } = ctx;
+        let pushed = match stack_item.into_owned(self.alloc) {
+            Ok(item) => self.stack.push_item(item, limiter),
+            Err(error) => Err(PushError::Memory(error)),
+        };
+        if pushed.is_err() {
+            self.failed = true;
+        }
+        pushed
+    }
+
+    /// Finishes the start tag of a request, which was made by this machine, as it stands but for its data: reports it and, if its element
+    /// has content, opens it. Each range of a name and of a value lies inside the input.
+    ///
+    /// # Errors
+    /// `Limit` only where the element can't be charged, after its reports; `Memory` only where memory is refused, after all reports or
+    /// none.
+    pub fn finish_start_tag<F: FnMut(MatchInfo)>(
+        &mut self,
+        request: AuxStartTagInfoRequest<E>,
+        aux_info: AuxStartTagInfo<'_>,
+        limiter: &mut SharedMemoryLimiter,
+        match_handler: &mut F,
+    ) -> Result<(), PushError>
+        requires ranges { RangesAreInside aux_info }
+        requires callable { F.IsAlwaysCallable match_handler.old }
+        ensures again { F.IsAlwaysCallable match_handler.new }
+        ensures answered { OnOk result ((s : Selectors) (esi : Bool) (events : List Event) (tag : StartTag) → IsPending E.ids s esi events tag self.old request → IsRestOf aux_info.entry tag
+            → IsAnswered E.ids F.step s esi events tag true self.old self.new match_handler.old match_handler.new) }
+        ensures charged { OnOk result (limiter.new ≡ charged limiter.old ((slots_charged self.new - slots_charged self.old) * slot_bytes self.old)) }
+        ensures uncharged { OnErr result (limiter.new ≡ limiter.old) }
+        ensures unchanged { OnErr result (data_in self.new ≡ data_in self.old) }
+        ensures still_open { OnErr result ((elements : List Element) → HasOpen self.old elements → HasOpen self.new elements) }
+        ensures refused { OnErr result (has_failed self.new ≡ true) }
+        ensures limited { IsErrOf result (PushError.Limit (record {})) → IsLimited (list_in (stack_in self.old)) limiter.old }
+    {
+        let AuxStartTagInfoRequest { ctx, point } = request;
+        let mut ctx = ctx;
+        ctx.with_content = content_at(point, ctx.with_content, aux_info.self_closing);
+        let matcher = AttributeMatcher::new(aux_info.input, aux_info.attr_buffer, ctx.ns);
+        let completed = complete_tag(
+            &self.program,
+            &self.stack,
+            point,
+            &matcher,
+            self.alloc,
+            &mut ctx,
+            &mut self.tries,
+        );
+        if let Err(error) = completed {
+            self.failed = true;
+            return Err(PushError::Memory(error));
+        }
+        self.answer(ctx, limiter, match_handler)
+    }
+
+    /// Closes the last open element of a name and all inside it, and calls the handler with their data, the outermost first. Where no
+    /// element of the name is open, nothing changes. It takes no memory, and acts after a refusal too.
+    pub fn exec_for_end_tag<F: FnMut(E)>(&mut self, local_name: LocalName<'_>, handler: &mut F)
+        requires { F.IsAlwaysCallable handler.old }
+        ensures again { F.IsAlwaysCallable handler.new }
+        ensures stands { (s : Selectors) (esi : Bool) (events : List Event) (name : List ℕ) → IsNameOf local_name.entry name → Stands s esi self.old events → Stands s esi self.new (events ++ End name ∷ []) }
+        ensures still_open { (elements : List Element) (name : List ℕ) → IsNameOf local_name.entry name → HasOpen self.old elements → HasOpen self.new (open_after name elements) }
+        ensures kept { (elements : List Element) (name : List ℕ) → IsNameOf local_name.entry name → HasOpen self.old elements → data_in self.new ≡ take (length (open_after name elements)) (data_in self.old) }
+        ensures called { (elements : List Element) (name : List ℕ) → IsNameOf local_name.entry name → HasOpen self.old elements
+            → IsCalledAtEach F.step handler.old (drop (length (open_after name elements)) (data_in self.old)) handler.new }
+        ensures tries { tries_in self.new ≡ tries_in self.old }
+        ensures slots { slots_charged self.new ≡ slots_charged self.old }
+        ensures bytes { slot_bytes self.new ≡ slot_bytes self.old }
+        ensures failed { has_failed self.new ≡ has_failed self.old }
+    {
+        self.stack.pop_up_to(local_name, handler);
+    }
+
+    /// Drops the machine, and lowers the usage by the charge of its slots. (Not in lol_html.)
+    pub fn release(self, limiter: &mut SharedMemoryLimiter)
+        requires { slots_charged self * slot_bytes self ≤ limiter.old.usage }
+        ensures { limiter.new ≡ record limiter.old { usage = limiter.old.usage - slots_charged self.entry * slot_bytes self.entry } }
+    {
+        let VmOf {
+            program: _,
+            enable_esi_tags: _,
+            stack,
+            tries: _,
+            failed: _,
+            alloc: _,
+        } = self;
+        stack.release(limiter);
+    }
+}
+
+/// Whether an element has content, once it is known whether its tag closes itself: that counts outside HTML alone.
+fn content_at(point: RecoveryPoint, with_content: bool, self_closing: bool) -> bool
+    ensures { result ≡ content_at point with_content self_closing }
+{
+    match point {
+        RecoveryPoint::AtOnce => !self_closing,
+        _ => with_content,
+    }
+}
