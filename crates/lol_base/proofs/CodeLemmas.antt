@@ -1,5 +1,5 @@
--- Codes of names, and the names of codes.
-use Rattle.std.proofs.Common.{◌≡◌, ◌≢◌, ◌∙◌, sym, ap, refl, ℕ, zero, suc, ◌+◌, ◌-◌, ◌*◌, ◌/◌, ◌%◌, ◌^◌, ◌<◌, ◌≤◌, Bool, true, false, not, ◌&&◌, nat_eq, nat_lt, List, [], ◌∷◌, ◌++◌, length, fold, Option, Some, None, unwrap_or, is_some, IsNone, IsTrue, ◌↔◌, get_or, arith, add-zero, true≢false}
+-- Codes of names, and what is kept of them.
+use Rattle.std.proofs.Common.{◌≡◌, ◌≢◌, ◌∙◌, sym, ap, refl, ℕ, zero, suc, ◌+◌, ◌*◌, ◌^◌, ◌<◌, ◌≤◌, Bool, true, false, not, ◌&&◌, nat_eq, nat_lt, List, [], ◌∷◌, length, fold, Option, Some, None, unwrap_or, is_some, IsNone, IsTrue, ◌↔◌, get_or, arith, add-zero, true≢false}
 use Rattle.std.specs.List.{list_all}
 use Rattle.std.specs.Bool.{Decides, ◌==◌, if◌then◌else◌}
 use Rattle.std.specs.Char.{to_ascii_lowercase}
@@ -11,113 +11,18 @@ use Rattle.std.specs.Cmp.{unsigned_Decides, nat_cmp_is, Equal-is}
 use Rattle.std.specs.Cmp.Lexicographic.{slice_cmp, texts_ties}
 use Rattle.std.proofs.lemmas.Cmp.{ranked}
 use Rattle.std.proofs.lemmas.Bool.Decides.{same_from_decides}
-use Rattle.std.proofs.lemmas.List.{append-nil, length-map}
+use Rattle.std.proofs.lemmas.List.{length-map}
 use Rattle.std.proofs.lemmas.Nat.{pow-add}
 use Rattle.std.proofs.Math.Nat.{pow-le-pow_right}
 use Rattle.std.proofs.lemmas.Bool.Decides.{nat_tests}
 use Rattle.std.proofs.lemmas.Slice.Eq.{bytes_eq-Decides}
+use Rattle.lol_base.specs.BoolLaws.{and_parts}
+use Rattle.lol_base.specs.CodeLaws.{five_bits-lt, name_code-hash, name_code-none, hash_of_code, name_of_code-name_code, codes_decide}
 use Rattle.lol_base.specs.LocalNames.{Name, code_or_last, same_local_name, local_name_cmp, is_hash_byte, is_hash, five_bits, bits_of, with_byte, name_code, local_name}
 use Rattle.lol_base.specs.Names.{lowercased}
 use Rattle.lol_base.specs.declared.local_name.Kept.{Kept}
 use Rattle.lol_base.specs.declared.local_name.Kept.TheVariants.{Hash, Borrowed, Owned}
-use Rattle.lol_base.specs.Kept.{byte_of, bytes_before, name_of_code, spelled_name, name_of, IsKeptRight}
-
--- ---- one byte
-
-left_of : (a b : Bool) → (a && b) ≡ true → a ≡ true
-left_of true b both = refl
-left_of false b both = both
-
-right_of : (a b : Bool) → (a && b) ≡ true → b ≡ true
-right_of true b both = both
-right_of false b both = absurd (true≢false (sym both))
-
-pub five_bits-lt : (b : ℕ) → is_hash_byte b ≡ true → five_bits b < 32
-five_bits-lt b is = grind (arith, nat_tests)
-
-byte_of-five_bits : (b : ℕ) → is_hash_byte b ≡ true → byte_of (five_bits b) ≡ b
-byte_of-five_bits b is = grind (arith, nat_tests)
-
-five_bits-zero : (b : ℕ) → is_hash_byte b ≡ true → b ≢ 49 → 0 < five_bits b
-five_bits-zero b is other = grind (arith, nat_tests)
-
--- ---- a code's bytes
-
-module _ (b : ℕ) (is : is_hash_byte b ≡ true) where
-  -- the last byte of a code is the one that was put after the others
-  last_byte : (n code : ℕ) (others : List ℕ) → 0 < with_byte code b → bytes_before (suc n) (with_byte code b) others ≡ bytes_before n code (b ∷ others)
-  last_byte n code others some =
-      let small = five_bits-lt b is in
-      let some_code : nat_eq (with_byte code b) 0 ≡ false = grind (arith, nat_tests) in
-      let front : with_byte code b / 32 ≡ code = omega arith in
-      let last : with_byte code b % 32 ≡ five_bits b = omega arith in
-      rw (some_code, front, last, byte_of-five_bits b is) refl
-
-no_code : (n : ℕ) (others : List ℕ) → bytes_before n 0 others ≡ others
-no_code zero others = refl
-no_code (suc n) others = refl
-
-with_byte-some : (code b : ℕ) → 0 < code → 0 < with_byte code b
-with_byte-some code b some = omega arith
-
-decoded : (bs : List ℕ) (n code : ℕ) (others : List ℕ) → list_all is_hash_byte bs ≡ true → 0 < code
-    → bytes_before (n + length bs) (fold with_byte code bs) others ≡ bytes_before n code (bs ++ others)
-decoded [] n code others hashed some = ap (λ k. bytes_before k code others) (add-zero n)
-decoded (b ∷ bs) n code others hashed some =
-    let more : n + suc (length bs) ≡ suc n + length bs = omega arith in
-    let front = with_byte-some code b some in
-    ap (λ k. bytes_before k (fold with_byte (with_byte code b) bs) others) more
-    ∙ (decoded bs (suc n) (with_byte code b) others (right_of (is_hash_byte b) (list_all is_hash_byte bs) hashed) front
-    ∙ last_byte b (left_of (is_hash_byte b) (list_all is_hash_byte bs) hashed) n code (bs ++ others) front)
-
-all_decoded : (b : ℕ) (bs : List ℕ) (n : ℕ) → list_all is_hash_byte (b ∷ bs) ≡ true → b ≢ 49
-    → bytes_before (n + suc (length bs)) (fold with_byte 0 (b ∷ bs)) [] ≡ b ∷ bs
-all_decoded b bs n hashed other =
-    let first = left_of (is_hash_byte b) (list_all is_hash_byte bs) hashed in
-    let some : 0 < with_byte 0 b = omega (arith, five_bits-zero b first other) in
-    let more : n + suc (length bs) ≡ suc n + length bs = omega arith in
-    ap (λ k. bytes_before k (fold with_byte (with_byte 0 b) bs) []) more
-    ∙ (decoded bs (suc n) (with_byte 0 b) [] (right_of (is_hash_byte b) (list_all is_hash_byte bs) hashed) some
-    ∙ (last_byte b first n 0 (bs ++ []) some ∙ (no_code n (b ∷ (bs ++ [])) ∙ append-nil (b ∷ bs))))
-
--- ---- names that have a code
-
-pub name_code-hash : (name : List ℕ) → is_hash name ≡ true → name_code name ≡ Some (fold with_byte 0 name)
-unfolding name_code
-name_code-hash name is = rw is refl
-
-pub name_code-none : (name : List ℕ) → is_hash name ≡ false → name_code name ≡ None
-unfolding name_code
-name_code-none name is = rw is refl
-
--- a name has a code exactly if it is a hash, and then it is the fold
-pub hash_of_code : (name : List ℕ) (code : ℕ) → name_code name ≡ Some code → (is_hash name ≡ true) × (fold with_byte 0 name ≡ code)
-unfolding name_code
-hash_of_code name code is =
-    elim (is_hash name) as (λ h. is_hash name ≡ h → (is_hash name ≡ true) × (fold with_byte 0 name ≡ code)) [
-      | true ↦ λ hash. (hash, let e : Some (fold with_byte 0 name) ≡ Some code = sym (name_code-hash name hash) ∙ is in cc)
-      | false ↦ λ none. absurd (let e : None ≡ Some code = sym (name_code-none name none) ∙ is in cc)
-    ] refl
-
-name_of_code-is : (code : ℕ) → name_of_code code ≡ bytes_before 12 code []
-unfolding name_of_code
-name_of_code-is code = refl
-
-pub name_of_code-name_code : (name : List ℕ) (code : ℕ) → name_code name ≡ Some code → name_of_code code ≡ name
-name_of_code-name_code [] code is = absurd (true≢false (sym (hash_of_code [] code is).0))
-name_of_code-name_code (b ∷ bs) code is =
-    let h = hash_of_code (b ∷ bs) code is in
-    let hashed = right_of (not (nat_eq b 49) && nat_lt (length bs) 12) (list_all is_hash_byte (b ∷ bs)) h.0 in
-    let front = left_of (not (nat_eq b 49) && nat_lt (length bs) 12) (list_all is_hash_byte (b ∷ bs)) h.0 in
-    let first = left_of (not (nat_eq b 49)) (nat_lt (length bs) 12) front in
-    let short = right_of (not (nat_eq b 49)) (nat_lt (length bs) 12) front in
-    let other : b ≢ 49 = λ e. grind (arith, nat_tests) in
-    let few : length bs < 12 = grind (arith, nat_tests) in
-    let n : ℕ = 11 - length bs in
-    let all : n + suc (length bs) ≡ 12 = omega arith in
-    name_of_code-is code
-    ∙ (ap (λ k. bytes_before k code []) (sym all)
-    ∙ (ap (λ c. bytes_before (n + suc (length bs)) c []) (sym h.1) ∙ all_decoded b bs n hashed other))
+use Rattle.lol_base.specs.Kept.{name_of_code, spelled_name, name_of, IsKeptRight}
 
 -- ---- codes are small
 
@@ -137,13 +42,6 @@ is_some-name_code name =
       | true ↦ λ hash. ap is_some (name_code-hash name hash)
       | false ↦ λ none. ap is_some (name_code-none name none)
     ] refl
-
--- names that have codes are the same exactly if their codes are
-pub codes_decide : (name other : List ℕ) (a b : ℕ) → name_code name ≡ Some a → name_code other ≡ Some b → Decides (a == b) (name ≡ other)
-codes_decide name other a b is is' = (
-  λ e. sym (name_of_code-name_code name a is) ∙ (ap name_of_code ((unsigned_Decides a b).0 e) ∙ name_of_code-name_code other b is'),
-  λ e. (unsigned_Decides a b).1 (let same : Some a ≡ Some b = sym is ∙ (ap name_code e ∙ is') in cc),
-)
 
 -- ---- from spelled bytes
 
@@ -256,18 +154,18 @@ kept_hash code (Owned bytes) right = spelled_no_hash bytes.items right.1
 fold_small : (bs : List ℕ) (code k : ℕ) → list_all is_hash_byte bs ≡ true → code < 32 ^ k → fold with_byte code bs < 32 ^ (k + length bs)
 fold_small [] code k hashed small = rw (add-zero k) small
 fold_small (b ∷ bs) code k hashed small =
-    let first = left_of (is_hash_byte b) (list_all is_hash_byte bs) hashed in
+    let first = (and_parts (is_hash_byte b) (list_all is_hash_byte bs) hashed).0 in
     let next = code_bound code (five_bits b) k small (five_bits-lt b first) in
     let more : k + suc (length bs) ≡ (k + 1) + length bs = omega arith in
-    rw more (fold_small bs (with_byte code b) (k + 1) (right_of (is_hash_byte b) (list_all is_hash_byte bs) hashed) (omega arith))
+    rw more (fold_small bs (with_byte code b) (k + 1) (and_parts (is_hash_byte b) (list_all is_hash_byte bs) hashed).1 (omega arith))
 
 code_small : (name : List ℕ) (code : ℕ) → name_code name ≡ Some code → code < 2 ^ 60
 code_small [] code is = absurd (true≢false (sym (hash_of_code [] code is).0))
 code_small (b ∷ bs) code is =
     let h = hash_of_code (b ∷ bs) code is in
-    let hashed = right_of (not (nat_eq b 49) && nat_lt (length bs) 12) (list_all is_hash_byte (b ∷ bs)) h.0 in
-    let front = left_of (not (nat_eq b 49) && nat_lt (length bs) 12) (list_all is_hash_byte (b ∷ bs)) h.0 in
-    let short = right_of (not (nat_eq b 49)) (nat_lt (length bs) 12) front in
+    let hashed = (and_parts (not (nat_eq b 49) && nat_lt (length bs) 12) (list_all is_hash_byte (b ∷ bs)) h.0).1 in
+    let front = (and_parts (not (nat_eq b 49) && nat_lt (length bs) 12) (list_all is_hash_byte (b ∷ bs)) h.0).0 in
+    let short = (and_parts (not (nat_eq b 49)) (nat_lt (length bs) 12) front).1 in
     let few : length bs < 12 = grind (arith, nat_tests) in
     let folded = fold_small (b ∷ bs) 0 0 hashed (omega arith) in
     let most : 32 ^ (0 + suc (length bs)) ≤ 32 ^ 12 = pow-le-pow_right {n = 32} (omega arith) {i = 0 + suc (length bs)} {j = 12} (omega arith) in

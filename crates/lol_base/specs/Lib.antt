@@ -2,6 +2,7 @@ pub mod Names
 pub mod LocalNames
 pub mod NameLaws
 pub mod Kept
+pub mod CodeLaws
 pub mod Tags
 pub mod StartTags
 pub mod BoolLaws

@@ -69,8 +69,24 @@ impl<'i> LocalName<'i> {
         }
     }
 
+    /// The name that these bytes spell, which keeps them where it isn't a hash and drops them where it is. It takes no memory.
+    pub fn from_vec(bytes: Vec<u8>) -> LocalName<'static>
+        ensures { result ≡ local_name bytes.items }
+    {
+        match code_of(&bytes) {
+            Some(code) => LocalName {
+                code,
+                kept: Kept::Hash,
+            },
+            None => LocalName {
+                code: NO_CODE,
+                kept: Kept::Owned(bytes),
+            },
+        }
+    }
+
     /// The code of a hash: five bits for each byte, the first byte highest; 0 to 5 stand for the digits 1 to 6, and 6 to 31 for the letters.
-    #[inline]
+    #[inline(always)]
     pub fn code(&self) -> Option<u64>
         ensures { result ≡ name_code self.now.lowercased }
     {
