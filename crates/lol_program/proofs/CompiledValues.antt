@@ -30,7 +30,7 @@ drop_none xs i h = let none : i ≡ 0 = omega (arith, h) in ap (λ n. drop n xs)
 
 -- 2. Values
 
-both_false : (v : NameValue) → both v False ≡ False
+pub both_false : (v : NameValue) → both v False ≡ False
 both_false True = refl
 both_false False = refl
 both_false Open = refl

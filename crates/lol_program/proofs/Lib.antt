@@ -14,6 +14,7 @@ pub mod RunningParts
 mod AttributeValues
 mod MarkLemmas
 mod MatcherLemmas
+pub mod PredicateMarkLemmas
 mod WordPlaces
 pub mod CompiledRows
 pub mod CompiledValues

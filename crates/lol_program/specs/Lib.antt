@@ -42,3 +42,4 @@ pub mod IdSetLaws
 pub mod NodeViewLaws
 pub mod ForestRunLaws
 pub mod PredicateListLaws
+pub mod PredicateMarks

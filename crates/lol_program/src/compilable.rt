@@ -29,9 +29,9 @@ pub trait Compilable {
 }
 
 impl Compilable for Test {
-    /// The compiled test, into which operands move. A comparison's name is kept in ASCII lower case, and that of a test that an attribute is
-    /// there as it is, so that with a capital in it no attribute has it. `~=`, `^=`, `$=` and `*=` with an empty operand become a test of
-    /// attributes that no element passes.
+    /// The compiled test, into which names and operands move. A comparison's name is kept in ASCII lower case, and that of a test that an
+    /// attribute is there as it is, so that with a capital in it no attribute has it. `~=`, `^=`, `$=` and `*=` with an empty operand become
+    /// a test of attributes that no element passes.
     fn compile(
         self,
         alloc: Global,
@@ -56,10 +56,9 @@ fn compile_test(
     ensures stays { IsTrue enable_nth_of_type.old → IsTrue enable_nth_of_type.new }
 {
     match test {
-        Test::Name(expr) => {
-            let test = compile_name(alloc, expr, enable_nth_of_type)?;
-            Ok(CompiledTest::Name(CompiledLocalNameExpr { test }))
-        }
+        Test::Name(expr) => Ok(CompiledTest::Name(CompiledLocalNameExpr {
+            test: compile_name(expr, enable_nth_of_type),
+        })),
         Test::Attribute(expr) => Ok(CompiledTest::Attribute(CompiledAttributeExpr {
             test: compile_attribute(expr),
         })),
@@ -113,26 +112,20 @@ fn compile_predicates(
     Ok(compiled)
 }
 
-fn compile_name(
-    alloc: Global,
-    expr: OnTagNameExpr,
-    enable_nth_of_type: &mut bool,
-) -> Result<LocalNameExprTest, AllocError>
-    ensures test { IfOk result (λ compiled. IsCompiledName compiled (name_test expr)) }
-    ensures flag { OnOk result (enable_nth_of_type.new ≡ (enable_nth_of_type.old || is_by_type (name_test expr))) }
-    ensures stays { IsTrue enable_nth_of_type.old → IsTrue enable_nth_of_type.new }
+fn compile_name(expr: OnTagNameExpr, enable_nth_of_type: &mut bool) -> LocalNameExprTest
+    ensures test { IsCompiledName result (name_test expr) }
+    ensures flag { enable_nth_of_type.new ≡ (enable_nth_of_type.old || is_by_type (name_test expr)) }
 {
     match expr {
-        OnTagNameExpr::ExplicitAny => Ok(LocalNameExprTest::Any),
-        OnTagNameExpr::Unmatchable => Ok(LocalNameExprTest::Never),
+        OnTagNameExpr::ExplicitAny => LocalNameExprTest::Any,
+        OnTagNameExpr::Unmatchable => LocalNameExprTest::Never,
         OnTagNameExpr::LocalName(name) => {
-            let name = LocalName::new(name.as_str().as_bytes()).into_owned(alloc)?;
-            Ok(LocalNameExprTest::LocalName(name))
+            LocalNameExprTest::LocalName(LocalName::from_vec(name.into_bytes()))
         }
-        OnTagNameExpr::NthChild(nth) => Ok(LocalNameExprTest::NthChild(nth)),
+        OnTagNameExpr::NthChild(nth) => LocalNameExprTest::NthChild(nth),
         OnTagNameExpr::NthOfType(nth) => {
             *enable_nth_of_type = true;
-            Ok(LocalNameExprTest::NthOfType(nth))
+            LocalNameExprTest::NthOfType(nth)
         }
     }
 }

@@ -49,7 +49,7 @@ impl CompiledPredicate {
     /// What an element's name and counters alone say of whether it passes all tests. The last test is looked at first, which in a compound
     /// that was read is that of the name, and none after the first that fails. It takes no memory.
     #[cycle(by_names)]
-    #[inline(always)]
+    #[inline(never)]
     pub fn by_names(&self, state: &SelectorState<'_>, local_name: &LocalName<'_>) -> NameValue
         ensures { result ≡ predicate_value self.now (sight state.now local_name.now) }
     {

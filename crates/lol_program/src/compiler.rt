@@ -39,8 +39,8 @@ impl Compiler {
     }
 
     /// The program of a tree. A list of siblings takes the next free places in one range, and after it, node by node, its children's list
-    /// and its descendants' list are laid out the same way. Operands and sets of ids move out of the tree, and nothing is cloned but the
-    /// bytes of a name that isn't a hash. It costs time in proportion to the tree, and is refused where memory is.
+    /// and its descendants' list are laid out the same way. Names, operands and sets of ids move out of the tree, and nothing is cloned.
+    /// It costs time in proportion to the tree, and is refused where memory is.
     pub fn compile(self, ast: Ast) -> Result<Program, AllocError>
         ensures { IfOk result (λ program. IsProgramOf (selectors_in (trees_of ast)) (nodes_of ast) (program_shown program)) }
     {
@@ -139,14 +139,12 @@ impl Layout {
         let predicate = self.compile_predicate(predicate)?;
         let jumps = self.compile_list(children)?;
         let hereditary_jumps = self.compile_list(descendants)?;
-        self.instructions[place] = Instruction {
-            associated_branch: ExecutionBranch {
-                matched_ids: match_ids,
-                jumps,
-                hereditary_jumps,
-            },
-            predicate,
+        let associated_branch = ExecutionBranch {
+            matched_ids: match_ids,
+            jumps,
+            hereditary_jumps,
         };
+        self.instructions[place] = Instruction::new(associated_branch, predicate);
         Ok(())
     }
 

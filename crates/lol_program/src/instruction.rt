@@ -5,12 +5,14 @@ ghost use Rattle.std.specs.Option.{option_copied};
 ghost use Rattle.lol_memory.specs.Ids.{no_ids};
 ghost use Rattle.lol_program.specs.Tries.{names_counted, attributes_counted};
 ghost use Rattle.lol_program.specs.Compiled.{sight, tests_in, predicate_value, predicate_holds};
+ghost use Rattle.lol_program.specs.PredicateMarks.{AreMarksOf};
 ghost use Rattle.lol_program.specs.Running.{Answers, branch_if, tries_of_attributes};
 
 use crate::attribute_matcher::AttributeMatcher;
 use crate::compiled_predicate::CompiledPredicate;
 use crate::execution_branch::ExecutionBranch;
 use crate::name_value::NameValue;
+use crate::predicate_marks::PredicateMarks;
 use crate::selector_state::SelectorState;
 use crate::tries::Tries;
 use lol_base::LocalName;
@@ -34,9 +36,24 @@ pub enum TryExecResult<'p> {
 pub struct Instruction {
     pub associated_branch: ExecutionBranch,
     pub predicate: CompiledPredicate,
+    marks: PredicateMarks,
+    ghost marked: { AreMarksOf marks (tests_in predicate) },
 }
 
 impl Instruction {
+    /// An instruction with this branch and these tests. It takes no memory.
+    pub fn new(associated_branch: ExecutionBranch, predicate: CompiledPredicate) -> Self
+        ensures branch { result.associated_branch ≡ associated_branch }
+        ensures predicate { result.predicate ≡ predicate }
+    {
+        let marks = PredicateMarks::of(predicate.tests());
+        Instruction {
+            associated_branch,
+            predicate,
+            marks,
+        }
+    }
+
     /// An instruction without tests, ids and ranges, which every element passes. It takes no memory.
     pub fn noop(alloc: Global) -> Self
         ensures tests { tests_in result.predicate ≡ [] }
@@ -44,14 +61,12 @@ impl Instruction {
         ensures jumps { result.associated_branch.jumps ≡ None }
         ensures hereditary_jumps { result.associated_branch.hereditary_jumps ≡ None }
     {
-        Instruction {
-            associated_branch: ExecutionBranch {
-                matched_ids: DenseHashSet::new(alloc),
-                jumps: None,
-                hereditary_jumps: None,
-            },
-            predicate: CompiledPredicate::new(Vec::new(alloc)),
-        }
+        let associated_branch = ExecutionBranch {
+            matched_ids: DenseHashSet::new(alloc),
+            jumps: None,
+            hereditary_jumps: None,
+        };
+        Instruction::new(associated_branch, CompiledPredicate::new(Vec::new(alloc)))
     }
 
     /// Tries an element by its name and its counters. It counts one try by names; fewer than `u64::MAX` were counted.
@@ -69,7 +84,7 @@ impl Instruction {
         ensures attributes { attributes_counted tries.new ≡ attributes_counted tries.old }
     {
         tries.add_name();
-        match self.predicate.by_names(state, local_name) {
+        match self.by_names(state, local_name) {
             NameValue::True => TryExecResult::Branch(&self.associated_branch),
             NameValue::False => TryExecResult::Fail,
             NameValue::Open => TryExecResult::AttributesRequired,
@@ -92,12 +107,12 @@ impl Instruction {
         ensures names { names_counted tries.new ≡ names_counted tries.old }
         ensures attributes { attributes_counted tries.new ≡ attributes_counted tries.old + tries_of_attributes (predicate_value self.now.predicate (sight state.now local_name.now)) }
     {
-        match self.predicate.by_names(state, local_name) {
+        match self.by_names(state, local_name) {
             NameValue::True => Some(&self.associated_branch),
             NameValue::False => None,
             NameValue::Open => {
                 tries.add_attributes();
-                if self.predicate.eval(state, local_name, matcher) {
+                if self.passes(state, local_name, matcher) {
                     Some(&self.associated_branch)
                 } else {
                     None
@@ -125,6 +140,30 @@ impl Instruction {
         let branch = self.complete_exec_with_attrs(state, local_name, matcher, tries);
         tries.add_name();
         branch
+    }
+
+    /// What name and counters say of an element: mostly the marks know.
+    #[inline(always)]
+    fn by_names(&self, state: &SelectorState<'_>, local_name: &LocalName<'_>) -> NameValue
+        ensures { result ≡ predicate_value self.now.predicate (sight state.now local_name.now) }
+    {
+        match self.marks.by_names(state, local_name) {
+            Some(value) => value,
+            None => self.predicate.by_names(state, local_name),
+        }
+    }
+
+    /// Whether an element passes: not where it lacks something that is needed.
+    #[inline(always)]
+    fn passes(
+        &self,
+        state: &SelectorState<'_>,
+        local_name: &LocalName<'_>,
+        matcher: &AttributeMatcher<'_>,
+    ) -> bool
+        ensures { result ≡ predicate_holds self.now.predicate (sight state.now local_name.now) matcher.now }
+    {
+        !matcher.lacks(self.marks.needs()) && self.predicate.eval(state, local_name, matcher)
     }
 }
 

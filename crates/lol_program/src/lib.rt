@@ -19,6 +19,7 @@ mod marks;
 mod name_value;
 mod names_alone;
 mod predicate;
+mod predicate_marks;
 mod program;
 mod reserved_id;
 mod selector_state;

@@ -1,7 +1,8 @@
 //! What is known of a compound before attributes are.
 
 ghost use Rattle.std.specs.Prelude.{◌≡◌};
-ghost use Rattle.lol_program.specs.Compounds.{value_of_bool, opposite};
+ghost use Rattle.lol_program.specs.Compounds.{value_of_bool, both, opposite};
+ghost use Rattle.lol_program.specs.PredicateMarks.{value_if};
 
 /// What an element's name and place alone say of whether it passes a test or a compound.
 #[derive(Debug, Clone, Copy, PartialEq, Eq)]
@@ -25,6 +26,28 @@ impl NameValue {
         } else {
             NameValue::False
         }
+    }
+
+    /// The value of two tests together.
+    pub(crate) fn and(self, other: NameValue) -> Self
+        ensures { result ≡ both self other }
+    {
+        match self {
+            NameValue::True => other,
+            NameValue::False => NameValue::False,
+            NameValue::Open => match other {
+                NameValue::False => NameValue::False,
+                NameValue::True | NameValue::Open => NameValue::Open,
+            },
+        }
+    }
+
+    /// This value of an element that passes another test, and else that it doesn't pass.
+    #[inline(always)]
+    pub(crate) fn only_if(self, passes: bool) -> Self
+        ensures { result ≡ value_if passes self }
+    {
+        if passes { self } else { NameValue::False }
     }
 
     /// The value of the opposite, which is open where this is.

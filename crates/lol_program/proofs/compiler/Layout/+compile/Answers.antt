@@ -2,7 +2,15 @@ use Rattle.std.proofs.Common.{rules, arith, Bool, ◌||◌, ◌≡◌, ◌+◌, 
 use Rattle.std.specs.Prelude.{slice_set}
 use Rattle.std.specs.Vec.Iter.{into_iter_items}
 use Rattle.std.specs.Global.{Vec}
+use Rattle.std.specs.Option.{option_map}
+use Rattle.lol_memory.specs.Ids.{ascending}
 use Rattle.lol_program.specs.Compounds.{has_test_by_type}
+use Rattle.lol_program.specs.Predicates.{tests_of}
+use Rattle.lol_program.specs.Compiled.{tests_in}
+use Rattle.lol_program.specs.Compiling.{AreCompiledTests}
+use Rattle.lol_program.specs.ProgramViews.{range_shown}
+use Rattle.lol_program.specs.declared.execution_branch.ExecutionBranch.{ExecutionBranch}
+use Rattle.lol_program.specs.declared.compiled_predicate.CompiledPredicate.{CompiledPredicate}
 use Rattle.lol_program.specs.Views.{node_of, forest_of}
 use Rattle.lol_program.specs.Forest.{Node, none, link}
 use Rattle.lol_program.specs.Layouts.{width, any_by_type}
@@ -31,15 +39,17 @@ compile_node-returns-clause-laid t c =
     let place = c.args.place in
     let free = c.args.self.now.free_space_start in
     let second = c.compile_list-2.new.self.instructions.items in
-    let i : code.Instruction = record {
-      associated_branch = record { matched_ids = x.match_ids; jumps = c.in_ok-jumps.jumps; hereditary_jumps = c.in_ok-hereditary_jumps.hereditary_jumps };
-      predicate = c.in_ok-predicate.predicate;
-    } in
+    let i = c.new.result in
+    let branch = c.new.ensures.branch in
     let kept : length c.compile_predicate.new.self.instructions.items ≡ length c.args.self.now.instructions.items = ap (λ (v : Vec code.Instruction). length v.items) p.instructions in
     let within : place < length second = omega (arith, c.requires.room, c.requires.place, a.same.count, b.same.count, kept) in
     subst (λ (m : Node). AreLaid (slice_set second place i) place free (link m none)) (sym (node_out c.args.node))
     (node_done (shape x) place free c.compile_predicate.new.self.free_space_start c.compile_list.new.self.free_space_start c.compile_list-2.new.self.free_space_start c.compile_list.new.self.instructions.items second i
-    p.free a.free b.free c.requires.place within a.laid b.laid b.same p.tests refl a.range b.range)
+    p.free a.free b.free c.requires.place within a.laid b.laid b.same
+    (subst (λ (q : CompiledPredicate). AreCompiledTests (tests_in q) (tests_of x.predicate)) (sym c.new.ensures.predicate) p.tests)
+    (ap (λ (given : ExecutionBranch). ascending given.matched_ids) branch)
+    (ap (λ (given : ExecutionBranch). option_map range_shown given.jumps) branch ∙ a.range)
+    (ap (λ (given : ExecutionBranch). option_map range_shown given.hereditary_jumps) branch ∙ b.range))
 
 pub compile_node-returns-clause-same : goal.compile_node-returns-clause-same
 compile_node-returns-clause-same t c =
