@@ -223,6 +223,3 @@ impl Ast {
         };
     }
 }
-
-#[cfg(test)]
-mod tests;

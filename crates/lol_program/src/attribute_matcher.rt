@@ -278,6 +278,3 @@ fn is_lower_case_of(byte: u8, actual: u8) -> bool
         actual.to_ascii_lowercase() == byte
     }
 }
-
-#[cfg(test)]
-pub(crate) mod tests;

@@ -167,6 +167,3 @@ fn compile_comparison(expr: AttributeComparisonExpr) -> AttributeExprTest
         AttrSelectorOperator::Substring => AttributeExprTest::Substring(operands),
     }
 }
-
-#[cfg(test)]
-mod tests;

@@ -178,6 +178,3 @@ fn some_hold(
     }
     false
 }
-
-#[cfg(test)]
-mod tests;

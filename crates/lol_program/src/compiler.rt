@@ -158,6 +158,3 @@ impl Layout {
         Ok(CompiledPredicate::new(tests))
     }
 }
-
-#[cfg(test)]
-pub(crate) mod tests;

@@ -166,6 +166,3 @@ impl Instruction {
         !matcher.lacks(self.marks.needs()) && self.predicate.eval(state, local_name, matcher)
     }
 }
-
-#[cfg(test)]
-mod tests;

@@ -2,11 +2,21 @@
 #![tactic(auto)]
 
 #[cfg(test)]
+mod attributes;
+#[cfg(test)]
+mod compiled_tests;
+#[cfg(test)]
 mod counters;
+#[cfg(test)]
+mod instructions;
 #[cfg(test)]
 mod limits;
 #[cfg(test)]
 mod names;
+#[cfg(test)]
+mod nodes;
+#[cfg(test)]
+mod programs;
 #[cfg(test)]
 mod readings;
 #[cfg(test)]

@@ -1,7 +1,9 @@
-use crate::attribute_matcher::tests::Attributes;
-use crate::compiler::tests::instruction;
-use crate::{ChildCounter, Instruction, SelectorState, Tries, TryExecResult};
-use lol_base::{LocalName, Namespace};
+//! The three ways to run an instruction, and what they count.
+
+use crate::attributes::Attributes;
+use crate::programs::instruction;
+use lol_program::{Instruction, TryExecResult};
+use lol_vm::{ChildCounter, LocalName, Namespace, SelectorState, Tries};
 use std::process::Abort;
 use std::test::Fail;
 

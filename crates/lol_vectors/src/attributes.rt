@@ -1,7 +1,9 @@
-use crate::marks::Marks;
-use crate::{AttrExprOperands, AttributeMatcher};
-use lol_base::{AttributeBuffer, AttributeOutline, AuxStartTagInfo, Bytes, Namespace, Range};
-use lol_css::ParsedCaseSensitivity;
+//! What a matcher says of attributes.
+
+use lol_vm::{
+    AttrExprOperands, AttributeBuffer, AttributeMatcher, AttributeOutline, AuxStartTagInfo, Bytes,
+    Namespace, ParsedCaseSensitivity, Range,
+};
 use std::alloc::{AllocError, Global};
 use std::process::Abort;
 use std::test::Fail;
@@ -211,20 +213,5 @@ fn long_values(rt: HostRuntime) -> Result<(), Fail> {
         ParsedCaseSensitivity::AsciiCaseInsensitive,
     )?;
     assert!(rt; tag.matches_splitted_by_whitespace(&caseless));
-    Ok(())
-}
-
-#[test]
-fn what_is_lacked(rt: HostRuntime) -> Result<(), Fail> {
-    let alloc = rt.alloc();
-    let written = [("ID", Some("i")), ("Lang", None), ("class", Some("a b"))];
-    let tag = Attributes::new(alloc, &written)?;
-    let tag = tag.matcher(&rt, Namespace::Html);
-    let there = Marks::of_name(b"lang").with(Marks::of_id(b"i"));
-    assert!(rt; !tag.lacks(Marks::none()));
-    assert!(rt; !tag.lacks(there.with(Marks::of_class(b"b"))));
-    assert!(rt; tag.lacks(Marks::of_name(b"href")));
-    assert!(rt; tag.lacks(there.with(Marks::of_id(b"other"))));
-    assert!(rt; tag.lacks(there.with(Marks::of_class(b"c"))));
     Ok(())
 }

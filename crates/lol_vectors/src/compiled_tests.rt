@@ -1,0 +1,237 @@
+//! Compiled tests, of selectors and by hand.
+
+use crate::attributes::Attributes;
+use crate::programs::instruction;
+use lol_program::{
+    AttributeExprTest, Compilable, CompiledAttributeExpr, CompiledLocalNameExpr, CompiledPredicate,
+    CompiledTest, LocalNameExprTest,
+};
+use lol_vm::{
+    AttrSelectorOperator, AttributeComparisonExpr, ChildCounter, LocalName, NameValue, Namespace,
+    NthChild, OnAttributesExpr, OnTagNameExpr, ParsedCaseSensitivity, Predicate, SelectorState,
+    Test, Tries,
+};
+use std::alloc::{AllocError, Global};
+use std::process::Abort;
+use std::test::Fail;
+
+fn comparison(
+    alloc: Global,
+    name: &str,
+    operator: AttrSelectorOperator,
+    value: &str,
+) -> Result<Test, AllocError> {
+    Ok(Test::Attribute(OnAttributesExpr::AttributeComparisonExpr(AttributeComparisonExpr::new(
+        String::from_str(alloc, name)?,
+        String::from_str(alloc, value)?,
+        ParsedCaseSensitivity::CaseSensitive,
+        operator,
+    ))))
+}
+
+/// Whether `foo=bar` passes a test of attributes.
+fn passes(rt: &impl Abort, alloc: Global, test: Test) -> Result<bool, AllocError> {
+    let mut enable_nth_of_type = false;
+    let CompiledTest::Attribute(expr) = test.compile(alloc, &mut enable_nth_of_type)? else {
+        return Ok(false);
+    };
+    assert!(rt; !enable_nth_of_type);
+    let attributes = Attributes::new(alloc, &[("foo", Some("bar"))])?;
+    let counter = ChildCounter::new_and_inc();
+    let state = SelectorState {
+        cumulative: &counter,
+        typed: None,
+    };
+    Ok(expr.eval(&state, &attributes.matcher(rt, Namespace::Html)))
+}
+
+#[test]
+fn names_of_attributes(rt: HostRuntime) -> Result<(), Fail> {
+    let alloc = rt.alloc();
+    let equal = comparison(alloc, "FOO", AttrSelectorOperator::Equal, "bar")?;
+    assert!(rt; passes(&rt, alloc, equal)?);
+    for (name, there) in [("FOO", false), ("foo", true)] {
+        let name = String::from_str(alloc, name)?;
+        let exists = Test::Attribute(OnAttributesExpr::AttributeExists(name));
+        assert!(rt; passes(&rt, alloc, exists)? == there);
+    }
+    Ok(())
+}
+
+#[test]
+fn operators(rt: HostRuntime) -> Result<(), Fail> {
+    let alloc = rt.alloc();
+    for (operator, operand) in [
+        (AttrSelectorOperator::Includes, "bar"),
+        (AttrSelectorOperator::Prefix, "ba"),
+        (AttrSelectorOperator::Suffix, "ar"),
+        (AttrSelectorOperator::Substring, "a"),
+    ] {
+        assert!(rt; passes(&rt, alloc, comparison(alloc, "foo", operator, operand)?)?);
+        assert!(rt; !passes(&rt, alloc, comparison(alloc, "foo", operator, "")?)?);
+    }
+    for (operator, operand, holds) in [
+        (AttrSelectorOperator::Equal, "bar", true),
+        (AttrSelectorOperator::Equal, "", false),
+        (AttrSelectorOperator::DashMatch, "bar", true),
+        (AttrSelectorOperator::DashMatch, "ba", false),
+    ] {
+        assert!(rt; passes(&rt, alloc, comparison(alloc, "foo", operator, operand)?)? == holds);
+    }
+    Ok(())
+}
+
+#[test]
+fn flag_of_tests_by_type(rt: HostRuntime) -> Result<(), Fail> {
+    let alloc = rt.alloc();
+    let mut enable_nth_of_type = false;
+    let child = Test::Name(OnTagNameExpr::NthChild(NthChild::new(2, 1)));
+    child.compile(alloc, &mut enable_nth_of_type)?;
+    assert!(rt; !enable_nth_of_type);
+    let of_type = Test::Name(OnTagNameExpr::NthOfType(NthChild::new(2, 1)));
+    let tests = vec![in alloc; of_type]?;
+    let none = Test::NoneOf(vec![in alloc; Predicate { tests }]?);
+    let compiled = none.compile(alloc, &mut enable_nth_of_type)?;
+    assert!(rt; enable_nth_of_type);
+    let CompiledTest::NoneOf(predicates) = compiled else {
+        panic!(rt; "another answer");
+    };
+    assert!(rt; predicates.len() == 1);
+    Test::Name(OnTagNameExpr::ExplicitAny).compile(alloc, &mut enable_nth_of_type)?;
+    assert!(rt; enable_nth_of_type);
+    Ok(())
+}
+
+/// Selectors, the name and the class of an element that is the first child, its value by names, and whether it passes.
+const ROWS: [(&str, &str, Option<&str>, NameValue, bool); 26] = [
+    (":not(div.foo)", "div", None, NameValue::Open, true),
+    (":not(div.foo)", "div", Some("foo"), NameValue::Open, false),
+    (":not(div.foo)", "p", Some("foo"), NameValue::True, true),
+    (":not(:not(a, b))", "a", None, NameValue::True, true),
+    (":not(:not(a, b))", "b", None, NameValue::True, true),
+    (":not(:not(a, b))", "c", None, NameValue::False, false),
+    (":not(.a, p)", "p", None, NameValue::False, false),
+    (":not(.a, p)", "div", Some("b"), NameValue::Open, true),
+    (":not(.a, p)", "div", Some("a"), NameValue::Open, false),
+    ("div:not([a*=\"\"])", "div", None, NameValue::Open, true),
+    ("div:not([a*=\"\"])", "p", None, NameValue::False, false),
+    (":not(*)", "a", None, NameValue::False, false),
+    (":not(|a)", "a", None, NameValue::True, true),
+    (":is(a.x, p)", "p", None, NameValue::True, true),
+    (":is(a.x, p)", "a", Some("x"), NameValue::Open, true),
+    (":is(a.x, p)", "a", Some("y"), NameValue::Open, false),
+    (":is(a.x, p)", "div", Some("x"), NameValue::False, false),
+    (":where(a.x, p)", "p", None, NameValue::True, true),
+    (":where(a.x, p)", "a", Some("x"), NameValue::Open, true),
+    (":not(:is(a, b))", "a", None, NameValue::False, false),
+    (":not(:is(a, b))", "c", None, NameValue::True, true),
+    ("p:nth-child(2)", "p", None, NameValue::False, false),
+    ("p:first-child", "P", None, NameValue::True, true),
+    ("p:first-of-type.x", "p", Some("x"), NameValue::Open, true),
+    (
+        "p:nth-of-type(2n).x",
+        "p",
+        Some("x"),
+        NameValue::False,
+        false,
+    ),
+    ("my-element", "MY-Element", None, NameValue::True, true),
+];
+
+#[test]
+fn values_by_names_and_with_attributes(rt: HostRuntime) -> Result<(), Fail> {
+    let alloc = rt.alloc();
+    let counter = ChildCounter::new_and_inc();
+    let state = SelectorState {
+        cumulative: &counter,
+        typed: Some(&counter),
+    };
+    for (text, name, class, value, passes) in ROWS {
+        let instruction = instruction(&rt, alloc, text)?;
+        let predicate = &instruction.predicate;
+        let name = LocalName::new(name.as_bytes());
+        let written = [("class", class)];
+        let attributes = match class {
+            Some(_) => Attributes::new(alloc, &written)?,
+            None => Attributes::new(alloc, &[])?,
+        };
+        let matcher = attributes.matcher(&rt, Namespace::Html);
+        assert!(rt; predicate.by_names(&state, &name) == value);
+        assert!(rt; predicate.eval(&state, &name, &matcher) == passes);
+    }
+    Ok(())
+}
+
+#[test]
+fn tests_by_hand(rt: HostRuntime) -> Result<(), Fail> {
+    let alloc = rt.alloc();
+    let counter = ChildCounter::new_and_inc();
+    let untyped = SelectorState {
+        cumulative: &counter,
+        typed: None,
+    };
+    let typed = SelectorState {
+        cumulative: &counter,
+        typed: Some(&counter),
+    };
+    let name = LocalName::new(b"p");
+    let attributes = Attributes::new(alloc, &[])?;
+    let matcher = attributes.matcher(&rt, Namespace::Html);
+    let first_of_type = CompiledTest::Name(CompiledLocalNameExpr {
+        test: LocalNameExprTest::NthOfType(NthChild::new(0, 1)),
+    });
+    let predicate = CompiledPredicate::new(vec![in alloc; first_of_type]?);
+    assert!(rt; predicate.tests().len() == 1);
+    assert!(rt; predicate.by_names(&typed, &name) == NameValue::True);
+    assert!(rt; predicate.by_names(&untyped, &name) == NameValue::False);
+    assert!(rt; !predicate.eval(&untyped, &name, &matcher));
+    let none = CompiledTest::NoneOf(vec![in alloc; predicate]?);
+    let never = CompiledTest::Attribute(CompiledAttributeExpr {
+        test: AttributeExprTest::Never,
+    });
+    let predicate = CompiledPredicate::new(vec![in alloc; none, never]?);
+    assert!(rt; predicate.by_names(&untyped, &name) == NameValue::Open);
+    assert!(rt; predicate.by_names(&typed, &name) == NameValue::False);
+    assert!(rt; !predicate.eval(&untyped, &name, &matcher));
+    assert!(rt;
+        CompiledPredicate::new(Vec::new(alloc)).by_names(&untyped, &name) == NameValue::True
+    );
+    Ok(())
+}
+
+/// Selectors, an element's attributes, and whether it passes.
+const ATTRIBUTE_ROWS: [(&str, &[(&str, Option<&str>)], bool); 12] = [
+    ("[lang|=\"\"]", &[("lang", Some(""))], true),
+    ("[lang|=\"\"]", &[("lang", Some("-x"))], true),
+    ("[lang|=\"\"]", &[("lang", Some("x"))], false),
+    ("[id=a]", &[("id", Some("a")), ("id", Some("b"))], true),
+    ("[id=b]", &[("id", Some("a")), ("id", Some("b"))], false),
+    ("#b", &[("id", Some("a")), ("id", Some("b"))], false),
+    ("[foo]", &[("FOO", None)], true),
+    ("[foo]", &[("fo", None)], false),
+    (".a.b", &[("Class", Some("b a"))], true),
+    (".a.b", &[("class", Some("b c"))], false),
+    (":not(.a)", &[("class", Some("b c"))], true),
+    (":not(#a, .c)", &[("class", Some("b c"))], false),
+];
+
+#[test]
+fn tests_of_attributes(rt: HostRuntime) -> Result<(), Fail> {
+    let alloc = rt.alloc();
+    let counter = ChildCounter::new_and_inc();
+    let state = SelectorState {
+        cumulative: &counter,
+        typed: None,
+    };
+    let name = LocalName::new(b"p");
+    for (text, written, passes) in ATTRIBUTE_ROWS {
+        let instruction = instruction(&rt, alloc, text)?;
+        let attributes = Attributes::new(alloc, written)?;
+        let matcher = attributes.matcher(&rt, Namespace::Html);
+        assert!(rt; instruction.predicate.eval(&state, &name, &matcher) == passes);
+        let mut tries = Tries::new();
+        let branch = instruction.exec(&state, &name, &matcher, &mut tries);
+        assert!(rt; branch.is_some() == passes);
+    }
+    Ok(())
+}

@@ -1,0 +1,202 @@
+//! The trees that selectors make.
+
+use lol_vm::{
+    Ast, AstNode, AttrSelectorOperator, AttributeComparisonExpr, Condition, NthChild,
+    OnAttributesExpr, OnTagNameExpr, ParsedCaseSensitivity, Predicate, Selector, SimpleSelector,
+    Test,
+};
+use std::alloc::{AllocError, Global};
+use std::process::Abort;
+use std::test::Fail;
+
+/// Selectors under ids, whose steps are of both kinds.
+pub(crate) const SELECTORS_OF_BOTH_STEPS: [(&str, u32); 6] = [
+    (".c1 > .c2 .c3 #foo", 0),
+    (".c1 > .c2 #bar", 1),
+    (".c1 > #qux", 2),
+    (".c1 #baz", 3),
+    (".c1 [foo] [bar]", 4),
+    ("#quz", 5),
+];
+
+/// The tree of texts, each under an id.
+pub(crate) fn tree(alloc: Global, texts: &[(&str, u32)]) -> Result<Ast, Fail> {
+    let mut ast = Ast::new(alloc);
+    for (text, match_id) in texts {
+        let selector = Selector::from_str(alloc, text)?;
+        ast.add_selector(&selector, *match_id)?;
+    }
+    Ok(ast)
+}
+
+fn name(alloc: Global, name: &str) -> Result<Test, AllocError> {
+    Ok(Test::Name(OnTagNameExpr::LocalName(String::from_str(alloc, name)?)))
+}
+
+/// The test that no element passes this one.
+fn none_of(alloc: Global, test: Test) -> Result<Test, AllocError> {
+    let tests = vec![in alloc; test]?;
+    Ok(Test::NoneOf(vec![in alloc; Predicate { tests }]?))
+}
+
+fn node<'n>(rt: &impl Abort, nodes: &'n [AstNode], place: usize) -> &'n AstNode {
+    nodes.get(place).expect(rt, "a node")
+}
+
+fn has_ids(node: &AstNode, ids: &[u32]) -> bool {
+    node.match_ids.iter().eq(ids.iter().copied())
+}
+
+/// The tests of the one node that a text makes.
+fn has_tests(rt: &impl Abort, alloc: Global, text: &str, tests: &[Test]) -> Result<bool, Fail> {
+    let ast = tree(alloc, &[(text, 0)])?;
+    let node = node(rt, ast.root(), 0);
+    Ok(ast.cumulative_node_count() == 1 && node.predicate.tests.as_slice() == tests)
+}
+
+#[test]
+fn functions_in_functions(rt: HostRuntime) -> Result<(), Fail> {
+    let alloc = rt.alloc();
+    let foo = Test::Attribute(OnAttributesExpr::Class(String::from_str(alloc, "foo")?));
+    let tests = [none_of(alloc, none_of(alloc, foo)?)?, name(alloc, "div")?];
+    assert!(rt; has_tests(&rt, alloc, "div:not(:not(.foo))", &tests)?);
+    Ok(())
+}
+
+#[test]
+fn parts_stand_from_right_to_left(rt: HostRuntime) -> Result<(), Fail> {
+    let alloc = rt.alloc();
+    let text = |text: &str| String::from_str(alloc, text);
+    let baz = Test::Attribute(OnAttributesExpr::AttributeExists(text("baz")?));
+    let tests = [
+        none_of(alloc, baz)?,
+        Test::Attribute(OnAttributesExpr::Id(text("bar")?)),
+        Test::Attribute(OnAttributesExpr::Class(text("foo")?)),
+        name(alloc, "div")?,
+    ];
+    assert!(rt; has_tests(&rt, alloc, "div.foo#bar:not([baz])", &tests)?);
+    Ok(())
+}
+
+#[test]
+fn equal_beginnings_are_shared(rt: HostRuntime) -> Result<(), Fail> {
+    let ast = tree(
+        rt.alloc(),
+        &[
+            ("#foo > div, #foo > span", 0),
+            ("#foo > .c1, #foo > .c2", 1),
+        ],
+    )?;
+    assert!(rt; ast.cumulative_node_count() == 5);
+    assert!(rt; ast.root().len() == 1);
+    let foo = node(&rt, ast.root(), 0);
+    assert!(rt; has_ids(foo, &[]));
+    assert!(rt; foo.descendants.is_empty());
+    for (place, id) in [(0, 0), (1, 0), (2, 1), (3, 1)] {
+        assert!(rt; has_ids(node(&rt, &foo.children, place), &[id]));
+    }
+    assert!(rt; !ast.runs_now());
+    Ok(())
+}
+
+#[test]
+fn steps_of_both_kinds(rt: HostRuntime) -> Result<(), Fail> {
+    let ast = tree(rt.alloc(), &SELECTORS_OF_BOTH_STEPS)?;
+    assert!(rt; ast.cumulative_node_count() == 10);
+    let c1 = node(&rt, ast.root(), 0);
+    let c2 = node(&rt, &c1.children, 0);
+    let c3 = node(&rt, &c2.descendants, 0);
+    let has_foo = node(&rt, &c1.descendants, 1);
+    for without_ids in [c1, c2, c3, has_foo] {
+        assert!(rt; has_ids(without_ids, &[]));
+    }
+    assert!(rt; has_ids(node(&rt, &c3.descendants, 0), &[0]));
+    assert!(rt; has_ids(node(&rt, &c2.descendants, 1), &[1]));
+    assert!(rt; has_ids(node(&rt, &c1.children, 1), &[2]));
+    assert!(rt; has_ids(node(&rt, &c1.descendants, 0), &[3]));
+    assert!(rt; has_ids(node(&rt, &has_foo.descendants, 0), &[4]));
+    assert!(rt; has_ids(node(&rt, ast.root(), 1), &[5]));
+    Ok(())
+}
+
+#[test]
+fn tests_that_differ_are_not_shared(rt: HostRuntime) -> Result<(), Fail> {
+    let alloc = rt.alloc();
+    let names = [("DIV", 0), ("div", 1), ("div", 1), ("div", 40)];
+    let mut ast = tree(alloc, &names)?;
+    assert!(rt; ast.cumulative_node_count() == 2);
+    assert!(rt; has_ids(node(&rt, ast.root(), 1), &[1, 40]));
+    assert!(rt; ast.runs_now());
+    for text in [".a.b", ".b.a"] {
+        ast.add_selector(&Selector::from_str(alloc, text)?, 0)?;
+    }
+    assert!(rt; ast.cumulative_node_count() == 4);
+    Ok(())
+}
+
+#[test]
+fn long_selectors(rt: HostRuntime) -> Result<(), Fail> {
+    let alloc = rt.alloc();
+    let mut text = String::from_str(alloc, "a")?;
+    for _step in 1..1024u32 {
+        text.push_str(" a")?;
+    }
+    assert!(rt; tree(alloc, &[(text.as_str(), 7)])?.cumulative_node_count() == 1024);
+    Ok(())
+}
+
+/// Ids that need words more, and one that doesn't.
+#[test]
+fn items_take_their_id(rt: HostRuntime) -> Result<(), Fail> {
+    let texts = [("a, b, a", 100), ("a, b, a", 3), ("a, b, a", 1_000)];
+    let ast = tree(rt.alloc(), &texts)?;
+    assert!(rt; ast.cumulative_node_count() == 2);
+    assert!(rt; has_ids(node(&rt, ast.root(), 0), &[3, 100, 1_000]));
+    assert!(rt; has_ids(node(&rt, ast.root(), 1), &[3, 100, 1_000]));
+    Ok(())
+}
+
+#[test]
+fn conditions(rt: HostRuntime) -> Result<(), Fail> {
+    let alloc = rt.alloc();
+    let nth = SimpleSelector::Nth {
+        of_type: true,
+        nth: NthChild::new(2, 1),
+    };
+    let of_type = Condition::OnTagName(OnTagNameExpr::NthOfType(NthChild::new(2, 1)));
+    assert!(rt; Condition::from_simple(alloc, &nth)? == Some(of_type));
+    Ok(())
+}
+
+#[test]
+fn lists_have_no_condition(rt: HostRuntime) -> Result<(), Fail> {
+    let alloc = rt.alloc();
+    for text in [":not(div)", ":is(div)", ":where(div)"] {
+        let selector = Selector::from_str(alloc, text)?;
+        for item in &selector.list().items {
+            assert!(rt; item.first.parts.len() == 1);
+            for part in &item.first.parts {
+                assert!(rt; Condition::from_simple(alloc, part)?.is_none());
+            }
+        }
+    }
+    Ok(())
+}
+
+/// `[foo="bar"]`
+#[test]
+fn comparisons_are_shown(rt: HostRuntime) -> Result<(), Fail> {
+    let alloc = rt.alloc();
+    let expr = AttributeComparisonExpr::new(
+        String::from_str(alloc, "foo")?,
+        String::from_str(alloc, "bar")?,
+        ParsedCaseSensitivity::CaseSensitive,
+        AttrSelectorOperator::Equal,
+    );
+    let text = format!(in alloc; "{expr:?}")?;
+    assert!(rt;
+        text.as_str()
+            == "AttributeExpr { name: \"foo\", value: \"bar\", case_sensitivity: CaseSensitive, operator: \"AttrSelectorOperator::Equal\" }"
+    );
+    Ok(())
+}
