@@ -12,18 +12,19 @@ use Rattle.lol_base.specs.BoolLaws.{and-true, and-right_false, or_parts}
 use Rattle.lol_base.specs.LocalNames.{name_code}
 use Rattle.lol_base.specs.CodeLaws.{codes_decide}
 use Rattle.lol_program.specs.Tests.{Element, AttributeTest, attribute_holds, has_value}
-use Rattle.lol_program.specs.Compounds.{value_of_bool, both}
+use Rattle.lol_program.specs.Compounds.{value_of_bool, both, either}
 use Rattle.lol_program.specs.Attributes.{TagAttributes, value_in}
-use Rattle.lol_program.specs.Compiled.{test_value, test_holds, all_values, attribute_expr_holds}
+use Rattle.lol_program.specs.Compiled.{Sight, test_value, test_holds, all_values, some_values, predicate_value, attribute_expr_holds}
 use Rattle.lol_program.specs.Marks.{mark_of, is_marked, NoneHolds}
 use Rattle.lol_program.specs.PredicateMarks.{AreBoth, shape_value, is_code, head_holds, AreNeeded, AreMarksOf}
 use Rattle.lol_program.specs.declared.predicate_marks.PredicateMarks.{PredicateMarks}
-use Rattle.lol_program.specs.declared.predicate_marks.Shape.TheVariants.{Mixed}
+use Rattle.lol_program.specs.declared.predicate_marks.Shape.TheVariants.{Anywhere, Mixed}
 use Rattle.lol_program.specs.declared.compiled_predicate.CompiledTest.{CompiledTest}
+use Rattle.lol_program.specs.declared.compiled_predicate.CompiledPredicate.{CompiledPredicate}
 use Rattle.lol_program.specs.declared.attribute_matcher.AttrExprOperands.{AttrExprOperands}
 use Rattle.lol_program.specs.declared.compiled_expr.AttributeExprTest.{AttributeExprTest}
 use Rattle.lol_program.specs.declared.compiled_expr.AttributeExprTest.TheVariants.{Equal, Includes, DashMatch, Prefix, Suffix, Substring}
-use Rattle.lol_program.proofs.CompiledValues.{both_false}
+use Rattle.lol_program.proofs.CompiledValues.{both_false, either_false}
 use Rattle.lol_program.specs.declared.marks.Marks.{Marks}
 use Rattle.lol_program.specs.declared.name_value.NameValue.{NameValue}
 use Rattle.lol_program.specs.declared.name_value.NameValue.TheVariants.{True, False, Open}
@@ -170,3 +171,42 @@ pub marks_more : (before next : PredicateMarks) (tests : List CompiledTest) (i :
     → (AreMarksOf before (take i tests) → AreMarksOf next (take i tests ++ x ∷ [])) → AreMarksOf next (take (i + 1) tests)
 marks_more before next tests i x within at of joins =
     subst (AreMarksOf next) (sym (take_more tests i x within ∙ ap (λ y. take i tests ++ y ∷ []) (sym at))) (joins of)
+
+-- 5. One compound more
+
+some_joined : {A : Type 0} (value : A → NameValue) (xs : List A) (y : A) → some_values value (xs ++ y ∷ []) ≡ either (some_values value xs) (value y)
+some_joined value [] y = either_false (value y)
+some_joined value (x ∷ xs) y = ap (either (value x)) (some_joined value xs y) ∙ joined (value x) (some_values value xs) (value y)
+  where
+    joined : (a b c : NameValue) → either a (either b c) ≡ either (either a b) c
+    joined True b c = refl
+    joined False b c = refl
+    joined Open True c = refl
+    joined Open False c = refl
+    joined Open Open True = refl
+    joined Open Open False = refl
+    joined Open Open Open = refl
+
+pub some_more : (s : Sight) (predicates : List CompiledPredicate) (i : ℕ) (x : CompiledPredicate) (old other next : NameValue) → i < length predicates → x ≡ get_or predicates i x
+    → some_values (λ p. predicate_value p s) (take i predicates) ≡ old → predicate_value x s ≡ other → next ≡ either old other → some_values (λ p. predicate_value p s) (take (i + 1) predicates) ≡ next
+some_more s predicates i x old other next within at before here is =
+    let f : CompiledPredicate → NameValue = λ p. predicate_value p s in
+    ap (some_values f) (take_more predicates i x within ∙ ap (λ y. take i predicates ++ y ∷ []) (sym at)) ∙ some_joined f (take i predicates) x ∙ (λ j. either (before j) (here j)) ∙ sym is
+
+-- 6. Tests of one value
+
+-- a test that has this value at every element
+pub marks_of_value : (marks : PredicateMarks) (test : CompiledTest) (value : NameValue) → marks.head ≡ None → marks.shape ≡ Anywhere value → ((bit : ℕ) → is_marked marks.needs bit ≡ false) → ((s : Sight) → test_value test s ≡ value)
+    → AreMarksOf marks (test ∷ [])
+marks_of_value marks test value head shape none is = record {
+  value = λ s v h.
+      let said : Some value ≡ Some v = sym (λ i. if head_holds (head i) s.name then shape_value (shape i) s.position s.typed_position else Some False) ∙ h in
+      let e : value ≡ v = cc in
+      ap (λ w. both w True) (is s) ∙ both-true value ∙ e;
+  needs = λ bit marked s seen unmet. absurd (let clash : false ≡ true = sym (none bit) ∙ marked in cc);
+}
+  where
+    both-true : (v : NameValue) → both v True ≡ v
+    both-true True = refl
+    both-true False = refl
+    both-true Open = refl

@@ -28,7 +28,7 @@ pub enum CompiledTest {
 #[derive(Drop)]
 #[cycle(compiled_tests)]
 pub struct CompiledPredicate {
-    tests: Vec<CompiledTest>,
+    pub(crate) tests: Vec<CompiledTest>,
 }
 
 impl CompiledPredicate {

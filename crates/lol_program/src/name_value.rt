@@ -1,7 +1,7 @@
 //! What is known of a compound before attributes are.
 
 ghost use Rattle.std.specs.Prelude.{◌≡◌};
-ghost use Rattle.lol_program.specs.Compounds.{value_of_bool, both, opposite};
+ghost use Rattle.lol_program.specs.Compounds.{value_of_bool, both, either, opposite};
 ghost use Rattle.lol_program.specs.PredicateMarks.{value_if};
 
 /// What an element's name and place alone say of whether it passes a test or a compound.
@@ -38,6 +38,20 @@ impl NameValue {
             NameValue::Open => match other {
                 NameValue::False => NameValue::False,
                 NameValue::True | NameValue::Open => NameValue::Open,
+            },
+        }
+    }
+
+    /// The value of one of two tests.
+    pub(crate) fn or(self, other: NameValue) -> Self
+        ensures { result ≡ either self other }
+    {
+        match self {
+            NameValue::True => NameValue::True,
+            NameValue::False => other,
+            NameValue::Open => match other {
+                NameValue::True => NameValue::True,
+                NameValue::False | NameValue::Open => NameValue::Open,
             },
         }
     }

@@ -2,14 +2,14 @@
 
 ghost use Rattle.std.specs.Prelude.{◌≡◌, ◌∷◌, [], ◌++◌, ℕ, Option, Some, None, List, false};
 ghost use Rattle.std.specs.Option.{option_copied};
-ghost use Rattle.lol_program.specs.Compounds.{value_of_bool, both};
-ghost use Rattle.lol_program.specs.Compiled.{Sight, sight, name_expr_holds, attribute_expr_holds};
+ghost use Rattle.lol_program.specs.Compounds.{value_of_bool};
+ghost use Rattle.lol_program.specs.Compiled.{Sight, sight, name_expr_holds, attribute_expr_holds, predicate_value, some_values};
 ghost use Rattle.lol_program.specs.Marks.{is_marked};
 ghost use Rattle.lol_program.specs.PredicateMarks.{AreBoth, shape_value, head_holds, marks_value, AreNeeded, AreMarksOf};
 ghost use Rattle.lol_program.specs.declared.compiled_predicate.CompiledTest.{CompiledTest};
 
 use crate::compiled_expr::{AttributeExprTest, LocalNameExprTest};
-use crate::compiled_predicate::CompiledTest;
+use crate::compiled_predicate::{CompiledPredicate, CompiledTest};
 use crate::marks::Marks;
 use crate::name_value::NameValue;
 use crate::selector_state::SelectorState;
@@ -72,6 +72,7 @@ pub(crate) struct PredicateMarks {
 
 impl PredicateMarks {
     /// The marks of some tests.
+    #[cycle(marking)]
     pub(crate) fn of(tests: &[CompiledTest]) -> Self
         ensures { AreMarksOf result tests.now }
     {
@@ -119,6 +120,7 @@ impl PredicateMarks {
         }
     }
 
+    #[cycle(marking)]
     fn of_test(test: &CompiledTest) -> Self
         ensures { AreMarksOf result (test.now ∷ []) }
     {
@@ -129,9 +131,27 @@ impl PredicateMarks {
                 shape: Shape::Anywhere(NameValue::Open),
                 needs: needs_of(&expr.test),
             },
-            CompiledTest::NoneOf(_) | CompiledTest::SomeOf(_) => {
-                PredicateMarks::of_shape(Shape::Mixed)
-            }
+            CompiledTest::NoneOf(predicates) => match value_of_some(predicates) {
+                Some(value) => PredicateMarks::of_shape(Shape::Anywhere(value.opposite())),
+                None => PredicateMarks::of_shape(Shape::Mixed),
+            },
+            CompiledTest::SomeOf(predicates) => match value_of_some(predicates) {
+                Some(value) => PredicateMarks::of_shape(Shape::Anywhere(value)),
+                None => PredicateMarks::of_shape(Shape::Mixed),
+            },
+        }
+    }
+
+    /// What they say of every element, if that is one value.
+    fn value_of_all(&self) -> Option<NameValue>
+        ensures { (v : NameValue) → result ≡ Some v → (s : Sight) → marks_value self.now s ≡ Some v }
+    {
+        if self.head.is_some() {
+            return None;
+        }
+        match &self.shape {
+            Shape::Anywhere(value) => Some(*value),
+            Shape::NthChild(..) | Shape::NthOfType(..) | Shape::Mixed => None,
         }
     }
 
@@ -191,6 +211,21 @@ impl PredicateMarks {
             }
         }
     }
+}
+
+/// What names and places say of whether elements pass some of these, if that is one value.
+#[cycle(marking)]
+fn value_of_some(predicates: &[CompiledPredicate]) -> Option<NameValue>
+    ensures { (v : NameValue) → result ≡ Some v → (s : Sight) → some_values (λ predicate. predicate_value predicate s) predicates.now ≡ v }
+{
+    let mut value = NameValue::False;
+    for predicate in predicates {
+        match PredicateMarks::of(&predicate.tests).value_of_all() {
+            Some(other) => value = value.or(other),
+            None => return None,
+        }
+    }
+    Some(value)
 }
 
 /// The marks of what has to be there for a test of attributes to pass.
