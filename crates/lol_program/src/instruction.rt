@@ -41,7 +41,7 @@ pub struct Instruction {
 }
 
 impl Instruction {
-    /// An instruction with this branch and these tests. It takes no memory.
+    /// An instruction with this branch and these tests. It takes no memory, and a step for each test, at any depth. (Not in lol_html.)
     pub fn new(associated_branch: ExecutionBranch, predicate: CompiledPredicate) -> Self
         ensures branch { result.associated_branch ≡ associated_branch }
         ensures predicate { result.predicate ≡ predicate }
