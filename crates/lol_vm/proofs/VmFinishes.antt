@@ -27,13 +27,14 @@ use Rattle.lol_vm.specs.Events.{Event, Start, has_content, has_content_in}
 use Rattle.lol_vm.specs.Gathering.{Gathers}
 use Rattle.lol_vm.specs.InstructionRuns.{gathered_with_attributes, AreRunnable, IsInsideOf, all_at, no_range, open_among, ranges_in}
 use Rattle.lol_vm.specs.InstructionLaws.{AreRangesOf}
-use Rattle.lol_vm.specs.Machines.{AreItems}
-use Rattle.lol_vm.specs.PlaceRuns.{no_context, context_of, is_open_at, run}
+use Rattle.lol_vm.specs.MachineLaws.{GivesReport}
+use Rattle.lol_vm.specs.Machines.{AreItems, HoldOnce, LeftMatches}
+use Rattle.lol_vm.specs.PlaceRuns.{Context, no_context, context_of, is_open_at, run}
 use Rattle.lol_vm.specs.StackMachines.{IsItemOf}
 use Rattle.lol_vm.specs.Stacks.{active_in}
 use Rattle.lol_vm.specs.Standing.{Machine, StandsFor, ranges_of_machine}
 use Rattle.lol_vm.specs.TagRuns.{AreExecuted, IsPointIn, jumps_in, ranges_left, ranges_to_run_in, sight_in, stop_at, tag_ranges, tried_at, IsStopOf}
-use Rattle.lol_vm.specs.Vms.{Vm, Shows, IsAnswered, IsEntered, IsPending, GoesOnAt, content_at, content_of, info_of, data_in}
+use Rattle.lol_vm.specs.Vms.{Vm, Shows, IsAnswered, IsReported, IsEntered, IsPending, GoesOnAt, content_at, content_of, info_of, data_in}
 use Rattle.lol_vm.specs.declared.error.AuxStartTagInfoRequest.{AuxStartTagInfoRequest}
 use Rattle.lol_vm.specs.declared.execution_ctx.ExecutionCtx.{ExecutionCtx}
 use Rattle.lol_vm.specs.declared.instruction_runs.Stop.{Stop}
@@ -178,68 +179,89 @@ module _ {E : Type 0} (ids : E → Ids) (with_ids : E → Ids → E) (lends : (w
     abbrev Executed : Type 0
     Executed = AreExecuted ids with_ids (sight_in vm.stack request.ctx.stack_item.local_name) all left_code ctx new_ctx vm.tries after (tag_attributes tag) (tried_at stop)
 
-    pub answered : Executed → {F : Type 0} (step : F → MatchInfo → Unit {0} → F → Type 0) (f g : F) (next : Vm E)
-        → IsCalledAtEach step f (reports new_ctx.with_content (ascending (ids new_ctx.stack_item.element_data))) g
-        → IsEntered new_ctx.with_content new_ctx.stack_item (record vm { tries = after }) next
-        → IsAnswered ids step s esi events tag true vm next f g
-    answered executed step f g next called entered =
-        let same : StaysThe ctx new_ctx = subst (StaysThe ctx) (sym executed.gathered) (attributes_stay ids with_ids (sight_in vm.stack request.ctx.stack_item.local_name) (tag_attributes tag) ctx (all_at all left_code)) in
-        let here : new_ctx.with_content ≡ has_content esi tag = same.content ∙ content_now self_closing is_closing in
-        let x = context_of m.program true e (all_places rs) in
-        let is_held = held s pending.paths m d.open_elements pending.closed pending.standing.program items pending.standing.active vm.stack vm.program pending.shown.stack pending.shown.program in
-        let finishes : run m.program true e pending.context pending.left ≡ x = requests_finish m.program true e rs pending.context pending.left pending.is_request tag.attributes tag.self_closing tag.finish in
-        let gathers = (instructions_gather ids with_ids lends m.program m.program.by_type e all left_code ctx (content_of ctx.with_content pending.context) are_left (gathered_before self_closing)).attributes in
-        let new_is = executed.gathered ∙ ap (λ z. gathered_with z) pending.seen in
-        let ran : run m.program ctx.with_content e (content_of ctx.with_content pending.context) (all_places (map range_shown left_code)) ≡ content_of (has_content esi tag) x =
-        ap (run m.program ctx.with_content e (content_of ctx.with_content pending.context)) (sym pending.places_left)
-        ∙ (run_content m.program ctx.with_content e pending.context pending.left ∙ (λ i. content_of (content_now self_closing is_closing i) (finishes i))) in
-        let all_gathered : Gathers ids new_ctx.stack_item (content_of (has_content esi tag) x) =
-        subst (λ (c : ExecutionCtx E). Gathers ids c.stack_item (content_of (has_content esi tag) x)) (sym new_is)
-        (subst (Gathers ids _) ran gathers) in
-        let given = runs_give_reports s pending.paths m.program rs e d.open_elements pending.closed pending.standing.program is_held in
-        let tries = places_count_tries s pending.paths m.program rs e d.open_elements pending.closed pending.standing.program is_held in
-        let names : names_counted after ≡ name_tries s.nodes d.open_elements = omega (arith, executed.names, pending.names, left_count, all_count) in
-        let opens : open_among (sight_in vm.stack request.ctx.stack_item.local_name) (all_at all left_code) ≡ attribute_tries s.nodes e d.open_elements =
-        ap (λ z. open_among z (all_at all left_code)) pending.seen
-        ∙ ((instructions_are_as_open m.program m.program.by_type e all left_code are_left).opens
-        ∙ (ap (count_by (is_open_at m.program e)) (sym pending.places_left)
-        ∙ (left_counted (is_open_at m.program e) pending.is_request.before pending.left (λ place a. pending.is_request.closed place (contains_from_among pending.is_request.before place a))
-        ∙ (ap (count_by (is_open_at m.program e)) (sym pending.is_request.parts) ∙ tries.attributes)))) in
-        let attributes : attributes_counted after ≡ attribute_tries s.nodes e d.open_elements = executed.attributes ∙ (ap (λ n. n + open_among (sight_in vm.stack request.ctx.stack_item.local_name) (all_at all left_code)) pending.attributes ∙ (zero_more _ ∙ opens)) in
-        let matched : ascending (ids new_ctx.stack_item.element_data) ≡ matching_ids s.pairs e d.open_elements =
-        gathered_ids_ascend ids new_ctx.stack_item (content_of (has_content esi tag) x) all_gathered ∙ (ap ascending_once (content_ids (has_content esi tag) x) ∙ in_order x.ids s e d.open_elements given.ids) in
-        let told : answer s esi d (Start tag) ≡ Started (report s esi e d.open_elements) true (names_counted after) (attributes_counted after) =
-        (λ i. if (pending.asks i && not (finish i)) then Dropped else Started (report s esi e d.open_elements) (pending.asks i) (name_tries s.nodes d.open_elements) (attribute_tries s.nodes e d.open_elements))
-        ∙ (λ i. Started (report s esi e d.open_elements) true (sym names i) (sym attributes i)) in
-        let reported = (λ i. reports (here i) (matched i)) ∙ sym (map-map info_of (λ id. record { id = id; with_content = has_content esi tag }) (matching_ids s.pairs e d.open_elements)) in
-        let item : IsItemOf new_ctx.stack_item tag.name (content_of (has_content esi tag) x) = record {
-          named = same.name ∙ pending.named.0;
-          jumps = all_gathered.jumps;
-          hereditary_jumps = all_gathered.hereditary_jumps;
-          once = once_of (has_content esi tag) x given.hereditary_jumps.once;
-          children = same.children ∙ pending.childless;
-        } in
-        let shown_now : Shows (record vm { tries = after }) m = record { stack = pending.shown.stack; sound = pending.shown.sound; program = pending.shown.program; switch = pending.shown.switch; refused = pending.shown.refused } in
-        let entering = entered_stands vm vm.stack after m shown_now tag.name x new_ctx.stack_item next (has_content esi tag) item
-        (subst (λ b. IsEntered b new_ctx.stack_item (record vm { tries = after }) next) here entered) in
-        record {
-          matched = report s esi e d.open_elements;
-          answered = told ∙ (λ i. Started (report s esi e d.open_elements) true (names_counted (sym entering.tries i)) (attributes_counted (sym entering.tries i)));
-          reported = subst (λ infos. IsCalledAtEach step f infos g) reported called;
-          stands = record {
-            paths = pending.paths;
-            machine = opened_if (has_content esi tag) m tag.name x;
-            closed = pending.closed;
-            shown = entering.shown;
-            standing = subst (λ c. StandsFor s esi pending.paths (opened_if (has_content esi tag) m tag.name c) (events ++ Start tag ∷ [])) finishes
-                (finishing_is_kept s esi pending.paths m events tag pending.context pending.left pending.closed finish pending.asks pending.standing pending.is_request);
-          };
-          opened = opened_as ids (has_content esi tag) (report s esi e d.open_elements) new_ctx.stack_item (matched ∙ sym (map-map (λ (r : Match). r.id) (λ id. record { id = id; with_content = has_content esi tag }) (matching_ids s.pairs e d.open_elements) ∙ map-id (matching_ids s.pairs e d.open_elements)))
-              (data_in vm) (data_in next) (data_in vm) refl entering.has;
-        }
-      where
-        zero_more : (n : ℕ) → 0 + n ≡ n
-        zero_more n = omega arith
+    module _ (executed : Executed) where
+      same : StaysThe ctx new_ctx
+      same = subst (StaysThe ctx) (sym executed.gathered) (attributes_stay ids with_ids (sight_in vm.stack request.ctx.stack_item.local_name) (tag_attributes tag) ctx (all_at all left_code))
 
-        gathered_with : Sight → ExecutionCtx E
-        gathered_with z = gathered_with_attributes ids with_ids z (tag_attributes tag) ctx (all_at all left_code)
+      pub has_content_still : new_ctx.with_content ≡ has_content esi tag
+      has_content_still = same.content ∙ content_now self_closing is_closing
+
+      abbrev x : Context
+      x = context_of m.program true e (all_places rs)
+
+      is_held : HoldOnce pending.paths rs (LeftMatches d.open_elements)
+      is_held = held s pending.paths m d.open_elements pending.closed pending.standing.program items pending.standing.active vm.stack vm.program pending.shown.stack pending.shown.program
+
+      given : GivesReport s pending.paths m.program x e d.open_elements
+      given = runs_give_reports s pending.paths m.program rs e d.open_elements pending.closed pending.standing.program is_held
+
+      finishes : run m.program true e pending.context pending.left ≡ x
+      finishes = requests_finish m.program true e rs pending.context pending.left pending.is_request tag.attributes tag.self_closing tag.finish
+
+      all_gathered : Gathers ids new_ctx.stack_item (content_of (has_content esi tag) x)
+      all_gathered =
+          let gathers = (instructions_gather ids with_ids lends m.program m.program.by_type e all left_code ctx (content_of ctx.with_content pending.context) are_left (gathered_before self_closing)).attributes in
+          let new_is = executed.gathered ∙ ap (λ z. gathered_with_attributes ids with_ids z (tag_attributes tag) ctx (all_at all left_code)) pending.seen in
+          let ran : run m.program ctx.with_content e (content_of ctx.with_content pending.context) (all_places (map range_shown left_code)) ≡ content_of (has_content esi tag) x =
+          ap (run m.program ctx.with_content e (content_of ctx.with_content pending.context)) (sym pending.places_left)
+          ∙ (run_content m.program ctx.with_content e pending.context pending.left ∙ (λ i. content_of (content_now self_closing is_closing i) (finishes i))) in
+          subst (λ (c : ExecutionCtx E). Gathers ids c.stack_item (content_of (has_content esi tag) x)) (sym new_is) (subst (Gathers ids _) ran gathers)
+
+      is_matched : ascending (ids new_ctx.stack_item.element_data) ≡ matching_ids s.pairs e d.open_elements
+      is_matched = gathered_ids_ascend ids new_ctx.stack_item (content_of (has_content esi tag) x) all_gathered ∙ (ap ascending_once (content_ids (has_content esi tag) x) ∙ in_order x.ids s e d.open_elements given.ids)
+
+      pub has_reported : {F : Type 0} (step : F → MatchInfo → Unit {0} → F → Type 0) (f g : F) → IsCalledAtEach step f (reports new_ctx.with_content (ascending (ids new_ctx.stack_item.element_data))) g
+          → IsReported step s esi events tag true after f g
+      has_reported step f g called =
+          let tries = places_count_tries s pending.paths m.program rs e d.open_elements pending.closed pending.standing.program is_held in
+          let opens : open_among (sight_in vm.stack request.ctx.stack_item.local_name) (all_at all left_code) ≡ attribute_tries s.nodes e d.open_elements =
+          ap (λ z. open_among z (all_at all left_code)) pending.seen
+          ∙ ((instructions_are_as_open m.program m.program.by_type e all left_code are_left).opens
+          ∙ (ap (count_by (is_open_at m.program e)) (sym pending.places_left)
+          ∙ (left_counted (is_open_at m.program e) pending.is_request.before pending.left (λ place a. pending.is_request.closed place (contains_from_among pending.is_request.before place a))
+          ∙ (ap (count_by (is_open_at m.program e)) (sym pending.is_request.parts) ∙ tries.attributes)))) in
+          record {
+            asks = pending.asks;
+            called = subst (λ infos. IsCalledAtEach step f infos g)
+                ((λ i. reports (has_content_still i) (is_matched i)) ∙ sym (map-map info_of (λ id. record { id = id; with_content = has_content esi tag }) (matching_ids s.pairs e d.open_elements))) called;
+            names = omega (arith, executed.names, pending.names, left_count, all_count);
+            attributes = executed.attributes ∙ (ap (λ n. n + open_among (sight_in vm.stack request.ctx.stack_item.local_name) (all_at all left_code)) pending.attributes ∙ (zero_more _ ∙ opens));
+          }
+        where
+          zero_more : (n : ℕ) → 0 + n ≡ n
+          zero_more n = omega arith
+
+      pub answered : {F : Type 0} (step : F → MatchInfo → Unit {0} → F → Type 0) (f g : F) (next : Vm E)
+          → IsCalledAtEach step f (reports new_ctx.with_content (ascending (ids new_ctx.stack_item.element_data))) g
+          → IsEntered new_ctx.with_content new_ctx.stack_item (record vm { tries = after }) next
+          → IsAnswered ids step s esi events tag true vm next f g
+      answered step f g next called entered =
+          let told_all = has_reported step f g called in
+          let told : answer s esi d (Start tag) ≡ Started (report s esi e d.open_elements) true (names_counted after) (attributes_counted after) =
+          (λ i. if (pending.asks i && not (finish i)) then Dropped else Started (report s esi e d.open_elements) (pending.asks i) (name_tries s.nodes d.open_elements) (attribute_tries s.nodes e d.open_elements))
+          ∙ (λ i. Started (report s esi e d.open_elements) true (sym told_all.names i) (sym told_all.attributes i)) in
+          let item : IsItemOf new_ctx.stack_item tag.name (content_of (has_content esi tag) x) = record {
+            named = same.name ∙ pending.named.0;
+            jumps = all_gathered.jumps;
+            hereditary_jumps = all_gathered.hereditary_jumps;
+            once = once_of (has_content esi tag) x given.hereditary_jumps.once;
+            children = same.children ∙ pending.childless;
+          } in
+          let shown_now : Shows (record vm { tries = after }) m = record { stack = pending.shown.stack; sound = pending.shown.sound; program = pending.shown.program; switch = pending.shown.switch; refused = pending.shown.refused } in
+          let entering = entered_stands vm vm.stack after m shown_now tag.name x new_ctx.stack_item next (has_content esi tag) item
+          (subst (λ b. IsEntered b new_ctx.stack_item (record vm { tries = after }) next) has_content_still entered) in
+          record {
+            matched = report s esi e d.open_elements;
+            answered = told ∙ (λ i. Started (report s esi e d.open_elements) true (names_counted (sym entering.tries i)) (attributes_counted (sym entering.tries i)));
+            reported = told_all.called;
+            stands = record {
+              paths = pending.paths;
+              machine = opened_if (has_content esi tag) m tag.name x;
+              closed = pending.closed;
+              shown = entering.shown;
+              standing = subst (λ c. StandsFor s esi pending.paths (opened_if (has_content esi tag) m tag.name c) (events ++ Start tag ∷ [])) finishes
+                  (finishing_is_kept s esi pending.paths m events tag pending.context pending.left pending.closed finish pending.asks pending.standing pending.is_request);
+            };
+            opened = opened_as ids (has_content esi tag) (report s esi e d.open_elements) new_ctx.stack_item (is_matched ∙ sym (map-map (λ (r : Match). r.id) (λ id. record { id = id; with_content = has_content esi tag }) (matching_ids s.pairs e d.open_elements) ∙ map-id (matching_ids s.pairs e d.open_elements)))
+                (data_in vm) (data_in next) (data_in vm) refl entering.has;
+          }

@@ -1,14 +1,16 @@
 -- What survives a refusal, and what end tags do.
-use Rattle.std.proofs.Common.{◌≡◌, Result, Ok, Err, ℕ, ◌<◌, ◌≤◌, Bool, true, false, List, [], ◌∷◌, ◌++◌, length, take, drop, Option, Some, None, refl, sym, ap, ◌∙◌, subst, arith}
-use Rattle.std.specs.Result.{OnErr}
-use Rattle.std.specs.Prelude.{max, nat_lt, if◌then◌else◌}
+use Rattle.std.proofs.Common.{◌≡◌, ◌-◌, Result, Ok, Err, ℕ, ◌<◌, ◌≤◌, Bool, true, false, List, [], ◌∷◌, ◌++◌, length, take, drop, Option, Some, None, refl, sym, ap, ◌∙◌, subst, arith}
+use Rattle.std.specs.Result.{OnErr, IsOk}
+use Rattle.std.specs.Prelude.{slice_get, max, nat_lt, if◌then◌else◌}
 use Rattle.std.specs.List.{take-map, drop-map}
 use Rattle.std.proofs.lemmas.Bool.Decides.{nat_tests}
-use Rattle.std.proofs.lemmas.List.{length-map, length-take, take_all, drop_all}
+use Rattle.std.proofs.lemmas.List.{length-set, length-map, length-take, take_all, drop_all}
 use Rattle.lol_base.specs.LocalNames.{Name, local_name}
 use Rattle.lol_base.specs.StartTags.{StartTag}
 use Rattle.lol_base.specs.declared.namespace.Namespace.TheVariants.{Html}
-use Rattle.lol_memory.specs.LimitedVec.{LimitedVec}
+use Rattle.lol_memory.specs.declared.match_info.MatchInfo.{MatchInfo}
+use Rattle.lol_memory.specs.LimitedVec.{LimitedVec, IsLimited}
+use Rattle.lol_memory.specs.Limiter.{Limiter}
 use Rattle.lol_program.specs.Asts.{nodes_of}
 use Rattle.lol_program.specs.ClosedLaws.{trees_are_closed}
 use Rattle.lol_program.specs.Counters.{full_count}
@@ -18,15 +20,16 @@ use Rattle.lol_program.specs.declared.program.Program.{Program}
 use Rattle.lol_program.specs.Paths.{Path, Selectors}
 use Rattle.lol_program.specs.ProgramViews.{program_shown}
 use Rattle.lol_program.specs.Tests.{Element}
+use Rattle.lol_program.specs.declared.tries.Tries.{Tries}
 use Rattle.lol_vm.specs.Answers.{document}
 use Rattle.lol_vm.specs.Documents.{Document, after_start, after_end}
 use Rattle.lol_vm.specs.Events.{Event, End}
 use Rattle.lol_vm.specs.SoundStacks.{IsSound}
 use Rattle.lol_vm.specs.StackMachines.{Keeps, IsNew}
-use Rattle.lol_vm.specs.Stacks.{items_in, places_in, last_count, counted_in, closed_from, element_data_of, place_to_close, last_below, IsSame, IsEnded, IsEndedAt}
+use Rattle.lol_vm.specs.Stacks.{items_in, list_in, slots_in, places_in, last_count, counted_in, counted_if, counted_item, with_typed, closed_from, element_data_of, place_to_close, last_below, IsSame, IsEnded, IsEndedAt}
 use Rattle.lol_vm.specs.Standing.{Machine, new_machine, AreCounted, StandsOn, IsOrdered, counted, ended}
 use Rattle.lol_vm.specs.Views.{selectors}
-use Rattle.lol_vm.specs.Vms.{Vm, Shows, Stands, HasOpen, IsFailedAs, IsRequested, IsNameOf, open_after, data_in}
+use Rattle.lol_vm.specs.Vms.{Vm, Shows, Stands, HasOpen, IsReported, IsFailedAs, IsRequested, IsNameOf, open_after, data_in}
 use Rattle.lol_vm.specs.declared.error.VmError.{VmError}
 use Rattle.lol_vm.specs.declared.error.VmError.TheVariants.{InfoRequest, MemoryLimitExceeded, Memory, CounterFull, Failed}
 use Rattle.lol_vm.specs.declared.execution_ctx.ExecutionCtx.{ExecutionCtx}
@@ -256,3 +259,25 @@ module _ {E : Type 0} (vm : Vm E) (name : Name) (stack : StackOf Name StackNames
 
   pub open_counted : (new : Vm E) → new.stack ≡ stack → new.program ≡ vm.program → new.enable_esi_tags ≡ vm.enable_esi_tags → (bytes : List ℕ) (elements : List Element) → IsNameOf name bytes → HasOpen vm elements → HasOpen new elements
   open_counted new is program switch bytes elements named h = has_open_counted vm new elements bytes (is ∙ (ok ∙ ap (counted_in vm.stack) named)) room program switch h
+
+-- 6. Limits
+
+limited_if : {E : Type 0} (s : StackOf Name StackNames E) (o : Option (StackItemOf Name E)) (l : Limiter) → IsLimited (list_in s) l → IsLimited (list_in (counted_if s o)) l
+limited_if s None l h = h
+limited_if s (Some item) l h = (subst (λ n. slots_in s ≤ n) (sym (length-set (items_in s) (length (items_in s) - 1) (counted_item item))) h.0, h.1)
+
+-- counting a child changes nothing of what can be charged
+pub limited_counted : {E : Type 0} (s : StackOf Name StackNames E) (name : Name) (l : Limiter) → IsLimited (list_in s) l → IsLimited (list_in (counted_in s name)) l
+limited_counted s name l h = limited_if (with_typed s _) (slice_get (items_in s) (length (items_in s) - 1)) l h
+
+-- the same tries
+pub reported_with : {F : Type 0} (step : F → MatchInfo → Unit {0} → F → Type 0) (s : Selectors) (esi : Bool) (events : List Event) (tag : StartTag) (asked : Bool) (f g : F) (tries next : Tries) → next ≡ tries → IsReported step s esi events tag asked tries f g → IsReported step s esi events tag asked next f g
+reported_with step s esi events tag asked f g tries next is h = subst (λ ts. IsReported step s esi events tag asked ts f g) (sym is) h
+
+pub not_false : (b : Bool) → (b ≡ false → ⊥) → b ≡ true
+not_false true h = refl
+not_false false h = absurd (h refl)
+
+pub err_is_not_ok : {T X : Type 0} (r : Result T X) (e : X) → r ≡ Err e → IsOk r → ⊥
+err_is_not_ok (Ok v) e is ok = cc
+err_is_not_ok (Err x) e is ok = cc

@@ -33,7 +33,7 @@ use Rattle.lol_vm.specs.StackMachines.{Keeps, IsItemOf}
 use Rattle.lol_vm.specs.Stacks.{items_in, active_in, last_count, typed_count, counted_in, counted_item, counted_if, with_typed, element_data_of}
 use Rattle.lol_vm.specs.Standing.{Machine, StandsFor, AnswersStart, counted, opened, started, ranges_of_machine}
 use Rattle.lol_vm.specs.TagRuns.{AreTried, IsPointIn, jumps_in, ranges_to_run_in, sight_in, stop_at, ranges_left, tried_at}
-use Rattle.lol_vm.specs.Vms.{IsRequested, Vm, Shows, Stands, IsTagOf, IsAnswered, IsPending, IsEntered, AreOpened, GoesOnAt, content_of, info_of, data_in}
+use Rattle.lol_vm.specs.Vms.{IsRequested, Vm, Shows, Stands, IsTagOf, IsAnswered, IsReported, IsPending, IsEntered, AreOpened, GoesOnAt, content_of, info_of, data_in}
 use Rattle.lol_vm.specs.declared.error.AuxStartTagInfoRequest.{AuxStartTagInfoRequest}
 use Rattle.lol_vm.specs.declared.error.VmError.{VmError}
 use Rattle.lol_vm.specs.declared.error.VmError.TheVariants.{InfoRequest}
@@ -273,24 +273,37 @@ module _ {E : Type 0} (ids : E → Ids) (with_ids : E → Ids → E) (lends : (w
           let here = (kept None tried).content ∙ content in
           subst (λ x. Gathers ids new_ctx.stack_item x) (λ i. content_of (here i) (context i)) (has_gathered None tried)
 
+      is_matched : ascending (ids new_ctx.stack_item.element_data) ≡ matching_ids s.pairs e d.open_elements
+      is_matched =
+          gathered_ids_ascend ids new_ctx.stack_item (content_of (has_content esi tag) (context_of m.program true e (all_places rs))) all_gathered
+          ∙ (ap ascending_once (content_ids (has_content esi tag) (context_of m.program true e (all_places rs))) ∙ answers.matched)
+
+      pub has_reported : {F : Type 0} (step : F → MatchInfo → Unit {0} → F → Type 0) (f g : F) → IsCalledAtEach step f (reports new_ctx.with_content (ascending (ids new_ctx.stack_item.element_data))) g
+          → IsReported step s esi events tag false after f g
+      has_reported step f g called =
+          let here : new_ctx.with_content ≡ has_content esi tag = (kept None tried).content ∙ content in
+          record {
+            asks = no_ask;
+            called = subst (λ infos. IsCalledAtEach step f infos g)
+                ((λ i. reports (here i) (is_matched i)) ∙ sym (map-map info_of (λ id. record { id = id; with_content = has_content esi tag }) (matching_ids s.pairs e d.open_elements))) called;
+            names = names_all s st.paths (counted m tag.name) d.open_elements st.closed st.standing.program st.standing.items st.standing.active stack vm.program keeps st.shown.program ids with_ids lends e name seen ctx new_ctx before after tried no_names;
+            attributes = no_tries ∙ no_attributes s st.paths (counted m tag.name) d.open_elements st.closed st.standing.program st.standing.items st.standing.active stack vm.program keeps st.shown.program ids with_ids lends e name seen ctx new_ctx before after tried;
+          }
+
+      pub has_content_still : new_ctx.with_content ≡ has_content esi tag
+      has_content_still = (kept None tried).content ∙ content
+
       pub answered : {F : Type 0} (step : F → MatchInfo → Unit {0} → F → Type 0) (f g : F) (next : Vm E)
           → IsCalledAtEach step f (reports new_ctx.with_content (ascending (ids new_ctx.stack_item.element_data))) g
           → IsEntered new_ctx.with_content new_ctx.stack_item (record vm { stack = stack; tries = after }) next
           → IsAnswered ids step s esi events tag false vm next f g
       answered step f g next called entered =
           let same = kept None tried in
-          let here : new_ctx.with_content ≡ has_content esi tag = same.content ∙ content in
-          let names : names_counted after ≡ name_tries s.nodes d.open_elements =
-          names_all s st.paths (counted m tag.name) d.open_elements st.closed st.standing.program st.standing.items st.standing.active stack vm.program keeps st.shown.program ids with_ids lends e name seen ctx new_ctx before after tried no_names in
-          let attributes : attributes_counted after ≡ attribute_tries s.nodes e d.open_elements =
-          no_tries ∙ no_attributes s st.paths (counted m tag.name) d.open_elements st.closed st.standing.program st.standing.items st.standing.active stack vm.program keeps st.shown.program ids with_ids lends e name seen ctx new_ctx before after tried in
+          let told_all = has_reported step f g called in
           let x = context_of m.program true e (all_places rs) in
-          let matched : ascending (ids new_ctx.stack_item.element_data) ≡ matching_ids s.pairs e d.open_elements =
-          gathered_ids_ascend ids new_ctx.stack_item (content_of (has_content esi tag) x) all_gathered ∙ (ap ascending_once (content_ids (has_content esi tag) x) ∙ answers.matched) in
           let told : answer s esi d (Start tag) ≡ Started (report s esi e d.open_elements) false (names_counted after) (attributes_counted after) =
           ap (λ b. if (b && not tag.finish) then Dropped else Started (report s esi e d.open_elements) b (name_tries s.nodes d.open_elements) (attribute_tries s.nodes e d.open_elements)) no_ask
-          ∙ (λ i. Started (report s esi e d.open_elements) false (sym names i) (sym attributes i)) in
-          let reported = (λ i. reports (here i) (matched i)) ∙ sym (map-map info_of (λ id. record { id = id; with_content = has_content esi tag }) (matching_ids s.pairs e d.open_elements)) in
+          ∙ (λ i. Started (report s esi e d.open_elements) false (sym told_all.names i) (sym told_all.attributes i)) in
           let opens : (has_content m.esi tag && not (is_dropped s e d.open_elements)) ≡ has_content esi tag =
           (λ i. has_content (st.standing.switch i) tag && not (no_ask i && not tag.finish)) ∙ and_true (has_content esi tag) in
           let item : IsItemOf new_ctx.stack_item tag.name (content_of (has_content esi tag) x) = record {
@@ -302,11 +315,11 @@ module _ {E : Type 0} (ids : E → Ids) (with_ids : E → Ids → E) (lends : (w
             children = same.children ∙ new.children;
           } in
           let entering = entered_stands vm stack after (counted m tag.name) (shown_now after) tag.name x new_ctx.stack_item next (has_content esi tag) item
-          (subst (λ b. IsEntered b new_ctx.stack_item (record vm { stack = stack; tries = after }) next) here entered) in
+          (subst (λ b. IsEntered b new_ctx.stack_item (record vm { stack = stack; tries = after }) next) has_content_still entered) in
           record {
             matched = report s esi e d.open_elements;
             answered = told ∙ (λ i. Started (report s esi e d.open_elements) false (names_counted (sym entering.tries i)) (attributes_counted (sym entering.tries i)));
-            reported = subst (λ infos. IsCalledAtEach step f infos g) reported called;
+            reported = told_all.called;
             stands = record {
               paths = st.paths;
               machine = started m (has_content esi tag) e;
@@ -314,7 +327,7 @@ module _ {E : Type 0} (ids : E → Ids) (with_ids : E → Ids → E) (lends : (w
               shown = entering.shown;
               standing = subst (λ b. StandsFor s esi st.paths (started m b e) (events ++ Start tag ∷ [])) opens (standing_is_kept s esi st.paths m events (Start tag) st.closed st.standing);
             };
-            opened = opened_as ids (has_content esi tag) (report s esi e d.open_elements) new_ctx.stack_item (matched ∙ sym (map-map (λ (r : Match). r.id) (λ id. record { id = id; with_content = has_content esi tag }) (matching_ids s.pairs e d.open_elements) ∙ map-id (matching_ids s.pairs e d.open_elements)))
+            opened = opened_as ids (has_content esi tag) (report s esi e d.open_elements) new_ctx.stack_item (is_matched ∙ sym (map-map (λ (r : Match). r.id) (λ id. record { id = id; with_content = has_content esi tag }) (matching_ids s.pairs e d.open_elements) ∙ map-id (matching_ids s.pairs e d.open_elements)))
                 (data_in vm) (data_in next) (element_data_of (items_in stack)) same_data entering.has;
           }
 

@@ -16,7 +16,7 @@ use Rattle.lol_program.specs.Tries.{names_counted, attributes_counted}
 use Rattle.lol_program.specs.declared.program.Program.{Program}
 use Rattle.lol_program.specs.declared.tries.Tries.{Tries}
 use Rattle.lol_program.specs.declared.instruction.Instruction.{Instruction}
-use Rattle.lol_vm.specs.Answers.{Match, Started, answer, asks, document}
+use Rattle.lol_vm.specs.Answers.{report, name_tries, attribute_tries, Match, Started, answer, asks, document}
 use Rattle.lol_vm.specs.Calls.{IsCalledAtEach}
 use Rattle.lol_vm.specs.Documents.{Document, element_of, place_of, outer_part}
 use Rattle.lol_vm.specs.Events.{Event, Start, has_content}
@@ -186,6 +186,13 @@ content_at (HereditaryJumps stop) with_content self_closing = with_content
 abbrev pub GoesOnAt : Bool → Bool → Context → Option Stop → Bool → Type 0
 GoesOnAt html content context None with_content = (html ≡ false) × (context ≡ no_context) × (with_content ≡ true)
 GoesOnAt html content context (Some stop) with_content = (html ≡ true) × (with_content ≡ content)
+
+-- The handler was called with exactly a start tag's report, in order, and so many nodes were tried as the definition says.
+pub record IsReported {F : Type 0} (step : F → MatchInfo → Unit {0} → F → Type 0) (s : Selectors) (esi : Bool) (events : List Event) (tag : StartTag) (asked : Bool) (tries : Tries) (f g : F) : Type 0 where
+  pub asks : asks s (element_of (document s esi events) tag) (document s esi events).open_elements ≡ asked
+  pub called : IsCalledAtEach step f (map info_of (report s esi (element_of (document s esi events) tag) (document s esi events).open_elements)) g
+  pub names : names_counted tries ≡ name_tries s.nodes (document s esi events).open_elements
+  pub attributes : attributes_counted tries ≡ attribute_tries s.nodes (element_of (document s esi events) tag) (document s esi events).open_elements
 
 module _ {E : Type 0} (ids_of : E → Ids) where
   -- An element with content comes last, whose data hold exactly the ids that it is reported under; no other data change.

@@ -12,11 +12,11 @@ ghost use Rattle.lol_program.specs.Paths.{Selectors};
 ghost use Rattle.lol_program.specs.Tests.{Element};
 ghost use Rattle.lol_program.specs.Tries.{names_counted, attributes_counted};
 ghost use Rattle.lol_vm.specs.Calls.{IsCalledAtEach, reports};
-ghost use Rattle.lol_vm.specs.Events.{Event, End};
+ghost use Rattle.lol_vm.specs.Events.{Event, End, has_content};
 ghost use Rattle.lol_vm.specs.StackLending.{lends_current_of_vm};
 ghost use Rattle.lol_vm.specs.Stacks.{items_in, slots_in, list_in, last_count};
 ghost use Rattle.lol_vm.specs.Views.{selectors};
-ghost use Rattle.lol_vm.specs.Vms.{Stands, HasOpen, IsNameOf, IsTagOf, IsRestOf, IsAnswered, IsPending, IsRefusal, IsSilent, content_at, open_after, stack_in, tries_in, has_failed, data_in, slots_charged, slot_bytes, IsRequested, IsEntered, IsFailedAs};
+ghost use Rattle.lol_vm.specs.Vms.{Stands, HasOpen, IsNameOf, IsTagOf, IsRestOf, IsAnswered, IsReported, IsPending, IsRefusal, IsSilent, content_at, open_after, stack_in, tries_in, has_failed, data_in, slots_charged, slot_bytes, IsRequested, IsEntered, IsFailedAs};
 
 use crate::element_data::ElementData;
 use crate::error::{AuxStartTagInfoRequest, VmError};
@@ -141,6 +141,10 @@ impl<E: ElementData> VmOf<Program, LocalName<'static>, StackNames, E> {
         ensures refused { (error : VmError E) → result ≡ Err error → IsRefusal error → has_failed self.new ≡ true }
         ensures silent { (error : VmError E) → result ≡ Err error → IsSilent error → match_handler.new ≡ match_handler.old }
         ensures limited { IsErrOf result (VmError.MemoryLimitExceeded (record {})) → IsLimited (list_in (stack_in self.old)) limiter.old }
+        ensures limit_reported { IsErrOf result (VmError.MemoryLimitExceeded (record {})) → (s : Selectors) (esi : Bool) (events : List Event) (tag : StartTag) → Stands s esi self.old events → IsTagOf local_name.entry ns tag
+            → (has_content esi tag ≡ true) × IsReported F.step s esi events tag false (tries_in self.new) match_handler.old match_handler.new }
+        ensures unlimited { OnOk result ((s : Selectors) (esi : Bool) (events : List Event) (tag : StartTag) → Stands s esi self.old events → IsTagOf local_name.entry ns tag
+            → has_content esi tag ≡ true → IsLimited (list_in (stack_in self.old)) limiter.old → ⊥) }
     {
         if self.failed {
             return Err(VmError::Failed);
@@ -251,6 +255,10 @@ impl<E: ElementData> VmOf<Program, LocalName<'static>, StackNames, E> {
         ensures still_open { OnErr result ((elements : List Element) → HasOpen self.old elements → HasOpen self.new elements) }
         ensures refused { OnErr result (has_failed self.new ≡ true) }
         ensures limited { IsErrOf result (PushError.Limit (record {})) → IsLimited (list_in (stack_in self.old)) limiter.old }
+        ensures limit_reported { IsErrOf result (PushError.Limit (record {})) → (s : Selectors) (esi : Bool) (events : List Event) (tag : StartTag) → IsPending E.ids s esi events tag self.old request → IsRestOf aux_info.entry tag
+            → (has_content esi tag ≡ true) × IsReported F.step s esi events tag true (tries_in self.new) match_handler.old match_handler.new }
+        ensures unlimited { OnOk result ((s : Selectors) (esi : Bool) (events : List Event) (tag : StartTag) → IsPending E.ids s esi events tag self.old request → IsRestOf aux_info.entry tag
+            → has_content esi tag ≡ true → IsLimited (list_in (stack_in self.old)) limiter.old → ⊥) }
     {
         let AuxStartTagInfoRequest { ctx, point } = request;
         let mut ctx = ctx;

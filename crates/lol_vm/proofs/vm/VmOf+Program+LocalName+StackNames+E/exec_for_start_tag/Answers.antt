@@ -1,4 +1,4 @@
-use Rattle.std.proofs.Common.{◌≡◌, true, Ok, refl, sym, ap, ◌∙◌, subst}
+use Rattle.std.proofs.Common.{◌≡◌, true, false, true, Ok, refl, sym, ap, ◌∙◌, subst}
 use Rattle.std.specs.Result.{IfOk}
 use Rattle.std.specs.Option.{IfSome, IsSome}
 use denote.Enum.Bare.{sameb}
@@ -7,8 +7,10 @@ use Rattle.lol_vm.specs.Directives.{directive_in}
 use Rattle.lol_vm.specs.Events.{has_content}
 use Rattle.lol_vm.specs.InstructionRuns.{ranges_in}
 use Rattle.lol_base.specs.LocalNames.{Name}
-use Rattle.lol_memory.specs.LimitedVec.{LimitedVec}
-use Rattle.lol_vm.specs.Stacks.{active_in, element_data_of, IsSame}
+use Rattle.lol_memory.specs.LimitedVec.{LimitedVec, IsLimited}
+use Rattle.lol_vm.specs.declared.stack.StackOf.{StackOf}
+use Rattle.lol_vm.specs.declared.stack.StackNames.{StackNames}
+use Rattle.lol_vm.specs.Stacks.{list_in, active_in, element_data_of, IsSame}
 use Rattle.lol_vm.specs.TagRuns.{AreTried, IsPointIn, jumps_in, ranges_to_run_in, sight_in, stop_found}
 use Rattle.lol_vm.specs.Vms.{Vm}
 use Rattle.lol_vm.specs.contracts.stack_item.StackDirective.{the_type}
@@ -16,8 +18,8 @@ use Rattle.lol_vm.specs.declared.execution_ctx.ExecutionCtx.{ExecutionCtx}
 use Rattle.lol_vm.specs.declared.stack_item.StackItemOf.{StackItemOf}
 use Rattle.lol_vm.specs.declared.stack_item.StackDirective.TheVariants.{Push, PushIfNotSelfClosing}
 use Rattle.lol_vm.proofs.Directives.{foreign_if, html_if, content_is}
-use Rattle.lol_vm.proofs.VmStarts.{answered, pending_at_once, pending_point, can_run, requested_is}
-use Rattle.lol_vm.proofs.VmRefusals.{data_after, has_open_failed, has_open_same, on_err, open_counted, requested_keeps, same_stack}
+use Rattle.lol_vm.proofs.VmStarts.{has_reported, has_content_still, answered, pending_at_once, pending_point, can_run, requested_is}
+use Rattle.lol_vm.proofs.VmRefusals.{reported_with, limited_counted, not_false, err_is_not_ok, data_after, has_open_failed, has_open_same, on_err, open_counted, requested_keeps, same_stack}
 use Rattle.lol_vm.proofs.vm.VmOf+Program+LocalName+StackNames+E.exec_for_start_tag.Goals as goal
 
 pub returns-then-eq-clause-asked : goal.returns-then-eq-clause-asked
@@ -136,3 +138,62 @@ returns-in-Err-answer-clause-still_open g c = λ bytes elements named h.
     let mid : Vm _ = record c.args.self.now { stack = c.add_child.new.self; tries = c.try_tag-tried.new.tries } in
     has_open_failed mid mid c.answer.new.self elements refl refl refl c.in-Err-answer.ensures.err
     (open_counted c.args.self.now c.args.local_name c.add_child.new.self c.in_default.ensures.ok c.in_default.ensures.room mid refl refl refl bytes elements named h)
+
+pub returns-in-Ok-answer-clause-unlimited : goal.returns-in-Ok-answer-clause-unlimited
+returns-in-Ok-answer-clause-unlimited g c = λ s esi events tag stands named opens limited.
+    let vm = c.args.self.now in
+    let ids = g.E.ElementData.ids in
+    let with_ids = g.E.ElementData.with_ids in
+    let lends = g.met.E.ElementData.ids_of_changed in
+    let name = c.args.local_name in
+    let stack = c.add_child.new.self in
+    let ok = c.in_default.ensures.ok in
+    let room = c.in_default.ensures.room in
+    let new = c.new-ctx.ensures.item in
+    let tries = c.new-self.result in
+    let after = c.try_tag-tried.new.tries in
+    let directive = c.get_stack_directive-directive.ensures tag.name (new.name ∙ named.0) in
+    let html : is_html tag.namespace ≡ true =
+    ap is_html named.1 ∙ html_if c.args.ns vm.enable_esi_tags tag.name (ap (λ x. sameb the_type x PushIfNotSelfClosing) (sym directive) ∙ (sym c.eq.ensures ∙ c.if-eq.false)) in
+    let content : c.eq-2.result ≡ has_content vm.enable_esi_tags tag =
+    c.eq-2.ensures ∙ (ap (λ x. sameb the_type x Push) (directive ∙ ap (λ ns. directive_in ns vm.enable_esi_tags tag.name) (sym named.1)) ∙ content_is tag vm.enable_esi_tags html) in
+    let switch : vm.enable_esi_tags ≡ esi = sym stands.shown.switch ∙ stands.standing.switch in
+    let ctx : ExecutionCtx _ = record c.new-ctx.result { with_content = c.eq-2.result } in
+    let runnable = can_run ids with_ids lends vm name c.args.ns s esi events tag stands named stack ok room tries c.new-self.ensures.names c.new-self.ensures.attributes c.try_tag-tried.ensures.size in
+    let of_name = subst (λ n. IfOk c.try_tag-tried.result (λ point. AreTried ids with_ids (sight_in stack n) vm.program.instructions.items (ranges_to_run_in vm.program stack) ctx c.try_tag-tried.new.ctx tries after (stop_found vm.program.entry_points (jumps_in stack) point))) new.name in
+    let no_tries = c.try_tag-tried.ensures.attributes ∙ c.new-self.ensures.attributes in
+    let holds = content ∙ ap (λ b. has_content b tag) switch in
+    let tried = subst (λ r. IfOk r (λ point. AreTried ids with_ids (sight_in stack name) vm.program.instructions.items (ranges_to_run_in vm.program stack) ctx c.try_tag-tried.new.ctx tries after (stop_found vm.program.entry_points (jumps_in stack) point)))
+    (c.in-Ok.is ∙ ap Ok c.in_default-stopped.is) (of_name (c.try_tag-tried.ensures.tried runnable)) in
+    let still = has_content_still ids with_ids lends vm name c.args.ns s esi events tag stands named stack ok room ctx c.try_tag-tried.new.ctx tries after new holds c.new-ctx.ensures.ns html c.new-self.ensures.names no_tries tried in
+    c.in-Ok-answer.ensures.unlimited (still ∙ opens) (subst (λ (x : StackOf Name StackNames _). IsLimited (list_in x) c.args.limiter.now) (sym ok) (limited_counted vm.stack name c.args.limiter.now limited))
+
+pub returns-in-Err-answer-clause-limit_reported : goal.returns-in-Err-answer-clause-limit_reported
+returns-in-Err-answer-clause-limit_reported g c = λ limit s esi events tag stands named.
+    let vm = c.args.self.now in
+    let ids = g.E.ElementData.ids in
+    let with_ids = g.E.ElementData.with_ids in
+    let lends = g.met.E.ElementData.ids_of_changed in
+    let name = c.args.local_name in
+    let stack = c.add_child.new.self in
+    let ok = c.in_default.ensures.ok in
+    let room = c.in_default.ensures.room in
+    let new = c.new-ctx.ensures.item in
+    let tries = c.new-self.result in
+    let after = c.try_tag-tried.new.tries in
+    let directive = c.get_stack_directive-directive.ensures tag.name (new.name ∙ named.0) in
+    let html : is_html tag.namespace ≡ true =
+    ap is_html named.1 ∙ html_if c.args.ns vm.enable_esi_tags tag.name (ap (λ x. sameb the_type x PushIfNotSelfClosing) (sym directive) ∙ (sym c.eq.ensures ∙ c.if-eq.false)) in
+    let content : c.eq-2.result ≡ has_content vm.enable_esi_tags tag =
+    c.eq-2.ensures ∙ (ap (λ x. sameb the_type x Push) (directive ∙ ap (λ ns. directive_in ns vm.enable_esi_tags tag.name) (sym named.1)) ∙ content_is tag vm.enable_esi_tags html) in
+    let switch : vm.enable_esi_tags ≡ esi = sym stands.shown.switch ∙ stands.standing.switch in
+    let ctx : ExecutionCtx _ = record c.new-ctx.result { with_content = c.eq-2.result } in
+    let runnable = can_run ids with_ids lends vm name c.args.ns s esi events tag stands named stack ok room tries c.new-self.ensures.names c.new-self.ensures.attributes c.try_tag-tried.ensures.size in
+    let of_name = subst (λ n. IfOk c.try_tag-tried.result (λ point. AreTried ids with_ids (sight_in stack n) vm.program.instructions.items (ranges_to_run_in vm.program stack) ctx c.try_tag-tried.new.ctx tries after (stop_found vm.program.entry_points (jumps_in stack) point))) new.name in
+    let no_tries = c.try_tag-tried.ensures.attributes ∙ c.new-self.ensures.attributes in
+    let holds = content ∙ ap (λ b. has_content b tag) switch in
+    let tried = subst (λ r. IfOk r (λ point. AreTried ids with_ids (sight_in stack name) vm.program.instructions.items (ranges_to_run_in vm.program stack) ctx c.try_tag-tried.new.ctx tries after (stop_found vm.program.entry_points (jumps_in stack) point)))
+    (c.in-Ok.is ∙ ap Ok c.in_default-stopped.is) (of_name (c.try_tag-tried.ensures.tried runnable)) in
+    let still = has_content_still ids with_ids lends vm name c.args.ns s esi events tag stands named stack ok room ctx c.try_tag-tried.new.ctx tries after new holds c.new-ctx.ensures.ns html c.new-self.ensures.names no_tries tried in
+    let opens = not_false c.try_tag-tried.new.ctx.with_content (λ closed. err_is_not_ok c.answer.result c.in-Err-answer.error c.in-Err-answer.is (c.answer.ensures.closed closed)) in
+    (sym still ∙ opens, reported_with _ s esi events tag false c.args.match_handler.now c.answer.new.match_handler after c.answer.new.self.tries (ap (λ (v : Vm _). v.tries) c.in-Err-answer.ensures.err.1) (has_reported ids with_ids lends vm name c.args.ns s esi events tag stands named stack ok room ctx c.try_tag-tried.new.ctx tries after new holds c.new-ctx.ensures.ns html c.new-self.ensures.names no_tries tried _ c.args.match_handler.now c.answer.new.match_handler c.in-Err-answer.ensures.reported))

@@ -1,11 +1,12 @@
 use Rattle.std.proofs.Common.{refl, sym, ◌∙◌, subst}
-use Rattle.std.specs.Result.{IfOk}
+use Rattle.std.specs.Result.{IfOk, OnErr}
 use Rattle.std.proofs.lemmas.Result.{on_ok_weaker, on_err_weaker}
 use Rattle.lol_program.specs.Attributes.{tag_attributes}
 use Rattle.lol_vm.specs.TagRuns.{AreExecuted, jumps_in, ranges_left, ranges_to_run_in, sight_in, stop_at, tried_at}
 use Rattle.lol_vm.specs.declared.execution_ctx.ExecutionCtx.{ExecutionCtx}
-use Rattle.lol_vm.proofs.VmFinishes.{answered, can_finish}
-use Rattle.lol_vm.proofs.VmRefusals.{has_open_same, has_open_failed, same_stack}
+use Rattle.lol_vm.specs.Vms.{IsFailedAs, Vm}
+use Rattle.lol_vm.proofs.VmFinishes.{has_reported, has_content_still, answered, can_finish}
+use Rattle.lol_vm.proofs.VmRefusals.{reported_with, has_open_same, has_open_failed, same_stack}
 use Rattle.lol_vm.proofs.vm.VmOf+Program+LocalName+StackNames+E.finish_start_tag.Goals as goal
 
 pub returns-in-Err-clause-still_open : goal.returns-in-Err-clause-still_open
@@ -37,3 +38,48 @@ returns-clause-answered g c =
 
 pub returns-clause-still_open : goal.returns-clause-still_open
 returns-clause-still_open g c = on_err_weaker c.answer.result (λ failed elements h. has_open_failed c.args.self.now (record c.args.self.now { tries = c.complete_tag-completed.new.tries }) c.answer.new.self elements refl refl refl failed h) c.answer.ensures.err
+
+pub returns-clause-limit_reported : goal.returns-clause-limit_reported
+returns-clause-limit_reported g c = λ limit s esi events tag pending rest.
+    let vm = c.args.self.now in
+    let ids = g.E.ElementData.ids in
+    let with_ids = g.E.ElementData.with_ids in
+    let lends = g.met.E.ElementData.ids_of_changed in
+    let request = c.args.request in
+    let stop = stop_at vm.program.entry_points (jumps_in vm.stack) request.point in
+    let left = ranges_left (ranges_to_run_in vm.program vm.stack) stop in
+    let all = vm.program.instructions.items in
+    let s_now = sight_in vm.stack request.ctx.stack_item.local_name in
+    let ctx : ExecutionCtx _ = record request.ctx { with_content = c.content_at.result } in
+    let new_ctx = c.complete_tag-completed.new.ctx in
+    let after = c.complete_tag-completed.new.tries in
+    let runnable = can_finish ids with_ids lends vm s esi events tag request pending c.complete_tag-completed.ensures.size in
+    let seen = c.new-matcher.ensures ∙ (λ i. record { attributes = sym rest.0 i; namespace = sym pending.named.1 i }) in
+    let done = subst (λ r. IfOk r (λ done. AreExecuted ids with_ids s_now all left ctx new_ctx vm.tries after c.new-matcher.result (tried_at stop))) c.in_default.is (c.complete_tag-completed.ensures.executed pending.stopped runnable) in
+    let executed = subst (λ b. AreExecuted ids with_ids s_now all left (record request.ctx { with_content = b }) new_ctx vm.tries after (tag_attributes tag) (tried_at stop)) c.content_at.ensures
+    (subst (λ a. AreExecuted ids with_ids s_now all left ctx new_ctx vm.tries after a (tried_at stop)) seen done) in
+    let failed = subst (λ r. OnErr r (IsFailedAs (record vm { tries = after }) c.answer.new.self)) limit c.answer.ensures.err in
+    (sym (has_content_still ids with_ids lends vm s esi events tag request pending c.args.aux_info.self_closing (sym rest.1) rest.2 new_ctx after executed) ∙ (c.answer.ensures.limited limit).0, reported_with _ s esi events tag true c.args.match_handler.now c.answer.new.match_handler after c.answer.new.self.tries (ap (λ (v : Vm _). v.tries) failed.1) (has_reported ids with_ids lends vm s esi events tag request pending c.args.aux_info.self_closing (sym rest.1) rest.2 new_ctx after executed _ c.args.match_handler.now c.answer.new.match_handler c.answer.ensures.reported))
+
+pub returns-clause-unlimited : goal.returns-clause-unlimited
+returns-clause-unlimited g c =
+    on_ok_weaker c.answer.result (λ un s esi events tag pending rest opens limited.
+    let vm = c.args.self.now in
+    let ids = g.E.ElementData.ids in
+    let with_ids = g.E.ElementData.with_ids in
+    let lends = g.met.E.ElementData.ids_of_changed in
+    let request = c.args.request in
+    let stop = stop_at vm.program.entry_points (jumps_in vm.stack) request.point in
+    let left = ranges_left (ranges_to_run_in vm.program vm.stack) stop in
+    let all = vm.program.instructions.items in
+    let s_now = sight_in vm.stack request.ctx.stack_item.local_name in
+    let ctx : ExecutionCtx _ = record request.ctx { with_content = c.content_at.result } in
+    let new_ctx = c.complete_tag-completed.new.ctx in
+    let after = c.complete_tag-completed.new.tries in
+    let runnable = can_finish ids with_ids lends vm s esi events tag request pending c.complete_tag-completed.ensures.size in
+    let seen = c.new-matcher.ensures ∙ (λ i. record { attributes = sym rest.0 i; namespace = sym pending.named.1 i }) in
+    let done = subst (λ r. IfOk r (λ done. AreExecuted ids with_ids s_now all left ctx new_ctx vm.tries after c.new-matcher.result (tried_at stop))) c.in_default.is (c.complete_tag-completed.ensures.executed pending.stopped runnable) in
+    let executed = subst (λ b. AreExecuted ids with_ids s_now all left (record request.ctx { with_content = b }) new_ctx vm.tries after (tag_attributes tag) (tried_at stop)) c.content_at.ensures
+    (subst (λ a. AreExecuted ids with_ids s_now all left ctx new_ctx vm.tries after a (tried_at stop)) seen done) in
+    un (has_content_still ids with_ids lends vm s esi events tag request pending c.args.aux_info.self_closing (sym rest.1) rest.2 new_ctx after executed ∙ opens) limited)
+    c.answer.ensures.unlimited
