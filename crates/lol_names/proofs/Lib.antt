@@ -1,0 +1,4 @@
+pub mod NameOrder
+pub mod NameBlocks
+pub mod NameChanges
+pub mod Refusals

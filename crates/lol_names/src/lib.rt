@@ -1,0 +1,6 @@
+//! Values by the names of elements, at a cost that no choice of names makes large.
+#![tactic(auto)]
+
+mod name_map;
+
+pub use name_map::{NameMap, NamePlace};
