@@ -1,5 +1,5 @@
 -- Blocks of names, round a place.
-use Rattle.std.proofs.Common.{◌≡◌, ◌∙◌, refl, sym, ap, subst, ℕ, zero, suc, ◌+◌, ◌-◌, ◌<◌, ◌≤◌, arith, Bool, true, false, cond, List, [], ◌∷◌, ◌++◌, length, take, drop, map, Option, Some, None, unwrap_or}
+use Rattle.std.proofs.Common.{◌≡◌, ◌∙◌, refl, sym, ap, subst, ℕ, zero, suc, ◌-◌, ◌<◌, ◌≤◌, arith, true, false, cond, List, [], ◌∷◌, ◌++◌, length, take, drop, map, Option, Some, None, unwrap_or}
 use Rattle.std.specs.Prelude.{slice_get, slice_set, slice_index_or}
 use Rattle.std.proofs.lemmas.Option.{get_or_from_slice_get, slice_get-map, slice_get_within}
 use Rattle.std.specs.Option.{option_map}
@@ -10,7 +10,7 @@ use Rattle.std.specs.Ordering.{is_lt}
 use Rattle.lol_base.specs.LocalNames.{Name, same_local_name, local_name_cmp}
 use Rattle.lol_names.specs.NameBlocks.{joined, block_at, AllFilled, value_of, AllBelow, AllAbove, AreAscending, AreBlocks, begins_above, is_named, before, from, Stands, IsMissing}
 use Rattle.lol_names.specs.declared.name_map.NamePlace.{NamePlace}
-use Rattle.lol_names.proofs.NameOrder.{all_above-append, all_above-back, all_above-below, all_above-same, all_below-append, all_below-above, all_below-same, ascending-back, ascending-front, ascending-below, ascending-above, ascending-without, ascending-with, found-with, found-missing, found-back, tested-same, same-alike, same-flip, same-tested, above-other, above-flip}
+use Rattle.lol_names.proofs.NameOrder.{all_above-append, all_above-back, all_above-below, all_above-same, all_below-append, all_below-above, all_below-same, ascending-back, ascending-front, ascending-below, ascending-above, found-missing, found-back, tested-same, same-flip, same-tested, above-other, above-flip}
 
 -- 1. Lists of lists
 

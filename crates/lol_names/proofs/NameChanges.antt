@@ -1,5 +1,5 @@
 -- Blocks of names after a change at a place.
-use Rattle.std.proofs.Common.{◌≡◌, ◌∙◌, refl, sym, ap, subst, ℕ, zero, suc, ◌+◌, ◌-◌, ◌<◌, ◌≤◌, arith, Bool, true, false, cond, List, [], ◌∷◌, ◌++◌, length, take, drop, map, Option, Some, None, unwrap_or}
+use Rattle.std.proofs.Common.{◌≡◌, ◌∙◌, refl, sym, ap, subst, ℕ, zero, suc, ◌+◌, ◌-◌, ◌<◌, ◌≤◌, arith, true, false, cond, List, [], ◌∷◌, ◌++◌, length, take, drop, map, Option, Some, None, unwrap_or}
 use Rattle.std.specs.Prelude.{slice_get, slice_set, slice_index_or}
 use Rattle.std.specs.List.{insert, remove}
 use Rattle.std.proofs.lemmas.Option.{slice_get_read, slice_get_within}
@@ -8,12 +8,12 @@ use Rattle.std.proofs.Math.Seq.{take-add}
 use Rattle.std.proofs.Common.{length-append}
 use Rattle.std.proofs.lemmas.List.{length-map}
 use Rattle.std.specs.Map.{lookup}
-use Rattle.std.specs.declared.cmp.Ordering.TheVariants.{Less, Equal, Greater}
+use Rattle.std.specs.declared.cmp.Ordering.TheVariants.{Equal}
 use Rattle.lol_base.specs.LocalNames.{Name, same_local_name, local_name_cmp}
-use Rattle.lol_names.specs.NameBlocks.{joined, block_at, AllFilled, value_of, AllBelow, AllAbove, AreAscending, AreBlocks, before, from, Stands, IsMissing, IsPutAt, IsSamePlace}
+use Rattle.lol_names.specs.NameBlocks.{joined, block_at, AllFilled, AllBelow, AllAbove, AreAscending, AreBlocks, before, from, Stands, IsPutAt, IsSamePlace}
 use Rattle.lol_names.specs.declared.name_map.NamePlace.{NamePlace}
 use Rattle.lol_names.proofs.NameOrder.{ascending-below, ascending-above, ascending-without, ascending-with, found-with, found-missing, same-alike, same-flip, same-tested, all_above-same, all_below-same}
-use Rattle.lol_names.proofs.NameBlocks.{block_is, append-assoc, joined-append, split-at, take-drop, drop-one, within_at, filled-set, round-entry, round-missing, value-stands}
+use Rattle.lol_names.proofs.NameBlocks.{block_is, append-assoc, joined-append, split-at, take-drop, filled-set}
 
 -- 1. A list of lists, as the ones before a place, the one there, and the ones after it
 

@@ -1,6 +1,6 @@
 //! Values by the names of elements.
 
-ghost use Rattle.std.specs.Prelude.{◌≡◌, ◌<◌, ◌≤◌, ◌-◌, ◌+◌, [], true, false, length, MatchResult, slice_get, slice_index_or, OnOk, OnErr, IfOk, Some, None};
+ghost use Rattle.std.specs.Prelude.{◌≡◌, ◌<◌, ◌≤◌, ◌-◌, ◌+◌, [], true, false, length, MatchResult, slice_get, slice_index_or, OnOk, OnErr, IfOk, IfErr, Some, None};
 ghost use Rattle.std.specs.Option.{option_copied};
 ghost use Rattle.std.specs.declared.cmp.Ordering.TheVariants.{Less};
 ghost use Rattle.lol_base.specs.LocalNames.{Name, local_name_cmp};
@@ -55,7 +55,8 @@ impl<V> NameMap<V> {
 
     /// Where a name stands, or else where it would.
     pub fn search<'s, 'i: 's>(&'s self, name: &LocalName<'i>) -> Result<NamePlace, NamePlace>
-        ensures { MatchResult result (Stands self.now name.now) (IsMissing self.now name.now) }
+        ensures place { MatchResult result (Stands self.now name.now) (IsMissing self.now name.now) }
+        ensures missing { IfErr result (λ _. value_of self.now name.now ≡ None) }
     {
         let blocks: &[Vec<(LocalName<'i>, V)>] = self.blocks.as_slice();
         let block = blocks_up_to(blocks, name).saturating_sub(1);

@@ -1,6 +1,5 @@
-use Rattle.std.proofs.Common.{rules, ◌≡◌, ◌<◌, ◌≤◌, ◌∙◌, sym, ap, subst, refl, map, length, arith, [], ◌∷◌, unwrap_or}
+use Rattle.std.proofs.Common.{rules, ◌≡◌, ◌<◌, ◌≤◌, ◌∙◌, sym, ap, subst, map, length, arith, [], ◌∷◌, unwrap_or}
 use Rattle.std.specs.Prelude.{slice_set}
-use Rattle.std.specs.List.{insert}
 use Rattle.std.proofs.lemmas.List.{length-map}
 use Rattle.lol_base.specs.LocalNames.{Name}
 use Rattle.lol_names.specs.NameBlocks.{AreBlocks, AreAscending, AllFilled, AllBelow, AllAbove, before, from, joined, block_at}

@@ -2,9 +2,8 @@ use Rattle.std.proofs.Common.{◌≡◌, ◌<◌, ◌∙◌, sym, ap, subst, Som
 use Rattle.std.specs.Prelude.{slice_get}
 use Rattle.std.specs.Vec.{with_item}
 use Rattle.lol_base.specs.LocalNames.{Name, same_local_name, local_name_cmp}
-use Rattle.lol_base.specs.declared.local_name.LocalName.{LocalName}
 use Rattle.std.specs.declared.cmp.Ordering.TheVariants.{Equal}
-use Rattle.lol_names.specs.NameBlocks.{AreBlocks, Stands, IsPutAt, block_at, value_of}
+use Rattle.lol_names.specs.NameBlocks.{AreBlocks, Stands, block_at, value_of}
 use Rattle.lol_names.proofs.NameBlocks.{read_at, value-stands}
 use Rattle.lol_names.proofs.NameChanges.{map-set, there, entry_there, blocks-set, stands-set, value-set}
 use Rattle.lol_names.proofs.name_map.NameMap.replace.Goals as goal

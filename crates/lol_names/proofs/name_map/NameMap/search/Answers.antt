@@ -1,4 +1,4 @@
-use Rattle.std.proofs.Common.{rules, ◌≡◌, ◌<◌, ◌≤◌, ◌-◌, ◌∙◌, sym, ap, subst, refl, Some, map, length, true, false}
+use Rattle.std.proofs.Common.{◌≡◌, ◌<◌, ◌≤◌, ◌-◌, ◌∙◌, sym, ap, subst, refl, map, length, true, false}
 use Rattle.std.specs.Prelude.{slice_get, slice_index_or}
 use Rattle.std.proofs.lemmas.Option.{slice_get_read}
 use Rattle.std.specs.declared.cmp.Ordering.TheVariants.{Less}
@@ -6,7 +6,7 @@ use Rattle.std.specs.Ordering.{is_lt}
 use Rattle.lol_base.specs.LocalNames.{Name, local_name_cmp}
 use Rattle.lol_names.specs.declared.name_map.NamePlace.{NamePlace}
 use Rattle.lol_names.specs.NameBlocks.{AreBlocks, Stands, IsMissing, is_named}
-use Rattle.lol_names.proofs.NameBlocks.{sought, block_is, stands_at, missing_at}
+use Rattle.lol_names.proofs.NameBlocks.{sought, block_is, stands_at, missing_at, value-missing}
 use Rattle.lol_names.proofs.name_map.NameMap.search.Goals as goal
 
 pub returns-then-is_at : goal.returns-then-is_at
@@ -20,11 +20,15 @@ returns-then-is_at g c =
     let round = sought (λ b. b.items) name bs c.blocks_up_to.result place.block c.in-Some.names.now are c.saturating_sub-block.ensures c.blocks_up_to.ensures.before c.blocks_up_to.ensures.after at in
     let same = c.deref.ensures.value in
     let same-2 = c.deref-2.ensures.value in
-    subst (λ blocks. Stands blocks name place) shown
-    (stands_at name (map (λ b. b.items) bs) place c.in-Some.names.now.items are (block_is (λ b. b.items) bs place.block c.in-Some.names.now at) round
-    (subst (λ es. place.at ≤ length es) same c.names_below-at.ensures.bound)
-    (subst (λ es. (d : Name × g.row.V.Denot) → 0 < place.at → local_name_cmp (slice_index_or es (place.at - 1) d).0 name ≡ Less) same c.names_below-at.ensures.before)
-    (subst (λ es. is_named (slice_get es place.at) name ≡ true) same-2 (sym c.is_at.ensures ∙ c.if-is_at.true)))
+    record {
+      place =
+          subst (λ blocks. Stands blocks name place) shown
+          (stands_at name (map (λ b. b.items) bs) place c.in-Some.names.now.items are (block_is (λ b. b.items) bs place.block c.in-Some.names.now at) round
+          (subst (λ es. place.at ≤ length es) same c.names_below-at.ensures.bound)
+          (subst (λ es. (d : Name × g.row.V.Denot) → 0 < place.at → local_name_cmp (slice_index_or es (place.at - 1) d).0 name ≡ Less) same c.names_below-at.ensures.before)
+          (subst (λ es. is_named (slice_get es place.at) name ≡ true) same-2 (sym c.is_at.ensures ∙ c.if-is_at.true)));
+      missing = tt;
+    }
 
 pub returns-else-is_at : goal.returns-else-is_at
 returns-else-is_at g c =
@@ -37,9 +41,12 @@ returns-else-is_at g c =
     let round = sought (λ b. b.items) name bs c.blocks_up_to.result place.block c.in-Some.names.now are c.saturating_sub-block.ensures c.blocks_up_to.ensures.before c.blocks_up_to.ensures.after at in
     let same = c.deref.ensures.value in
     let same-2 = c.deref-2.ensures.value in
+    let missing : IsMissing c.args.self.now name place =
     subst (λ blocks. IsMissing blocks name place) shown
     (missing_at name (map (λ b. b.items) bs) place c.in-Some.names.now.items are (block_is (λ b. b.items) bs place.block c.in-Some.names.now at) round
     (subst (λ es. place.at ≤ length es) same c.names_below-at.ensures.bound)
     (subst (λ es. (d : Name × g.row.V.Denot) → 0 < place.at → local_name_cmp (slice_index_or es (place.at - 1) d).0 name ≡ Less) same c.names_below-at.ensures.before)
     (subst (λ es. (d : Name × g.row.V.Denot) → place.at < length es → is_lt (local_name_cmp (slice_index_or es place.at d).0 name) ≡ false) same c.names_below-at.ensures.after)
     (subst (λ es. is_named (slice_get es place.at) name ≡ false) same-2 (sym c.is_at.ensures ∙ c.if-is_at.false)))
+    in
+    record { place = missing; missing = value-missing c.args.self.now name place missing }
