@@ -24,6 +24,7 @@ pub mod TypedViews
 pub mod CounterLists
 pub mod CounterMaps
 pub mod Active
+pub mod Places
 pub mod OpenPlaces
 pub mod StackLending
 pub mod Stacks

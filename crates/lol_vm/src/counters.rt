@@ -2,7 +2,6 @@
 
 ghost use Rattle.std.specs.Prelude.{◌≡◌, ℕ, ◌+◌, ◌++◌, ◌∷◌, [], length, map, if◌then◌else◌, OnOk, OnErr, MatchBool};
 ghost use Rattle.std.specs.Option.{option_copied};
-ghost use Rattle.std.specs.HashMap.{get};
 ghost use Rattle.lol_base.specs.LocalNames.{Name, same_local_name};
 ghost use Rattle.lol_vm.specs.Levels.{is_at_level, counted_at_last, without_last, count_if_at};
 ghost use Rattle.lol_vm.specs.CounterLists.{list_levels};
@@ -10,9 +9,9 @@ ghost use Rattle.lol_vm.specs.CounterMaps.{counters_of};
 ghost use Rattle.lol_vm.specs.TypedCounts.{counted_by_type, cut_to, key_of, count_at, PopsAbove};
 
 use lol_base::LocalName;
+use lol_names::NameMap;
 use lol_program::ChildCounter;
 use std::alloc::{AllocError, Global};
-use std::collections::HashMap;
 use std::marker::Model;
 
 /// A counter of the children of one name that an open element has had.
@@ -105,7 +104,7 @@ impl CounterList {
 /// The counters of each name that has any.
 #[derive(Drop)]
 struct CounterLists {
-    map: HashMap<LocalName<'static>, CounterList>,
+    map: NameMap<CounterList>,
     alloc: Global,
 }
 
@@ -114,7 +113,7 @@ impl CounterLists {
         ensures { (q : Name) → counters_of result q ≡ [] }
     {
         CounterLists {
-            map: HashMap::new(alloc),
+            map: NameMap::new(alloc),
             alloc,
         }
     }
@@ -124,10 +123,13 @@ impl CounterLists {
         ensures is { result ≡ is_at_level index (counters_of self.old name.now) }
         ensures counted { (q : Name) → counters_of self.new q ≡ (if same_local_name name.now q then (if result then counted_at_last (counters_of self.old q) else counters_of self.old q) else counters_of self.old q) }
     {
-        match self.map.get_mut(name) {
-            Some(list) => list.count(index),
-            None => false,
-        }
+        let Ok(at) = self.map.search(name) else {
+            return false;
+        };
+        let mut list = self.map.replace(at, CounterList::new(self.alloc, index));
+        let counted = list.count(index);
+        self.map.replace(at, list);
+        counted
     }
 
     /// Starts a counter of the name at one more level, which has counted_by_type one.
@@ -135,39 +137,41 @@ impl CounterLists {
         ensures ok { (q : Name) → OnOk result (counters_of self.new q ≡ (if same_local_name name.now q then counters_of self.old q ++ (index, 1) ∷ [] else counters_of self.old q)) }
         ensures err { (q : Name) → OnErr result (counters_of self.new q ≡ counters_of self.old q) }
     {
-        if let Some(list) = self.map.get_mut(name) {
-            list.push(index)?;
-            return Ok(());
+        let started = CounterList::new(self.alloc, index);
+        match self.map.search(name) {
+            Ok(at) => {
+                let mut list = self.map.replace(at, started);
+                let pushed = list.push(index);
+                self.map.replace(at, list);
+                pushed
+            }
+            Err(at) => {
+                let key = name.try_clone(self.alloc)?;
+                self.map.insert(at, key, started)
+            }
         }
-        let key = name.try_clone(self.alloc)?;
-        self.map.insert(key, CounterList::new(self.alloc, index))?;
-        Ok(())
     }
 
     /// Drops the name's last counter.
     fn stop(&mut self, name: &LocalName<'static>)
         ensures { (q : Name) → counters_of self.new q ≡ (if same_local_name name.now q then without_last (counters_of self.old q) else counters_of self.old q) }
     {
-        let Some(list) = self.map.get_mut(name) else {
+        let Ok(at) = self.map.search(name) else {
             return;
         };
-        if !list.pop() {
-            self.map.remove(name);
+        let mut list = self.map.replace(at, CounterList::new(self.alloc, 0));
+        if list.pop() {
+            self.map.replace(at, list);
+        } else {
+            self.map.remove(at);
         }
-    }
-
-    fn find<'s, 'i: 's>(&'s self, name: &LocalName<'i>) -> Option<&'s CounterList>
-        ensures { option_copied result ≡ get same_local_name self.now.map name.now }
-    {
-        let map: &HashMap<LocalName<'i>, CounterList> = &self.map;
-        map.get(name)
     }
 
     /// The name's last counter, if it is at this level.
     fn get<'s, 'i: 's>(&'s self, name: &LocalName<'i>, index: usize) -> Option<&'s ChildCounter>
         ensures { option_copied result ≡ count_if_at index (counters_of self.now name.now) }
     {
-        match self.find(name) {
+        match self.map.get(name) {
             Some(list) => list.counter_at(index),
             None => None,
         }

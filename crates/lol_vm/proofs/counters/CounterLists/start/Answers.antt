@@ -1,30 +1,24 @@
-use Rattle.std.proofs.Common.{sym, ap, ◌∙◌, subst, is_some, Some, ◌++◌, ◌∷◌, []}
-use Rattle.std.specs.HashMap.{Updates}
-use Rattle.lol_base.specs.LocalNames.{same_local_name}
+use Rattle.std.proofs.Common.{◌∙◌, sym, ap, Some}
+use Rattle.std.proofs.lemmas.Option.{slice_get_within}
+use Rattle.lol_names.specs.NameBlocks.{block_at}
 use Rattle.lol_vm.specs.CounterLists.{levels_if}
-use Rattle.lol_vm.proofs.NameMaps.{read-updated, read-kept}
-use Rattle.lol_vm.proofs.Refusals.{on_err}
+use Rattle.lol_vm.proofs.NameMaps.{put-twice, read-kept}
+use Rattle.lol_vm.proofs.Refusals.{on_err_then}
 use Rattle.lol_vm.proofs.counters.CounterLists.start.Goals as goal
 
-pub returns-in_err-push-clause-err : goal.returns-in_err-push-clause-err
-returns-in_err-push-clause-err c q =
-    let found = c.in-Some.ensures.value in
-    let updates = (c.get_mut.follows.holds c.push.new.self).3 (ap is_some (sym found)) in
-    on_err c.from_residual.result
-    (read-kept levels_if c.args.self.now.map (c.get_mut.follows.lender c.push.new.self) c.args.name.now (Some c.push.new.self) updates
-    (c.in_err-push.ensures.err ∙ ap levels_if found) q)
+pub replace-requires : goal.replace-requires
+replace-requires c =
+    let stands = c.replace-list.ensures.stands c.args.name.now c.in-Ok.ensures.place in
+    slice_get_within (block_at c.replace-list.new.self c.in-Ok.at.block) c.in-Ok.at.at stands.entry stands.at
 
-pub returns-in-Some-clause-ok : goal.returns-in-Some-clause-ok
-returns-in-Some-clause-ok c q =
-    let found = c.in-Some.ensures.value in
-    let updates = (c.get_mut.follows.holds c.push.new.self).3 (ap is_some (sym found)) in
-    read-updated levels_if (λ xs. xs ++ (c.args.index, 1) ∷ []) c.args.self.now.map (c.get_mut.follows.lender c.push.new.self) c.args.name.now (Some c.push.new.self) updates
-    (c.in_ok-push.ensures.ok ∙ ap (λ list. levels_if list ++ (c.args.index, 1) ∷ []) found) q
-
-pub returns-clause-ok : goal.returns-clause-ok
-returns-clause-ok c q =
-    let absent = c.in_default.ensures.value in
-    let at_key = subst (λ m. Updates same_local_name m c.insert.new.self c.in_ok-key.key (Some c.new.result)) c.get_mut.follows.holds-at-none c.in_ok-insert.ensures.updates in
-    let updates = subst (λ k. Updates same_local_name c.args.self.now.map c.insert.new.self k (Some c.new.result)) c.in_ok-key.ensures.same at_key in
-    read-updated levels_if (λ xs. xs ++ (c.args.index, 1) ∷ []) c.args.self.now.map c.insert.new.self c.args.name.now (Some c.new.result) updates
-    (c.new.ensures ∙ ap (λ list. levels_if list ++ (c.args.index, 1) ∷ []) absent) q
+pub returns-in-Ok-clause-err : goal.returns-in-Ok-clause-err
+returns-in-Ok-clause-err c q =
+    let name = c.args.name.now in
+    let stands = c.replace-list.ensures.stands name c.in-Ok.ensures.place in
+    let was = ap levels_if (c.replace-list.ensures.was name c.in-Ok.ensures.place) in
+    let put =
+    put-twice c.args.self.now.map c.replace-list.new.self c.replace.new.self name _ (Some c.push-pushed.new.self)
+    (c.replace-list.ensures.is name c.in-Ok.ensures.place) (c.replace.ensures.is name stands)
+    in
+    on_err_then c.push-pushed.result c.push-pushed.ensures.err
+    (λ same. read-kept levels_if c.args.self.now.map c.replace.new.self name (Some c.push-pushed.new.self) put (same ∙ sym was) q)

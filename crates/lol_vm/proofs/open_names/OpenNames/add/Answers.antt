@@ -1,30 +1,29 @@
-use Rattle.std.proofs.Common.{sym, ap, ◌∙◌, subst, is_some, Some, ◌++◌, ◌∷◌, []}
-use Rattle.std.specs.HashMap.{Updates}
-use Rattle.lol_base.specs.LocalNames.{same_local_name}
+use Rattle.std.proofs.Common.{◌∙◌, sym, ap, subst, Some, ◌++◌, ◌∷◌, []}
+use Rattle.lol_names.specs.NameBlocks.{IsPutAt}
+use Rattle.lol_vm.specs.declared.open_names.Places.TheVariants.{One}
 use Rattle.lol_vm.specs.OpenPlaces.{places_if}
-use Rattle.lol_vm.proofs.NameMaps.{read-updated, read-kept}
-use Rattle.lol_vm.proofs.Refusals.{on_err}
+use Rattle.lol_vm.proofs.NameMaps.{put-twice, read-put, read-kept}
+use Rattle.lol_vm.proofs.Refusals.{on_err_then, on_ok_then}
 use Rattle.lol_vm.proofs.open_names.OpenNames.add.Goals as goal
 
-pub returns-in_err-push-clause-err : goal.returns-in_err-push-clause-err
-returns-in_err-push-clause-err c q =
-    let found = c.in-Some.ensures.value in
-    let updates = (c.get_mut.follows.holds c.push.new.self).3 (ap is_some (sym found)) in
-    on_err c.from_residual.result
-    (read-kept places_if c.args.self.now.map (c.get_mut.follows.lender c.push.new.self) c.args.name.now (Some c.push.new.self) updates
-    (c.in_err-push.ensures.items ∙ ap places_if found) q)
+pub returns-in-Ok-clause-err : goal.returns-in-Ok-clause-err
+returns-in-Ok-clause-err c q =
+    let name = c.args.name.now in
+    let stands = c.replace-places.ensures.stands name c.in-Ok.ensures.place in
+    let was = ap places_if (c.replace-places.ensures.was name c.in-Ok.ensures.place) in
+    let put =
+    put-twice c.args.self.now.map c.replace-places.new.self c.replace.new.self name _ (Some c.push-added.new.self)
+    (c.replace-places.ensures.is name c.in-Ok.ensures.place) (c.replace.ensures.is name stands)
+    in
+    on_err_then c.push-added.result c.push-added.ensures.err
+    (λ same. read-kept places_if c.args.self.now.map c.replace.new.self name (Some c.push-added.new.self) put (same ∙ sym was) q)
 
-pub returns-in-Some-clause-ok : goal.returns-in-Some-clause-ok
-returns-in-Some-clause-ok c q =
-    let found = c.in-Some.ensures.value in
-    let updates = (c.get_mut.follows.holds c.push.new.self).3 (ap is_some (sym found)) in
-    read-updated places_if (λ xs. xs ++ c.args.place ∷ []) c.args.self.now.map (c.get_mut.follows.lender c.push.new.self) c.args.name.now (Some c.push.new.self) updates
-    (c.in_ok-push.ensures.items ∙ ap (λ list. places_if list ++ c.args.place ∷ []) found) q
-
-pub returns-clause-ok : goal.returns-clause-ok
-returns-clause-ok c q =
-    let absent = c.in_default.ensures.value in
-    let at_key = subst (λ m. Updates same_local_name m c.insert.new.self c.in_ok-key.key (Some c.push-2.new.self)) c.get_mut.follows.holds-at-none c.in_ok-insert.ensures.updates in
-    let updates = subst (λ k. Updates same_local_name c.args.self.now.map c.insert.new.self k (Some c.push-2.new.self)) c.in_ok-key.ensures.same at_key in
-    read-updated places_if (λ xs. xs ++ c.args.place ∷ []) c.args.self.now.map c.insert.new.self c.args.name.now (Some c.push-2.new.self) updates
-    (c.in_ok-push-2.ensures.items ∙ (ap (λ xs. xs ++ c.args.place ∷ []) c.new-places.ensures.items ∙ ap (λ list. places_if list ++ c.args.place ∷ []) absent)) q
+pub returns-in_ok-key-in-Err-clause-ok : goal.returns-in_ok-key-in-Err-clause-ok
+returns-in_ok-key-in-Err-clause-ok c q =
+    let none = ap places_if c.in-Err.ensures.missing in
+    let name = c.args.name.now in
+    on_ok_then c.insert.result c.insert.ensures.ok
+    (λ put.
+    read-put places_if (λ xs. xs ++ c.args.place ∷ []) c.args.self.now.map c.insert.new.self name (Some (One c.args.place))
+    (subst (λ k. IsPutAt k (Some (One c.args.place)) c.args.self.now.map c.insert.new.self) c.in_ok-key-in-Err.ensures.same put)
+    (ap (λ xs. xs ++ c.args.place ∷ []) (sym none)) q)

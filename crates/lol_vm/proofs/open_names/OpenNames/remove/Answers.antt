@@ -1,21 +1,34 @@
-use Rattle.std.proofs.Common.{sym, ap, ◌∙◌, is_some, Some}
+use Rattle.std.proofs.Common.{◌∙◌, sym, ap, refl, None, []}
+use Rattle.std.proofs.lemmas.Option.{slice_get_within}
+use Rattle.lol_names.specs.NameBlocks.{block_at}
 use Rattle.lol_vm.specs.Levels.{without_last}
+use Rattle.lol_vm.specs.Places.{listed}
 use Rattle.lol_vm.specs.OpenPlaces.{places_if}
-use Rattle.lol_vm.proofs.NameMaps.{read-updated, read-removed}
+use Rattle.lol_vm.proofs.NameMaps.{put-twice, read-put, read-same}
 use Rattle.lol_vm.proofs.open_names.OpenNames.remove.Goals as goal
 
-pub returns-then-not-pop_place : goal.returns-then-not-pop_place
-returns-then-not-pop_place c q =
-    let found = c.in-Some.ensures.value in
-    let updates = (c.get_mut.follows.holds c.pop_place.new.places).3 (ap is_some (sym found)) in
-    let emptied = c.if-not-pop_place.ensures in
-    read-removed places_if without_last c.args.self.now.map (c.get_mut.follows.lender c.pop_place.new.places) c.remove.new.self c.args.name.now (Some c.pop_place.new.places) updates c.remove.ensures.updates
-    (sym emptied ∙ ap (λ list. without_last (places_if list)) found) q
+pub returns-in_default : goal.returns-in_default
+returns-in_default c =
+    let none = ap places_if c.in_default.ensures.missing in
+    read-same places_if without_last c.args.self.now.map c.args.name.now (ap without_last none ∙ sym none)
 
-pub returns-else-not-pop_place : goal.returns-else-not-pop_place
-returns-else-not-pop_place c q =
-    let found = c.in-Some.ensures.value in
-    let updates = (c.get_mut.follows.holds c.pop_place.new.places).3 (ap is_some (sym found)) in
-    let popped = c.if-not-pop_place.ensures in
-    read-updated places_if without_last c.args.self.now.map (c.get_mut.follows.lender c.pop_place.new.places) c.args.name.now (Some c.pop_place.new.places) updates
-    (popped ∙ ap (λ list. without_last (places_if list)) found) q
+pub replace-places-requires : goal.replace-places-requires
+replace-places-requires c = slice_get_within (block_at c.args.self.now.map c.in-Ok.at.block) c.in-Ok.at.at c.in-Ok.ensures.place.entry c.in-Ok.ensures.place.at
+
+pub replace-requires : goal.replace-requires
+replace-requires c =
+    let stands = c.replace-places.ensures.stands c.args.name.now c.in-Ok.ensures.place in
+    slice_get_within (block_at c.replace-places.new.self c.in-Ok.at.block) c.in-Ok.at.at stands.entry stands.at
+
+pub remove-requires : goal.remove-requires
+remove-requires c =
+    let stands = c.replace-places.ensures.stands c.args.name.now c.in-Ok.ensures.place in
+    slice_get_within (block_at c.replace-places.new.self c.in-Ok.at.block) c.in-Ok.at.at stands.entry stands.at
+
+pub returns-else-pop : goal.returns-else-pop
+returns-else-pop c =
+    let name = c.args.name.now in
+    let stands = c.replace-places.ensures.stands name c.in-Ok.ensures.place in
+    let was = ap places_if (c.replace-places.ensures.was name c.in-Ok.ensures.place) in
+    let gone = put-twice c.args.self.now.map c.replace-places.new.self c.remove.new.self name _ None (c.replace-places.ensures.is name c.in-Ok.ensures.place) (c.remove.ensures name stands) in
+    read-put places_if without_last c.args.self.now.map c.remove.new.self name None gone (sym (ap without_last was ∙ c.if-pop.ensures))
