@@ -2,9 +2,10 @@
 #![tactic(auto)]
 
 #[cfg(test)]
-mod attributes;
 #[cfg(test)]
+mod attributes;
 mod compiled_tests;
+mod contexts;
 #[cfg(test)]
 mod counters;
 #[cfg(test)]
