@@ -2,9 +2,10 @@
 #![tactic(auto)]
 
 #[cfg(test)]
-#[cfg(test)]
 mod attributes;
+#[cfg(test)]
 mod compiled_tests;
+#[cfg(test)]
 mod contexts;
 #[cfg(test)]
 mod counters;
