@@ -7,6 +7,7 @@ mod VmStarts
 mod Directives
 mod VmFinishes
 mod VmRefusals
+mod VmData
 pub mod Trees
 pub mod Runs
 pub mod CounterLevels

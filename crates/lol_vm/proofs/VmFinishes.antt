@@ -12,7 +12,6 @@ use Rattle.lol_base.specs.declared.namespace.Namespace.TheVariants.{Html, Svg, M
 use Rattle.lol_memory.specs.Ids.{Ids, ascending}
 use Rattle.lol_memory.specs.declared.match_info.MatchInfo.{MatchInfo}
 use Rattle.lol_program.specs.Attributes.{tag_attributes}
-use Rattle.lol_program.specs.Compiled.{Sight}
 use Rattle.lol_program.specs.Paths.{Selectors}
 use Rattle.lol_program.specs.Programs.{Range, places, all_places}
 use Rattle.lol_program.specs.ProgramViews.{range_shown}

@@ -8,6 +8,7 @@ pub mod OpenNames
 pub mod Views
 pub mod VmErrors
 pub mod Vms
+pub mod VmLaws
 pub mod InstructionRuns
 pub mod Laws
 pub mod RangesOf

@@ -23,6 +23,7 @@ pub mod stack_laws;
 pub mod stack_machine_laws;
 mod tag_runs;
 mod vm;
+pub mod vm_laws;
 mod void;
 
 pub use address_ranges::AddressRanges;

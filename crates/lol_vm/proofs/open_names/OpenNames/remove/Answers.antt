@@ -1,8 +1,7 @@
-use Rattle.std.proofs.Common.{◌∙◌, sym, ap, refl, None, []}
+use Rattle.std.proofs.Common.{◌∙◌, sym, ap, None}
 use Rattle.std.proofs.lemmas.Option.{slice_get_within}
 use Rattle.lol_names.specs.NameBlocks.{block_at}
 use Rattle.lol_vm.specs.Levels.{without_last}
-use Rattle.lol_vm.specs.Places.{listed}
 use Rattle.lol_vm.specs.OpenPlaces.{places_if}
 use Rattle.lol_vm.proofs.NameMaps.{put-twice, read-put, read-same}
 use Rattle.lol_vm.proofs.open_names.OpenNames.remove.Goals as goal

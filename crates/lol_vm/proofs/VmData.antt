@@ -1,0 +1,95 @@
+-- Machines with other data of their last element.
+use Rattle.std.proofs.Common.{◌≡◌, ℕ, suc, zero, ◌+◌, ◌-◌, List, [], ◌∷◌, length, map, Option, Some, None, refl, sym, ap, ◌∙◌}
+use Rattle.std.specs.Prelude.{reverse, slice_get, slice_set, if◌then◌else◌}
+use Rattle.lol_base.specs.LocalNames.{Name, same_local_name}
+use Rattle.lol_memory.specs.Slots.{slots}
+use Rattle.lol_vm.specs.Refusals.{longest}
+use Rattle.lol_vm.specs.Active.{active_ranges_of}
+use Rattle.lol_vm.specs.Lending.{with_data}
+use Rattle.lol_vm.specs.SoundStacks.{IsSound, name_places_from}
+use Rattle.lol_vm.specs.StackLending.{with_current, with_current_in, with_data_if}
+use Rattle.lol_vm.specs.StackMachines.{Keeps, item_shown}
+use Rattle.lol_vm.specs.Stacks.{items_in}
+use Rattle.lol_vm.specs.Standing.{Machine}
+use Rattle.lol_vm.specs.VmLaws.{DataChangeNothing, DataKeepOpen, SlotsAreOfDepth}
+use Rattle.lol_vm.specs.Vms.{Vm, Shows}
+use Rattle.lol_vm.specs.declared.stack_item.StackItemOf.{StackItemOf}
+use Rattle.lol_vm.specs.declared.stack.StackOf.{StackOf}
+use Rattle.lol_vm.specs.declared.stack.StackNames.{StackNames}
+
+module _ {E : Type 0} (w : E) where
+  same_item : (x : StackItemOf Name E) (xs : List (StackItemOf Name E)) (k : ℕ) (item : StackItemOf Name E) → slice_get (x ∷ xs) zero ≡ Some item → x ≡ item
+  same_item x xs k item at = cc
+
+  -- what doesn't look at the data stays
+  map_set : {B : Type 0} (f : StackItemOf Name E → B) → ((item : StackItemOf Name E) → f (with_data item w) ≡ f item)
+      → (xs : List (StackItemOf Name E)) (k : ℕ) (item : StackItemOf Name E) → slice_get xs k ≡ Some item → map f (slice_set xs k (with_data item w)) ≡ map f xs
+  map_set f same [] k item at = refl
+  map_set f same (x ∷ xs) zero item at = ap (λ y. y ∷ map f xs) (same item ∙ ap f (sym (same_item x xs zero item at)))
+  map_set f same (x ∷ xs) (suc k) item at = ap (λ ys. f x ∷ ys) (map_set f same xs k item at)
+
+  places_set : (place : ℕ) (xs : List (StackItemOf Name E)) (k : ℕ) (item : StackItemOf Name E) (name : Name) → slice_get xs k ≡ Some item → name_places_from place (slice_set xs k (with_data item w)) name ≡ name_places_from place xs name
+  places_set place [] k item name at = refl
+  places_set place (x ∷ xs) zero item name at =
+      ap (λ (y : StackItemOf Name E). if same_local_name y.local_name name then place ∷ name_places_from (place + 1) xs name else name_places_from (place + 1) xs name) (sym (same_item x xs zero item at))
+  places_set place (x ∷ xs) (suc k) item name at =
+      ap (λ ps. if same_local_name x.local_name name then place ∷ ps else ps) (places_set (place + 1) xs k item name at)
+
+  module _ (s : StackOf Name StackNames E) where
+    abbrev changed : Option (StackItemOf Name E) → List (StackItemOf Name E)
+    changed o = with_data_if (items_in s) (length (items_in s) - 1) w o
+
+    abbrev At : Option (StackItemOf Name E) → Type 0
+    At o = slice_get (items_in s) (length (items_in s) - 1) ≡ o
+
+    same_map : {B : Type 0} (f : StackItemOf Name E → B) → ((item : StackItemOf Name E) → f (with_data item w) ≡ f item) → (o : Option (StackItemOf Name E)) → At o → map f (changed o) ≡ map f (items_in s)
+    same_map f same None at = refl
+    same_map f same (Some item) at = map_set f same (items_in s) (length (items_in s) - 1) item at
+
+    same_places : (name : Name) (o : Option (StackItemOf Name E)) → At o → name_places_from 0 (changed o) name ≡ name_places_from 0 (items_in s) name
+    same_places name None at = refl
+    same_places name (Some item) at = places_set 0 (items_in s) (length (items_in s) - 1) item name at
+
+    abbrev last : Option (StackItemOf Name E)
+    last = slice_get (items_in s) (length (items_in s) - 1)
+
+    keeps_data : (m : Machine) → Keeps s m → Keeps (with_current s w) m
+    keeps_data m k = record {
+      items = k.items ∙ sym (ap reverse (same_map item_shown (λ item. refl) last refl));
+      active = k.active;
+      root_children = k.root_children;
+      children = k.children ∙ sym (ap reverse (same_map (λ (x : StackItemOf Name E). x.child_counter) (λ item. refl) last refl));
+      typed = k.typed;
+      item_bytes = k.item_bytes;
+      slots = k.slots;
+    }
+
+    sound_data : IsSound s → IsSound (with_current s w)
+    sound_data h = record {
+      active = h.active ∙ sym (ap active_ranges_of (same_map (λ (x : StackItemOf Name E). x.hereditary_jumps) (λ item. refl) last refl));
+      places = λ name. h.places name ∙ sym (same_places name last refl);
+    }
+
+  shows_data : (vm : Vm E) (m : Machine) → Shows vm m → Shows (with_current_in vm w) m
+  shows_data vm m h = record { stack = keeps_data vm.stack m h.stack; sound = sound_data vm.stack h.sound; program = h.program; switch = h.switch; refused = h.refused }
+
+pub data_change_nothing : {E : Type 0} → DataChangeNothing E
+data_change_nothing s esi vm events w h = record { paths = h.paths; machine = h.machine; closed = h.closed; shown = shows_data w vm h.machine h.shown; standing = h.standing }
+
+pub data_keep_open : {E : Type 0} → DataKeepOpen E
+data_keep_open vm elements w h = record {
+  selectors = h.selectors;
+  esi = h.esi;
+  paths = h.paths;
+  machine = h.machine;
+  document = h.document;
+  most = h.most;
+  shown = shows_data w vm h.machine h.shown;
+  standing = h.standing;
+  ordered = h.ordered;
+  same = h.same;
+}
+
+pub slots_are_of_depth : {E : Type 0} → SlotsAreOfDepth E
+slots_are_of_depth s esi vm events h =
+    sym h.shown.stack.slots ∙ (h.standing.charged ∙ ap (λ n. slots n (longest s esi events)) h.shown.stack.item_bytes)

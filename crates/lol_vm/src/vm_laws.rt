@@ -1,0 +1,19 @@
+//! What those who go tag by tag rely on: each function takes and gives nothing, and its contract is the law.
+
+ghost use Rattle.lol_vm.specs.VmLaws.{DataChangeNothing, DataKeepOpen, SlotsAreOfDepth, StandingHasOpen};
+
+/// What a caller writes into the data of the last open element changes no later report, and no open element.
+pub fn data_change_nothing<E>()
+    ensures stands { DataChangeNothing E }
+    ensures still_open { DataKeepOpen E }
+{}
+
+/// A machine that stands for events has their open elements.
+pub fn standing_has_open<E>()
+    ensures { StandingHasOpen E }
+{}
+
+/// The slots that are charged are those of the greatest depth so far.
+pub fn slots_are_of_depth<E>()
+    ensures { SlotsAreOfDepth E }
+{}
