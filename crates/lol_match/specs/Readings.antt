@@ -1,8 +1,12 @@
 -- What the code has read of a script.
-use Rattle.std.specs.Prelude.{◌≡◌, map, All, Result, Ok, Err}
+use Rattle.std.specs.Prelude.{◌≡◌, ℕ, List, map, All, Result, Ok, Err}
+use Rattle.lol_css.specs.Accepting.{accept}
+use Rattle.lol_css.specs.Trees.{Items}
 use Rattle.lol_program.specs.Paths.{all_beginnings}
 use Rattle.lol_program.specs.Asts.{pairs_of, nodes_of}
-use Rattle.lol_program.specs.Sets.{SameMembers}
+use Rattle.lol_program.specs.Conditions.{pairs_under}
+use Rattle.lol_program.specs.Sets.{Joins, SameMembers}
+use Rattle.lol_program.specs.declared.ast.Ast.{Ast}
 use Rattle.lol_match.specs.Lines.{told_by, HasOutlinesInside}
 use Rattle.lol_match.specs.Scripts.{Script}
 use Rattle.lol_match.specs.declared.bad_line.BadLine.{BadLine}
@@ -23,6 +27,13 @@ pub record IsReading (code : Code) (s : Script) : Type 0 where
 -- what was read stands for what the definition gives
 abbrev pub ReadsScript : Code → Result Script BadLine → Type 0
 ReadsScript code defined = (s : Script) × IsReading code s × (defined ≡ Ok s)
+
+-- the selectors of a text are added to those of a tree, under an id
+pub record AddsSelectors (text : List ℕ) (id : ℕ) (old new : Ast) : Type 0 where
+  pub items : Items
+  pub read : accept text ≡ Ok items
+  pub pairs : Joins (pairs_of old) (pairs_of new) (pairs_under id items)
+  pub nodes : Joins (nodes_of old) (nodes_of new) (all_beginnings (pairs_under id items))
 
 -- a bad line is that of the definition
 abbrev pub Stops : Stop → Result Script BadLine → Type 0

@@ -58,8 +58,13 @@ pub fn worked_outputs()
     ensures dropped { output (codes "select\t0\t*\ndrop\tsvg\tg\nstart\thtml\tp\nend\tg\n") ≡ record { text = codes "dropped\nstart\t0\nend\t-\n"; status = Good } }
     ensures foreign { output (codes "tries\nselect\t0\tcircle\nstart\tsvg/\tcircle\nend\tcircle\n") ≡ record { text = codes "start\t0/\tasked\ttries 1 0\nend\t-\n"; status = Good } }
     ensures limit { output (codes "limit\t512\nselect\t0\t*\nstart\thtml\ta\nstart\thtml\tb\nstart\thtml\tc\nstart\thtml\td\nstart\thtml\te\nstart\thtml\tf\nstart\thtml\tg\nstart\thtml\th\nstart\thtml\ti\n") ≡ record { text = codes "start\t0\nstart\t0\nstart\t0\nstart\t0\nstart\t0\nstart\t0\nstart\t0\nstart\t0\nrefused limit\n"; status = Refused } }
+    ensures last_limit { output (codes "limit\t512\nlimit\t511\nstart\thtml\ta\n") ≡ record { text = codes "refused limit\n"; status = Refused } }
+    ensures attributes { output (codes "tries\nselect\t0\t.a p\nselect\t1\tp\nstart\thtml\tdiv\tclass=a\nstart\thtml\tp\n") ≡ record { text = codes "start\t-\tasked\ttries 2 1\nstart\t0,1\tasked\ttries 3 1\n"; status = Good } }
+    ensures attribute_with_equals { output (codes "select\t0\t[b=\"c=d\"]\nstart\tmathml/\tmi\tb=c=d\n") ≡ record { text = codes "start\t0/\tasked\n"; status = Good } }
+    ensures esi { output (codes "esi\nselect\t0\t*\nstart\thtml\tesi:include\nstart\thtml\tp\nend\tesi:include\n") ≡ record { text = codes "start\t0/\nstart\t0\nend\t-\n"; status = Good } }
     ensures bad_selector { output (codes "select\t0\tdiv + span") ≡ record { text = codes "bad line 1: UnsupportedCombinator(+)\n"; status = BadLine } }
     ensures empty_selector { output (codes "select\t0\t") ≡ record { text = codes "bad line 1: EmptySelector\n"; status = BadLine } }
     ensures bad_form { output (codes "start\thtml\n") ≡ record { text = codes "bad line 1: form\n"; status = BadLine } }
+    ensures late_setting { output (codes "end\tp\nesi\n") ≡ record { text = codes "bad line 2: form\n"; status = BadLine } }
     ensures late_bad_line { output (codes "start\thtml\tp\n\nselect\t0\tdiv + span") ≡ record { text = codes "bad line 3: form\n"; status = BadLine } }
 {}

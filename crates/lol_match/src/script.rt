@@ -2,15 +2,10 @@
 
 ghost use Rattle.std.specs.Prelude.{◌≡◌, IfOk, IfErr, OnOk, Ok};
 ghost use Rattle.lol_css.specs.Accepting.{accept};
-ghost use Rattle.lol_css.specs.Trees.{Items};
-ghost use Rattle.lol_program.specs.Paths.{all_beginnings};
-ghost use Rattle.lol_program.specs.Asts.{pairs_of, nodes_of};
-ghost use Rattle.lol_program.specs.Conditions.{pairs_under};
-ghost use Rattle.lol_program.specs.Sets.{Joins};
 ghost use Rattle.lol_match.specs.Lines.{set_by, told_by, HasOutlinesInside};
 ghost use Rattle.lol_match.specs.Scripts as scripts;
 ghost use Rattle.lol_match.specs.Scripts.{with_bytes, with_line, with_event, with_selector, read_script};
-ghost use Rattle.lol_match.specs.Readings.{IsReading, ReadsScript, Stops};
+ghost use Rattle.lol_match.specs.Readings.{IsReading, ReadsScript, AddsSelectors, Stops};
 ghost use Rattle.lol_match.specs.declared.script.Stop.TheVariants.{Memory};
 
 use crate::bad_line::{BadLine, Cause};
@@ -135,8 +130,7 @@ fn take_selector(
     id: u32,
     text: &str,
 ) -> Result<(), Stop>
-    ensures added { OnOk result ((items : Items) × (accept text.now ≡ Ok items) × Joins (pairs_of ast.old) (pairs_of ast.new) (pairs_under id items)
-        × Joins (nodes_of ast.old) (nodes_of ast.new) (all_beginnings (pairs_under id items))) }
+    ensures added { OnOk result (AddsSelectors text.now id ast.old ast.new) }
     ensures stop { IfErr result (λ stop. (s : scripts.Script) → Stops stop (with_selector number s id (accept text.now))) }
 {
     match Selector::from_str(alloc, text) {

@@ -41,7 +41,7 @@ returns-in-Tries-clause-taken c = λ s reading.
 pub returns-in_ok-take_selector-in-Select-clause-taken : goal.returns-in_ok-take_selector-in-Select-clause-taken
 returns-in_ok-take_selector-in-Select-clause-taken c = λ s reading.
     let added = c.in_ok-take_selector-in-Select.ensures.added in
-    let pairs = pairs_under c.in-Select.id added.0 in
+    let pairs = pairs_under c.in-Select.id added.items in
     let old = c.args.script.now.ast in
     let new = c.take_selector.new.ast in
     let empty : c.args.script.now.tags.items ≡ [] = nil_from_length _ (grind (arith, nat_tests, c.args.script.now.tags.ok.0)) in
@@ -51,11 +51,11 @@ returns-in_ok-take_selector-in-Select-clause-taken c = λ s reading.
         limit = reading.limit;
         esi = reading.esi;
         shows_tries = reading.shows_tries;
-        pairs = joined (pairs_of old) (pairs_of new) pairs s.pairs reading.pairs added.2;
+        pairs = joined (pairs_of old) (pairs_of new) pairs s.pairs reading.pairs added.pairs;
         nodes = subst (λ (members : List Path). SameMembers members (nodes_of new)) (sym (flat_map-append (λ (pair : Path × ℕ). beginnings pair.0) s.pairs pairs))
-            (joined (nodes_of old) (nodes_of new) (all_beginnings pairs) (all_beginnings s.pairs) reading.nodes added.3);
+            (joined (nodes_of old) (nodes_of new) (all_beginnings pairs) (all_beginnings s.pairs) reading.nodes added.nodes);
         events = reading.events;
         inside = reading.inside;
       },
-      ap (λ setting. with_line c.args.number s (set_by setting)) c.in-Select.is ∙ (not_begun s.events c.args.number _ none ∙ ap (with_selector c.args.number s c.in-Select.id) added.1),
+      ap (λ setting. with_line c.args.number s (set_by setting)) c.in-Select.is ∙ (not_begun s.events c.args.number _ none ∙ ap (with_selector c.args.number s c.in-Select.id) added.read),
     )
