@@ -120,7 +120,7 @@ fn reports_text(
     Ok(text)
 }
 
-/// The lines of a refused run. Where memory was refused there are none.
+/// The lines of a refused run, and that of its cause. There are none where the cause is memory.
 fn refused_text(
     alloc: Global,
     refusal: RunRefusal,

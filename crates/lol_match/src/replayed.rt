@@ -6,8 +6,8 @@
 
 use crate::program::Status;
 
-/// A script, its output, and how its run ends.
-pub(super) const SCRIPTS: [(&str, &str, Status); 102] = [
+/// A script of names and `*`, its output, and how its run ends.
+pub(super) const OF_NAMES: [(&str, &str, Status); 42] = [
     (
         "select\t3\tx\nstart\thtml\tp\nend\tP\nend\thr\n",
         "start\t-\nend\t0\nend\t-\n",
@@ -218,45 +218,14 @@ pub(super) const SCRIPTS: [(&str, &str, Status); 102] = [
         "end\t-\nstart\t-\nend\t-\nstart\t-\nstart\t-\nstart\t-\nstart\t-\nstart\t-\nstart\t-\nstart\t-\nend\t7,8,9\nend\t-\nend\t-\nstart\t-\nend\t-\nend\t13\nstart\t-\nend\t1,3,4,6\nstart\t-\nstart\t-\nstart\t-\nend\t-\nend\t-\nend\t-\nend\t-\nend\t-\nstart\t-\nstart\t-\nstart\t-\nend\t19,20,26\nend\t-\nend\t18\nstart\t-\nend\t-\nend\t-\nstart\t-\nstart\t-\nstart\t-\nstart\t-\nstart\t-\n",
         Status::Good,
     ),
+];
+
+/// A script of any kind, its output, and how its run ends.
+pub(super) const OF_EVERY_KIND: [(&str, &str, Status); 42] = [
     (
         "tries\n\nesi\n\nselect\t2\ta[/**/|a~=A\r\n\nend\thr\n\nend\tX",
         "end\t-\nend\t-\n",
         Status::Good,
-    ),
-    (
-        "select\t31\t^:hover\nstart\thtml\ta\nend\tB\n",
-        "bad line 1: EmptySelector\n",
-        Status::BadLine,
-    ),
-    (
-        "tries\nselect\t0\t[a0a[a\nend\tli\nend\tg\n",
-        "bad line 2: UnexpectedTokenInAttribute\n",
-        Status::BadLine,
-    ),
-    (
-        "tries\n\nselect\t64\t \\31 ba>\n\nend\tdiv\n\ndrop\thtml\tb\n",
-        "bad line 3: DanglingCombinator\n",
-        Status::BadLine,
-    ),
-    (
-        "tries\nesi\nselect\t32\t hr,A* \nstart\tsvg/\tb\nstart\thtml\tA\n",
-        "bad line 3: UnexpectedToken\n",
-        Status::BadLine,
-    ),
-    (
-        "tries\n\nselect\t32\t|=n-1ODD-\n\nstart\thtml\tb\n\nstart\tmathml\tb\n",
-        "bad line 3: EmptySelector\n",
-        Status::BadLine,
-    ),
-    (
-        "tries\nselect\t64\t[*|A\r$=\t/**/ b i\nstart\thtml\ta\nstart\thtml\tbr\n",
-        "bad line 2: NamespacedSelector\n",
-        Status::BadLine,
-    ),
-    (
-        "\ntries\nselect\t32\ta[/**/*|a^=]1]\nstart\tmathml\tp\tLANG=b a\ta=TEXT\nstart\tsvg\tA\n",
-        "bad line 3: UnexpectedEnd\n",
-        Status::BadLine,
     ),
     (
         "tries\nselect\t4\tp esi\\:include\nstart\tmathml/\ta-b\nstart\thtml\tx\n",
@@ -264,49 +233,14 @@ pub(super) const SCRIPTS: [(&str, &str, Status); 102] = [
         Status::Good,
     ),
     (
-        "tries\nselect\t2\t\r\\(:hover\nstart\thtml\tb\ttype=AB\nstart\thtml\tp\n",
-        "bad line 2: UnsupportedPseudoClassOrElement\n",
-        Status::BadLine,
-    ),
-    (
-        "tries\nesi\nselect\t1\tba1-n:~#1_\nstart\tmathml\tx\nstart\thtml\tdiv\n",
-        "bad line 3: UnsupportedPseudoClassOrElement\n",
-        Status::BadLine,
-    ),
-    (
         "tries\nselect\t90\ta[|A\r*=\"a-b\"\rs/**/]\nstart\tmathml\thr\nstart\tmathml\tb\n",
         "start\t-\tasked\ttries 1 0\nstart\t-\tasked\ttries 1 0\n",
         Status::Good,
     ),
     (
-        "esi\nselect\t63\t[\\000063\\00006cAsS |=\\000062 ][B],spa-->\nend\tdiv\nstart\thtml\tdiv\tclass\n",
-        "bad line 2: DanglingCombinator\n",
-        Status::BadLine,
-    ),
-    (
-        "tries\n\nselect\t32\t[<!--\rp*|a|url(:last-child:not(#-\\61':\n\nstart\thtml\tb\n\nstart\thtml\tp\n",
-        "bad line 3: MissingAttributeName\n",
-        Status::BadLine,
-    ),
-    (
-        "select\t1\t[!*|2n+1\nend\timg\nstart\thtml\tdiv\tid=a\nstart\thtml\t1a\nend\tesi:comment\nstart\thtml\t1a\n",
-        "bad line 1: MissingAttributeName\n",
-        Status::BadLine,
-    ),
-    (
         "select\t63\t\\h\\0037  /* */\nselect\t3\t/* */ a-\\0062\t\nstart\tsvg\tA\tX=A-B\nstart\tsvg/\tp\nstart\tsvg\tb\n",
         "start\t-\tasked\nstart\t-\tasked\nstart\t-\tasked\n",
         Status::Good,
-    ),
-    (
-        "tries\n\nselect\t163\t:first-child+*[\n\nstart\tsvg\tb\n\nstart\thtml/\tb\n\nstart\tmathml/\tdiv\n\nend\ta\n\nstart\thtml\tdiv\tb=a=b\n",
-        "bad line 3: UnexpectedEnd\n",
-        Status::BadLine,
-    ),
-    (
-        "tries\n\nselect\t2\t  [ a$= 'x' ][|\\0062 =\"a b\"  s], [\\000058\t.5='a b']\n\nstart\thtml\tb\n\nstart\thtml/\tb\n",
-        "bad line 3: UnexpectedTokenInAttribute\n",
-        Status::BadLine,
     ),
     (
         "select\t3\t* \nstart\thtml\tx\ta=AB\tid=a b\tb=a=b\ndrop\thtml\tx\tx=A-b\nstart\thtml\tdiv\tclass=a-\tclass=\nend\tp\nend\tdiv\n",
@@ -327,11 +261,6 @@ pub(super) const SCRIPTS: [(&str, &str, Status); 102] = [
         "tries\n\nselect\t0\t#adivp.a \n\nstart\thtml\tX\n\nstart\thtml\tx\n\ndrop\thtml\tb\n\nend\tx\n\nend\tdiv\n",
         "start\t-\tasked\ttries 1 1\nstart\t-\tasked\ttries 1 1\ndropped\nend\t1\nend\t-\n",
         Status::Good,
-    ),
-    (
-        "select\t4\t:Not(x) \nselect\t4\t.-=a]|**:is(-a\ndrop\thtml\tesi:include\nstart\thtml\tP\nstart\thtml\tdiv\ndrop\thtml\tp\nstart\thtml\tp\ttype=a-b\n",
-        "bad line 2: InvalidClassName\n",
-        Status::BadLine,
     ),
     (
         "tries\nselect\t32\ta[\\61 \r$=\"a\\\rb\"s/**/]\nstart\thtml\tp\nend\ta-b\nstart\thtml\tb\nstart\thtml\tdiv\nend\tdiv\n",
@@ -364,11 +293,6 @@ pub(super) const SCRIPTS: [(&str, &str, Status); 102] = [
         Status::Good,
     ),
     (
-        "tries\nesi\nselect\t559\t#a a#b#ab [LAng ] spa}n,[lANg~=\"a-\"]>:not(*:whErE(\u{c}[  b]),*[|x= \"b\"][ID= ab   i][ tYpE], a )[lang*=x] p,.ab[|\\nohref] /* a > b */ #\\62 [accept-charset^=\"a b\"].x\nend\ta-b\nstart\thtml\tspan\n",
-        "bad line 3: UnexpectedToken\n",
-        Status::BadLine,
-    ),
-    (
         "limit\t1023\nselect\t2\tesi\\003a comment\nselect\t4\t*\nstart\thtml\tx\nstart\thtml\tp\nstart\thtml\tb\nstart\thtml\tb\nend\tp\nstart\thtml\ta\nstart\thtml\tdiv\nstart\thtml/\tp\nstart\thtml\ta\nstart\thtml\tp\n",
         "start\t4\nstart\t4\nstart\t4\nstart\t4\nend\t1,2,3\nstart\t4\nstart\t4\nstart\t4\nstart\t4\nstart\t4\n",
         Status::Good,
@@ -389,11 +313,6 @@ pub(super) const SCRIPTS: [(&str, &str, Status); 102] = [
         Status::Good,
     ),
     (
-        "select\t50\tX,\\000078\t, p\nend\tdiv\nstart\thtml\tp\tid=a-b\tx=A-b\ttype=TEXT\nstart\thtml\tg\tid=a\tb=TEXT\ttype=-\ttype=a=b\nstart\thtml//\ta\nend\ta\nstart\thtml\ta\tb\nstart\thtml\tg\ta=b a\nend\t1a\nend\ta\nend\tg\nend\ta-b\nend\ta\nstart\thtml\tli\tscope=b\ttype=a-b\nstart\thtml\tx\tclass=a b\tlang=a-\nstart\thtml\tinput\ta=a-\tb=A\nstart\thtml\tli\n",
-        "bad line 5: form\n",
-        Status::BadLine,
-    ),
-    (
         "esi\nselect\t4\tB P:NTH-cHIld(-2n\nselect\t2\t:nth-of-type( -3)>a#b #A:noT(Div)\nselect\t2\t p:not(a#x )[|noresize][CLass]\nselect\t64\t* #a#a\nselect\t2\t*:nTh-ChILd(+5n- /* a > b */ 0)[|compact]:nTH-CHIlD(n +1) a.a-b\nend\tdiv\nend\timg\nstart\thtml\tA\nend\tdiv\nstart\thtml\tB\ta=A-B\nstart\thtml/\tinput\nend\tb\nend\tb",
         "end\t-\nend\t-\nstart\t-\nend\t-\nstart\t-\tasked\nstart\t-\tasked\nend\t4\nend\t-\n",
         Status::Good,
@@ -402,11 +321,6 @@ pub(super) const SCRIPTS: [(&str, &str, Status); 102] = [
         "tries\nselect\t0\th1\nselect\t33\tb,\\000031\ta, d\\69\tv\nselect\t32\tinput,b:not(p, \\span,\\62 )\nselect\t63\tesi\\003a i\\ncl\\000075d\\000065 :nth-child( /* a > b */ odd\nselect\t4\tx\nselect\t3\t\u{c}hr,a,\\s\\70 a\\006e\t \nselect\t32\th\\0031\t,d\\0069\t\\0076\t\nselect\t64\t:not(a\\-b:not( p,es\\i\\00003a\\63 o\\mm\\65 nt))\nstart\thtml\thr\nstart\thtml\tesi:comment\nend\tinput\n",
         "start\t3/,64/\ttries 12 0\nstart\t64\ttries 12 0\nend\t-\n",
         Status::Good,
-    ),
-    (
-        "esi\ntries\nselect\t0\tx.b\nstart\tsvg\ta\nstart\tmathml\tinput\nstart\thtml\tx\nstart\thtml\thr\nstart\thtml\tdiv\nend\tesi:comment\nstart\tsvg\tesi:include\nstart\tsvg/\tb\nend\ta\nstart\tsvg\tbr\nstart\tsvg\tdiv\nstart\tmathml\tx\nstart\tmathml\tesi:comment\nend\tinput\nstart\tHTML\ta\nstart\thtml\tb\nstart\tsvg\tinput\nstart\tmathml\tesi:include\nstart\tsvg\tesi:comment\nstart\tmathml/\tesi:include\nstart\thtml\tdiv\n",
-        "bad line 18: form\n",
-        Status::BadLine,
     ),
     (
         "tries\n\nselect\t0\t* * * > [/*a*/lan\\67 ='-'] [/*a*/lan\\67 ='-']\n\nselect\t1\t* > *\n\nselect\t2\t[/*a*/lan\\67 ='-'] [/*a*/lan\\67 ='-']\n\nselect\t3\t* > *\n\nstart\thtml/\ta\n\nstart\thtml\tinput\n\nstart\thtml\tinput\n\nend\thr\n\nend\tb\n\nstart\thtml\tx\n\nstart\thtml\tx\n\nend\thr\n\nend\thr\n\nstart\thtml\timg\n",
@@ -517,5 +431,81 @@ pub(super) const SCRIPTS: [(&str, &str, Status); 102] = [
         "select\t3\t:is(:where(:where(:where(:is(:not(:is(:is(:not(:is(:not(:is(:not(:is(:not(:not(:where(:not(:is(:is(:where(:not(:not(:not(:where(:not(:is(:is(:is(:not(:is(:is(:is(:not(:where(:where(:where(:not(:where(:not(:not(:where(:is(:is(:not(:where(:where(:where(:where(:not(:is(:is(:not(:not(:not(:not(:not(:is(:is(:where(:not(:not(:where(:not(:not(:where(:not(:where(:is(:where(:not(:is(:not(:not(:is(:where(:is(:is(:is(:where(:not(:not(:not(:is(:where(:not(:is(:where(:is(:not(:is(:not(:where(:where(:is(:where(:where(:not(:where(:not(:is(:is(:is(:where(:not(:where(:where(:where(:not(:where(:is(:where(:is(:not(:is(:where(:is(:not(:not(:where(:is(:not(:is(:where(:not(:not(:where(a, b\nstart\thtml\tbr\ndrop\thtml\tbr\nstart\thtml\tbr\nstart\thtml\timg\nend\tb\n",
         "start\t3/\nstart\t3/\nstart\t3/\nstart\t3/\nend\t-\n",
         Status::Good,
+    ),
+];
+
+/// A script of any kind with a bad line, and its output.
+pub(super) const BAD: [(&str, &str); 18] = [
+    (
+        "select\t31\t^:hover\nstart\thtml\ta\nend\tB\n",
+        "bad line 1: EmptySelector\n",
+    ),
+    (
+        "tries\nselect\t0\t[a0a[a\nend\tli\nend\tg\n",
+        "bad line 2: UnexpectedTokenInAttribute\n",
+    ),
+    (
+        "tries\n\nselect\t64\t \\31 ba>\n\nend\tdiv\n\ndrop\thtml\tb\n",
+        "bad line 3: DanglingCombinator\n",
+    ),
+    (
+        "tries\nesi\nselect\t32\t hr,A* \nstart\tsvg/\tb\nstart\thtml\tA\n",
+        "bad line 3: UnexpectedToken\n",
+    ),
+    (
+        "tries\n\nselect\t32\t|=n-1ODD-\n\nstart\thtml\tb\n\nstart\tmathml\tb\n",
+        "bad line 3: EmptySelector\n",
+    ),
+    (
+        "tries\nselect\t64\t[*|A\r$=\t/**/ b i\nstart\thtml\ta\nstart\thtml\tbr\n",
+        "bad line 2: NamespacedSelector\n",
+    ),
+    (
+        "\ntries\nselect\t32\ta[/**/*|a^=]1]\nstart\tmathml\tp\tLANG=b a\ta=TEXT\nstart\tsvg\tA\n",
+        "bad line 3: UnexpectedEnd\n",
+    ),
+    (
+        "tries\nselect\t2\t\r\\(:hover\nstart\thtml\tb\ttype=AB\nstart\thtml\tp\n",
+        "bad line 2: UnsupportedPseudoClassOrElement\n",
+    ),
+    (
+        "tries\nesi\nselect\t1\tba1-n:~#1_\nstart\tmathml\tx\nstart\thtml\tdiv\n",
+        "bad line 3: UnsupportedPseudoClassOrElement\n",
+    ),
+    (
+        "esi\nselect\t63\t[\\000063\\00006cAsS |=\\000062 ][B],spa-->\nend\tdiv\nstart\thtml\tdiv\tclass\n",
+        "bad line 2: DanglingCombinator\n",
+    ),
+    (
+        "tries\n\nselect\t32\t[<!--\rp*|a|url(:last-child:not(#-\\61':\n\nstart\thtml\tb\n\nstart\thtml\tp\n",
+        "bad line 3: MissingAttributeName\n",
+    ),
+    (
+        "select\t1\t[!*|2n+1\nend\timg\nstart\thtml\tdiv\tid=a\nstart\thtml\t1a\nend\tesi:comment\nstart\thtml\t1a\n",
+        "bad line 1: MissingAttributeName\n",
+    ),
+    (
+        "tries\n\nselect\t163\t:first-child+*[\n\nstart\tsvg\tb\n\nstart\thtml/\tb\n\nstart\tmathml/\tdiv\n\nend\ta\n\nstart\thtml\tdiv\tb=a=b\n",
+        "bad line 3: UnexpectedEnd\n",
+    ),
+    (
+        "tries\n\nselect\t2\t  [ a$= 'x' ][|\\0062 =\"a b\"  s], [\\000058\t.5='a b']\n\nstart\thtml\tb\n\nstart\thtml/\tb\n",
+        "bad line 3: UnexpectedTokenInAttribute\n",
+    ),
+    (
+        "select\t4\t:Not(x) \nselect\t4\t.-=a]|**:is(-a\ndrop\thtml\tesi:include\nstart\thtml\tP\nstart\thtml\tdiv\ndrop\thtml\tp\nstart\thtml\tp\ttype=a-b\n",
+        "bad line 2: InvalidClassName\n",
+    ),
+    (
+        "tries\nesi\nselect\t559\t#a a#b#ab [LAng ] spa}n,[lANg~=\"a-\"]>:not(*:whErE(\u{c}[  b]),*[|x= \"b\"][ID= ab   i][ tYpE], a )[lang*=x] p,.ab[|\\nohref] /* a > b */ #\\62 [accept-charset^=\"a b\"].x\nend\ta-b\nstart\thtml\tspan\n",
+        "bad line 3: UnexpectedToken\n",
+    ),
+    (
+        "select\t50\tX,\\000078\t, p\nend\tdiv\nstart\thtml\tp\tid=a-b\tx=A-b\ttype=TEXT\nstart\thtml\tg\tid=a\tb=TEXT\ttype=-\ttype=a=b\nstart\thtml//\ta\nend\ta\nstart\thtml\ta\tb\nstart\thtml\tg\ta=b a\nend\t1a\nend\ta\nend\tg\nend\ta-b\nend\ta\nstart\thtml\tli\tscope=b\ttype=a-b\nstart\thtml\tx\tclass=a b\tlang=a-\nstart\thtml\tinput\ta=a-\tb=A\nstart\thtml\tli\n",
+        "bad line 5: form\n",
+    ),
+    (
+        "esi\ntries\nselect\t0\tx.b\nstart\tsvg\ta\nstart\tmathml\tinput\nstart\thtml\tx\nstart\thtml\thr\nstart\thtml\tdiv\nend\tesi:comment\nstart\tsvg\tesi:include\nstart\tsvg/\tb\nend\ta\nstart\tsvg\tbr\nstart\tsvg\tdiv\nstart\tmathml\tx\nstart\tmathml\tesi:comment\nend\tinput\nstart\tHTML\ta\nstart\thtml\tb\nstart\tsvg\tinput\nstart\tmathml\tesi:include\nstart\tsvg\tesi:comment\nstart\tmathml/\tesi:include\nstart\thtml\tdiv\n",
+        "bad line 18: form\n",
     ),
 ];

@@ -170,9 +170,49 @@ fn run_on(alloc: Global, script: &[u8]) -> (Result<Status, RunFault>, Vec<u8>) {
 
 #[test]
 fn runs_scripts(rt: HostRuntime) -> Result<(), Fail> {
-    for (script, output, status) in worked::SCRIPTS {
+    for (script, output, status) in worked::ANSWERED {
         let (outcome, written) = run_on(rt.alloc(), script.as_bytes());
         assert_eq!(rt; outcome, Ok(status), "{script:?}");
+        assert_eq!(rt; written.as_slice(), output.as_bytes(), "{script:?}");
+    }
+    Ok(())
+}
+
+#[test]
+fn names_bad_lines(rt: HostRuntime) -> Result<(), Fail> {
+    for (script, output) in worked::BAD {
+        let (outcome, written) = run_on(rt.alloc(), script.as_bytes());
+        assert_eq!(rt; outcome, Ok(Status::BadLine), "{script:?}");
+        assert_eq!(rt; written.as_slice(), output.as_bytes(), "{script:?}");
+    }
+    Ok(())
+}
+
+#[test]
+fn replays_scripts_of_names(rt: HostRuntime) -> Result<(), Fail> {
+    for (script, output, status) in replayed::OF_NAMES {
+        let (outcome, written) = run_on(rt.alloc(), script.as_bytes());
+        assert_eq!(rt; outcome, Ok(status), "{script:?}");
+        assert_eq!(rt; written.as_slice(), output.as_bytes(), "{script:?}");
+    }
+    Ok(())
+}
+
+#[test]
+fn replays_scripts(rt: HostRuntime) -> Result<(), Fail> {
+    for (script, output, status) in replayed::OF_EVERY_KIND {
+        let (outcome, written) = run_on(rt.alloc(), script.as_bytes());
+        assert_eq!(rt; outcome, Ok(status), "{script:?}");
+        assert_eq!(rt; written.as_slice(), output.as_bytes(), "{script:?}");
+    }
+    Ok(())
+}
+
+#[test]
+fn replays_bad_lines(rt: HostRuntime) -> Result<(), Fail> {
+    for (script, output) in replayed::BAD {
+        let (outcome, written) = run_on(rt.alloc(), script.as_bytes());
+        assert_eq!(rt; outcome, Ok(Status::BadLine), "{script:?}");
         assert_eq!(rt; written.as_slice(), output.as_bytes(), "{script:?}");
     }
     Ok(())
@@ -207,16 +247,6 @@ fn runs_a_long_script(rt: HostRuntime) -> Result<(), Fail> {
     let (outcome, written) = run_on(rt.alloc(), script.as_bytes());
     assert_eq!(rt; outcome, Ok(Status::Good));
     assert_eq!(rt; written.as_slice(), output.as_bytes());
-    Ok(())
-}
-
-#[test]
-fn replays_scripts(rt: HostRuntime) -> Result<(), Fail> {
-    for (script, output, status) in replayed::SCRIPTS {
-        let (outcome, written) = run_on(rt.alloc(), script.as_bytes());
-        assert_eq!(rt; outcome, Ok(status), "{script:?}");
-        assert_eq!(rt; written.as_slice(), output.as_bytes(), "{script:?}");
-    }
     Ok(())
 }
 

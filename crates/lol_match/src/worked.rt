@@ -3,18 +3,8 @@
 use crate::program::Status;
 
 /// A script, its output, and how its run ends.
-pub(super) const SCRIPTS: [(&str, &str, Status); 78] = [
+pub(super) const ANSWERED: [(&str, &str, Status); 36] = [
     ("", "", Status::Good),
-    (
-        "select\t0\tdiv + span\n",
-        "bad line 1: UnsupportedCombinator(+)\n",
-        Status::BadLine,
-    ),
-    (
-        "select\t0\t\n",
-        "bad line 1: EmptySelector\n",
-        Status::BadLine,
-    ),
     (
         "select\t0\t:not(div)\nselect\t1\t|p\nstart\thtml\tdiv\nstart\thtml\tp\n",
         "start\t-\nstart\t0\n",
@@ -25,27 +15,16 @@ pub(super) const SCRIPTS: [(&str, &str, Status); 78] = [
         "start\t-\nstart\t7/\nstart\t-\nstart\t-\n",
         Status::Good,
     ),
-    ("start\thtml\n", "bad line 1: form\n", Status::BadLine),
     (
         "select\t4\t* > br, P\nselect\t2\tp\nstart\thtml\tp\nstart\thtml\tBR\nstart\thtml\tp\nend\tP\nend\tP\n",
         "start\t2,4\nstart\t4/\nstart\t2,4\nend\t2\nend\t0\n",
         Status::Good,
-    ),
-    (
-        "start\thtml\tp\n\nselect\t0\tdiv + span",
-        "bad line 3: form\n",
-        Status::BadLine,
     ),
     ("end\ttable", "end\t-\n", Status::Good),
     (
         "select\t0\t:is(h1, h2) > a\nstart\thtml\th1\nstart\thtml\ta\nend\th1\nstart\thtml\tp\nstart\thtml\ta\n",
         "start\t-\nstart\t0\nend\t0,1\nstart\t-\nstart\t-\n",
         Status::Good,
-    ),
-    (
-        "select\t0\t:where()\n",
-        "bad line 1: EmptySelector\n",
-        Status::BadLine,
     ),
     (
         "select\t0\t:not(:not(a, b))\nstart\thtml\ta\nstart\thtml\tb\nstart\thtml\tc\n",
@@ -192,114 +171,73 @@ pub(super) const SCRIPTS: [(&str, &str, Status); 78] = [
         "start\t0,1,2\tasked\nstart\t1/\tasked\n",
         Status::Good,
     ),
-    ("esi\t\n", "bad line 1: form\n", Status::BadLine),
-    ("esi\r\n", "bad line 1: form\n", Status::BadLine),
-    ("tries\t\n", "bad line 1: form\n", Status::BadLine),
-    ("limit\t\n", "bad line 1: form\n", Status::BadLine),
-    ("limit\t5\t\n", "bad line 1: form\n", Status::BadLine),
-    (
-        "limit\t18446744073709551616\n",
-        "bad line 1: form\n",
-        Status::BadLine,
-    ),
-    ("limit\t-1\n", "bad line 1: form\n", Status::BadLine),
-    ("select\t0\n", "bad line 1: form\n", Status::BadLine),
-    (
-        "select\t4294967296\tp\n",
-        "bad line 1: form\n",
-        Status::BadLine,
-    ),
-    ("select\t0x1\tp\n", "bad line 1: form\n", Status::BadLine),
-    ("start\thtml\t\n", "bad line 1: form\n", Status::BadLine),
-    ("start\tHTML\tp\n", "bad line 1: form\n", Status::BadLine),
-    ("start\thtml//\tp\n", "bad line 1: form\n", Status::BadLine),
-    ("start\thtml\tp\t\n", "bad line 1: form\n", Status::BadLine),
-    (
-        "start\thtml\tp\t=b\n",
-        "bad line 1: form\n",
-        Status::BadLine,
-    ),
-    (
-        "start\thtml\tp\ta\t\n",
-        "bad line 1: form\n",
-        Status::BadLine,
-    ),
-    ("drop\tsvg\n", "bad line 1: form\n", Status::BadLine),
-    ("drop\n", "bad line 1: form\n", Status::BadLine),
-    ("end\n", "bad line 1: form\n", Status::BadLine),
-    ("end\tp\t\n", "bad line 1: form\n", Status::BadLine),
-    ("START\thtml\tp\n", "bad line 1: form\n", Status::BadLine),
-    (" esi\n", "bad line 1: form\n", Status::BadLine),
-    (
-        "end\tp\nlimit\t512\n",
-        "bad line 2: form\n",
-        Status::BadLine,
-    ),
-    ("end\tp\nesi\n", "bad line 2: form\n", Status::BadLine),
-    ("end\tp\ntries\n", "bad line 2: form\n", Status::BadLine),
-    (
-        "end\tp\nselect\t0\tp\n",
-        "bad line 2: form\n",
-        Status::BadLine,
-    ),
-    (
-        "end\tp\nselect\t0\tdiv +\n",
-        "bad line 2: form\n",
-        Status::BadLine,
-    ),
-    (
-        "\nselect\t0\t:is(a > b)\n",
-        "bad line 2: UnsupportedPseudoClassOrElement\n",
-        Status::BadLine,
-    ),
-    (
-        "\nselect\t0\t:not()\n",
-        "bad line 2: EmptySelector\n",
-        Status::BadLine,
-    ),
-    (
-        "\nselect\t0\tdiv >\n",
-        "bad line 2: DanglingCombinator\n",
-        Status::BadLine,
-    ),
-    (
-        "\nselect\t0\tdiv ~ p\n",
-        "bad line 2: UnsupportedCombinator(~)\n",
-        Status::BadLine,
-    ),
-    (
-        "\nselect\t0\tdiv@\n",
-        "bad line 2: UnexpectedToken\n",
-        Status::BadLine,
-    ),
-    (
-        "\nselect\t0\tdiv.\n",
-        "bad line 2: UnexpectedEnd\n",
-        Status::BadLine,
-    ),
-    (
-        "\nselect\t0\tdiv[=\"foo\"]\n",
-        "bad line 2: MissingAttributeName\n",
-        Status::BadLine,
-    ),
-    (
-        "\nselect\t0\tdiv[foo~\"bar\"]\n",
-        "bad line 2: UnexpectedTokenInAttribute\n",
-        Status::BadLine,
-    ),
-    (
-        "\nselect\t0\tsvg|img\n",
-        "bad line 2: NamespacedSelector\n",
-        Status::BadLine,
-    ),
-    (
-        "\nselect\t0\t.foo()\n",
-        "bad line 2: InvalidClassName\n",
-        Status::BadLine,
-    ),
     (
         "limit\t007\nselect\t0000000000004294967295\tp\nend\tp\n",
         "end\t-\n",
         Status::Good,
     ),
+];
+
+/// A script with a bad line, and its output.
+pub(super) const BAD: [(&str, &str); 42] = [
+    (
+        "select\t0\tdiv + span\n",
+        "bad line 1: UnsupportedCombinator(+)\n",
+    ),
+    ("select\t0\t\n", "bad line 1: EmptySelector\n"),
+    ("start\thtml\n", "bad line 1: form\n"),
+    (
+        "start\thtml\tp\n\nselect\t0\tdiv + span",
+        "bad line 3: form\n",
+    ),
+    ("select\t0\t:where()\n", "bad line 1: EmptySelector\n"),
+    ("esi\t\n", "bad line 1: form\n"),
+    ("esi\r\n", "bad line 1: form\n"),
+    ("tries\t\n", "bad line 1: form\n"),
+    ("limit\t\n", "bad line 1: form\n"),
+    ("limit\t5\t\n", "bad line 1: form\n"),
+    ("limit\t18446744073709551616\n", "bad line 1: form\n"),
+    ("limit\t-1\n", "bad line 1: form\n"),
+    ("select\t0\n", "bad line 1: form\n"),
+    ("select\t4294967296\tp\n", "bad line 1: form\n"),
+    ("select\t0x1\tp\n", "bad line 1: form\n"),
+    ("start\thtml\t\n", "bad line 1: form\n"),
+    ("start\tHTML\tp\n", "bad line 1: form\n"),
+    ("start\thtml//\tp\n", "bad line 1: form\n"),
+    ("start\thtml\tp\t\n", "bad line 1: form\n"),
+    ("start\thtml\tp\t=b\n", "bad line 1: form\n"),
+    ("start\thtml\tp\ta\t\n", "bad line 1: form\n"),
+    ("drop\tsvg\n", "bad line 1: form\n"),
+    ("drop\n", "bad line 1: form\n"),
+    ("end\n", "bad line 1: form\n"),
+    ("end\tp\t\n", "bad line 1: form\n"),
+    ("START\thtml\tp\n", "bad line 1: form\n"),
+    (" esi\n", "bad line 1: form\n"),
+    ("end\tp\nlimit\t512\n", "bad line 2: form\n"),
+    ("end\tp\nesi\n", "bad line 2: form\n"),
+    ("end\tp\ntries\n", "bad line 2: form\n"),
+    ("end\tp\nselect\t0\tp\n", "bad line 2: form\n"),
+    ("end\tp\nselect\t0\tdiv +\n", "bad line 2: form\n"),
+    (
+        "\nselect\t0\t:is(a > b)\n",
+        "bad line 2: UnsupportedPseudoClassOrElement\n",
+    ),
+    ("\nselect\t0\t:not()\n", "bad line 2: EmptySelector\n"),
+    ("\nselect\t0\tdiv >\n", "bad line 2: DanglingCombinator\n"),
+    (
+        "\nselect\t0\tdiv ~ p\n",
+        "bad line 2: UnsupportedCombinator(~)\n",
+    ),
+    ("\nselect\t0\tdiv@\n", "bad line 2: UnexpectedToken\n"),
+    ("\nselect\t0\tdiv.\n", "bad line 2: UnexpectedEnd\n"),
+    (
+        "\nselect\t0\tdiv[=\"foo\"]\n",
+        "bad line 2: MissingAttributeName\n",
+    ),
+    (
+        "\nselect\t0\tdiv[foo~\"bar\"]\n",
+        "bad line 2: UnexpectedTokenInAttribute\n",
+    ),
+    ("\nselect\t0\tsvg|img\n", "bad line 2: NamespacedSelector\n"),
+    ("\nselect\t0\t.foo()\n", "bad line 2: InvalidClassName\n"),
 ];
