@@ -7,11 +7,8 @@ use Rattle.lol_program.specs.Sets.{Joins, SameMembers}
 use Rattle.lol_base.specs.MemberLaws.{contains-append}
 use Rattle.lol_vm.specs.Events.{Event}
 use Rattle.lol_match.specs.Script.{Line, line_at}
-use Rattle.lol_match.specs.Lines.{set_by}
-use Rattle.lol_match.specs.Scripts.{Script, malformed, with_bytes, with_line, with_meaning, unless_begun, and_then, read_lines}
+use Rattle.lol_match.specs.Scripts.{Script, with_bytes, with_meaning, unless_begun, and_then, read_lines}
 use Rattle.lol_match.specs.declared.bad_line.BadLine.{BadLine}
-use Rattle.lol_match.specs.declared.lines.Setting.{Setting}
-use Rattle.lol_match.specs.declared.lines.Setting.TheVariants.{Limit, Esi, Tries, Select}
 use Rattle.lol_match.specs.Readings.{Stops}
 use Rattle.lol_match.specs.declared.script.Stop.{Stop}
 use Rattle.lol_match.specs.declared.script.Stop.TheVariants.{Memory, Bad}
@@ -24,17 +21,6 @@ with_bytes-line number s (b ∷ bytes) said some is = ap (with_meaning number s)
 -- a line before the first tag line
 pub not_begun : (events : List Event) (number : ℕ) (result : Result Script BadLine) → events ≡ [] → unless_begun events number result ≡ result
 not_begun events number result none = ap (λ (es : List Event). unless_begun es number result) none
-
-already : (events : List Event) (number : ℕ) (result : Result Script BadLine) → events ≢ [] → unless_begun events number result ≡ malformed number
-already [] number result some = absurd (some refl)
-already (event ∷ events) number result some = refl
-
--- and after it
-pub begun : (number : ℕ) (setting : Setting) (s : Script) → s.events ≢ [] → with_line number s (set_by setting) ≡ malformed number
-begun number (Limit maximum) s some = already s.events number _ some
-begun number Esi s some = already s.events number _ some
-begun number Tries s some = already s.events number _ some
-begun number (Select id text) s some = already s.events number _ some
 
 -- members that join others
 pub joined : {T : Type 0} (old new added members : List T) → SameMembers members old → Joins old new added → SameMembers (members ++ added) new
