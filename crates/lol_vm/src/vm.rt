@@ -133,6 +133,8 @@ impl<E: ElementData> VmOf<Program, LocalName<'static>, StackNames, E> {
             → IsPending E.ids s esi events tag self.new request }
         ensures charged { OnOk result (limiter.new ≡ charged limiter.old ((slots_charged self.new - slots_charged self.old) * slot_bytes self.old)) }
         ensures uncharged { OnErr result (limiter.new ≡ limiter.old) }
+        ensures slots { OnErr result (slots_charged self.new ≡ slots_charged self.old) }
+        ensures bytes { slot_bytes self.new ≡ slot_bytes self.old }
         ensures unchanged { OnErr result (data_in self.new ≡ data_in self.old) }
         ensures still_open { OnErr result ((bytes : List ℕ) (elements : List Element) → IsNameOf local_name.entry bytes → HasOpen self.old elements → HasOpen self.new elements) }
         ensures failed { (result ≡ Err VmError.Failed) ↔ (has_failed self.old ≡ true) }
@@ -251,6 +253,8 @@ impl<E: ElementData> VmOf<Program, LocalName<'static>, StackNames, E> {
             → IsAnswered E.ids F.step s esi events tag true self.old self.new match_handler.old match_handler.new) }
         ensures charged { OnOk result (limiter.new ≡ charged limiter.old ((slots_charged self.new - slots_charged self.old) * slot_bytes self.old)) }
         ensures uncharged { OnErr result (limiter.new ≡ limiter.old) }
+        ensures slots { OnErr result (slots_charged self.new ≡ slots_charged self.old) }
+        ensures bytes { slot_bytes self.new ≡ slot_bytes self.old }
         ensures unchanged { OnErr result (data_in self.new ≡ data_in self.old) }
         ensures still_open { OnErr result ((elements : List Element) → HasOpen self.old elements → HasOpen self.new elements) }
         ensures refused { OnErr result (has_failed self.new ≡ true) }
