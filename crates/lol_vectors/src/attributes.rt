@@ -1,5 +1,7 @@
 //! What a matcher says of attributes.
 
+ghost use Rattle.lol_base.specs.StartTags.{RangesAreInside};
+
 use lol_vm::{
     AttrExprOperands, AttributeBuffer, AttributeMatcher, AttributeOutline, AuxStartTagInfo, Bytes,
     Namespace, ParsedCaseSensitivity, Range,
@@ -35,13 +37,21 @@ impl Attributes {
         Ok(Attributes { input, outlines })
     }
 
-    pub(crate) fn matcher(&self, rt: &impl Abort, ns: Namespace) -> AttributeMatcher<'_> {
+    /// What is known of a tag with these attributes.
+    pub(crate) fn info(&self, rt: &impl Abort, self_closing: bool) -> AuxStartTagInfo<'_>
+        ensures { RangesAreInside result }
+    {
         let tag = AuxStartTagInfo {
             input: Bytes::new(&self.input),
             attr_buffer: &self.outlines,
-            self_closing: false,
+            self_closing,
         };
         assert!(rt; tag.ranges_inside());
+        tag
+    }
+
+    pub(crate) fn matcher(&self, rt: &impl Abort, ns: Namespace) -> AttributeMatcher<'_> {
+        let tag = self.info(rt, false);
         AttributeMatcher::new(tag.input, tag.attr_buffer, ns)
     }
 }

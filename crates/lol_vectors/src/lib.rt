@@ -14,6 +14,14 @@ mod instructions;
 #[cfg(test)]
 mod limits;
 #[cfg(test)]
+mod machine_model;
+#[cfg(test)]
+mod machine_runs;
+#[cfg(test)]
+mod machine_stops;
+#[cfg(test)]
+mod machines;
+#[cfg(test)]
 mod names;
 #[cfg(test)]
 mod nodes;

@@ -11,7 +11,7 @@ use std::alloc::Global;
 use std::test::Fail;
 
 /// The selectors of these texts, each under an id.
-fn selectors(alloc: Global, texts: &[(&str, u32)]) -> Result<Ast, Fail> {
+pub(crate) fn selectors(alloc: Global, texts: &[(&str, u32)]) -> Result<Ast, Fail> {
     let mut ast = Ast::new(alloc);
     for (text, match_id) in texts {
         let selector = Selector::from_str(alloc, text)?;

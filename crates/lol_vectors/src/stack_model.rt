@@ -148,7 +148,7 @@ fn spelled(kind: usize, capital: bool) -> &'static [u8] {
 }
 
 /// The next of a row of numbers that look random.
-fn next_random(state: u64) -> u64 {
+pub(crate) fn next_random(state: u64) -> u64 {
     state
         .wrapping_mul(6_364_136_223_846_793_005)
         .wrapping_add(1_442_695_040_888_963_407)

@@ -13,7 +13,7 @@ use std::process::Abort;
 /// Data that know their element's number.
 #[derive(Drop)]
 pub(crate) struct Numbered {
-    ids: DenseHashSet,
+    pub ids: DenseHashSet,
     pub number: usize,
 }
 

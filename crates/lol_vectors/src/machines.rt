@@ -1,0 +1,342 @@
+//! What a machine says of tags.
+
+ghost use Rattle.std.specs.Prelude.{◌≡◌};
+ghost use Rattle.lol_vm.specs.Vms.{slot_bytes};
+
+use crate::machine_runs::{
+    Machine, Said, Written, end, machine, machine_with, number, release, start, start_and_drop,
+};
+use crate::runs::selectors;
+use crate::stacks::Numbered;
+use lol_vm::SharedMemoryLimiter;
+use std::alloc::Global;
+use std::process::Abort;
+use std::test::Fail;
+
+/// A step of a run, with what has to come of it.
+#[derive(Clone, Copy)]
+pub(crate) enum Step<'t> {
+    /// A start tag that is answered, and finished where it is asked for: the ids, whether with content, and the tries.
+    Start(Written<'t>, Said, &'t [u32], bool, (u64, u64)),
+    /// A start tag that is asked for and dropped.
+    Dropped(Written<'t>),
+    /// An end tag: the ids of each of the data that it hands out.
+    End(&'t str, &'t [&'t [u32]]),
+}
+
+/// Selectors under ids, whether ESI is on, and steps.
+type Row<'t> = (&'t [(&'t str, u32)], bool, &'t [Step<'t>]);
+
+/// Whether data hold exactly these ids, in turn.
+fn hold(data: &[Numbered], ids: &[&[u32]]) -> bool {
+    data.len() == ids.len()
+        && data
+            .iter()
+            .zip(ids)
+            .all(|(data, ids)| data.ids.iter().eq(ids.iter().copied()))
+}
+
+pub(crate) fn take_step(
+    rt: &impl Abort,
+    alloc: Global,
+    vm: &mut Machine,
+    limiter: &mut SharedMemoryLimiter,
+    step: &Step<'_>,
+)
+    ensures { slot_bytes vm.new ≡ slot_bytes vm.old }
+{
+    match step {
+        Step::Start(tag, wanted, ids, content, tries) => {
+            let (said, infos) = start(rt, alloc, vm, limiter, *tag);
+            assert_eq!(rt; said, *wanted, "{}", tag.name);
+            assert!(rt;
+                infos
+                    .iter()
+                    .map(|info| info.match_id)
+                    .eq(ids.iter().copied()),
+                "{}",
+                tag.name
+            );
+            assert!(rt;
+                infos.iter().all(|info| info.with_content == *content),
+                "{}",
+                tag.name
+            );
+            assert_eq!(rt;
+                (vm.tries().names(), vm.tries().attributes()),
+                *tries,
+                "{}",
+                tag.name
+            );
+        }
+        Step::Dropped(tag) => start_and_drop(rt, vm, limiter, *tag),
+        Step::End(name, ids) => {
+            let closed = end(rt, alloc, vm, name);
+            assert!(rt; hold(&closed, ids), "end of {}", *name);
+        }
+    }
+}
+
+/// Takes the steps of a row on a machine of its own, with ample memory.
+fn check(rt: &impl Abort, alloc: Global, row: Row<'_>) -> Result<(), Fail> {
+    let (texts, esi, steps) = row;
+    let ast = selectors(alloc, texts)?;
+    let mut limiter = SharedMemoryLimiter::new(1_000_000);
+    let mut vm = machine_with(rt, alloc, ast, esi);
+    for step in steps {
+        take_step(rt, alloc, &mut vm, &mut limiter, step);
+    }
+    release(rt, vm, &mut limiter);
+    assert_eq!(rt; limiter.current_usage(), 0);
+    Ok(())
+}
+
+use Said::{Asked, Unasked};
+use Step::{Dropped, End, Start};
+
+#[test]
+fn combine_children_and_descendants(rt: HostRuntime) -> Result<(), Fail> {
+    check(
+        &rt,
+        rt.alloc(),
+        (
+            &[("div p", 0), ("div > p", 1)],
+            false,
+            &[
+                Start(Written::html("div"), Unasked, &[], true, (1, 0)),
+                Start(Written::html("section"), Unasked, &[], true, (3, 0)),
+                Start(Written::html("p"), Unasked, &[0], true, (2, 0)),
+                End("div", &[&[], &[], &[0]]),
+            ],
+        ),
+    )?;
+    check(
+        &rt,
+        rt.alloc(),
+        (
+            &[("div div", 0)],
+            false,
+            &[
+                Start(Written::html("div"), Unasked, &[], true, (1, 0)),
+                Start(Written::html("div"), Unasked, &[0], true, (2, 0)),
+                Start(Written::html("div"), Unasked, &[0], true, (2, 0)),
+                End("div", &[&[0]]),
+                Start(Written::html("div"), Unasked, &[0], true, (2, 0)),
+            ],
+        ),
+    )
+}
+
+#[test]
+fn ask_where_attributes_decide(rt: HostRuntime) -> Result<(), Fail> {
+    let class_a = Written::html("div").with(&[("class", Some("a"))]);
+    check(
+        &rt,
+        rt.alloc(),
+        (
+            &[(".a p", 0), ("p", 1)],
+            false,
+            &[
+                Start(class_a, Asked, &[], true, (2, 1)),
+                Start(Written::html("p"), Asked, &[0, 1], true, (3, 1)),
+            ],
+        ),
+    )?;
+    check(
+        &rt,
+        rt.alloc(),
+        (
+            &[(":not(div.foo)", 0)],
+            false,
+            &[
+                Start(Written::html("div"), Asked, &[0], true, (1, 1)),
+                Start(Written::html("p"), Unasked, &[0], true, (1, 0)),
+            ],
+        ),
+    )?;
+    let p = Written::html("p").with(&[("a", Some("x"))]);
+    check(
+        &rt,
+        rt.alloc(),
+        (
+            &[("[a*=\"\"]", 0), (":not([a*=\"\"])", 1)],
+            false,
+            &[Start(p, Asked, &[1], true, (2, 2))],
+        ),
+    )
+}
+
+#[test]
+fn compare_type_by_namespace(rt: HostRuntime) -> Result<(), Fail> {
+    let text = &[("type", Some("text"))];
+    check(
+        &rt,
+        rt.alloc(),
+        (
+            &[("[type=\"TEXT\"]", 0)],
+            false,
+            &[
+                Start(
+                    Written::html("input").with(text),
+                    Asked,
+                    &[0],
+                    false,
+                    (1, 1),
+                ),
+                Start(Written::svg("input").with(text), Asked, &[], true, (1, 1)),
+            ],
+        ),
+    )
+}
+
+#[test]
+fn know_names_of_esi(rt: HostRuntime) -> Result<(), Fail> {
+    let lower = Written::html("esi:include");
+    let upper = Written::html("ESI:INCLUDE");
+    check(
+        &rt,
+        rt.alloc(),
+        (
+            &[("*", 0)],
+            true,
+            &[
+                Start(lower, Unasked, &[0], false, (1, 0)),
+                Start(upper, Unasked, &[0], true, (1, 0)),
+                End("esi:include", &[&[0]]),
+            ],
+        ),
+    )?;
+    check(
+        &rt,
+        rt.alloc(),
+        (
+            &[("*", 0)],
+            false,
+            &[
+                Start(lower, Unasked, &[0], true, (1, 0)),
+                End("esi:include", &[&[0]]),
+            ],
+        ),
+    )
+}
+
+#[test]
+fn count_dropped_elements(rt: HostRuntime) -> Result<(), Fail> {
+    check(
+        &rt,
+        rt.alloc(),
+        (
+            &[(":nth-child(2)", 0)],
+            false,
+            &[
+                Dropped(Written::svg("g")),
+                Start(Written::html("p"), Unasked, &[0], true, (1, 0)),
+                End("g", &[]),
+            ],
+        ),
+    )
+}
+
+#[test]
+fn leave_foreign_elements_that_close_themselves(rt: HostRuntime) -> Result<(), Fail> {
+    let circle = Written::svg("circle");
+    check(
+        &rt,
+        rt.alloc(),
+        (
+            &[("circle", 0)],
+            false,
+            &[
+                Start(circle.closing_itself(), Asked, &[0], false, (1, 0)),
+                End("circle", &[]),
+                Start(circle, Asked, &[0], true, (1, 0)),
+                End("circle", &[&[0]]),
+            ],
+        ),
+    )
+}
+
+#[test]
+fn refuse_what_passes_the_limit(rt: HostRuntime) -> Result<(), Fail> {
+    let alloc = rt.alloc();
+    let ast = selectors(alloc, &[("*", 0)])?;
+    let mut limiter = SharedMemoryLimiter::new(512);
+    let mut vm = machine(&rt, alloc, ast);
+    for name in ["a", "b", "c", "d", "e", "f", "g", "h"] {
+        let step = Start(Written::html(name), Unasked, &[0], true, (1, 0));
+        take_step(&rt, alloc, &mut vm, &mut limiter, &step);
+        assert_eq!(rt; (limiter.current_usage(), vm.charged_slots()), (512, 8));
+    }
+    for step in [
+        Start(Written::html("i"), Said::OverLimit, &[0], true, (1, 0)),
+        Start(Written::html("j"), Said::Failed, &[], true, (1, 0)),
+    ] {
+        take_step(&rt, alloc, &mut vm, &mut limiter, &step);
+        assert_eq!(rt; limiter.current_usage(), 512);
+    }
+    let closed = end(&rt, alloc, &mut vm, "c");
+    let zero: &[u32] = &[0];
+    assert!(rt; hold(&closed, &[zero; 6]));
+    release(&rt, vm, &mut limiter);
+    Ok(())
+}
+
+#[test]
+fn charge_in_steps(rt: HostRuntime) -> Result<(), Fail> {
+    let alloc = rt.alloc();
+    let mut limiter = SharedMemoryLimiter::new(2048);
+    let mut vm = machine(&rt, alloc, selectors(alloc, &[("p", 0)])?);
+    for slots in [8, 8, 8, 8, 8, 8, 8, 8, 16] {
+        let step = Start(Written::html("b"), Unasked, &[], true, (1, 0));
+        take_step(&rt, alloc, &mut vm, &mut limiter, &step);
+        assert_eq!(rt; vm.charged_slots(), slots);
+    }
+    release(&rt, vm, &mut limiter);
+    Ok(())
+}
+
+#[test]
+fn share_a_limiter(rt: HostRuntime) -> Result<(), Fail> {
+    let alloc = rt.alloc();
+    let mut limiter = SharedMemoryLimiter::new(2048);
+    let ast = selectors(alloc, &[("p", 0)])?;
+    let other = selectors(alloc, &[("*", 1)])?;
+    let mut vm = machine(&rt, alloc, ast);
+    let mut other = machine(&rt, alloc, other);
+    let step = Start(Written::html("p"), Unasked, &[0], true, (1, 0));
+    take_step(&rt, alloc, &mut vm, &mut limiter, &step);
+    assert_eq!(rt; limiter.current_usage(), 512);
+    let step = Start(Written::html("p"), Unasked, &[1], true, (1, 0));
+    take_step(&rt, alloc, &mut other, &mut limiter, &step);
+    assert_eq!(rt; limiter.current_usage(), 1024);
+    release(&rt, vm, &mut limiter);
+    assert_eq!(rt; limiter.current_usage(), 512);
+    release(&rt, other, &mut limiter);
+    assert_eq!(rt; limiter.current_usage(), 0);
+    Ok(())
+}
+
+#[test]
+fn keep_what_is_written_into_data(rt: HostRuntime) -> Result<(), Fail> {
+    let alloc = rt.alloc();
+    let mut limiter = SharedMemoryLimiter::new(2048);
+    let mut vm = machine(&rt, alloc, selectors(alloc, &[("*", 0), ("p p", 7)])?);
+    assert!(rt; vm.current_element_data_mut().is_none());
+    let step = Start(Written::html("p"), Unasked, &[0], true, (2, 0));
+    take_step(&rt, alloc, &mut vm, &mut limiter, &step);
+    number(&rt, &mut vm, 5);
+    let data = vm.current_element_data_mut();
+    let data = data.expect(&rt, "data of an open element");
+    assert!(rt; data.ids.insert(9).is_ok());
+    let step = Start(Written::html("p"), Unasked, &[0, 7], true, (3, 0));
+    take_step(&rt, alloc, &mut vm, &mut limiter, &step);
+    let step = Start(Written::html("b"), Unasked, &[0], true, (3, 0));
+    take_step(&rt, alloc, &mut vm, &mut limiter, &step);
+    assert!(rt; hold(&end(&rt, alloc, &mut vm, "b"), &[&[0]]));
+    let mut closed = end(&rt, alloc, &mut vm, "p");
+    assert!(rt; hold(&closed, &[&[0, 7]]));
+    closed = end(&rt, alloc, &mut vm, "p");
+    assert!(rt; hold(&closed, &[&[0, 9]]) && closed.iter().all(|data| data.number == 5));
+    release(&rt, vm, &mut limiter);
+    Ok(())
+}
