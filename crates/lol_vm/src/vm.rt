@@ -26,7 +26,7 @@ use crate::stack_item::StackDirective;
 use crate::tag_runs::{RecoveryPoint, complete_tag, try_tag};
 use lol_base::{AuxStartTagInfo, LocalName, Namespace};
 use lol_memory::{MatchInfo, PushError, SharedMemoryLimiter};
-use lol_program::{AddressRange, Ast, AttributeMatcher, Compiler, Program, SelectorState, Tries};
+use lol_program::{Ast, AttributeMatcher, Compiler, Program, Tries};
 use std::alloc::{AllocError, Global};
 
 /// The machine: see `SelectorMatchingVm`.
