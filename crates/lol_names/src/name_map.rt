@@ -14,8 +14,8 @@ use std::marker::Model;
 /// How many names a block has at most.
 const BLOCK_LEN: usize = 64;
 
-/// Values by name. The names stand in ascending order, in blocks of up to `BLOCK_LEN`. A search compares a name with as many others as
-/// the number of names has binary digits, in either case of ASCII; a name that comes or goes moves the names of its block alone, and
+/// Values by name. The names stand in ascending order, in blocks of up to `BLOCK_LEN`. A search takes two
+/// binary searches, in either case of ASCII; a name that comes or goes moves the names of its block alone, and
 /// where the block was full or had no other name, the list of blocks too.
 #[derive(Drop)]
 pub struct NameMap<V> {

@@ -30,7 +30,7 @@ pub struct CounterList {
 }
 
 impl CounterList {
-    /// One counter, which has counted_by_type one, at the level `start`. It takes no memory.
+    /// One counter, which has counted one, at the level `start`. It takes no memory.
     pub fn new(alloc: Global, start: usize) -> Self
         ensures { list_levels result ≡ (start, 1) ∷ [] }
     {
@@ -72,7 +72,7 @@ impl CounterList {
         }
     }
 
-    /// Starts a counter at one more level, which has counted_by_type one.
+    /// Starts a counter at one more level, which has counted one.
     fn push(&mut self, index: usize) -> Result<(), AllocError>
         ensures ok { OnOk result (list_levels self.new ≡ list_levels self.old ++ (index, 1) ∷ []) }
         ensures err { OnErr result (list_levels self.new ≡ list_levels self.old) }
@@ -132,7 +132,7 @@ impl CounterLists {
         counted
     }
 
-    /// Starts a counter of the name at one more level, which has counted_by_type one.
+    /// Starts a counter of the name at one more level, which has counted one.
     fn start(&mut self, name: &LocalName<'static>, index: usize) -> Result<(), AllocError>
         ensures ok { (q : Name) → OnOk result (counters_of self.new q ≡ (if same_local_name name.now q then counters_of self.old q ++ (index, 1) ∷ [] else counters_of self.old q)) }
         ensures err { (q : Name) → OnErr result (counters_of self.new q ≡ counters_of self.old q) }
@@ -179,7 +179,7 @@ impl CounterLists {
 }
 
 /// The counters of children by type of the open elements (lol_html's `TypedChildCounterMap`). They are kept in the order in which they
-/// were started; the levels ascend where each child is counted_by_type at a level that is not below one that is kept.
+/// were started; the levels ascend where each child is counted at a level that is not below one that is kept.
 #[derive(Drop)]
 pub struct TypedChildCounterMap {
     lists: CounterLists,

@@ -12,18 +12,18 @@ use lol_memory::{DenseHashSet, MatchInfo};
 use lol_program::ExecutionBranch;
 use std::alloc::{AllocError, Global};
 
-/// What is known of a start tag, and what has been with_branch for its element so far (lol_html's `ExecutionCtx`).
+/// What is known of a start tag, and what has been gathered for its element so far (lol_html's `ExecutionCtx`).
 #[derive(Drop)]
 pub struct ExecutionCtx<'i, E> {
     pub stack_item: StackItem<'i, E>,
-    /// Whether the element has content: ranges are with_branch only then.
+    /// Whether the element has content: ranges are gathered only then.
     pub with_content: bool,
     pub ns: Namespace,
     pub enable_esi_tags: bool,
 }
 
 impl<'i, E: ElementData> ExecutionCtx<'i, E> {
-    /// A tag for which nothing has been with_branch, of an element that has content until more is known. It takes no memory.
+    /// A tag for which nothing has been gathered, of an element that has content until more is known. It takes no memory.
     pub fn new(
         alloc: Global,
         local_name: LocalName<'i>,
@@ -65,7 +65,7 @@ impl<'i, E: ElementData> ExecutionCtx<'i, E> {
         Ok(())
     }
 
-    /// Calls the handler with each id that was with_branch, in ascending order. It takes no memory.
+    /// Calls the handler with each id that was gathered, in ascending order. It takes no memory.
     pub fn handle_matched_ids<F: FnMut(MatchInfo)>(&mut self, handler: &mut F)
         requires { F.IsAlwaysCallable handler.old }
         ensures again { F.IsAlwaysCallable handler.new }

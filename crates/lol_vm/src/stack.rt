@@ -43,7 +43,7 @@ pub struct StackNames {
 /// `release`, with the limiter that its pushes were lent.
 pub type Stack<E> = StackOf<LocalName<'static>, StackNames, E>;
 
-/// Why a child wasn't counted_by_type. (Not in lol_html.)
+/// Why a child wasn't counted. (Not in lol_html.)
 #[derive(Debug, Drop)]
 pub enum AddChildError {
     /// The parent's counter is full.
@@ -110,7 +110,7 @@ impl<N, M, E> StackOf<N, M, E> {
 }
 
 impl<E> StackOf<LocalName<'static>, StackNames, E> {
-    /// No open elements, and no slots. It takes no memory. Children are counted_by_type by type too if `enable_nth_of_type` is true.
+    /// No open elements, and no slots. It takes no memory. Children are counted by type too if `enable_nth_of_type` is true.
     pub fn new(alloc: Global, item_bytes: usize, enable_nth_of_type: bool) -> Self
         requires { 0 < item_bytes }
         ensures items { list_in result ≡ record { items = []; slots = 0; item_bytes = item_bytes } }
@@ -147,7 +147,7 @@ impl<E> StackOf<LocalName<'static>, StackNames, E> {
         Ok(())
     }
 
-    /// The counters that a child of this name, once it is counted_by_type, is tested by. It takes no memory.
+    /// The counters that a child of this name, once it is counted, is tested by. It takes no memory.
     pub fn build_state<'s, 'i: 's>(&'s self, name: &LocalName<'i>) -> SelectorState<'s>
         ensures cumulative { result.cumulative.now ≡ last_count self.now }
         ensures typed { option_copied result.typed ≡ typed_count self.now name.now }
@@ -285,7 +285,7 @@ impl StackNames {
         }
     }
 
-    /// Counts a child by type at a level, where children are counted_by_type so.
+    /// Counts a child by type at a level, where children are counted so.
     fn count_child(&mut self, name: &LocalName<'_>, level: usize) -> Result<(), AllocError>
         ensures ok { OnOk result (self.new ≡ record self.old { typed_child_counters = option_map (λ ts. counted_by_type ts level name.now) self.old.typed_child_counters }) }
         ensures err { OnErr result (self.new ≡ self.old) }
