@@ -1,7 +1,7 @@
 pub mod Fields
-pub mod FirstLines
 pub mod Lists
 pub mod Numbers
+pub mod Outlines
+pub mod Runs
 pub mod Scripts
 pub mod Texts
-pub mod Selected

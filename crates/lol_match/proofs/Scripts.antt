@@ -3,27 +3,24 @@ use Rattle.std.proofs.Common.{◌≡◌, ◌≢◌, ℕ, ◌+◌, ◌<◌, ◌�
 use Rattle.std.specs.List.{enumerate_from}
 use Rattle.std.proofs.lemmas.List.{drop_more, drop_all}
 use Rattle.std.proofs.lemmas.List.FromFn.{length-enumerate_from, get_or-enumerate_from}
-use Rattle.lol_css.specs.Trees.{Items}
-use Rattle.lol_css.specs.declared.error.SelectorError.{SelectorError}
 use Rattle.lol_program.specs.Sets.{Joins, SameMembers}
-use Rattle.lol_program.specs.Runs.{path_runs}
 use Rattle.lol_base.specs.MemberLaws.{contains-append}
 use Rattle.lol_vm.specs.Events.{Event}
-use Rattle.lol_match.specs.Script.{Line}
-use Rattle.lol_match.specs.First.{line_now}
-use Rattle.lol_match.specs.Scripts.{Script, with_bytes, with_meaning, with_selector, unless_begun, and_then, read_lines}
+use Rattle.lol_match.specs.Script.{Line, line_at}
+use Rattle.lol_match.specs.Scripts.{Script, with_bytes, with_meaning, unless_begun, and_then, read_lines}
+use Rattle.lol_match.specs.declared.bad_line.BadLine.{BadLine}
 use Rattle.lol_match.specs.Readings.{Stops}
 use Rattle.lol_match.specs.declared.script.Stop.{Stop}
 use Rattle.lol_match.specs.declared.script.Stop.TheVariants.{Memory, Bad}
 
 -- what a nonempty line says is taken
-pub with_bytes-line : (number : ℕ) (s : Script) (bytes : List ℕ) (said : Option Line) → bytes ≢ [] → said ≡ line_now bytes → with_bytes line_now path_runs number s bytes ≡ with_meaning line_now path_runs number s said
+pub with_bytes-line : (number : ℕ) (s : Script) (bytes : List ℕ) (said : Option Line) → bytes ≢ [] → said ≡ line_at bytes → with_bytes number s bytes ≡ with_meaning number s said
 with_bytes-line number s [] said some is = absurd (some refl)
-with_bytes-line number s (b ∷ bytes) said some is = ap (with_meaning line_now path_runs number s) (sym is)
+with_bytes-line number s (b ∷ bytes) said some is = ap (with_meaning number s) (sym is)
 
--- a selector before the first tag line
-pub selector_taken : (number : ℕ) (s : Script) (id : ℕ) (events : List Event) (read : Result Items SelectorError) (r : Result Items SelectorError) → events ≡ [] → read ≡ r → unless_begun events number (with_selector line_now path_runs number s id read) ≡ with_selector line_now path_runs number s id r
-selector_taken number s id events read r none is = λ i. unless_begun (none i) number (with_selector line_now path_runs number s id (is i))
+-- a line before the first tag line
+pub not_begun : (events : List Event) (number : ℕ) (result : Result Script BadLine) → events ≡ [] → unless_begun events number result ≡ result
+not_begun events number result none = ap (λ (es : List Event). unless_begun es number result) none
 
 -- members that join others
 pub joined : {T : Type 0} (old new added members : List T) → SameMembers members old → Joins old new added → SameMembers (members ++ added) new
@@ -42,18 +39,18 @@ numbered lines n place line at =
 module _ (lines : List (List ℕ)) where
   -- the line of this turn, which is the n-th, and then those after it
   module _ (n : ℕ) (line : List ℕ) (at : (n < length lines) × (line ≡ get_or lines n line)) (number : ℕ) (s : Script) where
-    next_line : read_lines line_now path_runs number s (drop n lines) ≡ and_then (with_bytes line_now path_runs number s line) (λ t. read_lines line_now path_runs (number + 1) t (drop (n + 1) lines))
-    next_line = ap (read_lines line_now path_runs number s) (drop_more lines n line at.0 ∙ ap (λ l. l ∷ drop (n + 1) lines) (sym at.1))
+    next_line : read_lines number s (drop n lines) ≡ and_then (with_bytes number s line) (λ t. read_lines (number + 1) t (drop (n + 1) lines))
+    next_line = ap (read_lines number s) (drop_more lines n line at.0 ∙ ap (λ l. l ∷ drop (n + 1) lines) (sym at.1))
 
     -- a good line
-    pub line_read : (t : Script) → with_bytes line_now path_runs number s line ≡ Ok t → read_lines line_now path_runs number s (drop n lines) ≡ read_lines line_now path_runs (number + 1) t (drop (n + 1) lines)
-    line_read t good = next_line ∙ ap (λ r. and_then r (λ u. read_lines line_now path_runs (number + 1) u (drop (n + 1) lines))) good
+    pub line_read : (t : Script) → with_bytes number s line ≡ Ok t → read_lines number s (drop n lines) ≡ read_lines (number + 1) t (drop (n + 1) lines)
+    line_read t good = next_line ∙ ap (λ r. and_then r (λ u. read_lines (number + 1) u (drop (n + 1) lines))) good
 
     -- a line at which reading stops
-    pub line_stops : (stop : Stop) → Stops stop (with_bytes line_now path_runs number s line) → Stops stop (read_lines line_now path_runs number s (drop n lines))
+    pub line_stops : (stop : Stop) → Stops stop (with_bytes number s line) → Stops stop (read_lines number s (drop n lines))
     line_stops Memory h = tt
-    line_stops (Bad bad) h = next_line ∙ ap (λ r. and_then r (λ u. read_lines line_now path_runs (number + 1) u (drop (n + 1) lines))) h
+    line_stops (Bad bad) h = next_line ∙ ap (λ r. and_then r (λ u. read_lines (number + 1) u (drop (n + 1) lines))) h
 
   -- no line is left
-  pub lines_end : (n number : ℕ) (s : Script) → length lines ≤ n → read_lines line_now path_runs number s (drop n lines) ≡ Ok s
-  lines_end n number s all = ap (read_lines line_now path_runs number s) (drop_all n lines all)
+  pub lines_end : (n number : ℕ) (s : Script) → length lines ≤ n → read_lines number s (drop n lines) ≡ Ok s
+  lines_end n number s all = ap (read_lines number s) (drop_all n lines all)

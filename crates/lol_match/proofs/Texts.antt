@@ -1,23 +1,37 @@
--- The lines of a good run.
-use Rattle.std.proofs.Common.{◌≡◌, false, List, [], ◌∷◌, map, refl, ap, ◌∙◌}
-use Rattle.lol_vm.specs.Answers.{Answer, Started, Dropped, Ended}
-use Rattle.lol_vm.specs.Views.{answer_of, without_tries}
+-- The lines of a run.
+use Rattle.std.proofs.Common.{◌≡◌, ℕ, zero, suc, Bool, List, [], ◌∷◌, ◌++◌, Option, Some, map, take, refl, sym, ap, ◌∙◌}
+use Rattle.std.proofs.lemmas.Grind.{flat_map-append}
+use Rattle.std.proofs.lemmas.List.{append-nil}
+use Rattle.lol_program.specs.Paths.{Selectors}
+use Rattle.lol_vm.specs.Events.{Event}
+use Rattle.lol_vm.specs.Documents.{Document}
+use Rattle.lol_vm.specs.Answers.{Answer, answer, after, answers_from}
+use Rattle.lol_vm.specs.Refusals.{Cause}
+use Rattle.lol_vm.specs.Views.{answer_of}
 use Rattle.lol_vm.specs.declared.events.TagReport.{TagReport}
 use Rattle.lol_match.specs.Output.{shown_answer, lines_of}
+use Rattle.lol_match.specs.Scripts.{Output, shown_cause, run_output}
+use Rattle.lol_match.specs.declared.program.Status.TheVariants.{Refused}
 
-same_shown : (a : Answer) → shown_answer false (without_tries a) ≡ shown_answer false a
-same_shown (Started matched asked n m) = refl
-same_shown Dropped = refl
-same_shown (Ended closed) = refl
+pub report_lines : (shows : Bool) (reports : List TagReport) → map (λ report. shown_answer shows (answer_of report)) reports ≡ map (shown_answer shows) (map answer_of reports)
+report_lines shows [] = refl
+report_lines shows (r ∷ reports) = ap (λ lines. shown_answer shows (answer_of r) ∷ lines) (report_lines shows reports)
 
-all_shown : (all : List Answer) → map (shown_answer false) (map without_tries all) ≡ map (shown_answer false) all
-all_shown [] = refl
-all_shown (a ∷ all) = λ i. same_shown a i ∷ all_shown all i
+-- the answers to the first events are the first answers
+pub answers-take : (s : Selectors) (esi : Bool) (d : Document) (n : ℕ) (events : List Event) → answers_from s esi d (take n events) ≡ take n (answers_from s esi d events)
+answers-take s esi d zero events = refl
+answers-take s esi d (suc n) [] = refl
+answers-take s esi d (suc n) (event ∷ events) = ap (λ more. answer s esi d event ∷ more) (answers-take s esi (after s esi d event) n events)
 
-report_lines : (reports : List TagReport) → map (λ report. shown_answer false (answer_of report)) reports ≡ map (shown_answer false) (map answer_of reports)
-report_lines [] = refl
-report_lines (r ∷ reports) = ap (λ lines. shown_answer false (answer_of r) ∷ lines) (report_lines reports)
+abbrev refused_with : List ℕ → Output
+refused_with text = record { text = text; status = Refused }
 
--- reports that are answers but for the tries have the answers' lines
-pub lines_of_reports : (reports : List TagReport) (all : List Answer) → map answer_of reports ≡ map without_tries all → lines_of (map (λ report. shown_answer false (answer_of report)) reports) ≡ lines_of (map (shown_answer false) all)
-lines_of_reports reports all h = ap lines_of (report_lines reports ∙ (ap (map (shown_answer false)) h ∙ all_shown all))
+-- the lines before a refused event, and then its cause
+pub refused_lines : (lines written : List (List ℕ)) (event : ℕ) (cause : Cause) (first : Option (ℕ × Cause)) (text line : List ℕ) → first ≡ Some (event, cause) → written ≡ take event lines
+    → text ≡ lines_of written ++ line → line ≡ shown_cause cause ++ 10 ∷ [] → run_output lines first ≡ record { text = text; status = Refused }
+refused_lines lines written event cause first text line is before whole last =
+    let all : lines_of (take event lines ++ shown_cause cause ∷ []) ≡ text =
+    flat_map-append (λ (shown : List ℕ). shown ++ 10 ∷ []) (take event lines) (shown_cause cause ∷ [])
+    ∙ (ap (λ (end : List ℕ). lines_of (take event lines) ++ end) (append-nil (shown_cause cause ++ 10 ∷ []))
+    ∙ ((λ i. lines_of (sym before i) ++ sym last i) ∙ sym whole)) in
+    ap (run_output lines) is ∙ ap refused_with all

@@ -1,5 +1,5 @@
 pub mod Devices
-pub mod First
+pub mod Lines
 pub mod Output
 pub mod Script
 pub mod Scripts

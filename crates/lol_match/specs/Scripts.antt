@@ -1,19 +1,16 @@
 -- What a whole script asks for, and what is written for it.
 use Rattle.std.specs.Prelude.{ℕ, ◌+◌, Bool, false, true, if◌then◌else◌, ◌==◌, List, [], ◌∷◌, ◌++◌, map, take, Option, Some, None, Result, Ok, Err, codes}
-use Rattle.std.specs.List.{slice_split, list_all}
+use Rattle.std.specs.List.{slice_split}
 use Rattle.lol_css.specs.Accepting.{accept}
 use Rattle.lol_css.specs.Trees.{Items}
 use Rattle.lol_css.specs.declared.error.SelectorError.{SelectorError}
-use Rattle.lol_css.specs.declared.error.SelectorError.TheVariants.{UnsupportedSyntax}
 use Rattle.lol_program.specs.Paths.{Path, Selectors}
 use Rattle.lol_program.specs.Nodes.{selectors_of}
 use Rattle.lol_program.specs.Conditions.{pairs_under}
-use Rattle.lol_program.specs.Runs.{path_runs}
 use Rattle.lol_vm.specs.Events.{Event, Start, End}
 use Rattle.lol_vm.specs.Answers.{answers}
 use Rattle.lol_vm.specs.Refusals.{Cause, Limit, Counter, refused}
 use Rattle.lol_match.specs.Script.{Line, SetLimit, TurnEsiOn, ShowTries, Select, StartLine, EndLine, line_at}
-use Rattle.lol_match.specs.First as first
 use Rattle.lol_match.specs.Output.{shown_answer, lines_of, bad_line}
 use Rattle.lol_match.specs.declared.bad_line.BadLine.{BadLine}
 use Rattle.lol_match.specs.declared.bad_line.Cause.TheVariants.{Form, Selector}
@@ -48,44 +45,34 @@ abbrev pub unless_begun : List Event → ℕ → Result Script BadLine → Resul
 unless_begun [] number result = result
 unless_begun (event ∷ events) number result = malformed number
 
--- by what a line says, and which paths are matched
-module _ (says : List ℕ → Option Line) (runs : Path → Bool) where
-  abbrev pub with_pairs : ℕ → Script → List (Path × ℕ) → Result Script BadLine
-  with_pairs number s pairs =
-      if list_all (λ pair. runs pair.0) pairs then Ok (record s { pairs = s.pairs ++ pairs }) else Err (record { number = number; cause = Selector UnsupportedSyntax })
+abbrev pub with_selector : ℕ → Script → ℕ → Result Items SelectorError → Result Script BadLine
+with_selector number s id (Ok items) = Ok (record s { pairs = s.pairs ++ pairs_under id items })
+with_selector number s id (Err cause) = Err (record { number = number; cause = Selector cause })
 
-  abbrev pub with_selector : ℕ → Script → ℕ → Result Items SelectorError → Result Script BadLine
-  with_selector number s id (Ok items) = with_pairs number s (pairs_under id items)
-  with_selector number s id (Err cause) = Err (record { number = number; cause = Selector cause })
+abbrev pub with_line : ℕ → Script → Line → Result Script BadLine
+with_line number s (SetLimit maximum) = unless_begun s.events number (Ok (record s { limit = maximum }))
+with_line number s TurnEsiOn = unless_begun s.events number (Ok (record s { esi = true }))
+with_line number s ShowTries = unless_begun s.events number (Ok (record s { shows_tries = true }))
+with_line number s (Select id text) = unless_begun s.events number (with_selector number s id (accept text))
+with_line number s (StartLine tag) = Ok (with_event s (Start tag))
+with_line number s (EndLine name) = Ok (with_event s (End name))
 
-  abbrev pub with_line : ℕ → Script → Line → Result Script BadLine
-  with_line number s (SetLimit maximum) = unless_begun s.events number (Ok (record s { limit = maximum }))
-  with_line number s TurnEsiOn = unless_begun s.events number (Ok (record s { esi = true }))
-  with_line number s ShowTries = unless_begun s.events number (Ok (record s { shows_tries = true }))
-  with_line number s (Select id text) = unless_begun s.events number (with_selector number s id (accept text))
-  with_line number s (StartLine tag) = Ok (with_event s (Start tag))
-  with_line number s (EndLine name) = Ok (with_event s (End name))
+abbrev pub with_meaning : ℕ → Script → Option Line → Result Script BadLine
+with_meaning number s None = malformed number
+with_meaning number s (Some line) = with_line number s line
 
-  abbrev pub with_meaning : ℕ → Script → Option Line → Result Script BadLine
-  with_meaning number s None = malformed number
-  with_meaning number s (Some line) = with_line number s line
+-- an empty line is skipped
+abbrev pub with_bytes : ℕ → Script → List ℕ → Result Script BadLine
+with_bytes number s [] = Ok s
+with_bytes number s (b ∷ bytes) = with_meaning number s (line_at (b ∷ bytes))
 
-  -- an empty_script line is skipped
-  abbrev pub with_bytes : ℕ → Script → List ℕ → Result Script BadLine
-  with_bytes number s [] = Ok s
-  with_bytes number s (b ∷ bytes) = with_meaning number s (says (b ∷ bytes))
+abbrev pub read_lines : ℕ → Script → List (List ℕ) → Result Script BadLine
+read_lines number s [] = Ok s
+read_lines number s (line ∷ lines) = and_then (with_bytes number s line) (λ t. read_lines (number + 1) t lines)
 
-  abbrev pub read_lines : ℕ → Script → List (List ℕ) → Result Script BadLine
-  read_lines number s [] = Ok s
-  read_lines number s (line ∷ lines) = and_then (with_bytes number s line) (λ t. read_lines (number + 1) t lines)
-
-  -- Lines end with LF and are numbered from 1. The first bad line decides.
-  abbrev pub read_script : List ℕ → Result Script BadLine
-  read_script bytes = read_lines 1 empty_script (slice_split (λ b. b == 10) bytes)
-
--- each selector that is accepted
-abbrev pub every_path : Path → Bool
-every_path path = true
+-- Lines end with LF and are numbered from 1. The first bad line decides.
+abbrev pub read_script : List ℕ → Result Script BadLine
+read_script bytes = read_lines 1 empty_script (slice_split (λ b. b == 10) bytes)
 
 -- 2. Output
 
@@ -113,13 +100,4 @@ output_of (Err bad) = record { text = bad_line bad; status = Bad }
 
 -- What is written for a script, and how its run ends.
 abbrev pub output : List ℕ → Output
-output bytes = output_of (read_script line_at every_path bytes)
-
--- 3. What is written for now: fewer lines and paths are good, and no limit is judged
-
-abbrev pub first_output_of : Result Script BadLine → Output
-first_output_of (Ok s) = record { text = lines_of (map (shown_answer false) (answers (selectors_of s.pairs) false s.events)); status = Good }
-first_output_of (Err bad) = record { text = bad_line bad; status = Bad }
-
-abbrev pub first_output : List ℕ → Output
-first_output bytes = first_output_of (read_script first.line_now path_runs bytes)
+output bytes = output_of (read_script bytes)

@@ -1,11 +1,9 @@
-//! Lines whose meaning is computed from the definition, and a law about the lines that are good at first.
+//! Lines and scripts whose meaning is computed from the definition.
 
-ghost use Rattle.std.specs.Prelude.{◌≡◌, ℕ, List, [], ◌∷◌, Some, None, true, false, codes};
-ghost use Rattle.lol_base.specs.declared.namespace.Namespace.TheVariants.{Svg};
-ghost use Rattle.lol_match.specs.Script.{Line, line_at, number_up_to, SetLimit, TurnEsiOn, ShowTries, Select, StartLine, EndLine};
-ghost use Rattle.lol_match.specs.First as first;
-ghost use Rattle.lol_match.specs.First.{plain_tag};
-ghost use Rattle.lol_match.specs.Scripts.{output, first_output};
+ghost use Rattle.std.specs.Prelude.{◌≡◌, [], ◌∷◌, Some, None, true, false, codes};
+ghost use Rattle.lol_base.specs.declared.namespace.Namespace.TheVariants.{Html, Svg};
+ghost use Rattle.lol_match.specs.Script.{line_at, number_up_to, SetLimit, TurnEsiOn, ShowTries, Select, StartLine, EndLine};
+ghost use Rattle.lol_match.specs.Scripts.{output};
 ghost use Rattle.lol_match.specs.declared.program.Status.TheVariants.{Good, BadLine, Refused};
 
 /// Numbers: one or more digits, up to a greatest one.
@@ -37,8 +35,8 @@ pub fn worked_settings()
 
 /// Tag lines.
 pub fn worked_tags()
-    ensures plain { line_at (codes "start\thtml\tdiv") ≡ Some (StartLine (plain_tag (codes "div"))) }
-    ensures dropped { line_at (codes "drop\thtml\tdiv") ≡ Some (StartLine (record (plain_tag (codes "div")) { finish = false })) }
+    ensures plain { line_at (codes "start\thtml\tdiv") ≡ Some (StartLine (record { name = codes "div"; namespace = Html; attributes = []; self_closing = false; finish = true })) }
+    ensures dropped { line_at (codes "drop\thtml\tdiv") ≡ Some (StartLine (record { name = codes "div"; namespace = Html; attributes = []; self_closing = false; finish = false })) }
     ensures attributes { line_at (codes "start\tsvg/\tcircle\ta=b=c\td") ≡ Some (StartLine (record { name = codes "circle"; namespace = Svg; attributes = record { name = codes "a"; value = Some (codes "b=c") } ∷ record { name = codes "d"; value = None } ∷ []; self_closing = true; finish = true })) }
     ensures no_name { line_at (codes "start\thtml") ≡ None }
     ensures empty_name { line_at (codes "start\thtml\t") ≡ None }
@@ -51,22 +49,6 @@ pub fn worked_tags()
     ensures end_alone { line_at (codes "end") ≡ None }
 {}
 
-/// What is good at first is good, and says the same.
-pub fn first_lines_are_lines()
-    ensures { (bytes : List ℕ) (line : Line) → first.line_now bytes ≡ Some line → line_at bytes ≡ Some line }
-{}
-
-/// What isn't good yet.
-pub fn worked_first_lines()
-    ensures foreign { first.line_now (codes "start\tsvg\tg") ≡ None }
-    ensures self_closing { first.line_now (codes "start\thtml/\tdiv") ≡ None }
-    ensures attribute { first.line_now (codes "start\thtml\tdiv\ta") ≡ None }
-    ensures dropped { first.line_now (codes "drop\thtml\tdiv") ≡ None }
-    ensures esi { first.line_now (codes "esi") ≡ None }
-    ensures tries { first.line_now (codes "tries") ≡ None }
-    ensures limit { first.line_now (codes "limit\t5") ≡ None }
-{}
-
 /// Whole scripts: what is written, and how the run ends.
 pub fn worked_outputs()
     ensures nothing { output [] ≡ record { text = []; status = Good } }
@@ -76,17 +58,13 @@ pub fn worked_outputs()
     ensures dropped { output (codes "select\t0\t*\ndrop\tsvg\tg\nstart\thtml\tp\nend\tg\n") ≡ record { text = codes "dropped\nstart\t0\nend\t-\n"; status = Good } }
     ensures foreign { output (codes "tries\nselect\t0\tcircle\nstart\tsvg/\tcircle\nend\tcircle\n") ≡ record { text = codes "start\t0/\tasked\ttries 1 0\nend\t-\n"; status = Good } }
     ensures limit { output (codes "limit\t512\nselect\t0\t*\nstart\thtml\ta\nstart\thtml\tb\nstart\thtml\tc\nstart\thtml\td\nstart\thtml\te\nstart\thtml\tf\nstart\thtml\tg\nstart\thtml\th\nstart\thtml\ti\n") ≡ record { text = codes "start\t0\nstart\t0\nstart\t0\nstart\t0\nstart\t0\nstart\t0\nstart\t0\nstart\t0\nrefused limit\n"; status = Refused } }
+    ensures last_limit { output (codes "limit\t512\nlimit\t511\nstart\thtml\ta\n") ≡ record { text = codes "refused limit\n"; status = Refused } }
+    ensures attributes { output (codes "tries\nselect\t0\t.a p\nselect\t1\tp\nstart\thtml\tdiv\tclass=a\nstart\thtml\tp\n") ≡ record { text = codes "start\t-\tasked\ttries 2 1\nstart\t0,1\tasked\ttries 3 1\n"; status = Good } }
+    ensures attribute_with_equals { output (codes "select\t0\t[b=\"c=d\"]\nstart\tmathml/\tmi\tb=c=d\n") ≡ record { text = codes "start\t0/\tasked\n"; status = Good } }
+    ensures esi { output (codes "esi\nselect\t0\t*\nstart\thtml\tesi:include\nstart\thtml\tp\nend\tesi:include\n") ≡ record { text = codes "start\t0/\nstart\t0\nend\t-\n"; status = Good } }
     ensures bad_selector { output (codes "select\t0\tdiv + span") ≡ record { text = codes "bad line 1: UnsupportedCombinator(+)\n"; status = BadLine } }
     ensures empty_selector { output (codes "select\t0\t") ≡ record { text = codes "bad line 1: EmptySelector\n"; status = BadLine } }
     ensures bad_form { output (codes "start\thtml\n") ≡ record { text = codes "bad line 1: form\n"; status = BadLine } }
+    ensures late_setting { output (codes "end\tp\nesi\n") ≡ record { text = codes "bad line 2: form\n"; status = BadLine } }
     ensures late_bad_line { output (codes "start\thtml\tp\n\nselect\t0\tdiv + span") ≡ record { text = codes "bad line 3: form\n"; status = BadLine } }
-{}
-
-/// Whole scripts as they are answered for now, where fewer lines and selectors are good.
-pub fn worked_first_outputs()
-    ensures descendant_and_child { first_output (codes "select\t0\tdiv p\nselect\t1\tdiv > p\nstart\thtml\tdiv\nstart\thtml\tsection\nstart\thtml\tp\nend\tdiv") ≡ record { text = codes "start\t-\nstart\t-\nstart\t0\nend\t0,1,2\n"; status = Good } }
-    ensures negations { first_output (codes "select\t0\t:not(div)\nselect\t1\t|p\nstart\thtml\tdiv\nstart\thtml\tp") ≡ record { text = codes "start\t-\nstart\t0\n"; status = Good } }
-    ensures position { first_output (codes "select\t0\tp\nselect\t1\tp > :first-child\n") ≡ record { text = codes "bad line 2: UnsupportedSyntax\n"; status = BadLine } }
-    ensures attribute { first_output (codes "select\t0\tp, p.a b\n") ≡ record { text = codes "bad line 1: UnsupportedSyntax\n"; status = BadLine } }
-    ensures esi { first_output (codes "select\t0\tp\nesi\n") ≡ record { text = codes "bad line 2: form\n"; status = BadLine } }
 {}

@@ -1,25 +1,58 @@
 //! The lines of a script.
 
-ghost use Rattle.std.specs.Prelude.{◌≡◌, ◌∷◌, [], MatchOption, List, ℕ, Some, None, option_map, position, if◌then◌else◌};
+ghost use Rattle.std.specs.Prelude.{◌≡◌, ◌<◌, ◌∷◌, [], MatchOption, IfSome, Some, None, Bool, true, false, map, length, option_map, position, if◌then◌else◌};
 ghost use Rattle.std.specs.Str.{is_utf8};
-ghost use Rattle.std.specs.List.{slice_split};
-ghost use Rattle.lol_match.specs.Script.{is_tab, number_up_to, select_at, end_at};
-ghost use Rattle.lol_match.specs.First.{line_now, start_now, said_by};
+ghost use Rattle.std.specs.List.{slice_split, list_all};
+ghost use Rattle.lol_match.specs.Script.{is_tab, is_named, attribute_at, namespace_at, number_up_to, limit_at, select_at, start_at, end_at, of_kind, line_at};
+ghost use Rattle.lol_match.specs.Lines.{fields_of, said_by};
+
+use lol_vm::Namespace;
 
 /// What a line says.
 #[derive(Clone, Copy, Debug, PartialEq, Eq)]
 pub enum Line<'s> {
-    /// A selector, and the id that it is added under.
-    Select { id: u32, text: &'s str },
+    /// What holds for all tags; it stands before the first tag line.
+    Setting(Setting<'s>),
 
-    /// An HTML start tag without attributes.
-    Start { name: &'s [u8] },
+    /// A start tag.
+    Start(StartLine<'s>),
 
     /// An end tag.
     End { name: &'s [u8] },
 }
 
-fn tab_place(bytes: &[u8]) -> Option<usize>
+/// A line before the first tag line.
+#[derive(Clone, Copy, Debug, PartialEq, Eq)]
+pub enum Setting<'s> {
+    /// The greatest usage, in bytes.
+    Limit { maximum: u64 },
+
+    /// The names of ESI are void.
+    Esi,
+
+    /// Tries are shown.
+    Tries,
+
+    /// A selector, and the id that it is added under.
+    Select { id: u32, text: &'s str },
+}
+
+/// A start tag as its line gives it.
+#[derive(Clone, Copy, Debug, PartialEq, Eq)]
+pub struct StartLine<'s> {
+    pub name: &'s [u8],
+    pub ns: Namespace,
+    pub self_closing: bool,
+
+    /// The attributes, separated by TAB.
+    pub attributes: Option<&'s [u8]>,
+
+    /// Whether the attributes are handed over where they are asked for.
+    pub finish: bool,
+}
+
+/// The place of the first TAB.
+pub fn tab_place(bytes: &[u8]) -> Option<usize>
     ensures { result ≡ position is_tab bytes.now }
 {
     bytes.iter().position(|b| *b == b'\t')
@@ -28,10 +61,21 @@ fn tab_place(bytes: &[u8]) -> Option<usize>
 /// A line or the rest of one, cut at its first TAB.
 #[tactic(auto, using(crate::proofs::Fields::split_none, crate::proofs::Fields::split_some, crate::proofs::Fields::within_some))]
 fn cut(bytes: &[u8]) -> Option<(&[u8], &[u8])>
-    ensures { MatchOption result (slice_split is_tab bytes.now ≡ bytes.now ∷ []) (λ parts. slice_split is_tab bytes.now ≡ parts.0.now ∷ slice_split is_tab parts.1.now) }
+    ensures fields { MatchOption result (slice_split is_tab bytes.now ≡ bytes.now ∷ []) (λ parts. slice_split is_tab bytes.now ≡ parts.0.now ∷ slice_split is_tab parts.1.now) }
+    ensures shorter { IfSome result (λ parts. length parts.1.now < length bytes.now) }
 {
     let place = tab_place(bytes)?;
     Some((&bytes[..place], &bytes[place + 1..]))
+}
+
+/// The first field, and the rest if there are more.
+fn first_field(bytes: &[u8]) -> (&[u8], Option<&[u8]>)
+    ensures { slice_split is_tab bytes.now ≡ result.0.now ∷ fields_of result.1 }
+{
+    match cut(bytes) {
+        Some((field, rest)) => (field, Some(rest)),
+        None => (bytes, None),
+    }
 }
 
 /// The number of one or more decimal digits, up to `u64::MAX`.
@@ -67,6 +111,17 @@ fn text_of(bytes: &[u8]) -> Option<&str>
     std::str::from_utf8(bytes).ok()
 }
 
+#[tactic(auto, using(crate::proofs::Fields::limit_too_long))]
+fn limit_of(rest: &[u8]) -> Option<Line<'_>>
+    ensures { option_map said_by result ≡ limit_at (slice_split is_tab rest.now) }
+{
+    if cut(rest).is_some() {
+        return None;
+    }
+    let maximum = number(rest)?;
+    Some(Line::Setting(Setting::Limit { maximum }))
+}
+
 #[tactic(auto, using(crate::proofs::Fields::select_by_cut))]
 fn select_of(rest: &[u8]) -> Option<Line<'_>>
     ensures { option_map said_by result ≡ select_at (slice_split is_tab rest.now) }
@@ -74,18 +129,68 @@ fn select_of(rest: &[u8]) -> Option<Line<'_>>
     let (digits, text) = cut(rest)?;
     let id = id_of(digits)?;
     let text = text_of(text)?;
-    Some(Line::Select { id, text })
+    Some(Line::Setting(Setting::Select { id, text }))
 }
 
-#[tactic(auto, using(crate::proofs::Fields::start_too_long))]
-fn start_of(rest: &[u8]) -> Option<Line<'_>>
-    ensures { option_map said_by result ≡ start_now (slice_split is_tab rest.now) }
+/// A namespace, and whether the tag closes itself.
+fn namespace_of(field: &[u8]) -> Option<(Namespace, bool)>
+    ensures { result ≡ namespace_at field.now }
 {
-    let (namespace, name) = cut(rest)?;
-    if cut(name).is_some() || name.is_empty() || namespace != b"html".as_slice() {
+    if field == b"html".as_slice() {
+        Some((Namespace::Html, false))
+    } else if field == b"html/".as_slice() {
+        Some((Namespace::Html, true))
+    } else if field == b"svg".as_slice() {
+        Some((Namespace::Svg, false))
+    } else if field == b"svg/".as_slice() {
+        Some((Namespace::Svg, true))
+    } else if field == b"mathml".as_slice() {
+        Some((Namespace::MathML, false))
+    } else if field == b"mathml/".as_slice() {
+        Some((Namespace::MathML, true))
+    } else {
+        None
+    }
+}
+
+/// Whether an attribute has a name.
+fn has_name(attribute: &[u8]) -> bool
+    ensures { result ≡ is_named (attribute_at attribute.now) }
+{
+    attribute.first().is_some_and(|b| *b != b'=')
+}
+
+/// Whether each attribute has a name.
+fn have_names(attributes: &[u8]) -> bool
+    ensures { result ≡ list_all is_named (map attribute_at (slice_split is_tab attributes.now)) }
+{
+    let mut rest = attributes;
+    while let Some((attribute, others)) = cut(rest) {
+        if !has_name(attribute) {
+            return false;
+        }
+        rest = others;
+    }
+    has_name(rest)
+}
+
+/// A start tag, by what follows the kind of its line.
+fn start_of(rest: &[u8], finish: bool) -> Option<Line<'_>>
+    ensures { option_map said_by result ≡ start_at finish (slice_split is_tab rest.now) }
+{
+    let (namespace, rest) = cut(rest)?;
+    let (name, attributes) = first_field(rest);
+    if name.is_empty() || !attributes.is_none_or(have_names) {
         return None;
     }
-    Some(Line::Start { name })
+    let (ns, self_closing) = namespace_of(namespace)?;
+    Some(Line::Start(StartLine {
+        name,
+        ns,
+        self_closing,
+        attributes,
+        finish,
+    }))
 }
 
 #[tactic(auto, using(crate::proofs::Fields::end_too_long))]
@@ -98,18 +203,44 @@ fn end_of(rest: &[u8]) -> Option<Line<'_>>
     Some(Line::End { name: rest })
 }
 
-/// What a line says, or nothing where it has none of the forms.
-pub fn line_of(bytes: &[u8]) -> Option<Line<'_>>
-    ensures { option_map said_by result ≡ line_now bytes.now }
+/// A line of one field.
+fn bare_line(kind: &[u8]) -> Option<Line<'static>>
+    ensures { option_map said_by result ≡ of_kind kind.now [] }
 {
-    let (kind, rest) = cut(bytes)?;
-    if kind == b"select".as_slice() {
+    if kind == b"esi".as_slice() {
+        Some(Line::Setting(Setting::Esi))
+    } else if kind == b"tries".as_slice() {
+        Some(Line::Setting(Setting::Tries))
+    } else {
+        None
+    }
+}
+
+/// A line of several fields.
+fn line_of_kind<'s>(kind: &[u8], rest: &'s [u8]) -> Option<Line<'s>>
+    ensures { option_map said_by result ≡ of_kind kind.now (slice_split is_tab rest.now) }
+{
+    if kind == b"limit".as_slice() {
+        limit_of(rest)
+    } else if kind == b"select".as_slice() {
         select_of(rest)
     } else if kind == b"start".as_slice() {
-        start_of(rest)
+        start_of(rest, true)
+    } else if kind == b"drop".as_slice() {
+        start_of(rest, false)
     } else if kind == b"end".as_slice() {
         end_of(rest)
     } else {
         None
+    }
+}
+
+/// What a line says, or nothing where it has none of the forms.
+pub fn line_of(bytes: &[u8]) -> Option<Line<'_>>
+    ensures { option_map said_by result ≡ line_at bytes.now }
+{
+    match cut(bytes) {
+        Some((kind, rest)) => line_of_kind(kind, rest),
+        None => bare_line(bytes),
     }
 }

@@ -13,8 +13,11 @@ mod program;
 #[cfg(test)]
 mod replayed;
 mod script;
+mod tags;
 #[cfg(test)]
 mod tests;
+#[cfg(test)]
+mod worked;
 
 use device::{Counted, RunFault};
 use program::{Status, run};

@@ -1,11 +1,12 @@
 //! The lines of a run as they are written.
 
-ghost use Rattle.std.specs.Prelude.{◌≡◌, ◌∷◌, [], ◌++◌, OnOk, map, decimal, false};
+ghost use Rattle.std.specs.Prelude.{◌≡◌, ◌∷◌, [], ◌++◌, OnOk, map, decimal, Bool, true};
 ghost use Rattle.lol_vm.specs.Views.{match_of, answer_of};
-ghost use Rattle.lol_match.specs.Output.{listed, shown_match, shown_answer, lines_of};
+ghost use Rattle.lol_program.specs.Tries.{names_counted, attributes_counted};
+ghost use Rattle.lol_match.specs.Output.{listed, shown_match, tries_field, shown_answer, lines_of};
 
 use itoa::Buffer;
-use lol_vm::{MatchInfo, TagReport};
+use lol_vm::{MatchInfo, TagReport, Tries};
 use std::alloc::AllocError;
 
 /// Adds a number in decimal digits.
@@ -57,16 +58,33 @@ pub fn push_numbers(text: &mut Vec<u8>, numbers: &[usize]) -> Result<(), AllocEr
     Ok(())
 }
 
-/// Adds the line of a report, without tries.
-pub fn push_report(text: &mut Vec<u8>, report: &TagReport) -> Result<(), AllocError>
-    ensures { OnOk result (text.new.items ≡ text.old.items ++ (shown_answer false (answer_of report.now) ++ 10 ∷ [])) }
+/// Adds the field of the tries.
+fn push_tries(text: &mut Vec<u8>, tries: Tries) -> Result<(), AllocError>
+    ensures { OnOk result (text.new.items ≡ text.old.items ++ tries_field true (names_counted tries) (attributes_counted tries)) }
+{
+    text.extend_from_slice(b"\ttries ")?;
+    push_number(text, tries.names())?;
+    text.push(b' ')?;
+    push_number(text, tries.attributes())
+}
+
+/// Adds the line of a report.
+fn push_report(text: &mut Vec<u8>, report: &TagReport, shows_tries: bool) -> Result<(), AllocError>
+    ensures { OnOk result (text.new.items ≡ text.old.items ++ (shown_answer shows_tries (answer_of report.now) ++ 10 ∷ [])) }
 {
     match report {
-        TagReport::Started { matched, asked, .. } => {
+        TagReport::Started {
+            matched,
+            asked,
+            tries,
+        } => {
             text.extend_from_slice(b"start\t")?;
             push_matches(text, matched)?;
             if *asked {
                 text.extend_from_slice(b"\tasked")?;
+            }
+            if shows_tries {
+                push_tries(text, *tries)?;
             }
         }
         TagReport::Dropped => text.extend_from_slice(b"dropped")?,
@@ -79,12 +97,16 @@ pub fn push_report(text: &mut Vec<u8>, report: &TagReport) -> Result<(), AllocEr
     Ok(())
 }
 
-/// Adds the lines of reports, without tries.
-pub fn push_reports(text: &mut Vec<u8>, reports: &[TagReport]) -> Result<(), AllocError>
-    ensures { OnOk result (text.new.items ≡ text.old.items ++ lines_of (map (λ report. shown_answer false (answer_of report)) reports.now)) }
+/// Adds the lines of reports.
+pub fn push_reports(
+    text: &mut Vec<u8>,
+    reports: &[TagReport],
+    shows_tries: bool,
+) -> Result<(), AllocError>
+    ensures { OnOk result (text.new.items ≡ text.old.items ++ lines_of (map (λ report. shown_answer shows_tries (answer_of report)) reports.now)) }
 {
     for report in reports {
-        push_report(text, report)?;
+        push_report(text, report, shows_tries)?;
     }
     Ok(())
 }

@@ -1,19 +1,22 @@
 //! The program over a script.
 
-ghost use Rattle.std.specs.Prelude.{◌≡◌, ◌≢◌, ◌<◌, List, ℕ, IfOk, IfErr, IsErrOf};
+ghost use Rattle.std.specs.Prelude.{◌≡◌, ◌≢◌, ◌<◌, List, ℕ, Option, Ok, IfOk, IfErr, IsErrOf, map, take};
 ghost use Rattle.std.specs.Io.KnownBytes.{Consumes, Appends, Keeps, IsAtEnd};
 ghost use Rattle.lol_match.specs.Devices.{device_of, failures_of, AppendsBeginning};
 ghost use Rattle.lol_match.specs.Scripts as scripts;
-ghost use Rattle.lol_match.specs.Output.{bad_line};
-ghost use Rattle.lol_match.specs.Scripts.{first_output, first_output_of};
+ghost use Rattle.lol_match.specs.Output.{bad_line, shown_answer, lines_of};
+ghost use Rattle.lol_vm.specs.Refusals.{Cause};
+ghost use Rattle.lol_vm.specs.RunRefusals.{IsRefusedAt};
+ghost use Rattle.lol_vm.specs.Views.{answer_of};
+ghost use Rattle.lol_match.specs.Scripts.{output, output_of, run_output};
 ghost use Rattle.lol_match.specs.Readings.{IsReading};
-ghost use Rattle.std.specs.Prelude.{Ok};
 
 use crate::bad_line::{BadLine, push_bad_line};
 use crate::device::{Counted, RunFault, read_all, write_text};
 use crate::output::push_reports;
 use crate::script::{Script, Stop, read_script};
-use lol_vm::{AttributeBuffer, SharedMemoryLimiter, match_events};
+use crate::tags::events_of;
+use lol_vm::{RunCause, RunRefusal, SharedMemoryLimiter, TagReport, match_events};
 use std::alloc::{AllocError, Global};
 use std::io::{Read, Write};
 
@@ -29,7 +32,7 @@ pub enum Status {
     /// A line was bad.
     BadLine,
 
-    /// A tag was refused. (Not answered yet.)
+    /// A tag was refused.
     Refused,
 }
 
@@ -48,13 +51,13 @@ pub fn run<R: Read, W: Write>(
 
     // The script is read to its end, and exactly its output is written.
     ensures ok { IfOk result (λ status. (script : List ℕ) × Consumes (R.remaining (device_of reader.old)) (R.remaining (device_of reader.new)) script
-        × IsAtEnd (R.remaining (device_of reader.new)) × (status ≡ (first_output script).status)
-        × Appends (W.contents (device_of writer.old)) (W.contents (device_of writer.new)) (first_output script).text) }
+        × IsAtEnd (R.remaining (device_of reader.new)) × (status ≡ (output script).status)
+        × Appends (W.contents (device_of writer.old)) (W.contents (device_of writer.new)) (output script).text) }
 
     // Unless a write failed nothing is written, and else a beginning of the output.
     ensures unwritten { IfErr result (λ fault. fault ≢ RunFault.Write → Keeps (W.contents (device_of writer.old)) (W.contents (device_of writer.new))) }
     ensures beginning { IsErrOf result RunFault.Write → (script : List ℕ) × Consumes (R.remaining (device_of reader.old)) (R.remaining (device_of reader.new)) script
-        × IsAtEnd (R.remaining (device_of reader.new)) × AppendsBeginning (W.contents (device_of writer.old)) (W.contents (device_of writer.new)) (first_output script).text }
+        × IsAtEnd (R.remaining (device_of reader.new)) × AppendsBeginning (W.contents (device_of writer.old)) (W.contents (device_of writer.new)) (output script).text }
     ensures read_failed { IsErrOf result RunFault.Read → failures_of reader.old < failures_of reader.new }
     ensures write_failed { IsErrOf result RunFault.Write → failures_of writer.old < failures_of writer.new }
 {
@@ -68,13 +71,12 @@ pub fn run<R: Read, W: Write>(
 
 /// What is written for a script, and how its run ends.
 fn output(alloc: Global, bytes: &[u8]) -> Result<(Vec<u8>, Status), AllocError>
-    ensures { IfOk result (λ made. first_output bytes.now ≡ record { text = made.0.items; status = made.1 }) }
+    ensures { IfOk result (λ made. output bytes.now ≡ record { text = made.0.items; status = made.1 }) }
 {
-    let none = AttributeBuffer::new(alloc);
-    match read_script(alloc, bytes, &none) {
+    match read_script(alloc, bytes) {
         Err(Stop::Memory) => Err(AllocError),
         Err(Stop::Bad(bad)) => Ok((bad_text(alloc, bad)?, Status::BadLine)),
-        Ok(script) => Ok((good_text(alloc, script)?, Status::Good)),
+        Ok(script) => good_output(alloc, script),
     }
 }
 
@@ -86,16 +88,55 @@ fn bad_text(alloc: Global, bad: BadLine) -> Result<Vec<u8>, AllocError>
     Ok(text)
 }
 
-fn good_text(alloc: Global, script: Script) -> Result<Vec<u8>, AllocError>
+/// What is written for a script whose lines are good.
+fn good_output(alloc: Global, script: Script) -> Result<(Vec<u8>, Status), AllocError>
     requires { (s : scripts.Script) × IsReading script s }
-    ensures { IfOk result (λ text. (s : scripts.Script) → IsReading script.entry s → text.items ≡ (first_output_of (Ok s)).text) }
+    ensures { IfOk result (λ made. (s : scripts.Script) → IsReading script.entry s → output_of (Ok s) ≡ record { text = made.0.items; status = made.1 }) }
 {
-    let Script { ast, events } = script;
-    let mut limiter = SharedMemoryLimiter::new(usize::MAX);
-    let Ok(reports) = match_events(alloc, ast, ITEM_BYTES, false, &events, &mut limiter) else {
-        return Err(AllocError);
-    };
+    let Script {
+        limit,
+        esi,
+        shows_tries,
+        ast,
+        tags,
+    } = script;
+    let events = events_of(alloc, &tags)?;
+    let mut limiter = SharedMemoryLimiter::new(limit as usize);
+    match match_events(alloc, ast, ITEM_BYTES, esi, &events, &mut limiter) {
+        Ok(reports) => Ok((reports_text(alloc, &reports, shows_tries)?, Status::Good)),
+        Err(refusal) => Ok((refused_text(alloc, refusal, shows_tries)?, Status::Refused)),
+    }
+}
+
+fn reports_text(
+    alloc: Global,
+    reports: &[TagReport],
+    shows_tries: bool,
+) -> Result<Vec<u8>, AllocError>
+    ensures { IfOk result (λ text. text.items ≡ lines_of (map (λ report. shown_answer shows_tries (answer_of report)) reports.now)) }
+{
     let mut text = Vec::new(alloc);
-    push_reports(&mut text, &reports)?;
+    push_reports(&mut text, reports, shows_tries)?;
+    Ok(text)
+}
+
+/// The lines of a refused run, and that of its cause. There are none where the cause is memory.
+fn refused_text(
+    alloc: Global,
+    refusal: RunRefusal,
+    shows_tries: bool,
+) -> Result<Vec<u8>, AllocError>
+    ensures { IfOk result (λ text. (lines : List (List ℕ)) (first : Option (ℕ × Cause))
+        → map (λ report. shown_answer shows_tries (answer_of report)) refusal.reports.items ≡ take refusal.event lines
+        → IsRefusedAt refusal first → run_output lines first ≡ record { text = text.items; status = Status.Refused }) }
+{
+    let RunRefusal { reports, cause, .. } = refusal;
+    let line = match cause {
+        RunCause::MemoryLimitExceeded => b"refused limit\n".as_slice(),
+        RunCause::CounterFull => b"refused counter\n".as_slice(),
+        RunCause::Memory => return Err(AllocError),
+    };
+    let mut text = reports_text(alloc, &reports, shows_tries)?;
+    text.extend_from_slice(line)?;
     Ok(text)
 }

@@ -1,31 +1,31 @@
 //! Reading a script.
 
-ghost use Rattle.std.specs.Prelude.{◌≡◌, ◌==◌, ◌+◌, ◌∷◌, [], ◌++◌, List, ℕ, IfOk, IfErr, OnOk, OnErr, Some, map};
-ghost use Rattle.std.specs.List.{slice_split};
-ghost use Rattle.lol_program.specs.Runs.{path_runs};
-ghost use Rattle.lol_vm.specs.Events.{Event, Start};
-ghost use Rattle.lol_vm.specs.Views.{IsPlainHtml, HasRangesInside, event_of};
-ghost use Rattle.lol_match.specs.Script.{Select};
-ghost use Rattle.lol_match.specs.First.{line_now, plain_tag};
+ghost use Rattle.std.specs.Prelude.{◌≡◌, IfOk, IfErr, OnOk, Ok};
+ghost use Rattle.lol_css.specs.Accepting.{accept};
+ghost use Rattle.lol_match.specs.Lines.{set_by, told_by, HasOutlinesInside};
 ghost use Rattle.lol_match.specs.Scripts as scripts;
-ghost use Rattle.lol_match.specs.Scripts.{with_bytes, with_line, with_event, read_script};
-ghost use Rattle.lol_match.specs.Readings.{IsReading, ReadsScript, Stops};
-ghost use Rattle.lol_css.specs.declared.error.SelectorError.TheVariants.{UnsupportedSyntax};
+ghost use Rattle.lol_match.specs.Scripts.{with_bytes, with_line, with_event, with_selector, read_script};
+ghost use Rattle.lol_match.specs.Readings.{IsReading, ReadsScript, AddsSelectors, Stops};
 ghost use Rattle.lol_match.specs.declared.script.Stop.TheVariants.{Memory};
 
 use crate::bad_line::{BadLine, Cause};
-use crate::lines::{Line, line_of};
-use lol_program::selector_runs;
-use lol_vm::{
-    Ast, AttributeBuffer, AuxStartTagInfo, Bytes, Namespace, Selector, SelectorError, TagEvent,
-};
+use crate::lines::{Line, Setting, line_of};
+use crate::tags::{Tag, start_tag};
+use lol_vm::{Ast, Selector, SelectorError};
 use std::alloc::Global;
 
 /// What a script asks for.
 #[derive(Drop)]
 pub struct Script<'s> {
+    /// The greatest usage, in bytes.
+    pub limit: u64,
+
+    /// Whether the names of ESI are void.
+    pub esi: bool,
+
+    pub shows_tries: bool,
     pub ast: Ast,
-    pub events: Vec<TagEvent<'s>>,
+    pub tags: Vec<Tag<'s>>,
 }
 
 /// Why the reading of a script stops.
@@ -38,22 +38,20 @@ pub enum Stop {
     Bad(BadLine),
 }
 
-/// ReadsScript a script, up to its first bad line. `none` are the attributes of its tags, which have none for now.
-pub fn read_script<'s>(
-    alloc: Global,
-    bytes: &'s [u8],
-    none: &'s AttributeBuffer,
-) -> Result<Script<'s>, Stop>
-    requires { none.now.items ≡ [] }
-    ensures read { IfOk result (λ script. ReadsScript script (read_script line_now path_runs bytes.now)) }
-    ensures stop { IfErr result (λ stop. Stops stop (read_script line_now path_runs bytes.now)) }
+/// Reads a script, up to its first bad line.
+pub fn read_script(alloc: Global, bytes: &[u8]) -> Result<Script<'_>, Stop>
+    ensures read { IfOk result (λ script. ReadsScript script (read_script bytes.now)) }
+    ensures stop { IfErr result (λ stop. Stops stop (read_script bytes.now)) }
 {
     let mut script = Script {
+        limit: u64::MAX,
+        esi: false,
+        shows_tries: false,
         ast: Ast::new(alloc),
-        events: Vec::new(alloc),
+        tags: Vec::new(alloc),
     };
     for (place, line) in bytes.split(|b| *b == b'\n').enumerate() {
-        take_line(alloc, &mut script, place + 1, line, none)?;
+        take_line(alloc, &mut script, place + 1, line)?;
     }
     Ok(script)
 }
@@ -64,20 +62,21 @@ fn take_line<'s>(
     script: &mut Script<'s>,
     number: usize,
     line: &'s [u8],
-    none: &'s AttributeBuffer,
 ) -> Result<(), Stop>
-    requires { none.now.items ≡ [] }
-    ensures taken { OnOk result ((s : scripts.Script) → IsReading script.old s → ReadsScript script.new (with_bytes line_now path_runs number s line.now)) }
-    ensures stop { IfErr result (λ stop. (s : scripts.Script) → IsReading script.old s → Stops stop (with_bytes line_now path_runs number s line.now)) }
+    ensures taken { OnOk result ((s : scripts.Script) → IsReading script.old s → ReadsScript script.new (with_bytes number s line.now)) }
+    ensures stop { IfErr result (λ stop. (s : scripts.Script) → IsReading script.old s → Stops stop (with_bytes number s line.now)) }
 {
     if line.is_empty() {
         return Ok(());
     }
     match line_of(line) {
         None => Err(malformed(number)),
-        Some(Line::Select { id, text }) => take_selector(alloc, script, number, id, text),
-        Some(Line::Start { name }) => take_event(script, start(name, none)),
-        Some(Line::End { name }) => take_event(script, TagEvent::End { name }),
+        Some(Line::Setting(setting)) => take_setting(alloc, script, number, setting),
+        Some(Line::Start(start)) => match start_tag(alloc, start) {
+            Ok(tag) => take_tag(script, tag),
+            Err(_) => Err(Stop::Memory),
+        },
+        Some(Line::End { name }) => take_tag(script, Tag::End { name }),
     }
 }
 
@@ -90,74 +89,59 @@ fn malformed(number: usize) -> Stop
     })
 }
 
-/// A selector that isn't matched yet.
-fn unsupported(number: usize) -> Stop
-    ensures { result ≡ Stop.Bad (record { number = number; cause = Cause.Selector UnsupportedSyntax }) }
-{
-    Stop::Bad(BadLine {
-        number,
-        cause: Cause::Selector(SelectorError::UnsupportedSyntax),
-    })
-}
-
-/// An HTML start tag without attributes.
-fn start<'s>(name: &'s [u8], none: &'s AttributeBuffer) -> TagEvent<'s>
-    requires { none.now.items ≡ [] }
-    ensures event { event_of result ≡ Start (plain_tag name.now) }
-    ensures html { IsPlainHtml result }
-    ensures ranges { HasRangesInside result }
-{
-    TagEvent::Start {
-        name,
-        ns: Namespace::Html,
-        aux_info: AuxStartTagInfo {
-            input: Bytes::new(name),
-            attr_buffer: none,
-            self_closing: false,
-        },
-        finish: true,
-    }
-}
-
-fn take_event<'s>(script: &mut Script<'s>, event: TagEvent<'s>) -> Result<(), Stop>
-    requires html { IsPlainHtml event }
-    requires ranges { HasRangesInside event }
-    ensures taken { OnOk result ((s : scripts.Script) → IsReading script.old s → IsReading script.new (with_event s (event_of event.entry))) }
+fn take_tag<'s>(script: &mut Script<'s>, tag: Tag<'s>) -> Result<(), Stop>
+    requires { HasOutlinesInside tag }
+    ensures taken { OnOk result ((s : scripts.Script) → IsReading script.old s → IsReading script.new (with_event s (told_by tag.entry))) }
     ensures stop { IfErr result (λ stop. stop ≡ Memory) }
 {
-    if script.events.push(event).is_err() {
+    if script.tags.push(tag).is_err() {
         return Err(Stop::Memory);
     }
     Ok(())
 }
 
-fn take_selector(
+/// Takes what holds for all tags, unless a tag was there already.
+fn take_setting(
     alloc: Global,
     script: &mut Script<'_>,
+    number: usize,
+    setting: Setting<'_>,
+) -> Result<(), Stop>
+    ensures taken { OnOk result ((s : scripts.Script) → IsReading script.old s → ReadsScript script.new (with_line number s (set_by setting.entry))) }
+    ensures stop { IfErr result (λ stop. (s : scripts.Script) → IsReading script.old s → Stops stop (with_line number s (set_by setting.entry))) }
+{
+    if !script.tags.is_empty() {
+        return Err(malformed(number));
+    }
+    match setting {
+        Setting::Limit { maximum } => script.limit = maximum,
+        Setting::Esi => script.esi = true,
+        Setting::Tries => script.shows_tries = true,
+        Setting::Select { id, text } => take_selector(alloc, &mut script.ast, number, id, text)?,
+    }
+    Ok(())
+}
+
+/// Adds the selectors of a text.
+fn take_selector(
+    alloc: Global,
+    ast: &mut Ast,
     number: usize,
     id: u32,
     text: &str,
 ) -> Result<(), Stop>
-    ensures taken { OnOk result ((s : scripts.Script) → IsReading script.old s → ReadsScript script.new (with_line line_now path_runs number s (Select id text.now))) }
-    ensures stop { IfErr result (λ stop. (s : scripts.Script) → IsReading script.old s → Stops stop (with_line line_now path_runs number s (Select id text.now))) }
+    ensures added { OnOk result (AddsSelectors text.now id ast.old ast.new) }
+    ensures stop { IfErr result (λ stop. (s : scripts.Script) → Stops stop (with_selector number s id (accept text.now))) }
 {
-    if !script.events.is_empty() {
-        return Err(malformed(number));
-    }
     match Selector::from_str(alloc, text) {
         Err(SelectorError::Memory) => Err(Stop::Memory),
         Err(error) => Err(Stop::Bad(BadLine {
             number,
             cause: Cause::Selector(error),
         })),
-        Ok(selector) => {
-            if !selector_runs(&selector) {
-                return Err(unsupported(number));
-            }
-            let Ok(()) = script.ast.add_selector(&selector, id) else {
-                return Err(Stop::Memory);
-            };
-            Ok(())
-        }
+        Ok(selector) => match ast.add_selector(&selector, id) {
+            Ok(()) => Ok(()),
+            Err(_) => Err(Stop::Memory),
+        },
     }
 }

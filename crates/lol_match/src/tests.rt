@@ -2,13 +2,13 @@
 
 use crate::bad_line::{BadLine, Cause, push_bad_line};
 use crate::device::{Counted, RunFault, read_all, write_text};
-use crate::exit_status;
-use crate::lines::{Line, line_of};
+use crate::lines::{Line, Setting, StartLine, line_of};
 use crate::output::{push_matches, push_numbers};
 use crate::program::{Status, run};
-use crate::replayed::SCRIPTS;
+use crate::{exit_status, replayed, worked};
 use lol_css::SelectorError;
 use lol_memory::MatchInfo;
+use lol_vm::Namespace;
 use std::alloc::Global;
 use std::cell::RefCell;
 use std::fmt::{Display, Write as _};
@@ -92,12 +92,27 @@ fn reads_lines(rt: HostRuntime) -> Result<(), Fail> {
     let lines = [
         (
             "select\t07\tdiv\tp\t",
-            Some(Line::Select {
+            Some(Line::Setting(Setting::Select {
                 id: 7,
                 text: "div\tp\t",
-            }),
+            })),
         ),
-        ("start\thtml\tdiv", Some(Line::Start { name: b"div" })),
+        (
+            "limit\t512",
+            Some(Line::Setting(Setting::Limit { maximum: 512 })),
+        ),
+        ("esi", Some(Line::Setting(Setting::Esi))),
+        ("tries", Some(Line::Setting(Setting::Tries))),
+        (
+            "drop\tsvg/\tcircle\tr=1=2\tid",
+            Some(Line::Start(StartLine {
+                name: b"circle",
+                ns: Namespace::Svg,
+                self_closing: true,
+                attributes: Some(b"r=1=2\tid"),
+                finish: false,
+            })),
+        ),
         ("end\tdiv", Some(Line::End { name: b"div" })),
         ("end\tdiv\t", None),
     ];
@@ -153,89 +168,51 @@ fn run_on(alloc: Global, script: &[u8]) -> (Result<Status, RunFault>, Vec<u8>) {
     (outcome, writer.into_inner())
 }
 
-/// Scripts, what is written for each, and how its run ends.
-const WORKED: [(&str, &str, Status); 18] = [
-    ("", "", Status::Good),
-    (
-        "select\t0\tdiv + span\n",
-        "bad line 1: UnsupportedCombinator(+)\n",
-        Status::BadLine,
-    ),
-    (
-        "select\t0\t\n",
-        "bad line 1: EmptySelector\n",
-        Status::BadLine,
-    ),
-    (
-        "select\t0\tp\nselect\t1\tli:nth-child(2n+1)\n",
-        "bad line 2: UnsupportedSyntax\n",
-        Status::BadLine,
-    ),
-    (
-        "select\t0\tp, a[href]\nstart\thtml\tp\n",
-        "bad line 1: UnsupportedSyntax\n",
-        Status::BadLine,
-    ),
-    (
-        "select\t0\t:not(div)\nselect\t1\t|p\nstart\thtml\tdiv\nstart\thtml\tp\n",
-        "start\t-\nstart\t0\n",
-        Status::Good,
-    ),
-    (
-        "select\t7\t:not(div):not(p) > \\42 r/* none */\nstart\thtml\tmain\nstart\thtml\tbr\nstart\thtml\tdiv\nstart\thtml\tbr\n",
-        "start\t-\nstart\t7/\nstart\t-\nstart\t-\n",
-        Status::Good,
-    ),
-    ("start\thtml\n", "bad line 1: form\n", Status::BadLine),
-    (
-        "select\t4\t* > br, P\nselect\t2\tp\nstart\thtml\tp\nstart\thtml\tBR\nstart\thtml\tp\nend\tP\nend\tP\n",
-        "start\t2,4\nstart\t4/\nstart\t2,4\nend\t2\nend\t0\n",
-        Status::Good,
-    ),
-    (
-        "start\thtml\tp\n\nselect\t0\tdiv + span",
-        "bad line 3: form\n",
-        Status::BadLine,
-    ),
-    ("end\ttable", "end\t-\n", Status::Good),
-    ("esi\n", "bad line 1: form\n", Status::BadLine),
-    (
-        "select\t0\t:is(h1, h2) > a\nstart\thtml\th1\nstart\thtml\ta\nend\th1\nstart\thtml\tp\nstart\thtml\ta\n",
-        "start\t-\nstart\t0\nend\t0,1\nstart\t-\nstart\t-\n",
-        Status::Good,
-    ),
-    (
-        "select\t0\t:where()\n",
-        "bad line 1: EmptySelector\n",
-        Status::BadLine,
-    ),
-    (
-        "select\t0\t:not(:not(a, b))\nstart\thtml\ta\nstart\thtml\tb\nstart\thtml\tc\n",
-        "start\t0\nstart\t0\nstart\t-\n",
-        Status::Good,
-    ),
-    (
-        "select\t0\t:not(*)\nselect\t1\t:not(|a)\nstart\thtml\ta\n",
-        "start\t1\n",
-        Status::Good,
-    ),
-    (
-        "select\t0\t:not(:is(a, b))\nstart\thtml\ta\nstart\thtml\tc\n",
-        "start\t-\nstart\t0\n",
-        Status::Good,
-    ),
-    (
-        "select\t0\t:not(a, b)\nstart\thtml\ta\nstart\thtml\tb\nstart\thtml\tc\n",
-        "start\t-\nstart\t-\nstart\t0\n",
-        Status::Good,
-    ),
-];
-
 #[test]
 fn runs_scripts(rt: HostRuntime) -> Result<(), Fail> {
-    for (script, output, status) in WORKED {
+    for (script, output, status) in worked::ANSWERED {
         let (outcome, written) = run_on(rt.alloc(), script.as_bytes());
         assert_eq!(rt; outcome, Ok(status), "{script:?}");
+        assert_eq!(rt; written.as_slice(), output.as_bytes(), "{script:?}");
+    }
+    Ok(())
+}
+
+#[test]
+fn names_bad_lines(rt: HostRuntime) -> Result<(), Fail> {
+    for (script, output) in worked::BAD {
+        let (outcome, written) = run_on(rt.alloc(), script.as_bytes());
+        assert_eq!(rt; outcome, Ok(Status::BadLine), "{script:?}");
+        assert_eq!(rt; written.as_slice(), output.as_bytes(), "{script:?}");
+    }
+    Ok(())
+}
+
+#[test]
+fn replays_scripts_of_names(rt: HostRuntime) -> Result<(), Fail> {
+    for (script, output, status) in replayed::OF_NAMES {
+        let (outcome, written) = run_on(rt.alloc(), script.as_bytes());
+        assert_eq!(rt; outcome, Ok(status), "{script:?}");
+        assert_eq!(rt; written.as_slice(), output.as_bytes(), "{script:?}");
+    }
+    Ok(())
+}
+
+#[test]
+fn replays_scripts(rt: HostRuntime) -> Result<(), Fail> {
+    for (script, output, status) in replayed::OF_EVERY_KIND {
+        let (outcome, written) = run_on(rt.alloc(), script.as_bytes());
+        assert_eq!(rt; outcome, Ok(status), "{script:?}");
+        assert_eq!(rt; written.as_slice(), output.as_bytes(), "{script:?}");
+    }
+    Ok(())
+}
+
+#[test]
+fn replays_bad_lines(rt: HostRuntime) -> Result<(), Fail> {
+    for (script, output) in replayed::BAD {
+        let (outcome, written) = run_on(rt.alloc(), script.as_bytes());
+        assert_eq!(rt; outcome, Ok(Status::BadLine), "{script:?}");
         assert_eq!(rt; written.as_slice(), output.as_bytes(), "{script:?}");
     }
     Ok(())
@@ -270,17 +247,6 @@ fn runs_a_long_script(rt: HostRuntime) -> Result<(), Fail> {
     let (outcome, written) = run_on(rt.alloc(), script.as_bytes());
     assert_eq!(rt; outcome, Ok(Status::Good));
     assert_eq!(rt; written.as_slice(), output.as_bytes());
-    Ok(())
-}
-
-#[test]
-fn replays_scripts(rt: HostRuntime) -> Result<(), Fail> {
-    for (script, output, good) in SCRIPTS {
-        let (outcome, written) = run_on(rt.alloc(), script.as_bytes());
-        let status = if good { Status::Good } else { Status::BadLine };
-        assert_eq!(rt; outcome, Ok(status), "{script:?}");
-        assert_eq!(rt; written.as_slice(), output.as_bytes(), "{script:?}");
-    }
     Ok(())
 }
 

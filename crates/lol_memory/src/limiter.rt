@@ -1,6 +1,6 @@
 //! A count of bytes against a maximum.
 
-ghost use Rattle.std.specs.Prelude.{◌≡◌, ◌≤◌, ◌-◌, ◌↔◌, OnOk, OnErr, IsErr};
+ghost use Rattle.std.specs.Prelude.{◌≡◌, ◌≤◌, ◌<◌, ◌-◌, ◌^◌, ◌↔◌, OnOk, OnErr, IsErr};
 ghost use Rattle.lol_memory.specs.Limiter.{charged, Passes};
 
 use std::marker::Model;
@@ -19,7 +19,7 @@ pub struct SharedMemoryLimiter {
 }
 
 impl Model for SharedMemoryLimiter {
-    ghost use Rattle.std.specs.Prelude.{◌≤◌};
+    ghost use Rattle.std.specs.Prelude.{◌≤◌, ◌<◌, ◌^◌};
     ghost use Rattle.lol_memory.specs.Limiter.{Limiter, limiter_code};
 
     ghost Value = { Limiter };
@@ -28,7 +28,7 @@ impl Model for SharedMemoryLimiter {
 
     ghost view = { λ l. record { usage = l.current_usage; maximum = l.max } };
 
-    ghost invariant = { λ l. l.current_usage ≤ l.max };
+    ghost invariant = { λ l. (l.current_usage ≤ l.max) × (l.max < 2 ^ 64) };
 }
 
 impl SharedMemoryLimiter {
@@ -46,6 +46,7 @@ impl SharedMemoryLimiter {
     pub fn current_usage(&self) -> usize
         ensures value { result ≡ self.now.usage }
         ensures within { result ≤ self.now.maximum }
+        ensures word { self.now.maximum < 2 ^ 64 }
     {
         self.current_usage
     }

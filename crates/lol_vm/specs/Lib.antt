@@ -3,6 +3,7 @@ pub mod Documents
 pub mod Matching
 pub mod Answers
 pub mod Refusals
+pub mod RunRefusals
 pub mod Rows
 pub mod OpenNames
 pub mod Views

@@ -22,8 +22,13 @@ returns c = record {
   dropped = refl;
   foreign = refl;
   limit = refl;
+  last_limit = refl;
+  attributes = refl;
+  attribute_with_equals = refl;
+  esi = refl;
   bad_selector = refl;
   empty_selector = refl;
   bad_form = refl;
+  late_setting = refl;
   late_bad_line = refl;
 }

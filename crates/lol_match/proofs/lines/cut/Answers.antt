@@ -5,7 +5,7 @@ use Rattle.lol_match.specs.Script.{is_tab}
 use Rattle.lol_match.proofs.Fields.{split_some}
 use Rattle.lol_match.proofs.lines.cut.Goals as goal
 
-pub returns : goal.returns
-returns c =
+pub returns-clause-fields : goal.returns-clause-fields
+returns-clause-fields c =
     let bytes = c.args.bytes.now in
     split_some bytes c.in_ok-place.place (sym c.in_ok-place.ensures) ∙ ap (λ rest. take c.in_ok-place.place bytes ∷ slice_split is_tab rest) (sym (take_rest bytes (c.in_ok-place.place + 1)))

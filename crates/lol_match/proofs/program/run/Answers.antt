@@ -1,11 +1,11 @@
 use Rattle.std.proofs.Common.{sym, ap, ◌∙◌}
-use Rattle.lol_match.specs.Scripts.{first_output}
+use Rattle.lol_match.specs.Scripts.{output}
 use Rattle.lol_match.proofs.program.run.Goals as goal
 
 pub returns-in_err-write_text-clause-beginning : goal.returns-in_err-write_text-clause-beginning
 returns-in_err-write_text-clause-beginning g c = λ is.
     let out = c.in_err-write_text.ensures.beginning in
-    let made = ap first_output (sym c.deref.ensures.value) ∙ c.in-Ok.ensures in (
+    let made = ap output (sym c.deref.ensures.value) ∙ c.in-Ok.ensures in (
       c.in_ok-script.script.items,
       c.in_ok-script.ensures.bytes,
       c.in_ok-script.ensures.end,

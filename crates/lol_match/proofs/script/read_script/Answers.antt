@@ -9,10 +9,7 @@ use Rattle.std.proofs.lemmas.List.{length_push}
 use Rattle.std.proofs.lemmas.List.FromFn.{length-enumerate_from}
 use Rattle.std.proofs.lemmas.List.Elements.{All-nil}
 use Rattle.lol_program.specs.Paths.{Path}
-use Rattle.lol_base.specs.MemberLaws.{among_from_contains}
-use Rattle.lol_vm.specs.Views.{IsPlainHtml, HasRangesInside, event_of}
-use Rattle.lol_program.specs.Runs.{path_runs}
-use Rattle.lol_match.specs.First.{line_now}
+use Rattle.lol_match.specs.Lines.{told_by, HasOutlinesInside}
 use Rattle.lol_match.specs.Scripts as scripts
 use Rattle.lol_match.specs.Readings.{Stops}
 use Rattle.lol_match.proofs.Scripts.{numbered, line_read, line_stops, lines_end}
@@ -25,12 +22,13 @@ loop-place-init c = record {
   read = (
     scripts.empty_script,
     record {
+      limit = refl;
+      esi = refl;
+      shows_tries = refl;
       pairs = λ pair. subst (λ (pairs : List (Path × ℕ)). Contains pairs pair ↔ Contains [] pair) (sym c.new.ensures.pairs) (λ h. h, λ h. h);
       nodes = λ node. subst (λ (nodes : List Path). Contains nodes node ↔ Contains [] node) (sym c.new.ensures.nodes) (λ h. h, λ h. h);
-      runs = λ node at. absurd (among_from_contains [] node (subst (λ (nodes : List Path). Contains nodes node) c.new.ensures.nodes at));
-      events = ap (map event_of) c.new-2.ensures.items;
-      html = subst (All IsPlainHtml) (sym c.new-2.ensures.items) (All-nil IsPlainHtml);
-      ranges = subst (All HasRangesInside) (sym c.new-2.ensures.items) (All-nil HasRangesInside);
+      events = ap (map told_by) c.new-2.ensures.items;
+      inside = subst (All HasOutlinesInside) (sym c.new-2.ensures.items) (All-nil HasOutlinesInside);
     },
     refl,
   );
@@ -52,7 +50,7 @@ loop-place-preserved c =
         taken.0,
         taken.1,
         sym (line_read lines n c.in-Some.line.now at.0 (n + 1) before.0 taken.0 good
-            ∙ ap (λ m. scripts.read_lines line_now path_runs (m + 1) taken.0 (drop m lines)) (sym (length_push c.loop-place.yielded (c.in-Some.place, c.in-Some.line))))
+            ∙ ap (λ m. scripts.read_lines (m + 1) taken.0 (drop m lines)) (sym (length_push c.loop-place.yielded (c.in-Some.place, c.in-Some.line))))
             ∙ before.2,
       );
     }

@@ -1,0 +1,53 @@
+-- What the code's lines and tags say.
+use Rattle.std.specs.Prelude.{ℕ, map, List, [], Option, Some, None, All}
+use Rattle.std.specs.Borrow.{Bor}
+use Rattle.std.specs.List.{slice_split}
+use Rattle.lol_base.specs.StartTags.{StartTag, attribute_of, OutlineIsInside}
+use Rattle.lol_vm.specs.Events as events
+use Rattle.lol_vm.specs.Events.{Event}
+use Rattle.lol_match.specs.Script as script
+use Rattle.lol_match.specs.Script.{is_tab, attribute_at}
+use Rattle.lol_match.specs.declared.lines.Line.{Line}
+use Rattle.lol_match.specs.declared.lines.Line.TheVariants.{Setting, Start, End}
+use Rattle.lol_match.specs.declared.lines.Setting.{Setting as SettingOf}
+use Rattle.lol_match.specs.declared.lines.Setting.TheVariants.{Limit, Esi, Tries, Select}
+use Rattle.lol_match.specs.declared.lines.StartLine.{StartLine}
+use Rattle.lol_match.specs.declared.tags.Tag.{Tag}
+use Rattle.lol_match.specs.declared.tags.Tag.TheVariants.{Start as StartTagOf, End as EndTagOf}
+
+-- the fields of the rest of a line, if there is one
+abbrev pub fields_of : Option (Bor (List ℕ)) → List (List ℕ)
+fields_of None = []
+fields_of (Some rest) = slice_split is_tab rest.now
+
+-- the bytes in which the attributes of a start line stand
+abbrev pub input_of : Option (Bor (List ℕ)) → List ℕ
+input_of None = []
+input_of (Some rest) = rest.now
+
+-- the start tag of a line
+abbrev pub start_tag_of : StartLine → StartTag
+start_tag_of line =
+    record { name = line.name.now; namespace = line.ns; attributes = map attribute_at (fields_of line.attributes); self_closing = line.self_closing; finish = line.finish }
+
+abbrev pub set_by : SettingOf → script.Line
+set_by (Limit maximum) = script.SetLimit maximum
+set_by Esi = script.TurnEsiOn
+set_by Tries = script.ShowTries
+set_by (Select id text) = script.Select id text.now
+
+-- what the code's line says
+abbrev pub said_by : Line → script.Line
+said_by (Setting setting) = set_by setting
+said_by (Start line) = script.StartLine (start_tag_of line)
+said_by (End name) = script.EndLine name.now
+
+-- the event of a tag: its attributes are those at its outlines
+abbrev pub told_by : Tag → Event
+told_by (StartTagOf line outlines) = events.Start (record (start_tag_of line) { attributes = map (attribute_of (input_of line.attributes)) outlines.items })
+told_by (EndTagOf name) = events.End name.now
+
+-- a tag's outlines lie inside the bytes of its attributes
+abbrev pub HasOutlinesInside : Tag → Type 0
+HasOutlinesInside (StartTagOf line outlines) = All (OutlineIsInside (input_of line.attributes)) outlines.items
+HasOutlinesInside (EndTagOf name) = Unit {0}

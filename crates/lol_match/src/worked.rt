@@ -1,0 +1,243 @@
+//! Scripts that were worked by hand.
+
+use crate::program::Status;
+
+/// A script, its output, and how its run ends.
+pub(super) const ANSWERED: [(&str, &str, Status); 36] = [
+    ("", "", Status::Good),
+    (
+        "select\t0\t:not(div)\nselect\t1\t|p\nstart\thtml\tdiv\nstart\thtml\tp\n",
+        "start\t-\nstart\t0\n",
+        Status::Good,
+    ),
+    (
+        "select\t7\t:not(div):not(p) > \\42 r/* none */\nstart\thtml\tmain\nstart\thtml\tbr\nstart\thtml\tdiv\nstart\thtml\tbr\n",
+        "start\t-\nstart\t7/\nstart\t-\nstart\t-\n",
+        Status::Good,
+    ),
+    (
+        "select\t4\t* > br, P\nselect\t2\tp\nstart\thtml\tp\nstart\thtml\tBR\nstart\thtml\tp\nend\tP\nend\tP\n",
+        "start\t2,4\nstart\t4/\nstart\t2,4\nend\t2\nend\t0\n",
+        Status::Good,
+    ),
+    ("end\ttable", "end\t-\n", Status::Good),
+    (
+        "select\t0\t:is(h1, h2) > a\nstart\thtml\th1\nstart\thtml\ta\nend\th1\nstart\thtml\tp\nstart\thtml\ta\n",
+        "start\t-\nstart\t0\nend\t0,1\nstart\t-\nstart\t-\n",
+        Status::Good,
+    ),
+    (
+        "select\t0\t:not(:not(a, b))\nstart\thtml\ta\nstart\thtml\tb\nstart\thtml\tc\n",
+        "start\t0\nstart\t0\nstart\t-\n",
+        Status::Good,
+    ),
+    (
+        "select\t0\t:not(*)\nselect\t1\t:not(|a)\nstart\thtml\ta\n",
+        "start\t1\n",
+        Status::Good,
+    ),
+    (
+        "select\t0\t:not(:is(a, b))\nstart\thtml\ta\nstart\thtml\tc\n",
+        "start\t-\nstart\t0\n",
+        Status::Good,
+    ),
+    (
+        "select\t0\t:not(a, b)\nstart\thtml\ta\nstart\thtml\tb\nstart\thtml\tc\n",
+        "start\t-\nstart\t-\nstart\t0\n",
+        Status::Good,
+    ),
+    (
+        "select\t0\tdiv p\nselect\t1\tdiv > p\nstart\thtml\tdiv\nstart\thtml\tsection\nstart\thtml\tp\nend\tdiv\n",
+        "start\t-\nstart\t-\nstart\t0\nend\t0,1,2\n",
+        Status::Good,
+    ),
+    (
+        "tries\nselect\t0\tdiv p\nselect\t1\tdiv > p\nstart\thtml\tdiv\nstart\thtml\tsection\nstart\thtml\tp\nend\tdiv\n",
+        "start\t-\ttries 1 0\nstart\t-\ttries 3 0\nstart\t0\ttries 2 0\nend\t0,1,2\n",
+        Status::Good,
+    ),
+    (
+        "tries\nselect\t0\t.a p\nselect\t1\tp\nstart\thtml\tdiv\tclass=a\nstart\thtml\tp\n",
+        "start\t-\tasked\ttries 2 1\nstart\t0,1\tasked\ttries 3 1\n",
+        Status::Good,
+    ),
+    (
+        "tries\nselect\t0\tdiv div\nstart\thtml\tdiv\nstart\thtml\tdiv\nstart\thtml\tdiv\nend\tdiv\nstart\thtml\tdiv\n",
+        "start\t-\ttries 1 0\nstart\t0\ttries 2 0\nstart\t0\ttries 2 0\nend\t2\nstart\t0\ttries 2 0\n",
+        Status::Good,
+    ),
+    (
+        "tries\nselect\t0\tdiv > .a\nselect\t1\tdiv .b\nselect\t2\tdiv > p\nstart\thtml\tdiv\nstart\thtml\tp\tclass=b\n",
+        "start\t-\ttries 1 0\nstart\t1,2\tasked\ttries 4 2\n",
+        Status::Good,
+    ),
+    (
+        "tries\nselect\t0\tdiv .b\nstart\thtml\tdiv\nstart\thtml\tsection\nstart\thtml\tp\tclass=b\n",
+        "start\t-\ttries 1 0\nstart\t-\tasked\ttries 2 1\nstart\t0\tasked\ttries 2 1\n",
+        Status::Good,
+    ),
+    (
+        "tries\nselect\t0\t:not(div.foo)\nstart\thtml\tdiv\nstart\thtml\tp\n",
+        "start\t0\tasked\ttries 1 1\nstart\t0\ttries 1 0\n",
+        Status::Good,
+    ),
+    (
+        "tries\nselect\t0\t:not(:not(a, b))\nstart\thtml\ta\nstart\thtml\tb\nstart\thtml\tc\n",
+        "start\t0\ttries 1 0\nstart\t0\ttries 1 0\nstart\t-\ttries 1 0\n",
+        Status::Good,
+    ),
+    (
+        "tries\nselect\t0\t:not(.a, p)\nstart\thtml\tp\nstart\thtml\tdiv\tclass=b\n",
+        "start\t-\ttries 1 0\nstart\t0\tasked\ttries 1 1\n",
+        Status::Good,
+    ),
+    (
+        "tries\nselect\t0\tdiv:not([a*=\"\"])\nstart\thtml\tdiv\nstart\thtml\tp\n",
+        "start\t0\tasked\ttries 1 1\nstart\t-\ttries 1 0\n",
+        Status::Good,
+    ),
+    (
+        "tries\nselect\t0\t:not(*)\nselect\t1\t:not(|a)\nstart\thtml\tb\n",
+        "start\t1\ttries 2 0\n",
+        Status::Good,
+    ),
+    (
+        "tries\nselect\t0\t:is(a.x, p)\nstart\thtml\tp\nstart\thtml\ta\tclass=x\nstart\thtml\tdiv\n",
+        "start\t0\ttries 1 0\nstart\t0\tasked\ttries 1 1\nstart\t-\ttries 1 0\n",
+        Status::Good,
+    ),
+    (
+        "select\t0\tbr:first-child\nselect\t1\tp:nth-child(2)\nstart\thtml\tbr\nstart\thtml\tp\n",
+        "start\t0/\nstart\t1\n",
+        Status::Good,
+    ),
+    (
+        "select\t0\tspan:nth-of-type(2)\nstart\thtml\tdiv\nstart\thtml\tspan\nend\tspan\nstart\thtml\tSPAN\n",
+        "start\t-\nstart\t-\nend\t1\nstart\t0\n",
+        Status::Good,
+    ),
+    (
+        "select\t0\t[type=\"TEXT\"]\nstart\thtml\tinput\ttype=text\nstart\tsvg\tinput\ttype=text\n",
+        "start\t0/\tasked\nstart\t-\tasked\n",
+        Status::Good,
+    ),
+    (
+        "limit\t512\nselect\t0\t*\nstart\thtml\ta\nstart\thtml\tb\nstart\thtml\tc\nstart\thtml\td\nstart\thtml\te\nstart\thtml\tf\nstart\thtml\tg\nstart\thtml\th\nstart\thtml\ti\n",
+        "start\t0\nstart\t0\nstart\t0\nstart\t0\nstart\t0\nstart\t0\nstart\t0\nstart\t0\nrefused limit\n",
+        Status::Refused,
+    ),
+    (
+        "limit\t512\nlimit\t511\nstart\thtml\ta\n",
+        "refused limit\n",
+        Status::Refused,
+    ),
+    (
+        "limit\t511\nlimit\t512\nstart\thtml\ta\n",
+        "start\t-\n",
+        Status::Good,
+    ),
+    (
+        "limit\t0\nstart\thtml\tbr\nend\tbr\nstart\tsvg/\tpath\ndrop\tsvg\tg\n",
+        "start\t-\nend\t-\nstart\t-\tasked\ndropped\n",
+        Status::Good,
+    ),
+    (
+        "tries\nselect\t0\t[a*=\"\"]\nselect\t1\t:not([a*=\"\"])\nstart\thtml\tp\ta=x\n",
+        "start\t1\tasked\ttries 2 2\n",
+        Status::Good,
+    ),
+    (
+        "esi\nselect\t0\t*\nstart\thtml\tesi:include\nstart\thtml\tESI:INCLUDE\nend\tesi:include\n",
+        "start\t0/\nstart\t0\nend\t1\n",
+        Status::Good,
+    ),
+    (
+        "select\t0\t:nth-child(2)\ndrop\tsvg\tg\nstart\thtml\tp\nend\tg\n",
+        "dropped\nstart\t0\nend\t-\n",
+        Status::Good,
+    ),
+    (
+        "tries\nselect\t0\tcircle\nstart\tsvg/\tcircle\nend\tcircle\n",
+        "start\t0/\tasked\ttries 1 0\nend\t-\n",
+        Status::Good,
+    ),
+    (
+        "select\t0\ta[href]\nstart\thtml\ta\thref=http://example.com\nstart\thtml\ta\nstart\thtml\tdiv\n",
+        "start\t0\tasked\nstart\t-\tasked\nstart\t-\n",
+        Status::Good,
+    ),
+    (
+        "select\t0\t[b=\"c=d\"]\nselect\t1\t[e=\"\"]\nselect\t2\t[f]\nstart\tmathml\tmi\tb=c=d\te=\tf\nstart\tmathml/\tmi\tb\tE\n",
+        "start\t0,1,2\tasked\nstart\t1/\tasked\n",
+        Status::Good,
+    ),
+    (
+        "limit\t007\nselect\t0000000000004294967295\tp\nend\tp\n",
+        "end\t-\n",
+        Status::Good,
+    ),
+];
+
+/// A script with a bad line, and its output.
+pub(super) const BAD: [(&str, &str); 42] = [
+    (
+        "select\t0\tdiv + span\n",
+        "bad line 1: UnsupportedCombinator(+)\n",
+    ),
+    ("select\t0\t\n", "bad line 1: EmptySelector\n"),
+    ("start\thtml\n", "bad line 1: form\n"),
+    (
+        "start\thtml\tp\n\nselect\t0\tdiv + span",
+        "bad line 3: form\n",
+    ),
+    ("select\t0\t:where()\n", "bad line 1: EmptySelector\n"),
+    ("esi\t\n", "bad line 1: form\n"),
+    ("esi\r\n", "bad line 1: form\n"),
+    ("tries\t\n", "bad line 1: form\n"),
+    ("limit\t\n", "bad line 1: form\n"),
+    ("limit\t5\t\n", "bad line 1: form\n"),
+    ("limit\t18446744073709551616\n", "bad line 1: form\n"),
+    ("limit\t-1\n", "bad line 1: form\n"),
+    ("select\t0\n", "bad line 1: form\n"),
+    ("select\t4294967296\tp\n", "bad line 1: form\n"),
+    ("select\t0x1\tp\n", "bad line 1: form\n"),
+    ("start\thtml\t\n", "bad line 1: form\n"),
+    ("start\tHTML\tp\n", "bad line 1: form\n"),
+    ("start\thtml//\tp\n", "bad line 1: form\n"),
+    ("start\thtml\tp\t\n", "bad line 1: form\n"),
+    ("start\thtml\tp\t=b\n", "bad line 1: form\n"),
+    ("start\thtml\tp\ta\t\n", "bad line 1: form\n"),
+    ("drop\tsvg\n", "bad line 1: form\n"),
+    ("drop\n", "bad line 1: form\n"),
+    ("end\n", "bad line 1: form\n"),
+    ("end\tp\t\n", "bad line 1: form\n"),
+    ("START\thtml\tp\n", "bad line 1: form\n"),
+    (" esi\n", "bad line 1: form\n"),
+    ("end\tp\nlimit\t512\n", "bad line 2: form\n"),
+    ("end\tp\nesi\n", "bad line 2: form\n"),
+    ("end\tp\ntries\n", "bad line 2: form\n"),
+    ("end\tp\nselect\t0\tp\n", "bad line 2: form\n"),
+    ("end\tp\nselect\t0\tdiv +\n", "bad line 2: form\n"),
+    (
+        "\nselect\t0\t:is(a > b)\n",
+        "bad line 2: UnsupportedPseudoClassOrElement\n",
+    ),
+    ("\nselect\t0\t:not()\n", "bad line 2: EmptySelector\n"),
+    ("\nselect\t0\tdiv >\n", "bad line 2: DanglingCombinator\n"),
+    (
+        "\nselect\t0\tdiv ~ p\n",
+        "bad line 2: UnsupportedCombinator(~)\n",
+    ),
+    ("\nselect\t0\tdiv@\n", "bad line 2: UnexpectedToken\n"),
+    ("\nselect\t0\tdiv.\n", "bad line 2: UnexpectedEnd\n"),
+    (
+        "\nselect\t0\tdiv[=\"foo\"]\n",
+        "bad line 2: MissingAttributeName\n",
+    ),
+    (
+        "\nselect\t0\tdiv[foo~\"bar\"]\n",
+        "bad line 2: UnexpectedTokenInAttribute\n",
+    ),
+    ("\nselect\t0\tsvg|img\n", "bad line 2: NamespacedSelector\n"),
+    ("\nselect\t0\t.foo()\n", "bad line 2: InvalidClassName\n"),
+];

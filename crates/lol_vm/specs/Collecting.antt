@@ -1,0 +1,7 @@
+-- A handler that keeps what it is called with.
+use Rattle.std.specs.Prelude.{◌≡◌, Bool, true, false, List, [], ◌∷◌, ◌++◌}
+use Rattle.lol_vm.specs.declared.started.Collected.{Collected}
+
+-- The item comes last, or memory was refused; after a refusal nothing is kept.
+abbrev pub Keeps : {T : Type 0} → Collected T → T → Collected T → Type 0
+Keeps old item new = (new.refused ≡ false) → (old.refused ≡ false) × (new.items.items ≡ old.items.items ++ item ∷ [])
