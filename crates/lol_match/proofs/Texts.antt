@@ -5,7 +5,7 @@ use Rattle.std.proofs.lemmas.List.{append-nil}
 use Rattle.lol_program.specs.Paths.{Selectors}
 use Rattle.lol_vm.specs.Events.{Event}
 use Rattle.lol_vm.specs.Documents.{Document}
-use Rattle.lol_vm.specs.Answers.{Answer, answer, after, answers_from}
+use Rattle.lol_vm.specs.Answers.{answer, after, answers_from}
 use Rattle.lol_vm.specs.Refusals.{Cause}
 use Rattle.lol_vm.specs.Views.{answer_of}
 use Rattle.lol_vm.specs.declared.events.TagReport.{TagReport}

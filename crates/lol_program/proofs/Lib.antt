@@ -9,8 +9,6 @@ pub mod Reserved
 pub mod PathLists
 pub mod Selectors
 pub mod TestRows
-pub mod RunningTests
-pub mod RunningParts
 mod AttributeValues
 mod MarkLemmas
 mod MatcherLemmas

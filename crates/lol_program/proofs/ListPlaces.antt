@@ -44,3 +44,7 @@ pub get_map : {A B : Type 0} (g : A → B) (xs : List A) (k : ℕ) → slice_get
 get_map g [] k = refl
 get_map g (x ∷ xs) zero = refl
 get_map g (x ∷ xs) (suc k) = get_map g xs k
+
+pub empty_from : {A : Type 0} (xs : List A) → length xs ≡ 0 → xs ≡ []
+empty_from [] h = refl
+empty_from (x ∷ xs) h = absurd (omega (arith, h))

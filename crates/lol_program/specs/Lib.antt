@@ -15,8 +15,6 @@ pub mod IdsForNodes
 pub mod AstPaths
 pub mod Sets
 pub mod Asts
-pub mod Runs
-pub mod ForestRuns
 pub mod Programs
 pub mod Laws
 pub mod Attributes
@@ -40,6 +38,5 @@ pub mod Laying
 pub mod ValueLaws
 pub mod IdSetLaws
 pub mod NodeViewLaws
-pub mod ForestRunLaws
 pub mod PredicateListLaws
 pub mod PredicateMarks

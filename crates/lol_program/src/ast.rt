@@ -26,7 +26,6 @@ impl Ast {
     ghost use Rattle.std.specs.Prelude.{◌≢◌, ◌↔◌, ◌∷◌, ℕ, List, [], IsTrue, IfOk, OnOk, OnErr, IsOk, Contains, length, map, flat_map, AllPairs, vec_len};
     ghost use Rattle.lol_css.specs.TreeViews.{list_of};
     ghost use Rattle.lol_program.specs.Paths.{Path, beginnings, all_beginnings};
-    ghost use Rattle.lol_program.specs.Runs.{path_runs};
     ghost use Rattle.lol_program.specs.Conditions.{pairs_under};
     ghost use Rattle.lol_program.specs.IdsForNodes.{id_in, pairs_with, Fits, HasRoomAmong, AllReserve};
     ghost use Rattle.lol_program.specs.AstPaths.{path_shown, IsIn, IsInWith, AllIn, AreEnough};
@@ -65,14 +64,6 @@ impl Ast {
         ensures each_once { AllPairs (λ a b. a ≢ b) (nodes_of self.now) }
     {
         self.cumulative_node_count
-    }
-
-    /// Whether all compounds have tests of names alone, which is what can be run so far. It takes no memory. (Not in lol_html.)
-    pub fn runs_now(&self) -> bool
-        ensures nodes { IsTrue result ↔ ((path : Path) → Contains (nodes_of self.now) path → IsTrue (path_runs path)) }
-        ensures pairs { IsTrue result → (pair : Path × ℕ) → Contains (pairs_of self.now) pair → IsTrue (path_runs pair.0) }
-    {
-        ast_node::all_run_now(&self.root)
     }
 
     /// Adds each item of a selector's list under an id: its compounds from the left, each step under the node of the one before it. A

@@ -3,7 +3,6 @@
 ghost use Rattle.std.specs.Prelude.{ℕ, ◌≡◌, ◌+◌, ◌↔◌, IsTrue, IfOk, OnOk, OnErr, IsOk, IfSome, IfNone, [], ◌∷◌, map};
 ghost use Rattle.lol_program.specs.Predicates.{tests_of};
 ghost use Rattle.lol_program.specs.Views.{node_of, linked, forest_of, tests_of_compound, steps_of};
-ghost use Rattle.lol_program.specs.ForestRuns.{forest_runs};
 ghost use Rattle.lol_program.specs.Forest.{size};
 ghost use Rattle.lol_program.specs.Growth.{fresh, Adds, AddsFirst, StandsWith};
 ghost use Rattle.lol_program.specs.IdsForNodes.{id_in, Fits, HasRoomAmong};
@@ -26,15 +25,6 @@ pub struct AstNode {
     pub descendants: Vec<AstNode>,
     /// The ids of the selectors that end here.
     pub match_ids: DenseHashSet,
-}
-
-impl AstNode {
-    #[cycle(runs)]
-    fn runs_now(&self) -> bool
-        ensures { result ≡ forest_runs (linked (node_of self.now ∷ [])) }
-    {
-        self.predicate.runs_now() && all_run_now(&self.children) && all_run_now(&self.descendants)
-    }
 }
 
 /// A node without ids, with nothing under it.
@@ -134,17 +124,4 @@ pub(crate) fn has_room(
             Combinator::Descendant => has_room(&node.descendants, compound, rest, id),
         },
     }
-}
-
-/// Whether these nodes and all under them have tests of names alone.
-#[cycle(runs)]
-pub(crate) fn all_run_now(nodes: &[AstNode]) -> bool
-    ensures { result ≡ forest_runs (forest_of nodes.now) }
-{
-    for node in nodes {
-        if !node.runs_now() {
-            return false;
-        }
-    }
-    true
 }

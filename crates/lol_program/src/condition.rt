@@ -6,7 +6,6 @@ ghost use Rattle.lol_css.specs.TreeViews.{part_of};
 ghost use Rattle.lol_program.specs.Compounds.{OfName, OfAttributes};
 ghost use Rattle.lol_program.specs.Conditions.{plain_test, part_test};
 ghost use Rattle.lol_program.specs.Predicates.{name_test, attribute_test, condition_test};
-ghost use Rattle.lol_program.specs.Runs.{is_by_name};
 
 use lol_css::{AttrSelectorOperator, CssString, NthChild, ParsedCaseSensitivity, SimpleSelector};
 use std::alloc::{AllocError, Global};
@@ -28,17 +27,6 @@ pub enum OnTagNameExpr {
 }
 
 impl OnTagNameExpr {
-    /// Whether it asks for no place among siblings.
-    pub(crate) fn is_by_name(&self) -> bool
-        ensures { result ≡ is_by_name (name_test self.now) }
-    {
-        match self {
-            OnTagNameExpr::ExplicitAny | OnTagNameExpr::Unmatchable | OnTagNameExpr::LocalName(_) =>
-                true,
-            OnTagNameExpr::NthChild(_) | OnTagNameExpr::NthOfType(_) => false,
-        }
-    }
-
     /// Whether this is the test of a part.
     pub(crate) fn is_of(&self, part: &SimpleSelector) -> bool
         ensures { IsTrue result ↔ (OfName (name_test self.now) ≡ part_test (part_of part.now)) }

@@ -17,7 +17,6 @@ mod instruction;
 pub mod laws;
 mod marks;
 mod name_value;
-mod names_alone;
 mod predicate;
 mod predicate_marks;
 mod program;
@@ -39,7 +38,6 @@ pub use condition::{AttributeComparisonExpr, Condition, OnAttributesExpr, OnTagN
 pub use execution_branch::{AddressRange, ExecutionBranch};
 pub use instruction::{Instruction, TryExecResult};
 pub use name_value::NameValue;
-pub use names_alone::selector_runs;
 pub use predicate::{Predicate, Test};
 pub use program::Program;
 pub use selector_state::SelectorState;

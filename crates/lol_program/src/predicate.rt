@@ -6,7 +6,6 @@ ghost use Rattle.lol_css.specs.Trees.{Nothing, NoItems};
 ghost use Rattle.lol_program.specs.Compounds.{all_of, any_of};
 ghost use Rattle.lol_program.specs.Conditions.{part_test, item_compound, items_compounds, written_tests, compound_tests};
 ghost use Rattle.lol_program.specs.Predicates.{condition_test, test_shown, tests_of};
-ghost use Rattle.lol_program.specs.Runs.{test_runs, compound_runs, all_run};
 
 use crate::condition::{Condition, OnAttributesExpr, OnTagNameExpr};
 use lol_css::{ComplexSelector, Compound, SelectorList, SimpleSelector};
@@ -72,19 +71,6 @@ impl Predicate {
         Ok(Predicate { tests })
     }
 
-    /// Whether it has tests of names alone, at any depth.
-    #[cycle(running)]
-    pub(crate) fn runs_now(&self) -> bool
-        ensures { result ≡ compound_runs (tests_of self.now) }
-    {
-        for test in &self.tests {
-            if !test.runs_now() {
-                return false;
-            }
-        }
-        true
-    }
-
     /// Whether these are the tests of an item inside a function.
     #[cycle(comparing)]
     fn is_of_item(&self, item: &ComplexSelector) -> bool
@@ -119,17 +105,6 @@ impl Test {
                 Some(condition) => Ok(Test::from(condition)),
                 None => unreachable!(),
             },
-        }
-    }
-
-    #[cycle(running)]
-    fn runs_now(&self) -> bool
-        ensures { result ≡ test_runs (test_shown self.now) }
-    {
-        match self {
-            Test::Name(test) => test.is_by_name(),
-            Test::Attribute(_) => false,
-            Test::NoneOf(predicates) | Test::SomeOf(predicates) => all_run_now(predicates),
         }
     }
 
@@ -208,18 +183,6 @@ fn are_of_items(predicates: &[Predicate], items: &[ComplexSelector]) -> bool
     }
     for (i, predicate) in predicates.iter().enumerate() {
         if !predicate.is_of_item(&items[i]) {
-            return false;
-        }
-    }
-    true
-}
-
-#[cycle(running)]
-fn all_run_now(predicates: &[Predicate]) -> bool
-    ensures { result ≡ all_run (any_of (map tests_of predicates.now)) }
-{
-    for predicate in predicates {
-        if !predicate.runs_now() {
             return false;
         }
     }

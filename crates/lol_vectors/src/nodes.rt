@@ -95,7 +95,6 @@ fn equal_beginnings_are_shared(rt: HostRuntime) -> Result<(), Fail> {
     for (place, id) in [(0, 0), (1, 0), (2, 1), (3, 1)] {
         assert!(rt; has_ids(node(&rt, &foo.children, place), &[id]));
     }
-    assert!(rt; !ast.runs_now());
     Ok(())
 }
 
@@ -126,7 +125,6 @@ fn tests_that_differ_are_not_shared(rt: HostRuntime) -> Result<(), Fail> {
     let mut ast = tree(alloc, &names)?;
     assert!(rt; ast.cumulative_node_count() == 2);
     assert!(rt; has_ids(node(&rt, ast.root(), 1), &[1, 40]));
-    assert!(rt; ast.runs_now());
     for text in [".a.b", ".b.a"] {
         ast.add_selector(&Selector::from_str(alloc, text)?, 0)?;
     }

@@ -1,11 +1,11 @@
 //! Selectors under ids, and whole runs.
 
 ghost use Rattle.std.specs.Prelude.{◌≡◌, []};
-ghost use Rattle.lol_vm.specs.Views.{HasRangesInside, IsPlainHtml};
+ghost use Rattle.lol_vm.specs.Views.{HasRangesInside};
 
 use lol_vm::{
     Ast, AttributeBuffer, AuxStartTagInfo, Bytes, MatchInfo, Namespace, Selector,
-    SharedMemoryLimiter, TagEvent, TagReport, Tries, match_events,
+    SharedMemoryLimiter, TagEvent, TagReport, match_events,
 };
 use std::alloc::Global;
 use std::test::Fail;
@@ -22,7 +22,6 @@ pub(crate) fn selectors(alloc: Global, texts: &[(&str, u32)]) -> Result<Ast, Fai
 
 fn start<'i>(name: &'i [u8], none: &'i AttributeBuffer) -> TagEvent<'i>
     ensures ranges { none.now.items ≡ [] → HasRangesInside result }
-    ensures html { IsPlainHtml result }
 {
     TagEvent::Start {
         name,
@@ -62,8 +61,7 @@ fn answers_tags(rt: HostRuntime) -> Result<(), Fail> {
         start(b"p", &none),
         TagEvent::End { name: b"DIV" },
     ];
-    assert!(rt; ast.runs_now());
-    let mut limiter = SharedMemoryLimiter::new(100);
+    let mut limiter = SharedMemoryLimiter::new(512);
     let reports = match_events(alloc, ast, 64, false, &events, &mut limiter);
     assert_eq!(rt; limiter.current_usage(), 0);
 
@@ -74,9 +72,9 @@ fn answers_tags(rt: HostRuntime) -> Result<(), Fail> {
         match_id: 0,
         with_content: true,
     };
-    let matched: [&[MatchInfo]; 3] = [&[], &[], &[found]];
+    let wanted: [(&[MatchInfo], usize); 3] = [(&[], 1), (&[], 3), (&[found], 2)];
     assert_eq!(rt; reports.len(), 4);
-    for (report, wanted) in reports.iter().zip(matched) {
+    for (report, (infos, names)) in reports.iter().zip(wanted) {
         let TagReport::Started {
             matched,
             asked,
@@ -85,8 +83,8 @@ fn answers_tags(rt: HostRuntime) -> Result<(), Fail> {
         else {
             return Err(Fail::from("no start tag"));
         };
-        assert_eq!(rt; matched.as_slice(), wanted);
-        assert!(rt; !*asked && *tries == Tries::new());
+        assert_eq!(rt; matched.as_slice(), infos);
+        assert!(rt; !*asked && tries.names() == names && tries.attributes() == 0);
     }
     assert!(rt;
         matches!(&reports[3], TagReport::Ended { closed } if closed.as_slice() == [0, 1, 2].as_slice())

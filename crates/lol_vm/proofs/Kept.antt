@@ -101,7 +101,7 @@ numbers_differ m n h = not_true (m == n) (λ e. h ((Decides-eqb m n).0 e))
 abbrev kid : List Element → List ℕ → Child
 kid outer name = record { parent = parent_of outer; name = name }
 
-children-cons : (parent : Option ℕ) (c : Child) (cs : List Child) → children_of parent (c ∷ cs) ≡ cond (same_parent parent c.parent) 1 0 + children_of parent cs
+pub children-cons : (parent : Option ℕ) (c : Child) (cs : List Child) → children_of parent (c ∷ cs) ≡ cond (same_parent parent c.parent) 1 0 + children_of parent cs
 children-cons parent c cs = count_by-cons (λ (c : Child). same_parent parent c.parent) c cs
 
 typed-cons : (parent : Option ℕ) (name : List ℕ) (c : Child) (cs : List Child) → typed_children_of parent name (c ∷ cs) ≡ cond (same_parent parent c.parent && same_name name c.name) 1 0 + typed_children_of parent name cs
@@ -184,7 +184,7 @@ module _ (s : Selectors) (esi : Bool) where
       let enough = later.enough in
       record { numbers = later.numbers; fresh = later.fresh; enough = omega (arith, enough) }
 
-  longest_push : (d : Document) (events : List Event) (event : Event) → longest_from s esi d (events ++ event ∷ []) ≡ max (longest_from s esi d events) (length (after s esi (document_from s esi d events) event).open_elements)
+  pub longest_push : (d : Document) (events : List Event) (event : Event) → longest_from s esi d (events ++ event ∷ []) ≡ max (longest_from s esi d events) (length (after s esi (document_from s esi d events) event).open_elements)
   longest_push d [] event = refl
   longest_push d (e ∷ events) event =
       ap (max (length d.open_elements)) (longest_push (after s esi d e) events event) ∙ omega arith

@@ -1,6 +1,3 @@
-pub mod Passing
-pub mod Plain
-pub mod Visits
 mod TagRuns
 mod Starts
 mod VmStarts
@@ -10,6 +7,9 @@ mod VmRefusals
 mod VmData
 pub mod Trees
 pub mod Runs
+pub mod RefusedRuns
+pub mod RunSteps
+pub mod TakenStarts
 pub mod CounterLevels
 pub mod NameMaps
 pub mod Refusals

@@ -1,18 +1,20 @@
 -- Machines with other data of their last element.
-use Rattle.std.proofs.Common.{◌≡◌, ℕ, suc, zero, ◌+◌, ◌-◌, List, [], ◌∷◌, length, map, Option, Some, None, refl, sym, ap, ◌∙◌}
+use Rattle.std.proofs.Common.{◌≡◌, ℕ, suc, zero, ◌+◌, ◌-◌, List, [], ◌∷◌, ◌++◌, length, map, Option, Some, None, refl, sym, ap, ◌∙◌, arith}
 use Rattle.std.specs.Prelude.{reverse, slice_get, slice_set, if◌then◌else◌}
+use Rattle.std.specs.Option.{option_map}
+use Rattle.std.proofs.lemmas.List.{length-append, length-map}
 use Rattle.lol_base.specs.LocalNames.{Name, same_local_name}
 use Rattle.lol_memory.specs.Slots.{slots}
 use Rattle.lol_vm.specs.Refusals.{longest}
 use Rattle.lol_vm.specs.Active.{active_ranges_of}
 use Rattle.lol_vm.specs.Lending.{with_data}
 use Rattle.lol_vm.specs.SoundStacks.{IsSound, name_places_from}
-use Rattle.lol_vm.specs.StackLending.{with_current, with_current_in, with_data_if}
+use Rattle.lol_vm.specs.StackLending.{with_current, with_current_in, with_data_at, with_data_if}
 use Rattle.lol_vm.specs.StackMachines.{Keeps, item_shown}
 use Rattle.lol_vm.specs.Stacks.{items_in}
 use Rattle.lol_vm.specs.Standing.{Machine}
 use Rattle.lol_vm.specs.VmLaws.{DataChangeNothing, DataKeepOpen, SlotsAreOfDepth}
-use Rattle.lol_vm.specs.Vms.{Vm, Shows}
+use Rattle.lol_vm.specs.Vms.{Vm, Shows, data_in}
 use Rattle.lol_vm.specs.declared.stack_item.StackItemOf.{StackItemOf}
 use Rattle.lol_vm.specs.declared.stack.StackOf.{StackOf}
 use Rattle.lol_vm.specs.declared.stack.StackNames.{StackNames}
@@ -93,3 +95,47 @@ data_keep_open vm elements w h = record {
 pub slots_are_of_depth : {E : Type 0} → SlotsAreOfDepth E
 slots_are_of_depth s esi vm events h =
     sym h.shown.stack.slots ∙ (h.standing.charged ∙ ap (λ n. slots n (longest s esi events)) h.shown.stack.item_bytes)
+
+-- the data, where those of the last element change
+module _ {E : Type 0} where
+  abbrev data_of : List (StackItemOf Name E) → List E
+  data_of items = map (λ item. item.element_data) items
+
+  tails : (x o : E) (xs os : List E) → x ∷ xs ≡ o ∷ os → xs ≡ os
+  tails x o xs os is = cc
+
+  heads : (x o : E) (xs os : List E) → x ∷ xs ≡ o ∷ os → x ≡ o
+  heads x o xs os is = cc
+
+  last_is : (items : List (StackItemOf Name E)) (outer : List E) (last : E) → data_of items ≡ outer ++ last ∷ [] → option_map (λ (item : StackItemOf Name E). item.element_data) (slice_get items (length items - 1)) ≡ Some last
+  last_is [] [] last is = cc
+  last_is [] (o ∷ outer) last is = cc
+  last_is (x ∷ []) [] last is = ap Some (heads x.element_data last [] [] is)
+  last_is (x ∷ []) (o ∷ outer) last is = let sizes = ap length is in absurd (omega (arith, sizes, length-append outer (last ∷ [])))
+  last_is (x ∷ y ∷ items) [] last is = let sizes = ap length is in absurd (omega (arith, sizes, length-map items (λ (item : StackItemOf Name E). item.element_data)))
+  last_is (x ∷ y ∷ items) (o ∷ outer) last is =
+      let place : length (x ∷ y ∷ items) - 1 ≡ suc (length (y ∷ items) - 1) = omega arith in
+      ap (λ k. option_map (λ (item : StackItemOf Name E). item.element_data) (slice_get (x ∷ y ∷ items) k)) place
+      ∙ last_is (y ∷ items) outer last (tails x.element_data o (data_of (y ∷ items)) (outer ++ last ∷ []) is)
+
+  set_at : (x : StackItemOf Name E) (items : List (StackItemOf Name E)) (k : ℕ) (w : E) (o : Option (StackItemOf Name E)) → with_data_if (x ∷ items) (suc k) w o ≡ x ∷ with_data_if items k w o
+  set_at x items k w None = refl
+  set_at x items k w (Some item) = refl
+
+  last_set : (items : List (StackItemOf Name E)) (outer : List E) (last w : E) → data_of items ≡ outer ++ last ∷ [] → data_of (with_data_at items (length items - 1) w) ≡ outer ++ w ∷ []
+  last_set [] [] last w is = cc
+  last_set [] (o ∷ outer) last w is = cc
+  last_set (x ∷ []) [] last w is = refl
+  last_set (x ∷ []) (o ∷ outer) last w is = let sizes = ap length is in absurd (omega (arith, sizes, length-append outer (last ∷ [])))
+  last_set (x ∷ y ∷ items) [] last w is = let sizes = ap length is in absurd (omega (arith, sizes, length-map items (λ (item : StackItemOf Name E). item.element_data)))
+  last_set (x ∷ y ∷ items) (o ∷ outer) last w is =
+      let place : length (x ∷ y ∷ items) - 1 ≡ suc (length (y ∷ items) - 1) = omega arith in
+      ap (λ k. data_of (with_data_at (x ∷ y ∷ items) k w)) place
+      ∙ (ap data_of (set_at x (y ∷ items) (length (y ∷ items) - 1) w (slice_get (y ∷ items) (length (y ∷ items) - 1)))
+      ∙ (λ i. heads x.element_data o (data_of (y ∷ items)) (outer ++ last ∷ []) is i ∷ last_set (y ∷ items) outer last w (tails x.element_data o (data_of (y ∷ items)) (outer ++ last ∷ []) is) i))
+
+  pub data_with : (vm : Vm E) (outer : List E) (last w : E) → data_in vm ≡ outer ++ last ∷ [] → data_in (with_current_in vm w) ≡ outer ++ w ∷ []
+  data_with vm outer last w is = last_set (items_in vm.stack) outer last w is
+
+  pub last_data : (vm : Vm E) (outer : List E) (last : E) → data_in vm ≡ outer ++ last ∷ [] → option_map (λ (item : StackItemOf Name E). item.element_data) (slice_get (items_in vm.stack) (length (items_in vm.stack) - 1)) ≡ Some last
+  last_data vm outer last is = last_is (items_in vm.stack) outer last is

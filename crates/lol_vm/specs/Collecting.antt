@@ -1,5 +1,5 @@
 -- A handler that keeps what it is called with.
-use Rattle.std.specs.Prelude.{◌≡◌, Bool, true, false, List, [], ◌∷◌, ◌++◌}
+use Rattle.std.specs.Prelude.{◌≡◌, false, [], ◌∷◌, ◌++◌}
 use Rattle.lol_vm.specs.declared.started.Collected.{Collected}
 
 -- The item comes last, or memory was refused; after a refusal nothing is kept.

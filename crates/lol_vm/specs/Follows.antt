@@ -1,19 +1,88 @@
 -- When a run has answered the events so far.
-use Rattle.std.specs.Prelude.{ℕ, ◌+◌, ◌*◌, ◌≡◌, Bool, List, map, reverse, Option, None}
+use Rattle.std.specs.Prelude.{ℕ, ◌+◌, ◌*◌, ◌^◌, ◌≡◌, ◌≤◌, ◌<◌, ◌&&◌, not, Bool, true, false, List, ◌∷◌, ◌++◌, [], map, reverse, Option, Some, None}
+use Rattle.lol_base.specs.StartTags.{StartTag}
+use Rattle.lol_base.specs.declared.start_tag.AuxStartTagInfo.{AuxStartTagInfo}
+use Rattle.lol_memory.specs.Ids.{Ids}
+use Rattle.lol_memory.specs.LimitedVec.{IsLimited}
 use Rattle.lol_memory.specs.Limiter.{Limiter}
+use Rattle.lol_memory.specs.declared.match_info.MatchInfo.{MatchInfo}
+use Rattle.lol_program.specs.Counters.{full_count}
 use Rattle.lol_program.specs.Paths.{Selectors}
-use Rattle.lol_vm.specs.Answers.{document}
-use Rattle.lol_vm.specs.Events.{Event}
-use Rattle.lol_vm.specs.Refusals.{refused}
+use Rattle.lol_vm.specs.Answers.{document, answer, is_dropped}
+use Rattle.lol_vm.specs.Documents.{element_of, children_of}
+use Rattle.lol_vm.specs.Events.{Event, Start, has_content}
+use Rattle.lol_vm.specs.Refusals.{Cause, Limit, Counter, refusal, refused, longest, greatest_count}
 use Rattle.lol_vm.specs.RunRefusals.{allowance_of}
-use Rattle.lol_vm.specs.Vms.{Vm, Stands, data_in, slots_charged, slot_bytes}
+use Rattle.lol_vm.specs.Stacks.{list_in, last_count}
+use Rattle.lol_vm.specs.Views.{answer_of}
+use Rattle.lol_vm.specs.Vms.{Vm, Stands, IsAnswered, IsRestOf, stack_in, data_in, slots_charged, slot_bytes}
+use Rattle.lol_vm.specs.declared.events.RunCause.{RunCause}
+use Rattle.lol_vm.specs.declared.events.RunCause.TheVariants.{MemoryLimitExceeded, CounterFull, Memory}
+use Rattle.lol_vm.specs.declared.events.TagReport.{TagReport}
 use Rattle.lol_vm.specs.declared.started.Started.{Started}
 
--- The machine stands for the events, and its data hold the numbers of the open elements; the limiter holds what was there before the run
--- and the charge of the slots; no event was to be refused.
+-- 1. A start tag
+
+-- the rest of a tag that is handed over, if it is
+abbrev pub IsHandedOver : Option AuxStartTagInfo → StartTag → Type 0
+IsHandedOver None tag = tag.finish ≡ false
+IsHandedOver (Some aux) tag = IsRestOf aux tag
+
+-- whether a start tag opens an element
+abbrev pub opens : Selectors → Bool → List Event → StartTag → Bool
+opens s esi events tag =
+    let d = document s esi events in
+    has_content esi tag && not (is_dropped s (element_of d tag) d.open_elements)
+
+module _ {E : Type 0} where
+  -- A start tag was dropped: it was counted, and nothing else came of it.
+  pub record IsDropped {F : Type 0} (s : Selectors) (esi : Bool) (events : List Event) (tag : StartTag) (old new : Vm E) (f g : F) : Type 0 where
+    pub dropped : is_dropped s (element_of (document s esi events) tag) (document s esi events).open_elements ≡ true
+    pub stands : Stands s esi new (events ++ Start tag ∷ [])
+    pub kept : data_in new ≡ data_in old
+    pub silent : g ≡ f
+
+  -- A start tag was answered, its attributes being asked for or not, or it was dropped.
+  abbrev pub IsTaken : {F : Type 0} → (E → Ids) → (F → MatchInfo → Unit {0} → F → Type 0) → Selectors → Bool → List Event → StartTag → Option Bool → Vm E → Vm E → F → F → Type 0
+  IsTaken ids_of step s esi events tag None old new f g = IsDropped s esi events tag old new f g
+  IsTaken ids_of step s esi events tag (Some asked) old new f g = IsAnswered ids_of step s esi events tag asked old new f g
+
+  -- Why a start tag was refused, as the machine has it.
+  abbrev pub IsRefusedFor : RunCause → Selectors → Bool → List Event → StartTag → Vm E → Limiter → Type 0
+  IsRefusedFor MemoryLimitExceeded s esi events tag vm now =
+      (opens s esi events tag ≡ true) × IsLimited (list_in (stack_in vm)) now × (last_count (stack_in vm) ≡ full_count → ⊥)
+  IsRefusedFor CounterFull s esi events tag vm now = last_count (stack_in vm) ≡ full_count
+  IsRefusedFor Memory s esi events tag vm now = Unit {0}
+
+-- 2. A run
+
+-- The limiter holds what was there before the run, and the charge of the slots.
+abbrev pub IsCharged : ℕ → Limiter → Vm Started → Limiter → Type 0
+IsCharged item_bytes before vm now = (slot_bytes vm ≡ item_bytes) × (now ≡ record before { usage = before.usage + slots_charged vm * item_bytes })
+
+-- The machine stands for the events, its data hold the numbers of the open elements, the limiter its charge, within the maximum; and no
+-- event was to be refused.
 pub record Follows (s : Selectors) (esi : Bool) (item_bytes : ℕ) (before : Limiter) (vm : Vm Started) (events : List Event) (now : Limiter) : Type 0 where
+  pub some : 1 ≤ item_bytes
+  pub word : before.maximum < 2 ^ 64
   pub stands : Stands s esi vm events
   pub numbers : map (λ x. x.event) (data_in vm) ≡ reverse (map (λ e. e.number) (document s esi events).open_elements)
-  pub bytes : slot_bytes vm ≡ item_bytes
-  pub charged : now ≡ record before { usage = before.usage + slots_charged vm * slot_bytes vm }
+  pub charged : IsCharged item_bytes before vm now
+  pub within : before.usage + slots_charged vm * item_bytes ≤ before.maximum
+  pub countable : (parent : Option ℕ) → children_of parent (document s esi events).children ≤ greatest_count
   pub fits : refused s esi (allowance_of item_bytes before) events ≡ None
+
+-- One event more was answered.
+pub record Goes (s : Selectors) (esi : Bool) (item_bytes : ℕ) (before : Limiter) (vm : Vm Started) (events : List Event) (event : Event) (now : Limiter) (report : TagReport) : Type 0 where
+  pub answered : answer_of report ≡ answer s esi (document s esi events) event
+  pub follows : Follows s esi item_bytes before vm (events ++ event ∷ []) now
+
+-- whether an event is refused, after events
+abbrev pub refusal_after : Selectors → Bool → ℕ → Limiter → List Event → Event → Option Cause
+refusal_after s esi item_bytes before events event = refusal s esi (allowance_of item_bytes before) (document s esi events) (longest s esi events) event
+
+-- why an event stops a run
+abbrev pub Stops : RunCause → Option Cause → Type 0
+Stops MemoryLimitExceeded refusal = refusal ≡ Some Limit
+Stops CounterFull refusal = refusal ≡ Some Counter
+Stops Memory refusal = Unit {0}

@@ -5,10 +5,11 @@ pub mod Answers
 pub mod Refusals
 pub mod RunRefusals
 pub mod Rows
-pub mod OpenNames
 pub mod Views
 pub mod VmErrors
 pub mod Vms
+pub mod Collecting
+pub mod Follows
 pub mod VmLaws
 pub mod InstructionRuns
 pub mod Laws

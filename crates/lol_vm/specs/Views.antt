@@ -1,8 +1,7 @@
 -- What the values of a run stand for.
-use Rattle.std.specs.Prelude.{ℕ, ◌≡◌, Bool, List, map}
+use Rattle.std.specs.Prelude.{ℕ, Bool, List, map}
 use Rattle.lol_base.specs.StartTags.{StartTag, attributes_of, RangesAreInside}
 use Rattle.lol_base.specs.declared.namespace.Namespace.{Namespace}
-use Rattle.lol_base.specs.declared.namespace.Namespace.TheVariants.{Html}
 use Rattle.lol_base.specs.declared.start_tag.AuxStartTagInfo.{AuxStartTagInfo}
 use Rattle.lol_memory.specs.declared.match_info.MatchInfo.{MatchInfo}
 use Rattle.lol_program.specs.Paths.{Selectors}
@@ -31,11 +30,6 @@ abbrev pub HasRangesInside : TagEvent → Type 0
 HasRangesInside (Start name ns aux finish) = RangesAreInside aux
 HasRangesInside (End name) = Unit {0}
 
--- a start tag is of HTML
-abbrev pub IsPlainHtml : TagEvent → Type 0
-IsPlainHtml (Start name ns aux finish) = ns ≡ Html
-IsPlainHtml (End name) = Unit {0}
-
 abbrev pub match_of : MatchInfo → Match
 match_of m = record { id = m.match_id; with_content = m.with_content }
 
@@ -44,12 +38,6 @@ abbrev pub answer_of : TagReport → Answer
 answer_of (Started matched asked tries) = answers.Started (map match_of matched.items) asked (names_counted tries) (attributes_counted tries)
 answer_of Dropped = answers.Dropped
 answer_of (Ended closed) = answers.Ended closed.items
-
--- an answer whose tries aren't counted
-abbrev pub without_tries : Answer → Answer
-without_tries (answers.Started matched asked names attributes) = answers.Started matched asked 0 0
-without_tries answers.Dropped = answers.Dropped
-without_tries (answers.Ended closed) = answers.Ended closed
 
 -- the selectors that were added, and the nodes of their tree
 abbrev pub selectors : Ast → Selectors

@@ -1,5 +1,21 @@
 //! A whole run.
 
+ghost use Rattle.std.specs.Prelude.{◌≡◌, ◌≤◌, ◌<◌, ◌-◌, ◌*◌, ◌++◌, ◌∷◌, ◌⊎◌, ◌^◌, [], List, ℕ, Bool, true, IfOk, OnOk, IfErr, OnErr, IfSome, IsSome, None, map, length, take, All};
+ghost use Rattle.lol_base.specs.StartTags.{StartTag, RangesAreInside};
+ghost use Rattle.lol_memory.specs.LimitedVec.{IsLimited};
+ghost use Rattle.lol_memory.specs.Limiter.{Limiter, charged};
+ghost use Rattle.lol_program.specs.Counters.{full_count};
+ghost use Rattle.lol_program.specs.Paths.{Selectors};
+ghost use Rattle.lol_vm.specs.Answers.{answers};
+ghost use Rattle.lol_vm.specs.Collecting.{Keeps};
+ghost use Rattle.lol_vm.specs.Events.{Event, Start, End};
+ghost use Rattle.lol_vm.specs.Follows.{Follows, Goes, IsCharged, IsHandedOver, IsTaken, IsRefusedFor, Stops, opens, refusal_after};
+ghost use Rattle.lol_vm.specs.Refusals.{refused};
+ghost use Rattle.lol_vm.specs.RunRefusals.{allowance_of, IsRefusedAt};
+ghost use Rattle.lol_vm.specs.Stacks.{list_in, last_count};
+ghost use Rattle.lol_vm.specs.Views.{HasRangesInside, event_of, answer_of, selectors};
+ghost use Rattle.lol_vm.specs.Vms.{Stands, IsNameOf, IsTagOf, stack_in, tries_in, data_in, slots_charged, slot_bytes};
+
 use crate::error::VmError;
 use crate::events::{RunCause, RunRefusal, TagEvent, TagReport};
 use crate::started::{Collected, Started};
@@ -7,7 +23,7 @@ use crate::vm::SelectorMatchingVm;
 use lol_base::{AuxStartTagInfo, LocalName, Namespace};
 use lol_memory::{MatchInfo, PushError, SharedMemoryLimiter};
 use lol_program::Ast;
-use std::alloc::{AllocError, Global};
+use std::alloc::Global;
 
 fn refused(reports: Vec<TagReport>, event: usize, cause: RunCause) -> RunRefusal
     ensures { result ≡ record { reports = reports; event = event; cause = cause } }
@@ -43,19 +59,16 @@ pub fn match_events(
     ensures cause { IfErr result (λ refusal. IsRefusedAt refusal (refused (selectors ast) enable_esi_tags (allowance_of item_bytes limiter.old) (map event_of events.now))) }
     ensures usage { limiter.new ≡ limiter.old }
 {
-    let Ok(mut reports) = Vec::with_capacity(alloc, events.len()) else {
-        return Err(refused(Vec::new(alloc), 0, RunCause::Memory));
-    };
+    let usage = limiter.current_usage();
     let made = SelectorMatchingVm::new(alloc, ast, item_bytes, enable_esi_tags);
     let Ok(mut vm) = made else {
-        return Err(refused(reports, 0, RunCause::Memory));
+        return Err(refused(Vec::new(alloc), 0, RunCause::Memory));
     };
-    let stopped = answer_events(alloc, &mut vm, events, limiter, &mut reports);
+    let answered = answer_events(alloc, &mut vm, events, limiter);
     vm.release(limiter);
-    match stopped {
-        None => Ok(reports),
-        Some((event, cause)) => Err(refused(reports, event, cause)),
-    }
+    let unchanged = limiter.current_usage() == usage;
+    prove!(unchanged);
+    answered
 }
 
 /// Answers events, up to the first that is refused.
@@ -64,27 +77,58 @@ fn answer_events(
     vm: &mut SelectorMatchingVm<Started>,
     events: &[TagEvent],
     limiter: &mut SharedMemoryLimiter,
-    reports: &mut Vec<TagReport>,
-) -> Option<(usize, RunCause)> {
+) -> Result<Vec<TagReport>, RunRefusal>
+    requires { All HasRangesInside events.now }
+    ensures ok { IfOk result (λ reports. (s : Selectors) (esi : Bool) (item_bytes : ℕ) (before : Limiter) → Follows s esi item_bytes before vm.old [] limiter.old
+        → map answer_of reports.items ≡ answers s esi (map event_of events.now)) }
+    ensures fits { OnOk result ((s : Selectors) (esi : Bool) (item_bytes : ℕ) (before : Limiter) → Follows s esi item_bytes before vm.old [] limiter.old
+        → refused s esi (allowance_of item_bytes before) (map event_of events.now) ≡ None) }
+    ensures refused { IfErr result (λ refusal. (s : Selectors) (esi : Bool) (item_bytes : ℕ) (before : Limiter) → Follows s esi item_bytes before vm.old [] limiter.old
+        → map answer_of refusal.reports.items ≡ answers s esi (map event_of (take refusal.event events.now))) }
+    ensures event { IfErr result (λ refusal. (refusal.event ≡ 0) ⊎ (refusal.event < length events.now)) }
+    ensures cause { IfErr result (λ refusal. (s : Selectors) (esi : Bool) (item_bytes : ℕ) (before : Limiter) → Follows s esi item_bytes before vm.old [] limiter.old
+        → IsRefusedAt refusal (refused s esi (allowance_of item_bytes before) (map event_of events.now))) }
+    ensures charged { (s : Selectors) (esi : Bool) (item_bytes : ℕ) (before : Limiter) → Follows s esi item_bytes before vm.old [] limiter.old → IsCharged item_bytes before vm.new limiter.new }
+{
+    let Ok(mut reports) = Vec::with_capacity(alloc, events.len()) else {
+        return Err(refused(Vec::new(alloc), 0, RunCause::Memory));
+    };
     for (number, event) in events.iter().enumerate() {
-        let answered = match event {
-            TagEvent::Start {
-                name,
-                ns,
-                aux_info,
-                finish,
-            } => {
-                let rest = if *finish { Some(*aux_info) } else { None };
-                answer_start(alloc, vm, number, LocalName::new(name), *ns, rest, limiter)
-            }
-            TagEvent::End { name } => answer_end(alloc, vm, LocalName::new(name)),
-        };
-        match answered {
+        match answer_event(alloc, vm, number, event, limiter) {
             Ok(report) => reports.push_reserved(report),
-            Err(cause) => return Some((number, cause)),
+            Err(cause) => return Err(refused(reports, number, cause)),
         }
     }
-    None
+    Ok(reports)
+}
+
+/// Answers one event.
+fn answer_event(
+    alloc: Global,
+    vm: &mut SelectorMatchingVm<Started>,
+    number: usize,
+    event: &TagEvent,
+    limiter: &mut SharedMemoryLimiter,
+) -> Result<TagReport, RunCause>
+    requires { HasRangesInside event.now }
+    ensures goes { IfOk result (λ report. (s : Selectors) (esi : Bool) (item_bytes : ℕ) (before : Limiter) (events : List Event) → Follows s esi item_bytes before vm.old events limiter.old → length events ≡ number
+        → Goes s esi item_bytes before vm.new events (event_of event.now) limiter.new report) }
+    ensures stops { IfErr result (λ cause. (s : Selectors) (esi : Bool) (item_bytes : ℕ) (before : Limiter) (events : List Event) → Follows s esi item_bytes before vm.old events limiter.old
+        → Stops cause (refusal_after s esi item_bytes before events (event_of event.now))) }
+    ensures charged { OnErr result ((s : Selectors) (esi : Bool) (item_bytes : ℕ) (before : Limiter) (events : List Event) → Follows s esi item_bytes before vm.old events limiter.old → IsCharged item_bytes before vm.new limiter.new) }
+{
+    match event {
+        TagEvent::Start {
+            name,
+            ns,
+            aux_info,
+            finish,
+        } => {
+            let rest = if *finish { Some(*aux_info) } else { None };
+            answer_start(alloc, vm, number, LocalName::new(name), *ns, rest, limiter)
+        }
+        TagEvent::End { name } => answer_end(alloc, vm, LocalName::new(name)),
+    }
 }
 
 /// Answers a start tag, whose attributes are handed over if there is a rest.
@@ -92,43 +136,35 @@ fn answer_start(
     alloc: Global,
     vm: &mut SelectorMatchingVm<Started>,
     number: usize,
-    name: LocalName<'_>,
+    local_name: LocalName<'_>,
     ns: Namespace,
     rest: Option<AuxStartTagInfo<'_>>,
     limiter: &mut SharedMemoryLimiter,
-) -> Result<TagReport, RunCause> {
-    let open = vm.open_elements();
+) -> Result<TagReport, RunCause>
+    requires { IfSome rest RangesAreInside }
+    ensures goes { IfOk result (λ report. (s : Selectors) (esi : Bool) (item_bytes : ℕ) (before : Limiter) (events : List Event) (tag : StartTag) → Follows s esi item_bytes before vm.old events limiter.old → length events ≡ number
+        → IsTagOf local_name.entry ns tag → IsHandedOver rest.entry tag → Goes s esi item_bytes before vm.new events (Start tag) limiter.new report) }
+    ensures stops { IfErr result (λ cause. (s : Selectors) (esi : Bool) (item_bytes : ℕ) (before : Limiter) (events : List Event) (tag : StartTag) → Follows s esi item_bytes before vm.old events limiter.old
+        → IsTagOf local_name.entry ns tag → IsHandedOver rest.entry tag → Stops cause (refusal_after s esi item_bytes before events (Start tag))) }
+    ensures charged { OnErr result ((s : Selectors) (esi : Bool) (item_bytes : ℕ) (before : Limiter) (events : List Event) (tag : StartTag) → Follows s esi item_bytes before vm.old events limiter.old
+        → IsTagOf local_name.entry ns tag → IsHandedOver rest.entry tag → IsCharged item_bytes before vm.new limiter.new) }
+{
+    let open_before = vm.open_elements();
     let mut collected = Collected::new(alloc);
     let mut handler = |info: MatchInfo|
         ensures { Keeps collected.entry info collected.exit }
     {
         collected.keep(info);
     };
-    let asked = match vm.exec_for_start_tag(name, ns, limiter, &mut handler) {
-        Ok(()) => false,
-        Err(VmError::InfoRequest(request)) => {
-            let Some(aux_info) = rest else {
-                return Ok(TagReport::Dropped);
-            };
-            match vm.finish_start_tag(request, aux_info, limiter, &mut handler) {
-                Ok(()) => true,
-                Err(PushError::Limit(_)) => return Err(RunCause::MemoryLimitExceeded),
-                Err(PushError::Memory(_)) => return Err(RunCause::Memory),
-            }
-        }
-        Err(VmError::MemoryLimitExceeded(_)) => return Err(RunCause::MemoryLimitExceeded),
-        Err(VmError::CounterFull) => return Err(RunCause::CounterFull),
-        Err(_) => return Err(RunCause::Memory),
-    };
-    if vm.open_elements() > open {
-        if let Some(started) = vm.current_element_data_mut() {
-            started.event = number;
-        }
-    }
+    let taken = take_start(vm, local_name, ns, rest, limiter, &mut handler)?;
     let Collected { items, refused } = collected;
     if refused {
         return Err(RunCause::Memory);
     }
+    let Some(asked) = taken else {
+        return Ok(TagReport::Dropped);
+    };
+    number_opened(vm, open_before, number);
     Ok(TagReport::Started {
         matched: items,
         asked,
@@ -136,19 +172,83 @@ fn answer_start(
     })
 }
 
+/// Matches a start tag, and finishes it if its attributes are asked for and handed over: whether they were asked for, or none where the
+/// tag was dropped.
+fn take_start<F: FnMut(MatchInfo)>(
+    vm: &mut SelectorMatchingVm<Started>,
+    local_name: LocalName<'_>,
+    ns: Namespace,
+    rest: Option<AuxStartTagInfo<'_>>,
+    limiter: &mut SharedMemoryLimiter,
+    match_handler: &mut F,
+) -> Result<Option<bool>, RunCause>
+    requires ranges { IfSome rest RangesAreInside }
+    requires callable { F.IsAlwaysCallable match_handler.old }
+    ensures taken { IfOk result (λ taken. (s : Selectors) (esi : Bool) (events : List Event) (tag : StartTag) → Stands s esi vm.old events → IsTagOf local_name.entry ns tag → IsHandedOver rest.entry tag
+        → IsTaken (λ started. started.matched_ids) F.step s esi events tag taken vm.old vm.new match_handler.old match_handler.new) }
+    ensures charged { OnOk result (limiter.new ≡ charged limiter.old ((slots_charged vm.new - slots_charged vm.old) * slot_bytes vm.old)) }
+    ensures uncharged { OnErr result (limiter.new ≡ limiter.old) }
+    ensures slots { OnErr result (slots_charged vm.new ≡ slots_charged vm.old) }
+    ensures bytes { slot_bytes vm.new ≡ slot_bytes vm.old }
+    ensures counted { OnOk result ((s : Selectors) (esi : Bool) (events : List Event) → Stands s esi vm.old events → last_count (stack_in vm.old) ≡ full_count → ⊥) }
+    ensures unlimited { OnOk result ((s : Selectors) (esi : Bool) (events : List Event) (tag : StartTag) → Stands s esi vm.old events → IsTagOf local_name.entry ns tag → IsHandedOver rest.entry tag
+        → opens s esi events tag ≡ true → IsLimited (list_in (stack_in vm.old)) limiter.old → ⊥) }
+    ensures refused { IfErr result (λ cause. (s : Selectors) (esi : Bool) (events : List Event) (tag : StartTag) → Stands s esi vm.old events → IsTagOf local_name.entry ns tag → IsHandedOver rest.entry tag
+        → IsRefusedFor cause s esi events tag vm.old limiter.old) }
+{
+    let request = match vm.exec_for_start_tag(local_name, ns, limiter, match_handler) {
+        Ok(()) => return Ok(Some(false)),
+        Err(VmError::InfoRequest(request)) => request,
+        Err(VmError::MemoryLimitExceeded(_)) => return Err(RunCause::MemoryLimitExceeded),
+        Err(VmError::CounterFull) => return Err(RunCause::CounterFull),
+        Err(_) => return Err(RunCause::Memory),
+    };
+    let Some(aux_info) = rest else {
+        return Ok(None);
+    };
+    match vm.finish_start_tag(request, aux_info, limiter, match_handler) {
+        Ok(()) => Ok(Some(true)),
+        Err(PushError::Limit(_)) => Err(RunCause::MemoryLimitExceeded),
+        Err(PushError::Memory(_)) => Err(RunCause::Memory),
+    }
+}
+
+/// Writes the number of its start tag into the data of the last open element, if more elements are open than before.
+fn number_opened(vm: &mut SelectorMatchingVm<Started>, open_before: usize, number: usize)
+    ensures stands { (s : Selectors) (esi : Bool) (events : List Event) → Stands s esi vm.old events → Stands s esi vm.new events }
+    ensures numbered { open_before < length (data_in vm.old) → (outer : List Started) (last : Started) → data_in vm.old ≡ outer ++ last ∷ [] → data_in vm.new ≡ outer ++ (record last { event = number }) ∷ [] }
+    ensures unchanged { length (data_in vm.old) ≤ open_before → data_in vm.new ≡ data_in vm.old }
+    ensures tries { tries_in vm.new ≡ tries_in vm.old }
+    ensures slots { slots_charged vm.new ≡ slots_charged vm.old }
+    ensures bytes { slot_bytes vm.new ≡ slot_bytes vm.old }
+{
+    if vm.open_elements() <= open_before {
+        return;
+    }
+    if let Some(started) = vm.current_element_data_mut() {
+        started.event = number;
+    }
+}
+
 /// Answers an end tag with the numbers of the elements that it closes, the outermost first.
 fn answer_end(
     alloc: Global,
     vm: &mut SelectorMatchingVm<Started>,
-    name: LocalName<'_>,
-) -> Result<TagReport, RunCause> {
+    local_name: LocalName<'_>,
+) -> Result<TagReport, RunCause>
+    ensures goes { IfOk result (λ report. (s : Selectors) (esi : Bool) (item_bytes : ℕ) (before : Limiter) (events : List Event) (now : Limiter) (name : List ℕ) → Follows s esi item_bytes before vm.old events now
+        → IsNameOf local_name.entry name → Goes s esi item_bytes before vm.new events (End name) now report) }
+    ensures memory { IfErr result (λ cause. cause ≡ RunCause.Memory) }
+    ensures slots { slots_charged vm.new ≡ slots_charged vm.old }
+    ensures bytes { slot_bytes vm.new ≡ slot_bytes vm.old }
+{
     let mut collected = Collected::new(alloc);
     let mut handler = |started: Started|
         ensures { Keeps collected.entry started.event collected.exit }
     {
         collected.keep(started.event);
     };
-    vm.exec_for_end_tag(name, &mut handler);
+    vm.exec_for_end_tag(local_name, &mut handler);
     let Collected { items, refused } = collected;
     if refused {
         return Err(RunCause::Memory);

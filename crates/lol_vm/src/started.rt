@@ -1,6 +1,6 @@
 //! What a run keeps of its tags.
 
-ghost use Rattle.std.specs.Prelude.{◌≡◌};
+ghost use Rattle.std.specs.Prelude.{◌≡◌, [], false, refl};
 ghost use Rattle.lol_vm.specs.Collecting.{Keeps};
 
 use crate::element_data::ElementData;

@@ -302,6 +302,13 @@ impl<E: ElementData> VmOf<Program, LocalName<'static>, StackNames, E> {
         self.stack.pop_up_to(local_name, handler);
     }
 
+    /// How many elements are open.
+    pub(crate) fn open_elements(&self) -> usize
+        ensures { result ≡ length (data_in self.now) }
+    {
+        self.stack.items().len()
+    }
+
     /// Drops the machine, and lowers the usage by the charge of its slots. (Not in lol_html.)
     pub fn release(self, limiter: &mut SharedMemoryLimiter)
         requires { slots_charged self * slot_bytes self ≤ limiter.old.usage }

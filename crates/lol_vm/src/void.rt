@@ -5,7 +5,6 @@ ghost use Rattle.std.specs.Str.{bytes_eq};
 ghost use Rattle.std.specs.List.{list_any};
 ghost use Rattle.lol_base.specs.Names as names;
 ghost use Rattle.lol_base.specs.Tags.{tag_name};
-ghost use Rattle.lol_vm.specs.OpenNames.{Spells};
 
 use lol_base::{LocalName, Tag};
 
@@ -44,7 +43,7 @@ fn is_among(name: &LocalName, tags: &[Tag]) -> bool
 
 /// Whether an HTML element of this name never has content.
 pub(crate) fn is_void(name: &LocalName) -> bool
-    ensures { (bytes : List ℕ) → Spells name.now bytes → result ≡ names.is_void bytes }
+    ensures { (bytes : List ℕ) → names.lowercased bytes ≡ name.now.lowercased → result ≡ names.is_void bytes }
 {
     is_among(name, &VOID_TAGS)
 }

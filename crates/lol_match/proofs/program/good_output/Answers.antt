@@ -1,7 +1,6 @@
-use Rattle.std.proofs.Common.{◌≡◌, map, take, ap, subst, ◌∙◌}
-use Rattle.lol_vm.specs.Answers.{answers}
+use Rattle.std.proofs.Common.{◌≡◌, map, ap, subst, ◌∙◌}
 use Rattle.lol_vm.specs.RunRefusals.{IsRefusedAt}
-use Rattle.lol_vm.specs.Views.{answer_of, event_of, selectors}
+use Rattle.lol_vm.specs.Views.{answer_of, event_of}
 use Rattle.lol_match.specs.Lines.{told_by}
 use Rattle.lol_match.specs.Output.{shown_answer, lines_of}
 use Rattle.lol_match.proofs.Runs.{same_refused, first_lines, good_written}

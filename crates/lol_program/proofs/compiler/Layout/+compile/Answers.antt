@@ -19,7 +19,7 @@ use Rattle.lol_program.specs.declared.ast_node.AstNode.{AstNode}
 use Rattle.lol_program.specs.declared.ast_node.AstNode.TheViews.{out-AstNode}
 use Rattle.lol_program.specs.declared.instruction.Instruction as code
 use Rattle.lol_program.proofs.CompiledLists.{flag_more, or_false}
-use Rattle.lol_program.specs.ForestRunLaws.{empty_from}
+use Rattle.lol_program.proofs.ListPlaces.{empty_from}
 use Rattle.lol_program.specs.NodeViewLaws.{shape, node_out}
 use Rattle.lol_program.proofs.Laying.{IsHalfLaid, half_init, half_step, half_done, node_done, node_same, same_from, width_is, range_some}
 use Rattle.lol_program.proofs.compiler.Layout.+compile.Goals as goal

@@ -1,0 +1,158 @@
+-- Which event of a run is refused, as events come.
+use Rattle.std.proofs.Common.{◌≡◌, ℕ, ◌+◌, ◌-◌, ◌*◌, ◌≤◌, ◌<◌, ◌^◌, inl, inr, Bool, true, false, List, [], ◌∷◌, ◌++◌, length, Option, Some, None, refl, sym, ap, ◌∙◌, subst, arith}
+use Rattle.std.specs.Prelude.{max, nat_lt, if◌then◌else◌}
+use Rattle.std.proofs.lemmas.Bool.Decides.{nat_tests}
+use Rattle.lol_memory.specs.LimitedVec.{LimitedVec, IsLimited, more_slots}
+use Rattle.lol_memory.specs.Limiter.{Limiter}
+use Rattle.lol_memory.specs.Slots.{slots, minimum_slots}
+use Rattle.lol_program.specs.Paths.{Selectors}
+use Rattle.lol_vm.specs.Answers.{after, document, document_from}
+use Rattle.lol_vm.specs.Documents.{Document, empty}
+use Rattle.lol_vm.specs.Events.{Event}
+use Rattle.lol_vm.specs.Refusals.{Allowance, Cause, Limit, Counter, longest, longest_from, or_later, refusal, refused, refused_from}
+use Rattle.lol_vm.specs.Follows.{Stops, refusal_after}
+use Rattle.lol_vm.specs.RunRefusals.{StopsFor, allowance_of}
+use Rattle.lol_vm.specs.declared.events.RunCause.{RunCause}
+use Rattle.lol_vm.specs.declared.events.RunCause.TheVariants.{MemoryLimitExceeded, CounterFull, Memory}
+use Rattle.lol_vm.proofs.Kept.{slots_grow}
+use Rattle.lol_vm.proofs.Runs.{events_after, events-document}
+
+-- 1. The first event that is refused
+
+abbrev number_or : ℕ → Option (ℕ × Cause) → ℕ
+number_or n None = n
+number_or n (Some refused) = refused.0
+
+module _ (s : Selectors) (esi : Bool) (a : Allowance) where
+  longest_least : (d : Document) (events : List Event) → length d.open_elements ≤ longest_from s esi d events
+  longest_least d [] = omega arith
+  longest_least d (event ∷ events) = omega arith
+
+  -- it isn't before those that come
+  not_earlier : (d : Document) (most : ℕ) (events : List Event) (n : ℕ) (cause : Cause) → refused_from s esi a d most events ≡ Some (n, cause) → d.events ≤ n
+  not_earlier d most [] n cause is = cc
+  not_earlier d most (event ∷ events) n cause is =
+      let next = after s esi d event in
+      by_refusal (refusal s esi a d most event) (λ is. not_earlier next (max most (length next.open_elements)) events n cause is) is
+    where
+      by_refusal : {later : Option (ℕ × Cause)} (r : Option Cause) → (later ≡ Some (n, cause) → (after s esi d event).events ≤ n) → or_later d.events r later ≡ Some (n, cause) → d.events ≤ n
+      by_refusal (Some first) later is = omega (arith, ap (number_or 0) is)
+      by_refusal None later is =
+          let one = events_after s esi d event in
+          let above = later is in
+          omega (arith, above, one)
+
+  -- where none of the first events is, it is the first of the others
+  refused_more : (d : Document) (most : ℕ) (xs ys : List Event) → length d.open_elements ≤ most → refused_from s esi a d most xs ≡ None
+      → refused_from s esi a d most (xs ++ ys) ≡ refused_from s esi a (document_from s esi d xs) (max most (longest_from s esi d xs)) ys
+  refused_more d most [] ys within none =
+      let same : most ≡ max most (length d.open_elements) = omega (arith, within) in
+      ap (λ m. refused_from s esi a d m ys) same
+  refused_more d most (event ∷ xs) ys within none =
+      let next = after s esi d event in
+      let least = longest_least next xs in
+      let same : max (max most (length next.open_elements)) (longest_from s esi next xs) ≡ max most (max (length d.open_elements) (longest_from s esi next xs)) = omega (arith, least, within) in
+      by_refusal (refusal s esi a d most event)
+      (λ none. refused_more next (max most (length next.open_elements)) xs ys (omega arith) none ∙ ap (λ m. refused_from s esi a (document_from s esi next xs) m ys) same) none
+    where
+      by_refusal : {first all now : Option (ℕ × Cause)} (r : Option Cause) → (first ≡ None → all ≡ now) → or_later d.events r first ≡ None → or_later d.events r all ≡ now
+      by_refusal (Some cause) more none = cc
+      by_refusal None more none = more none
+
+  module _ (before : List Event) (fits : refused s esi a before ≡ None) where
+    pub refused_on : (later : List Event) → refused s esi a (before ++ later) ≡ refused_from s esi a (document s esi before) (longest s esi before) later
+    refused_on later =
+        let same : max 0 (longest s esi before) ≡ longest s esi before = omega arith in
+        refused_more empty 0 before later (omega arith) fits ∙ ap (λ m. refused_from s esi a (document s esi before) m later) same
+
+    number : (document s esi before).events ≡ length before
+    number = events-document s esi empty before ∙ omega arith
+
+    pub fits_on : (event : Event) → refusal s esi a (document s esi before) (longest s esi before) event ≡ None → refused s esi a (before ++ event ∷ []) ≡ None
+    fits_on event none = refused_on (event ∷ []) ∙ ap (λ r. or_later (document s esi before).events r None) none
+
+    pub stops_at : (event : Event) (later : List Event) (cause : Cause) → refusal s esi a (document s esi before) (longest s esi before) event ≡ Some cause
+        → refused s esi a (before ++ event ∷ later) ≡ Some (length before, cause)
+    stops_at event later cause some =
+        let next = after s esi (document s esi before) event in
+        let rest = refused_from s esi a next (max (longest s esi before) (length next.open_elements)) later in
+        refused_on (event ∷ later) ∙ (ap (λ r. or_later (document s esi before).events r rest) some ∙ ap (λ n. Some (n, cause)) number)
+
+    pub not_before : (later : List Event) (n : ℕ) (cause : Cause) → refused s esi a (before ++ later) ≡ Some (n, cause) → length before ≤ n
+    not_before later n cause is =
+        let first = not_earlier (document s esi before) (longest s esi before) later n cause (sym (refused_on later) ∙ is) in
+        let at = number in
+        omega (arith, first, at)
+
+-- 2. Charges
+
+-- the slots for one more element, by those that are charged
+module _ (item_bytes items most : ℕ) (within : items ≤ most) where
+  abbrev charged_slots : ℕ
+  charged_slots = slots item_bytes most
+
+  pub slots_rise : charged_slots ≤ slots item_bytes (max most (items + 1))
+  slots_rise = subst (λ n. charged_slots ≤ n) (slots_grow item_bytes items most within) (by_test (nat_lt items charged_slots))
+    where
+      by_test : (b : Bool) → charged_slots ≤ (if b then charged_slots else charged_slots + max charged_slots (minimum_slots item_bytes))
+      by_test true = omega arith
+      by_test false = omega arith
+
+  module _ {T : Type 0} (v : LimitedVec T) (now before : Limiter) (some : 1 ≤ item_bytes) (word : before.maximum < 2 ^ 64) (bytes : v.item_bytes ≡ item_bytes) (many : length v.items ≡ items) (charged : v.slots ≡ charged_slots)
+      (maximum : now.maximum ≡ before.maximum) (usage : now.usage ≡ before.usage + charged_slots * item_bytes) where
+    abbrev more : ℕ
+    more = max charged_slots (minimum_slots item_bytes)
+
+    more_is : more_slots v ≡ more
+    more_is = λ i. max (charged i) (minimum_slots (bytes i))
+
+    more_bytes : more_slots v * v.item_bytes ≡ more * item_bytes
+    more_bytes = λ i. more_is i * bytes i
+
+    both : (charged_slots + more) * item_bytes ≡ charged_slots * item_bytes + more * item_bytes
+    both = omega arith
+
+    at_least : charged_slots + more ≤ (charged_slots + more) * item_bytes
+    at_least =
+        let bytes : item_bytes ≡ 1 + (item_bytes - 1) = omega (arith, some) in
+        let product : (charged_slots + more) * item_bytes ≡ (charged_slots + more) + (charged_slots + more) * (item_bytes - 1) = ap (λ k. (charged_slots + more) * k) bytes ∙ omega arith in
+        omega (arith, product)
+
+    -- a charge that isn't refused stays within the maximum
+    pub stays_within : before.usage + charged_slots * item_bytes ≤ before.maximum → (IsLimited v now → ⊥) → before.usage + slots item_bytes (max most (items + 1)) * item_bytes ≤ before.maximum
+    stays_within room unlimited = subst (λ n. before.usage + n * item_bytes ≤ before.maximum) (slots_grow item_bytes items most within) (by_test (nat_lt items charged_slots) refl)
+      where
+        by_test : (b : Bool) → nat_lt items charged_slots ≡ b → before.usage + (if b then charged_slots else charged_slots + more) * item_bytes ≤ before.maximum
+        by_test true less = room
+        by_test false less = by_limit (nat_lt before.maximum (now.usage + more * item_bytes)) refl
+          where
+            full : v.slots ≤ length v.items
+            full = grind (arith, nat_tests, less, many, charged)
+
+            by_limit : (b : Bool) → nat_lt before.maximum (now.usage + more * item_bytes) ≡ b → before.usage + (charged_slots + more) * item_bytes ≤ before.maximum
+            by_limit true passes = absurd (unlimited (full, inr (inr (subst (λ n. now.maximum < now.usage + n) (sym more_bytes) (subst (λ n. n < now.usage + more * item_bytes) (sym maximum) (grind (arith, nat_tests, passes)))))))
+            by_limit false passes =
+                let fits : now.usage + more * item_bytes ≤ before.maximum = grind (arith, nat_tests, passes) in
+                omega (arith, both, usage, fits)
+
+    -- one that is refused would pass it
+    pub passes_maximum : IsLimited v now → before.maximum < before.usage + slots item_bytes (max most (items + 1)) * item_bytes
+    passes_maximum limited = subst (λ n. before.maximum < before.usage + n * item_bytes) (slots_grow item_bytes items most within) (by_test (nat_lt items charged_slots) refl)
+      where
+        by_test : (b : Bool) → nat_lt items charged_slots ≡ b → before.maximum < before.usage + (if b then charged_slots else charged_slots + more) * item_bytes
+        by_test true less = let full = limited.0 in absurd (grind (arith, nat_tests, less, many, charged, full))
+        by_test false less = elim limited.1 [
+          | inl wide ↦ let w : 2 ^ 64 ≤ more * item_bytes = subst (λ n. 2 ^ 64 ≤ n) more_bytes wide in omega (arith, both, w, word)
+          | inr (inl wide) ↦ let w : 2 ^ 64 ≤ charged_slots + more = subst (λ n. 2 ^ 64 ≤ n) (λ i. charged i + more_is i) wide in omega (arith, at_least, w, word)
+          | inr (inr passes) ↦ let p : now.maximum < now.usage + more * item_bytes = subst (λ n. now.maximum < now.usage + n) more_bytes passes in omega (arith, both, p, maximum, usage)
+        ]
+
+-- why an event stops a run, where none before is refused
+module _ (s : Selectors) (esi : Bool) (item_bytes : ℕ) (limiter : Limiter) (before later : List Event) (event : Event) (fits : refused s esi (allowance_of item_bytes limiter) before ≡ None) where
+  abbrev allowance : Allowance
+  allowance = allowance_of item_bytes limiter
+
+  pub stops_for : (cause : RunCause) → Stops cause (refusal_after s esi item_bytes limiter before event) → StopsFor cause (length before) (refused s esi allowance (before ++ event ∷ later))
+  stops_for MemoryLimitExceeded is = stops_at s esi allowance before fits event later Limit is
+  stops_for CounterFull is = stops_at s esi allowance before fits event later Counter is
+  stops_for Memory is = λ n cause first. not_before s esi allowance before fits (event ∷ later) n cause first

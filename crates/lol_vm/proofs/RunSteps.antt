@@ -1,0 +1,326 @@
+-- What one event does to a run.
+use Rattle.std.proofs.Common.{◌≡◌, ℕ, suc, ◌+◌, ◌-◌, ◌*◌, ◌≤◌, ◌<◌, ◌^◌, Bool, true, false, cond, List, [], ◌∷◌, ◌++◌, length, map, take, drop, reverse, Option, Some, None, refl, sym, ap, ◌∙◌, subst, arith}
+use Rattle.std.specs.Prelude.{max, nat_lt, if◌then◌else◌}
+use Rattle.std.specs.List.{take-map, drop-map}
+use Rattle.std.proofs.lemmas.Bool.Decides.{Decides-eqb, nat_tests}
+use Rattle.std.proofs.lemmas.List.{length-map, length-drop, length-reverse, reverse-append, take-append-drop, take_at, drop_at}
+use Rattle.lol_base.specs.StartTags.{StartTag}
+use Rattle.lol_memory.specs.LimitedVec.{IsLimited}
+use Rattle.lol_memory.specs.Limiter.{Limiter, charged}
+use Rattle.lol_memory.specs.Slots.{slots}
+use Rattle.lol_program.specs.Counters.{full_count}
+use Rattle.lol_program.specs.Paths.{Selectors}
+use Rattle.lol_program.specs.Tests.{Element}
+use Rattle.lol_vm.specs.Answers.{after, document}
+use Rattle.lol_vm.specs.Documents.{Document, empty, element_of, children_of, closed, same_parent, parent_of, place_of, inner_part, after_start, after_end}
+use Rattle.lol_vm.specs.Events.{Event, Start, End}
+use Rattle.lol_vm.specs.Follows.{Follows, IsCharged, IsRefusedFor, Stops, opens, refusal_after}
+use Rattle.lol_vm.specs.Refusals.{Cause, Limit, Counter, longest, exceeds, greatest_count}
+use Rattle.lol_vm.specs.RunRefusals.{allowance_of}
+use Rattle.lol_vm.specs.Stacks.{items_in, list_in, last_count}
+use Rattle.lol_vm.specs.Standing.{counted_last, counted_root, closed_count, or_root}
+use Rattle.lol_vm.specs.Vms.{Vm, Stands, stack_in, data_in, slots_charged, slot_bytes, open_after}
+use Rattle.lol_vm.specs.declared.events.RunCause.{RunCause}
+use Rattle.lol_vm.specs.declared.events.RunCause.TheVariants.{MemoryLimitExceeded, CounterFull, Memory}
+use Rattle.lol_vm.specs.declared.started.Started.{Started}
+use Rattle.lol_vm.proofs.Kept.{items_length, counters_are_places, documents_are_ordered, longest_push, outer_is, children-cons}
+use Rattle.lol_vm.proofs.RefusedRuns.{fits_on, slots_rise, stays_within, passes_maximum}
+use Rattle.lol_vm.proofs.Runs.{document_push}
+use Rattle.lol_vm.proofs.StackCounting.{seen_children}
+use Rattle.lol_vm.proofs.StackMachines.{items_counted}
+use Rattle.lol_vm.proofs.VmData.{slots_are_of_depth}
+
+-- 1. A machine that stands
+
+one_more : (counts : List ℕ) (root : ℕ) → or_root (counted_last counts) (counted_root counts root) ≡ or_root counts root + 1
+one_more [] root = refl
+one_more (c ∷ counts) root = refl
+
+module _ {E : Type 0} (s : Selectors) (esi : Bool) (vm : Vm E) (events : List Event) (stands : Stands s esi vm events) where
+  as_many : length stands.machine.items ≡ length (document s esi events).open_elements
+  as_many = items_length stands.paths stands.machine.program stands.machine.items (document s esi events).open_elements stands.standing.items
+
+  pub many_open : length (items_in vm.stack) ≡ length (document s esi events).open_elements
+  many_open = sym (items_counted vm.stack stands.machine stands.shown.stack) ∙ as_many
+
+  pub position_is : (tag : StartTag) → (element_of (document s esi events) tag).position ≡ last_count vm.stack + 1
+  position_is tag =
+      let m = stands.machine in
+      sym (counters_are_places m (document s esi events) tag stands.standing.counted as_many).0
+      ∙ (one_more m.children m.root_children ∙ ap (λ n. n + 1) (sym (seen_children vm.stack m stands.shown.stack (items_in vm.stack) refl)))
+
+  pub hasnt_failed : vm.failed ≡ false
+  hasnt_failed = sym stands.shown.refused ∙ stands.standing.never_refused
+
+parent_is : (a b : Option ℕ) → same_parent a b ≡ true → a ≡ b
+parent_is None None same = refl
+parent_is None (Some n) same = cc
+parent_is (Some m) None same = cc
+parent_is (Some m) (Some n) same = ap Some ((Decides-eqb m n).0 same)
+
+cut_at : {A : Type 0} (n : ℕ) (xs : List A) → reverse xs ≡ reverse (drop n xs) ++ reverse (take n xs)
+cut_at n xs = ap reverse (sym (take-append-drop n xs)) ∙ reverse-append (take n xs) (drop n xs)
+
+-- 2. A run, one event on
+
+module _ (s : Selectors) (esi : Bool) (item_bytes : ℕ) (before : Limiter) (vm : Vm Started) (events : List Event) (now : Limiter) (f : Follows s esi item_bytes before vm events now) where
+  abbrev d : Document
+  d = document s esi events
+
+  abbrev most : ℕ
+  most = longest s esi events
+
+  enough : length d.open_elements ≤ most
+  enough = (documents_are_ordered s esi events).enough
+
+  depth : slots_charged vm ≡ slots item_bytes most
+  depth = slots_are_of_depth s esi vm events f.stands ∙ ap (λ n. slots n most) f.charged.0
+
+  within : before.usage + slots item_bytes most * item_bytes ≤ before.maximum
+  within = subst (λ n. before.usage + n * item_bytes ≤ before.maximum) depth f.within
+
+  -- the elements that are open after a start tag
+  opened : (b : Bool) (tag : StartTag) → length (after_start d tag b).open_elements ≡ (if b then length d.open_elements + 1 else length d.open_elements)
+  opened true tag = omega arith
+  opened false tag = refl
+
+  stays : (b : Bool) (tag : StartTag) → (b ≡ true → IsLimited (list_in (stack_in vm)) now → ⊥) → before.usage + slots item_bytes (max most (length (after_start d tag b).open_elements)) * item_bytes ≤ before.maximum
+  stays true tag unlimited =
+      let many : suc (length d.open_elements) ≡ length d.open_elements + 1 = omega arith in
+      subst (λ n. before.usage + slots item_bytes (max most n) * item_bytes ≤ before.maximum) (sym many)
+      (stays_within item_bytes (length d.open_elements) most enough (list_in (stack_in vm)) now before f.some f.word f.charged.0 (many_open s esi vm events f.stands) depth
+      (ap (λ (l : Limiter). l.maximum) f.charged.1) (ap (λ (l : Limiter). l.usage) f.charged.1 ∙ ap (λ n. before.usage + n * item_bytes) depth) within (unlimited refl))
+  stays false tag unlimited =
+      let e = enough in
+      let same : most ≡ max most (length d.open_elements) = omega (arith, e) in
+      subst (λ n. before.usage + slots item_bytes n * item_bytes ≤ before.maximum) same within
+
+  passes : (tag : StartTag) → IsLimited (list_in (stack_in vm)) now → before.maximum < before.usage + slots item_bytes (max most (length (after_start d tag true).open_elements)) * item_bytes
+  passes tag limited =
+      let many : suc (length d.open_elements) ≡ length d.open_elements + 1 = omega arith in
+      subst (λ n. before.maximum < before.usage + slots item_bytes (max most n) * item_bytes) (sym many)
+      (passes_maximum item_bytes (length d.open_elements) most enough (list_in (stack_in vm)) now before f.some f.word f.charged.0 (many_open s esi vm events f.stands) depth
+      (ap (λ (l : Limiter). l.maximum) f.charged.1) (ap (λ (l : Limiter). l.usage) f.charged.1 ∙ ap (λ n. before.usage + n * item_bytes) depth) limited)
+
+  -- a count that isn't full is below the greatest
+  countable : (last_count (stack_in vm) ≡ full_count → ⊥) → (tag : StartTag) → (element_of d tag).position ≤ greatest_count
+  countable room tag = by_test (nat_lt (last_count (stack_in vm)) full_count) refl
+    where
+      position : (element_of d tag).position ≡ last_count (stack_in vm) + 1
+      position = position_is s esi vm events f.stands tag
+
+      few : (element_of d tag).position ≤ greatest_count + 1
+      few = let c = f.countable (parent_of d.open_elements) in omega (arith, c)
+
+      by_test : (b : Bool) → nat_lt (last_count (stack_in vm)) full_count ≡ b → (element_of d tag).position ≤ greatest_count
+      by_test true less = grind (arith, nat_tests, less, position)
+      by_test false less = absurd (room (grind (arith, nat_tests, less, position, few)))
+
+  abbrev refusal_by : Bool → Bool → Option Cause
+  refusal_by full over = if full then Some Counter else (if over then Some Limit else None)
+
+  tests : (tag : StartTag) (full over : Bool) → nat_lt greatest_count (element_of d tag).position ≡ full
+      → exceeds (allowance_of item_bytes before) (max most (length (after_start d tag (opens s esi events tag)).open_elements)) ≡ over
+      → refusal_after s esi item_bytes before events (Start tag) ≡ refusal_by full over
+  tests tag full over is_full is_over = λ i. refusal_by (is_full i) (is_over i)
+
+  -- whether a start tag is refused, by what the machine has
+  pub not_refused : (tag : StartTag) → (last_count (stack_in vm) ≡ full_count → ⊥) → (opens s esi events tag ≡ true → IsLimited (list_in (stack_in vm)) now → ⊥) → refusal_after s esi item_bytes before events (Start tag) ≡ None
+  not_refused tag room unlimited =
+      let position = countable room tag in
+      let fits = stays (opens s esi events tag) tag unlimited in
+      tests tag false false (grind (arith, nat_tests, position)) (grind (arith, nat_tests, fits))
+
+  pub refused_for : (cause : RunCause) (tag : StartTag) → IsRefusedFor cause s esi events tag vm now → Stops cause (refusal_after s esi item_bytes before events (Start tag))
+  refused_for MemoryLimitExceeded tag h =
+      let position = countable h.2 tag in
+      let over = subst (λ b. before.maximum < before.usage + slots item_bytes (max most (length (after_start d tag b).open_elements)) * item_bytes) (sym h.0) (passes tag h.1) in
+      tests tag false true (grind (arith, nat_tests, position)) (grind (arith, nat_tests, over))
+  refused_for CounterFull tag h =
+      let position = position_is s esi vm events f.stands tag in
+      let full : greatest_count < (element_of d tag).position = omega (arith, position, h) in
+      tests tag true _ (grind (arith, nat_tests, full)) refl
+  refused_for Memory tag h = tt
+
+  -- after an event that isn't refused
+  module _ (event : Event) (none : refusal_after s esi item_bytes before events event ≡ None) where
+    later_document : document s esi (events ++ event ∷ []) ≡ after s esi d event
+    later_document = document_push s esi empty events event
+
+    later_longest : longest s esi (events ++ event ∷ []) ≡ max most (length (after s esi d event).open_elements)
+    later_longest = longest_push s esi empty events event
+
+    slots_later : {new : Vm Started} → slot_bytes new ≡ item_bytes → Stands s esi new (events ++ event ∷ []) → slots_charged new ≡ slots item_bytes (max most (length (after s esi d event).open_elements))
+    slots_later {new} bytes stands =
+        slots_are_of_depth s esi new (events ++ event ∷ []) stands ∙ (λ i. slots (bytes i) (later_longest i))
+
+    fits_later : (e : Event) → refusal_after s esi item_bytes before events e ≡ None → before.usage + slots item_bytes (max most (length (after s esi d e).open_elements)) * item_bytes ≤ before.maximum
+    fits_later (Start tag) none = by_tests (nat_lt greatest_count (element_of d tag).position) (exceeds (allowance_of item_bytes before) (max most (length (after s esi d (Start tag)).open_elements))) refl none
+      where
+        by_tests : (full over : Bool) → exceeds (allowance_of item_bytes before) (max most (length (after s esi d (Start tag)).open_elements)) ≡ over → refusal_by full over ≡ None
+            → before.usage + slots item_bytes (max most (length (after s esi d (Start tag)).open_elements)) * item_bytes ≤ before.maximum
+        by_tests true over is none = cc
+        by_tests false true is none = cc
+        by_tests false false is none = grind (arith, nat_tests, is)
+    fits_later (End name) none =
+        let e = enough in
+        let shorter = length-drop (closed_count (place_of name d.open_elements)) d.open_elements in
+        let is = ap length (outer_is (place_of name d.open_elements) d.open_elements) in
+        let same : most ≡ max most (length (after_end d name).open_elements) = omega (arith, e, shorter, is) in
+        subst (λ n. before.usage + slots item_bytes n * item_bytes ≤ before.maximum) same within
+
+    more_slots_later : (e : Event) → slots item_bytes most ≤ slots item_bytes (max most (length (after s esi d e).open_elements))
+    more_slots_later (Start tag) = by_content (opens s esi events tag)
+      where
+        by_content : (b : Bool) → slots item_bytes most ≤ slots item_bytes (max most (length (after_start d tag b).open_elements))
+        by_content true =
+            let many : suc (length d.open_elements) ≡ length d.open_elements + 1 = omega arith in
+            subst (λ n. slots item_bytes most ≤ slots item_bytes (max most n)) (sym many) (slots_rise item_bytes (length d.open_elements) most enough)
+        by_content false =
+            let e = enough in
+            let same : most ≡ max most (length d.open_elements) = omega (arith, e) in
+            subst (λ n. slots item_bytes most ≤ slots item_bytes n) same (omega arith)
+    more_slots_later (End name) =
+        let e = enough in
+        let shorter = length-drop (closed_count (place_of name d.open_elements)) d.open_elements in
+        let is = ap length (outer_is (place_of name d.open_elements) d.open_elements) in
+        let same : most ≡ max most (length (after_end d name).open_elements) = omega (arith, e, shorter, is) in
+        subst (λ n. slots item_bytes most ≤ slots item_bytes n) same (omega arith)
+
+    -- as many children as before, or one more of the parent, which isn't full
+    countable_later : (e : Event) → refusal_after s esi item_bytes before events e ≡ None → (parent : Option ℕ) → children_of parent (after s esi d e).children ≤ greatest_count
+    countable_later (Start tag) none parent = by_parent (same_parent parent (parent_of d.open_elements)) refl
+      where
+        few : (element_of d tag).position ≤ greatest_count
+        few = by_tests (nat_lt greatest_count (element_of d tag).position) (exceeds (allowance_of item_bytes before) (max most (length (after s esi d (Start tag)).open_elements))) refl none
+          where
+            by_tests : (full over : Bool) → nat_lt greatest_count (element_of d tag).position ≡ full → refusal_by full over ≡ None → (element_of d tag).position ≤ greatest_count
+            by_tests true over is none = cc
+            by_tests false over is none = grind (arith, nat_tests, is)
+
+        counted : children_of parent (after s esi d (Start tag)).children ≡ cond (same_parent parent (parent_of d.open_elements)) 1 0 + children_of parent d.children
+        counted = children-cons parent (record { parent = parent_of d.open_elements; name = tag.name }) d.children
+
+        by_parent : (b : Bool) → same_parent parent (parent_of d.open_elements) ≡ b → children_of parent (after s esi d (Start tag)).children ≤ greatest_count
+        by_parent true same =
+            let own = ap (λ p. children_of p d.children) (parent_is parent (parent_of d.open_elements) same) in
+            let c = counted ∙ ap (λ b. cond b 1 0 + children_of parent d.children) same in
+            omega (arith, own, c, few)
+        by_parent false same =
+            let c = counted ∙ ap (λ b. cond b 1 0 + children_of parent d.children) same in
+            let before = f.countable parent in
+            omega (arith, c, before)
+    countable_later (End name) none parent = f.countable parent
+
+    sum : (old new : ℕ) → old ≤ new → before.usage + old * item_bytes + (new - old) * item_bytes ≡ before.usage + new * item_bytes
+    sum old new rise =
+        let n : new ≡ old + (new - old) = omega (arith, rise) in
+        let e : new * item_bytes ≡ old * item_bytes + (new - old) * item_bytes = ap (λ k. k * item_bytes) n ∙ omega arith in
+        omega (arith, e)
+
+    pub charged_later : (new : Vm Started) (later : Limiter) → Stands s esi new (events ++ event ∷ []) → slot_bytes new ≡ slot_bytes vm → later ≡ charged now ((slots_charged new - slots_charged vm) * slot_bytes vm)
+        → IsCharged item_bytes before new later
+    charged_later new later stands bytes is =
+        let same_bytes = bytes ∙ f.charged.0 in
+        let grown = slots_later {new = new} same_bytes stands in
+        let rise = subst (λ n. n ≤ slots_charged new) (sym depth) (subst (λ n. slots item_bytes most ≤ n) (sym grown) (more_slots_later event)) in (
+          same_bytes,
+          is ∙ ((λ i. charged (f.charged.1 i) ((slots_charged new - slots_charged vm) * f.charged.0 i)) ∙ ap (λ n. record before { usage = n }) (sum (slots_charged vm) (slots_charged new) rise)),
+        )
+
+    pub follows_on : (new : Vm Started) (later : Limiter) → Stands s esi new (events ++ event ∷ []) → slot_bytes new ≡ slot_bytes vm
+        → map (λ (x : Started). x.event) (data_in new) ≡ reverse (map (λ (e : Element). e.number) (after s esi d event).open_elements)
+        → later ≡ charged now ((slots_charged new - slots_charged vm) * slot_bytes vm) → Follows s esi item_bytes before new (events ++ event ∷ []) later
+    follows_on new later stands bytes numbers is =
+        let grown = slots_later {new = new} (bytes ∙ f.charged.0) stands in
+        record {
+          some = f.some;
+          word = f.word;
+          stands = stands;
+          numbers = numbers ∙ sym (ap (λ (d : Document). reverse (map (λ (e : Element). e.number) d.open_elements)) later_document);
+          charged = charged_later new later stands bytes is;
+          within = subst (λ n. before.usage + n * item_bytes ≤ before.maximum) (sym grown) (fits_later event none);
+          countable = λ parent. subst (λ (d : Document). children_of parent d.children ≤ greatest_count) (sym later_document) (countable_later event none parent);
+          fits = fits_on s esi (allowance_of item_bytes before) events f.fits event none;
+        }
+
+  -- where no slots come, nothing more is charged
+  pub uncharged : (new : Vm Started) → slots_charged new ≡ slots_charged vm → now ≡ charged now ((slots_charged new - slots_charged vm) * slot_bytes vm)
+  uncharged new same =
+      let none : slots_charged new - slots_charged vm ≡ 0 = omega (arith, same) in
+      sym (ap (λ n. charged now (n * slot_bytes vm)) none ∙ ap (λ n. record now { usage = n }) (omega arith))
+
+  -- 3. End tags
+
+  module _ (name : List ℕ) where
+    abbrev closing : ℕ
+    closing = closed_count (place_of name d.open_elements)
+
+    abbrev numbers_of : List Element → List ℕ
+    numbers_of elements = map (λ (e : Element). e.number) elements
+
+    open_is : open_after name d.open_elements ≡ drop closing d.open_elements
+    open_is = outer_is (place_of name d.open_elements) d.open_elements
+
+    as_long : (n : ℕ) → length (reverse (drop n (numbers_of d.open_elements))) ≡ length (drop n d.open_elements)
+    as_long n =
+        let shorter = length-drop n (numbers_of d.open_elements) in
+        let same = length-map d.open_elements (λ (e : Element). e.number) in
+        let short = length-drop n d.open_elements in
+        length-reverse (drop n (numbers_of d.open_elements)) ∙ omega (arith, shorter, same, short)
+
+    abbrev kept_data : List Started
+    kept_data = data_in vm
+
+    kept_at : (n : ℕ) → map (λ (x : Started). x.event) (take (length (drop n d.open_elements)) kept_data) ≡ reverse (numbers_of (drop n d.open_elements))
+    kept_at n =
+        sym (take-map (λ (x : Started). x.event) (length (drop n d.open_elements)) kept_data)
+        ∙ (ap (take (length (drop n d.open_elements))) (f.numbers ∙ cut_at n (numbers_of d.open_elements))
+        ∙ (take_at (reverse (drop n (numbers_of d.open_elements))) (reverse (take n (numbers_of d.open_elements))) (length (drop n d.open_elements)) (as_long n)
+        ∙ ap reverse (drop-map (λ (e : Element). e.number) n d.open_elements)))
+
+    handed_at : (n : ℕ) → map (λ (x : Started). x.event) (drop (length (drop n d.open_elements)) kept_data) ≡ reverse (numbers_of (take n d.open_elements))
+    handed_at n =
+        sym (drop-map (λ (x : Started). x.event) (length (drop n d.open_elements)) kept_data)
+        ∙ (ap (drop (length (drop n d.open_elements))) (f.numbers ∙ cut_at n (numbers_of d.open_elements))
+        ∙ (drop_at (reverse (drop n (numbers_of d.open_elements))) (reverse (take n (numbers_of d.open_elements))) (length (drop n d.open_elements)) (as_long n)
+        ∙ ap reverse (take-map (λ (e : Element). e.number) n d.open_elements)))
+
+    inner_is : (o : Option ℕ) → inner_part o d.open_elements ≡ take (closed_count o) d.open_elements
+    inner_is None = refl
+    inner_is (Some place) = refl
+
+    pub numbers_kept : (new : Vm Started) → data_in new ≡ take (length (open_after name d.open_elements)) kept_data → map (λ (x : Started). x.event) (data_in new) ≡ reverse (numbers_of (after s esi d (End name)).open_elements)
+    numbers_kept new kept =
+        ap (map (λ (x : Started). x.event)) (kept ∙ ap (λ (es : List Element). take (length es) kept_data) open_is)
+        ∙ (kept_at closing ∙ ap (λ (es : List Element). reverse (numbers_of es)) (sym open_is))
+
+    pub numbers_handed : map (λ (x : Started). x.event) (drop (length (open_after name d.open_elements)) kept_data) ≡ closed name d
+    numbers_handed =
+        ap (λ (es : List Element). map (λ (x : Started). x.event) (drop (length es) kept_data)) open_is
+        ∙ (handed_at closing ∙ ap (λ (es : List Element). reverse (numbers_of es)) (sym (inner_is (place_of name d.open_elements))))
+
+-- 4. A new machine
+
+pub starts : (s : Selectors) (esi : Bool) (item_bytes : ℕ) (before : Limiter) (vm : Vm Started) → 1 ≤ item_bytes → before.maximum < 2 ^ 64 → before.usage ≤ before.maximum
+    → Stands s esi vm [] → slot_bytes vm ≡ item_bytes → data_in vm ≡ [] → Follows s esi item_bytes before vm [] before
+starts s esi item_bytes before vm some word within stands bytes empty =
+    let none : slots_charged vm * item_bytes ≡ 0 = ap (λ n. n * item_bytes) (slots_are_of_depth s esi vm [] stands) ∙ omega arith in
+    record {
+      some = some;
+      word = word;
+      stands = stands;
+      numbers = ap (map (λ (x : Started). x.event)) empty;
+      charged = (bytes, ap (λ n. record before { usage = n }) (omega (arith, none)));
+      within = omega (arith, none, within);
+      countable = λ parent. omega arith;
+      fits = refl;
+    }
+
+-- what a run charged is charged no more once its machine is released
+pub released : (item_bytes : ℕ) (before : Limiter) (vm : Vm Started) (now : Limiter) → IsCharged item_bytes before vm now
+    → (slots_charged vm * slot_bytes vm ≤ now.usage) × (record now { usage = now.usage - slots_charged vm * slot_bytes vm } ≡ before)
+released item_bytes before vm now charge =
+    let usage : now.usage ≡ before.usage + slots_charged vm * slot_bytes vm = ap (λ (l : Limiter). l.usage) charge.1 ∙ ap (λ n. before.usage + slots_charged vm * n) (sym charge.0) in
+    let same : now.usage - slots_charged vm * slot_bytes vm ≡ before.usage = omega (arith, usage) in
+    (omega (arith, usage), (λ i. record { usage = same i; maximum = (charge.1 i).maximum }))

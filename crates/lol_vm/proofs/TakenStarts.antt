@@ -1,0 +1,215 @@
+-- A start tag, and its rest if that is handed over.
+use Rattle.std.proofs.Common.{◌≡◌, ℕ, ◌+◌, ◌-◌, ◌≤◌, ◌<◌, ◌*◌, Bool, true, false, not, Result, Err, List, [], ◌∷◌, ◌++◌, length, map, reverse, Vec, Option, Some, None, refl, sym, ap, ◌∙◌, subst, arith}
+use Rattle.std.specs.Prelude.{max, ◌&&◌, if◌then◌else◌, ◌↔◌, ◌^◌, ◌⊎◌}
+use Rattle.std.specs.Global.{Global}
+use Rattle.std.proofs.lemmas.List.{length-append, length-map, map_push, reverse-append}
+use Rattle.lol_base.specs.BoolLaws.{and_parts}
+use Rattle.lol_base.specs.LocalNames.{Name}
+use Rattle.lol_base.specs.StartTags.{StartTag}
+use Rattle.lol_memory.specs.Ids.{Ids}
+use Rattle.lol_memory.specs.LimitedVec.{IsLimited}
+use Rattle.lol_memory.specs.Limiter.{Limiter, Passes, charged}
+use Rattle.lol_memory.specs.Slots.{minimum_slots}
+use Rattle.lol_memory.specs.declared.match_info.MatchInfo.{MatchInfo}
+use Rattle.lol_program.specs.Counters.{full_count}
+use Rattle.lol_program.specs.Paths.{Selectors}
+use Rattle.lol_program.specs.Tests.{Element}
+use Rattle.lol_program.specs.Tries.{names_counted, attributes_counted}
+use Rattle.lol_vm.specs.Answers as answers
+use Rattle.lol_vm.specs.Answers.{Answer, Match, answer, asks, attribute_tries, document, is_dropped, name_tries, report}
+use Rattle.lol_vm.specs.Calls.{IsCalledAtEach}
+use Rattle.lol_vm.specs.Documents.{Document, after_start, element_of, empty}
+use Rattle.lol_vm.specs.Events.{Event, Start, has_content}
+use Rattle.lol_vm.specs.Follows.{Follows, Goes, IsCharged, IsDropped, IsTaken, opens}
+use Rattle.lol_vm.specs.Views.{match_of}
+use Rattle.lol_vm.specs.Standing.{StandsFor, unfinished}
+use Rattle.lol_vm.specs.Stacks.{items_in, list_in, last_count}
+use Rattle.lol_vm.specs.Vms.{Vm, Stands, IsAnswered, IsPending, AreOpened, info_of, stack_in, tries_in, data_in, has_failed, slots_charged, slot_bytes}
+use Rattle.lol_vm.specs.declared.error.AuxStartTagInfoRequest.{AuxStartTagInfoRequest}
+use Rattle.lol_vm.specs.declared.error.VmError.{VmError}
+use Rattle.lol_vm.specs.declared.error.VmError.TheVariants.{CounterFull}
+use Rattle.lol_vm.specs.declared.events.TagReport.TheVariants as reports
+use Rattle.lol_vm.specs.declared.stack_item.StackItemOf.{StackItemOf}
+use Rattle.lol_vm.specs.declared.started.Started.{Started}
+use Rattle.lol_vm.proofs.RunSteps.{hasnt_failed, charged_later, follows_on, not_refused}
+use Rattle.lol_vm.proofs.Runs.{events-document}
+
+module _ (s : Selectors) (esi : Bool) (events : List Event) (tag : StartTag) where
+  abbrev asked : Bool
+  asked = asks s (element_of (document s esi events) tag) (document s esi events).open_elements
+
+  pub has_content_if : opens s esi events tag ≡ true → has_content esi tag ≡ true
+  has_content_if h = (and_parts (has_content esi tag) (not (asked && not tag.finish)) h).0
+
+  opens_with : (content a finish : Bool) → content ≡ true → (a && not finish) ≡ false → (content && not (a && not finish)) ≡ true
+  opens_with content a finish has kept = (λ i. has i && not (kept i))
+
+  not_asked : (a finish : Bool) → a ≡ false → (a && not finish) ≡ false
+  not_asked a finish none = λ i. none i && not finish
+
+  handed : (a finish : Bool) → finish ≡ true → (a && not finish) ≡ false
+  handed true finish is = ap not is
+  handed false finish is = refl
+
+  pub opens_unasked : has_content esi tag ≡ true → asked ≡ false → opens s esi events tag ≡ true
+  opens_unasked has none = opens_with (has_content esi tag) asked tag.finish has (not_asked asked tag.finish none)
+
+  pub opens_handed : has_content esi tag ≡ true → tag.finish ≡ true → opens s esi events tag ≡ true
+  opens_handed has is = opens_with (has_content esi tag) asked tag.finish has (handed asked tag.finish is)
+
+  left : (a finish : Bool) → a ≡ true → finish ≡ false → (a && not finish) ≡ true
+  left a finish is none = λ i. is i && not (none i)
+
+  pub is_left : asked ≡ true → tag.finish ≡ false → opens s esi events tag ≡ true → ⊥
+  is_left is none opening = cc_of (left asked tag.finish is none) (and_parts (has_content esi tag) (not (asked && not tag.finish)) opening).1
+    where
+      cc_of : {b : Bool} → b ≡ true → not b ≡ true → ⊥
+      cc_of {b = true} is kept = cc
+      cc_of {b = false} is kept = cc
+
+  pub unfinished_is : tag.finish ≡ false → unfinished tag ≡ tag
+  unfinished_is none = λ i. record { name = tag.name; namespace = tag.namespace; attributes = tag.attributes; self_closing = tag.self_closing; finish = sym none i }
+
+  module _ {E F : Type 0} (ids_of : E → Ids) (old mid : Vm E) (request : AuxStartTagInfoRequest E) (pending : IsPending ids_of s esi events tag mid request) (kept : data_in mid ≡ data_in old) where
+    pub dropped : (f g : F) → tag.finish ≡ false → g ≡ f → IsDropped s esi events tag old mid f g
+    dropped f g none silent = record {
+      dropped = left asked tag.finish pending.asks none;
+      stands = record {
+        paths = pending.paths;
+        machine = pending.machine;
+        closed = pending.closed;
+        shown = pending.shown;
+        standing = subst (λ t. StandsFor s esi pending.paths pending.machine (events ++ Start t ∷ [])) (unfinished_is none) pending.standing;
+      };
+      kept = kept;
+      silent = silent;
+    }
+
+  -- an answer, whose data and handler began as before the request
+  module _ {E F : Type 0} (ids_of : E → Ids) (step : F → MatchInfo → Unit {0} → F → Type 0) (old mid new : Vm E) where
+    pub answered_since : (f g h : F) → data_in mid ≡ data_in old → g ≡ f → IsAnswered ids_of step s esi events tag true mid new g h → IsAnswered ids_of step s esi events tag true old new f h
+    answered_since f g h kept silent a = record {
+      matched = a.matched;
+      answered = a.answered;
+      reported = subst (λ x. IsCalledAtEach step x (map info_of a.matched) h) silent a.reported;
+      stands = a.stands;
+      opened = subst (λ xs. AreOpened ids_of (has_content esi tag) a.matched xs (data_in new)) kept a.opened;
+    }
+
+-- what `IsLimited` looks at
+abbrev Limits : ℕ → ℕ → ℕ → Limiter → Type 0
+Limits many slots bytes l =
+    (slots ≤ many) × ((2 ^ 64 ≤ max slots (minimum_slots bytes) * bytes) ⊎ (2 ^ 64 ≤ slots + max slots (minimum_slots bytes)) ⊎ Passes l (max slots (minimum_slots bytes) * bytes))
+
+module _ {E : Type 0} where
+  -- a counter isn't full where no such refusal was answered
+  pub has_room : (s : Selectors) (esi : Bool) (events : List Event) (vm : Vm E) (result : Result (Unit {0}) (VmError E)) → Stands s esi vm events
+      → (result ≡ Err CounterFull) ↔ ((has_failed vm ≡ false) × (last_count (stack_in vm) ≡ full_count)) → (result ≡ Err CounterFull → ⊥) → last_count (stack_in vm) ≡ full_count → ⊥
+  has_room s esi events vm result stands exact other full = other (exact.1 (hasnt_failed s esi vm events stands, full))
+
+  -- with as many elements and slots, as much can be charged
+  pub limited_since : (old mid : Vm E) (now later : Limiter) → data_in mid ≡ data_in old → slots_charged mid ≡ slots_charged old → slot_bytes mid ≡ slot_bytes old → later ≡ now
+      → IsLimited (list_in (stack_in old)) now → IsLimited (list_in (stack_in mid)) later
+  limited_since old mid now later kept slots bytes same h =
+      let many : length (items_in old.stack) ≡ length (items_in mid.stack) =
+      sym (length-map (items_in old.stack) (λ (x : StackItemOf Name E). x.element_data)) ∙ (ap length (sym kept) ∙ length-map (items_in mid.stack) (λ (x : StackItemOf Name E). x.element_data)) in
+      subst (λ (l : Limiter). Limits (length (items_in mid.stack)) (slots_charged mid) (slot_bytes mid) l) (sym same)
+      (subst (λ b. Limits (length (items_in mid.stack)) (slots_charged mid) b now) (sym bytes)
+      (subst (λ n. Limits (length (items_in mid.stack)) n (slot_bytes old) now) (sym slots)
+      (subst (λ n. Limits n (slots_charged old) (slot_bytes old) now) many h)))
+
+module _ {E F : Type 0} (ids_of : E → Ids) (step : F → MatchInfo → Unit {0} → F → Type 0) (s : Selectors) (esi : Bool) (events : List Event) (tag : StartTag) (old new : Vm E) (f g : F) where
+  pub taken_none : (taken : Option Bool) → taken ≡ None → IsTaken ids_of step s esi events tag taken old new f g → IsDropped s esi events tag old new f g
+  taken_none None is h = h
+  taken_none (Some b) is h = cc
+
+  pub taken_some : (taken : Option Bool) (a : Bool) → taken ≡ Some a → IsTaken ids_of step s esi events tag taken old new f g → IsAnswered ids_of step s esi events tag a old new f g
+  taken_some None a is h = cc
+  taken_some (Some b) a is h = subst (λ b. IsAnswered ids_of step s esi events tag b old new f g) (same b a is) h
+    where
+      same : (b a : Bool) → Some b ≡ Some a → b ≡ a
+      same b a is = cc
+
+  pub taken_stands : (taken : Option Bool) → IsTaken ids_of step s esi events tag taken old new f g → Stands s esi new (events ++ Start tag ∷ [])
+  taken_stands None h = h.stands
+  taken_stands (Some b) h = h.stands
+
+-- What a run makes of it.
+module _ (s : Selectors) (esi : Bool) (item_bytes : ℕ) (before : Limiter) (vm : Vm Started) (events : List Event) (now : Limiter) (f : Follows s esi item_bytes before vm events now) (tag : StartTag) where
+  abbrev d : Document
+  d = document s esi events
+
+  abbrev drops : Bool
+  drops = is_dropped s (element_of d tag) d.open_elements
+
+  abbrev numbers_of : List Element → List ℕ
+  numbers_of elements = map (λ (e : Element). e.number) elements
+
+  abbrev events_of : List Started → List ℕ
+  events_of started = map (λ (x : Started). x.event) started
+
+  abbrev opened_if : Bool → List Element
+  opened_if b = (after_start d tag b).open_elements
+
+  -- the answer, by whether the tag is dropped
+  abbrev told_if : Bool → Answer
+  told_if b =
+      if b then answers.Dropped
+      else answers.Started (report s esi (element_of d tag) d.open_elements) (asks s (element_of d tag) d.open_elements) (name_tries s.nodes d.open_elements) (attribute_tries s.nodes (element_of d tag) d.open_elements)
+
+  told : (b : Bool) → drops ≡ b → answer s esi d (Start tag) ≡ told_if b
+  told b is = ap told_if is
+
+  shown : (matched : List Match) → map match_of (map info_of matched) ≡ matched
+  shown [] = refl
+  shown (m ∷ matched) = ap (λ ms. m ∷ ms) (shown matched)
+
+  opens_nothing : (content drop : Bool) → drop ≡ true → (content && not drop) ≡ false
+  opens_nothing true drop is = ap not is
+  opens_nothing false drop is = refl
+
+  opens_content : (content drop : Bool) → drop ≡ false → (content && not drop) ≡ content
+  opens_content true drop is = ap not is
+  opens_content false drop is = refl
+
+  module _ (new : Vm Started) (later : Limiter) (stands : Stands s esi new (events ++ Start tag ∷ [])) (bytes : slot_bytes new ≡ slot_bytes vm) (charge : later ≡ charged now ((slots_charged new - slots_charged vm) * slot_bytes vm))
+      (room : last_count (stack_in vm) ≡ full_count → ⊥) (unlimited : opens s esi events tag ≡ true → IsLimited (list_in (stack_in vm)) now → ⊥) where
+    goes_on : (b : Bool) → opens s esi events tag ≡ b → events_of (data_in new) ≡ reverse (numbers_of (opened_if b)) → Follows s esi item_bytes before new (events ++ Start tag ∷ []) later
+    goes_on b is numbers =
+        follows_on s esi item_bytes before vm events now f (Start tag) (not_refused s esi item_bytes before vm events now f tag room unlimited) new later stands bytes
+        (numbers ∙ ap (λ b. reverse (numbers_of (opened_if b))) (sym is)) charge
+
+    pub start_charged : IsCharged item_bytes before new later
+    start_charged = charged_later s esi item_bytes before vm events now f (Start tag) (not_refused s esi item_bytes before vm events now f tag room unlimited) new later stands bytes charge
+
+    pub goes_dropped : {F : Type 0} (g h : F) → IsDropped s esi events tag vm new g h → Goes s esi item_bytes before new events (Start tag) later reports.Dropped
+    goes_dropped g h is = record {
+      answered = sym (told true is.dropped);
+      follows = goes_on false (opens_nothing (has_content esi tag) drops is.dropped) (ap events_of is.kept ∙ f.numbers);
+    }
+
+    module _ {F : Type 0} (ids_of : Started → Ids) (step : F → MatchInfo → Unit {0} → F → Type 0) (asked : Bool) (mid : Vm Started) (g h : F) (a : IsAnswered ids_of step s esi events tag asked vm mid g h) (matched : Vec MatchInfo Global)
+        (kept : matched.items ≡ map info_of a.matched) (tries : tries_in new ≡ tries_in mid) (number open_before : ℕ) (place : length events ≡ number) (open_is : open_before ≡ length (data_in vm))
+        (numbered : open_before < length (data_in mid) → (outer : List Started) (last : Started) → data_in mid ≡ outer ++ last ∷ [] → data_in new ≡ outer ++ (record last { event = number }) ∷ [])
+        (unchanged : length (data_in mid) ≤ open_before → data_in new ≡ data_in mid) where
+      isnt_dropped : drops ≡ false
+      isnt_dropped = by_drop drops (sym (told drops refl) ∙ a.answered)
+        where
+          by_drop : (b : Bool) → told_if b ≡ answers.Started a.matched asked (names_counted (tries_in mid)) (attributes_counted (tries_in mid)) → b ≡ false
+          by_drop true is = cc
+          by_drop false is = refl
+
+      numbers : (b : Bool) → AreOpened ids_of b a.matched (data_in vm) (data_in mid) → events_of (data_in new) ≡ reverse (numbers_of (opened_if b))
+      numbers false same = ap events_of (unchanged (let size = ap length same in omega (arith, size, open_is)) ∙ same) ∙ f.numbers
+      numbers true (w, one, ids) =
+          let size = ap length one ∙ length-append (data_in vm) (w ∷ []) in
+          let events_before : d.events ≡ number = events-document s esi empty events ∙ omega (arith, place) in
+          ap events_of (numbered (omega (arith, size, open_is)) (data_in vm) w one)
+          ∙ (map_push (λ (x : Started). x.event) (data_in vm) (record w { event = number })
+          ∙ ((λ i. f.numbers i ++ sym events_before i ∷ []) ∙ sym (reverse-append (d.events ∷ []) (numbers_of d.open_elements))))
+
+      pub goes_started : Goes s esi item_bytes before new events (Start tag) later (reports.Started matched asked (tries_in new))
+      goes_started = record {
+        answered = (λ i. answers.Started ((ap (map match_of) kept ∙ shown a.matched) i) asked (names_counted (tries i)) (attributes_counted (tries i))) ∙ sym a.answered;
+        follows = goes_on (has_content esi tag) (opens_content (has_content esi tag) drops isnt_dropped) (numbers (has_content esi tag) a.opened);
+      }
