@@ -72,7 +72,7 @@ fn answers_tags(rt: HostRuntime) -> Result<(), Fail> {
         match_id: 0,
         with_content: true,
     };
-    let wanted: [(&[MatchInfo], usize); 3] = [(&[], 1), (&[], 3), (&[found], 2)];
+    let wanted: [(&[MatchInfo], u64); 3] = [(&[], 1), (&[], 3), (&[found], 2)];
     assert_eq!(rt; reports.len(), 4);
     for (report, (infos, names)) in reports.iter().zip(wanted) {
         let TagReport::Started {
