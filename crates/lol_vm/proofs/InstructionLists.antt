@@ -17,7 +17,7 @@ use Rattle.lol_program.specs.Running.{tries_of_attributes}
 use Rattle.lol_program.specs.declared.name_value.NameValue.{NameValue}
 use Rattle.lol_program.specs.declared.name_value.NameValue.TheVariants.{True, False, Open}
 use Rattle.lol_program.specs.declared.instruction.Instruction.{Instruction}
-use Rattle.lol_vm.specs.InstructionRuns.{value_seen, holds_seen, is_true, with_branch_if, open_among, first_open_from, gathered_by_names, gathered_with_attributes, instructions_at, all_at, no_range, AreRunnable, IsInsideOf, HasTriesLeft, ranges_in, ranges_from, IsStopIn}
+use Rattle.lol_vm.specs.InstructionRuns.{HaveSmallIds, value_seen, holds_seen, is_true, with_branch_if, open_among, first_open_from, gathered_by_names, gathered_with_attributes, instructions_at, all_at, no_range, AreRunnable, IsInsideOf, HasTriesLeft, ranges_in, ranges_from, IsStopIn}
 use Rattle.lol_vm.specs.declared.instruction_runs.Stop.{Stop}
 use Rattle.lol_vm.specs.declared.execution_ctx.ExecutionCtx.{ExecutionCtx}
 
@@ -108,6 +108,9 @@ open_first s i instructions = omega (arith, open_among-append s (i ∷ []) instr
 
 pub open_split : (s : Sight) (all : List Instruction) (i : Instruction) (others : List Instruction) → all ≡ i ∷ others → open_among s all ≡ tries_of_attributes (value_seen s i) + open_among s others
 open_split s all i others is = ap (open_among s) is ∙ open_first s i others
+
+pub small_rest : (i : Instruction) (others : List Instruction) → HaveSmallIds (i ∷ others) → HaveSmallIds others
+small_rest i others small = λ k d within. small (suc k) d (omega (arith, within))
 
 module _ (instructions : List Instruction) (ranges : List (Range ℕ)) (at : ℕ) (within : at < length ranges) where
   -- the range at the place

@@ -2,7 +2,7 @@
 use Rattle.std.specs.Prelude.{ℕ, ◌+◌, Bool, true, false, if◌then◌else◌, ◌≤◌, List, [], ◌∷◌, take, drop, map, get_or, length, All, flat_map, ◌<◌, ◌^◌, count_by, Option, Some, None}
 use Rattle.std.specs.List.{slice_range}
 use Rattle.std.specs.declared.ops.Range.{Range}
-use Rattle.lol_memory.specs.Ids.{Ids}
+use Rattle.lol_memory.specs.Ids.{Ids, AllSmall}
 use Rattle.lol_program.specs.Attributes.{TagAttributes}
 use Rattle.lol_program.specs.Compiled.{Sight, predicate_value, predicate_holds}
 use Rattle.lol_program.specs.Compounds.{is_open}
@@ -73,6 +73,10 @@ place_in instructions ranges (Some stop) = Some (length (all_at instructions (ta
 -- what stands where no range does
 abbrev pub no_range : Range ℕ
 no_range = record { start = 0; end = 0 }
+
+-- each id that the instructions give is below 32
+abbrev pub HaveSmallIds : List Instruction → Type 0
+HaveSmallIds instructions = All (λ i. AllSmall i.associated_branch.matched_ids) instructions
 
 -- the range and the instruction of a stop are there
 abbrev pub IsStopIn : List Instruction → List (Range ℕ) → Stop → Type 0

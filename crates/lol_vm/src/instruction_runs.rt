@@ -1,9 +1,9 @@
 //! Running instructions for a start tag, one after the other.
 
-ghost use Rattle.std.specs.Prelude.{◌≡◌, ◌+◌, ◌-◌, ◌≤◌, IfOk, Ok, Some, length};
+ghost use Rattle.std.specs.Prelude.{◌≡◌, ◌+◌, ◌-◌, ◌≤◌, IfOk, IsOk, Ok, Some, false, length};
 ghost use Rattle.lol_program.specs.Compiled.{sight};
 ghost use Rattle.lol_program.specs.Tries.{names_counted, attributes_counted};
-ghost use Rattle.lol_vm.specs.InstructionRuns.{AreRunnable, all_at, place_in, IsStopIn, HasTriesLeft, IsInsideOf, ranges_in, ranges_from, instructions_at, open_among, first_open_from, tried_until, gathered_by_names, gathered_with_attributes};
+ghost use Rattle.lol_vm.specs.InstructionRuns.{AreRunnable, HaveSmallIds, all_at, place_in, IsStopIn, HasTriesLeft, IsInsideOf, ranges_in, ranges_from, instructions_at, open_among, first_open_from, tried_until, gathered_by_names, gathered_with_attributes};
 
 use crate::element_data::ElementData;
 use crate::execution_ctx::ExecutionCtx;
@@ -30,6 +30,8 @@ pub(crate) fn try_instructions<E: ElementData>(
     ensures names_bound { names_counted tries.new ≤ names_counted tries.old + length instructions.now }
     ensures attributes { attributes_counted tries.new ≡ attributes_counted tries.old }
     ensures name { ctx.new.stack_item.local_name ≡ ctx.old.stack_item.local_name }
+    ensures content { ctx.new.with_content ≡ ctx.old.with_content }
+    ensures free { ctx.old.with_content ≡ false → HaveSmallIds instructions.now → IsOk result }
 {
     for (at, instruction) in instructions.iter().enumerate() {
         let name = &ctx.stack_item.local_name;
@@ -60,6 +62,8 @@ pub(crate) fn exec_instructions<E: ElementData>(
     ensures names_bound { names_counted tries.new ≤ names_counted tries.old + length instructions.now }
     ensures attributes_bound { attributes_counted tries.new ≤ attributes_counted tries.old + length instructions.now }
     ensures name { ctx.new.stack_item.local_name ≡ ctx.old.stack_item.local_name }
+    ensures content { ctx.new.with_content ≡ ctx.old.with_content }
+    ensures free { ctx.old.with_content ≡ false → HaveSmallIds instructions.now → IsOk result }
 {
     for instruction in instructions {
         let name = &ctx.stack_item.local_name;
@@ -79,6 +83,7 @@ fn instructions_in<'p>(
 ) -> &'p [Instruction]
     ensures value { IsInsideOf instructions.now range.now → HasTriesLeft tries.now (range.now.end - range.now.start) → result.now ≡ instructions_at instructions.now range.now }
     ensures room { HasTriesLeft tries.now (length result.now) }
+    ensures small { HaveSmallIds instructions.now → HaveSmallIds result.now }
 {
     let (names, attributes) = (tries.names(), tries.attributes());
     if range.start > range.end || range.end > instructions.len() {
@@ -114,6 +119,8 @@ pub(crate) fn try_ranges<E: ElementData>(
     ensures names { AreRunnable instructions.now ranges.now tries.old → IfOk result (λ stop. names_counted tries.new ≡ names_counted tries.old + tried_until (place_in instructions.now ranges.now stop) (length (all_at instructions.now ranges.now))) }
     ensures attributes { attributes_counted tries.new ≡ attributes_counted tries.old }
     ensures name { ctx.new.stack_item.local_name ≡ ctx.old.stack_item.local_name }
+    ensures content { ctx.new.with_content ≡ ctx.old.with_content }
+    ensures free { ctx.old.with_content ≡ false → HaveSmallIds instructions.now → IsOk result }
 {
     for (at, range) in ranges.iter().enumerate() {
         let part = instructions_in(instructions, range, tries);
@@ -139,6 +146,8 @@ pub(crate) fn exec_ranges<E: ElementData>(
     ensures names { AreRunnable instructions.now ranges.now tries.old → IfOk result (λ done. names_counted tries.new ≡ names_counted tries.old + length (all_at instructions.now ranges.now)) }
     ensures attributes { AreRunnable instructions.now ranges.now tries.old → IfOk result (λ done. attributes_counted tries.new ≡ attributes_counted tries.old + open_among (sight state.now ctx.old.stack_item.local_name) (all_at instructions.now ranges.now)) }
     ensures name { ctx.new.stack_item.local_name ≡ ctx.old.stack_item.local_name }
+    ensures content { ctx.new.with_content ≡ ctx.old.with_content }
+    ensures free { ctx.old.with_content ≡ false → HaveSmallIds instructions.now → IsOk result }
 {
     for range in ranges {
         let part = instructions_in(instructions, range, tries);
@@ -163,6 +172,8 @@ pub(crate) fn try_active<E: ElementData>(
     ensures names { AreRunnable instructions.now (ranges_in active.now) tries.old → IfOk result (λ stop. names_counted tries.new ≡ names_counted tries.old + tried_until (place_in instructions.now (ranges_in active.now) stop) (length (all_at instructions.now (ranges_in active.now)))) }
     ensures attributes { attributes_counted tries.new ≡ attributes_counted tries.old }
     ensures name { ctx.new.stack_item.local_name ≡ ctx.old.stack_item.local_name }
+    ensures content { ctx.new.with_content ≡ ctx.old.with_content }
+    ensures free { ctx.old.with_content ≡ false → HaveSmallIds instructions.now → IsOk result }
 {
     for (at, active_range) in active.iter().enumerate() {
         let part = instructions_in(instructions, &active_range.0, tries);
@@ -188,6 +199,8 @@ pub(crate) fn exec_active<E: ElementData>(
     ensures names { AreRunnable instructions.now (ranges_in active.now) tries.old → IfOk result (λ done. names_counted tries.new ≡ names_counted tries.old + length (all_at instructions.now (ranges_in active.now))) }
     ensures attributes { AreRunnable instructions.now (ranges_in active.now) tries.old → IfOk result (λ done. attributes_counted tries.new ≡ attributes_counted tries.old + open_among (sight state.now ctx.old.stack_item.local_name) (all_at instructions.now (ranges_in active.now))) }
     ensures name { ctx.new.stack_item.local_name ≡ ctx.old.stack_item.local_name }
+    ensures content { ctx.new.with_content ≡ ctx.old.with_content }
+    ensures free { ctx.old.with_content ≡ false → HaveSmallIds instructions.now → IsOk result }
 {
     for active_range in active {
         let part = instructions_in(instructions, &active_range.0, tries);
@@ -215,6 +228,8 @@ pub(crate) fn complete_instructions<E: ElementData>(
     ensures names_bound { names_counted tries.new ≤ names_counted tries.old + length instructions.now }
     ensures attributes_bound { attributes_counted tries.new ≤ attributes_counted tries.old + length instructions.now }
     ensures name { ctx.new.stack_item.local_name ≡ ctx.old.stack_item.local_name }
+    ensures content { ctx.new.with_content ≡ ctx.old.with_content }
+    ensures free { ctx.old.with_content ≡ false → HaveSmallIds instructions.now → IsOk result }
 {
     let Some((first, others)) = instructions.split_first() else {
         return Ok(());
@@ -251,6 +266,8 @@ pub(crate) fn complete_ranges<E: ElementData>(
     ensures names { IsStopIn instructions.now ranges.now stop → AreRunnable instructions.now (ranges_from ranges.now stop) tries.old → IfOk result (λ done. names_counted tries.new + 1 ≡ names_counted tries.old + length (all_at instructions.now (ranges_from ranges.now stop))) }
     ensures attributes { IsStopIn instructions.now ranges.now stop → AreRunnable instructions.now (ranges_from ranges.now stop) tries.old → IfOk result (λ done. attributes_counted tries.new ≡ attributes_counted tries.old + open_among (sight state.now ctx.old.stack_item.local_name) (all_at instructions.now (ranges_from ranges.now stop))) }
     ensures name { ctx.new.stack_item.local_name ≡ ctx.old.stack_item.local_name }
+    ensures content { ctx.new.with_content ≡ ctx.old.with_content }
+    ensures free { ctx.old.with_content ≡ false → HaveSmallIds instructions.now → IsOk result }
 {
     if stop.range >= ranges.len() {
         return Ok(());
@@ -279,6 +296,8 @@ pub(crate) fn complete_active<E: ElementData>(
     ensures names { IsStopIn instructions.now (ranges_in active.now) stop → AreRunnable instructions.now (ranges_from (ranges_in active.now) stop) tries.old → IfOk result (λ done. names_counted tries.new + 1 ≡ names_counted tries.old + length (all_at instructions.now (ranges_from (ranges_in active.now) stop))) }
     ensures attributes { IsStopIn instructions.now (ranges_in active.now) stop → AreRunnable instructions.now (ranges_from (ranges_in active.now) stop) tries.old → IfOk result (λ done. attributes_counted tries.new ≡ attributes_counted tries.old + open_among (sight state.now ctx.old.stack_item.local_name) (all_at instructions.now (ranges_from (ranges_in active.now) stop))) }
     ensures name { ctx.new.stack_item.local_name ≡ ctx.old.stack_item.local_name }
+    ensures content { ctx.new.with_content ≡ ctx.old.with_content }
+    ensures free { ctx.old.with_content ≡ false → HaveSmallIds instructions.now → IsOk result }
 {
     if stop.range >= active.len() {
         return Ok(());

@@ -2,6 +2,7 @@
 
 ghost use Rattle.std.specs.Prelude.{◌≡◌, IsNone, IfOk, IsOk, OnOk, OnErr};
 ghost use Rattle.std.specs.Borrow.{sem};
+ghost use Rattle.lol_memory.specs.Ids.{AllSmall};
 ghost use Rattle.lol_vm.specs.Contexts.{IsNewItem, with_ranges, with_more_ids};
 ghost use Rattle.lol_vm.specs.declared.stack_item.StackItemOf.{StackItemOf};
 
@@ -68,9 +69,10 @@ impl<N, E: ElementData> StackItemOf<N, E> {
         }
     }
 
-    /// Adds ids to those of the element's data.
+    /// Adds ids to those of the element's data. Ids below 32 alone take no memory.
     pub(crate) fn add_ids(&mut self, ids: &DenseHashSet) -> Result<(), AllocError>
         ensures ok { OnOk result (self.new ≡ with_more_ids E.ids E.with_ids self.old ids.now) }
+        ensures free { AllSmall ids.now → IsOk result }
         ensures err { OnErr result (self.new ≡ self.old) }
     {
         let element_data = &mut self.element_data;

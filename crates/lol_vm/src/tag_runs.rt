@@ -1,9 +1,9 @@
 //! Running what a start tag is run through: the entry points, the last open element's jumps, and the active hereditary jumps.
 
-ghost use Rattle.std.specs.Prelude.{◌≡◌, ◌<◌, ◌^◌, length, IfOk, IfSome, IsSome};
+ghost use Rattle.std.specs.Prelude.{◌≡◌, ◌<◌, ◌^◌, length, IfOk, IfSome, IsOk, IsSome, false};
 ghost use Rattle.lol_program.specs.Compiled.{sight};
 ghost use Rattle.lol_program.specs.Tries.{attributes_counted};
-ghost use Rattle.lol_vm.specs.InstructionRuns.{AreRunnable, ranges_in};
+ghost use Rattle.lol_vm.specs.InstructionRuns.{AreRunnable, HaveSmallIds, ranges_in};
 ghost use Rattle.lol_vm.specs.Stacks.{active_in};
 ghost use Rattle.lol_vm.specs.TagRuns.{ranges_of, stop_of, stop_if, left_of, tried_at, IsPointOf, IsPointIn, AreTried, AreExecuted, jumps_in, ranges_to_run_in, sight_in, stop_at, stop_found, ranges_left};
 
@@ -53,6 +53,8 @@ fn try_ranges_of_tag<E: ElementData>(
     ensures stop { IfOk result (λ point. IsSome point → IsSome (stop_if ranges.now point)) }
     ensures attributes { attributes_counted tries.new ≡ attributes_counted tries.old }
     ensures name { ctx.new.stack_item.local_name ≡ ctx.old.stack_item.local_name }
+    ensures content { ctx.new.with_content ≡ ctx.old.with_content }
+    ensures free { ctx.old.with_content ≡ false → HaveSmallIds instructions.now → IsOk result }
 {
     let entry_points = slice::from_ref(ranges.entry_points);
     if let Some(stop) = try_ranges(instructions, entry_points, state, alloc, ctx, tries)? {
@@ -82,6 +84,8 @@ fn complete_ranges_of_tag<E: ElementData>(
 ) -> Result<(), AllocError>
     ensures executed { IsPointOf instructions.now ranges.now point → AreRunnable instructions.now (left_of ranges.now point) tries.old → IfOk result (λ done. AreExecuted E.ids E.with_ids (sight state.now ctx.old.stack_item.local_name) instructions.now (left_of ranges.now point) ctx.old ctx.new tries.old tries.new matcher.now (tried_at (stop_of ranges.now point))) }
     ensures name { ctx.new.stack_item.local_name ≡ ctx.old.stack_item.local_name }
+    ensures content { ctx.new.with_content ≡ ctx.old.with_content }
+    ensures free { ctx.old.with_content ≡ false → HaveSmallIds instructions.now → IsOk result }
 {
     let entry_points = slice::from_ref(ranges.entry_points);
     let jumps = ranges.jumps;
@@ -159,6 +163,8 @@ pub(crate) fn try_tag<'s, 'i: 's, E: ElementData>(
     ensures attributes { attributes_counted tries.new ≡ attributes_counted tries.old }
     ensures size { length program.now.instructions.items < 2 ^ 63 }
     ensures name { ctx.new.stack_item.local_name ≡ ctx.old.stack_item.local_name }
+    ensures content { ctx.new.with_content ≡ ctx.old.with_content }
+    ensures free { ctx.old.with_content ≡ false → HaveSmallIds program.now.instructions.items → IsOk result }
 {
     let state = stack.build_state(&ctx.stack_item.local_name);
     let ranges = TagRanges {
@@ -183,6 +189,8 @@ pub(crate) fn complete_tag<'s, 'i: 's, E: ElementData>(
     ensures executed { IsPointIn program.now.instructions.items program.now.entry_points (jumps_in stack.now) (ranges_in (active_in stack.now)) point → AreRunnable program.now.instructions.items (ranges_left (ranges_to_run_in program.now stack.now) (stop_at program.now.entry_points (jumps_in stack.now) point)) tries.old → IfOk result (λ done. AreExecuted E.ids E.with_ids (sight_in stack.now ctx.old.stack_item.local_name) program.now.instructions.items (ranges_left (ranges_to_run_in program.now stack.now) (stop_at program.now.entry_points (jumps_in stack.now) point)) ctx.old ctx.new tries.old tries.new matcher.now (tried_at (stop_at program.now.entry_points (jumps_in stack.now) point))) }
     ensures size { length program.now.instructions.items < 2 ^ 63 }
     ensures name { ctx.new.stack_item.local_name ≡ ctx.old.stack_item.local_name }
+    ensures content { ctx.new.with_content ≡ ctx.old.with_content }
+    ensures free { ctx.old.with_content ≡ false → HaveSmallIds program.now.instructions.items → IsOk result }
 {
     let state = stack.build_state(&ctx.stack_item.local_name);
     let ranges = TagRanges {

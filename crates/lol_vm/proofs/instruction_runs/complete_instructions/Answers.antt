@@ -1,10 +1,10 @@
-use Rattle.std.proofs.Common.{◌≡◌, ◌+◌, ◌∷◌, arith, ap, rules}
+use Rattle.std.proofs.Common.{◌≡◌, ◌+◌, ◌∷◌, ◌∙◌, arith, ap, rules, subst}
 use Rattle.std.proofs.lemmas.Grind.{common_steps}
 use Rattle.std.proofs.lemmas.Result.{IfOk-weaker}
 use Rattle.lol_program.specs.Compiled.{sight}
 use Rattle.lol_program.specs.Tries.{attributes_counted}
-use Rattle.lol_vm.specs.InstructionRuns.{open_among}
-use Rattle.lol_vm.proofs.InstructionLists.{open_split}
+use Rattle.lol_vm.specs.InstructionRuns.{HaveSmallIds, open_among}
+use Rattle.lol_vm.proofs.InstructionLists.{open_split, small_rest}
 use Rattle.lol_vm.proofs.instruction_runs.complete_instructions.Goals as goal
 use Rattle.lol_vm.proofs.instruction_runs.complete_instructions.Goals.{in-Some-complete_exec_with_attrs+in_ok-add_execution_branch, in_default-complete_exec_with_attrs}
 
@@ -27,3 +27,15 @@ returns-clause-attributes g c =
     (λ done counted.
     omega (arith, counted, c.complete_exec_with_attrs.ensures.attributes, open_split s all c.in-Some.first.now others split, ap (λ n. open_among (sight c.args.state.now n) others) name))
     c.exec_instructions.ensures.attributes
+
+pub returns-clause-free : goal.returns-clause-free
+returns-clause-free g c = λ without small.
+    let all = c.args.instructions.now in
+    let others = c.in-Some.others.now in
+    let split : all ≡ c.in-Some.first.now ∷ others = search rules in
+    let content : c.match-complete_exec_with_attrs.ctx.with_content ≡ c.args.ctx.now.with_content =
+    elim c.match-complete_exec_with_attrs.branch [
+      | in-Some-complete_exec_with_attrs+in_ok-add_execution_branch w ↦ grind (arith, common_steps, w.ctx-is, w.in_ok-add_execution_branch.ensures)
+      | in_default-complete_exec_with_attrs w ↦ ap (λ x. x.with_content) w.ctx-is
+    ] in
+    c.exec_instructions.ensures.free (content ∙ without) (small_rest c.in-Some.first.now others (subst HaveSmallIds split small))

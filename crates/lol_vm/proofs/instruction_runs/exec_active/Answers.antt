@@ -28,6 +28,7 @@ loop-active_range-preserved g c =
       names = λ runnable. omega (arith, told.names, so_far.names runnable, length_next all ranges at within part (is runnable));
       attributes = λ runnable. omega (arith, told.attributes, so_far.attributes runnable, open_next all ranges at within part (is runnable) t s same);
       name = told.name ∙ so_far.name;
+      content = told.content ∙ so_far.content;
       rest = λ runnable.
           attributes_next all ranges at within part (is runnable) t s same g.E.ElementData.ids g.E.ElementData.with_ids
           (gathered_with_attributes g.E.ElementData.ids g.E.ElementData.with_ids s c.args.matcher.now c.args.ctx.now (all_at all ranges))

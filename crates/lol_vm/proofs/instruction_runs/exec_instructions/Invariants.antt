@@ -14,6 +14,7 @@ invariant-loop-instruction g l =
       attributes : attributes_counted l.tries ≡ attributes_counted l.fn.tries + open_among s (take l.instruction-index l.instructions);
       within : attributes_counted l.tries ≤ attributes_counted l.fn.tries + l.instruction-index;
       name : l.ctx.stack_item.local_name ≡ l.fn.ctx.stack_item.local_name;
+      content : l.ctx.with_content ≡ l.fn.ctx.with_content;
       rest :
           gathered_with_attributes ids with_ids s l.matcher l.fn.ctx l.instructions
           ≡ gathered_with_attributes ids with_ids s l.matcher l.ctx (drop l.instruction-index l.instructions);

@@ -16,6 +16,7 @@ invariant-loop-range g l =
       names : runnable → names_counted l.tries ≡ names_counted l.fn.tries + length before;
       attributes : runnable → attributes_counted l.tries ≡ attributes_counted l.fn.tries + open_among s before;
       name : l.ctx.stack_item.local_name ≡ l.fn.ctx.stack_item.local_name;
+      content : l.ctx.with_content ≡ l.fn.ctx.with_content;
       rest :
           runnable
           → gathered_with_attributes ids with_ids s l.matcher l.fn.ctx (all_at l.instructions l.ranges)

@@ -32,6 +32,7 @@ loop-at-preserved g c =
       names = λ runnable. omega (arith, passed, so_far.names runnable, length_next all ranges at within part (is runnable));
       attributes = told.attributes ∙ so_far.attributes;
       name = told.name ∙ so_far.name;
+      content = told.content ∙ so_far.content;
       stop = λ runnable. stop_next all ranges at within part (is runnable) t s same (first_open_from s 0 (all_at all ranges)) (so_far.stop runnable) none;
       rest = λ runnable.
           names_next all ranges at within part (is runnable) t s same g.E.ElementData.ids g.E.ElementData.with_ids _ c.loop-at.ctx c.try_instructions.new.ctx

@@ -13,6 +13,7 @@ invariant-loop-at g l =
       names : names_counted l.tries ≡ names_counted l.fn.tries + l.at;
       attributes : attributes_counted l.tries ≡ attributes_counted l.fn.tries;
       name : l.ctx.stack_item.local_name ≡ l.fn.ctx.stack_item.local_name;
+      content : l.ctx.with_content ≡ l.fn.ctx.with_content;
       stop : first_open_from s 0 l.instructions ≡ first_open_from s l.at (drop l.at l.instructions);
       rest :
           gathered_by_names ids with_ids s l.fn.ctx l.instructions

@@ -16,6 +16,7 @@ invariant-loop-at g l =
       names : runnable → names_counted l.tries ≡ names_counted l.fn.tries + length before;
       attributes : attributes_counted l.tries ≡ attributes_counted l.fn.tries;
       name : l.ctx.stack_item.local_name ≡ l.fn.ctx.stack_item.local_name;
+      content : l.ctx.with_content ≡ l.fn.ctx.with_content;
       stop : runnable → first_open_from s 0 (all_at l.instructions l.ranges) ≡ first_open_from s (length before) after;
       rest : runnable → gathered_by_names ids with_ids s l.fn.ctx (all_at l.instructions l.ranges) ≡ gathered_by_names ids with_ids s l.ctx after;
     }
