@@ -5,6 +5,7 @@ mod Directives
 mod VmFinishes
 mod VmRefusals
 mod VmData
+mod FreeTags
 pub mod Trees
 pub mod Runs
 pub mod RefusedRuns

@@ -10,6 +10,7 @@ pub mod VmErrors
 pub mod Vms
 pub mod Collecting
 pub mod Follows
+pub mod FreeTags
 pub mod VmLaws
 pub mod InstructionRuns
 pub mod Laws

@@ -1,6 +1,6 @@
 //! The open elements.
 
-ghost use Rattle.std.specs.Prelude.{◌≡◌, ◌*◌, ◌<◌, ◌≤◌, ◌-◌, ◌↔◌, length, OnOk, OnErr, IsSome, IfSome, IsErrOf, slice_get, Ok, Err, Some, None, List, [], ℕ, drop, take, map, if◌then◌else◌};
+ghost use Rattle.std.specs.Prelude.{◌≡◌, ◌*◌, ◌<◌, ◌≤◌, ◌-◌, ◌↔◌, length, OnOk, OnErr, IsOk, IsSome, IsNone, IfSome, IsErrOf, slice_get, Ok, Err, Some, None, List, [], ℕ, drop, take, map, if◌then◌else◌};
 ghost use Rattle.std.specs.Option.{option_copied, option_copied_mut, option_map};
 ghost use Rattle.std.specs.Borrow.{sem};
 ghost use Rattle.lol_base.specs.LocalNames.{Name, local_name};
@@ -128,12 +128,14 @@ impl<E> StackOf<LocalName<'static>, StackNames, E> {
     }
 
     /// Counts a child of this name of the last open element, or of the root. It answers `CounterFull` exactly if the parent's counter is
-    /// full, and `Memory` only where the memory for a counter by type isn't there. Refused, nothing has changed.
+    /// full, and `Memory` only where the memory for a counter by type isn't there: never where children aren't counted by type. Refused,
+    /// nothing has changed.
     pub fn add_child(&mut self, name: &LocalName<'_>) -> Result<(), AddChildError>
         ensures ok { OnOk result (self.new ≡ counted_in self.old name.now) }
         ensures slots { KeepsSlots self.old self.new }
         ensures full { (result ≡ Err AddChildError.CounterFull) ↔ (last_count self.old ≡ full_count) }
         ensures room { OnOk result (last_count self.old < full_count) }
+        ensures free { IsNone (typed_in self.old) → OnErr result (result ≡ Err AddChildError.CounterFull) }
         ensures err { OnErr result (self.new ≡ self.old) }
     {
         if self.child_counter().is_full() {
@@ -288,6 +290,7 @@ impl StackNames {
     /// Counts a child by type at a level, where children are counted so.
     fn count_child(&mut self, name: &LocalName<'_>, level: usize) -> Result<(), AllocError>
         ensures ok { OnOk result (self.new ≡ record self.old { typed_child_counters = option_map (λ ts. counted_by_type ts level name.now) self.old.typed_child_counters }) }
+        ensures free { IsNone self.old.typed_child_counters → IsOk result }
         ensures err { OnErr result (self.new ≡ self.old) }
     {
         match &mut self.typed_child_counters {

@@ -13,6 +13,7 @@ ghost use Rattle.lol_program.specs.Tests.{Element};
 ghost use Rattle.lol_program.specs.Tries.{names_counted, attributes_counted};
 ghost use Rattle.lol_vm.specs.Calls.{IsCalledAtEach, reports};
 ghost use Rattle.lol_vm.specs.Events.{Event, End, has_content};
+ghost use Rattle.lol_vm.specs.FreeTags.{TakesNoMemory, IsAskedOrFull};
 ghost use Rattle.lol_vm.specs.StackLending.{lends_current_of_vm};
 ghost use Rattle.lol_vm.specs.Stacks.{items_in, slots_in, list_in, last_count};
 ghost use Rattle.lol_vm.specs.Views.{selectors};
@@ -117,7 +118,8 @@ impl<E: ElementData> VmOf<Program, LocalName<'static>, StackNames, E> {
     /// # Errors
     /// `Failed` exactly after a refusal; else `CounterFull` exactly if the parent has as many children as can be counted;
     /// `MemoryLimitExceeded` only where the element can't be charged, after its reports; `Memory` only where memory is refused, after all
-    /// reports or none; else `InfoRequest`, which refuses nothing.
+    /// reports or none; else `InfoRequest`, which refuses nothing. A void element of HTML takes no memory where ids are below 32 and no
+    /// test is by type (`TakesNoMemory`): neither it nor its finishing is ever refused for memory.
     pub fn exec_for_start_tag<F: FnMut(MatchInfo)>(
         &mut self,
         local_name: LocalName<'_>,
@@ -147,6 +149,8 @@ impl<E: ElementData> VmOf<Program, LocalName<'static>, StackNames, E> {
             → (has_content esi tag ≡ true) × IsReported F.step s esi events tag false (tries_in self.new) match_handler.old match_handler.new }
         ensures unlimited { OnOk result ((s : Selectors) (esi : Bool) (events : List Event) (tag : StartTag) → Stands s esi self.old events → IsTagOf local_name.entry ns tag
             → has_content esi tag ≡ true → IsLimited (list_in (stack_in self.old)) limiter.old → ⊥) }
+        ensures free { (error : VmError E) → result ≡ Err error → (s : Selectors) (esi : Bool) (events : List Event) (tag : StartTag) → Stands s esi self.old events → IsTagOf local_name.entry ns tag
+            → TakesNoMemory s tag → IsAskedOrFull error }
     {
         if self.failed {
             return Err(VmError::Failed);
@@ -238,7 +242,7 @@ impl<E: ElementData> VmOf<Program, LocalName<'static>, StackNames, E> {
     ///
     /// # Errors
     /// `Limit` only where the element can't be charged, after its reports; `Memory` only where memory is refused, after all reports or
-    /// none.
+    /// none. A start tag that takes no memory (`TakesNoMemory`) is never refused.
     pub fn finish_start_tag<F: FnMut(MatchInfo)>(
         &mut self,
         request: AuxStartTagInfoRequest<E>,
@@ -263,6 +267,7 @@ impl<E: ElementData> VmOf<Program, LocalName<'static>, StackNames, E> {
             → (has_content esi tag ≡ true) × IsReported F.step s esi events tag true (tries_in self.new) match_handler.old match_handler.new }
         ensures unlimited { OnOk result ((s : Selectors) (esi : Bool) (events : List Event) (tag : StartTag) → IsPending E.ids s esi events tag self.old request → IsRestOf aux_info.entry tag
             → has_content esi tag ≡ true → IsLimited (list_in (stack_in self.old)) limiter.old → ⊥) }
+        ensures free { (s : Selectors) (esi : Bool) (events : List Event) (tag : StartTag) → IsPending E.ids s esi events tag self.old request → TakesNoMemory s tag → IsOk result }
     {
         let AuxStartTagInfoRequest { ctx, point } = request;
         let mut ctx = ctx;

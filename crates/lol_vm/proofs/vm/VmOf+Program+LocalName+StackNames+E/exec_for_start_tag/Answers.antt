@@ -1,12 +1,12 @@
 use Rattle.std.proofs.Common.{◌≡◌, true, false, true, Ok, refl, sym, ap, ◌∙◌, subst}
 use Rattle.std.specs.Result.{IfOk}
-use Rattle.std.specs.Option.{IfSome, IsSome}
+use Rattle.std.specs.Option.{IfSome, IsNone, IsSome}
 use denote.Enum.Bare.{sameb}
 use Rattle.lol_program.specs.Tests.{is_html}
 use Rattle.lol_vm.specs.Directives.{directive_in}
 use Rattle.lol_vm.specs.Events.{has_content}
 use Rattle.lol_vm.specs.InstructionRuns.{ranges_in}
-use Rattle.lol_base.specs.LocalNames.{Name}
+use Rattle.lol_base.specs.LocalNames.{Name, local_name}
 use Rattle.lol_memory.specs.LimitedVec.{LimitedVec, IsLimited}
 use Rattle.lol_vm.specs.declared.stack.StackOf.{StackOf}
 use Rattle.lol_vm.specs.declared.stack.StackNames.{StackNames}
@@ -18,6 +18,8 @@ use Rattle.lol_vm.specs.declared.execution_ctx.ExecutionCtx.{ExecutionCtx}
 use Rattle.lol_vm.specs.declared.stack_item.StackItemOf.{StackItemOf}
 use Rattle.lol_vm.specs.declared.stack_item.StackDirective.TheVariants.{Push, PushIfNotSelfClosing}
 use Rattle.lol_vm.proofs.Directives.{foreign_if, html_if, content_is}
+use Rattle.lol_vm.specs.declared.stack.AddChildError.TheVariants.{CounterFull}
+use Rattle.lol_vm.proofs.FreeTags.{asked_only, full_only, has_none_typed, has_small, never_pushed, void_unspelled}
 use Rattle.lol_vm.proofs.VmStarts.{has_reported, has_content_still, answered, pending_at_once, pending_point, can_run, requested_is}
 use Rattle.lol_vm.proofs.VmRefusals.{reported_with, limited_counted, not_false, err_is_not_ok, data_after, has_open_failed, has_open_same, on_err, open_counted, requested_keeps, same_stack}
 use Rattle.lol_vm.proofs.vm.VmOf+Program+LocalName+StackNames+E.exec_for_start_tag.Goals as goal
@@ -197,3 +199,23 @@ returns-in-Err-answer-clause-limit_reported g c = λ limit s esi events tag stan
     let still = has_content_still ids with_ids lends vm name c.args.ns s esi events tag stands named stack ok room ctx c.try_tag-tried.new.ctx tries after new holds c.new-ctx.ensures.ns html c.new-self.ensures.names no_tries tried in
     let opens = not_false c.try_tag-tried.new.ctx.with_content (λ closed. err_is_not_ok c.answer.result c.in-Err-answer.error c.in-Err-answer.is (c.answer.ensures.closed closed)) in
     (sym still ∙ opens, reported_with _ s esi events tag false c.args.match_handler.now c.answer.new.match_handler after c.answer.new.self.tries (ap (λ (v : Vm _). v.tries) c.in-Err-answer.ensures.err.1) (has_reported ids with_ids lends vm name c.args.ns s esi events tag stands named stack ok room ctx c.try_tag-tried.new.ctx tries after new holds c.new-ctx.ensures.ns html c.new-self.ensures.names no_tries tried _ c.args.match_handler.now c.answer.new.match_handler c.in-Err-answer.ensures.reported))
+
+pub returns-in-Err-clause-free : goal.returns-in-Err-clause-free
+returns-in-Err-clause-free g c = λ error is s esi events tag stands named takes.
+    let none = has_none_typed s stands.paths c.args.self.now stands.machine stands.shown stands.standing.program takes.0 in
+    let full = c.in-Err.ensures.free none in
+    let child : c.in-Err.error ≡ CounterFull = cc in
+    full_only c.in-Err.error c.from.result error child c.from.ensures cc
+
+pub returns-in-Err-tried-clause-free : goal.returns-in-Err-tried-clause-free
+returns-in-Err-tried-clause-free g c = λ error is s esi events tag stands named takes.
+    let small = has_small s stands.paths c.args.self.now stands.machine stands.shown stands.standing.program takes.0 in
+    let directive = c.get_stack_directive-directive.ensures tag.name (c.new-ctx.ensures.item.name ∙ named.0) in
+    absurd (err_is_not_ok c.try_tag-tried.result c.in-Err-tried.error c.in-Err-tried.is
+    (c.try_tag-tried.ensures.free (never_pushed c.args.ns c.args.self.now.enable_esi_tags tag.name (sym named.1 ∙ takes.1) takes.2 c.get_stack_directive-directive.result c.eq-2.result directive c.eq-2.ensures) small))
+
+pub returns-in-Some-clause-free : goal.returns-in-Some-clause-free
+returns-in-Some-clause-free g c = λ error is s esi events tag stands named takes.
+    let name : c.try_tag-tried.new.ctx.stack_item.local_name ≡ local_name tag.name = c.try_tag-tried.ensures.name ∙ (c.new-ctx.ensures.item.name ∙ named.0) in
+    asked_only c.try_tag-tried.new.ctx c.in-Some.point _ c.request-in-Some.new.self c.request-in-Some.result error c.request-in-Some.ensures.requested
+    (c.request-in-Some.ensures.free (subst (λ (n : Name). IsNone n.spelling) (sym name) (void_unspelled tag.name takes.2))) (sym stands.shown.refused ∙ stands.standing.never_refused) is

@@ -5,8 +5,10 @@ use Rattle.lol_program.specs.Attributes.{tag_attributes}
 use Rattle.lol_vm.specs.TagRuns.{AreExecuted, jumps_in, ranges_left, ranges_to_run_in, sight_in, stop_at, tried_at}
 use Rattle.lol_vm.specs.declared.execution_ctx.ExecutionCtx.{ExecutionCtx}
 use Rattle.lol_vm.specs.Vms.{IsFailedAs, Vm}
+use Rattle.lol_vm.specs.Events.{has_content}
+use Rattle.lol_vm.proofs.FreeTags.{finished_closed, has_small, void_is_closed}
 use Rattle.lol_vm.proofs.VmFinishes.{has_reported, has_content_still, answered, can_finish}
-use Rattle.lol_vm.proofs.VmRefusals.{reported_with, has_open_same, has_open_failed, same_stack}
+use Rattle.lol_vm.proofs.VmRefusals.{err_is_not_ok, reported_with, has_open_same, has_open_failed, same_stack}
 use Rattle.lol_vm.proofs.vm.VmOf+Program+LocalName+StackNames+E.finish_start_tag.Goals as goal
 
 pub returns-in-Err-clause-still_open : goal.returns-in-Err-clause-still_open
@@ -83,3 +85,20 @@ returns-clause-unlimited g c =
     (subst (λ a. AreExecuted ids with_ids s_now all left ctx new_ctx vm.tries after a (tried_at stop)) seen done) in
     un (has_content_still ids with_ids lends vm s esi events tag request pending c.args.aux_info.self_closing (sym rest.1) rest.2 new_ctx after executed ∙ opens) limited)
     c.answer.ensures.unlimited
+
+pub returns-in-Err-clause-free : goal.returns-in-Err-clause-free
+returns-in-Err-clause-free g c = λ s esi events tag pending takes.
+    let vm = c.args.self.now in
+    let request = c.args.request in
+    let small = has_small s pending.paths vm pending.machine pending.shown pending.standing.program takes.0 in
+    let closed = finished_closed request.point vm.program.entry_points (jumps_in vm.stack) (has_content esi tag) request.ctx.with_content c.args.aux_info.self_closing pending.context tag.namespace
+    pending.goes_on takes.1 (void_is_closed esi tag takes.1 takes.2) in
+    absurd (err_is_not_ok c.complete_tag-completed.result c.in-Err.error c.in-Err.is (c.complete_tag-completed.ensures.free (c.content_at.ensures ∙ closed) small))
+
+pub returns-clause-free : goal.returns-clause-free
+returns-clause-free g c = λ s esi events tag pending takes.
+    let vm = c.args.self.now in
+    let request = c.args.request in
+    let closed = finished_closed request.point vm.program.entry_points (jumps_in vm.stack) (has_content esi tag) request.ctx.with_content c.args.aux_info.self_closing pending.context tag.namespace
+    pending.goes_on takes.1 (void_is_closed esi tag takes.1 takes.2) in
+    c.answer.ensures.closed (c.complete_tag-completed.ensures.content ∙ (c.content_at.ensures ∙ closed))

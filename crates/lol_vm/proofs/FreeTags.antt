@@ -1,0 +1,146 @@
+-- Start tags that take no memory.
+use Rattle.std.proofs.Common.{◌≡◌, ℕ, suc, zero, ◌<◌, Bool, true, false, cond, true≢false, List, [], ◌∷◌, length, map, Option, Some, None, Result, Err, refl, sym, ap, ◌∙◌, subst, arith, inl, inr, get_or, Contains}
+use Rattle.std.specs.Prelude.{◌||◌, slice_get, not, ◌&&◌}
+use Rattle.std.specs.List.{list_any, list_all}
+use Rattle.std.specs.Option.{IsNone}
+use Rattle.std.proofs.lemmas.List.{length-map}
+use Rattle.std.proofs.lemmas.Slice.Eq.{bytes_eq-Decides}
+use Rattle.std.specs.declared.ops.Range as std
+use Rattle.lol_base.specs.BoolLaws.{and_parts}
+use Rattle.lol_base.specs.LocalNames.{is_hash, local_name}
+use Rattle.lol_base.specs.MemberLaws.{Among}
+use Rattle.lol_base.specs.Names.{is_void, is_esi, lowercased, same_name, void_names}
+use Rattle.lol_base.specs.StartTags.{StartTag}
+use Rattle.lol_base.specs.declared.namespace.Namespace.{Namespace}
+use Rattle.lol_base.specs.declared.namespace.Namespace.TheVariants.{Html}
+use Rattle.lol_program.specs.Compounds.{has_test_by_type}
+use Rattle.lol_program.specs.IdSetLaws.{listed}
+use Rattle.lol_program.specs.Paths.{Path, Selectors, last_compound}
+use Rattle.lol_program.specs.Programs.{IsProgramOf}
+use Rattle.lol_program.specs.Programs as programs
+use Rattle.lol_program.specs.ProgramViews.{instruction_shown, program_shown}
+use Rattle.lol_program.specs.Tests.{is_html}
+use Rattle.lol_program.specs.declared.instruction.Instruction.{Instruction}
+use Rattle.lol_program.specs.declared.program.Program.{Program}
+use denote.Enum.Bare.{sameb}
+use Rattle.lol_vm.specs.Directives.{directive_in}
+use Rattle.lol_vm.specs.contracts.stack_item.StackDirective.{the_type}
+use Rattle.lol_vm.specs.declared.stack_item.StackDirective.{StackDirective}
+use Rattle.lol_vm.specs.declared.stack_item.StackDirective.TheVariants.{Push, PopImmediately}
+use Rattle.lol_vm.specs.Events.{has_content, has_content_in}
+use Rattle.lol_vm.specs.FreeTags.{AreSmall, IsAskedOrFull}
+use Rattle.lol_vm.specs.InstructionRuns.{HaveSmallIds}
+use Rattle.lol_vm.specs.StackMachines.{KeepsTyped}
+use Rattle.lol_vm.specs.TypedCounts.{TypedCount}
+use Rattle.lol_vm.specs.Stacks.{typed_in}
+use Rattle.lol_vm.specs.Standing.{Machine}
+use Rattle.lol_vm.specs.VmErrors.{child_error}
+use Rattle.lol_vm.specs.PlaceRuns.{Context}
+use Rattle.lol_vm.specs.TagRuns.{stop_at}
+use Rattle.lol_vm.specs.Vms.{Vm, Shows, IsRequested, GoesOnAt, content_at}
+use Rattle.lol_vm.specs.declared.stack.AddChildError.{AddChildError}
+use Rattle.lol_vm.specs.declared.stack.AddChildError.TheVariants as children
+use Rattle.lol_vm.specs.declared.error.VmError.{VmError}
+use Rattle.lol_vm.specs.declared.error.VmError.TheVariants.{InfoRequest, MemoryLimitExceeded, Memory, CounterFull, Failed}
+use Rattle.lol_vm.specs.declared.execution_ctx.ExecutionCtx.{ExecutionCtx}
+use Rattle.lol_vm.specs.declared.tag_runs.RecoveryPoint.{RecoveryPoint}
+use Rattle.lol_vm.specs.declared.tag_runs.RecoveryPoint.TheVariants.{AtOnce, EntryPoints, Jumps, HereditaryJumps}
+use Rattle.lol_vm.proofs.Lists.{among_any, within_at, to_contains}
+
+-- 1. Void names
+
+all_parts : {A : Type 0} (p : A → Bool) (xs : List A) → list_all p xs ≡ true → (x : A) → Among xs x → p x ≡ true
+all_parts p [] all x a = absurd a
+all_parts p (y ∷ xs) all x (inl is) = ap p (sym is) ∙ (and_parts (p y) (list_all p xs) all).0
+all_parts p (y ∷ xs) all x (inr a) = all_parts p xs (and_parts (p y) (list_all p xs) all).1 x a
+
+-- each void name is a hash
+void_hashes : list_all (λ name. is_hash (lowercased name)) void_names ≡ true
+unfolding void_names
+void_hashes = refl
+
+void_is_hash : (name : List ℕ) → is_void name ≡ true → is_hash (lowercased name) ≡ true
+void_is_hash name void =
+    let found = among_any (same_name name) void_names void in
+    let same = (bytes_eq-Decides (lowercased name) (lowercased found.0)).0 found.2 in
+    ap is_hash same ∙ all_parts (λ name. is_hash (lowercased name)) void_names void_hashes found.0 found.1
+
+pub void_unspelled : (name : List ℕ) → is_void name ≡ true → IsNone (local_name name).spelling
+void_unspelled name void = subst (λ b. IsNone (cond b None (Some name))) (sym (void_is_hash name void)) refl
+
+pub void_is_closed : (esi : Bool) (tag : StartTag) → tag.namespace ≡ Html → is_void tag.name ≡ true → has_content esi tag ≡ false
+void_is_closed esi tag html void = ap (λ ns. has_content_in ns esi tag) html ∙ ap (λ b. not (b || (esi && is_esi tag.name))) void
+
+-- nor is it opened, by its directive
+pub never_pushed : (ns : Namespace) (esi : Bool) (name : List ℕ) → ns ≡ Html → is_void name ≡ true → (directive : StackDirective) (pushes : Bool) → directive ≡ directive_in ns esi name → pushes ≡ sameb the_type directive Push → pushes ≡ false
+never_pushed ns esi name html void directive pushes is tested =
+    tested ∙ (ap (λ d. sameb the_type d Push) (is ∙ (ap (λ n. directive_in n esi name) html ∙ ap (λ b. cond (b || (esi && is_esi name)) PopImmediately Push) void)))
+
+-- nor is it once it is finished
+pub finished_closed : (point : RecoveryPoint) (entry : std.Range ℕ) (jumps : List (std.Range ℕ)) (content with_content self_closing : Bool) (context : Context) (ns : Namespace)
+    → GoesOnAt (is_html ns) content context (stop_at entry jumps point) with_content → ns ≡ Html → content ≡ false → content_at point with_content self_closing ≡ false
+finished_closed AtOnce entry jumps content with_content self_closing context ns goes_on html closed = absurd (true≢false (sym (ap is_html html) ∙ goes_on.0))
+finished_closed (EntryPoints stop) entry jumps content with_content self_closing context ns goes_on html closed = goes_on.1 ∙ closed
+finished_closed (Jumps stop) entry jumps content with_content self_closing context ns goes_on html closed = goes_on.1 ∙ closed
+finished_closed (HereditaryJumps stop) entry jumps content with_content self_closing context ns goes_on html closed = goes_on.1 ∙ closed
+
+-- 2. Small selectors
+
+module _ (s : Selectors) (paths : List Path) (prog : Program) (small : AreSmall s) (program : IsProgramOf s paths (program_shown prog)) where
+  abbrev all : List Instruction
+  all = prog.instructions.items
+
+  shown_at : (is : List Instruction) (k : ℕ) (d : Instruction) → k < length is → slice_get (map (instruction_shown prog.enable_nth_of_type) is) k ≡ Some (instruction_shown prog.enable_nth_of_type (get_or is k d))
+  shown_at [] k d within = absurd (omega (arith, within))
+  shown_at (i ∷ is) zero d within = refl
+  shown_at (i ∷ is) (suc k) d within = shown_at is k d (omega (arith, within))
+
+  -- so are the ids of its instructions
+  pub instructions_small : HaveSmallIds all
+  instructions_small = λ k d within.
+      let count = program.count in
+      let many = length-map all (instruction_shown prog.enable_nth_of_type) in
+      let path = within_at paths k (omega (arith, count, many, within)) in
+      let means = program.each k path.0 (instruction_shown prog.enable_nth_of_type (get_or all k d)) path.1 (shown_at all k d within) in
+      λ q held. small.ids path.0 q ((means.ids q).0 (listed (get_or all k d).associated_branch.matched_ids q held))
+
+  none_by_type : (ps : List Path) → ((path : Path) → Among ps path → Contains paths path) → list_any (λ path. has_test_by_type (last_compound path)) ps ≡ false
+  none_by_type [] each = refl
+  none_by_type (path ∷ ps) each =
+      ap (λ b. b || list_any (λ p. has_test_by_type (last_compound p)) ps) (small.untyped path ((program.same path).0 (each path (inl refl)))) ∙ none_by_type ps (λ p a. each p (inr a))
+
+  pub not_by_type : prog.enable_nth_of_type ≡ false
+  not_by_type = program.by_type ∙ none_by_type paths (λ path a. to_contains paths path a)
+
+pub untyped : (typed : Option (List TypedCount)) (by_type : Bool) (top : ℕ) (count : ℕ → List ℕ → ℕ) → KeepsTyped typed by_type top count → by_type ≡ false → IsNone typed
+untyped None by_type top count keeps without = refl
+untyped (Some ts) by_type top count keeps without = absurd (true≢false (sym keeps.0 ∙ without))
+
+-- a machine of such selectors
+module _ {E : Type 0} (s : Selectors) (paths : List Path) (vm : Vm E) (m : Machine) (shown : Shows vm m) (program : IsProgramOf s paths m.program) (small : AreSmall s) where
+  shown_program : IsProgramOf s paths (program_shown vm.program)
+  shown_program = subst (IsProgramOf s paths) shown.program program
+
+  pub has_small : HaveSmallIds vm.program.instructions.items
+  has_small = instructions_small s paths vm.program small shown_program
+
+  pub has_none_typed : IsNone (typed_in vm.stack)
+  has_none_typed =
+      untyped (typed_in vm.stack) m.program.by_type (length m.items) m.typed shown.stack.typed
+      (ap (λ (p : programs.Program). p.by_type) shown.program ∙ not_by_type s paths vm.program small shown_program)
+
+-- 3. Answers
+
+pub full_only : {E : Type 0} (child : AddChildError) (made error : VmError E) → child ≡ children.CounterFull → made ≡ child_error child → made ≡ error → IsAskedOrFull error
+full_only child made error is from same = subst IsAskedOrFull (sym (ap child_error is) ∙ (sym from ∙ same)) tt
+
+-- a request that changes nothing
+pub asked_only : {E : Type 0} (ctx : ExecutionCtx E) (point : RecoveryPoint) (old new : Vm E) (result : Result (Unit {0}) (VmError E)) (error : VmError E)
+    → IsRequested ctx point old new result → new ≡ old → old.failed ≡ false → result ≡ Err error → IsAskedOrFull error
+asked_only ctx point old new result (InfoRequest request) requested same unfailed is = tt
+asked_only ctx point old new result (MemoryLimitExceeded error) requested same unfailed is = absurd (subst (IsRequested ctx point old new) is requested)
+asked_only ctx point old new result (Memory error) requested same unfailed is =
+    let failed = subst (IsRequested ctx point old new) is requested in
+    absurd (true≢false (sym (ap (λ (v : Vm _). v.failed) failed) ∙ (ap (λ (v : Vm _). v.failed) same ∙ unfailed)))
+asked_only ctx point old new result CounterFull requested same unfailed is = tt
+asked_only ctx point old new result Failed requested same unfailed is = absurd (subst (IsRequested ctx point old new) is requested)
