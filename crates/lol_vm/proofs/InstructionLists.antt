@@ -3,7 +3,8 @@ use Rattle.std.proofs.Common.{◌≡◌, ◌+◌, ◌-◌, ◌<◌, ◌≤◌, �
 use Rattle.std.specs.declared.ops.Range.{Range}
 use Rattle.std.proofs.Math.ListN.{get_or-map}
 use Rattle.std.proofs.Math.Seq.{take-length}
-use Rattle.std.proofs.lemmas.List.{drop-map, take_more, flat_map_more, length-append, length-drop, length-take}
+use Rattle.std.proofs.lemmas.List.{take-append-drop, drop-map, take_more, flat_map_more, length-append, length-drop, length-take}
+use Rattle.std.proofs.lemmas.Grind.{flat_map-append}
 use Rattle.std.proofs.lemmas.List.Elements.{All-get_or}
 use Rattle.std.proofs.lemmas.List.Sums.{sum_by-append, count_by-le-length}
 use Rattle.std.proofs.lemmas.List.Folds.{length-flat_map-take}
@@ -109,6 +110,9 @@ open_first s i instructions = omega (arith, open_among-append s (i ∷ []) instr
 pub open_split : (s : Sight) (all : List Instruction) (i : Instruction) (others : List Instruction) → all ≡ i ∷ others → open_among s all ≡ tries_of_attributes (value_seen s i) + open_among s others
 open_split s all i others is = ap (open_among s) is ∙ open_first s i others
 
+pub open_at_most : (s : Sight) (instructions : List Instruction) → open_among s instructions ≤ length instructions
+open_at_most s instructions = count_by-le-length (λ i. is_open (value_seen s i)) instructions
+
 pub small_rest : (i : Instruction) (others : List Instruction) → HaveSmallIds (i ∷ others) → HaveSmallIds others
 small_rest i others small = λ k d within. small (suc k) d (omega (arith, within))
 
@@ -168,7 +172,16 @@ module _ (instructions : List Instruction) (ranges : List (Range ℕ)) (at : ℕ
     pub length_next : length before_next ≡ length before + length part
     length_next = ap length until ∙ length-append before part
 
+    around : all_at instructions ranges ≡ before ++ (part ++ after_next)
+    around = ap (all_at instructions) (sym (take-append-drop at ranges)) ∙ (flat_map-append (instructions_at instructions) (take at ranges) (drop at ranges) ∙ ap (λ xs. before ++ xs) from)
+
+    pub length_bound : length before + length part ≤ length (all_at instructions ranges)
+    length_bound = omega (arith, ap length around, length-append before (part ++ after_next), length-append part after_next)
+
     module _ (t s : Sight) (same : t ≡ s) where
+      pub open_bound : open_among s before + open_among t part ≤ open_among s (all_at instructions ranges)
+      open_bound = omega (arith, ap (open_among s) around, open_among-append s before (part ++ after_next), open_among-append s part after_next, ap (λ z. open_among z part) same)
+
       pub open_next : open_among s before_next ≡ open_among s before + open_among t part
       open_next = ap (open_among s) until ∙ (open_among-append s before part ∙ ap (λ z. open_among s before + open_among z part) (sym same))
 

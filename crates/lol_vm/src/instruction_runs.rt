@@ -60,7 +60,7 @@ pub(crate) fn exec_instructions<E: ElementData>(
     ensures names { IfOk result (λ done. names_counted tries.new ≡ names_counted tries.old + length instructions.now) }
     ensures attributes { IfOk result (λ done. attributes_counted tries.new ≡ attributes_counted tries.old + open_among (sight state.now ctx.old.stack_item.local_name) instructions.now) }
     ensures names_bound { names_counted tries.new ≤ names_counted tries.old + length instructions.now }
-    ensures attributes_bound { attributes_counted tries.new ≤ attributes_counted tries.old + length instructions.now }
+    ensures attributes_bound { attributes_counted tries.new ≤ attributes_counted tries.old + open_among (sight state.now ctx.old.stack_item.local_name) instructions.now }
     ensures name { ctx.new.stack_item.local_name ≡ ctx.old.stack_item.local_name }
     ensures content { ctx.new.with_content ≡ ctx.old.with_content }
     ensures free { ctx.old.with_content ≡ false → HaveSmallIds instructions.now → IsOk result }
@@ -118,6 +118,7 @@ pub(crate) fn try_ranges<E: ElementData>(
     ensures ctx { AreRunnable instructions.now ranges.now tries.old → IfOk result (λ stop. ctx.new ≡ gathered_by_names E.ids E.with_ids (sight state.now ctx.old.stack_item.local_name) ctx.old (all_at instructions.now ranges.now)) }
     ensures names { AreRunnable instructions.now ranges.now tries.old → IfOk result (λ stop. names_counted tries.new ≡ names_counted tries.old + tried_until (place_in instructions.now ranges.now stop) (length (all_at instructions.now ranges.now))) }
     ensures attributes { attributes_counted tries.new ≡ attributes_counted tries.old }
+    ensures names_bound { AreRunnable instructions.now ranges.now tries.old → names_counted tries.new ≤ names_counted tries.old + length (all_at instructions.now ranges.now) }
     ensures name { ctx.new.stack_item.local_name ≡ ctx.old.stack_item.local_name }
     ensures content { ctx.new.with_content ≡ ctx.old.with_content }
     ensures free { ctx.old.with_content ≡ false → HaveSmallIds instructions.now → IsOk result }
@@ -145,6 +146,8 @@ pub(crate) fn exec_ranges<E: ElementData>(
     ensures ctx { AreRunnable instructions.now ranges.now tries.old → IfOk result (λ done. ctx.new ≡ gathered_with_attributes E.ids E.with_ids (sight state.now ctx.old.stack_item.local_name) matcher.now ctx.old (all_at instructions.now ranges.now)) }
     ensures names { AreRunnable instructions.now ranges.now tries.old → IfOk result (λ done. names_counted tries.new ≡ names_counted tries.old + length (all_at instructions.now ranges.now)) }
     ensures attributes { AreRunnable instructions.now ranges.now tries.old → IfOk result (λ done. attributes_counted tries.new ≡ attributes_counted tries.old + open_among (sight state.now ctx.old.stack_item.local_name) (all_at instructions.now ranges.now)) }
+    ensures names_bound { AreRunnable instructions.now ranges.now tries.old → names_counted tries.new ≤ names_counted tries.old + length (all_at instructions.now ranges.now) }
+    ensures attributes_bound { AreRunnable instructions.now ranges.now tries.old → attributes_counted tries.new ≤ attributes_counted tries.old + open_among (sight state.now ctx.old.stack_item.local_name) (all_at instructions.now ranges.now) }
     ensures name { ctx.new.stack_item.local_name ≡ ctx.old.stack_item.local_name }
     ensures content { ctx.new.with_content ≡ ctx.old.with_content }
     ensures free { ctx.old.with_content ≡ false → HaveSmallIds instructions.now → IsOk result }
@@ -171,6 +174,7 @@ pub(crate) fn try_active<E: ElementData>(
     ensures ctx { AreRunnable instructions.now (ranges_in active.now) tries.old → IfOk result (λ stop. ctx.new ≡ gathered_by_names E.ids E.with_ids (sight state.now ctx.old.stack_item.local_name) ctx.old (all_at instructions.now (ranges_in active.now))) }
     ensures names { AreRunnable instructions.now (ranges_in active.now) tries.old → IfOk result (λ stop. names_counted tries.new ≡ names_counted tries.old + tried_until (place_in instructions.now (ranges_in active.now) stop) (length (all_at instructions.now (ranges_in active.now)))) }
     ensures attributes { attributes_counted tries.new ≡ attributes_counted tries.old }
+    ensures names_bound { AreRunnable instructions.now (ranges_in active.now) tries.old → names_counted tries.new ≤ names_counted tries.old + length (all_at instructions.now (ranges_in active.now)) }
     ensures name { ctx.new.stack_item.local_name ≡ ctx.old.stack_item.local_name }
     ensures content { ctx.new.with_content ≡ ctx.old.with_content }
     ensures free { ctx.old.with_content ≡ false → HaveSmallIds instructions.now → IsOk result }
@@ -198,6 +202,8 @@ pub(crate) fn exec_active<E: ElementData>(
     ensures ctx { AreRunnable instructions.now (ranges_in active.now) tries.old → IfOk result (λ done. ctx.new ≡ gathered_with_attributes E.ids E.with_ids (sight state.now ctx.old.stack_item.local_name) matcher.now ctx.old (all_at instructions.now (ranges_in active.now))) }
     ensures names { AreRunnable instructions.now (ranges_in active.now) tries.old → IfOk result (λ done. names_counted tries.new ≡ names_counted tries.old + length (all_at instructions.now (ranges_in active.now))) }
     ensures attributes { AreRunnable instructions.now (ranges_in active.now) tries.old → IfOk result (λ done. attributes_counted tries.new ≡ attributes_counted tries.old + open_among (sight state.now ctx.old.stack_item.local_name) (all_at instructions.now (ranges_in active.now))) }
+    ensures names_bound { AreRunnable instructions.now (ranges_in active.now) tries.old → names_counted tries.new ≤ names_counted tries.old + length (all_at instructions.now (ranges_in active.now)) }
+    ensures attributes_bound { AreRunnable instructions.now (ranges_in active.now) tries.old → attributes_counted tries.new ≤ attributes_counted tries.old + open_among (sight state.now ctx.old.stack_item.local_name) (all_at instructions.now (ranges_in active.now)) }
     ensures name { ctx.new.stack_item.local_name ≡ ctx.old.stack_item.local_name }
     ensures content { ctx.new.with_content ≡ ctx.old.with_content }
     ensures free { ctx.old.with_content ≡ false → HaveSmallIds instructions.now → IsOk result }
@@ -225,8 +231,8 @@ pub(crate) fn complete_instructions<E: ElementData>(
     ensures ctx { IfOk result (λ done. ctx.new ≡ gathered_with_attributes E.ids E.with_ids (sight state.now ctx.old.stack_item.local_name) matcher.now ctx.old instructions.now) }
     ensures names { IfOk result (λ done. names_counted tries.new ≡ names_counted tries.old + (length instructions.now - 1)) }
     ensures attributes { IfOk result (λ done. attributes_counted tries.new ≡ attributes_counted tries.old + open_among (sight state.now ctx.old.stack_item.local_name) instructions.now) }
-    ensures names_bound { names_counted tries.new ≤ names_counted tries.old + length instructions.now }
-    ensures attributes_bound { attributes_counted tries.new ≤ attributes_counted tries.old + length instructions.now }
+    ensures names_bound { names_counted tries.new ≤ names_counted tries.old + (length instructions.now - 1) }
+    ensures attributes_bound { attributes_counted tries.new ≤ attributes_counted tries.old + open_among (sight state.now ctx.old.stack_item.local_name) instructions.now }
     ensures name { ctx.new.stack_item.local_name ≡ ctx.old.stack_item.local_name }
     ensures content { ctx.new.with_content ≡ ctx.old.with_content }
     ensures free { ctx.old.with_content ≡ false → HaveSmallIds instructions.now → IsOk result }
@@ -265,6 +271,8 @@ pub(crate) fn complete_ranges<E: ElementData>(
     ensures ctx { IsStopIn instructions.now ranges.now stop → AreRunnable instructions.now (ranges_from ranges.now stop) tries.old → IfOk result (λ done. ctx.new ≡ gathered_with_attributes E.ids E.with_ids (sight state.now ctx.old.stack_item.local_name) matcher.now ctx.old (all_at instructions.now (ranges_from ranges.now stop))) }
     ensures names { IsStopIn instructions.now ranges.now stop → AreRunnable instructions.now (ranges_from ranges.now stop) tries.old → IfOk result (λ done. names_counted tries.new + 1 ≡ names_counted tries.old + length (all_at instructions.now (ranges_from ranges.now stop))) }
     ensures attributes { IsStopIn instructions.now ranges.now stop → AreRunnable instructions.now (ranges_from ranges.now stop) tries.old → IfOk result (λ done. attributes_counted tries.new ≡ attributes_counted tries.old + open_among (sight state.now ctx.old.stack_item.local_name) (all_at instructions.now (ranges_from ranges.now stop))) }
+    ensures names_bound { IsStopIn instructions.now ranges.now stop → AreRunnable instructions.now (ranges_from ranges.now stop) tries.old → names_counted tries.new + 1 ≤ names_counted tries.old + length (all_at instructions.now (ranges_from ranges.now stop)) }
+    ensures attributes_bound { IsStopIn instructions.now ranges.now stop → AreRunnable instructions.now (ranges_from ranges.now stop) tries.old → attributes_counted tries.new ≤ attributes_counted tries.old + open_among (sight state.now ctx.old.stack_item.local_name) (all_at instructions.now (ranges_from ranges.now stop)) }
     ensures name { ctx.new.stack_item.local_name ≡ ctx.old.stack_item.local_name }
     ensures content { ctx.new.with_content ≡ ctx.old.with_content }
     ensures free { ctx.old.with_content ≡ false → HaveSmallIds instructions.now → IsOk result }
@@ -295,6 +303,8 @@ pub(crate) fn complete_active<E: ElementData>(
     ensures ctx { IsStopIn instructions.now (ranges_in active.now) stop → AreRunnable instructions.now (ranges_from (ranges_in active.now) stop) tries.old → IfOk result (λ done. ctx.new ≡ gathered_with_attributes E.ids E.with_ids (sight state.now ctx.old.stack_item.local_name) matcher.now ctx.old (all_at instructions.now (ranges_from (ranges_in active.now) stop))) }
     ensures names { IsStopIn instructions.now (ranges_in active.now) stop → AreRunnable instructions.now (ranges_from (ranges_in active.now) stop) tries.old → IfOk result (λ done. names_counted tries.new + 1 ≡ names_counted tries.old + length (all_at instructions.now (ranges_from (ranges_in active.now) stop))) }
     ensures attributes { IsStopIn instructions.now (ranges_in active.now) stop → AreRunnable instructions.now (ranges_from (ranges_in active.now) stop) tries.old → IfOk result (λ done. attributes_counted tries.new ≡ attributes_counted tries.old + open_among (sight state.now ctx.old.stack_item.local_name) (all_at instructions.now (ranges_from (ranges_in active.now) stop))) }
+    ensures names_bound { IsStopIn instructions.now (ranges_in active.now) stop → AreRunnable instructions.now (ranges_from (ranges_in active.now) stop) tries.old → names_counted tries.new + 1 ≤ names_counted tries.old + length (all_at instructions.now (ranges_from (ranges_in active.now) stop)) }
+    ensures attributes_bound { IsStopIn instructions.now (ranges_in active.now) stop → AreRunnable instructions.now (ranges_from (ranges_in active.now) stop) tries.old → attributes_counted tries.new ≤ attributes_counted tries.old + open_among (sight state.now ctx.old.stack_item.local_name) (all_at instructions.now (ranges_from (ranges_in active.now) stop)) }
     ensures name { ctx.new.stack_item.local_name ≡ ctx.old.stack_item.local_name }
     ensures content { ctx.new.with_content ≡ ctx.old.with_content }
     ensures free { ctx.old.with_content ≡ false → HaveSmallIds instructions.now → IsOk result }

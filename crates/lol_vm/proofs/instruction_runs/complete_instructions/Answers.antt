@@ -39,3 +39,16 @@ returns-clause-free g c = λ without small.
       | in_default-complete_exec_with_attrs w ↦ ap (λ x. x.with_content) w.ctx-is
     ] in
     c.exec_instructions.ensures.free (content ∙ without) (small_rest c.in-Some.first.now others (subst HaveSmallIds split small))
+
+pub returns-clause-attributes_bound : goal.returns-clause-attributes_bound
+returns-clause-attributes_bound g c =
+    let all = c.args.instructions.now in
+    let others = c.in-Some.others.now in
+    let s = sight c.args.state.now c.args.ctx.now.stack_item.local_name in
+    let name : c.match-complete_exec_with_attrs.ctx.stack_item.local_name ≡ c.args.ctx.now.stack_item.local_name =
+    elim c.match-complete_exec_with_attrs.branch [
+      | in-Some-complete_exec_with_attrs+in_ok-add_execution_branch w ↦ grind (arith, common_steps, w.ctx-is, w.in_ok-add_execution_branch.ensures)
+      | in_default-complete_exec_with_attrs w ↦ ap (λ x. x.stack_item.local_name) w.ctx-is
+    ] in
+    let split : all ≡ c.in-Some.first.now ∷ others = search rules in
+    omega (arith, c.exec_instructions.ensures.attributes_bound, c.complete_exec_with_attrs.ensures.attributes, open_split s all c.in-Some.first.now others split, ap (λ n. open_among (sight c.args.state.now n) others) name)

@@ -1,7 +1,7 @@
 use Rattle.std.proofs.Common.{◌≡◌, ◌<◌, length, get_or, arith, ap, ◌∙◌}
 use Rattle.lol_program.specs.Compiled.{sight}
 use Rattle.lol_vm.specs.InstructionRuns.{no_range, AreRunnable, instructions_at, all_at, gathered_with_attributes}
-use Rattle.lol_vm.proofs.InstructionLists.{is_lent, open_within, length_next, open_next, attributes_next}
+use Rattle.lol_vm.proofs.InstructionLists.{length_bound, open_bound, is_lent, open_within, length_next, open_next, attributes_next}
 use Rattle.lol_vm.proofs.instruction_runs.exec_ranges.Goals as goal
 
 pub loop-range-preserved : goal.loop-range-preserved
@@ -32,3 +32,43 @@ loop-range-preserved g c =
           (gathered_with_attributes g.E.ElementData.ids g.E.ElementData.with_ids s c.args.matcher.now c.args.ctx.now (all_at all ranges))
           c.loop-range.ctx c.exec_instructions.new.ctx c.args.matcher.now (so_far.rest runnable) told.ctx;
     }
+
+pub returns-in_err-exec_instructions-clause-names_bound : goal.returns-in_err-exec_instructions-clause-names_bound
+returns-in_err-exec_instructions-clause-names_bound g c = λ runnable.
+    let all = c.args.instructions.now in
+    let ranges = c.args.ranges.now in
+    let tries = c.args.tries.now in
+    let now = c.loop-range.tries in
+    let at = c.loop-range.range-index in
+    let within : at < length ranges = c.loop-range-test.true in
+    let so_far = c.loop-range.invariant in
+    let part = c.instructions_in-part.result.now in
+    let told = c.exec_instructions.ensures in
+    let t = sight c.args.state.now c.loop-range.ctx.stack_item.local_name in
+    let s = sight c.args.state.now c.args.ctx.now.stack_item.local_name in
+    let same : t ≡ s = ap (sight c.args.state.now) so_far.name in
+    let is : AreRunnable all ranges tries → part ≡ instructions_at all (get_or ranges at no_range) =
+    λ runnable.
+    is_lent all ranges at within tries now runnable part c.instructions_in-part.ensures.value (omega (arith, so_far.names runnable))
+    (open_within all ranges at within tries now runnable s (so_far.attributes runnable)) in
+    omega (arith, told.names_bound, so_far.names runnable, length_bound all ranges at within part (is runnable))
+
+pub returns-in_err-exec_instructions-clause-attributes_bound : goal.returns-in_err-exec_instructions-clause-attributes_bound
+returns-in_err-exec_instructions-clause-attributes_bound g c = λ runnable.
+    let all = c.args.instructions.now in
+    let ranges = c.args.ranges.now in
+    let tries = c.args.tries.now in
+    let now = c.loop-range.tries in
+    let at = c.loop-range.range-index in
+    let within : at < length ranges = c.loop-range-test.true in
+    let so_far = c.loop-range.invariant in
+    let part = c.instructions_in-part.result.now in
+    let told = c.exec_instructions.ensures in
+    let t = sight c.args.state.now c.loop-range.ctx.stack_item.local_name in
+    let s = sight c.args.state.now c.args.ctx.now.stack_item.local_name in
+    let same : t ≡ s = ap (sight c.args.state.now) so_far.name in
+    let is : AreRunnable all ranges tries → part ≡ instructions_at all (get_or ranges at no_range) =
+    λ runnable.
+    is_lent all ranges at within tries now runnable part c.instructions_in-part.ensures.value (omega (arith, so_far.names runnable))
+    (open_within all ranges at within tries now runnable s (so_far.attributes runnable)) in
+    omega (arith, told.attributes_bound, so_far.attributes runnable, open_bound all ranges at within part (is runnable) t s same)

@@ -6,7 +6,7 @@ use Rattle.std.proofs.Common.{ℕ, subst, ◌-◌, ◌≡◌, ◌+◌, ◌<◌, 
 use Rattle.lol_program.specs.Compiled.{sight}
 use Rattle.lol_program.specs.Tries.{names_counted}
 use Rattle.lol_vm.specs.InstructionRuns.{no_range, IsStopIn, AreRunnable, IsInsideOf, HasTriesLeft, ranges_in, instructions_at, tried_until, first_open_from, all_at}
-use Rattle.lol_vm.proofs.InstructionLists.{active_at, is_lent, length_next, stop_next, stop_here, names_next, names_here}
+use Rattle.lol_vm.proofs.InstructionLists.{length_bound, active_at, is_lent, length_next, stop_next, stop_here, names_next, names_here}
 use Rattle.lol_vm.proofs.instruction_runs.try_active.Goals as goal
 
 pub loop-at-preserved : goal.loop-at-preserved
@@ -96,3 +96,39 @@ returns-in-Some-clause-within g c = λ runnable stop is_stop.
     let here : Stop = record { range = at; offset = c.in-Some.offset } in
     let same_stop : here ≡ stop = grind (arith, common_steps, is_stop) in
     subst (IsStopIn all ranges) same_stop (within, offset_within)
+
+pub returns-in_err-offset-clause-names_bound : goal.returns-in_err-offset-clause-names_bound
+returns-in_err-offset-clause-names_bound g c = λ runnable.
+    let all = c.args.instructions.now in
+    let ranges = ranges_in c.args.active.now in
+    let tries = c.args.tries.now in
+    let now = c.loop-at.tries in
+    let at = c.loop-at.at in
+    let within : at < length ranges = omega (arith, c.loop-at-test.true, length-map c.args.active.now (λ (a : Range ℕ × ℕ). a.0)) in
+    let so_far = c.loop-at.invariant in
+    let part = c.instructions_in-part.result.now in
+    let told = c.try_instructions.ensures in
+    let t = sight c.args.state.now c.loop-at.ctx.stack_item.local_name in
+    let s = sight c.args.state.now c.args.ctx.now.stack_item.local_name in
+    let same : t ≡ s = ap (sight c.args.state.now) so_far.name in
+    let is : AreRunnable all ranges tries → part ≡ instructions_at all (get_or ranges at no_range) =
+    λ runnable. is_lent all ranges at within tries now runnable part (active_at c.args.active.now at (λ r. IsInsideOf all r → HasTriesLeft now (r.end - r.start) → part ≡ instructions_at all r) c.instructions_in-part.ensures.value) (omega (arith, so_far.names runnable)) (omega (arith, so_far.attributes)) in
+    omega (arith, told.names_bound, so_far.names runnable, length_bound all ranges at within part (is runnable))
+
+pub returns-in-Some-clause-names_bound : goal.returns-in-Some-clause-names_bound
+returns-in-Some-clause-names_bound g c = λ runnable.
+    let all = c.args.instructions.now in
+    let ranges = ranges_in c.args.active.now in
+    let tries = c.args.tries.now in
+    let now = c.loop-at.tries in
+    let at = c.loop-at.at in
+    let within : at < length ranges = omega (arith, c.loop-at-test.true, length-map c.args.active.now (λ (a : Range ℕ × ℕ). a.0)) in
+    let so_far = c.loop-at.invariant in
+    let part = c.instructions_in-part.result.now in
+    let told = c.try_instructions.ensures in
+    let t = sight c.args.state.now c.loop-at.ctx.stack_item.local_name in
+    let s = sight c.args.state.now c.args.ctx.now.stack_item.local_name in
+    let same : t ≡ s = ap (sight c.args.state.now) so_far.name in
+    let is : AreRunnable all ranges tries → part ≡ instructions_at all (get_or ranges at no_range) =
+    λ runnable. is_lent all ranges at within tries now runnable part (active_at c.args.active.now at (λ r. IsInsideOf all r → HasTriesLeft now (r.end - r.start) → part ≡ instructions_at all r) c.instructions_in-part.ensures.value) (omega (arith, so_far.names runnable)) (omega (arith, so_far.attributes)) in
+    omega (arith, told.names_bound, so_far.names runnable, length_bound all ranges at within part (is runnable))

@@ -2,7 +2,7 @@ use Rattle.std.proofs.Common.{◌≡◌, ◌+◌, ◌<◌, length, get_or, arith
 use Rattle.lol_program.specs.Compiled.{sight}
 use Rattle.lol_program.specs.Tries.{names_counted}
 use Rattle.lol_vm.specs.InstructionRuns.{no_range, AreRunnable, instructions_at, tried_until, first_open_from, all_at}
-use Rattle.lol_vm.proofs.InstructionLists.{is_lent, length_next, stop_next, stop_here, names_next, names_here}
+use Rattle.lol_vm.proofs.InstructionLists.{length_bound, is_lent, length_next, stop_next, stop_here, names_next, names_here}
 use Rattle.lol_vm.proofs.instruction_runs.try_ranges.Goals as goal
 
 pub loop-at-preserved : goal.loop-at-preserved
@@ -72,3 +72,39 @@ returns-in-Some-clause-ctx g c = λ runnable.
     is_lent all ranges at within tries now runnable part c.instructions_in-part.ensures.value (omega (arith, so_far.names runnable)) (omega (arith, so_far.attributes)) in
     let some : first_open_from t 0 part ≡ Some c.in-Some.offset = sym told.stop ∙ c.in-Some.is in
     names_here all ranges at within part is t s same g.E.ElementData.ids g.E.ElementData.with_ids _ c.loop-at.ctx c.try_instructions.new.ctx c.in-Some.offset (so_far.rest runnable) some told.ctx
+
+pub returns-in_err-offset-clause-names_bound : goal.returns-in_err-offset-clause-names_bound
+returns-in_err-offset-clause-names_bound g c = λ runnable.
+    let all = c.args.instructions.now in
+    let ranges = c.args.ranges.now in
+    let tries = c.args.tries.now in
+    let now = c.loop-at.tries in
+    let at = c.loop-at.at in
+    let within : at < length ranges = c.loop-at-test.true in
+    let so_far = c.loop-at.invariant in
+    let part = c.instructions_in-part.result.now in
+    let told = c.try_instructions.ensures in
+    let t = sight c.args.state.now c.loop-at.ctx.stack_item.local_name in
+    let s = sight c.args.state.now c.args.ctx.now.stack_item.local_name in
+    let same : t ≡ s = ap (sight c.args.state.now) so_far.name in
+    let is : AreRunnable all ranges tries → part ≡ instructions_at all (get_or ranges at no_range) =
+    λ runnable. is_lent all ranges at within tries now runnable part c.instructions_in-part.ensures.value (omega (arith, so_far.names runnable)) (omega (arith, so_far.attributes)) in
+    omega (arith, told.names_bound, so_far.names runnable, length_bound all ranges at within part (is runnable))
+
+pub returns-in-Some-clause-names_bound : goal.returns-in-Some-clause-names_bound
+returns-in-Some-clause-names_bound g c = λ runnable.
+    let all = c.args.instructions.now in
+    let ranges = c.args.ranges.now in
+    let tries = c.args.tries.now in
+    let now = c.loop-at.tries in
+    let at = c.loop-at.at in
+    let within : at < length ranges = c.loop-at-test.true in
+    let so_far = c.loop-at.invariant in
+    let part = c.instructions_in-part.result.now in
+    let told = c.try_instructions.ensures in
+    let t = sight c.args.state.now c.loop-at.ctx.stack_item.local_name in
+    let s = sight c.args.state.now c.args.ctx.now.stack_item.local_name in
+    let same : t ≡ s = ap (sight c.args.state.now) so_far.name in
+    let is : AreRunnable all ranges tries → part ≡ instructions_at all (get_or ranges at no_range) =
+    λ runnable. is_lent all ranges at within tries now runnable part c.instructions_in-part.ensures.value (omega (arith, so_far.names runnable)) (omega (arith, so_far.attributes)) in
+    omega (arith, told.names_bound, so_far.names runnable, length_bound all ranges at within part (is runnable))
