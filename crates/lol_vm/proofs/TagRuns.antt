@@ -14,10 +14,10 @@ use Rattle.lol_program.specs.Tries.{names_counted, attributes_counted}
 use Rattle.lol_program.specs.declared.instruction.Instruction.{Instruction}
 use Rattle.lol_program.specs.declared.tries.Tries.{Tries}
 use Rattle.lol_vm.specs.InstructionRuns.{AreRunnable, IsInsideOf, value_seen, all_at, place_in, IsStopIn, ranges_from, no_range, open_among, instructions_at, first_open_from, tried_until, gathered_by_names, gathered_with_attributes}
-use Rattle.lol_vm.specs.TagRuns.{later_stop, IsStopOf, AreTried, AreExecuted}
+use Rattle.lol_vm.specs.TagRuns.{later_stop, IsStopOf, AreTried, AreExecuted, AreWithin}
 use Rattle.lol_vm.specs.declared.execution_ctx.ExecutionCtx.{ExecutionCtx}
 use Rattle.lol_vm.specs.declared.instruction_runs.Stop.{Stop}
-use Rattle.lol_vm.proofs.InstructionLists.{stops_before, stops_after, none_later, stops_later, gathers_on, gathers_until, gathers_all, open_among-append}
+use Rattle.lol_vm.proofs.InstructionLists.{stops_before, stops_after, none_later, stops_later, gathers_on, gathers_until, gathers_all, open_among-append, open_at_most}
 
 -- 1. Stops in some ranges, of which others come before or after
 
@@ -197,3 +197,30 @@ module _ {E : Type 0} (ids : E → Ids) (with_ids : E → Ids → E) (s : Sight)
       let attributes = executed.attributes in
       let opens = count_by-le-length (λ (i : Instruction). is_open (value_seen s i)) (all_at instructions front) in
       back_runnable instructions front back before after runnable (omega (arith, names)) (omega (arith, attributes, opens))
+
+-- 3. Tries at most
+
+-- what a run over ranges says of them, refused or not
+pub within_from : (s t : Sight) (instructions : List Instruction) (ranges given : List (Range ℕ)) (before after : Tries) (tried : ℕ) → given ≡ ranges → t ≡ s
+    → names_counted after + tried ≤ names_counted before + length (all_at instructions given) → attributes_counted after ≤ attributes_counted before + open_among t (all_at instructions given)
+    → AreWithin s instructions ranges before after tried
+within_from s t instructions ranges given before after tried same_ranges same names attributes =
+    let whole : AreWithin t instructions given before after tried = record { names = names; attributes = attributes } in
+    subst (λ z. AreWithin z instructions ranges before after tried) same (subst (λ rs. AreWithin t instructions rs before after tried) same_ranges whole)
+
+module _ (s : Sight) (instructions : List Instruction) (front back : List (Range ℕ)) where
+  opens_appended : open_among s (all_at instructions (front ++ back)) ≡ open_among s (all_at instructions front) + open_among s (all_at instructions back)
+  opens_appended = ap (open_among s) (all_appended instructions front back) ∙ open_among-append s (all_at instructions front) (all_at instructions back)
+
+  pub within_front : (before after : Tries) (tried : ℕ) → AreWithin s instructions front before after tried → AreWithin s instructions (front ++ back) before after tried
+  within_front before after tried h = record { names = omega (arith, h.names, length_appended instructions front back); attributes = omega (arith, h.attributes, opens_appended) }
+
+  pub within_after : (before between after : Tries) (tried : ℕ)
+      → AreWithin s instructions front before between tried → AreWithin s instructions back between after 0 → AreWithin s instructions (front ++ back) before after tried
+  within_after before between after tried first second =
+      record { names = omega (arith, first.names, second.names, length_appended instructions front back); attributes = omega (arith, first.attributes, second.attributes, opens_appended) }
+
+  -- what comes after them can be run
+  pub runs_on : (before between : Tries) (tried : ℕ) → AreWithin s instructions front before between tried → AreRunnable instructions (front ++ back) before → AreRunnable instructions back between
+  runs_on before between tried h runnable =
+      back_runnable instructions front back before between runnable (omega (arith, h.names)) (omega (arith, h.attributes, open_at_most s (all_at instructions front)))

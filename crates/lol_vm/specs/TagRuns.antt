@@ -1,5 +1,5 @@
 -- What a start tag is run through, and where its run goes on.
-use Rattle.std.specs.Prelude.{ℕ, ◌+◌, ◌-◌, ◌≡◌, slice_get, List, [], ◌∷◌, ◌++◌, length, Option, Some, None}
+use Rattle.std.specs.Prelude.{ℕ, ◌+◌, ◌-◌, ◌≡◌, ◌≤◌, slice_get, List, [], ◌∷◌, ◌++◌, length, Option, Some, None}
 use Rattle.std.specs.declared.ops.Range.{Range}
 use Rattle.lol_base.specs.LocalNames.{Name}
 use Rattle.lol_memory.specs.Ids.{Ids}
@@ -88,6 +88,11 @@ module _ {E : Type 0} (ids : E → Ids) (with_ids : E → Ids → E) (s : Sight)
     pub gathered : new ≡ gathered_with_attributes ids with_ids s a old (all_at instructions ranges)
     pub names : names_counted after + tried ≡ names_counted before + length (all_at instructions ranges)
     pub attributes : attributes_counted after ≡ attributes_counted before + open_among s (all_at instructions ranges)
+
+-- At most so many tries were counted as ranges ask for, refused or not; so many of their instructions were tried by names before.
+pub record AreWithin (s : Sight) (instructions : List Instruction) (ranges : List (Range ℕ)) (before after : Tries) (tried : ℕ) : Type 0 where
+  pub names : names_counted after + tried ≤ names_counted before + length (all_at instructions ranges)
+  pub attributes : attributes_counted after ≤ attributes_counted before + open_among s (all_at instructions ranges)
 
 -- Of a program and a stack
 

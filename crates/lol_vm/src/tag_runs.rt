@@ -5,7 +5,7 @@ ghost use Rattle.lol_program.specs.Compiled.{sight};
 ghost use Rattle.lol_program.specs.Tries.{attributes_counted};
 ghost use Rattle.lol_vm.specs.InstructionRuns.{AreRunnable, HaveSmallIds, ranges_in};
 ghost use Rattle.lol_vm.specs.Stacks.{active_in};
-ghost use Rattle.lol_vm.specs.TagRuns.{ranges_of, stop_of, stop_if, left_of, tried_at, IsPointOf, IsPointIn, AreTried, AreExecuted, jumps_in, ranges_to_run_in, sight_in, stop_at, stop_found, ranges_left};
+ghost use Rattle.lol_vm.specs.TagRuns.{ranges_of, stop_of, stop_if, left_of, tried_at, IsPointOf, IsPointIn, AreTried, AreExecuted, AreWithin, jumps_in, ranges_to_run_in, sight_in, stop_at, stop_found, ranges_left};
 
 use crate::element_data::ElementData;
 use crate::execution_ctx::ExecutionCtx;
@@ -52,6 +52,7 @@ fn try_ranges_of_tag<E: ElementData>(
     ensures point { AreRunnable instructions.now (ranges_of ranges.now) tries.old → IfOk result (λ point. IfSome point (IsPointOf instructions.now ranges.now)) }
     ensures stop { IfOk result (λ point. IsSome point → IsSome (stop_if ranges.now point)) }
     ensures attributes { attributes_counted tries.new ≡ attributes_counted tries.old }
+    ensures within { AreRunnable instructions.now (ranges_of ranges.now) tries.old → AreWithin (sight state.now ctx.old.stack_item.local_name) instructions.now (ranges_of ranges.now) tries.old tries.new 0 }
     ensures name { ctx.new.stack_item.local_name ≡ ctx.old.stack_item.local_name }
     ensures content { ctx.new.with_content ≡ ctx.old.with_content }
     ensures free { ctx.old.with_content ≡ false → HaveSmallIds instructions.now → IsOk result }
@@ -83,6 +84,7 @@ fn complete_ranges_of_tag<E: ElementData>(
     tries: &mut Tries,
 ) -> Result<(), AllocError>
     ensures executed { IsPointOf instructions.now ranges.now point → AreRunnable instructions.now (left_of ranges.now point) tries.old → IfOk result (λ done. AreExecuted E.ids E.with_ids (sight state.now ctx.old.stack_item.local_name) instructions.now (left_of ranges.now point) ctx.old ctx.new tries.old tries.new matcher.now (tried_at (stop_of ranges.now point))) }
+    ensures within { IsPointOf instructions.now ranges.now point → AreRunnable instructions.now (left_of ranges.now point) tries.old → AreWithin (sight state.now ctx.old.stack_item.local_name) instructions.now (left_of ranges.now point) tries.old tries.new (tried_at (stop_of ranges.now point)) }
     ensures name { ctx.new.stack_item.local_name ≡ ctx.old.stack_item.local_name }
     ensures content { ctx.new.with_content ≡ ctx.old.with_content }
     ensures free { ctx.old.with_content ≡ false → HaveSmallIds instructions.now → IsOk result }
@@ -162,6 +164,7 @@ pub(crate) fn try_tag<'s, 'i: 's, E: ElementData>(
     ensures stop { IfOk result (λ point. IsSome point → IsSome (stop_found program.now.entry_points (jumps_in stack.now) point)) }
     ensures attributes { attributes_counted tries.new ≡ attributes_counted tries.old }
     ensures size { length program.now.instructions.items < 2 ^ 63 }
+    ensures within { AreRunnable program.now.instructions.items (ranges_to_run_in program.now stack.now) tries.old → AreWithin (sight_in stack.now ctx.old.stack_item.local_name) program.now.instructions.items (ranges_to_run_in program.now stack.now) tries.old tries.new 0 }
     ensures name { ctx.new.stack_item.local_name ≡ ctx.old.stack_item.local_name }
     ensures content { ctx.new.with_content ≡ ctx.old.with_content }
     ensures free { ctx.old.with_content ≡ false → HaveSmallIds program.now.instructions.items → IsOk result }
@@ -188,6 +191,7 @@ pub(crate) fn complete_tag<'s, 'i: 's, E: ElementData>(
 ) -> Result<(), AllocError>
     ensures executed { IsPointIn program.now.instructions.items program.now.entry_points (jumps_in stack.now) (ranges_in (active_in stack.now)) point → AreRunnable program.now.instructions.items (ranges_left (ranges_to_run_in program.now stack.now) (stop_at program.now.entry_points (jumps_in stack.now) point)) tries.old → IfOk result (λ done. AreExecuted E.ids E.with_ids (sight_in stack.now ctx.old.stack_item.local_name) program.now.instructions.items (ranges_left (ranges_to_run_in program.now stack.now) (stop_at program.now.entry_points (jumps_in stack.now) point)) ctx.old ctx.new tries.old tries.new matcher.now (tried_at (stop_at program.now.entry_points (jumps_in stack.now) point))) }
     ensures size { length program.now.instructions.items < 2 ^ 63 }
+    ensures within { IsPointIn program.now.instructions.items program.now.entry_points (jumps_in stack.now) (ranges_in (active_in stack.now)) point → AreRunnable program.now.instructions.items (ranges_left (ranges_to_run_in program.now stack.now) (stop_at program.now.entry_points (jumps_in stack.now) point)) tries.old → AreWithin (sight_in stack.now ctx.old.stack_item.local_name) program.now.instructions.items (ranges_left (ranges_to_run_in program.now stack.now) (stop_at program.now.entry_points (jumps_in stack.now) point)) tries.old tries.new (tried_at (stop_at program.now.entry_points (jumps_in stack.now) point)) }
     ensures name { ctx.new.stack_item.local_name ≡ ctx.old.stack_item.local_name }
     ensures content { ctx.new.with_content ≡ ctx.old.with_content }
     ensures free { ctx.old.with_content ≡ false → HaveSmallIds program.now.instructions.items → IsOk result }
