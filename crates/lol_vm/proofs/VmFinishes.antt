@@ -1,6 +1,6 @@
 -- Requests that are finished, and what the machine of the code answers to them.
 use Rattle.std.proofs.Common.{◌≡◌, ℕ, suc, zero, ◌+◌, ◌-◌, ◌<◌, ◌≤◌, ◌^◌, Bool, true, false, not, List, [], ◌∷◌, ◌++◌, length, map, drop, get_or, All, Option, Some, None, refl, sym, ap, ◌∙◌, subst, arith}
-use Rattle.std.specs.Prelude.{◌&&◌, if◌then◌else◌, count_by}
+use Rattle.std.specs.Prelude.{◌&&◌, ◌||◌, if◌then◌else◌, count_by}
 use Rattle.std.proofs.lemmas.List.{length-append, length-take}
 use Rattle.std.proofs.lemmas.List.Concat.{length-flat_map}
 use Rattle.std.proofs.lemmas.List.Elements.{All-drop}
@@ -26,14 +26,15 @@ use Rattle.lol_vm.specs.Events.{Event, Start, has_content, has_content_in}
 use Rattle.lol_vm.specs.Gathering.{Gathers}
 use Rattle.lol_vm.specs.InstructionRuns.{gathered_with_attributes, AreRunnable, IsInsideOf, all_at, no_range, open_among, ranges_in}
 use Rattle.lol_vm.specs.InstructionLaws.{AreRangesOf}
-use Rattle.lol_vm.specs.MachineLaws.{GivesReport}
+use Rattle.lol_vm.specs.MachineLaws.{GivesReport, TriesAreExact, starts_open}
 use Rattle.lol_vm.specs.Machines.{AreItems, HoldOnce, LeftMatches}
 use Rattle.lol_vm.specs.PlaceRuns.{Context, no_context, context_of, is_open_at, run}
 use Rattle.lol_vm.specs.StackMachines.{IsItemOf}
 use Rattle.lol_vm.specs.Stacks.{active_in}
 use Rattle.lol_vm.specs.Standing.{Machine, StandsFor, ranges_of_machine}
-use Rattle.lol_vm.specs.TagRuns.{AreExecuted, IsPointIn, jumps_in, ranges_left, ranges_to_run_in, sight_in, stop_at, tag_ranges, tried_at, IsStopOf}
-use Rattle.lol_vm.specs.Vms.{Vm, Shows, IsAnswered, IsReported, IsEntered, IsPending, GoesOnAt, content_at, content_of, info_of, data_in}
+use Rattle.lol_vm.specs.TagRuns.{AreExecuted, AreWithin, IsPointIn, jumps_in, ranges_left, ranges_to_run_in, sight_in, stop_at, tag_ranges, tried_at, IsStopOf}
+use Rattle.lol_vm.specs.VmLaws.{RequestsTryAtMost}
+use Rattle.lol_vm.specs.Vms.{Vm, Shows, IsAnswered, IsReported, IsTriedAtMost, IsEntered, IsPending, GoesOnAt, content_at, content_of, info_of, data_in}
 use Rattle.lol_vm.specs.declared.error.AuxStartTagInfoRequest.{AuxStartTagInfoRequest}
 use Rattle.lol_vm.specs.declared.execution_ctx.ExecutionCtx.{ExecutionCtx}
 use Rattle.lol_vm.specs.declared.instruction_runs.Stop.{Stop}
@@ -86,7 +87,7 @@ point_is_stop instructions entry jumps active (HereditaryJumps stop) is = stop_a
 
 -- 3. A request
 
-module _ {E : Type 0} (ids : E → Ids) (with_ids : E → Ids → E) (lends : (w : E) (more : Ids) → ids (with_ids w more) ≡ more) (vm : Vm E) (s : Selectors) (esi : Bool) (events : List Event) (tag : StartTag) (request : AuxStartTagInfoRequest E)
+module _ {E : Type 0} (ids : E → Ids) (vm : Vm E) (s : Selectors) (esi : Bool) (events : List Event) (tag : StartTag) (request : AuxStartTagInfoRequest E)
     (pending : IsPending ids s esi events tag vm request) where
   abbrev m : Machine
   m = pending.machine
@@ -145,6 +146,42 @@ module _ {E : Type 0} (ids : E → Ids) (with_ids : E → Ids → E) (lends : (w
       at_most_one None = omega arith
       at_most_one (Some stop) = omega arith
 
+  tries_all : TriesAreExact s m.program rs e d.open_elements
+  tries_all =
+      places_count_tries s pending.paths m.program rs e d.open_elements pending.closed pending.standing.program
+      (held s pending.paths m d.open_elements pending.closed pending.standing.program items pending.standing.active vm.stack vm.program pending.shown.stack pending.shown.program)
+
+  -- as many are open among those that are left as the definition tries by attributes
+  opens_left : open_among (sight_in vm.stack request.ctx.stack_item.local_name) (all_at all left_code) ≡ attribute_tries s.nodes e d.open_elements
+  opens_left =
+      ap (λ z. open_among z (all_at all left_code)) pending.seen
+      ∙ ((instructions_are_as_open m.program m.program.by_type e all left_code are_left).opens
+      ∙ (ap (count_by (is_open_at m.program e)) (sym pending.places_left)
+      ∙ (left_counted (is_open_at m.program e) pending.is_request.before pending.left (λ place a. pending.is_request.closed place (contains_from_among pending.is_request.before place a))
+      ∙ (ap (count_by (is_open_at m.program e)) (sym pending.is_request.parts) ∙ tries_all.attributes))))
+
+  -- while the request is open, and once it is finished or refused, no more nodes are tried than the definition tries
+  pub open_tried : IsTriedAtMost s esi events tag vm.tries
+  open_tried =
+      let names = pending.names in
+      let before = ap length pending.is_request.parts ∙ length-append pending.is_request.before pending.left in
+      record { names = omega (arith, names, all_count, before, one_left stop pending.goes_on); attributes = omega (arith, pending.attributes) }
+    where
+      some_left : (left : List ℕ) → starts_open m.program e left ≡ true → 1 ≤ length left
+      some_left [] h = cc
+      some_left (place ∷ left) h = omega arith
+
+      starts : (b o : Bool) → b ≡ true → (not b || o) ≡ true → o ≡ true
+      starts true o is h = h
+      starts false o is h = cc
+
+      one_left : (o : Option Stop) → GoesOnAt (is_html tag.namespace) (has_content esi tag) pending.context o request.ctx.with_content → tried_at o ≤ length pending.left
+      one_left None h = omega arith
+      one_left (Some at) h = some_left pending.left (starts (is_html tag.namespace) (starts_open m.program e pending.left) h.0 pending.is_request.asks)
+
+  pub tried_at_most : (after : Tries) → AreWithin (sight_in vm.stack request.ctx.stack_item.local_name) all left_code vm.tries after (tried_at stop) → IsTriedAtMost s esi events tag after
+  tried_at_most after within = record { names = omega (arith, within.names, pending.names, left_count, all_count); attributes = omega (arith, within.attributes, pending.attributes, opens_left) }
+
   content_now : (self_closing : Bool) → self_closing ≡ tag.self_closing → content_at request.point request.ctx.with_content self_closing ≡ has_content esi tag
   content_now self_closing is = by_point request.point (pending.goes_on)
     where
@@ -171,7 +208,7 @@ module _ {E : Type 0} (ids : E → Ids) (with_ids : E → Ids → E) (lends : (w
       by_point (Jumps at) h = pending.gathered
       by_point (HereditaryJumps at) h = pending.gathered
 
-  module _ (self_closing : Bool) (is_closing : self_closing ≡ tag.self_closing) (finish : tag.finish ≡ true) (new_ctx : ExecutionCtx E) (after : Tries) where
+  module _ (with_ids : E → Ids → E) (lends : (w : E) (more : Ids) → ids (with_ids w more) ≡ more) (self_closing : Bool) (is_closing : self_closing ≡ tag.self_closing) (finish : tag.finish ≡ true) (new_ctx : ExecutionCtx E) (after : Tries) where
     abbrev ctx : ExecutionCtx E
     ctx = record request.ctx { with_content = content_at request.point request.ctx.with_content self_closing }
 
@@ -212,19 +249,12 @@ module _ {E : Type 0} (ids : E → Ids) (with_ids : E → Ids → E) (lends : (w
       pub has_reported : {F : Type 0} (step : F → MatchInfo → Unit {0} → F → Type 0) (f g : F) → IsCalledAtEach step f (reports new_ctx.with_content (ascending (ids new_ctx.stack_item.element_data))) g
           → IsReported step s esi events tag true after f g
       has_reported step f g called =
-          let tries = places_count_tries s pending.paths m.program rs e d.open_elements pending.closed pending.standing.program is_held in
-          let opens : open_among (sight_in vm.stack request.ctx.stack_item.local_name) (all_at all left_code) ≡ attribute_tries s.nodes e d.open_elements =
-          ap (λ z. open_among z (all_at all left_code)) pending.seen
-          ∙ ((instructions_are_as_open m.program m.program.by_type e all left_code are_left).opens
-          ∙ (ap (count_by (is_open_at m.program e)) (sym pending.places_left)
-          ∙ (left_counted (is_open_at m.program e) pending.is_request.before pending.left (λ place a. pending.is_request.closed place (contains_from_among pending.is_request.before place a))
-          ∙ (ap (count_by (is_open_at m.program e)) (sym pending.is_request.parts) ∙ tries.attributes)))) in
           record {
             asks = pending.asks;
             called = subst (λ infos. IsCalledAtEach step f infos g)
                 ((λ i. reports (has_content_still i) (is_matched i)) ∙ sym (map-map info_of (λ id. record { id = id; with_content = has_content esi tag }) (matching_ids s.pairs e d.open_elements))) called;
             names = omega (arith, executed.names, pending.names, left_count, all_count);
-            attributes = executed.attributes ∙ (ap (λ n. n + open_among (sight_in vm.stack request.ctx.stack_item.local_name) (all_at all left_code)) pending.attributes ∙ (zero_more _ ∙ opens));
+            attributes = executed.attributes ∙ (ap (λ n. n + open_among (sight_in vm.stack request.ctx.stack_item.local_name) (all_at all left_code)) pending.attributes ∙ (zero_more _ ∙ opens_left));
           }
         where
           zero_more : (n : ℕ) → 0 + n ≡ n
@@ -264,3 +294,6 @@ module _ {E : Type 0} (ids : E → Ids) (with_ids : E → Ids → E) (lends : (w
             opened = opened_as ids (has_content esi tag) (report s esi e d.open_elements) new_ctx.stack_item (is_matched ∙ sym (map-map (λ (r : Match). r.id) (λ id. record { id = id; with_content = has_content esi tag }) (matching_ids s.pairs e d.open_elements) ∙ map-id (matching_ids s.pairs e d.open_elements)))
                 (data_in vm) (data_in next) (data_in vm) refl entering.has;
           }
+
+pub requests_try_at_most : {E : Type 0} → RequestsTryAtMost E
+requests_try_at_most ids s esi events tag vm request pending = open_tried ids vm s esi events tag request pending

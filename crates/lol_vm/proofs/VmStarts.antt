@@ -32,8 +32,8 @@ use Rattle.lol_vm.specs.SoundStacks.{IsSound}
 use Rattle.lol_vm.specs.StackMachines.{Keeps, IsItemOf}
 use Rattle.lol_vm.specs.Stacks.{items_in, active_in, last_count, typed_count, counted_in, counted_item, counted_if, with_typed, element_data_of}
 use Rattle.lol_vm.specs.Standing.{Machine, StandsFor, AnswersStart, counted, opened, started, ranges_of_machine}
-use Rattle.lol_vm.specs.TagRuns.{AreTried, IsPointIn, jumps_in, ranges_to_run_in, sight_in, stop_at, ranges_left, tried_at}
-use Rattle.lol_vm.specs.Vms.{IsRequested, Vm, Shows, Stands, IsTagOf, IsAnswered, IsReported, IsPending, IsEntered, AreOpened, GoesOnAt, content_of, info_of, data_in}
+use Rattle.lol_vm.specs.TagRuns.{AreTried, AreWithin, IsPointIn, jumps_in, ranges_to_run_in, sight_in, stop_at, ranges_left, tried_at}
+use Rattle.lol_vm.specs.Vms.{IsRequested, Vm, Shows, Stands, IsTagOf, IsAnswered, IsReported, IsTriedAtMost, IsPending, IsEntered, AreOpened, GoesOnAt, content_of, info_of, data_in}
 use Rattle.lol_vm.specs.declared.error.AuxStartTagInfoRequest.{AuxStartTagInfoRequest}
 use Rattle.lol_vm.specs.declared.error.VmError.{VmError}
 use Rattle.lol_vm.specs.declared.error.VmError.TheVariants.{InfoRequest}
@@ -51,7 +51,7 @@ use Rattle.lol_vm.proofs.Kept.{items_length, requests_stand, standing_is_kept}
 use Rattle.lol_vm.proofs.SoundLemmas.{counting_keeps_sound, opening_keeps_sound}
 use Rattle.lol_vm.proofs.StackCounting.{counting_stack_keeps, seen_children, seen_places, typed_counts_are_fewer}
 use Rattle.lol_vm.proofs.StackMachines.{opening_stack_keeps}
-use Rattle.lol_vm.proofs.Starts.{StaysThe, held, stays, gathered, gathered_all, names_all, no_attributes, no_need, needs, left_places, names_left, runnable, content_ids, ranges_shown}
+use Rattle.lol_vm.proofs.Starts.{counted as run_count, StaysThe, held, stays, gathered, gathered_all, names_all, no_attributes, no_need, needs, left_places, names_left, runnable, content_ids, ranges_shown}
 use Rattle.lol_vm.proofs.Lists.{to_once}
 use Rattle.lol_vm.proofs.Stops.{foreign_tags_ask, stops_are_requests}
 
@@ -178,6 +178,13 @@ module _ {E : Type 0} (ids : E → Ids) (with_ids : E → Ids → E) (lends : (w
   pub can_run : (before : Tries) → names_counted before ≡ 0 → attributes_counted before ≡ 0 → length vm.program.instructions.items < 2 ^ 63 → AreRunnable vm.program.instructions.items (ranges_to_run_in vm.program stack) before
   can_run before no_names no_attributes size =
       runnable s st.paths (counted m tag.name) d.open_elements st.closed st.standing.program st.standing.items st.standing.active stack vm.program keeps st.shown.program e before no_names no_attributes size
+
+  -- and no more nodes are tried than the definition tries
+  pub tried_at_most : (before after : Tries) → names_counted before ≡ 0 → attributes_counted before ≡ 0 → attributes_counted after ≡ attributes_counted before
+      → AreWithin (sight_in stack name) vm.program.instructions.items (ranges_to_run_in vm.program stack) before after 0 → IsTriedAtMost s esi events tag after
+  tried_at_most before after no_names no_attributes same within =
+      let run = run_count s st.paths (counted m tag.name) d.open_elements st.closed st.standing.program st.standing.items st.standing.active stack vm.program keeps st.shown.program e in
+      record { names = omega (arith, within.names, no_names, run); attributes = omega (arith, same, no_attributes) }
 
   -- 4. A request at once
 
@@ -330,6 +337,10 @@ module _ {E : Type 0} (ids : E → Ids) (with_ids : E → Ids → E) (lends : (w
             opened = opened_as ids (has_content esi tag) (report s esi e d.open_elements) new_ctx.stack_item (is_matched ∙ sym (map-map (λ (r : Match). r.id) (λ id. record { id = id; with_content = has_content esi tag }) (matching_ids s.pairs e d.open_elements) ∙ map-id (matching_ids s.pairs e d.open_elements)))
                 (data_in vm) (data_in next) (element_data_of (items_in stack)) same_data entering.has;
           }
+
+-- where nothing was tried
+pub none_tried : (s : Selectors) (esi : Bool) (events : List Event) (tag : StartTag) (tries next : Tries) → next ≡ tries → names_counted tries ≡ 0 → attributes_counted tries ≡ 0 → IsTriedAtMost s esi events tag next
+none_tried s esi events tag tries next same no_names no_attributes = record { names = omega (arith, ap names_counted same, no_names); attributes = omega (arith, ap attributes_counted same, no_attributes) }
 
 -- 6. Requests that are answered
 

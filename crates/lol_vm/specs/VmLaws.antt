@@ -1,5 +1,7 @@
 -- What those who go tag by tag rely on.
 use Rattle.std.specs.Prelude.{◌≡◌, Bool, List}
+use Rattle.lol_base.specs.StartTags.{StartTag}
+use Rattle.lol_memory.specs.Ids.{Ids}
 use Rattle.lol_memory.specs.Slots.{slots}
 use Rattle.lol_program.specs.Paths.{Selectors}
 use Rattle.lol_program.specs.Tests.{Element}
@@ -7,7 +9,8 @@ use Rattle.lol_vm.specs.Answers.{document}
 use Rattle.lol_vm.specs.Events.{Event}
 use Rattle.lol_vm.specs.Refusals.{longest}
 use Rattle.lol_vm.specs.StackLending.{with_current_in}
-use Rattle.lol_vm.specs.Vms.{Vm, Stands, HasOpen, slots_charged, slot_bytes}
+use Rattle.lol_vm.specs.Vms.{Vm, Stands, HasOpen, IsPending, IsTriedAtMost, tries_in, slots_charged, slot_bytes}
+use Rattle.lol_vm.specs.declared.error.AuxStartTagInfoRequest.{AuxStartTagInfoRequest}
 
 -- What a caller writes into the data of the last open element changes neither which events the machine stands for, and so no later
 -- report, nor which elements are open.
@@ -20,6 +23,12 @@ DataKeepOpen E = (vm : Vm E) (elements : List Element) (w : E) → HasOpen vm el
 -- A machine that stands for events has their open elements.
 abbrev pub StandingHasOpen : Type 0 → Type 0
 StandingHasOpen E = (s : Selectors) (esi : Bool) (vm : Vm E) (events : List Event) → Stands s esi vm events → HasOpen vm (document s esi events).open_elements
+
+-- While a request is open, no more nodes were tried for its tag than the definition tries.
+abbrev pub RequestsTryAtMost : Type 0 → Type 0
+RequestsTryAtMost E =
+    (ids_of : E → Ids) (s : Selectors) (esi : Bool) (events : List Event) (tag : StartTag) (vm : Vm E) (request : AuxStartTagInfoRequest E)
+    → IsPending ids_of s esi events tag vm request → IsTriedAtMost s esi events tag (tries_in vm)
 
 -- The slots that are charged are those of the greatest depth so far, and of nothing else.
 abbrev pub SlotsAreOfDepth : Type 0 → Type 0

@@ -1,5 +1,5 @@
 -- When a machine stands for the events that it was told of, and how it answers one more.
-use Rattle.std.specs.Prelude.{ℕ, ◌+◌, ◌≡◌, Bool, true, false, not, List, [], ◌∷◌, ◌++◌, map, length, Option, Some, None, Result, Ok, Err}
+use Rattle.std.specs.Prelude.{ℕ, ◌+◌, ◌≤◌, ◌≡◌, Bool, true, false, not, List, [], ◌∷◌, ◌++◌, map, length, Option, Some, None, Result, Ok, Err}
 use Rattle.std.specs.declared.ops.Range as std
 use Rattle.lol_base.specs.LocalNames.{Name, local_name}
 use Rattle.lol_base.specs.StartTags.{StartTag, attributes_of}
@@ -193,6 +193,11 @@ pub record IsReported {F : Type 0} (step : F → MatchInfo → Unit {0} → F �
   pub called : IsCalledAtEach step f (map info_of (report s esi (element_of (document s esi events) tag) (document s esi events).open_elements)) g
   pub names : names_counted tries ≡ name_tries s.nodes (document s esi events).open_elements
   pub attributes : attributes_counted tries ≡ attribute_tries s.nodes (element_of (document s esi events) tag) (document s esi events).open_elements
+
+-- No more nodes were tried for a start tag than the definition tries.
+pub record IsTriedAtMost (s : Selectors) (esi : Bool) (events : List Event) (tag : StartTag) (tries : Tries) : Type 0 where
+  pub names : names_counted tries ≤ name_tries s.nodes (document s esi events).open_elements
+  pub attributes : attributes_counted tries ≤ attribute_tries s.nodes (element_of (document s esi events) tag) (document s esi events).open_elements
 
 module _ {E : Type 0} (ids_of : E → Ids) where
   -- An element with content comes last, whose data hold exactly the ids that it is reported under; no other data change.

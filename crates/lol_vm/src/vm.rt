@@ -1,6 +1,6 @@
 //! The machine, tag by tag.
 
-ghost use Rattle.std.specs.Prelude.{List, Bool, Err, ℕ, ◌≡◌, ◌≤◌, ◌<◌, ◌-◌, ◌*◌, ◌↔◌, ◌++◌, ◌∷◌, [], true, false, take, drop, length, slice_get, OnOk, OnErr, IfOk, IsOk, IsSome, IsErrOf, IsNone};
+ghost use Rattle.std.specs.Prelude.{List, Bool, Err, ℕ, ◌≡◌, ◌≤◌, ◌<◌, ◌-◌, ◌*◌, ◌↔◌, ◌⊎◌, ◌++◌, ◌∷◌, [], true, false, take, drop, length, slice_get, OnOk, OnErr, IfOk, IsOk, IsSome, IsErrOf, IsNone};
 ghost use Rattle.std.specs.Option.{option_copied_mut, option_map};
 ghost use Rattle.std.specs.Borrow.{sem};
 ghost use Rattle.lol_base.specs.StartTags.{StartTag, RangesAreInside};
@@ -17,7 +17,7 @@ ghost use Rattle.lol_vm.specs.FreeTags.{TakesNoMemory, IsAskedOrFull};
 ghost use Rattle.lol_vm.specs.StackLending.{lends_current_of_vm};
 ghost use Rattle.lol_vm.specs.Stacks.{items_in, slots_in, list_in, last_count};
 ghost use Rattle.lol_vm.specs.Views.{selectors};
-ghost use Rattle.lol_vm.specs.Vms.{Stands, HasOpen, IsNameOf, IsTagOf, IsRestOf, IsAnswered, IsReported, IsPending, IsRefusal, IsSilent, content_at, open_after, stack_in, tries_in, has_failed, data_in, slots_charged, slot_bytes, IsRequested, IsEntered, IsFailedAs};
+ghost use Rattle.lol_vm.specs.Vms.{Stands, HasOpen, IsNameOf, IsTagOf, IsRestOf, IsAnswered, IsReported, IsTriedAtMost, IsPending, IsRefusal, IsSilent, content_at, open_after, stack_in, tries_in, has_failed, data_in, slots_charged, slot_bytes, IsRequested, IsEntered, IsFailedAs};
 
 use crate::element_data::ElementData;
 use crate::error::{AuxStartTagInfoRequest, VmError};
@@ -73,7 +73,8 @@ impl<P, N, M, E> VmOf<P, N, M, E> {
         self.stack.current_element_data_mut()
     }
 
-    /// How many nodes were tried for the last start tag that wasn't answered `Failed`, its finishing included. (Not in lol_html.)
+    /// How many nodes were tried for the last start tag that wasn't answered `Failed`, its finishing included: while its request is open
+    /// and after it was refused, at most those of the definition. (Not in lol_html.)
     pub fn tries(&self) -> Tries
         ensures { result ≡ self.now.tries }
     {
@@ -151,6 +152,9 @@ impl<E: ElementData> VmOf<Program, LocalName<'static>, StackNames, E> {
             → has_content esi tag ≡ true → IsLimited (list_in (stack_in self.old)) limiter.old → ⊥) }
         ensures free { (error : VmError E) → result ≡ Err error → (s : Selectors) (esi : Bool) (events : List Event) (tag : StartTag) → Stands s esi self.old events → IsTagOf local_name.entry ns tag
             → TakesNoMemory s tag → IsAskedOrFull error }
+        ensures tried { (s : Selectors) (esi : Bool) (events : List Event) (tag : StartTag) → Stands s esi self.old events → IsTagOf local_name.entry ns tag → IsTriedAtMost s esi events tag (tries_in self.new) }
+        ensures all_or_none { (error : AllocError) → result ≡ Err (VmError.Memory error) → (match_handler.new ≡ match_handler.old) ⊎ ((s : Selectors) (esi : Bool) (events : List Event) (tag : StartTag) → Stands s esi self.old events → IsTagOf local_name.entry ns tag
+            → IsReported F.step s esi events tag false (tries_in self.new) match_handler.old match_handler.new) }
     {
         if self.failed {
             return Err(VmError::Failed);
@@ -193,6 +197,7 @@ impl<E: ElementData> VmOf<Program, LocalName<'static>, StackNames, E> {
     fn request(&mut self, ctx: ExecutionCtx<'_, E>, point: RecoveryPoint) -> Result<(), VmError<E>>
         ensures requested { IsRequested ctx.entry point self.old self.new result }
         ensures free { IsNone ctx.entry.stack_item.local_name.spelling → self.new ≡ self.old }
+        ensures tries { self.new.tries ≡ self.old.tries }
     {
         match ctx.into_owned(self.alloc) {
             Ok(ctx) => Err(VmError::InfoRequest(AuxStartTagInfoRequest { ctx, point })),
@@ -218,6 +223,7 @@ impl<E: ElementData> VmOf<Program, LocalName<'static>, StackNames, E> {
         ensures limited { IsErrOf result (PushError.Limit (record {})) → (ctx.entry.with_content ≡ true) × IsLimited (list_in self.old.stack) limiter.old }
         ensures unlimited { OnOk result (ctx.entry.with_content ≡ true → IsLimited (list_in self.old.stack) limiter.old → ⊥) }
         ensures closed { ctx.entry.with_content ≡ false → IsOk result }
+        ensures tries { self.new.tries ≡ self.old.tries }
         ensures err { OnErr result (IsFailedAs self.old self.new) }
         ensures err_limiter { OnErr result (limiter.new ≡ limiter.old) }
     {
@@ -268,6 +274,9 @@ impl<E: ElementData> VmOf<Program, LocalName<'static>, StackNames, E> {
         ensures unlimited { OnOk result ((s : Selectors) (esi : Bool) (events : List Event) (tag : StartTag) → IsPending E.ids s esi events tag self.old request → IsRestOf aux_info.entry tag
             → has_content esi tag ≡ true → IsLimited (list_in (stack_in self.old)) limiter.old → ⊥) }
         ensures free { (s : Selectors) (esi : Bool) (events : List Event) (tag : StartTag) → IsPending E.ids s esi events tag self.old request → TakesNoMemory s tag → IsOk result }
+        ensures tried { (s : Selectors) (esi : Bool) (events : List Event) (tag : StartTag) → IsPending E.ids s esi events tag self.old request → IsTriedAtMost s esi events tag (tries_in self.new) }
+        ensures all_or_none { (error : AllocError) → result ≡ Err (PushError.Memory error) → (match_handler.new ≡ match_handler.old) ⊎ ((s : Selectors) (esi : Bool) (events : List Event) (tag : StartTag) → IsPending E.ids s esi events tag self.old request → IsRestOf aux_info.entry tag
+            → IsReported F.step s esi events tag true (tries_in self.new) match_handler.old match_handler.new) }
     {
         let AuxStartTagInfoRequest { ctx, point } = request;
         let mut ctx = ctx;

@@ -1,6 +1,6 @@
 //! What those who go tag by tag rely on: each function takes and gives nothing, and its contract is the law.
 
-ghost use Rattle.lol_vm.specs.VmLaws.{DataChangeNothing, DataKeepOpen, SlotsAreOfDepth, StandingHasOpen};
+ghost use Rattle.lol_vm.specs.VmLaws.{DataChangeNothing, DataKeepOpen, RequestsTryAtMost, SlotsAreOfDepth, StandingHasOpen};
 
 /// What a caller writes into the data of the last open element changes no later report, and no open element.
 pub fn data_change_nothing<E>()
@@ -11,6 +11,11 @@ pub fn data_change_nothing<E>()
 /// A machine that stands for events has their open elements.
 pub fn standing_has_open<E>()
     ensures { StandingHasOpen E }
+{}
+
+/// While a request is open, no more nodes were tried for its tag than the definition tries.
+pub fn requests_try_at_most<E>()
+    ensures { RequestsTryAtMost E }
 {}
 
 /// The slots that are charged are those of the greatest depth so far.

@@ -1,4 +1,4 @@
-use Rattle.std.proofs.Common.{◌+◌, ◌≤◌, refl, ◌≡◌, ◌∷◌, ◌++◌, [], List, ℕ, arith, sym, ap, ◌∙◌, subst, Some, None, Ok}
+use Rattle.std.proofs.Common.{refl, ◌≡◌, ◌∷◌, ◌++◌, [], List, ℕ, arith, sym, ap, ◌∙◌, subst, Some, None, Ok}
 use Rattle.std.specs.declared.ops.Range.{Range}
 use Rattle.lol_program.specs.Compiled.{sight}
 use Rattle.lol_vm.specs.InstructionRuns.{AreRunnable, ranges_in}

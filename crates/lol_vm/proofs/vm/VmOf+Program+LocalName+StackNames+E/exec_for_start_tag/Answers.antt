@@ -1,4 +1,4 @@
-use Rattle.std.proofs.Common.{◌≡◌, true, false, true, Ok, refl, sym, ap, ◌∙◌, subst}
+use Rattle.std.proofs.Common.{◌≡◌, inr, true, false, true, Ok, refl, sym, ap, ◌∙◌, subst}
 use Rattle.std.specs.Result.{IfOk}
 use Rattle.std.specs.Option.{IfSome, IsNone, IsSome}
 use denote.Enum.Bare.{sameb}
@@ -11,8 +11,8 @@ use Rattle.lol_memory.specs.LimitedVec.{LimitedVec, IsLimited}
 use Rattle.lol_vm.specs.declared.stack.StackOf.{StackOf}
 use Rattle.lol_vm.specs.declared.stack.StackNames.{StackNames}
 use Rattle.lol_vm.specs.Stacks.{list_in, active_in, element_data_of, IsSame}
-use Rattle.lol_vm.specs.TagRuns.{AreTried, IsPointIn, jumps_in, ranges_to_run_in, sight_in, stop_found}
-use Rattle.lol_vm.specs.Vms.{Vm}
+use Rattle.lol_vm.specs.TagRuns.{AreTried, AreWithin, IsPointIn, jumps_in, ranges_to_run_in, sight_in, stop_found}
+use Rattle.lol_vm.specs.Vms.{Vm, IsTriedAtMost}
 use Rattle.lol_vm.specs.contracts.stack_item.StackDirective.{the_type}
 use Rattle.lol_vm.specs.declared.execution_ctx.ExecutionCtx.{ExecutionCtx}
 use Rattle.lol_vm.specs.declared.stack_item.StackItemOf.{StackItemOf}
@@ -20,7 +20,7 @@ use Rattle.lol_vm.specs.declared.stack_item.StackDirective.TheVariants.{Push, Pu
 use Rattle.lol_vm.proofs.Directives.{foreign_if, html_if, content_is}
 use Rattle.lol_vm.specs.declared.stack.AddChildError.TheVariants.{CounterFull}
 use Rattle.lol_vm.proofs.FreeTags.{asked_only, full_only, has_none_typed, has_small, never_pushed, void_unspelled}
-use Rattle.lol_vm.proofs.VmStarts.{has_reported, has_content_still, answered, pending_at_once, pending_point, can_run, requested_is}
+use Rattle.lol_vm.proofs.VmStarts.{none_tried, tried_at_most, has_reported, has_content_still, answered, pending_at_once, pending_point, can_run, requested_is}
 use Rattle.lol_vm.proofs.VmRefusals.{reported_with, limited_counted, not_false, err_is_not_ok, data_after, has_open_failed, has_open_same, on_err, open_counted, requested_keeps, same_stack}
 use Rattle.lol_vm.proofs.vm.VmOf+Program+LocalName+StackNames+E.exec_for_start_tag.Goals as goal
 
@@ -219,3 +219,105 @@ returns-in-Some-clause-free g c = λ error is s esi events tag stands named take
     let name : c.try_tag-tried.new.ctx.stack_item.local_name ≡ local_name tag.name = c.try_tag-tried.ensures.name ∙ (c.new-ctx.ensures.item.name ∙ named.0) in
     asked_only c.try_tag-tried.new.ctx c.in-Some.point _ c.request-in-Some.new.self c.request-in-Some.result error c.request-in-Some.ensures.requested
     (c.request-in-Some.ensures.free (subst (λ (n : Name). IsNone n.spelling) (sym name) (void_unspelled tag.name takes.2))) (sym stands.shown.refused ∙ stands.standing.never_refused) is
+
+pub returns-in-Err-answer-clause-all_or_none : goal.returns-in-Err-answer-clause-all_or_none
+returns-in-Err-answer-clause-all_or_none g c = λ error is. inr (λ s esi events tag stands named.
+    let vm = c.args.self.now in
+    let ids = g.E.ElementData.ids in
+    let with_ids = g.E.ElementData.with_ids in
+    let lends = g.met.E.ElementData.ids_of_changed in
+    let name = c.args.local_name in
+    let stack = c.add_child.new.self in
+    let ok = c.in_default.ensures.ok in
+    let room = c.in_default.ensures.room in
+    let new = c.new-ctx.ensures.item in
+    let tries = c.new-self.result in
+    let after = c.try_tag-tried.new.tries in
+    let directive = c.get_stack_directive-directive.ensures tag.name (new.name ∙ named.0) in
+    let html : is_html tag.namespace ≡ true =
+    ap is_html named.1 ∙ html_if c.args.ns vm.enable_esi_tags tag.name (ap (λ x. sameb the_type x PushIfNotSelfClosing) (sym directive) ∙ (sym c.eq.ensures ∙ c.if-eq.false)) in
+    let content : c.eq-2.result ≡ has_content vm.enable_esi_tags tag =
+    c.eq-2.ensures ∙ (ap (λ x. sameb the_type x Push) (directive ∙ ap (λ ns. directive_in ns vm.enable_esi_tags tag.name) (sym named.1)) ∙ content_is tag vm.enable_esi_tags html) in
+    let switch : vm.enable_esi_tags ≡ esi = sym stands.shown.switch ∙ stands.standing.switch in
+    let ctx : ExecutionCtx _ = record c.new-ctx.result { with_content = c.eq-2.result } in
+    let runnable = can_run ids with_ids lends vm name c.args.ns s esi events tag stands named stack ok room tries c.new-self.ensures.names c.new-self.ensures.attributes c.try_tag-tried.ensures.size in
+    let of_name = subst (λ n. IfOk c.try_tag-tried.result (λ point. AreTried ids with_ids (sight_in stack n) vm.program.instructions.items (ranges_to_run_in vm.program stack) ctx c.try_tag-tried.new.ctx tries after (stop_found vm.program.entry_points (jumps_in stack) point))) new.name in
+    let no_tries = c.try_tag-tried.ensures.attributes ∙ c.new-self.ensures.attributes in
+    let holds = content ∙ ap (λ b. has_content b tag) switch in
+    let tried = subst (λ r. IfOk r (λ point. AreTried ids with_ids (sight_in stack name) vm.program.instructions.items (ranges_to_run_in vm.program stack) ctx c.try_tag-tried.new.ctx tries after (stop_found vm.program.entry_points (jumps_in stack) point)))
+    (c.in-Ok.is ∙ ap Ok c.in_default-stopped.is) (of_name (c.try_tag-tried.ensures.tried runnable)) in
+    reported_with _ s esi events tag false c.args.match_handler.now c.answer.new.match_handler after c.answer.new.self.tries (ap (λ (v : Vm _). v.tries) c.in-Err-answer.ensures.err.1) (has_reported ids with_ids lends vm name c.args.ns s esi events tag stands named stack ok room ctx c.try_tag-tried.new.ctx tries after new holds c.new-ctx.ensures.ns html c.new-self.ensures.names no_tries tried _ c.args.match_handler.now c.answer.new.match_handler c.in-Err-answer.ensures.reported))
+
+pub returns-in-Err-tried-clause-tried : goal.returns-in-Err-tried-clause-tried
+returns-in-Err-tried-clause-tried g c = λ s esi events tag stands named.
+    let vm = c.args.self.now in
+    let ids = g.E.ElementData.ids in
+    let with_ids = g.E.ElementData.with_ids in
+    let lends = g.met.E.ElementData.ids_of_changed in
+    let name = c.args.local_name in
+    let stack = c.add_child.new.self in
+    let ok = c.in_default.ensures.ok in
+    let room = c.in_default.ensures.room in
+    let new = c.new-ctx.ensures.item in
+    let tries = c.new-self.result in
+    let after = c.try_tag-tried.new.tries in
+    let runs = can_run ids with_ids lends vm name c.args.ns s esi events tag stands named stack ok room tries c.new-self.ensures.names c.new-self.ensures.attributes c.try_tag-tried.ensures.size in
+    let within = subst (λ n. AreWithin (sight_in stack n) vm.program.instructions.items (ranges_to_run_in vm.program stack) tries after 0) new.name (c.try_tag-tried.ensures.within runs) in
+    tried_at_most ids with_ids lends vm name c.args.ns s esi events tag stands named stack ok room tries after c.new-self.ensures.names c.new-self.ensures.attributes c.try_tag-tried.ensures.attributes within
+
+pub returns-in-Some-clause-tried : goal.returns-in-Some-clause-tried
+returns-in-Some-clause-tried g c = λ s esi events tag stands named.
+    let vm = c.args.self.now in
+    let ids = g.E.ElementData.ids in
+    let with_ids = g.E.ElementData.with_ids in
+    let lends = g.met.E.ElementData.ids_of_changed in
+    let name = c.args.local_name in
+    let stack = c.add_child.new.self in
+    let ok = c.in_default.ensures.ok in
+    let room = c.in_default.ensures.room in
+    let new = c.new-ctx.ensures.item in
+    let tries = c.new-self.result in
+    let after = c.try_tag-tried.new.tries in
+    let runs = can_run ids with_ids lends vm name c.args.ns s esi events tag stands named stack ok room tries c.new-self.ensures.names c.new-self.ensures.attributes c.try_tag-tried.ensures.size in
+    let within = subst (λ n. AreWithin (sight_in stack n) vm.program.instructions.items (ranges_to_run_in vm.program stack) tries after 0) new.name (c.try_tag-tried.ensures.within runs) in
+    subst (IsTriedAtMost s esi events tag) (sym c.request-in-Some.ensures.tries) (tried_at_most ids with_ids lends vm name c.args.ns s esi events tag stands named stack ok room tries after c.new-self.ensures.names c.new-self.ensures.attributes c.try_tag-tried.ensures.attributes within)
+
+pub returns-in-Ok-answer-clause-tried : goal.returns-in-Ok-answer-clause-tried
+returns-in-Ok-answer-clause-tried g c = λ s esi events tag stands named.
+    let vm = c.args.self.now in
+    let ids = g.E.ElementData.ids in
+    let with_ids = g.E.ElementData.with_ids in
+    let lends = g.met.E.ElementData.ids_of_changed in
+    let name = c.args.local_name in
+    let stack = c.add_child.new.self in
+    let ok = c.in_default.ensures.ok in
+    let room = c.in_default.ensures.room in
+    let new = c.new-ctx.ensures.item in
+    let tries = c.new-self.result in
+    let after = c.try_tag-tried.new.tries in
+    let runs = can_run ids with_ids lends vm name c.args.ns s esi events tag stands named stack ok room tries c.new-self.ensures.names c.new-self.ensures.attributes c.try_tag-tried.ensures.size in
+    let within = subst (λ n. AreWithin (sight_in stack n) vm.program.instructions.items (ranges_to_run_in vm.program stack) tries after 0) new.name (c.try_tag-tried.ensures.within runs) in
+    subst (IsTriedAtMost s esi events tag) (sym c.answer.ensures.tries) (tried_at_most ids with_ids lends vm name c.args.ns s esi events tag stands named stack ok room tries after c.new-self.ensures.names c.new-self.ensures.attributes c.try_tag-tried.ensures.attributes within)
+
+pub returns-in-Err-answer-clause-tried : goal.returns-in-Err-answer-clause-tried
+returns-in-Err-answer-clause-tried g c = λ s esi events tag stands named.
+    let vm = c.args.self.now in
+    let ids = g.E.ElementData.ids in
+    let with_ids = g.E.ElementData.with_ids in
+    let lends = g.met.E.ElementData.ids_of_changed in
+    let name = c.args.local_name in
+    let stack = c.add_child.new.self in
+    let ok = c.in_default.ensures.ok in
+    let room = c.in_default.ensures.room in
+    let new = c.new-ctx.ensures.item in
+    let tries = c.new-self.result in
+    let after = c.try_tag-tried.new.tries in
+    let runs = can_run ids with_ids lends vm name c.args.ns s esi events tag stands named stack ok room tries c.new-self.ensures.names c.new-self.ensures.attributes c.try_tag-tried.ensures.size in
+    let within = subst (λ n. AreWithin (sight_in stack n) vm.program.instructions.items (ranges_to_run_in vm.program stack) tries after 0) new.name (c.try_tag-tried.ensures.within runs) in
+    subst (IsTriedAtMost s esi events tag) (sym c.answer.ensures.tries) (tried_at_most ids with_ids lends vm name c.args.ns s esi events tag stands named stack ok room tries after c.new-self.ensures.names c.new-self.ensures.attributes c.try_tag-tried.ensures.attributes within)
+
+pub returns-in-Err-clause-tried : goal.returns-in-Err-clause-tried
+returns-in-Err-clause-tried g c = λ s esi events tag stands named. none_tried s esi events tag c.new-self.result c.new-self.result refl c.new-self.ensures.names c.new-self.ensures.attributes
+
+pub returns-then-eq-clause-tried : goal.returns-then-eq-clause-tried
+returns-then-eq-clause-tried g c = λ s esi events tag stands named. none_tried s esi events tag c.new-self.result c.request.new.self.tries c.request.ensures.tries c.new-self.ensures.names c.new-self.ensures.attributes
