@@ -66,6 +66,23 @@ const LAYOUTS: [Layout; 10] = [
     ),
 ];
 
+/// Selectors that are one node each.
+const SINGLE_NODES: [&str; 13] = [
+    "div",
+    ":not(div)",
+    ".bar",
+    "[foo]",
+    "[FOO]",
+    "[foo=\"bar\"]",
+    "[FOO=\"bar\"]",
+    "[foo*=\"\"]",
+    "[foo~=\"bar\" i]",
+    "[foo^=\"bar\"]",
+    "[foo*=\"bar\"]",
+    "[foo$=\"bar\"]",
+    ":not([foo$=\"bar\"])",
+];
+
 /// The program of selectors, each under an id.
 fn program(alloc: Global, texts: &[(&str, u32)]) -> Result<Program, Fail> {
     Ok(Compiler::new(alloc).compile(tree(alloc, texts)?)?)
@@ -99,6 +116,15 @@ fn layouts(rt: HostRuntime) -> Result<(), Fail> {
         for (instruction, row) in program.instructions.iter().zip(rows) {
             assert!(rt; is_row(&instruction.associated_branch, row));
         }
+    }
+    Ok(())
+}
+
+#[test]
+fn single_nodes(rt: HostRuntime) -> Result<(), Fail> {
+    for text in SINGLE_NODES {
+        let node = instruction(&rt, rt.alloc(), text)?;
+        assert!(rt; is_row(&node.associated_branch, &(&[0], None, None)));
     }
     Ok(())
 }
