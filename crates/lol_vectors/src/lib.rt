@@ -25,6 +25,7 @@ mod machines;
 mod names;
 #[cfg(test)]
 mod nodes;
+mod plain_element;
 #[cfg(test)]
 mod programs;
 #[cfg(test)]
