@@ -1,1 +1,3 @@
 pub mod PlainTests
+pub mod PlainListed
+pub mod PlainIds

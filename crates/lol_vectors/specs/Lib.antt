@@ -1,1 +1,2 @@
 pub mod PlainElements
+pub mod PlainNodes

@@ -26,6 +26,7 @@ mod names;
 #[cfg(test)]
 mod nodes;
 mod plain_element;
+mod plain_nodes;
 #[cfg(test)]
 mod programs;
 #[cfg(test)]
