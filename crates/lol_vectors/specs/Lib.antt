@@ -1,2 +1,3 @@
 pub mod PlainElements
 pub mod PlainNodes
+pub mod Plain

@@ -1,5 +1,4 @@
 -- What the plain matcher's elements stand for.
-use Rattle.std.specs.Prelude.{ℕ, List}
 use Rattle.lol_base.specs.StartTags.{StartTag}
 use Rattle.lol_program.specs.Tests.{Element}
 use Rattle.lol_vectors.specs.declared.plain_element.PlainElement.{PlainElement}

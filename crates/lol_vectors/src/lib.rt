@@ -1,4 +1,5 @@
-//! Tests: vectors whose answers come from outside, and each call that can refuse once with ample memory. The library is empty.
+//! The answers to a list of tags by the definitions alone, slowly; and tests: vectors whose answers come from outside, and each call that can
+//! refuse once with ample memory.
 #![tactic(auto)]
 
 #[cfg(test)]
@@ -25,6 +26,8 @@ mod machines;
 mod names;
 #[cfg(test)]
 mod nodes;
+mod plain;
+mod plain_document;
 mod plain_element;
 mod plain_nodes;
 #[cfg(test)]
@@ -41,3 +44,5 @@ mod stack_model;
 mod stacks;
 #[cfg(test)]
 mod trees;
+
+pub use plain::{PlainAnswer, plain_answers};

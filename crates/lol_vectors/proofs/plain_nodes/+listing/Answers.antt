@@ -1,9 +1,8 @@
-use Rattle.std.proofs.Common.{◌≡◌, ◌++◌, List, map, refl, ap, ◌∙◌, subst}
+use Rattle.std.proofs.Common.{◌++◌, List, map, refl, ap, ◌∙◌}
 use Rattle.std.proofs.lemmas.Result.{on_ok_weaker}
 use Rattle.lol_css.specs.declared.selector.Combinator.TheVariants.{Child, Descendant}
 use Rattle.lol_program.specs.Views.{forest_of}
 use Rattle.lol_program.specs.declared.ast_node.AstNode.{AstNode}
-use Rattle.lol_program.specs.declared.ast_node.AstNode.TheViews.{out-AstNode}
 use Rattle.lol_vectors.specs.PlainNodes.{path_to, node_shown, nodes_listed}
 use Rattle.lol_vectors.specs.declared.plain_nodes.Step.{Step}
 use Rattle.lol_vectors.proofs.PlainListed.{listed_more, listed_under}

@@ -1,4 +1,4 @@
-use Rattle.std.proofs.Common.{ℕ, ◌+◌, ◌*◌, length}
+use Rattle.std.proofs.Common.{◌+◌, ◌*◌, length}
 use Rattle.lol_vectors.proofs.plain_nodes.+matching.Given as goal
 
 abbrev pub decreases-path_matches : goal.decreases-path_matches
