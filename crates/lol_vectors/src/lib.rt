@@ -31,6 +31,8 @@ mod plain_document;
 mod plain_element;
 mod plain_nodes;
 #[cfg(test)]
+mod plain_rows;
+#[cfg(test)]
 mod programs;
 #[cfg(test)]
 mod readings;
@@ -42,6 +44,8 @@ mod sets;
 mod stack_model;
 #[cfg(test)]
 mod stacks;
+#[cfg(test)]
+mod tag_words;
 #[cfg(test)]
 mod trees;
 
