@@ -13,14 +13,6 @@ use Rattle.lol_vectors.specs.Plain.{child_shown, document_shown}
 use Rattle.lol_vectors.specs.declared.plain_document.PlainDocument.{PlainDocument}
 use Rattle.lol_vectors.specs.declared.plain_element.PlainElement.{PlainElement}
 
-module _ {A B : Type 0} (p : B → Bool) (f : A → B) where
-  place-map : (xs : List A) → position_or_len p (map f xs) ≡ position_or_len (λ x. p (f x)) xs
-  place-map [] = refl
-  place-map (x ∷ xs) = λ i. cond (not (p (f x))) (1 + place-map xs i) 0
-
-  position-map : (xs : List A) → position p (map f xs) ≡ position (λ x. p (f x)) xs
-  position-map xs = λ i. cond (nat_lt (place-map xs i) (length-map xs f i)) (Some (place-map xs i)) None
-
 module _ (name : List ℕ) (d : PlainDocument) (events : ℕ) where
   abbrev elements : List PlainElement
   elements = d.open_elements.items
@@ -28,8 +20,15 @@ module _ (name : List ℕ) (d : PlainDocument) (events : ℕ) where
   abbrev place : Option ℕ
   place = position (λ (e : PlainElement). same_name e.name.now name) elements
 
+  abbrev named : Element → Bool
+  named e = same_name e.tag.name name
+
+  first_named : (es : List PlainElement) → position_or_len named (map element_shown es) ≡ position_or_len (λ e. named (element_shown e)) es
+  first_named [] = refl
+  first_named (e ∷ es) = λ i. cond (not (named (element_shown e))) (1 + first_named es i) 0
+
   same_place : place_of name (map element_shown elements) ≡ place
-  same_place = position-map (λ (e : Element). same_name e.tag.name name) element_shown elements
+  same_place = λ i. cond (nat_lt (first_named elements i) (length-map elements element_shown i)) (Some (first_named elements i)) None
 
   pub closes_nothing : place ≡ None → [] ≡ closed name (document_shown events d)
   closes_nothing none = sym (ap (λ p. reverse (map (λ (e : Element). e.number) (inner_part p (map element_shown elements)))) (same_place ∙ none))

@@ -2,6 +2,7 @@
 
 ghost use Rattle.std.specs.Prelude.{ℕ, ◌≡◌, ◌+◌, ◌<◌, ◌≤◌, ◌∷◌, if◌then◌else◌, IfOk, OnOk, IfSome, map, reverse, drop, position, length, vec_len};
 ghost use Rattle.std.specs.List.{list_any};
+ghost use Rattle.std.specs.Str.{bytes_eq};
 ghost use Rattle.lol_base.specs.StartTags.{RangesAreInside};
 ghost use Rattle.lol_base.specs.Names as names;
 ghost use Rattle.lol_vm.specs.Events.{has_content_in};
@@ -20,6 +21,9 @@ const VOID_NAMES: [&str; 17] = [
     "area", "base", "basefont", "bgsound", "br", "col", "embed", "hr", "img", "input", "keygen",
     "link", "meta", "param", "source", "track", "wbr",
 ];
+
+/// The names, spelled exactly so, that are void where ESI is on.
+const ESI_NAMES: [&str; 2] = ["esi:include", "esi:comment"];
 
 /// A start tag that came: the number of its parent, or none at the root, and its name.
 #[derive(Clone, Copy)]
@@ -170,7 +174,13 @@ fn is_among(name: &[u8], others: &[&str]) -> bool
 fn is_esi(name: &[u8]) -> bool
     ensures { result ≡ names.is_esi name.now }
 {
-    name == b"esi:include".as_slice() || name == b"esi:comment".as_slice()
+    is_spelled_among(name, &ESI_NAMES)
+}
+
+fn is_spelled_among(name: &[u8], others: &[&str]) -> bool
+    ensures { result ≡ list_any (λ other. bytes_eq name.now other.now) others.now }
+{
+    others.iter().any(|other| name == other.as_bytes())
 }
 
 /// Whether an element of a namespace has content.
