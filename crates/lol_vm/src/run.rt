@@ -201,7 +201,7 @@ fn take_start<F: FnMut(MatchInfo)>(
         Err(VmError::InfoRequest(request)) => request,
         Err(VmError::MemoryLimitExceeded(_)) => return Err(RunCause::MemoryLimitExceeded),
         Err(VmError::CounterFull) => return Err(RunCause::CounterFull),
-        Err(_) => return Err(RunCause::Memory),
+        Err(VmError::Memory(_) | VmError::Failed) => return Err(RunCause::Memory),
     };
     let Some(aux_info) = rest else {
         return Ok(None);
