@@ -1,5 +1,5 @@
 -- Blocks of names, round a place.
-use Rattle.std.proofs.Common.{◌≡◌, ◌∙◌, refl, sym, ap, subst, ℕ, zero, suc, ◌-◌, ◌<◌, ◌≤◌, arith, true, false, cond, List, [], ◌∷◌, ◌++◌, length, take, drop, map, Option, Some, None, unwrap_or}
+use Rattle.std.proofs.Common.{◌≡◌, ◌∙◌, refl, sym, ap, subst, ℕ, zero, suc, ◌-◌, ◌<◌, ◌≤◌, arith, Bool, true, false, cond, List, [], ◌∷◌, ◌++◌, length, take, drop, map, Option, Some, None, unwrap_or}
 use Rattle.std.specs.Prelude.{slice_get, slice_set, slice_index_or}
 use Rattle.std.proofs.lemmas.Option.{get_or_from_slice_get, slice_get-map, slice_get_within}
 use Rattle.std.specs.Option.{option_map}
@@ -298,3 +298,17 @@ module _ {V : Type 0} where
   pub value-missing : (blocks : List (List (Name × V))) (name : Name) (place : NamePlace) → IsMissing blocks name place → value_of blocks name ≡ None
   value-missing blocks name place m =
       ap (lookup (same_local_name name)) (round-missing blocks place) ∙ found-missing name (before blocks place) (from blocks place 0) m.below m.above
+
+  -- a single block is the one in which a name is sought
+  pub single_block : {B : Type 0} (items : B → List (Name × V)) (name : Name) (bs : List B) → length bs ≤ 1
+      → (p : ℕ) × (0 ≡ p - 1) × ((d : B) → 0 < p → begins_above name (items (slice_index_or bs (p - 1) d)) ≡ false)
+      × ((d : B) → p < length bs → begins_above name (items (slice_index_or bs p d)) ≡ true)
+  single_block items name [] few = (0, refl, λ d h. absurd (omega (arith, h)), λ d h. absurd (omega (arith, h)))
+  single_block {B = B} items name (b ∷ []) few = by_case (begins_above name (items b)) refl
+    where
+      by_case : (above : Bool) → begins_above name (items b) ≡ above
+          → (p : ℕ) × (0 ≡ p - 1) × ((d : B) → 0 < p → begins_above name (items (slice_index_or (b ∷ []) (p - 1) d)) ≡ false)
+          × ((d : B) → p < 1 → begins_above name (items (slice_index_or (b ∷ []) p d)) ≡ true)
+      by_case true above = (0, refl, λ d h. absurd (omega (arith, h)), λ d h. above)
+      by_case false above = (1, refl, λ d h. above, λ d h. absurd (omega (arith, h)))
+  single_block items name (a ∷ b ∷ bs) few = absurd (omega (arith, few))

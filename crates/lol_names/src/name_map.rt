@@ -1,6 +1,6 @@
 //! Values by the names of elements.
 
-ghost use Rattle.std.specs.Prelude.{◌≡◌, ◌<◌, ◌≤◌, ◌-◌, ◌+◌, [], true, false, length, MatchResult, slice_get, slice_index_or, OnOk, OnErr, IfOk, IfErr, Some, None};
+ghost use Rattle.std.specs.Prelude.{◌≡◌, ℕ, ◌<◌, ◌≤◌, ◌-◌, ◌+◌, [], true, false, length, MatchResult, slice_get, slice_index_or, OnOk, OnErr, IfOk, IfErr, Some, None};
 ghost use Rattle.std.specs.Option.{option_copied};
 ghost use Rattle.std.specs.declared.cmp.Ordering.TheVariants.{Less};
 ghost use Rattle.lol_base.specs.LocalNames.{Name, local_name_cmp};
@@ -59,7 +59,7 @@ impl<V> NameMap<V> {
         ensures missing { IfErr result (λ _. value_of self.now name.now ≡ None) }
     {
         let blocks: &[Vec<(LocalName<'i>, V)>] = self.blocks.as_slice();
-        let block = blocks_up_to(blocks, name).saturating_sub(1);
+        let block = block_for(blocks, name);
         let Some(names) = blocks.get(block) else {
             return Err(NamePlace { block: 0, at: 0 });
         };
@@ -154,6 +154,19 @@ impl<V> NameMap<V> {
             Err(_) => None,
         }
     }
+}
+
+/// The last block that doesn't begin above a name, or else the first. A single block isn't looked at.
+#[inline]
+fn block_for<'i, V>(blocks: &[Vec<(LocalName<'i>, V)>], name: &LocalName<'i>) -> usize
+    ensures inside { 0 < length blocks.now → result < length blocks.now }
+    ensures sought { (p : ℕ) × (result ≡ p - 1) × ((d : _) → 0 < p → begins_above name.now (slice_index_or blocks.now (p - 1) d).items ≡ false)
+        × ((d : _) → p < length blocks.now → begins_above name.now (slice_index_or blocks.now p d).items ≡ true) }
+{
+    if blocks.len() <= 1 {
+        return 0;
+    }
+    blocks_up_to(blocks, name).saturating_sub(1)
 }
 
 /// How many blocks don't begin above a name, up to the first that does.

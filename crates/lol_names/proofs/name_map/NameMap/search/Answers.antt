@@ -13,11 +13,12 @@ pub returns-then-is_at : goal.returns-then-is_at
 returns-then-is_at g c =
     let name = c.args.name.now in
     let bs = c.as_slice-blocks.result.now in
-    let place : NamePlace = record { block = c.saturating_sub-block.result; at = c.names_below-at.result } in
+    let found = c.block_for-block.ensures.sought in
+    let place : NamePlace = record { block = c.block_for-block.result; at = c.names_below-at.result } in
     let shown = ap (map (λ b. b.items)) c.as_slice-blocks.ensures.value ∙ c.self.view_is in
     let are = subst AreBlocks (ap (map (λ b. b.items)) (sym c.as_slice-blocks.ensures.value)) c.self.invariant in
     let at = slice_get_read bs (length bs) place.block c.in-Some.names.now refl c.in-Some.ensures.lookup.3.0 c.in-Some.ensures.lookup.1 in
-    let round = sought (λ b. b.items) name bs c.blocks_up_to.result place.block c.in-Some.names.now are c.saturating_sub-block.ensures c.blocks_up_to.ensures.before c.blocks_up_to.ensures.after at in
+    let round = sought (λ b. b.items) name bs found.0 place.block c.in-Some.names.now are found.1 found.2 found.3 at in
     let same = c.deref.ensures.value in
     let same-2 = c.deref-2.ensures.value in
     record {
@@ -34,11 +35,12 @@ pub returns-else-is_at : goal.returns-else-is_at
 returns-else-is_at g c =
     let name = c.args.name.now in
     let bs = c.as_slice-blocks.result.now in
-    let place : NamePlace = record { block = c.saturating_sub-block.result; at = c.names_below-at.result } in
+    let found = c.block_for-block.ensures.sought in
+    let place : NamePlace = record { block = c.block_for-block.result; at = c.names_below-at.result } in
     let shown = ap (map (λ b. b.items)) c.as_slice-blocks.ensures.value ∙ c.self.view_is in
     let are = subst AreBlocks (ap (map (λ b. b.items)) (sym c.as_slice-blocks.ensures.value)) c.self.invariant in
     let at = slice_get_read bs (length bs) place.block c.in-Some.names.now refl c.in-Some.ensures.lookup.3.0 c.in-Some.ensures.lookup.1 in
-    let round = sought (λ b. b.items) name bs c.blocks_up_to.result place.block c.in-Some.names.now are c.saturating_sub-block.ensures c.blocks_up_to.ensures.before c.blocks_up_to.ensures.after at in
+    let round = sought (λ b. b.items) name bs found.0 place.block c.in-Some.names.now are found.1 found.2 found.3 at in
     let same = c.deref.ensures.value in
     let same-2 = c.deref-2.ensures.value in
     let missing : IsMissing c.args.self.now name place =
