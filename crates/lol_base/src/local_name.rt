@@ -137,6 +137,7 @@ impl<'i> LocalName<'i> {
     }
 
     /// The same name, which borrows nothing. A hash, and a name that owns its bytes, takes no memory.
+    #[inline(always)]
     pub fn into_owned(self, alloc: Global) -> Result<LocalName<'static>, AllocError>
         ensures same { IfOk result (λ name. name ≡ self.entry) }
         ensures free { IsNone self.entry.spelling → IsOk result }
@@ -151,6 +152,7 @@ impl<'i> LocalName<'i> {
     }
 
     /// The same name once more, which borrows nothing (for Rust's `Clone`). A hash takes no memory.
+    #[inline(always)]
     pub fn try_clone(&self, alloc: Global) -> Result<LocalName<'static>, AllocError>
         ensures same { IfOk result (λ name. name ≡ self.now) }
         ensures free { IsNone self.now.spelling → IsOk result }

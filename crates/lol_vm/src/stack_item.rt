@@ -112,6 +112,7 @@ impl<N, E> StackItemOf<N, E> {
 
 impl<'i, E: Drop> StackItemOf<LocalName<'i>, E> {
     /// The same element, whose name borrows nothing. A name that is a hash takes no memory.
+    #[inline(always)]
     pub fn into_owned(self, alloc: Global) -> Result<StackItem<'static, E>, AllocError>
         ensures same { IfOk result (λ item. item ≡ self.entry) }
         ensures free { IsNone self.entry.local_name.spelling → IsOk result }

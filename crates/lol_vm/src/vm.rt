@@ -209,6 +209,7 @@ impl<E: ElementData> VmOf<Program, LocalName<'static>, StackNames, E> {
     }
 
     /// Reports what was gathered, and opens the element if it has content.
+    #[inline(always)]
     fn answer<F: FnMut(MatchInfo)>(
         &mut self,
         ctx: ExecutionCtx<'_, E>,
