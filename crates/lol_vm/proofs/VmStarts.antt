@@ -180,11 +180,14 @@ module _ {E : Type 0} (ids : E → Ids) (with_ids : E → Ids → E) (lends : (w
       runnable s st.paths (counted m tag.name) d.open_elements st.closed st.standing.program st.standing.items st.standing.active stack vm.program keeps st.shown.program e before no_names no_attributes size
 
   -- and no more nodes are tried than the definition tries
-  pub tried_at_most : (before after : Tries) → names_counted before ≡ 0 → attributes_counted before ≡ 0 → attributes_counted after ≡ attributes_counted before
-      → AreWithin (sight_in stack name) vm.program.instructions.items (ranges_to_run_in vm.program stack) before after 0 → IsTriedAtMost s esi events tag after
-  tried_at_most before after no_names no_attributes same within =
+  pub tried_at_most : (before after next : Tries) → names_counted before ≡ 0 → attributes_counted before ≡ 0 → attributes_counted after ≡ attributes_counted before → next ≡ after → length vm.program.instructions.items < 2 ^ 63
+      → (own : Name) → own ≡ name
+      → (AreRunnable vm.program.instructions.items (ranges_to_run_in vm.program stack) before → AreWithin (sight_in stack own) vm.program.instructions.items (ranges_to_run_in vm.program stack) before after 0)
+      → IsTriedAtMost s esi events tag next
+  tried_at_most before after next no_names no_attributes same kept size own is within =
       let run = run_count s st.paths (counted m tag.name) d.open_elements st.closed st.standing.program st.standing.items st.standing.active stack vm.program keeps st.shown.program e in
-      record { names = omega (arith, within.names, no_names, run); attributes = omega (arith, same, no_attributes) }
+      let most = within (can_run before no_names no_attributes size) in
+      record { names = omega (arith, most.names, no_names, run, ap names_counted kept); attributes = omega (arith, same, no_attributes, ap attributes_counted kept) }
 
   -- 4. A request at once
 

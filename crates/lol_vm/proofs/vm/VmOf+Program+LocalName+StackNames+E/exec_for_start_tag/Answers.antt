@@ -11,8 +11,8 @@ use Rattle.lol_memory.specs.LimitedVec.{LimitedVec, IsLimited}
 use Rattle.lol_vm.specs.declared.stack.StackOf.{StackOf}
 use Rattle.lol_vm.specs.declared.stack.StackNames.{StackNames}
 use Rattle.lol_vm.specs.Stacks.{list_in, active_in, element_data_of, IsSame}
-use Rattle.lol_vm.specs.TagRuns.{AreTried, AreWithin, IsPointIn, jumps_in, ranges_to_run_in, sight_in, stop_found}
-use Rattle.lol_vm.specs.Vms.{Vm, IsTriedAtMost}
+use Rattle.lol_vm.specs.TagRuns.{AreTried, IsPointIn, jumps_in, ranges_to_run_in, sight_in, stop_found}
+use Rattle.lol_vm.specs.Vms.{Vm}
 use Rattle.lol_vm.specs.contracts.stack_item.StackDirective.{the_type}
 use Rattle.lol_vm.specs.declared.execution_ctx.ExecutionCtx.{ExecutionCtx}
 use Rattle.lol_vm.specs.declared.stack_item.StackItemOf.{StackItemOf}
@@ -250,71 +250,27 @@ returns-in-Err-answer-clause-all_or_none g c = λ error is. inr (λ s esi events
 
 pub returns-in-Err-tried-clause-tried : goal.returns-in-Err-tried-clause-tried
 returns-in-Err-tried-clause-tried g c = λ s esi events tag stands named.
-    let vm = c.args.self.now in
-    let ids = g.E.ElementData.ids in
-    let with_ids = g.E.ElementData.with_ids in
-    let lends = g.met.E.ElementData.ids_of_changed in
-    let name = c.args.local_name in
-    let stack = c.add_child.new.self in
-    let ok = c.in_default.ensures.ok in
-    let room = c.in_default.ensures.room in
-    let new = c.new-ctx.ensures.item in
-    let tries = c.new-self.result in
-    let after = c.try_tag-tried.new.tries in
-    let runs = can_run ids with_ids lends vm name c.args.ns s esi events tag stands named stack ok room tries c.new-self.ensures.names c.new-self.ensures.attributes c.try_tag-tried.ensures.size in
-    let within = subst (λ n. AreWithin (sight_in stack n) vm.program.instructions.items (ranges_to_run_in vm.program stack) tries after 0) new.name (c.try_tag-tried.ensures.within runs) in
-    tried_at_most ids with_ids lends vm name c.args.ns s esi events tag stands named stack ok room tries after c.new-self.ensures.names c.new-self.ensures.attributes c.try_tag-tried.ensures.attributes within
+    tried_at_most g.E.ElementData.ids g.E.ElementData.with_ids g.met.E.ElementData.ids_of_changed c.args.self.now c.args.local_name c.args.ns s esi events tag stands named c.add_child.new.self c.in_default.ensures.ok c.in_default.ensures.room
+    c.new-self.result c.try_tag-tried.new.tries c.try_tag-tried.new.tries c.new-self.ensures.names c.new-self.ensures.attributes c.try_tag-tried.ensures.attributes refl c.try_tag-tried.ensures.size
+    c.new-ctx.result.stack_item.local_name c.new-ctx.ensures.item.name c.try_tag-tried.ensures.within
 
 pub returns-in-Some-clause-tried : goal.returns-in-Some-clause-tried
 returns-in-Some-clause-tried g c = λ s esi events tag stands named.
-    let vm = c.args.self.now in
-    let ids = g.E.ElementData.ids in
-    let with_ids = g.E.ElementData.with_ids in
-    let lends = g.met.E.ElementData.ids_of_changed in
-    let name = c.args.local_name in
-    let stack = c.add_child.new.self in
-    let ok = c.in_default.ensures.ok in
-    let room = c.in_default.ensures.room in
-    let new = c.new-ctx.ensures.item in
-    let tries = c.new-self.result in
-    let after = c.try_tag-tried.new.tries in
-    let runs = can_run ids with_ids lends vm name c.args.ns s esi events tag stands named stack ok room tries c.new-self.ensures.names c.new-self.ensures.attributes c.try_tag-tried.ensures.size in
-    let within = subst (λ n. AreWithin (sight_in stack n) vm.program.instructions.items (ranges_to_run_in vm.program stack) tries after 0) new.name (c.try_tag-tried.ensures.within runs) in
-    subst (IsTriedAtMost s esi events tag) (sym c.request-in-Some.ensures.tries) (tried_at_most ids with_ids lends vm name c.args.ns s esi events tag stands named stack ok room tries after c.new-self.ensures.names c.new-self.ensures.attributes c.try_tag-tried.ensures.attributes within)
+    tried_at_most g.E.ElementData.ids g.E.ElementData.with_ids g.met.E.ElementData.ids_of_changed c.args.self.now c.args.local_name c.args.ns s esi events tag stands named c.add_child.new.self c.in_default.ensures.ok c.in_default.ensures.room
+    c.new-self.result c.try_tag-tried.new.tries c.request-in-Some.new.self.tries c.new-self.ensures.names c.new-self.ensures.attributes c.try_tag-tried.ensures.attributes c.request-in-Some.ensures.tries c.try_tag-tried.ensures.size
+    c.new-ctx.result.stack_item.local_name c.new-ctx.ensures.item.name c.try_tag-tried.ensures.within
 
 pub returns-in-Ok-answer-clause-tried : goal.returns-in-Ok-answer-clause-tried
 returns-in-Ok-answer-clause-tried g c = λ s esi events tag stands named.
-    let vm = c.args.self.now in
-    let ids = g.E.ElementData.ids in
-    let with_ids = g.E.ElementData.with_ids in
-    let lends = g.met.E.ElementData.ids_of_changed in
-    let name = c.args.local_name in
-    let stack = c.add_child.new.self in
-    let ok = c.in_default.ensures.ok in
-    let room = c.in_default.ensures.room in
-    let new = c.new-ctx.ensures.item in
-    let tries = c.new-self.result in
-    let after = c.try_tag-tried.new.tries in
-    let runs = can_run ids with_ids lends vm name c.args.ns s esi events tag stands named stack ok room tries c.new-self.ensures.names c.new-self.ensures.attributes c.try_tag-tried.ensures.size in
-    let within = subst (λ n. AreWithin (sight_in stack n) vm.program.instructions.items (ranges_to_run_in vm.program stack) tries after 0) new.name (c.try_tag-tried.ensures.within runs) in
-    subst (IsTriedAtMost s esi events tag) (sym c.answer.ensures.tries) (tried_at_most ids with_ids lends vm name c.args.ns s esi events tag stands named stack ok room tries after c.new-self.ensures.names c.new-self.ensures.attributes c.try_tag-tried.ensures.attributes within)
+    tried_at_most g.E.ElementData.ids g.E.ElementData.with_ids g.met.E.ElementData.ids_of_changed c.args.self.now c.args.local_name c.args.ns s esi events tag stands named c.add_child.new.self c.in_default.ensures.ok c.in_default.ensures.room
+    c.new-self.result c.try_tag-tried.new.tries c.answer.new.self.tries c.new-self.ensures.names c.new-self.ensures.attributes c.try_tag-tried.ensures.attributes c.answer.ensures.tries c.try_tag-tried.ensures.size
+    c.new-ctx.result.stack_item.local_name c.new-ctx.ensures.item.name c.try_tag-tried.ensures.within
 
 pub returns-in-Err-answer-clause-tried : goal.returns-in-Err-answer-clause-tried
 returns-in-Err-answer-clause-tried g c = λ s esi events tag stands named.
-    let vm = c.args.self.now in
-    let ids = g.E.ElementData.ids in
-    let with_ids = g.E.ElementData.with_ids in
-    let lends = g.met.E.ElementData.ids_of_changed in
-    let name = c.args.local_name in
-    let stack = c.add_child.new.self in
-    let ok = c.in_default.ensures.ok in
-    let room = c.in_default.ensures.room in
-    let new = c.new-ctx.ensures.item in
-    let tries = c.new-self.result in
-    let after = c.try_tag-tried.new.tries in
-    let runs = can_run ids with_ids lends vm name c.args.ns s esi events tag stands named stack ok room tries c.new-self.ensures.names c.new-self.ensures.attributes c.try_tag-tried.ensures.size in
-    let within = subst (λ n. AreWithin (sight_in stack n) vm.program.instructions.items (ranges_to_run_in vm.program stack) tries after 0) new.name (c.try_tag-tried.ensures.within runs) in
-    subst (IsTriedAtMost s esi events tag) (sym c.answer.ensures.tries) (tried_at_most ids with_ids lends vm name c.args.ns s esi events tag stands named stack ok room tries after c.new-self.ensures.names c.new-self.ensures.attributes c.try_tag-tried.ensures.attributes within)
+    tried_at_most g.E.ElementData.ids g.E.ElementData.with_ids g.met.E.ElementData.ids_of_changed c.args.self.now c.args.local_name c.args.ns s esi events tag stands named c.add_child.new.self c.in_default.ensures.ok c.in_default.ensures.room
+    c.new-self.result c.try_tag-tried.new.tries c.answer.new.self.tries c.new-self.ensures.names c.new-self.ensures.attributes c.try_tag-tried.ensures.attributes c.answer.ensures.tries c.try_tag-tried.ensures.size
+    c.new-ctx.result.stack_item.local_name c.new-ctx.ensures.item.name c.try_tag-tried.ensures.within
 
 pub returns-in-Err-clause-tried : goal.returns-in-Err-clause-tried
 returns-in-Err-clause-tried g c = λ s esi events tag stands named. none_tried s esi events tag c.new-self.result c.new-self.result refl c.new-self.ensures.names c.new-self.ensures.attributes
