@@ -6,6 +6,7 @@ mod VmFinishes
 mod VmRefusals
 mod VmData
 mod FreeTags
+mod Spans
 pub mod Trees
 pub mod Runs
 pub mod RefusedRuns

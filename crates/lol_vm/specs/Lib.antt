@@ -28,6 +28,7 @@ pub mod TypedViews
 pub mod CounterLists
 pub mod CounterMaps
 pub mod Active
+pub mod Spans
 pub mod Places
 pub mod OpenPlaces
 pub mod StackLending

@@ -1,17 +1,23 @@
 //! Ranges that hold for all elements inside the open ones.
 
-ghost use Rattle.std.specs.Prelude.{◌≡◌, ℕ, ◌+◌, ◌≤◌, length, filter, take, nat_lt, vec_len, vec_capacity, OnOk, OnErr, []};
+ghost use Rattle.std.specs.Prelude.{◌≡◌, ℕ, ◌+◌, ◌≤◌, length, filter, take, nat_lt, vec_len, vec_capacity, IfOk, OnOk, OnErr, []};
 ghost use Rattle.lol_vm.specs.Active.{activated, is_range_active};
+ghost use Rattle.lol_vm.specs.Spans.{HasSpans};
 
 use lol_program::AddressRange;
 use std::alloc::{AllocError, Global};
+use std::collections::BTreeSet;
 use std::marker::Model;
+
+/// The ranges of an element that has no more of them are looked up one by one; for more a set is made.
+const FEW: usize = 128;
 
 /// The distinct hereditary ranges of the open elements, in the order in which they first came, each with the place of the first element
 /// that has it.
 #[derive(Drop)]
 pub(crate) struct ActiveRanges {
     ranges: Vec<(AddressRange, usize)>,
+    alloc: Global,
 }
 
 impl Model for ActiveRanges {
@@ -29,6 +35,7 @@ impl ActiveRanges {
     {
         ActiveRanges {
             ranges: Vec::new(alloc),
+            alloc,
         }
     }
 
@@ -45,7 +52,7 @@ impl ActiveRanges {
     }
 
     /// Adds those of an element's ranges that aren't there yet, with its place: all of them, or refused none. It walks the active ranges
-    /// once for each range.
+    /// once for each range; of an element with many it puts all into a set, which is dropped again.
     pub(crate) fn activate(
         &mut self,
         ranges: &[AddressRange],
@@ -55,8 +62,17 @@ impl ActiveRanges {
         ensures err { OnErr result (self.new ≡ self.old) }
     {
         self.ranges.reserve(ranges.len())?;
-        add_missing(&mut self.ranges, ranges, place);
-        Ok(())
+        if ranges.len() <= FEW {
+            add_missing(&mut self.ranges, ranges, place);
+            return Ok(());
+        }
+        let mut known = spans_of(self.alloc, &self.ranges)?;
+        let len = self.ranges.len();
+        let added = add_unknown(&mut self.ranges, &mut known, ranges, place);
+        if added.is_err() {
+            self.ranges.truncate(len);
+        }
+        added
     }
 
     /// Drops all but the first `len` ranges.
@@ -89,4 +105,39 @@ fn contains(active: &[(AddressRange, usize)], range: &AddressRange) -> bool
     ensures { result ≡ is_range_active active.now range.now }
 {
     active.iter().any(|(other, _)| other.start == range.start && other.end == range.end)
+}
+
+/// The set of the active ranges.
+fn spans_of(
+    alloc: Global,
+    active: &[(AddressRange, usize)],
+) -> Result<BTreeSet<(usize, usize)>, AllocError>
+    ensures { IfOk result (λ known. HasSpans known active.now) }
+{
+    let mut known = BTreeSet::new(alloc);
+    for (range, _) in active {
+        known.insert((range.start, range.end))?;
+    }
+    Ok(known)
+}
+
+/// Adds ranges that aren't in the set of the active ones.
+fn add_unknown(
+    active: &mut Vec<(AddressRange, usize)>,
+    known: &mut BTreeSet<(usize, usize)>,
+    ranges: &[AddressRange],
+    place: usize,
+) -> Result<(), AllocError>
+    requires room { vec_len active.old + length ranges.now ≤ vec_capacity active.old }
+    requires spans { HasSpans known.old active.old.items }
+    ensures ok { OnOk result (active.new.items ≡ activated active.old.items place ranges.now) }
+    ensures kept { take (length active.old.items) active.new.items ≡ active.old.items }
+{
+    for range in ranges {
+        let span = (range.start, range.end);
+        if known.insert(span)? {
+            active.push_reserved((span.0..span.1, place));
+        }
+    }
+    Ok(())
 }
