@@ -112,7 +112,7 @@ pub fn read_all<R: Read>(alloc: Global, reader: &mut Counted<R>) -> Result<Vec<u
     ensures memory { IfErr result (λ fault. fault ≢ RunFault.Read → (fault ≡ RunFault.Memory) × (failures_of reader.new ≡ failures_of reader.old)) }
 {
     let mut text = Vec::new(alloc);
-    let mut buffer = [0u8; 4096];
+    let mut buffer = [0u8; 65536];
     loop {
         let count = reader.read(&mut buffer)?;
         if count == 0 {

@@ -8,7 +8,7 @@ invariant-loop-text g l =
     record {
       bytes : Consumes (g.R.Read.remaining (device_of l.fn.reader)) (g.R.Read.remaining (device_of l.reader)) l.text.items;
       failures : failures_of l.reader ≡ failures_of l.fn.reader;
-      room : length l.buffer ≡ 4096;
+      room : length l.buffer ≡ 65536;
     }
 
 abbrev pub decreases-loop-text : goal.decreases-loop-text
