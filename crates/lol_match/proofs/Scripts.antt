@@ -1,8 +1,7 @@
 -- Reading a script, line by line.
-use Rattle.std.proofs.Common.{◌≡◌, ◌≢◌, ℕ, ◌+◌, ◌<◌, ◌≤◌, List, [], ◌∷◌, ◌++◌, drop, get_or, length, Option, Result, Ok, inl, inr, refl, sym, ap, ◌∙◌, arith}
-use Rattle.std.specs.List.{enumerate_from}
-use Rattle.std.proofs.lemmas.List.{drop_more, drop_all}
-use Rattle.std.proofs.lemmas.List.FromFn.{length-enumerate_from, get_or-enumerate_from}
+use Rattle.std.proofs.Common.{◌≡◌, ◌≢◌, ℕ, ◌+◌, Bool, List, [], ◌∷◌, ◌++◌, take, drop, position, Option, Some, None, Result, Ok, inl, inr, refl, sym, ap}
+use Rattle.std.specs.Prelude.{◌==◌}
+use Rattle.std.specs.List.{slice_split}
 use Rattle.lol_program.specs.Sets.{Joins, SameMembers}
 use Rattle.lol_base.specs.MemberLaws.{contains-append}
 use Rattle.lol_vm.specs.Events.{Event}
@@ -12,6 +11,7 @@ use Rattle.lol_match.specs.declared.bad_line.BadLine.{BadLine}
 use Rattle.lol_match.specs.Readings.{Stops}
 use Rattle.lol_match.specs.declared.script.Stop.{Stop}
 use Rattle.lol_match.specs.declared.script.Stop.TheVariants.{Memory, Bad}
+use Rattle.lol_match.proofs.Fields.{parts_none, parts_some}
 
 -- what a nonempty line says is taken
 pub with_bytes-line : (number : ℕ) (s : Script) (bytes : List ℕ) (said : Option Line) → bytes ≢ [] → said ≡ line_at bytes → with_bytes number s bytes ≡ with_meaning number s said
@@ -29,28 +29,20 @@ joined old new added members same joins x = (
   λ h. (joins x).1 (elim ((contains-append members added x).0 h) [ inl a ↦ inl ((same x).1 a) | inr b ↦ inr b ]),
 )
 
--- the n-th of the numbered lines
-pub numbered : (lines : List (List ℕ)) (n place : ℕ) (line : List ℕ) → (n < length (enumerate_from 0 lines)) × ((place, line) ≡ get_or (enumerate_from 0 lines) n (place, line)) → ((n < length lines) × (line ≡ get_or lines n line)) × (place ≡ n)
-numbered lines n place line at =
-    let within : n < length lines = omega (arith, at.0, length-enumerate_from 0 lines) in
-    let is : (place, line) ≡ (0 + n, get_or lines n line) = at.1 ∙ get_or-enumerate_from 0 lines n (place, line) within in
-    ((within, ap (λ p. p.1) is), omega (arith, ap (λ p. p.0) is))
+abbrev is_line_feed : ℕ → Bool
+is_line_feed b = b == 10
 
-module _ (lines : List (List ℕ)) where
-  -- the line of this turn, which is the n-th, and then those after it
-  module _ (n : ℕ) (line : List ℕ) (at : (n < length lines) × (line ≡ get_or lines n line)) (number : ℕ) (s : Script) where
-    next_line : read_lines number s (drop n lines) ≡ and_then (with_bytes number s line) (λ t. read_lines (number + 1) t (drop (n + 1) lines))
-    next_line = ap (read_lines number s) (drop_more lines n line at.0 ∙ ap (λ l. l ∷ drop (n + 1) lines) (sym at.1))
+module _ (number : ℕ) (s : Script) (rest : List ℕ) where
+  -- the next line, and then those after it
+  pub line_next : (place : ℕ) → position is_line_feed rest ≡ Some place
+      → read_lines number s (slice_split is_line_feed rest) ≡ and_then (with_bytes number s (take place rest)) (λ t. read_lines (number + 1) t (slice_split is_line_feed (drop (place + 1) rest)))
+  line_next place found = ap (read_lines number s) (parts_some is_line_feed rest place found)
 
-    -- a good line
-    pub line_read : (t : Script) → with_bytes number s line ≡ Ok t → read_lines number s (drop n lines) ≡ read_lines (number + 1) t (drop (n + 1) lines)
-    line_read t good = next_line ∙ ap (λ r. and_then r (λ u. read_lines (number + 1) u (drop (n + 1) lines))) good
+  -- the last line
+  pub line_last : position is_line_feed rest ≡ None → read_lines number s (slice_split is_line_feed rest) ≡ and_then (with_bytes number s rest) (λ t. Ok t)
+  line_last none = ap (read_lines number s) (parts_none is_line_feed rest none)
 
-    -- a line at which reading stops
-    pub line_stops : (stop : Stop) → Stops stop (with_bytes number s line) → Stops stop (read_lines number s (drop n lines))
-    line_stops Memory h = tt
-    line_stops (Bad bad) h = next_line ∙ ap (λ r. and_then r (λ u. read_lines (number + 1) u (drop (n + 1) lines))) h
-
-  -- no line is left
-  pub lines_end : (n number : ℕ) (s : Script) → length lines ≤ n → read_lines number s (drop n lines) ≡ Ok s
-  lines_end n number s all = ap (read_lines number s) (drop_all n lines all)
+-- a line at which reading stops
+pub stop_then : (stop : Stop) (read : Result Script BadLine) (f : Script → Result Script BadLine) → Stops stop read → Stops stop (and_then read f)
+stop_then Memory read f h = tt
+stop_then (Bad bad) read f h = ap (λ r. and_then r f) h

@@ -1,10 +1,8 @@
 -- What the code's lines and tags say.
-use Rattle.std.specs.Prelude.{ℕ, map, List, [], Option, Some, None, All}
+use Rattle.std.specs.Prelude.{ℕ, map, List, [], Option, Some, None}
 use Rattle.std.specs.Borrow.{Bor}
 use Rattle.std.specs.List.{slice_split}
-use Rattle.lol_base.specs.StartTags.{StartTag, attribute_of, OutlineIsInside}
-use Rattle.lol_vm.specs.Events as events
-use Rattle.lol_vm.specs.Events.{Event}
+use Rattle.lol_base.specs.StartTags.{StartTag}
 use Rattle.lol_match.specs.Script as script
 use Rattle.lol_match.specs.Script.{is_tab, attribute_at}
 use Rattle.lol_match.specs.declared.lines.Line.{Line}
@@ -12,8 +10,6 @@ use Rattle.lol_match.specs.declared.lines.Line.TheVariants.{Setting, Start, End}
 use Rattle.lol_match.specs.declared.lines.Setting.{Setting as SettingOf}
 use Rattle.lol_match.specs.declared.lines.Setting.TheVariants.{Limit, Esi, Tries, Select}
 use Rattle.lol_match.specs.declared.lines.StartLine.{StartLine}
-use Rattle.lol_match.specs.declared.tags.Tag.{Tag}
-use Rattle.lol_match.specs.declared.tags.Tag.TheVariants.{Start as StartTagOf, End as EndTagOf}
 
 -- the fields of the rest of a line, if there is one
 abbrev pub fields_of : Option (Bor (List ℕ)) → List (List ℕ)
@@ -41,13 +37,3 @@ abbrev pub said_by : Line → script.Line
 said_by (Setting setting) = set_by setting
 said_by (Start line) = script.StartLine (start_tag_of line)
 said_by (End name) = script.EndLine name.now
-
--- the event of a tag: its attributes are those at its outlines
-abbrev pub told_by : Tag → Event
-told_by (StartTagOf line outlines) = events.Start (record (start_tag_of line) { attributes = map (attribute_of (input_of line.attributes)) outlines.items })
-told_by (EndTagOf name) = events.End name.now
-
--- a tag's outlines lie inside the bytes of its attributes
-abbrev pub HasOutlinesInside : Tag → Type 0
-HasOutlinesInside (StartTagOf line outlines) = All (OutlineIsInside (input_of line.attributes)) outlines.items
-HasOutlinesInside (EndTagOf name) = Unit {0}

@@ -7,7 +7,7 @@ use Rattle.lol_program.specs.Asts.{pairs_of, nodes_of}
 use Rattle.lol_program.specs.Conditions.{pairs_under}
 use Rattle.lol_program.specs.Sets.{Joins, SameMembers}
 use Rattle.lol_program.specs.declared.ast.Ast.{Ast}
-use Rattle.lol_match.specs.Lines.{told_by, HasOutlinesInside}
+use Rattle.lol_vm.specs.Views.{event_of, HasRangesInside}
 use Rattle.lol_match.specs.Scripts.{Script}
 use Rattle.lol_match.specs.declared.bad_line.BadLine.{BadLine}
 use Rattle.lol_match.specs.declared.script.Script.{Script as Code}
@@ -21,8 +21,8 @@ pub record IsReading (code : Code) (s : Script) : Type 0 where
   pub shows_tries : code.shows_tries ≡ s.shows_tries
   pub pairs : SameMembers s.pairs (pairs_of code.ast)
   pub nodes : SameMembers (all_beginnings s.pairs) (nodes_of code.ast)
-  pub events : map told_by code.tags.items ≡ s.events
-  pub inside : All HasOutlinesInside code.tags.items
+  pub events : map event_of code.tags.items ≡ s.events
+  pub inside : All HasRangesInside code.tags.items
 
 -- what was read stands for what the definition gives
 abbrev pub ReadsScript : Code → Result Script BadLine → Type 0

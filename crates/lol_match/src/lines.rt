@@ -7,6 +7,7 @@ ghost use Rattle.lol_match.specs.Script.{is_tab, is_named, attribute_at, namespa
 ghost use Rattle.lol_match.specs.Lines.{fields_of, said_by};
 
 use lol_vm::Namespace;
+use memchr::memchr;
 
 /// What a line says.
 #[derive(Clone, Copy, Debug, PartialEq, Eq)]
@@ -55,7 +56,7 @@ pub struct StartLine<'s> {
 pub fn tab_place(bytes: &[u8]) -> Option<usize>
     ensures { result ≡ position is_tab bytes.now }
 {
-    bytes.iter().position(|b| *b == b'\t')
+    memchr(b'\t', bytes)
 }
 
 /// A line or the rest of one, cut at its first TAB.

@@ -15,7 +15,7 @@ use crate::bad_line::{BadLine, push_bad_line};
 use crate::device::{Counted, RunFault, read_all, write_text};
 use crate::output::push_reports;
 use crate::script::{Script, Stop, read_script};
-use crate::tags::events_of;
+use bumpalo::Bump;
 use lol_vm::{RunCause, RunRefusal, SharedMemoryLimiter, TagReport, match_events};
 use std::alloc::{AllocError, Global};
 use std::io::{Read, Write};
@@ -73,7 +73,8 @@ pub fn run<R: Read, W: Write>(
 fn output(alloc: Global, bytes: &[u8]) -> Result<(Vec<u8>, Status), AllocError>
     ensures { IfOk result (λ made. output bytes.now ≡ record { text = made.0.items; status = made.1 }) }
 {
-    match read_script(alloc, bytes) {
+    let arena = Bump::new(alloc);
+    match read_script(alloc, &arena, bytes) {
         Err(Stop::Memory) => Err(AllocError),
         Err(Stop::Bad(bad)) => Ok((bad_text(alloc, bad)?, Status::BadLine)),
         Ok(script) => good_output(alloc, script),
@@ -100,9 +101,8 @@ fn good_output(alloc: Global, script: Script) -> Result<(Vec<u8>, Status), Alloc
         ast,
         tags,
     } = script;
-    let events = events_of(alloc, &tags)?;
     let mut limiter = SharedMemoryLimiter::new(limit as usize);
-    match match_events(alloc, ast, ITEM_BYTES, esi, &events, &mut limiter) {
+    match match_events(alloc, ast, ITEM_BYTES, esi, &tags, &mut limiter) {
         Ok(reports) => Ok((reports_text(alloc, &reports, shows_tries)?, Status::Good)),
         Err(refusal) => Ok((refused_text(alloc, refusal, shows_tries)?, Status::Refused)),
     }

@@ -1,8 +1,9 @@
 //! Reading a script.
 
-ghost use Rattle.std.specs.Prelude.{◌≡◌, IfOk, IfErr, OnOk, Ok};
+ghost use Rattle.std.specs.Prelude.{◌≡◌, ◌==◌, [], IfOk, IfErr, OnOk, Ok, position};
 ghost use Rattle.lol_css.specs.Accepting.{accept};
-ghost use Rattle.lol_match.specs.Lines.{set_by, told_by, HasOutlinesInside};
+ghost use Rattle.lol_vm.specs.Views.{event_of, HasRangesInside};
+ghost use Rattle.lol_match.specs.Lines.{set_by};
 ghost use Rattle.lol_match.specs.Scripts as scripts;
 ghost use Rattle.lol_match.specs.Scripts.{with_bytes, with_line, with_event, with_selector, read_script};
 ghost use Rattle.lol_match.specs.Readings.{IsReading, ReadsScript, AddsSelectors, Stops};
@@ -10,8 +11,10 @@ ghost use Rattle.lol_match.specs.declared.script.Stop.TheVariants.{Memory};
 
 use crate::bad_line::{BadLine, Cause};
 use crate::lines::{Line, Setting, line_of};
-use crate::tags::{Tag, start_tag};
-use lol_vm::{Ast, Selector, SelectorError};
+use crate::tags::{Buffers, start_tag};
+use bumpalo::Bump;
+use lol_vm::{Ast, AttributeBuffer, Selector, SelectorError, TagEvent};
+use memchr::memchr;
 use std::alloc::Global;
 
 /// What a script asks for.
@@ -25,7 +28,7 @@ pub struct Script<'s> {
 
     pub shows_tries: bool,
     pub ast: Ast,
-    pub tags: Vec<Tag<'s>>,
+    pub tags: Vec<TagEvent<'s>>,
 }
 
 /// Why the reading of a script stops.
@@ -38,8 +41,8 @@ pub enum Stop {
     Bad(BadLine),
 }
 
-/// Reads a script, up to its first bad line.
-pub fn read_script(alloc: Global, bytes: &[u8]) -> Result<Script<'_>, Stop>
+/// Reads a script, up to its first bad line. What its tags don't borrow from the bytes is kept in the arena.
+pub fn read_script<'s>(alloc: Global, arena: &'s Bump, bytes: &'s [u8]) -> Result<Script<'s>, Stop>
     ensures read { IfOk result (λ script. ReadsScript script (read_script bytes.now)) }
     ensures stop { IfErr result (λ stop. Stops stop (read_script bytes.now)) }
 {
@@ -50,19 +53,37 @@ pub fn read_script(alloc: Global, bytes: &[u8]) -> Result<Script<'_>, Stop>
         ast: Ast::new(alloc),
         tags: Vec::new(alloc),
     };
-    for (place, line) in bytes.split(|b| *b == b'\n').enumerate() {
-        take_line(alloc, &mut script, place + 1, line)?;
+    let Ok(none) = arena.try_alloc(AttributeBuffer::new(alloc)) else {
+        return Err(Stop::Memory);
+    };
+    let buffers = Buffers { arena, none };
+    let mut rest = bytes;
+    let mut number = 1;
+    while let Some(place) = line_feed_place(rest) {
+        take_line(alloc, buffers, &mut script, number, &rest[..place])?;
+        number += 1;
+        rest = &rest[place + 1..];
     }
+    take_line(alloc, buffers, &mut script, number, rest)?;
     Ok(script)
+}
+
+/// The place of the first LF.
+fn line_feed_place(bytes: &[u8]) -> Option<usize>
+    ensures { result ≡ position (λ b. b == 10) bytes.now }
+{
+    memchr(b'\n', bytes)
 }
 
 /// Takes what a line says.
 fn take_line<'s>(
     alloc: Global,
+    buffers: Buffers<'s>,
     script: &mut Script<'s>,
     number: usize,
     line: &'s [u8],
 ) -> Result<(), Stop>
+    requires { buffers.none.now.items ≡ [] }
     ensures taken { OnOk result ((s : scripts.Script) → IsReading script.old s → ReadsScript script.new (with_bytes number s line.now)) }
     ensures stop { IfErr result (λ stop. (s : scripts.Script) → IsReading script.old s → Stops stop (with_bytes number s line.now)) }
 {
@@ -72,11 +93,11 @@ fn take_line<'s>(
     match line_of(line) {
         None => Err(malformed(number)),
         Some(Line::Setting(setting)) => take_setting(alloc, script, number, setting),
-        Some(Line::Start(start)) => match start_tag(alloc, start) {
+        Some(Line::Start(start)) => match start_tag(alloc, buffers, start) {
             Ok(tag) => take_tag(script, tag),
             Err(_) => Err(Stop::Memory),
         },
-        Some(Line::End { name }) => take_tag(script, Tag::End { name }),
+        Some(Line::End { name }) => take_tag(script, TagEvent::End { name }),
     }
 }
 
@@ -89,9 +110,9 @@ fn malformed(number: usize) -> Stop
     })
 }
 
-fn take_tag<'s>(script: &mut Script<'s>, tag: Tag<'s>) -> Result<(), Stop>
-    requires { HasOutlinesInside tag }
-    ensures taken { OnOk result ((s : scripts.Script) → IsReading script.old s → IsReading script.new (with_event s (told_by tag.entry))) }
+fn take_tag<'s>(script: &mut Script<'s>, tag: TagEvent<'s>) -> Result<(), Stop>
+    requires { HasRangesInside tag }
+    ensures taken { OnOk result ((s : scripts.Script) → IsReading script.old s → IsReading script.new (with_event s (event_of tag.entry))) }
     ensures stop { IfErr result (λ stop. stop ≡ Memory) }
 {
     if script.tags.push(tag).is_err() {

@@ -1,37 +1,24 @@
 //! The tags of a script.
 
-ghost use Rattle.std.specs.Prelude.{◌≡◌, ◌≤◌, IfOk, All, map, length, position, slice_range};
+ghost use Rattle.std.specs.Prelude.{◌≡◌, ◌≤◌, [], IfOk, All, map, length, position, slice_range};
 ghost use Rattle.std.specs.List.{slice_split};
 ghost use Rattle.lol_base.specs.StartTags.{attribute_of, OutlineIsInside};
 ghost use Rattle.lol_vm.specs.Events.{Start};
 ghost use Rattle.lol_vm.specs.Views.{HasRangesInside, event_of};
 ghost use Rattle.lol_match.specs.Script.{is_tab, is_equals, attribute_at};
-ghost use Rattle.lol_match.specs.Lines.{input_of, start_tag_of, told_by, HasOutlinesInside};
+ghost use Rattle.lol_match.specs.Lines.{start_tag_of};
 
 use crate::lines::{StartLine, tab_place};
+use bumpalo::Bump;
 use lol_vm::{AttributeBuffer, AttributeOutline, AuxStartTagInfo, Bytes, Range, TagEvent};
+use memchr::memchr;
 use std::alloc::{AllocError, Global};
-
-/// A tag, and where its attributes stand.
-#[derive(Drop)]
-pub enum Tag<'s> {
-    /// A start tag. The outlines are of the bytes of the line's attributes.
-    Start {
-        line: StartLine<'s>,
-        outlines: AttributeBuffer,
-    },
-
-    /// An end tag.
-    End {
-        name: &'s [u8],
-    },
-}
 
 /// The place of the first `=`.
 fn equals_place(bytes: &[u8]) -> Option<usize>
     ensures { result ≡ position is_equals bytes.now }
 {
-    bytes.iter().position(|b| *b == b'=')
+    memchr(b'=', bytes)
 }
 
 /// The outline of the attribute that stands from `start` up to `end`.
@@ -77,50 +64,51 @@ fn outlines_of(alloc: Global, text: &[u8]) -> Result<AttributeBuffer, AllocError
     Ok(outlines)
 }
 
-/// The start tag of a line.
-pub fn start_tag(alloc: Global, line: StartLine<'_>) -> Result<Tag<'_>, AllocError>
-    ensures event { IfOk result (λ tag. told_by tag ≡ Start (start_tag_of line.entry)) }
-    ensures inside { IfOk result (λ tag. HasOutlinesInside tag) }
+/// Where the attributes of tags are kept, and what a tag without attributes has.
+#[derive(Clone, Copy)]
+pub struct Buffers<'s> {
+    pub arena: &'s Bump,
+    pub none: &'s AttributeBuffer,
+}
+
+/// The outlines of attributes, kept in the arena.
+fn kept_outlines<'s>(
+    alloc: Global,
+    arena: &'s Bump,
+    text: &[u8],
+) -> Result<&'s AttributeBuffer, AllocError>
+    ensures attributes { IfOk result (λ buffer. map (attribute_of text.now) buffer.now.items ≡ map attribute_at (slice_split is_tab text.now)) }
+    ensures inside { IfOk result (λ buffer. All (OutlineIsInside text.now) buffer.now.items) }
 {
-    let outlines = match line.attributes {
-        Some(text) => outlines_of(alloc, text)?,
-        None => AttributeBuffer::new(alloc),
+    let outlines = outlines_of(alloc, text)?;
+    let Ok(buffer) = arena.try_alloc(outlines) else {
+        return Err(AllocError);
     };
-    Ok(Tag::Start { line, outlines })
+    Ok(buffer)
 }
 
-impl Tag<'_> {
-    /// The event for the machine.
-    fn event(&self) -> TagEvent<'_>
-        requires { HasOutlinesInside self.now }
-        ensures event { event_of result ≡ told_by self.now }
-        ensures ranges { HasRangesInside result }
-    {
-        match self {
-            Tag::Start { line, outlines } => TagEvent::Start {
-                name: line.name,
-                ns: line.ns,
-                aux_info: AuxStartTagInfo {
-                    input: Bytes::new(line.attributes.unwrap_or_default()),
-                    attr_buffer: outlines,
-                    self_closing: line.self_closing,
-                },
-                finish: line.finish,
-            },
-            Tag::End { name } => TagEvent::End { name },
-        }
-    }
-}
-
-/// The events of tags.
-pub fn events_of<'t>(alloc: Global, tags: &'t [Tag<'t>]) -> Result<Vec<TagEvent<'t>>, AllocError>
-    requires { All HasOutlinesInside tags.now }
-    ensures events { IfOk result (λ events. map event_of events.items ≡ map told_by tags.now) }
-    ensures ranges { IfOk result (λ events. All HasRangesInside events.items) }
+/// The event of a start line.
+pub fn start_tag<'s>(
+    alloc: Global,
+    buffers: Buffers<'s>,
+    line: StartLine<'s>,
+) -> Result<TagEvent<'s>, AllocError>
+    requires { buffers.none.now.items ≡ [] }
+    ensures event { IfOk result (λ tag. event_of tag ≡ Start (start_tag_of line.entry)) }
+    ensures inside { IfOk result (λ tag. HasRangesInside tag) }
 {
-    let mut events = Vec::new(alloc);
-    for tag in tags {
-        events.push(tag.event())?;
-    }
-    Ok(events)
+    let attr_buffer = match line.attributes {
+        Some(text) => kept_outlines(alloc, buffers.arena, text)?,
+        None => buffers.none,
+    };
+    Ok(TagEvent::Start {
+        name: line.name,
+        ns: line.ns,
+        aux_info: AuxStartTagInfo {
+            input: Bytes::new(line.attributes.unwrap_or_default()),
+            attr_buffer,
+            self_closing: line.self_closing,
+        },
+        finish: line.finish,
+    })
 }

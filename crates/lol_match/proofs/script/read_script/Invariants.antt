@@ -1,4 +1,4 @@
-use Rattle.std.proofs.Common.{◌≡◌, ◌+◌, drop, length}
+use Rattle.std.proofs.Common.{◌≡◌, ◌+◌, ◌≤◌, length}
 use Rattle.std.specs.Prelude.{◌==◌}
 use Rattle.std.specs.List.{slice_split}
 use Rattle.lol_match.specs.Scripts as scripts
@@ -8,8 +8,10 @@ use Rattle.lol_match.proofs.script.read_script.Given as goal
 abbrev pub invariant-loop-place : goal.invariant-loop-place
 invariant-loop-place l =
     record {
-      can : (goal.iterator-loop-place).can_next l.place-iterator;
-      ends : (goal.iterator-loop-place).is_finite l.place-iterator;
+      number : l.number + length l.rest ≤ length l.bytes + 1;
       read : (s : scripts.Script) × IsReading l.script s
-          × (scripts.read_lines (length l.yielded + 1) s (drop (length l.yielded) (slice_split (λ b. b == 10) l.bytes)) ≡ scripts.read_script l.bytes);
+          × (scripts.read_lines l.number s (slice_split (λ b. b == 10) l.rest) ≡ scripts.read_script l.bytes);
     }
+
+abbrev pub decreases-loop-place : goal.decreases-loop-place
+decreases-loop-place l = length l.rest

@@ -6,7 +6,8 @@ use Rattle.lol_program.specs.Paths.{Path, beginnings, all_beginnings}
 use Rattle.lol_program.specs.Asts.{pairs_of, nodes_of}
 use Rattle.lol_program.specs.Conditions.{pairs_under}
 use Rattle.lol_program.specs.Sets.{SameMembers}
-use Rattle.lol_match.specs.Lines.{set_by, told_by}
+use Rattle.lol_match.specs.Lines.{set_by}
+use Rattle.lol_vm.specs.Views.{event_of}
 use Rattle.lol_match.specs.Scripts.{with_line, with_selector}
 use Rattle.lol_match.proofs.Scripts.{not_begun, joined}
 use Rattle.lol_match.proofs.script.take_setting.Goals as goal
@@ -14,7 +15,7 @@ use Rattle.lol_match.proofs.script.take_setting.Goals as goal
 pub returns-in-Limit-clause-taken : goal.returns-in-Limit-clause-taken
 returns-in-Limit-clause-taken c = λ s reading.
     let empty : c.args.script.now.tags.items ≡ [] = nil_from_length _ (grind (arith, nat_tests, c.args.script.now.tags.ok.0)) in
-    let none : s.events ≡ [] = sym reading.events ∙ ap (map told_by) empty in (
+    let none : s.events ≡ [] = sym reading.events ∙ ap (map event_of) empty in (
       record s { limit = c.in-Limit.maximum },
       record { limit = refl; esi = reading.esi; shows_tries = reading.shows_tries; pairs = reading.pairs; nodes = reading.nodes; events = reading.events; inside = reading.inside },
       ap (λ setting. with_line c.args.number s (set_by setting)) c.in-Limit.is ∙ not_begun s.events c.args.number _ none,
@@ -23,7 +24,7 @@ returns-in-Limit-clause-taken c = λ s reading.
 pub returns-in-Esi-clause-taken : goal.returns-in-Esi-clause-taken
 returns-in-Esi-clause-taken c = λ s reading.
     let empty : c.args.script.now.tags.items ≡ [] = nil_from_length _ (grind (arith, nat_tests, c.args.script.now.tags.ok.0)) in
-    let none : s.events ≡ [] = sym reading.events ∙ ap (map told_by) empty in (
+    let none : s.events ≡ [] = sym reading.events ∙ ap (map event_of) empty in (
       record s { esi = true },
       record { limit = reading.limit; esi = refl; shows_tries = reading.shows_tries; pairs = reading.pairs; nodes = reading.nodes; events = reading.events; inside = reading.inside },
       ap (λ setting. with_line c.args.number s (set_by setting)) c.in-Esi.is ∙ not_begun s.events c.args.number _ none,
@@ -32,7 +33,7 @@ returns-in-Esi-clause-taken c = λ s reading.
 pub returns-in-Tries-clause-taken : goal.returns-in-Tries-clause-taken
 returns-in-Tries-clause-taken c = λ s reading.
     let empty : c.args.script.now.tags.items ≡ [] = nil_from_length _ (grind (arith, nat_tests, c.args.script.now.tags.ok.0)) in
-    let none : s.events ≡ [] = sym reading.events ∙ ap (map told_by) empty in (
+    let none : s.events ≡ [] = sym reading.events ∙ ap (map event_of) empty in (
       record s { shows_tries = true },
       record { limit = reading.limit; esi = reading.esi; shows_tries = refl; pairs = reading.pairs; nodes = reading.nodes; events = reading.events; inside = reading.inside },
       ap (λ setting. with_line c.args.number s (set_by setting)) c.in-Tries.is ∙ not_begun s.events c.args.number _ none,
@@ -45,7 +46,7 @@ returns-in_ok-take_selector-in-Select-clause-taken c = λ s reading.
     let old = c.args.script.now.ast in
     let new = c.take_selector.new.ast in
     let empty : c.args.script.now.tags.items ≡ [] = nil_from_length _ (grind (arith, nat_tests, c.args.script.now.tags.ok.0)) in
-    let none : s.events ≡ [] = sym reading.events ∙ ap (map told_by) empty in (
+    let none : s.events ≡ [] = sym reading.events ∙ ap (map event_of) empty in (
       record s { pairs = s.pairs ++ pairs },
       record {
         limit = reading.limit;
