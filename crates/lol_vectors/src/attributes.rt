@@ -3,8 +3,8 @@
 ghost use Rattle.lol_base.specs.StartTags.{RangesAreInside};
 
 use lol_vm::{
-    AttrExprOperands, AttributeBuffer, AttributeMatcher, AttributeOutline, AuxStartTagInfo, Bytes,
-    Namespace, ParsedCaseSensitivity, Range,
+    AttrExprOperands, AttrSelectorOperator, AttributeBuffer, AttributeMatcher, AttributeOutline,
+    AuxStartTagInfo, Bytes, Namespace, ParsedCaseSensitivity, Range,
 };
 use std::alloc::{AllocError, Global};
 use std::process::Abort;
@@ -76,22 +76,100 @@ fn operand(
     })
 }
 
-fn with_case(alloc: Global, name: &str, value: &str) -> Result<AttrExprOperands, AllocError> {
-    operand(alloc, name, value, ParsedCaseSensitivity::CaseSensitive)
+/// What an attribute's value is compared with: its name, the operator, the value, and whether the comparison holds.
+type Row<'t> = (&'t str, AttrSelectorOperator, &'t str, bool);
+
+fn holds(
+    attributes: &AttributeMatcher<'_>,
+    operator: AttrSelectorOperator,
+    operand: &AttrExprOperands,
+) -> bool {
+    match operator {
+        AttrSelectorOperator::Equal => attributes.attr_eq(operand),
+        AttrSelectorOperator::Includes => attributes.matches_splitted_by_whitespace(operand),
+        AttrSelectorOperator::DashMatch => attributes.has_dash_matching_attr(operand),
+        AttrSelectorOperator::Prefix => attributes.has_attr_with_prefix(operand),
+        AttrSelectorOperator::Suffix => attributes.has_attr_with_suffix(operand),
+        AttrSelectorOperator::Substring => attributes.has_attr_with_substring(operand),
+    }
+}
+
+fn compare(
+    rt: &impl Abort,
+    alloc: Global,
+    attributes: &AttributeMatcher<'_>,
+    case_sensitivity: ParsedCaseSensitivity,
+    row: &Row<'_>,
+) -> Result<(), AllocError> {
+    let (name, operator, value, answer) = row;
+    let operand = operand(alloc, name, value, case_sensitivity)?;
+    assert!(rt;
+        holds(attributes, *operator, &operand) == *answer,
+        "{name}, {value}"
+    );
+    Ok(())
+}
+
+/// Compares attributes with case.
+fn compare_all(
+    rt: &impl Abort,
+    alloc: Global,
+    attributes: &AttributeMatcher<'_>,
+    rows: &[Row<'_>],
+) -> Result<(), AllocError> {
+    for row in rows {
+        compare(
+            rt,
+            alloc,
+            attributes,
+            ParsedCaseSensitivity::CaseSensitive,
+            row,
+        )?;
+    }
+    Ok(())
+}
+
+/// Looks for words of `class`.
+fn expect_words(rt: &impl Abort, attributes: &AttributeMatcher<'_>, words: &[(&str, bool)]) {
+    for (word, there) in words {
+        assert!(rt; attributes.has_class(word.as_bytes()) == *there, "{word}");
+    }
+}
+
+/// Looks for attributes.
+fn expect_names(rt: &impl Abort, attributes: &AttributeMatcher<'_>, names: &[(&str, bool)]) {
+    for (name, there) in names {
+        assert!(rt;
+            attributes.has_attribute(name.as_bytes()) == *there,
+            "{name}"
+        );
+    }
+}
+
+/// Looks for ids.
+fn expect_ids(rt: &impl Abort, attributes: &AttributeMatcher<'_>, ids: &[(&str, bool)]) {
+    for (id, there) in ids {
+        assert!(rt; attributes.has_id(id.as_bytes()) == *there, "{id}");
+    }
 }
 
 #[test]
 fn first_attribute_of_a_name(rt: HostRuntime) -> Result<(), Fail> {
     let alloc = rt.alloc();
-    let twice = Attributes::new(alloc, &[("id", Some("a")), ("id", Some("b"))])?;
+    let written = [
+        ("a", Some("a")),
+        ("a", Some("b")),
+        ("ID", Some("A")),
+        ("id", Some("b")),
+    ];
+    let twice = Attributes::new(alloc, &written)?;
     let twice = twice.matcher(&rt, Namespace::Html);
-    assert!(rt; twice.attr_eq(&with_case(alloc, "id", "a")?));
-    assert!(rt; !twice.attr_eq(&with_case(alloc, "id", "b")?));
-    let cased = Attributes::new(alloc, &[("ID", Some("A")), ("id", Some("b"))])?;
-    let cased = cased.matcher(&rt, Namespace::Html);
-    assert!(rt; cased.has_id(b"A"));
-    assert!(rt; !cased.has_id(b"a"));
-    assert!(rt; !cased.has_id(b"b"));
+    let rows = [
+        ("a", AttrSelectorOperator::Equal, "a", true),
+        ("a", AttrSelectorOperator::Equal, "b", false),
+    ];
+    compare_all(&rt, alloc, &twice, &rows)?;
+    expect_ids(&rt, &twice, &[("A", true), ("a", false), ("b", false)]);
     Ok(())
 }
 
@@ -100,13 +178,21 @@ fn attributes_that_are_there(rt: HostRuntime) -> Result<(), Fail> {
     let alloc = rt.alloc();
     let written = Attributes::new(alloc, &[("disabled", None), ("FOO", Some("bar"))])?;
     let written = written.matcher(&rt, Namespace::Html);
-    assert!(rt; written.has_attribute(b"disabled"));
-    assert!(rt; written.attr_eq(&with_case(alloc, "disabled", "")?));
-    assert!(rt; written.has_attribute(b"foo"));
-    assert!(rt; !written.has_attribute(b"FOO"));
-    assert!(rt; !written.has_attribute(b"fo"));
-    assert!(rt; !written.has_id(b""));
-    assert!(rt; !written.has_class(b""));
+    let names = [
+        ("disabled", true),
+        ("foo", true),
+        ("FOO", false),
+        ("fo", false),
+    ];
+    expect_names(&rt, &written, &names);
+    expect_ids(&rt, &written, &[("", false)]);
+    expect_words(&rt, &written, &[("", false)]);
+    compare_all(
+        &rt,
+        alloc,
+        &written,
+        &[("disabled", AttrSelectorOperator::Equal, "", true)],
+    )?;
     Ok(())
 }
 
@@ -115,37 +201,43 @@ fn words_of_class(rt: HostRuntime) -> Result<(), Fail> {
     let alloc = rt.alloc();
     let words = Attributes::new(alloc, &[("class", Some(" a  b"))])?;
     let words = words.matcher(&rt, Namespace::Html);
-    assert!(rt; words.has_class(b"a"));
-    assert!(rt; words.has_class(b"b"));
-    assert!(rt; words.has_class(b""));
-    assert!(rt; !words.has_class(b"A"));
-    assert!(rt; !words.has_class(b"a  b"));
-    assert!(rt; words.matches_splitted_by_whitespace(&with_case(alloc, "class", "b")?));
-    assert!(rt; !words.matches_splitted_by_whitespace(&with_case(alloc, "class", " ")?));
+    let wanted = [
+        ("a", true),
+        ("b", true),
+        ("", true),
+        ("A", false),
+        ("a  b", false),
+    ];
+    expect_words(&rt, &words, &wanted);
+    let rows = [
+        ("class", AttrSelectorOperator::Includes, "b", true),
+        ("class", AttrSelectorOperator::Includes, " ", false),
+    ];
+    compare_all(&rt, alloc, &words, &rows)?;
     Ok(())
 }
 
 #[test]
 fn hyphens(rt: HostRuntime) -> Result<(), Fail> {
     let alloc = rt.alloc();
-    let empty = with_case(alloc, "lang", "")?;
-    for (lang, holds) in [("", true), ("-x", true), ("x", false)] {
-        let tag = Attributes::new(alloc, &[("lang", Some(lang))])?;
-        assert_eq!(rt;
-            tag.matcher(&rt, Namespace::Html)
-                .has_dash_matching_attr(&empty),
-            holds
-        );
-    }
-    let en = with_case(alloc, "lang", "en")?;
-    for (lang, holds) in [("en", true), ("en-US", true), ("eng", false)] {
-        let tag = Attributes::new(alloc, &[("lang", Some(lang))])?;
-        assert_eq!(rt;
-            tag.matcher(&rt, Namespace::Html)
-                .has_dash_matching_attr(&en),
-            holds
-        );
-    }
+    let written = [
+        ("none", Some("")),
+        ("short", Some("-x")),
+        ("other", Some("x")),
+        ("whole", Some("en")),
+        ("long", Some("en-US")),
+        ("longer", Some("eng")),
+    ];
+    let tag = Attributes::new(alloc, &written)?;
+    let rows = [
+        ("none", AttrSelectorOperator::DashMatch, "", true),
+        ("short", AttrSelectorOperator::DashMatch, "", true),
+        ("other", AttrSelectorOperator::DashMatch, "", false),
+        ("whole", AttrSelectorOperator::DashMatch, "en", true),
+        ("long", AttrSelectorOperator::DashMatch, "en", true),
+        ("longer", AttrSelectorOperator::DashMatch, "en", false),
+    ];
+    compare_all(&rt, alloc, &tag.matcher(&rt, Namespace::Html), &rows)?;
     Ok(())
 }
 
@@ -154,23 +246,26 @@ fn parts_of_a_value(rt: HostRuntime) -> Result<(), Fail> {
     let alloc = rt.alloc();
     let tag = Attributes::new(alloc, &[("a", Some("ab")), ("b", Some("xABab"))])?;
     let tag = tag.matcher(&rt, Namespace::Html);
-    let long = with_case(alloc, "a", "abc")?;
-    assert!(rt; !tag.has_attr_with_prefix(&long));
-    assert!(rt; !tag.has_attr_with_suffix(&long));
-    assert!(rt; !tag.has_attr_with_substring(&long));
-    assert!(rt; tag.has_attr_with_prefix(&with_case(alloc, "b", "xA")?));
-    assert!(rt; !tag.has_attr_with_prefix(&with_case(alloc, "b", "A")?));
-    assert!(rt; tag.has_attr_with_suffix(&with_case(alloc, "b", "Bab")?));
-    assert!(rt; !tag.has_attr_with_suffix(&with_case(alloc, "b", "a")?));
-    assert!(rt; tag.has_attr_with_substring(&with_case(alloc, "b", "ABa")?));
-    assert!(rt; !tag.has_attr_with_substring(&with_case(alloc, "b", "aba")?));
-    let caseless = operand(
+    let rows = [
+        ("a", AttrSelectorOperator::Prefix, "abc", false),
+        ("a", AttrSelectorOperator::Suffix, "abc", false),
+        ("a", AttrSelectorOperator::Substring, "abc", false),
+        ("b", AttrSelectorOperator::Prefix, "xA", true),
+        ("b", AttrSelectorOperator::Prefix, "A", false),
+        ("b", AttrSelectorOperator::Suffix, "Bab", true),
+        ("b", AttrSelectorOperator::Suffix, "a", false),
+        ("b", AttrSelectorOperator::Substring, "ABa", true),
+        ("b", AttrSelectorOperator::Substring, "aba", false),
+    ];
+    compare_all(&rt, alloc, &tag, &rows)?;
+    let caseless = ("b", AttrSelectorOperator::Substring, "aba", true);
+    compare(
+        &rt,
         alloc,
-        "b",
-        "aba",
+        &tag,
         ParsedCaseSensitivity::AsciiCaseInsensitive,
+        &caseless,
     )?;
-    assert!(rt; tag.has_attr_with_substring(&caseless));
     Ok(())
 }
 
@@ -178,12 +273,13 @@ fn parts_of_a_value(rt: HostRuntime) -> Result<(), Fail> {
 fn empty_operands(rt: HostRuntime) -> Result<(), Fail> {
     let alloc = rt.alloc();
     let tag = Attributes::new(alloc, &[("a", Some("x"))])?;
-    let tag = tag.matcher(&rt, Namespace::Html);
-    let empty = with_case(alloc, "a", "")?;
-    assert!(rt; tag.has_attr_with_prefix(&empty));
-    assert!(rt; tag.has_attr_with_suffix(&empty));
-    assert!(rt; !tag.has_attr_with_substring(&empty));
-    assert!(rt; !tag.matches_splitted_by_whitespace(&empty));
+    let rows = [
+        ("a", AttrSelectorOperator::Prefix, "", true),
+        ("a", AttrSelectorOperator::Suffix, "", true),
+        ("a", AttrSelectorOperator::Substring, "", false),
+        ("a", AttrSelectorOperator::Includes, "", false),
+    ];
+    compare_all(&rt, alloc, &tag.matcher(&rt, Namespace::Html), &rows)?;
     Ok(())
 }
 
@@ -191,15 +287,15 @@ fn empty_operands(rt: HostRuntime) -> Result<(), Fail> {
 fn case_by_namespace(rt: HostRuntime) -> Result<(), Fail> {
     let alloc = rt.alloc();
     let tag = Attributes::new(alloc, &[("type", Some("text"))])?;
-    let text = operand(
-        alloc,
-        "type",
-        "TEXT",
-        ParsedCaseSensitivity::AsciiCaseInsensitiveIfInHtmlElementInHtmlDocument,
-    )?;
-    assert!(rt; tag.matcher(&rt, Namespace::Html).attr_eq(&text));
-    assert!(rt; !tag.matcher(&rt, Namespace::Svg).attr_eq(&text));
-    assert!(rt; !tag.matcher(&rt, Namespace::MathML).attr_eq(&text));
+    let case = ParsedCaseSensitivity::AsciiCaseInsensitiveIfInHtmlElementInHtmlDocument;
+    for (ns, answer) in [
+        (Namespace::Html, true),
+        (Namespace::Svg, false),
+        (Namespace::MathML, false),
+    ] {
+        let row = ("type", AttrSelectorOperator::Equal, "TEXT", answer);
+        compare(&rt, alloc, &tag.matcher(&rt, ns), case, &row)?;
+    }
     Ok(())
 }
 
@@ -209,19 +305,23 @@ fn long_values(rt: HostRuntime) -> Result<(), Fail> {
     let value = "aa bb cc dd ee ff gg hh ii jj kk ll mm nn oo pp qq rr ss tt uu vv ww xx yy zz";
     let tag = Attributes::new(alloc, &[("class", Some(value))])?;
     let tag = tag.matcher(&rt, Namespace::Html);
-    assert!(rt; tag.has_class(b"aa"));
-    assert!(rt; tag.has_class(b"mm"));
-    assert!(rt; tag.has_class(b"zz"));
-    assert!(rt; !tag.has_class(b"a"));
-    assert!(rt; !tag.has_class(b"aa bb"));
-    assert!(rt; !tag.has_class(b"MM"));
-    assert!(rt; !tag.has_class(b""));
-    let caseless = operand(
+    let words = [
+        ("aa", true),
+        ("mm", true),
+        ("zz", true),
+        ("a", false),
+        ("aa bb", false),
+        ("MM", false),
+        ("", false),
+    ];
+    expect_words(&rt, &tag, &words);
+    let caseless = ("class", AttrSelectorOperator::Includes, "MM", true);
+    compare(
+        &rt,
         alloc,
-        "class",
-        "MM",
+        &tag,
         ParsedCaseSensitivity::AsciiCaseInsensitive,
+        &caseless,
     )?;
-    assert!(rt; tag.matches_splitted_by_whitespace(&caseless));
     Ok(())
 }

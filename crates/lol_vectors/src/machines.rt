@@ -8,7 +8,7 @@ use crate::machine_runs::{
 };
 use crate::runs::selectors;
 use crate::stacks::Numbered;
-use lol_vm::SharedMemoryLimiter;
+use lol_vm::{MatchInfo, SharedMemoryLimiter};
 use std::alloc::Global;
 use std::process::Abort;
 use std::test::Fail;
@@ -36,6 +36,19 @@ fn hold(data: &[Numbered], ids: &[&[u32]]) -> bool {
             .all(|(data, ids)| data.ids.iter().eq(ids.iter().copied()))
 }
 
+/// Whether exactly these ids were reported, with this content mark.
+fn are_reported(infos: &[MatchInfo], ids: &[u32], content: bool) -> bool {
+    if infos.len() != ids.len() {
+        return false;
+    }
+    for (place, info) in infos.iter().enumerate() {
+        if info.match_id != ids[place] || info.with_content != content {
+            return false;
+        }
+    }
+    true
+}
+
 pub(crate) fn take_step(
     rt: &impl Abort,
     alloc: Global,
@@ -48,26 +61,9 @@ pub(crate) fn take_step(
     match step {
         Step::Start(tag, wanted, ids, content, tries) => {
             let (said, infos) = start(rt, alloc, vm, limiter, *tag);
-            assert_eq!(rt; said, *wanted, "{}", tag.name);
-            assert!(rt;
-                infos
-                    .iter()
-                    .map(|info| info.match_id)
-                    .eq(ids.iter().copied()),
-                "{}",
-                tag.name
-            );
-            assert!(rt;
-                infos.iter().all(|info| info.with_content == *content),
-                "{}",
-                tag.name
-            );
-            assert_eq!(rt;
-                (vm.tries().names(), vm.tries().attributes()),
-                *tries,
-                "{}",
-                tag.name
-            );
+            let as_wanted = said == *wanted && are_reported(&infos, ids, *content);
+            let as_tried = (vm.tries().names(), vm.tries().attributes()) == *tries;
+            assert!(rt; as_wanted && as_tried, "{}", tag.name);
         }
         Step::Dropped(tag) => start_and_drop(rt, vm, limiter, *tag),
         Step::End(name, ids) => {
