@@ -2,6 +2,7 @@
 
 use crate::attributes::Attributes;
 use crate::programs::instruction;
+use crate::tag_words::TagWord;
 use lol_program::{
     AttributeExprTest, Compilable, CompiledAttributeExpr, CompiledLocalNameExpr, CompiledPredicate,
     CompiledTest, LocalNameExprTest,
@@ -102,62 +103,64 @@ fn flag_of_tests_by_type(rt: HostRuntime) -> Result<(), Fail> {
     Ok(())
 }
 
-/// Selectors, the name and the class of an element that is the first child, its value by names, and whether it passes.
-const ROWS: [(&str, &str, Option<&str>, NameValue, bool); 26] = [
-    (":not(div.foo)", "div", None, NameValue::Open, true),
-    (":not(div.foo)", "div", Some("foo"), NameValue::Open, false),
-    (":not(div.foo)", "p", Some("foo"), NameValue::True, true),
-    (":not(:not(a, b))", "a", None, NameValue::True, true),
-    (":not(:not(a, b))", "b", None, NameValue::True, true),
-    (":not(:not(a, b))", "c", None, NameValue::False, false),
-    (":not(.a, p)", "p", None, NameValue::False, false),
-    (":not(.a, p)", "div", Some("b"), NameValue::Open, true),
-    (":not(.a, p)", "div", Some("a"), NameValue::Open, false),
-    ("div:not([a*=\"\"])", "div", None, NameValue::Open, true),
-    ("div:not([a*=\"\"])", "p", None, NameValue::False, false),
-    (":not(*)", "a", None, NameValue::False, false),
-    (":not(|a)", "a", None, NameValue::True, true),
-    (":is(a.x, p)", "p", None, NameValue::True, true),
-    (":is(a.x, p)", "a", Some("x"), NameValue::Open, true),
-    (":is(a.x, p)", "a", Some("y"), NameValue::Open, false),
-    (":is(a.x, p)", "div", Some("x"), NameValue::False, false),
-    (":where(a.x, p)", "p", None, NameValue::True, true),
-    (":where(a.x, p)", "a", Some("x"), NameValue::Open, true),
-    (":not(:is(a, b))", "a", None, NameValue::False, false),
-    (":not(:is(a, b))", "c", None, NameValue::True, true),
-    ("p:nth-child(2)", "p", None, NameValue::False, false),
-    ("p:first-child", "P", None, NameValue::True, true),
-    ("p:first-of-type.x", "p", Some("x"), NameValue::Open, true),
-    (
-        "p:nth-of-type(2n).x",
-        "p",
-        Some("x"),
-        NameValue::False,
-        false,
-    ),
-    ("my-element", "MY-Element", None, NameValue::True, true),
+/// Selectors, the tag of an element that is the first child, its value by names, and whether it passes.
+const ROWS: [(&str, &str, NameValue, bool); 26] = [
+    (":not(div.foo)", "div", NameValue::Open, true),
+    (":not(div.foo)", "div@class=foo", NameValue::Open, false),
+    (":not(div.foo)", "p@class=foo", NameValue::True, true),
+    (":not(:not(a, b))", "a", NameValue::True, true),
+    (":not(:not(a, b))", "b", NameValue::True, true),
+    (":not(:not(a, b))", "c", NameValue::False, false),
+    (":not(.a, p)", "p", NameValue::False, false),
+    (":not(.a, p)", "div@class=b", NameValue::Open, true),
+    (":not(.a, p)", "div@class=a", NameValue::Open, false),
+    ("div:not([a*=\"\"])", "div", NameValue::Open, true),
+    ("div:not([a*=\"\"])", "p", NameValue::False, false),
+    (":not(*)", "a", NameValue::False, false),
+    (":not(|a)", "a", NameValue::True, true),
+    (":is(a.x, p)", "p", NameValue::True, true),
+    (":is(a.x, p)", "a@class=x", NameValue::Open, true),
+    (":is(a.x, p)", "a@class=y", NameValue::Open, false),
+    (":is(a.x, p)", "div@class=x", NameValue::False, false),
+    (":where(a.x, p)", "p", NameValue::True, true),
+    (":where(a.x, p)", "a@class=x", NameValue::Open, true),
+    (":not(:is(a, b))", "a", NameValue::False, false),
+    (":not(:is(a, b))", "c", NameValue::True, true),
+    ("p:nth-child(2)", "p", NameValue::False, false),
+    ("p:first-child", "P", NameValue::True, true),
+    ("p:first-of-type.x", "p@class=x", NameValue::Open, true),
+    ("p:nth-of-type(2n).x", "p@class=x", NameValue::False, false),
+    ("my-element", "MY-Element", NameValue::True, true),
 ];
 
-#[test]
-fn values_by_names_and_with_attributes(rt: HostRuntime) -> Result<(), Fail> {
-    let alloc = rt.alloc();
+fn check_values(
+    rt: &impl Abort,
+    alloc: Global,
+    text: &str,
+    tag: &str,
+    value: NameValue,
+    passes: bool,
+) -> Result<(), Fail> {
+    let instruction = instruction(rt, alloc, text)?;
+    let tag = TagWord::of(tag);
+    let attributes = tag.attributes(alloc)?;
+    let name = LocalName::new(tag.name.as_bytes());
     let counter = ChildCounter::new_and_inc();
     let state = SelectorState {
         cumulative: &counter,
         typed: Some(&counter),
     };
-    for (text, name, class, value, passes) in ROWS {
-        let instruction = instruction(&rt, alloc, text)?;
-        let predicate = &instruction.predicate;
-        let name = LocalName::new(name.as_bytes());
-        let written = [("class", class)];
-        let attributes = match class {
-            Some(_) => Attributes::new(alloc, &written)?,
-            None => Attributes::new(alloc, &[])?,
-        };
-        let matcher = attributes.matcher(&rt, Namespace::Html);
-        assert!(rt; predicate.by_names(&state, &name) == value);
-        assert!(rt; predicate.eval(&state, &name, &matcher) == passes);
+    let matcher = attributes.matcher(rt, Namespace::Html);
+    let by_names = instruction.predicate.by_names(&state, &name);
+    let passed = instruction.predicate.eval(&state, &name, &matcher);
+    assert!(rt; by_names == value && passed == passes, "{text}");
+    Ok(())
+}
+
+#[test]
+fn values_by_names_and_with_attributes(rt: HostRuntime) -> Result<(), Fail> {
+    for (text, tag, value, passes) in ROWS {
+        check_values(&rt, rt.alloc(), text, tag, value, passes)?;
     }
     Ok(())
 }

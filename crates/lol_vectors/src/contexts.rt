@@ -58,40 +58,49 @@ fn ids_of(
     ids
 }
 
-#[test]
-fn are_ids_and_ranges(rt: HostRuntime) -> Result<(), Fail> {
-    let alloc = rt.alloc();
+/// A start tag that has gathered two branches.
+fn gathered(alloc: Global) -> Result<ExecutionCtx<'static, Numbered>, AllocError> {
     let name = LocalName::new(b"x-Item");
-    let mut ctx: ExecutionCtx<'_, Numbered> = ExecutionCtx::new(alloc, name, Namespace::Svg, true);
-    assert!(rt; ids_of(&rt, alloc, &mut ctx).is_empty());
+    let mut ctx = ExecutionCtx::new(alloc, name, Namespace::Svg, true);
     ctx.add_execution_branch(alloc, &branch(alloc, &[40, 7], Some(2..4), None)?)?;
     ctx.add_execution_branch(alloc, &branch(alloc, &[3, 7], None, Some(5..6))?)?;
-    assert_eq!(rt;
-        ids_of(&rt, alloc, &mut ctx).as_slice(),
-        [(3, true), (7, true), (40, true)].as_slice()
-    );
-    ctx.with_content = false;
-    ctx.add_execution_branch(alloc, &branch(alloc, &[1], Some(7..8), Some(8..9))?)?;
-    assert_eq!(rt;
-        ids_of(&rt, alloc, &mut ctx).as_slice(),
-        [(1, false), (3, false), (7, false), (40, false)].as_slice()
-    );
-    assert_eq!(rt; ctx.stack_item.jumps.as_slice(), [2..4].as_slice());
-    assert_eq!(rt;
-        ctx.stack_item.hereditary_jumps.as_slice(),
-        [5..6].as_slice()
-    );
+    Ok(ctx)
+}
 
-    let mut owned = ctx.into_owned(alloc)?;
-    assert_eq!(rt;
-        owned.stack_item.local_name.spelling(),
-        Some(b"x-Item".as_slice())
-    );
-    assert_eq!(rt;
-        (owned.with_content, owned.ns, owned.enable_esi_tags),
-        (false, Namespace::Svg, true)
-    );
-    assert_eq!(rt; owned.stack_item.jumps.as_slice(), [2..4].as_slice());
-    assert_eq!(rt; ids_of(&rt, alloc, &mut owned).len(), 4);
+/// Expects three ids and a range of each kind.
+fn expect_gathered(
+    rt: &impl Abort,
+    alloc: Global,
+    ctx: &mut ExecutionCtx<'_, Numbered>,
+    content: bool,
+) {
+    let ids = ids_of(rt, alloc, ctx);
+    assert!(rt; ids.as_slice() == [(3, content), (7, content), (40, content)].as_slice());
+    assert!(rt; ctx.stack_item.jumps.as_slice() == [2..4].as_slice());
+    assert!(rt; ctx.stack_item.hereditary_jumps.as_slice() == [5..6].as_slice());
+}
+
+#[test]
+fn are_ids_and_ranges(rt: HostRuntime) -> Result<(), Fail> {
+    let mut ctx = gathered(rt.alloc())?;
+    expect_gathered(&rt, rt.alloc(), &mut ctx, true);
+    ctx.with_content = false;
+    expect_gathered(&rt, rt.alloc(), &mut ctx, false);
+    Ok(())
+}
+
+#[test]
+fn are_none_at_first(rt: HostRuntime) {
+    let name = LocalName::new(b"x-Item");
+    let mut ctx = ExecutionCtx::new(rt.alloc(), name, Namespace::Svg, true);
+    assert!(rt; ids_of(&rt, rt.alloc(), &mut ctx).is_empty());
+}
+
+#[test]
+fn are_kept_where_nothing_is_borrowed(rt: HostRuntime) -> Result<(), Fail> {
+    let mut owned = gathered(rt.alloc())?.into_owned(rt.alloc())?;
+    expect_gathered(&rt, rt.alloc(), &mut owned, true);
+    assert!(rt; owned.stack_item.local_name.spelling() == Some(b"x-Item".as_slice()));
+    assert!(rt; owned.with_content && owned.enable_esi_tags && owned.ns == Namespace::Svg);
     Ok(())
 }

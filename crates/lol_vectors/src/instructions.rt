@@ -1,9 +1,10 @@
 //! The three ways to run an instruction, and what they count.
 
-use crate::attributes::Attributes;
 use crate::programs::instruction;
+use crate::tag_words::TagWord;
 use lol_program::{Instruction, TryExecResult};
 use lol_vm::{ChildCounter, LocalName, Namespace, SelectorState, Tries};
+use std::alloc::{AllocError, Global};
 use std::process::Abort;
 use std::test::Fail;
 
@@ -39,34 +40,66 @@ fn tries_without_attributes(rt: HostRuntime) -> Result<(), Fail> {
     Ok(())
 }
 
-#[test]
-fn tries_with_attributes(rt: HostRuntime) -> Result<(), Fail> {
-    let alloc = rt.alloc();
-    let div_a = instruction(&rt, alloc, "div.a")?;
+/// Runs an instruction at a tag with its attributes, and expects its branch or nothing, and so many tries.
+fn expect_exec(
+    rt: &impl Abort,
+    alloc: Global,
+    instruction: &Instruction,
+    tag: &str,
+    passes: bool,
+    wanted: (u64, u64),
+) -> Result<(), AllocError> {
+    let tag = TagWord::of(tag);
+    let attributes = tag.attributes(alloc)?;
+    let matcher = attributes.matcher(rt, Namespace::Html);
     let counter = ChildCounter::new_and_inc();
     let state = SelectorState {
         cumulative: &counter,
         typed: None,
     };
-    let with_a = Attributes::new(alloc, &[("class", Some("a"))])?;
-    let with_a = with_a.matcher(&rt, Namespace::Html);
-    let with_b = Attributes::new(alloc, &[("class", Some("b"))])?;
-    let with_b = with_b.matcher(&rt, Namespace::Html);
-    let (div, p) = (LocalName::new(b"div"), LocalName::new(b"p"));
     let mut tries = Tries::new();
-    let branch = div_a.complete_exec_with_attrs(&state, &div, &with_a, &mut tries);
+    let name = LocalName::new(tag.name.as_bytes());
+    let passed = match instruction.exec(&state, &name, &matcher, &mut tries) {
+        Some(branch) => *branch == instruction.associated_branch,
+        None => false,
+    };
+    assert!(rt; passed == passes);
+    expect_tries(rt, &tries, wanted.0, wanted.1);
+    Ok(())
+}
+
+#[test]
+fn tries_with_attributes(rt: HostRuntime) -> Result<(), Fail> {
+    let alloc = rt.alloc();
+    let div_a = instruction(&rt, alloc, "div.a")?;
+    expect_exec(&rt, alloc, &div_a, "p@class=a", false, (1, 0))?;
+    expect_exec(&rt, alloc, &div_a, "div@class=b", false, (1, 1))?;
+    expect_exec(&rt, alloc, &div_a, "div@class=a", true, (1, 1))?;
+    expect_exec(
+        &rt,
+        alloc,
+        &Instruction::noop(alloc),
+        "p@class=b",
+        true,
+        (1, 0),
+    )?;
+    Ok(())
+}
+
+#[test]
+fn completes_with_attributes(rt: HostRuntime) -> Result<(), Fail> {
+    let div_a = instruction(&rt, rt.alloc(), "div.a")?;
+    let attributes = TagWord::of("div@class=a").attributes(rt.alloc())?;
+    let matcher = attributes.matcher(&rt, Namespace::Html);
+    let counter = ChildCounter::new_and_inc();
+    let state = SelectorState {
+        cumulative: &counter,
+        typed: None,
+    };
+    let mut tries = Tries::new();
+    let name = LocalName::new(b"div");
+    let branch = div_a.complete_exec_with_attrs(&state, &name, &matcher, &mut tries);
     assert!(rt; *branch.expect(&rt, "a branch") == div_a.associated_branch);
     expect_tries(&rt, &tries, 0, 1);
-    let mut tries = Tries::new();
-    assert!(rt; div_a.exec(&state, &p, &with_a, &mut tries).is_none());
-    expect_tries(&rt, &tries, 1, 0);
-    let mut tries = Tries::new();
-    assert!(rt; div_a.exec(&state, &div, &with_b, &mut tries).is_none());
-    expect_tries(&rt, &tries, 1, 1);
-    let noop = Instruction::noop(alloc);
-    let mut tries = Tries::new();
-    let branch = noop.exec(&state, &p, &with_b, &mut tries);
-    assert!(rt; *branch.expect(&rt, "a branch") == noop.associated_branch);
-    expect_tries(&rt, &tries, 1, 0);
     Ok(())
 }

@@ -6,7 +6,7 @@ ghost use Rattle.lol_vm.specs.Vms.{slot_bytes};
 use crate::machine_runs::Said::{Asked, Unasked};
 use crate::machine_runs::{Machine, Written, end, machine, release, start, start_and_drop};
 use crate::machines::Step::{End, Start};
-use crate::machines::take_step;
+use crate::machines::{are_reported, take_step};
 use crate::runs::selectors;
 use lol_vm::{Namespace, Selector, SharedMemoryLimiter};
 use std::alloc::Global;
@@ -117,7 +117,7 @@ fn count_what_is_dropped(rt: HostRuntime) -> Result<(), Fail> {
         assert!(rt; end(&rt, alloc, &mut vm, "p").is_empty());
         let (said, infos) = start(&rt, alloc, &mut vm, &mut limiter, Written::html("b"));
         assert_eq!(rt; said, Unasked);
-        assert!(rt; infos.iter().map(|info| info.match_id).eq([20]));
+        assert!(rt; are_reported(&infos, &[20], true));
         release(&rt, vm, &mut limiter);
     }
     Ok(())

@@ -37,7 +37,7 @@ fn hold(data: &[Numbered], ids: &[&[u32]]) -> bool {
 }
 
 /// Whether exactly these ids were reported, with this content mark.
-fn are_reported(infos: &[MatchInfo], ids: &[u32], content: bool) -> bool {
+pub(crate) fn are_reported(infos: &[MatchInfo], ids: &[u32], content: bool) -> bool {
     if infos.len() != ids.len() {
         return false;
     }

@@ -8,6 +8,8 @@ use std::alloc::{AllocError, Global};
 use std::process::Abort;
 use std::test::Fail;
 
+const DIGITS: [char; 10] = ['0', '1', '2', '3', '4', '5', '6', '7', '8', '9'];
+
 /// Writes numbers, separated by commas.
 fn write_numbers(text: &mut String, numbers: &[usize]) -> Result<(), AllocError> {
     for (place, number) in numbers.iter().enumerate() {
@@ -19,11 +21,16 @@ fn write_numbers(text: &mut String, numbers: &[usize]) -> Result<(), AllocError>
     Ok(())
 }
 
+/// Writes the last two digits of a number.
 fn write_number(text: &mut String, number: usize) -> Result<(), AllocError> {
-    match write!(text, "{number}") {
-        Ok(()) => Ok(()),
-        Err(_) => Err(AllocError),
+    if number >= 10 {
+        write_digit(text, number / 10)?;
     }
+    write_digit(text, number)
+}
+
+fn write_digit(text: &mut String, number: usize) -> Result<(), AllocError> {
+    text.push(DIGITS.get(number % 10).copied().unwrap_or('0'))
 }
 
 /// Writes ids, each with a hyphen where the element has no content.

@@ -55,7 +55,7 @@ impl<'t> TagWord<'t> {
         }
     }
 
-    fn attributes(&self, alloc: Global) -> Result<Attributes, AllocError> {
+    pub(crate) fn attributes(&self, alloc: Global) -> Result<Attributes, AllocError> {
         match self.attribute {
             Some(attribute) => Attributes::new(alloc, &[attribute]),
             None => Attributes::new(alloc, &[]),
