@@ -1,57 +1,8 @@
-//! Runs a script of selectors and tags.
+//! Runs the script of standard input.
 #![tactic(auto)]
 
-ghost use Rattle.std.specs.Prelude.{◌≡◌};
-ghost use Rattle.lol_match.specs.ExitStatus.{exit_status_of};
-
-mod bad_line;
-mod device;
-mod laws;
-mod lines;
-mod output;
-mod program;
-#[cfg(test)]
-mod replayed;
-mod script;
-mod tags;
-#[cfg(test)]
-mod tests;
-#[cfg(test)]
-mod worked;
-
-use device::{Counted, RunFault};
-use program::{Status, run};
-use std::io;
 use std::process::ExitCode;
 
 fn main(rt: HostRuntime) -> ExitCode {
-    let mut reader = Counted::new(rt.reader());
-    let mut writer = Counted::new(io::writer(&rt));
-    let outcome = run(rt.alloc(), &mut reader, &mut writer);
-    let _ = reader.into_inner();
-    let _ = writer.into_inner();
-    ExitCode::from(exit_status(&rt, outcome))
-}
-
-/// The exit status of a run; a fault is named on standard error.
-fn exit_status(rt: &impl Eprint, outcome: Result<Status, RunFault>) -> u8
-    ensures { result ≡ exit_status_of outcome }
-{
-    match outcome {
-        Ok(Status::Good) => 0,
-        Ok(Status::BadLine) => 2,
-        Ok(Status::Refused) => 3,
-        Err(RunFault::Memory) => {
-            let _ = eprintln!(rt; "lol_match: out of memory");
-            3
-        }
-        Err(RunFault::Read) => {
-            let _ = eprintln!(rt; "lol_match: read failed");
-            4
-        }
-        Err(RunFault::Write) => {
-            let _ = eprintln!(rt; "lol_match: write failed");
-            4
-        }
-    }
+    lol_script::run_as_program(rt)
 }

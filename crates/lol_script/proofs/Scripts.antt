@@ -1,0 +1,48 @@
+-- Reading a script, line by line.
+use Rattle.std.proofs.Common.{◌≡◌, ◌≢◌, ℕ, ◌+◌, Bool, List, [], ◌∷◌, ◌++◌, take, drop, position, Option, Some, None, Result, Ok, inl, inr, refl, sym, ap}
+use Rattle.std.specs.Prelude.{◌==◌}
+use Rattle.std.specs.List.{slice_split}
+use Rattle.lol_program.specs.Sets.{Joins, SameMembers}
+use Rattle.lol_base.specs.MemberLaws.{contains-append}
+use Rattle.lol_vm.specs.Events.{Event}
+use Rattle.lol_script.specs.Script.{Line, line_at}
+use Rattle.lol_script.specs.Scripts.{Script, with_bytes, with_meaning, unless_begun, and_then, read_lines}
+use Rattle.lol_script.specs.declared.bad_line.BadLine.{BadLine}
+use Rattle.lol_script.specs.Readings.{Stops}
+use Rattle.lol_script.specs.declared.script.Stop.{Stop}
+use Rattle.lol_script.specs.declared.script.Stop.TheVariants.{Memory, Bad}
+use Rattle.lol_script.proofs.Fields.{parts_none, parts_some}
+
+-- what a nonempty line says is taken
+pub with_bytes-line : (number : ℕ) (s : Script) (bytes : List ℕ) (said : Option Line) → bytes ≢ [] → said ≡ line_at bytes → with_bytes number s bytes ≡ with_meaning number s said
+with_bytes-line number s [] said some is = absurd (some refl)
+with_bytes-line number s (b ∷ bytes) said some is = ap (with_meaning number s) (sym is)
+
+-- a line before the first tag line
+pub not_begun : (events : List Event) (number : ℕ) (result : Result Script BadLine) → events ≡ [] → unless_begun events number result ≡ result
+not_begun events number result none = ap (λ (es : List Event). unless_begun es number result) none
+
+-- members that join others
+pub joined : {T : Type 0} (old new added members : List T) → SameMembers members old → Joins old new added → SameMembers (members ++ added) new
+joined old new added members same joins x = (
+  λ h. (contains-append members added x).1 (elim ((joins x).0 h) [ inl a ↦ inl ((same x).0 a) | inr b ↦ inr b ]),
+  λ h. (joins x).1 (elim ((contains-append members added x).0 h) [ inl a ↦ inl ((same x).1 a) | inr b ↦ inr b ]),
+)
+
+abbrev is_line_feed : ℕ → Bool
+is_line_feed b = b == 10
+
+module _ (number : ℕ) (s : Script) (rest : List ℕ) where
+  -- the next line, and then those after it
+  pub line_next : (place : ℕ) → position is_line_feed rest ≡ Some place
+      → read_lines number s (slice_split is_line_feed rest) ≡ and_then (with_bytes number s (take place rest)) (λ t. read_lines (number + 1) t (slice_split is_line_feed (drop (place + 1) rest)))
+  line_next place found = ap (read_lines number s) (parts_some is_line_feed rest place found)
+
+  -- the last line
+  pub line_last : position is_line_feed rest ≡ None → read_lines number s (slice_split is_line_feed rest) ≡ and_then (with_bytes number s rest) (λ t. Ok t)
+  line_last none = ap (read_lines number s) (parts_none is_line_feed rest none)
+
+-- a line at which reading stops
+pub stop_then : (stop : Stop) (read : Result Script BadLine) (f : Script → Result Script BadLine) → Stops stop read → Stops stop (and_then read f)
+stop_then Memory read f h = tt
+stop_then (Bad bad) read f h = ap (λ r. and_then r f) h

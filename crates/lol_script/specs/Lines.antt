@@ -1,0 +1,39 @@
+-- What the code's lines and tags say.
+use Rattle.std.specs.Prelude.{ℕ, map, List, [], Option, Some, None}
+use Rattle.std.specs.Borrow.{Bor}
+use Rattle.std.specs.List.{slice_split}
+use Rattle.lol_base.specs.StartTags.{StartTag}
+use Rattle.lol_script.specs.Script as script
+use Rattle.lol_script.specs.Script.{is_tab, attribute_at}
+use Rattle.lol_script.specs.declared.lines.Line.{Line}
+use Rattle.lol_script.specs.declared.lines.Line.TheVariants.{Setting, Start, End}
+use Rattle.lol_script.specs.declared.lines.Setting.{Setting as SettingOf}
+use Rattle.lol_script.specs.declared.lines.Setting.TheVariants.{Limit, Esi, Tries, Select}
+use Rattle.lol_script.specs.declared.lines.StartLine.{StartLine}
+
+-- the fields of the rest of a line, if there is one
+abbrev pub fields_of : Option (Bor (List ℕ)) → List (List ℕ)
+fields_of None = []
+fields_of (Some rest) = slice_split is_tab rest.now
+
+-- the bytes in which the attributes of a start line stand
+abbrev pub input_of : Option (Bor (List ℕ)) → List ℕ
+input_of None = []
+input_of (Some rest) = rest.now
+
+-- the start tag of a line
+abbrev pub start_tag_of : StartLine → StartTag
+start_tag_of line =
+    record { name = line.name.now; namespace = line.ns; attributes = map attribute_at (fields_of line.attributes); self_closing = line.self_closing; finish = line.finish }
+
+abbrev pub set_by : SettingOf → script.Line
+set_by (Limit maximum) = script.SetLimit maximum
+set_by Esi = script.TurnEsiOn
+set_by Tries = script.ShowTries
+set_by (Select id text) = script.Select id text.now
+
+-- what the code's line says
+abbrev pub said_by : Line → script.Line
+said_by (Setting setting) = set_by setting
+said_by (Start line) = script.StartLine (start_tag_of line)
+said_by (End name) = script.EndLine name.now

@@ -1,0 +1,103 @@
+-- What a whole script asks for, and what is written for it.
+use Rattle.std.specs.Prelude.{ℕ, ◌+◌, Bool, false, true, ◌==◌, List, [], ◌∷◌, ◌++◌, map, take, Option, Some, None, Result, Ok, Err, codes}
+use Rattle.std.specs.List.{slice_split}
+use Rattle.lol_css.specs.Accepting.{accept}
+use Rattle.lol_css.specs.Trees.{Items}
+use Rattle.lol_css.specs.declared.error.SelectorError.{SelectorError}
+use Rattle.lol_program.specs.Paths.{Path, Selectors}
+use Rattle.lol_program.specs.Nodes.{selectors_of}
+use Rattle.lol_program.specs.Conditions.{pairs_under}
+use Rattle.lol_vm.specs.Events.{Event, Start, End}
+use Rattle.lol_vm.specs.Answers.{answers}
+use Rattle.lol_vm.specs.Refusals.{Cause, Limit, Counter, refused}
+use Rattle.lol_script.specs.Script.{Line, SetLimit, TurnEsiOn, ShowTries, Select, StartLine, EndLine, line_at}
+use Rattle.lol_script.specs.Output.{shown_answer, lines_of, bad_line}
+use Rattle.lol_script.specs.declared.bad_line.BadLine.{BadLine}
+use Rattle.lol_script.specs.declared.bad_line.Cause.TheVariants.{Form, Selector}
+use Rattle.lol_script.specs.declared.program.Status.{Status}
+use Rattle.lol_script.specs.declared.program.Status.TheVariants.{Good, BadLine as Bad, Refused}
+
+-- 1. Scripts
+
+-- What is asked for: the greatest usage, whether ESI is on and tries are shown, the selectors under their ids, the tags.
+pub record Script : Type 0 where
+  pub limit : ℕ
+  pub esi : Bool
+  pub shows_tries : Bool
+  pub pairs : List (Path × ℕ)
+  pub events : List Event
+
+abbrev pub empty_script : Script
+empty_script = record { limit = 18446744073709551615; esi = false; shows_tries = false; pairs = []; events = [] }
+
+abbrev pub malformed : ℕ → Result Script BadLine
+malformed number = Err (record { number = number; cause = Form })
+
+abbrev pub with_event : Script → Event → Script
+with_event s event = record s { events = s.events ++ event ∷ [] }
+
+abbrev pub and_then : Result Script BadLine → (Script → Result Script BadLine) → Result Script BadLine
+and_then (Ok s) f = f s
+and_then (Err bad) f = Err bad
+
+-- from the first tag line on, tag lines alone are good
+abbrev pub unless_begun : List Event → ℕ → Result Script BadLine → Result Script BadLine
+unless_begun [] number result = result
+unless_begun (event ∷ events) number result = malformed number
+
+abbrev pub with_selector : ℕ → Script → ℕ → Result Items SelectorError → Result Script BadLine
+with_selector number s id (Ok items) = Ok (record s { pairs = s.pairs ++ pairs_under id items })
+with_selector number s id (Err cause) = Err (record { number = number; cause = Selector cause })
+
+abbrev pub with_line : ℕ → Script → Line → Result Script BadLine
+with_line number s (SetLimit maximum) = unless_begun s.events number (Ok (record s { limit = maximum }))
+with_line number s TurnEsiOn = unless_begun s.events number (Ok (record s { esi = true }))
+with_line number s ShowTries = unless_begun s.events number (Ok (record s { shows_tries = true }))
+with_line number s (Select id text) = unless_begun s.events number (with_selector number s id (accept text))
+with_line number s (StartLine tag) = Ok (with_event s (Start tag))
+with_line number s (EndLine name) = Ok (with_event s (End name))
+
+abbrev pub with_meaning : ℕ → Script → Option Line → Result Script BadLine
+with_meaning number s None = malformed number
+with_meaning number s (Some line) = with_line number s line
+
+-- an empty line is skipped
+abbrev pub with_bytes : ℕ → Script → List ℕ → Result Script BadLine
+with_bytes number s [] = Ok s
+with_bytes number s (b ∷ bytes) = with_meaning number s (line_at (b ∷ bytes))
+
+abbrev pub read_lines : ℕ → Script → List (List ℕ) → Result Script BadLine
+read_lines number s [] = Ok s
+read_lines number s (line ∷ lines) = and_then (with_bytes number s line) (λ t. read_lines (number + 1) t lines)
+
+-- Lines end with LF and are numbered from 1. The first bad line decides.
+abbrev pub read_script : List ℕ → Result Script BadLine
+read_script bytes = read_lines 1 empty_script (slice_split (λ b. b == 10) bytes)
+
+-- 2. Output
+
+pub record Output : Type 0 where
+  pub text : List ℕ
+  pub status : Status
+
+abbrev pub shown_cause : Cause → List ℕ
+shown_cause Limit = codes "refused limit"
+shown_cause Counter = codes "refused counter"
+
+-- the lines of a run, up to the event that is refused
+abbrev pub run_output : List (List ℕ) → Option (ℕ × Cause) → Output
+run_output lines None = record { text = lines_of lines; status = Good }
+run_output lines (Some refusal) = record { text = lines_of (take refusal.0 lines ++ shown_cause refusal.1 ∷ []); status = Refused }
+
+abbrev pub good_output : Selectors → Script → Output
+good_output selectors s =
+    run_output (map (shown_answer s.shows_tries) (answers selectors s.esi s.events))
+    (refused selectors s.esi (record { item_bytes = 64; maximum = s.limit; usage = 0 }) s.events)
+
+abbrev pub output_of : Result Script BadLine → Output
+output_of (Ok s) = good_output (selectors_of s.pairs) s
+output_of (Err bad) = record { text = bad_line bad; status = Bad }
+
+-- What is written for a script, and how its run ends.
+abbrev pub output : List ℕ → Output
+output bytes = output_of (read_script bytes)

@@ -1,0 +1,70 @@
+//! Lines and scripts whose meaning is computed from the definition.
+
+ghost use Rattle.std.specs.Prelude.{◌≡◌, [], ◌∷◌, Some, None, true, false, codes};
+ghost use Rattle.lol_base.specs.declared.namespace.Namespace.TheVariants.{Html, Svg};
+ghost use Rattle.lol_script.specs.Script.{line_at, number_up_to, SetLimit, TurnEsiOn, ShowTries, Select, StartLine, EndLine};
+ghost use Rattle.lol_script.specs.Scripts.{output};
+ghost use Rattle.lol_script.specs.declared.program.Status.TheVariants.{Good, BadLine, Refused};
+
+/// Numbers: one or more digits, up to a greatest one.
+pub fn worked_numbers()
+    ensures leading_zeros { number_up_to 4294967295 (codes "0007") ≡ Some 7 }
+    ensures empty { number_up_to 4294967295 [] ≡ None }
+    ensures sign { number_up_to 4294967295 (codes "+7") ≡ None }
+    ensures greatest { number_up_to 4294967295 (codes "4294967295") ≡ Some 4294967295 }
+    ensures too_great { number_up_to 4294967295 (codes "4294967296") ≡ None }
+    ensures greatest_limit { line_at (codes "limit\t18446744073709551615") ≡ Some (SetLimit 18446744073709551615) }
+    ensures limit_too_great { line_at (codes "limit\t18446744073709551616") ≡ None }
+{}
+
+/// Lines before the first tag line.
+pub fn worked_settings()
+    ensures esi { line_at (codes "esi") ≡ Some TurnEsiOn }
+    ensures esi_return { line_at (codes "esi\r") ≡ None }
+    ensures esi_tab { line_at (codes "esi\t") ≡ None }
+    ensures tries { line_at (codes "tries") ≡ Some ShowTries }
+    ensures tries_tab { line_at (codes "tries\t") ≡ None }
+    ensures limit_tab { line_at (codes "limit\t5\t") ≡ None }
+    ensures no_text { line_at (codes "select\t0") ≡ None }
+    ensures empty_text { line_at (codes "select\t0\t") ≡ Some (Select 0 []) }
+    ensures text_with_tabs { line_at (codes "select\t12\ta\tb\t") ≡ Some (Select 12 (codes "a\tb\t")) }
+    ensures no_id { line_at (codes "select\t\ta") ≡ None }
+    ensures no_utf8 { line_at (115 ∷ 101 ∷ 108 ∷ 101 ∷ 99 ∷ 116 ∷ 9 ∷ 48 ∷ 9 ∷ 255 ∷ []) ≡ None }
+    ensures capital { line_at (codes "ESI") ≡ None }
+{}
+
+/// Tag lines.
+pub fn worked_tags()
+    ensures plain { line_at (codes "start\thtml\tdiv") ≡ Some (StartLine (record { name = codes "div"; namespace = Html; attributes = []; self_closing = false; finish = true })) }
+    ensures dropped { line_at (codes "drop\thtml\tdiv") ≡ Some (StartLine (record { name = codes "div"; namespace = Html; attributes = []; self_closing = false; finish = false })) }
+    ensures attributes { line_at (codes "start\tsvg/\tcircle\ta=b=c\td") ≡ Some (StartLine (record { name = codes "circle"; namespace = Svg; attributes = record { name = codes "a"; value = Some (codes "b=c") } ∷ record { name = codes "d"; value = None } ∷ []; self_closing = true; finish = true })) }
+    ensures no_name { line_at (codes "start\thtml") ≡ None }
+    ensures empty_name { line_at (codes "start\thtml\t") ≡ None }
+    ensures tab { line_at (codes "start\thtml\tdiv\t") ≡ None }
+    ensures no_attribute_name { line_at (codes "start\thtml\tdiv\t=b") ≡ None }
+    ensures no_namespace { line_at (codes "start\txml\tdiv") ≡ None }
+    ensures end { line_at (codes "end\tdiv") ≡ Some (EndLine (codes "div")) }
+    ensures end_tab { line_at (codes "end\tdiv\t") ≡ None }
+    ensures end_empty { line_at (codes "end\t") ≡ None }
+    ensures end_alone { line_at (codes "end") ≡ None }
+{}
+
+/// Whole scripts: what is written, and how the run ends.
+pub fn worked_outputs()
+    ensures nothing { output [] ≡ record { text = []; status = Good } }
+    ensures descendant_and_child { output (codes "select\t0\tdiv p\nselect\t1\tdiv > p\nstart\thtml\tdiv\nstart\thtml\tsection\nstart\thtml\tp\nend\tdiv") ≡ record { text = codes "start\t-\nstart\t-\nstart\t0\nend\t0,1,2\n"; status = Good } }
+    ensures tries { output (codes "tries\nselect\t0\tdiv p\nselect\t1\tdiv > p\nstart\thtml\tdiv\nstart\thtml\tsection\nstart\thtml\tp\nend\tdiv\n") ≡ record { text = codes "start\t-\ttries 1 0\nstart\t-\ttries 3 0\nstart\t0\ttries 2 0\nend\t0,1,2\n"; status = Good } }
+    ensures without_content { output (codes "select\t4\t* > br, P\nselect\t2\tp\nstart\thtml\tp\nstart\thtml\tBR\nstart\thtml\tp\nend\tP\nend\tP\n") ≡ record { text = codes "start\t2,4\nstart\t4/\nstart\t2,4\nend\t2\nend\t0\n"; status = Good } }
+    ensures dropped { output (codes "select\t0\t*\ndrop\tsvg\tg\nstart\thtml\tp\nend\tg\n") ≡ record { text = codes "dropped\nstart\t0\nend\t-\n"; status = Good } }
+    ensures foreign { output (codes "tries\nselect\t0\tcircle\nstart\tsvg/\tcircle\nend\tcircle\n") ≡ record { text = codes "start\t0/\tasked\ttries 1 0\nend\t-\n"; status = Good } }
+    ensures limit { output (codes "limit\t512\nselect\t0\t*\nstart\thtml\ta\nstart\thtml\tb\nstart\thtml\tc\nstart\thtml\td\nstart\thtml\te\nstart\thtml\tf\nstart\thtml\tg\nstart\thtml\th\nstart\thtml\ti\n") ≡ record { text = codes "start\t0\nstart\t0\nstart\t0\nstart\t0\nstart\t0\nstart\t0\nstart\t0\nstart\t0\nrefused limit\n"; status = Refused } }
+    ensures last_limit { output (codes "limit\t512\nlimit\t511\nstart\thtml\ta\n") ≡ record { text = codes "refused limit\n"; status = Refused } }
+    ensures attributes { output (codes "tries\nselect\t0\t.a p\nselect\t1\tp\nstart\thtml\tdiv\tclass=a\nstart\thtml\tp\n") ≡ record { text = codes "start\t-\tasked\ttries 2 1\nstart\t0,1\tasked\ttries 3 1\n"; status = Good } }
+    ensures attribute_with_equals { output (codes "select\t0\t[b=\"c=d\"]\nstart\tmathml/\tmi\tb=c=d\n") ≡ record { text = codes "start\t0/\tasked\n"; status = Good } }
+    ensures esi { output (codes "esi\nselect\t0\t*\nstart\thtml\tesi:include\nstart\thtml\tp\nend\tesi:include\n") ≡ record { text = codes "start\t0/\nstart\t0\nend\t-\n"; status = Good } }
+    ensures bad_selector { output (codes "select\t0\tdiv + span") ≡ record { text = codes "bad line 1: UnsupportedCombinator(+)\n"; status = BadLine } }
+    ensures empty_selector { output (codes "select\t0\t") ≡ record { text = codes "bad line 1: EmptySelector\n"; status = BadLine } }
+    ensures bad_form { output (codes "start\thtml\n") ≡ record { text = codes "bad line 1: form\n"; status = BadLine } }
+    ensures late_setting { output (codes "end\tp\nesi\n") ≡ record { text = codes "bad line 2: form\n"; status = BadLine } }
+    ensures late_bad_line { output (codes "start\thtml\tp\n\nselect\t0\tdiv + span") ≡ record { text = codes "bad line 3: form\n"; status = BadLine } }
+{}

@@ -1,0 +1,58 @@
+//! Reads scripts of selectors and tags, and runs them.
+#![tactic(auto)]
+
+ghost use Rattle.std.specs.Prelude.{◌≡◌};
+ghost use Rattle.lol_script.specs.ExitStatus.{exit_status_of};
+
+mod bad_line;
+mod device;
+pub mod laws;
+mod lines;
+mod output;
+mod program;
+#[cfg(test)]
+mod replayed;
+mod script;
+mod tags;
+#[cfg(test)]
+mod tests;
+#[cfg(test)]
+mod worked;
+
+pub use device::{Counted, RunFault};
+pub use program::{Status, run};
+use std::io;
+use std::process::ExitCode;
+
+/// Runs the script of standard input and writes its output to standard output, as a program: the exit status is that of `exit_status`.
+pub fn run_as_program(rt: HostRuntime) -> ExitCode {
+    let mut reader = Counted::new(rt.reader());
+    let mut writer = Counted::new(io::writer(&rt));
+    let outcome = run(rt.alloc(), &mut reader, &mut writer);
+    let _ = reader.into_inner();
+    let _ = writer.into_inner();
+    ExitCode::from(exit_status(&rt, outcome))
+}
+
+/// The exit status of a run; a fault is named on standard error.
+pub fn exit_status(rt: &impl Eprint, outcome: Result<Status, RunFault>) -> u8
+    ensures { result ≡ exit_status_of outcome }
+{
+    match outcome {
+        Ok(Status::Good) => 0,
+        Ok(Status::BadLine) => 2,
+        Ok(Status::Refused) => 3,
+        Err(RunFault::Memory) => {
+            let _ = eprintln!(rt; "lol_match: out of memory");
+            3
+        }
+        Err(RunFault::Read) => {
+            let _ = eprintln!(rt; "lol_match: read failed");
+            4
+        }
+        Err(RunFault::Write) => {
+            let _ = eprintln!(rt; "lol_match: write failed");
+            4
+        }
+    }
+}

@@ -1,0 +1,247 @@
+//! The lines of a script.
+
+ghost use Rattle.std.specs.Prelude.{◌≡◌, ◌<◌, ◌∷◌, [], MatchOption, IfSome, Some, None, Bool, true, false, map, length, option_map, position, if◌then◌else◌};
+ghost use Rattle.std.specs.Str.{is_utf8};
+ghost use Rattle.std.specs.List.{slice_split, list_all};
+ghost use Rattle.lol_script.specs.Script.{is_tab, is_named, attribute_at, namespace_at, number_up_to, limit_at, select_at, start_at, end_at, of_kind, line_at};
+ghost use Rattle.lol_script.specs.Lines.{fields_of, said_by};
+
+use lol_vm::Namespace;
+use memchr::memchr;
+
+/// What a line says.
+#[derive(Clone, Copy, Debug, PartialEq, Eq)]
+pub enum Line<'s> {
+    /// What holds for all tags; it stands before the first tag line.
+    Setting(Setting<'s>),
+
+    /// A start tag.
+    Start(StartLine<'s>),
+
+    /// An end tag.
+    End { name: &'s [u8] },
+}
+
+/// A line before the first tag line.
+#[derive(Clone, Copy, Debug, PartialEq, Eq)]
+pub enum Setting<'s> {
+    /// The greatest usage, in bytes.
+    Limit { maximum: u64 },
+
+    /// The names of ESI are void.
+    Esi,
+
+    /// Tries are shown.
+    Tries,
+
+    /// A selector, and the id that it is added under.
+    Select { id: u32, text: &'s str },
+}
+
+/// A start tag as its line gives it.
+#[derive(Clone, Copy, Debug, PartialEq, Eq)]
+pub struct StartLine<'s> {
+    pub name: &'s [u8],
+    pub ns: Namespace,
+    pub self_closing: bool,
+
+    /// The attributes, separated by TAB.
+    pub attributes: Option<&'s [u8]>,
+
+    /// Whether the attributes are handed over where they are asked for.
+    pub finish: bool,
+}
+
+/// The place of the first TAB.
+pub fn tab_place(bytes: &[u8]) -> Option<usize>
+    ensures { result ≡ position is_tab bytes.now }
+{
+    memchr(b'\t', bytes)
+}
+
+/// A line or the rest of one, cut at its first TAB.
+#[tactic(auto, using(crate::proofs::Fields::split_none, crate::proofs::Fields::split_some, crate::proofs::Fields::within_some))]
+fn cut(bytes: &[u8]) -> Option<(&[u8], &[u8])>
+    ensures fields { MatchOption result (slice_split is_tab bytes.now ≡ bytes.now ∷ []) (λ parts. slice_split is_tab bytes.now ≡ parts.0.now ∷ slice_split is_tab parts.1.now) }
+    ensures shorter { IfSome result (λ parts. length parts.1.now < length bytes.now) }
+{
+    let place = tab_place(bytes)?;
+    Some((&bytes[..place], &bytes[place + 1..]))
+}
+
+/// The first field, and the rest if there are more.
+fn first_field(bytes: &[u8]) -> (&[u8], Option<&[u8]>)
+    ensures { slice_split is_tab bytes.now ≡ result.0.now ∷ fields_of result.1 }
+{
+    match cut(bytes) {
+        Some((field, rest)) => (field, Some(rest)),
+        None => (bytes, None),
+    }
+}
+
+/// The number of one or more decimal digits, up to `u64::MAX`.
+fn number(digits: &[u8]) -> Option<u64>
+    ensures { result ≡ number_up_to 18446744073709551615 digits.now }
+{
+    if digits.is_empty() {
+        return None;
+    }
+    let mut value: u64 = 0;
+    for digit in digits {
+        if !digit.is_ascii_digit() {
+            return None;
+        }
+        value = value
+            .checked_mul(10)?
+            .checked_add(u64::from(*digit - b'0'))?;
+    }
+    Some(value)
+}
+
+/// The number of an id.
+fn id_of(digits: &[u8]) -> Option<u32>
+    ensures { result ≡ number_up_to 4294967295 digits.now }
+{
+    u32::try_from(number(digits)?).ok()
+}
+
+/// Bytes as a text, if they are UTF-8.
+fn text_of(bytes: &[u8]) -> Option<&str>
+    ensures { option_map (λ text. text.now) result ≡ (if is_utf8 bytes.now then Some bytes.now else None) }
+{
+    std::str::from_utf8(bytes).ok()
+}
+
+#[tactic(auto, using(crate::proofs::Fields::limit_too_long))]
+fn limit_of(rest: &[u8]) -> Option<Line<'_>>
+    ensures { option_map said_by result ≡ limit_at (slice_split is_tab rest.now) }
+{
+    if cut(rest).is_some() {
+        return None;
+    }
+    let maximum = number(rest)?;
+    Some(Line::Setting(Setting::Limit { maximum }))
+}
+
+#[tactic(auto, using(crate::proofs::Fields::select_by_cut))]
+fn select_of(rest: &[u8]) -> Option<Line<'_>>
+    ensures { option_map said_by result ≡ select_at (slice_split is_tab rest.now) }
+{
+    let (digits, text) = cut(rest)?;
+    let id = id_of(digits)?;
+    let text = text_of(text)?;
+    Some(Line::Setting(Setting::Select { id, text }))
+}
+
+/// A namespace, and whether the tag closes itself.
+fn namespace_of(field: &[u8]) -> Option<(Namespace, bool)>
+    ensures { result ≡ namespace_at field.now }
+{
+    if field == b"html".as_slice() {
+        Some((Namespace::Html, false))
+    } else if field == b"html/".as_slice() {
+        Some((Namespace::Html, true))
+    } else if field == b"svg".as_slice() {
+        Some((Namespace::Svg, false))
+    } else if field == b"svg/".as_slice() {
+        Some((Namespace::Svg, true))
+    } else if field == b"mathml".as_slice() {
+        Some((Namespace::MathML, false))
+    } else if field == b"mathml/".as_slice() {
+        Some((Namespace::MathML, true))
+    } else {
+        None
+    }
+}
+
+/// Whether an attribute has a name.
+fn has_name(attribute: &[u8]) -> bool
+    ensures { result ≡ is_named (attribute_at attribute.now) }
+{
+    attribute.first().is_some_and(|b| *b != b'=')
+}
+
+/// Whether each attribute has a name.
+fn have_names(attributes: &[u8]) -> bool
+    ensures { result ≡ list_all is_named (map attribute_at (slice_split is_tab attributes.now)) }
+{
+    let mut rest = attributes;
+    while let Some((attribute, others)) = cut(rest) {
+        if !has_name(attribute) {
+            return false;
+        }
+        rest = others;
+    }
+    has_name(rest)
+}
+
+/// A start tag, by what follows the kind of its line.
+fn start_of(rest: &[u8], finish: bool) -> Option<Line<'_>>
+    ensures { option_map said_by result ≡ start_at finish (slice_split is_tab rest.now) }
+{
+    let (namespace, rest) = cut(rest)?;
+    let (name, attributes) = first_field(rest);
+    if name.is_empty() || !attributes.is_none_or(have_names) {
+        return None;
+    }
+    let (ns, self_closing) = namespace_of(namespace)?;
+    Some(Line::Start(StartLine {
+        name,
+        ns,
+        self_closing,
+        attributes,
+        finish,
+    }))
+}
+
+#[tactic(auto, using(crate::proofs::Fields::end_too_long))]
+fn end_of(rest: &[u8]) -> Option<Line<'_>>
+    ensures { option_map said_by result ≡ end_at (slice_split is_tab rest.now) }
+{
+    if cut(rest).is_some() || rest.is_empty() {
+        return None;
+    }
+    Some(Line::End { name: rest })
+}
+
+/// A line of one field.
+fn bare_line(kind: &[u8]) -> Option<Line<'static>>
+    ensures { option_map said_by result ≡ of_kind kind.now [] }
+{
+    if kind == b"esi".as_slice() {
+        Some(Line::Setting(Setting::Esi))
+    } else if kind == b"tries".as_slice() {
+        Some(Line::Setting(Setting::Tries))
+    } else {
+        None
+    }
+}
+
+/// A line of several fields.
+fn line_of_kind<'s>(kind: &[u8], rest: &'s [u8]) -> Option<Line<'s>>
+    ensures { option_map said_by result ≡ of_kind kind.now (slice_split is_tab rest.now) }
+{
+    if kind == b"limit".as_slice() {
+        limit_of(rest)
+    } else if kind == b"select".as_slice() {
+        select_of(rest)
+    } else if kind == b"start".as_slice() {
+        start_of(rest, true)
+    } else if kind == b"drop".as_slice() {
+        start_of(rest, false)
+    } else if kind == b"end".as_slice() {
+        end_of(rest)
+    } else {
+        None
+    }
+}
+
+/// What a line says, or nothing where it has none of the forms.
+pub fn line_of(bytes: &[u8]) -> Option<Line<'_>>
+    ensures { option_map said_by result ≡ line_at bytes.now }
+{
+    match cut(bytes) {
+        Some((kind, rest)) => line_of_kind(kind, rest),
+        None => bare_line(bytes),
+    }
+}

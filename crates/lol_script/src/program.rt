@@ -1,0 +1,142 @@
+//! The program over a script.
+
+ghost use Rattle.std.specs.Prelude.{◌≡◌, ◌≢◌, ◌<◌, List, ℕ, Option, Ok, IfOk, IfErr, IsErrOf, map, take};
+ghost use Rattle.std.specs.Io.KnownBytes.{Consumes, Appends, Keeps, IsAtEnd};
+ghost use Rattle.lol_script.specs.Devices.{device_of, failures_of, AppendsBeginning};
+ghost use Rattle.lol_script.specs.Scripts as scripts;
+ghost use Rattle.lol_script.specs.Output.{bad_line, shown_answer, lines_of};
+ghost use Rattle.lol_vm.specs.Refusals.{Cause};
+ghost use Rattle.lol_vm.specs.RunRefusals.{IsRefusedAt};
+ghost use Rattle.lol_vm.specs.Views.{answer_of};
+ghost use Rattle.lol_script.specs.Scripts.{output, output_of, run_output};
+ghost use Rattle.lol_script.specs.Readings.{IsReading};
+
+use crate::bad_line::{BadLine, push_bad_line};
+use crate::device::{Counted, RunFault, read_all, write_text};
+use crate::output::push_reports;
+use crate::script::{Script, Stop, read_script};
+use bumpalo::Bump;
+use lol_vm::{RunCause, RunRefusal, SharedMemoryLimiter, TagReport, match_events};
+use std::alloc::{AllocError, Global};
+use std::io::{Read, Write};
+
+/// The size that an open element is charged for.
+const ITEM_BYTES: usize = 64;
+
+/// How a run ended.
+#[derive(Debug, Clone, Copy, PartialEq, Eq)]
+pub enum Status {
+    /// Each line was good, and each tag was answered.
+    Good,
+
+    /// A line was bad.
+    BadLine,
+
+    /// A tag was refused.
+    Refused,
+}
+
+/// Reads a script whole, and writes its output whole (docs/SCRIPT.md).
+///
+/// # Errors
+/// `Memory` where memory was refused, `Read` where a read failed: then nothing is written. `Write` where a write failed: then a
+/// beginning of the output is out.
+pub fn run<R: Read, W: Write>(
+    alloc: Global,
+    reader: &mut Counted<R>,
+    writer: &mut Counted<W>,
+) -> Result<Status, RunFault>
+    requires reads { failures_of reader.old < u64.MAX }
+    requires writes { failures_of writer.old < u64.MAX }
+
+    // The script is read to its end, and exactly its output is written.
+    ensures ok { IfOk result (λ status. (script : List ℕ) × Consumes (R.remaining (device_of reader.old)) (R.remaining (device_of reader.new)) script
+        × IsAtEnd (R.remaining (device_of reader.new)) × (status ≡ (output script).status)
+        × Appends (W.contents (device_of writer.old)) (W.contents (device_of writer.new)) (output script).text) }
+
+    // Unless a write failed nothing is written, and else a beginning of the output.
+    ensures unwritten { IfErr result (λ fault. fault ≢ RunFault.Write → Keeps (W.contents (device_of writer.old)) (W.contents (device_of writer.new))) }
+    ensures beginning { IsErrOf result RunFault.Write → (script : List ℕ) × Consumes (R.remaining (device_of reader.old)) (R.remaining (device_of reader.new)) script
+        × IsAtEnd (R.remaining (device_of reader.new)) × AppendsBeginning (W.contents (device_of writer.old)) (W.contents (device_of writer.new)) (output script).text }
+    ensures read_failed { IsErrOf result RunFault.Read → failures_of reader.old < failures_of reader.new }
+    ensures write_failed { IsErrOf result RunFault.Write → failures_of writer.old < failures_of writer.new }
+{
+    let script = read_all(alloc, reader)?;
+    let Ok((text, status)) = output(alloc, &script) else {
+        return Err(RunFault::Memory);
+    };
+    write_text(writer, &text)?;
+    Ok(status)
+}
+
+/// What is written for a script, and how its run ends.
+fn output(alloc: Global, bytes: &[u8]) -> Result<(Vec<u8>, Status), AllocError>
+    ensures { IfOk result (λ made. output bytes.now ≡ record { text = made.0.items; status = made.1 }) }
+{
+    let arena = Bump::new(alloc);
+    match read_script(alloc, &arena, bytes) {
+        Err(Stop::Memory) => Err(AllocError),
+        Err(Stop::Bad(bad)) => Ok((bad_text(alloc, bad)?, Status::BadLine)),
+        Ok(script) => good_output(alloc, script),
+    }
+}
+
+fn bad_text(alloc: Global, bad: BadLine) -> Result<Vec<u8>, AllocError>
+    ensures { IfOk result (λ text. text.items ≡ bad_line bad) }
+{
+    let mut text = Vec::new(alloc);
+    push_bad_line(&mut text, bad)?;
+    Ok(text)
+}
+
+/// What is written for a script whose lines are good.
+fn good_output(alloc: Global, script: Script) -> Result<(Vec<u8>, Status), AllocError>
+    requires { (s : scripts.Script) × IsReading script s }
+    ensures { IfOk result (λ made. (s : scripts.Script) → IsReading script.entry s → output_of (Ok s) ≡ record { text = made.0.items; status = made.1 }) }
+{
+    let Script {
+        limit,
+        esi,
+        shows_tries,
+        ast,
+        tags,
+    } = script;
+    let mut limiter = SharedMemoryLimiter::new(limit as usize);
+    match match_events(alloc, ast, ITEM_BYTES, esi, &tags, &mut limiter) {
+        Ok(reports) => Ok((reports_text(alloc, &reports, shows_tries)?, Status::Good)),
+        Err(refusal) => Ok((refused_text(alloc, refusal, shows_tries)?, Status::Refused)),
+    }
+}
+
+fn reports_text(
+    alloc: Global,
+    reports: &[TagReport],
+    shows_tries: bool,
+) -> Result<Vec<u8>, AllocError>
+    ensures { IfOk result (λ text. text.items ≡ lines_of (map (λ report. shown_answer shows_tries (answer_of report)) reports.now)) }
+{
+    let mut text = Vec::new(alloc);
+    push_reports(&mut text, reports, shows_tries)?;
+    Ok(text)
+}
+
+/// The lines of a refused run, and that of its cause. There are none where the cause is memory.
+fn refused_text(
+    alloc: Global,
+    refusal: RunRefusal,
+    shows_tries: bool,
+) -> Result<Vec<u8>, AllocError>
+    ensures { IfOk result (λ text. (lines : List (List ℕ)) (first : Option (ℕ × Cause))
+        → map (λ report. shown_answer shows_tries (answer_of report)) refusal.reports.items ≡ take refusal.event lines
+        → IsRefusedAt refusal first → run_output lines first ≡ record { text = text.items; status = Status.Refused }) }
+{
+    let RunRefusal { reports, cause, .. } = refusal;
+    let line = match cause {
+        RunCause::MemoryLimitExceeded => b"refused limit\n".as_slice(),
+        RunCause::CounterFull => b"refused counter\n".as_slice(),
+        RunCause::Memory => return Err(AllocError),
+    };
+    let mut text = reports_text(alloc, &reports, shows_tries)?;
+    text.extend_from_slice(line)?;
+    Ok(text)
+}
