@@ -29,6 +29,8 @@ mod nodes;
 mod plain;
 mod plain_document;
 mod plain_element;
+#[cfg(test)]
+mod plain_model;
 mod plain_nodes;
 #[cfg(test)]
 mod plain_rows;

@@ -1,0 +1,161 @@
+//! Random tags over random selectors, told to the machine and answered plainly.
+
+use crate::plain::{PlainAnswer, plain_answers};
+use crate::stack_model::next_random;
+use crate::tag_words::{TagWord, attributes_of, events_of};
+use lol_vm::{Ast, Namespace, Selector, SharedMemoryLimiter, TagReport, match_events};
+use std::alloc::{AllocError, Global};
+use std::process::Abort;
+use std::test::Fail;
+
+/// How many documents there are, how many selectors are looked for in each of them, and how many tags it has.
+const DOCUMENTS: u64 = 12;
+
+const SELECTORS: usize = 20;
+
+const TAGS: usize = 100;
+
+/// The names of tags, separated by spaces as all that is picked from.
+const NAMES: &str = "a b P br esi:include abcdefghijklmn";
+
+const ATTRIBUTES: &str = "@ @class=x @class=y @id=i @h @h=v @H=V-w @h=w";
+
+/// The first and the second part of a compound; a hyphen stands for nothing.
+const FIRST_PARTS: &str = "* a b p br |a a b";
+
+const SECOND_PARTS: &str =
+    "- - - .x .y #i [h] [h=v] [h~='w'i] [h^=v] [h$='W'i] [h*='-'] [h|=v] :first-child :nth-child(2n+1) :nth-child(-n+3) \
+    :nth-of-type(2) :first-of-type :not(a) :not(.x,p) :not(:nth-of-type(2n)) :is(a,.x) :where(b,[h=v]) :is(:not(.x),p)";
+
+/// A row of random numbers.
+#[derive(Drop)]
+struct Random(u64);
+
+impl Random {
+    /// The next number below a bound.
+    fn below(&mut self, bound: usize) -> usize {
+        self.0 = next_random(self.0);
+        (self.0 >> 33) as usize % bound.max(1)
+    }
+
+    /// One of the words of a text.
+    fn word<'t>(&mut self, text: &'t str) -> &'t str {
+        let at = self.below(text.split_whitespace().count());
+        text.split_whitespace().nth(at).unwrap_or("")
+    }
+
+    fn push_compound(&mut self, text: &mut String) -> Result<(), AllocError> {
+        text.push_str(self.word(FIRST_PARTS))?;
+        let second = self.word(SECOND_PARTS);
+        if second != "-" {
+            text.push_str(second)?;
+        }
+        Ok(())
+    }
+
+    /// A selector of one to three compounds.
+    fn selector(&mut self, alloc: Global) -> Result<String, AllocError> {
+        let mut text = String::new(alloc);
+        self.push_compound(&mut text)?;
+        for _step in 0..self.below(3) {
+            text.push_str(if self.below(2) == 0 { " " } else { " > " })?;
+            self.push_compound(&mut text)?;
+        }
+        Ok(text)
+    }
+
+    fn selectors(&mut self, alloc: Global) -> Result<Ast, Fail> {
+        let mut ast = Ast::new(alloc);
+        for _selector in 0..SELECTORS {
+            let text = self.selector(alloc)?;
+            let selector = Selector::from_str(alloc, &text)?;
+            let match_id = u32::try_from(self.below(40)).unwrap_or(0);
+            ast.add_selector(&selector, match_id)?;
+        }
+        Ok(ast)
+    }
+
+    fn tag(&mut self) -> TagWord<'static> {
+        let ns = match self.below(6) {
+            0 => Namespace::Svg,
+            1 => Namespace::MathML,
+            _ => Namespace::Html,
+        };
+        let attribute = TagWord::of(self.word(ATTRIBUTES)).attribute;
+        TagWord {
+            ends: self.below(3) == 0,
+            name: self.word(NAMES),
+            ns,
+            attribute,
+            self_closing: self.below(4) == 0,
+            finish: self.below(8) > 0,
+        }
+    }
+
+    fn tags(&mut self, alloc: Global) -> Result<Vec<TagWord<'static>>, AllocError> {
+        let mut tags = Vec::new(alloc);
+        for _tag in 0..TAGS {
+            tags.push(self.tag())?;
+        }
+        Ok(tags)
+    }
+}
+
+/// Whether a report says what a plain answer says.
+fn agrees(report: &TagReport, told: &PlainAnswer) -> bool {
+    match told {
+        PlainAnswer::Started {
+            matched,
+            asked,
+            names,
+            attributes,
+        } => match report {
+            TagReport::Started {
+                matched: reported,
+                asked: was_asked,
+                tries,
+            } => {
+                reported.as_slice() == matched.as_slice()
+                    && *was_asked == *asked
+                    && tries.names() == *names as u64
+                    && tries.attributes() == *attributes as u64
+            }
+            _ => false,
+        },
+        PlainAnswer::Dropped => matches!(report, TagReport::Dropped),
+        PlainAnswer::Ended { closed } => match report {
+            TagReport::Ended { closed: numbers } => numbers.as_slice() == closed.as_slice(),
+            _ => false,
+        },
+    }
+}
+
+fn compare(rt: &impl Abort, alloc: Global, seed: u64) -> Result<(), Fail> {
+    let mut random = Random(seed);
+    let ast = random.selectors(alloc)?;
+    let tags = random.tags(alloc)?;
+    let attributes = attributes_of(alloc, &tags)?;
+    let events = events_of(rt, alloc, &tags, &attributes)?;
+    let enable_esi_tags = seed % 2 == 1;
+    let told = plain_answers(alloc, &ast, enable_esi_tags, &events)?;
+    let mut limiter = SharedMemoryLimiter::new(1_000_000);
+    let Ok(reports) = match_events(alloc, ast, 64, enable_esi_tags, &events, &mut limiter) else {
+        return Err(Fail::from("the run was refused"));
+    };
+    assert_eq!(rt; reports.len(), told.len());
+    for (place, report) in reports.iter().enumerate() {
+        assert!(rt;
+            agrees(report, &told[place]),
+            "document {seed}, tag {place}"
+        );
+    }
+    Ok(())
+}
+
+#[test]
+fn agrees_with_the_machine(rt: HostRuntime) -> Result<(), Fail> {
+    for seed in 0..DOCUMENTS {
+        compare(&rt, rt.alloc(), seed)?;
+    }
+    Ok(())
+}
