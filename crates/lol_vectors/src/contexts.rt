@@ -90,6 +90,21 @@ fn are_ids_and_ranges(rt: HostRuntime) -> Result<(), Fail> {
 }
 
 #[test]
+fn gain_no_range_without_content(rt: HostRuntime) -> Result<(), Fail> {
+    let mut ctx = gathered(rt.alloc())?;
+    ctx.with_content = false;
+    let other = branch(rt.alloc(), &[1], Some(7..8), Some(8..9))?;
+    ctx.add_execution_branch(rt.alloc(), &other)?;
+    let mut owned = ctx.into_owned(rt.alloc())?;
+    assert!(rt; !owned.with_content);
+    assert!(rt; owned.stack_item.jumps.as_slice() == [2..4].as_slice());
+    assert!(rt; owned.stack_item.hereditary_jumps.as_slice() == [5..6].as_slice());
+    let ids = ids_of(&rt, rt.alloc(), &mut owned);
+    assert!(rt; ids.as_slice() == [(1, false), (3, false), (7, false), (40, false)].as_slice());
+    Ok(())
+}
+
+#[test]
 fn are_none_at_first(rt: HostRuntime) {
     let name = LocalName::new(b"x-Item");
     let mut ctx = ExecutionCtx::new(rt.alloc(), name, Namespace::Svg, true);
