@@ -144,6 +144,31 @@ impl Open {
     }
 }
 
+/// Expects the reports of exactly the selectors that match by hand, in order.
+fn expect_reports(
+    rt: &impl Abort,
+    open: &Open,
+    element: &Plain,
+    content: bool,
+    infos: &[MatchInfo],
+) {
+    let mut reported = 0;
+    for (text, id) in SELECTORS {
+        if open.matches(id, element) {
+            let info = infos.get(reported).copied();
+            assert!(rt;
+                info == Some(MatchInfo {
+                    match_id: id,
+                    with_content: content
+                }),
+                "{text}"
+            );
+            reported = reported.saturating_add(1);
+        }
+    }
+    assert_eq!(rt; infos.len(), reported);
+}
+
 /// A start tag told to both, and the comparison.
 fn start_both(
     rt: &impl Abort,
@@ -183,21 +208,7 @@ fn start_both(
     let (said, infos) = start(rt, alloc, vm, limiter, tag);
     assert!(rt; said == Said::Asked || said == Said::Unasked);
     let content = element.has_content(self_closing);
-    let mut reported = 0;
-    for (text, id) in SELECTORS {
-        if open.matches(id, &element) {
-            let info = infos.get(reported).copied();
-            assert!(rt;
-                info == Some(MatchInfo {
-                    match_id: id,
-                    with_content: content
-                }),
-                "{text}"
-            );
-            reported = reported.saturating_add(1);
-        }
-    }
-    assert_eq!(rt; infos.len(), reported);
+    expect_reports(rt, open, &element, content, &infos);
     if content {
         number(rt, vm, place);
         open.elements.push(element).expect(rt, "memory");
