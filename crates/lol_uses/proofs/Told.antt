@@ -4,7 +4,7 @@ use Rattle.lol_base.specs.StartTags.{StartTag}
 use Rattle.lol_memory.specs.Ids.{Ids}
 use Rattle.lol_memory.specs.declared.match_info.MatchInfo.{MatchInfo}
 use Rattle.lol_program.specs.Paths.{Selectors}
-use Rattle.lol_vm.specs.Calls.{IsCalledAtEach}
+use Rattle.lol_stack.specs.Calls.{IsCalledAtEach}
 use Rattle.lol_vm.specs.Events.{Event}
 use Rattle.lol_vm.specs.Vms.{Vm, IsAnswered, info_of}
 use Rattle.lol_uses.specs.Pages.{IsTold}

@@ -5,7 +5,7 @@ use Rattle.lol_memory.specs.Limiter.{Limiter}
 use Rattle.lol_memory.specs.declared.match_info.MatchInfo.{MatchInfo}
 use Rattle.lol_program.specs.Paths.{Selectors}
 use Rattle.lol_vm.specs.Answers.{Match, answer, document}
-use Rattle.lol_vm.specs.Calls.{IsCalledAtEach}
+use Rattle.lol_stack.specs.Calls.{IsCalledAtEach}
 use Rattle.lol_vm.specs.Events as events
 use Rattle.lol_vm.specs.Views.{tag_of}
 use Rattle.lol_vm.specs.Vms.{Vm, Stands, info_of, slots_charged, slot_bytes}

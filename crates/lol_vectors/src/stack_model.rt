@@ -1,7 +1,7 @@
 //! A long run of a stack beside plain lists of the same.
 
 ghost use Rattle.std.specs.Prelude.{◌≡◌};
-ghost use Rattle.lol_vm.specs.Stacks.{item_bytes_in};
+ghost use Rattle.lol_stack.specs.Stacks.{item_bytes_in};
 
 use crate::stacks::{Numbered, close, open, release};
 use lol_vm::{AddressRange, ChildCounter, LocalName, NthChild, SharedMemoryLimiter, Stack};

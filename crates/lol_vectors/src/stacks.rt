@@ -1,7 +1,7 @@
 //! Open elements.
 
 ghost use Rattle.std.specs.Prelude.{◌≡◌, refl};
-ghost use Rattle.lol_vm.specs.Stacks.{item_bytes_in};
+ghost use Rattle.lol_stack.specs.Stacks.{item_bytes_in};
 
 use lol_vm::{
     AddChildError, AddressRange, ChildCounter, DenseHashSet, ElementData, LocalName, Namespace,

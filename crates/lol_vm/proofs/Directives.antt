@@ -7,10 +7,10 @@ use Rattle.lol_base.specs.StartTags.{StartTag}
 use Rattle.lol_base.specs.declared.namespace.Namespace.{Namespace}
 use Rattle.lol_base.specs.declared.namespace.Namespace.TheVariants.{Html, Svg, MathML}
 use Rattle.lol_program.specs.Tests.{is_html}
-use Rattle.lol_vm.specs.Directives.{directive_in}
+use Rattle.lol_stack.specs.Directives.{directive_in}
 use Rattle.lol_vm.specs.Events.{has_content, has_content_in}
-use Rattle.lol_vm.specs.contracts.stack_item.StackDirective.{the_type}
-use Rattle.lol_vm.specs.declared.stack_item.StackDirective.TheVariants.{Push, PushIfNotSelfClosing, PopImmediately}
+use Rattle.lol_stack.specs.contracts.stack_item.StackDirective.{the_type}
+use Rattle.lol_stack.specs.declared.stack_item.StackDirective.TheVariants.{Push, PushIfNotSelfClosing, PopImmediately}
 
 pub foreign_if : (ns : Namespace) (esi : Bool) (name : List ℕ) → sameb the_type (directive_in ns esi name) PushIfNotSelfClosing ≡ true → is_html ns ≡ false
 foreign_if Html esi name h = by_test (is_void name || (esi && is_esi name)) h

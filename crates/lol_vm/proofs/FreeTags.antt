@@ -23,26 +23,26 @@ use Rattle.lol_program.specs.Tests.{is_html}
 use Rattle.lol_program.specs.declared.instruction.Instruction.{Instruction}
 use Rattle.lol_program.specs.declared.program.Program.{Program}
 use denote.Enum.Bare.{sameb}
-use Rattle.lol_vm.specs.Directives.{directive_in}
-use Rattle.lol_vm.specs.contracts.stack_item.StackDirective.{the_type}
-use Rattle.lol_vm.specs.declared.stack_item.StackDirective.{StackDirective}
-use Rattle.lol_vm.specs.declared.stack_item.StackDirective.TheVariants.{Push, PopImmediately}
+use Rattle.lol_stack.specs.Directives.{directive_in}
+use Rattle.lol_stack.specs.contracts.stack_item.StackDirective.{the_type}
+use Rattle.lol_stack.specs.declared.stack_item.StackDirective.{StackDirective}
+use Rattle.lol_stack.specs.declared.stack_item.StackDirective.TheVariants.{Push, PopImmediately}
 use Rattle.lol_vm.specs.Events.{has_content, has_content_in}
 use Rattle.lol_vm.specs.FreeTags.{AreSmall, IsAskedOrFull}
 use Rattle.lol_vm.specs.InstructionRuns.{HaveSmallIds}
 use Rattle.lol_vm.specs.StackMachines.{KeepsTyped}
-use Rattle.lol_vm.specs.TypedCounts.{TypedCount}
-use Rattle.lol_vm.specs.Stacks.{typed_in}
+use Rattle.lol_stack.specs.TypedCounts.{TypedCount}
+use Rattle.lol_stack.specs.Stacks.{typed_in}
 use Rattle.lol_vm.specs.Standing.{Machine}
 use Rattle.lol_vm.specs.VmErrors.{child_error}
 use Rattle.lol_vm.specs.PlaceRuns.{Context}
 use Rattle.lol_vm.specs.TagRuns.{stop_at}
 use Rattle.lol_vm.specs.Vms.{Vm, Shows, IsRequested, GoesOnAt, content_at}
-use Rattle.lol_vm.specs.declared.stack.AddChildError.{AddChildError}
-use Rattle.lol_vm.specs.declared.stack.AddChildError.TheVariants as children
+use Rattle.lol_stack.specs.declared.stack.AddChildError.{AddChildError}
+use Rattle.lol_stack.specs.declared.stack.AddChildError.TheVariants as children
 use Rattle.lol_vm.specs.declared.error.VmError.{VmError}
 use Rattle.lol_vm.specs.declared.error.VmError.TheVariants.{InfoRequest, MemoryLimitExceeded, Memory, CounterFull, Failed}
-use Rattle.lol_vm.specs.declared.execution_ctx.ExecutionCtx.{ExecutionCtx}
+use Rattle.lol_stack.specs.declared.execution_ctx.ExecutionCtx.{ExecutionCtx}
 use Rattle.lol_vm.specs.declared.tag_runs.RecoveryPoint.{RecoveryPoint}
 use Rattle.lol_vm.specs.declared.tag_runs.RecoveryPoint.TheVariants.{AtOnce, EntryPoints, Jumps, HereditaryJumps}
 use Rattle.lol_vm.proofs.Lists.{among_any, within_at, to_contains}

@@ -6,17 +6,11 @@ mod VmFinishes
 mod VmRefusals
 mod VmData
 mod FreeTags
-mod Spans
 pub mod Trees
 pub mod Runs
 pub mod RefusedRuns
 pub mod RunSteps
 pub mod TakenStarts
-pub mod CounterLevels
-pub mod NameMaps
-pub mod Refusals
-pub mod TypedLists
-pub mod StackLists
 pub mod Bools
 pub mod Lists
 pub mod Held
@@ -30,11 +24,6 @@ pub mod ContentMarks
 pub mod Closings
 pub mod OneId
 pub mod Unasked
-pub mod EsiNames
-pub mod SoundPlaces
-pub mod SoundRanges
-pub mod SoundLemmas
-pub mod TypedFunctions
 pub mod StackMachines
 pub mod TypedLevels
 pub mod TypedCounting

@@ -17,7 +17,7 @@ use Rattle.lol_vm.specs.Events.{Event, Start, End}
 use Rattle.lol_vm.specs.Follows.{Follows, IsCharged, IsRefusedFor, Stops, opens, refusal_after}
 use Rattle.lol_vm.specs.Refusals.{Cause, Limit, Counter, longest, exceeds, greatest_count}
 use Rattle.lol_vm.specs.RunRefusals.{allowance_of}
-use Rattle.lol_vm.specs.Stacks.{items_in, list_in, last_count}
+use Rattle.lol_stack.specs.Stacks.{items_in, list_in, last_count}
 use Rattle.lol_vm.specs.Standing.{counted_last, counted_root, closed_count, or_root}
 use Rattle.lol_vm.specs.Vms.{Vm, Stands, stack_in, data_in, slots_charged, slot_bytes, open_after}
 use Rattle.lol_vm.specs.declared.events.RunCause.{RunCause}

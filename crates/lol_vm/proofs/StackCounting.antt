@@ -14,13 +14,13 @@ use Rattle.lol_program.specs.Tests.{Element}
 use Rattle.lol_vm.specs.Documents.{Child, Document, element_of, same_parent, children_of, typed_children_of}
 use Rattle.lol_vm.specs.Standing.{Machine, AreTyped, AreCounted, counted, counted_root, counted_last, counted_typed, or_root}
 use Rattle.lol_vm.specs.Standing as standing
-use Rattle.lol_vm.specs.TypedCounts as typed
-use Rattle.lol_vm.specs.TypedCounts.{TypedCount, count_at}
-use Rattle.lol_vm.specs.Stacks.{items_in, typed_in, last_count, typed_count, count_or, counted_in, counted_if, counted_item, with_typed, count_by_type}
+use Rattle.lol_stack.specs.TypedCounts as typed
+use Rattle.lol_stack.specs.TypedCounts.{TypedCount, count_at}
+use Rattle.lol_stack.specs.Stacks.{items_in, typed_in, last_count, typed_count, count_or, counted_in, counted_if, counted_item, with_typed, count_by_type}
 use Rattle.lol_vm.specs.StackMachines.{item_shown, items_shown, children_shown, typed_shown, KeepsTyped, Keeps, CountingStackKeeps, CountersAreSeen, StatesShowElements, TypedCountsAreFewer}
-use Rattle.lol_vm.specs.declared.stack_item.StackItemOf.{StackItemOf}
-use Rattle.lol_vm.specs.declared.stack.StackOf.{StackOf}
-use Rattle.lol_vm.specs.declared.stack.StackNames.{StackNames}
+use Rattle.lol_stack.specs.declared.stack_item.StackItemOf.{StackItemOf}
+use Rattle.lol_stack.specs.declared.stack.StackOf.{StackOf}
+use Rattle.lol_stack.specs.declared.stack.StackNames.{StackNames}
 use Rattle.lol_vm.proofs.Bools.{same_bool}
 use Rattle.lol_vm.proofs.Kept.{counters_are_places}
 use Rattle.lol_vm.proofs.StackMachines.{shown_push, items_counted}

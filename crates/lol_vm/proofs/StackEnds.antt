@@ -10,14 +10,14 @@ use Rattle.lol_base.specs.Names.{lowercased}
 use Rattle.lol_base.specs.LocalNames.{Name, local_name}
 use Rattle.lol_vm.specs.Machines.{OpenItem}
 use Rattle.lol_vm.specs.Standing.{Machine, ended}
-use Rattle.lol_vm.specs.Stacks.{items_in, place_to_close, IsEndedAt}
-use Rattle.lol_vm.specs.SoundStacks.{last_place_from, last_place}
+use Rattle.lol_stack.specs.Stacks.{items_in, place_to_close, IsEndedAt}
+use Rattle.lol_stack.specs.SoundStacks.{last_place_from, last_place}
 use Rattle.lol_vm.specs.StackMachines.{item_shown, items_shown, in_lower_case, Keeps, EndingStackKeeps}
-use Rattle.lol_vm.specs.declared.stack_item.StackItemOf.{StackItemOf}
-use Rattle.lol_vm.specs.declared.stack.StackOf.{StackOf}
-use Rattle.lol_vm.specs.declared.stack.StackNames.{StackNames}
+use Rattle.lol_stack.specs.declared.stack_item.StackItemOf.{StackItemOf}
+use Rattle.lol_stack.specs.declared.stack.StackOf.{StackOf}
+use Rattle.lol_stack.specs.declared.stack.StackNames.{StackNames}
 use Rattle.lol_vm.proofs.Runs.{position-map}
-use Rattle.lol_vm.proofs.SoundLemmas.{ends_at_last}
+use Rattle.lol_stack.specs.SoundLaws.{ends_at_last}
 use Rattle.lol_vm.proofs.StackMachines.{shown_length, items_counted, place_of_last, ended_at_last_keeps}
 
 -- 1. The first place at which a test passes, with one element more

@@ -15,16 +15,16 @@ use Rattle.lol_memory.specs.LimitedVec.{LimitedVec, pushed}
 use Rattle.lol_memory.specs.Slots.{minimum_slots}
 use Rattle.lol_program.specs.Programs.{Range}
 use Rattle.lol_program.specs.ProgramViews.{range_shown}
-use Rattle.lol_vm.specs.Active as active
-use Rattle.lol_vm.specs.Active.{activated}
+use Rattle.lol_stack.specs.Active as active
+use Rattle.lol_stack.specs.Active.{activated}
 use Rattle.lol_vm.specs.Machines.{OpenItem, active_of, is_active, same_range, newly_active}
-use Rattle.lol_vm.specs.TypedCounts.{TypedCount, cut_to}
+use Rattle.lol_stack.specs.TypedCounts.{TypedCount, cut_to}
 use Rattle.lol_vm.specs.Standing.{Machine, slots_after, cut, closed_count, ended}
-use Rattle.lol_vm.specs.Stacks.{items_in, active_in, typed_in, IsSame, IsClosed, IsEndedAt}
+use Rattle.lol_stack.specs.Stacks.{items_in, active_in, typed_in, IsSame, IsClosed, IsEndedAt}
 use Rattle.lol_vm.specs.StackMachines.{item_shown, items_shown, children_shown, active_shown, in_lower_case, Climb, levels_in, KeepsTyped, Keeps, NewStackKeeps, SameStackKeeps, OpeningStackKeeps}
-use Rattle.lol_vm.specs.declared.stack_item.StackItemOf.{StackItemOf}
-use Rattle.lol_vm.specs.declared.stack.StackOf.{StackOf}
-use Rattle.lol_vm.specs.declared.stack.StackNames.{StackNames}
+use Rattle.lol_stack.specs.declared.stack_item.StackItemOf.{StackItemOf}
+use Rattle.lol_stack.specs.declared.stack.StackOf.{StackOf}
+use Rattle.lol_stack.specs.declared.stack.StackNames.{StackNames}
 use Rattle.lol_vm.proofs.Held.{range_is}
 use Rattle.lol_vm.proofs.Kept.{active_drop}
 use Rattle.lol_vm.proofs.Runs.{drop-reverse}

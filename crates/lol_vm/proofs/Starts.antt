@@ -28,24 +28,25 @@ use Rattle.lol_program.specs.declared.name_value.NameValue.TheVariants.{True, Fa
 use Rattle.lol_program.specs.declared.program.Program.{Program}
 use Rattle.lol_program.specs.declared.tries.Tries.{Tries}
 use Rattle.lol_vm.specs.Answers.{name_tries, attribute_tries}
-use Rattle.lol_vm.specs.Contexts.{with_branch}
+use Rattle.lol_stack.specs.Contexts.{with_branch}
 use Rattle.lol_vm.specs.Gathering.{Gathers}
-use Rattle.lol_vm.specs.InstructionRuns.{AreRunnable, IsInsideOf, all_at, place_in, ranges_in, ranges_from, no_range, value_seen, is_true, holds_seen, first_open_from, with_branch_if, gathered_by_names, gathered_with_attributes}
+use Rattle.lol_vm.specs.InstructionRuns.{AreRunnable, IsInsideOf, all_at, place_in, ranges_in, ranges_from, value_seen, is_true, holds_seen, first_open_from, with_branch_if, gathered_by_names, gathered_with_attributes}
+use Rattle.lol_stack.specs.WithRange.{no_range}
 use Rattle.lol_vm.specs.InstructionLaws.{AreRangesOf, AreAsOpen}
 use Rattle.lol_vm.specs.MachineLaws.{WholeStart, started_by_names, starts_open, from_number}
 use Rattle.lol_vm.specs.Machines.{OpenItem, AreItems, HoldOnce, LeftMatches, active_of, last_jumps, ranges_of_active, ranges_to_run}
 use Rattle.lol_vm.specs.Matching as matching
 use Rattle.lol_vm.specs.PlaceRuns.{Context, no_context, context_of, branch, is_open_at, value_at, first_open, run, run_by_names, step_by_names, step_with_attributes}
 use Rattle.lol_vm.specs.StackMachines.{Keeps, in_lower_case, item_shown, items_shown, active_shown}
-use Rattle.lol_vm.specs.Stacks.{items_in, active_in}
+use Rattle.lol_stack.specs.Stacks.{items_in, active_in}
 use Rattle.lol_vm.specs.Standing.{Machine, ranges_of_machine}
 use Rattle.lol_vm.specs.TagRuns.{AreTried, jumps_in, jumps_of_item, ranges_to_run_in, sight_in}
 use Rattle.lol_vm.specs.Vms.{content_of}
-use Rattle.lol_vm.specs.declared.execution_ctx.ExecutionCtx.{ExecutionCtx}
+use Rattle.lol_stack.specs.declared.execution_ctx.ExecutionCtx.{ExecutionCtx}
 use Rattle.lol_vm.specs.declared.instruction_runs.Stop.{Stop}
-use Rattle.lol_vm.specs.declared.stack_item.StackItemOf.{StackItemOf}
-use Rattle.lol_vm.specs.declared.stack.StackOf.{StackOf}
-use Rattle.lol_vm.specs.declared.stack.StackNames.{StackNames}
+use Rattle.lol_stack.specs.declared.stack_item.StackItemOf.{StackItemOf}
+use Rattle.lol_stack.specs.declared.stack.StackOf.{StackOf}
+use Rattle.lol_stack.specs.declared.stack.StackNames.{StackNames}
 use Rattle.lol_vm.proofs.Counted.{places_count_tries}
 use Rattle.lol_vm.proofs.Held.{ranges_are_inside, ranges_hold_left_matches, programs_have_each_node}
 use Rattle.lol_vm.proofs.InstructionPlaces.{instructions_are_as_open, instructions_gather}

@@ -13,9 +13,10 @@ use Rattle.lol_program.specs.Compiled.{Sight}
 use Rattle.lol_program.specs.Tries.{names_counted, attributes_counted}
 use Rattle.lol_program.specs.declared.instruction.Instruction.{Instruction}
 use Rattle.lol_program.specs.declared.tries.Tries.{Tries}
-use Rattle.lol_vm.specs.InstructionRuns.{AreRunnable, IsInsideOf, value_seen, all_at, place_in, IsStopIn, ranges_from, no_range, open_among, instructions_at, first_open_from, tried_until, gathered_by_names, gathered_with_attributes}
+use Rattle.lol_vm.specs.InstructionRuns.{AreRunnable, IsInsideOf, value_seen, all_at, place_in, IsStopIn, ranges_from, open_among, instructions_at, first_open_from, tried_until, gathered_by_names, gathered_with_attributes}
+use Rattle.lol_stack.specs.WithRange.{no_range}
 use Rattle.lol_vm.specs.TagRuns.{later_stop, IsStopOf, AreTried, AreExecuted, AreWithin}
-use Rattle.lol_vm.specs.declared.execution_ctx.ExecutionCtx.{ExecutionCtx}
+use Rattle.lol_stack.specs.declared.execution_ctx.ExecutionCtx.{ExecutionCtx}
 use Rattle.lol_vm.specs.declared.instruction_runs.Stop.{Stop}
 use Rattle.lol_vm.proofs.InstructionLists.{stops_before, stops_after, none_later, stops_later, gathers_on, gathers_until, gathers_all, open_among-append, open_at_most}
 

@@ -17,19 +17,19 @@ use Rattle.lol_program.specs.Tests.{Element}
 use Rattle.lol_program.specs.Tries.{names_counted, attributes_counted}
 use Rattle.lol_vm.specs.Answers as answers
 use Rattle.lol_vm.specs.Answers.{Answer, Match, answer, asks, attribute_tries, document, is_dropped, name_tries, report}
-use Rattle.lol_vm.specs.Calls.{IsCalledAtEach}
+use Rattle.lol_stack.specs.Calls.{IsCalledAtEach}
 use Rattle.lol_vm.specs.Documents.{Document, after_start, element_of, empty}
 use Rattle.lol_vm.specs.Events.{Event, Start, has_content}
 use Rattle.lol_vm.specs.Follows.{Follows, Goes, IsCharged, IsDropped, IsTaken, opens}
 use Rattle.lol_vm.specs.Views.{match_of}
 use Rattle.lol_vm.specs.Standing.{StandsFor, unfinished}
-use Rattle.lol_vm.specs.Stacks.{items_in, list_in, last_count}
+use Rattle.lol_stack.specs.Stacks.{items_in, list_in, last_count}
 use Rattle.lol_vm.specs.Vms.{Vm, Stands, IsAnswered, IsPending, AreOpened, info_of, stack_in, tries_in, data_in, has_failed, slots_charged, slot_bytes}
 use Rattle.lol_vm.specs.declared.error.AuxStartTagInfoRequest.{AuxStartTagInfoRequest}
 use Rattle.lol_vm.specs.declared.error.VmError.{VmError}
 use Rattle.lol_vm.specs.declared.error.VmError.TheVariants.{CounterFull}
 use Rattle.lol_vm.specs.declared.events.TagReport.TheVariants as reports
-use Rattle.lol_vm.specs.declared.stack_item.StackItemOf.{StackItemOf}
+use Rattle.lol_stack.specs.declared.stack_item.StackItemOf.{StackItemOf}
 use Rattle.lol_vm.specs.declared.started.Started.{Started}
 use Rattle.lol_vm.proofs.RunSteps.{hasnt_failed, charged_later, follows_on, not_refused}
 use Rattle.lol_vm.proofs.Runs.{events-document}

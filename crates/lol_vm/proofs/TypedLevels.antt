@@ -4,10 +4,10 @@ use Rattle.std.specs.Prelude.{nat_lt, ◌&&◌, unwrap_or, if◌then◌else◌}
 use Rattle.std.proofs.lemmas.Bool.Decides.{Decides-ltb, nat_tests}
 use Rattle.lol_base.specs.LocalNames.{Name}
 use Rattle.lol_base.specs.MemberLaws.{Among}
-use Rattle.lol_vm.specs.Levels.{count_if_at}
-use Rattle.lol_vm.specs.TypedCounts.{TypedCount, is_of, level_of, levels_of, count_at, all_above, cut_to}
+use Rattle.lol_stack.specs.Levels.{count_if_at}
+use Rattle.lol_stack.specs.TypedCounts.{TypedCount, is_of, level_of, levels_of, count_at, all_above, cut_to}
 use Rattle.lol_vm.specs.StackMachines.{levels_in, first_or, Climb, typed_shown}
-use Rattle.lol_vm.proofs.CounterLevels.{other_level}
+use Rattle.lol_stack.specs.LevelLaws.{other_level}
 use Rattle.lol_vm.proofs.Lists.{among_map, among_filter}
 
 -- 1. Levels that don't fall

@@ -6,18 +6,19 @@ use Rattle.std.proofs.lemmas.List.{length-append, length-map}
 use Rattle.lol_base.specs.LocalNames.{Name, same_local_name}
 use Rattle.lol_memory.specs.Slots.{slots}
 use Rattle.lol_vm.specs.Refusals.{longest}
-use Rattle.lol_vm.specs.Active.{active_ranges_of}
-use Rattle.lol_vm.specs.Lending.{with_data}
-use Rattle.lol_vm.specs.SoundStacks.{IsSound, name_places_from}
-use Rattle.lol_vm.specs.StackLending.{with_current, with_current_in, with_data_at, with_data_if}
+use Rattle.lol_stack.specs.Active.{active_ranges_of}
+use Rattle.lol_stack.specs.Lending.{with_data}
+use Rattle.lol_stack.specs.SoundStacks.{IsSound, name_places_from}
+use Rattle.lol_stack.specs.StackLending.{with_current, with_data_at, with_data_if}
+use Rattle.lol_vm.specs.VmLending.{with_current_in}
 use Rattle.lol_vm.specs.StackMachines.{Keeps, item_shown}
-use Rattle.lol_vm.specs.Stacks.{items_in}
+use Rattle.lol_stack.specs.Stacks.{items_in}
 use Rattle.lol_vm.specs.Standing.{Machine}
 use Rattle.lol_vm.specs.VmLaws.{DataChangeNothing, DataKeepOpen, SlotsAreOfDepth}
 use Rattle.lol_vm.specs.Vms.{Vm, Shows, data_in}
-use Rattle.lol_vm.specs.declared.stack_item.StackItemOf.{StackItemOf}
-use Rattle.lol_vm.specs.declared.stack.StackOf.{StackOf}
-use Rattle.lol_vm.specs.declared.stack.StackNames.{StackNames}
+use Rattle.lol_stack.specs.declared.stack_item.StackItemOf.{StackItemOf}
+use Rattle.lol_stack.specs.declared.stack.StackOf.{StackOf}
+use Rattle.lol_stack.specs.declared.stack.StackNames.{StackNames}
 
 module _ {E : Type 0} (w : E) where
   same_item : (x : StackItemOf Name E) (xs : List (StackItemOf Name E)) (k : ℕ) (item : StackItemOf Name E) → slice_get (x ∷ xs) zero ≡ Some item → x ≡ item

@@ -20,23 +20,24 @@ use Rattle.lol_program.specs.Tries.{names_counted, attributes_counted}
 use Rattle.lol_program.specs.declared.instruction.Instruction.{Instruction}
 use Rattle.lol_program.specs.declared.tries.Tries.{Tries}
 use Rattle.lol_vm.specs.Answers.{Match, Started, Dropped, answer, document, ascending_once, matching_ids, name_tries, attribute_tries, report}
-use Rattle.lol_vm.specs.Calls.{IsCalledAtEach, reports}
+use Rattle.lol_stack.specs.Calls.{IsCalledAtEach, reports}
 use Rattle.lol_vm.specs.Documents.{Document, element_of}
 use Rattle.lol_vm.specs.Events.{Event, Start, has_content, has_content_in}
 use Rattle.lol_vm.specs.Gathering.{Gathers}
-use Rattle.lol_vm.specs.InstructionRuns.{gathered_with_attributes, AreRunnable, IsInsideOf, all_at, no_range, open_among, ranges_in}
+use Rattle.lol_vm.specs.InstructionRuns.{gathered_with_attributes, AreRunnable, IsInsideOf, all_at, open_among, ranges_in}
+use Rattle.lol_stack.specs.WithRange.{no_range}
 use Rattle.lol_vm.specs.InstructionLaws.{AreRangesOf}
 use Rattle.lol_vm.specs.MachineLaws.{GivesReport, TriesAreExact, starts_open}
 use Rattle.lol_vm.specs.Machines.{AreItems, HoldOnce, LeftMatches}
 use Rattle.lol_vm.specs.PlaceRuns.{Context, no_context, context_of, is_open_at, run}
 use Rattle.lol_vm.specs.StackMachines.{IsItemOf}
-use Rattle.lol_vm.specs.Stacks.{active_in}
+use Rattle.lol_stack.specs.Stacks.{active_in}
 use Rattle.lol_vm.specs.Standing.{Machine, StandsFor, ranges_of_machine}
 use Rattle.lol_vm.specs.TagRuns.{AreExecuted, AreWithin, IsPointIn, jumps_in, ranges_left, ranges_to_run_in, sight_in, stop_at, tag_ranges, tried_at, IsStopOf}
 use Rattle.lol_vm.specs.VmLaws.{RequestsTryAtMost}
 use Rattle.lol_vm.specs.Vms.{Vm, Shows, IsAnswered, IsReported, IsTriedAtMost, IsEntered, IsPending, GoesOnAt, content_at, content_of, info_of, data_in}
 use Rattle.lol_vm.specs.declared.error.AuxStartTagInfoRequest.{AuxStartTagInfoRequest}
-use Rattle.lol_vm.specs.declared.execution_ctx.ExecutionCtx.{ExecutionCtx}
+use Rattle.lol_stack.specs.declared.execution_ctx.ExecutionCtx.{ExecutionCtx}
 use Rattle.lol_vm.specs.declared.instruction_runs.Stop.{Stop}
 use Rattle.lol_vm.specs.declared.tag_runs.RecoveryPoint.{RecoveryPoint}
 use Rattle.lol_vm.specs.declared.tag_runs.RecoveryPoint.TheVariants.{AtOnce, EntryPoints, Jumps, HereditaryJumps}

@@ -24,21 +24,21 @@ use Rattle.lol_program.specs.declared.tries.Tries.{Tries}
 use Rattle.lol_vm.specs.Answers.{document}
 use Rattle.lol_vm.specs.Documents.{Document, after_start, after_end}
 use Rattle.lol_vm.specs.Events.{Event, End}
-use Rattle.lol_vm.specs.SoundStacks.{IsSound}
+use Rattle.lol_stack.specs.SoundStacks.{IsSound}
 use Rattle.lol_vm.specs.StackMachines.{Keeps, IsNew}
-use Rattle.lol_vm.specs.Stacks.{items_in, list_in, slots_in, places_in, last_count, counted_in, counted_if, counted_item, with_typed, closed_from, element_data_of, place_to_close, last_below, IsSame, IsEnded, IsEndedAt}
+use Rattle.lol_stack.specs.Stacks.{items_in, list_in, slots_in, places_in, last_count, counted_in, counted_if, counted_item, with_typed, closed_from, element_data_of, place_to_close, last_below, IsSame, IsEnded, IsEndedAt}
 use Rattle.lol_vm.specs.Standing.{Machine, new_machine, AreCounted, StandsOn, IsOrdered, counted, ended}
 use Rattle.lol_vm.specs.Views.{selectors}
 use Rattle.lol_vm.specs.Vms.{Vm, Shows, Stands, HasOpen, IsReported, IsFailedAs, IsRequested, IsNameOf, open_after, data_in}
 use Rattle.lol_vm.specs.declared.error.VmError.{VmError}
 use Rattle.lol_vm.specs.declared.error.VmError.TheVariants.{InfoRequest, MemoryLimitExceeded, Memory, CounterFull, Failed}
-use Rattle.lol_vm.specs.declared.execution_ctx.ExecutionCtx.{ExecutionCtx}
-use Rattle.lol_vm.specs.declared.stack_item.StackItemOf.{StackItemOf}
+use Rattle.lol_stack.specs.declared.execution_ctx.ExecutionCtx.{ExecutionCtx}
+use Rattle.lol_stack.specs.declared.stack_item.StackItemOf.{StackItemOf}
 use Rattle.lol_vm.specs.declared.tag_runs.RecoveryPoint.{RecoveryPoint}
-use Rattle.lol_vm.specs.declared.stack.StackOf.{StackOf}
-use Rattle.lol_vm.specs.declared.stack.StackNames.{StackNames}
+use Rattle.lol_stack.specs.declared.stack.StackOf.{StackOf}
+use Rattle.lol_stack.specs.declared.stack.StackNames.{StackNames}
 use Rattle.lol_vm.proofs.Kept.{items_length, counted_stands, ended_stands, documents_are_ordered, ordered_start, ordered_end, new_stands, standing_is_kept}
-use Rattle.lol_vm.proofs.SoundLemmas.{new_is_sound, same_is_sound, closing_keeps_sound, counting_keeps_sound}
+use Rattle.lol_stack.specs.SoundLaws.{new_is_sound, same_is_sound, closing_keeps_sound, counting_keeps_sound}
 use Rattle.lol_vm.proofs.StackCounting.{counting_stack_keeps, seen_children, typed_counts_are_fewer}
 use Rattle.lol_vm.proofs.StackEnds.{ending_stack_keeps}
 use Rattle.lol_vm.proofs.VmStarts.{counted_data}

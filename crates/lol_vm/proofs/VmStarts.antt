@@ -20,35 +20,35 @@ use Rattle.lol_program.specs.Tests.{Element, is_html}
 use Rattle.lol_program.specs.Tries.{names_counted, attributes_counted}
 use Rattle.lol_program.specs.declared.tries.Tries.{Tries}
 use Rattle.lol_vm.specs.Answers.{Match, needs_attributes, Started, Dropped, answer, asks, is_dropped, document, ascending_once, matching_ids, name_tries, attribute_tries, report}
-use Rattle.lol_vm.specs.Calls.{IsCalledAtEach, reports}
-use Rattle.lol_vm.specs.Contexts.{IsNewItem}
+use Rattle.lol_stack.specs.Calls.{IsCalledAtEach, reports}
+use Rattle.lol_stack.specs.Contexts.{IsNewItem}
 use Rattle.lol_vm.specs.Documents.{Document, element_of}
 use Rattle.lol_vm.specs.Events.{Event, Start, has_content}
 use Rattle.lol_vm.specs.Gathering.{Gathers}
 use Rattle.lol_vm.specs.InstructionRuns.{AreRunnable, ranges_in}
 use Rattle.lol_vm.specs.MachineLaws.{started_by_names}
 use Rattle.lol_vm.specs.PlaceRuns.{Context, no_context, context_of}
-use Rattle.lol_vm.specs.SoundStacks.{IsSound}
+use Rattle.lol_stack.specs.SoundStacks.{IsSound}
 use Rattle.lol_vm.specs.StackMachines.{Keeps, IsItemOf}
-use Rattle.lol_vm.specs.Stacks.{items_in, active_in, last_count, typed_count, counted_in, counted_item, counted_if, with_typed, element_data_of}
+use Rattle.lol_stack.specs.Stacks.{items_in, active_in, last_count, typed_count, counted_in, counted_item, counted_if, with_typed, element_data_of}
 use Rattle.lol_vm.specs.Standing.{Machine, StandsFor, AnswersStart, counted, opened, started, ranges_of_machine}
 use Rattle.lol_vm.specs.TagRuns.{AreTried, AreWithin, IsPointIn, jumps_in, ranges_to_run_in, sight_in, stop_at, ranges_left, tried_at}
 use Rattle.lol_vm.specs.Vms.{IsRequested, Vm, Shows, Stands, IsTagOf, IsAnswered, IsReported, IsTriedAtMost, IsPending, IsEntered, AreOpened, GoesOnAt, content_of, info_of, data_in}
 use Rattle.lol_vm.specs.declared.error.AuxStartTagInfoRequest.{AuxStartTagInfoRequest}
 use Rattle.lol_vm.specs.declared.error.VmError.{VmError}
 use Rattle.lol_vm.specs.declared.error.VmError.TheVariants.{InfoRequest}
-use Rattle.lol_vm.specs.declared.execution_ctx.ExecutionCtx.{ExecutionCtx}
+use Rattle.lol_stack.specs.declared.execution_ctx.ExecutionCtx.{ExecutionCtx}
 use Rattle.lol_vm.specs.declared.instruction_runs.Stop.{Stop}
-use Rattle.lol_vm.specs.declared.stack_item.StackItemOf.{StackItemOf}
-use Rattle.lol_vm.specs.declared.stack.StackOf.{StackOf}
-use Rattle.lol_vm.specs.declared.stack.StackNames.{StackNames}
+use Rattle.lol_stack.specs.declared.stack_item.StackItemOf.{StackItemOf}
+use Rattle.lol_stack.specs.declared.stack.StackOf.{StackOf}
+use Rattle.lol_stack.specs.declared.stack.StackNames.{StackNames}
 use Rattle.lol_vm.specs.declared.tag_runs.RecoveryPoint.{RecoveryPoint}
 use Rattle.lol_vm.specs.declared.tag_runs.RecoveryPoint.TheVariants.{AtOnce}
 use Rattle.lol_vm.proofs.Answered.{starts_answer}
 use Rattle.lol_vm.proofs.Gathered.{runs_give_reports}
 use Rattle.lol_vm.proofs.GatheringLemmas.{new_elements_gather, gathered_ids_ascend}
 use Rattle.lol_vm.proofs.Kept.{items_length, requests_stand, standing_is_kept}
-use Rattle.lol_vm.proofs.SoundLemmas.{counting_keeps_sound, opening_keeps_sound}
+use Rattle.lol_stack.specs.SoundLaws.{counting_keeps_sound, opening_keeps_sound}
 use Rattle.lol_vm.proofs.StackCounting.{counting_stack_keeps, seen_children, seen_places, typed_counts_are_fewer}
 use Rattle.lol_vm.proofs.StackMachines.{opening_stack_keeps}
 use Rattle.lol_vm.proofs.Starts.{counted as run_count, StaysThe, held, stays, gathered, gathered_all, names_all, no_attributes, no_need, needs, left_places, names_left, runnable, content_ids, ranges_shown}

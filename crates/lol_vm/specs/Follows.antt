@@ -13,7 +13,7 @@ use Rattle.lol_vm.specs.Documents.{element_of, children_of}
 use Rattle.lol_vm.specs.Events.{Event, Start, has_content}
 use Rattle.lol_vm.specs.Refusals.{Cause, Limit, Counter, refusal, refused, longest, greatest_count}
 use Rattle.lol_vm.specs.RunRefusals.{allowance_of}
-use Rattle.lol_vm.specs.Stacks.{list_in, last_count}
+use Rattle.lol_stack.specs.Stacks.{list_in, last_count}
 use Rattle.lol_vm.specs.Views.{answer_of}
 use Rattle.lol_vm.specs.Vms.{Vm, Stands, IsAnswered, IsRestOf, stack_in, data_in, slots_charged, slot_bytes}
 use Rattle.lol_vm.specs.declared.events.RunCause.{RunCause}

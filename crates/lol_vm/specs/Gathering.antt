@@ -5,10 +5,10 @@ use Rattle.lol_memory.specs.Ids as sets
 use Rattle.lol_program.specs.ProgramViews.{range_shown, instruction_shown}
 use Rattle.lol_program.specs.declared.instruction.Instruction as code
 use Rattle.lol_vm.specs.Answers.{ascending_once}
-use Rattle.lol_vm.specs.Contexts.{IsNewItem, with_branch}
+use Rattle.lol_stack.specs.Contexts.{IsNewItem, with_branch}
 use Rattle.lol_vm.specs.PlaceRuns.{Context, no_context, branch}
-use Rattle.lol_vm.specs.declared.stack_item.StackItemOf.{StackItemOf}
-use Rattle.lol_vm.specs.declared.execution_ctx.ExecutionCtx.{ExecutionCtx}
+use Rattle.lol_stack.specs.declared.stack_item.StackItemOf.{StackItemOf}
+use Rattle.lol_stack.specs.declared.execution_ctx.ExecutionCtx.{ExecutionCtx}
 
 -- The ids of the element's data are those that were with_branch, and its ranges too; `ids_of` is what the data mean.
 pub record Gathers {N E : Type 0} (ids_of : E → Ids) (item : StackItemOf N E) (context : Context) : Type 0 where

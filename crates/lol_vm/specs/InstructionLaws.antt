@@ -11,7 +11,7 @@ use Rattle.lol_program.specs.declared.instruction.Instruction as code
 use Rattle.lol_vm.specs.Gathering.{Gathers}
 use Rattle.lol_vm.specs.InstructionRuns.{IsInsideOf, all_at, open_among, first_open_from, gathered_by_names, gathered_with_attributes}
 use Rattle.lol_vm.specs.PlaceRuns.{Context, is_open_at, first_open, run, run_by_names}
-use Rattle.lol_vm.specs.declared.execution_ctx.ExecutionCtx.{ExecutionCtx}
+use Rattle.lol_stack.specs.declared.execution_ctx.ExecutionCtx.{ExecutionCtx}
 
 -- ranges inside the instructions of a program
 pub record AreRangesOf (p : Program) (by_type : Bool) (instructions : List code.Instruction) (ranges : List (std.Range ℕ)) : Type 0 where

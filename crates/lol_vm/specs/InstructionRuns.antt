@@ -12,8 +12,9 @@ use Rattle.lol_program.specs.declared.instruction.Instruction.{Instruction}
 use Rattle.lol_program.specs.declared.name_value.NameValue.{NameValue}
 use Rattle.lol_program.specs.declared.name_value.NameValue.TheVariants.{True, False, Open}
 use Rattle.lol_vm.specs.declared.instruction_runs.Stop.{Stop}
-use Rattle.lol_vm.specs.Contexts.{with_branch}
-use Rattle.lol_vm.specs.declared.execution_ctx.ExecutionCtx.{ExecutionCtx}
+use Rattle.lol_stack.specs.Contexts.{with_branch}
+use Rattle.lol_stack.specs.WithRange.{no_range}
+use Rattle.lol_stack.specs.declared.execution_ctx.ExecutionCtx.{ExecutionCtx}
 
 -- the value by names of an instruction
 abbrev pub value_seen : Sight → Instruction → NameValue
@@ -69,10 +70,6 @@ pub record AreRunnable (instructions : List Instruction) (ranges : List (Range �
 abbrev pub place_in : List Instruction → List (Range ℕ) → Option Stop → Option ℕ
 place_in instructions ranges None = None
 place_in instructions ranges (Some stop) = Some (length (all_at instructions (take stop.range ranges)) + stop.offset)
-
--- what stands where no range does
-abbrev pub no_range : Range ℕ
-no_range = record { start = 0; end = 0 }
 
 -- each id that the instructions give is below 32
 abbrev pub HaveSmallIds : List Instruction → Type 0

@@ -15,12 +15,12 @@ use Rattle.lol_vm.specs.Machines.{OpenItem, active_of}
 use Rattle.lol_vm.specs.PlaceRuns.{Context}
 use Rattle.lol_vm.specs.Standing.{Machine, AreCounted, new_machine, counted, opened, ended}
 use Rattle.lol_vm.specs.Standing as standing
-use Rattle.lol_vm.specs.TypedCounts.{TypedCount, count_at, cut_to}
-use Rattle.lol_vm.specs.Stacks.{items_in, slots_in, active_in, typed_in, last_count, typed_count, counted_in, root_count, item_bytes_in, list_in, IsSame, IsPushed, IsEnded}
-use Rattle.lol_vm.specs.SoundStacks.{IsSound}
-use Rattle.lol_vm.specs.declared.stack_item.StackItemOf.{StackItemOf}
-use Rattle.lol_vm.specs.declared.stack.StackOf.{StackOf}
-use Rattle.lol_vm.specs.declared.stack.StackNames.{StackNames}
+use Rattle.lol_stack.specs.TypedCounts.{TypedCount, count_at, cut_to}
+use Rattle.lol_stack.specs.Stacks.{items_in, slots_in, active_in, typed_in, last_count, typed_count, counted_in, root_count, item_bytes_in, list_in, IsSame, IsPushed, IsEnded}
+use Rattle.lol_stack.specs.SoundStacks.{IsSound}
+use Rattle.lol_stack.specs.declared.stack_item.StackItemOf.{StackItemOf}
+use Rattle.lol_stack.specs.declared.stack.StackOf.{StackOf}
+use Rattle.lol_stack.specs.declared.stack.StackNames.{StackNames}
 
 -- 1. What a stack shows
 

@@ -3,8 +3,8 @@ use Rattle.lol_memory.specs.declared.limited_vec.PushError.{PushError}
 use Rattle.lol_memory.specs.declared.limited_vec.PushError.TheVariants as pushes
 use Rattle.lol_vm.specs.declared.error.VmError.{VmError}
 use Rattle.lol_vm.specs.declared.error.VmError.TheVariants.{MemoryLimitExceeded, Memory, CounterFull}
-use Rattle.lol_vm.specs.declared.stack.AddChildError.{AddChildError}
-use Rattle.lol_vm.specs.declared.stack.AddChildError.TheVariants as children
+use Rattle.lol_stack.specs.declared.stack.AddChildError.{AddChildError}
+use Rattle.lol_stack.specs.declared.stack.AddChildError.TheVariants as children
 
 module _ {E : Type 0} where
   abbrev pub child_error : AddChildError → VmError E

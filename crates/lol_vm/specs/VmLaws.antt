@@ -8,7 +8,7 @@ use Rattle.lol_program.specs.Tests.{Element}
 use Rattle.lol_vm.specs.Answers.{document}
 use Rattle.lol_vm.specs.Events.{Event}
 use Rattle.lol_vm.specs.Refusals.{longest}
-use Rattle.lol_vm.specs.StackLending.{with_current_in}
+use Rattle.lol_vm.specs.VmLending.{with_current_in}
 use Rattle.lol_vm.specs.Vms.{Vm, Stands, HasOpen, IsPending, IsTriedAtMost, tries_in, slots_charged, slot_bytes}
 use Rattle.lol_vm.specs.declared.error.AuxStartTagInfoRequest.{AuxStartTagInfoRequest}
 

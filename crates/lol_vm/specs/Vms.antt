@@ -17,26 +17,26 @@ use Rattle.lol_program.specs.declared.program.Program.{Program}
 use Rattle.lol_program.specs.declared.tries.Tries.{Tries}
 use Rattle.lol_program.specs.declared.instruction.Instruction.{Instruction}
 use Rattle.lol_vm.specs.Answers.{report, name_tries, attribute_tries, Match, Started, answer, asks, document}
-use Rattle.lol_vm.specs.Calls.{IsCalledAtEach}
+use Rattle.lol_stack.specs.Calls.{IsCalledAtEach}
 use Rattle.lol_vm.specs.Documents.{Document, element_of, place_of, outer_part}
 use Rattle.lol_vm.specs.Events.{Event, Start, has_content}
 use Rattle.lol_vm.specs.Gathering.{Gathers}
 use Rattle.lol_vm.specs.InstructionRuns.{ranges_in}
 use Rattle.lol_vm.specs.MachineLaws.{IsRequest}
 use Rattle.lol_vm.specs.PlaceRuns.{Context, no_context}
-use Rattle.lol_vm.specs.SoundStacks.{IsSound}
+use Rattle.lol_stack.specs.SoundStacks.{IsSound}
 use Rattle.lol_vm.specs.StackMachines.{Keeps}
-use Rattle.lol_vm.specs.Stacks.{items_in, active_in, element_data_of, slots_in, item_bytes_in, IsSame, IsPushed}
+use Rattle.lol_stack.specs.Stacks.{items_in, active_in, element_data_of, slots_in, item_bytes_in, IsSame, IsPushed}
 use Rattle.lol_vm.specs.Standing.{Machine, StandsOn, IsOrdered, StandsFor, ranges_of_machine, unfinished}
 use Rattle.lol_vm.specs.TagRuns.{sight_in, jumps_in, ranges_to_run_in, stop_at, ranges_left, IsPointIn, tried_at}
 use Rattle.lol_vm.specs.declared.error.AuxStartTagInfoRequest.{AuxStartTagInfoRequest}
 use Rattle.lol_vm.specs.declared.error.VmError.{VmError}
 use Rattle.lol_vm.specs.declared.error.VmError.TheVariants.{InfoRequest, MemoryLimitExceeded, Memory, CounterFull, Failed}
-use Rattle.lol_vm.specs.declared.execution_ctx.ExecutionCtx.{ExecutionCtx}
+use Rattle.lol_stack.specs.declared.execution_ctx.ExecutionCtx.{ExecutionCtx}
 use Rattle.lol_vm.specs.declared.instruction_runs.Stop.{Stop}
-use Rattle.lol_vm.specs.declared.stack_item.StackItemOf.{StackItemOf}
-use Rattle.lol_vm.specs.declared.stack.StackOf.{StackOf}
-use Rattle.lol_vm.specs.declared.stack.StackNames.{StackNames}
+use Rattle.lol_stack.specs.declared.stack_item.StackItemOf.{StackItemOf}
+use Rattle.lol_stack.specs.declared.stack.StackOf.{StackOf}
+use Rattle.lol_stack.specs.declared.stack.StackNames.{StackNames}
 use Rattle.lol_vm.specs.declared.tag_runs.RecoveryPoint.{RecoveryPoint}
 use Rattle.lol_vm.specs.declared.tag_runs.RecoveryPoint.TheVariants.{AtOnce, EntryPoints, Jumps, HereditaryJumps}
 use Rattle.lol_vm.specs.declared.vm.VmOf.{VmOf}

@@ -1,9 +1,8 @@
 //! Why a start tag wasn't answered.
 
-use crate::execution_ctx::ExecutionCtx;
-use crate::stack::AddChildError;
 use crate::tag_runs::RecoveryPoint;
 use lol_memory::{MemoryLimitExceededError, PushError};
+use lol_stack::{AddChildError, ExecutionCtx};
 use std::alloc::AllocError;
 
 /// A request for the attributes of a start tag, and for whether it closes itself (lol_html's `AuxStartTagInfoRequest`). It is handed to

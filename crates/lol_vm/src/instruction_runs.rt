@@ -5,11 +5,10 @@ ghost use Rattle.lol_program.specs.Compiled.{sight};
 ghost use Rattle.lol_program.specs.Tries.{names_counted, attributes_counted};
 ghost use Rattle.lol_vm.specs.InstructionRuns.{AreRunnable, HaveSmallIds, all_at, place_in, IsStopIn, HasTriesLeft, IsInsideOf, ranges_in, ranges_from, instructions_at, open_among, first_open_from, tried_until, gathered_by_names, gathered_with_attributes};
 
-use crate::element_data::ElementData;
-use crate::execution_ctx::ExecutionCtx;
 use lol_program::{
     AddressRange, AttributeMatcher, Instruction, SelectorState, Tries, TryExecResult,
 };
+use lol_stack::{ElementData, ExecutionCtx};
 use std::alloc::{AllocError, Global};
 
 /// Runs instructions without attributes, up to the first that needs them, and answers its place among them. It is refused only where

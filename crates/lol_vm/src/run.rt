@@ -12,7 +12,7 @@ ghost use Rattle.lol_vm.specs.Events.{Event, Start, End};
 ghost use Rattle.lol_vm.specs.Follows.{Follows, Goes, IsCharged, IsHandedOver, IsTaken, IsRefusedFor, Stops, opens, refusal_after};
 ghost use Rattle.lol_vm.specs.Refusals.{refused};
 ghost use Rattle.lol_vm.specs.RunRefusals.{allowance_of, IsRefusedAt};
-ghost use Rattle.lol_vm.specs.Stacks.{list_in, last_count};
+ghost use Rattle.lol_stack.specs.Stacks.{list_in, last_count};
 ghost use Rattle.lol_vm.specs.Views.{HasRangesInside, event_of, answer_of, selectors};
 ghost use Rattle.lol_vm.specs.Vms.{Stands, IsNameOf, IsTagOf, stack_in, tries_in, data_in, slots_charged, slot_bytes};
 

@@ -3,8 +3,8 @@
 ghost use Rattle.std.specs.Prelude.{◌≡◌, [], false, refl};
 ghost use Rattle.lol_vm.specs.Collecting.{Keeps};
 
-use crate::element_data::ElementData;
 use lol_memory::{DenseHashSet, MatchInfo};
+use lol_stack::ElementData;
 use std::alloc::Global;
 
 /// What a run keeps of an open element: the ids that it was reported under, and the number of its start tag.

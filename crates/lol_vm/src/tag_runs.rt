@@ -4,16 +4,14 @@ ghost use Rattle.std.specs.Prelude.{◌≡◌, ◌<◌, ◌^◌, length, IfOk, I
 ghost use Rattle.lol_program.specs.Compiled.{sight};
 ghost use Rattle.lol_program.specs.Tries.{attributes_counted};
 ghost use Rattle.lol_vm.specs.InstructionRuns.{AreRunnable, HaveSmallIds, ranges_in};
-ghost use Rattle.lol_vm.specs.Stacks.{active_in};
+ghost use Rattle.lol_stack.specs.Stacks.{active_in};
 ghost use Rattle.lol_vm.specs.TagRuns.{ranges_of, stop_of, stop_if, left_of, tried_at, IsPointOf, IsPointIn, AreTried, AreExecuted, AreWithin, jumps_in, ranges_to_run_in, sight_in, stop_at, stop_found, ranges_left};
 
-use crate::element_data::ElementData;
-use crate::execution_ctx::ExecutionCtx;
 use crate::instruction_runs::{
     Stop, complete_active, complete_ranges, exec_active, exec_ranges, try_active, try_ranges,
 };
-use crate::stack::Stack;
 use lol_program::{AddressRange, AttributeMatcher, Instruction, Program, SelectorState, Tries};
+use lol_stack::{ElementData, ExecutionCtx, Stack};
 use std::alloc::{AllocError, Global};
 use std::slice;
 

@@ -11,23 +11,20 @@ ghost use Rattle.lol_program.specs.Counters.{full_count};
 ghost use Rattle.lol_program.specs.Paths.{Selectors};
 ghost use Rattle.lol_program.specs.Tests.{Element};
 ghost use Rattle.lol_program.specs.Tries.{names_counted, attributes_counted};
-ghost use Rattle.lol_vm.specs.Calls.{IsCalledAtEach, reports};
+ghost use Rattle.lol_stack.specs.Calls.{IsCalledAtEach, reports};
 ghost use Rattle.lol_vm.specs.Events.{Event, End, has_content};
 ghost use Rattle.lol_vm.specs.FreeTags.{TakesNoMemory, IsAskedOrFull};
-ghost use Rattle.lol_vm.specs.StackLending.{lends_current_of_vm};
-ghost use Rattle.lol_vm.specs.Stacks.{items_in, slots_in, list_in, last_count};
+ghost use Rattle.lol_vm.specs.VmLending.{lends_current_of_vm};
+ghost use Rattle.lol_stack.specs.Stacks.{items_in, slots_in, list_in, last_count};
 ghost use Rattle.lol_vm.specs.Views.{selectors};
 ghost use Rattle.lol_vm.specs.Vms.{Stands, HasOpen, IsNameOf, IsTagOf, IsRestOf, IsAnswered, IsReported, IsTriedAtMost, IsPending, IsRefusal, IsSilent, content_at, open_after, stack_in, tries_in, has_failed, data_in, slots_charged, slot_bytes, IsRequested, IsEntered, IsFailedAs};
 
-use crate::element_data::ElementData;
 use crate::error::{AuxStartTagInfoRequest, VmError};
-use crate::execution_ctx::ExecutionCtx;
-use crate::stack::{Stack, StackNames, StackOf};
-use crate::stack_item::StackDirective;
 use crate::tag_runs::{RecoveryPoint, complete_tag, try_tag};
 use lol_base::{AuxStartTagInfo, LocalName, Namespace};
 use lol_memory::{MatchInfo, PushError, SharedMemoryLimiter};
 use lol_program::{Ast, AttributeMatcher, Compiler, Program, Tries};
+use lol_stack::{ElementData, ExecutionCtx, Stack, StackDirective, StackNames, StackOf};
 use std::alloc::{AllocError, Global};
 
 /// The machine: see `SelectorMatchingVm`.

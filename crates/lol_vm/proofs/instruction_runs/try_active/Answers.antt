@@ -5,7 +5,8 @@ use Rattle.std.proofs.lemmas.List.{length-map}
 use Rattle.std.proofs.Common.{ℕ, subst, ◌-◌, ◌≡◌, ◌+◌, ◌<◌, length, get_or, arith, sym, ap, Some, None, ◌∙◌}
 use Rattle.lol_program.specs.Compiled.{sight}
 use Rattle.lol_program.specs.Tries.{names_counted}
-use Rattle.lol_vm.specs.InstructionRuns.{no_range, IsStopIn, AreRunnable, IsInsideOf, HasTriesLeft, ranges_in, instructions_at, tried_until, first_open_from, all_at}
+use Rattle.lol_vm.specs.InstructionRuns.{IsStopIn, AreRunnable, IsInsideOf, HasTriesLeft, ranges_in, instructions_at, tried_until, first_open_from, all_at}
+use Rattle.lol_stack.specs.WithRange.{no_range}
 use Rattle.lol_vm.proofs.InstructionLists.{length_bound, active_at, is_lent, length_next, stop_next, stop_here, names_next, names_here}
 use Rattle.lol_vm.proofs.instruction_runs.try_active.Goals as goal
 

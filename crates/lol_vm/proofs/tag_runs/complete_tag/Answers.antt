@@ -4,7 +4,7 @@ use Rattle.std.specs.declared.ops.Range.{Range}
 use Rattle.lol_program.specs.Compiled.{Sight, sight}
 use Rattle.lol_program.specs.declared.instruction.Instruction.{Instruction}
 use Rattle.lol_vm.specs.InstructionRuns.{AreRunnable, ranges_in}
-use Rattle.lol_vm.specs.Stacks.{active_in}
+use Rattle.lol_stack.specs.Stacks.{active_in}
 use Rattle.lol_vm.specs.TagRuns.{AreExecuted, AreWithin, IsPointIn, jumps_in, ranges_left, sight_in, stop_at, tag_ranges, tried_at}
 use Rattle.lol_vm.proofs.tag_runs.complete_tag.Goals as goal
 

@@ -3,22 +3,22 @@ use Rattle.std.specs.Result.{IfOk}
 use Rattle.std.specs.Option.{IfSome, IsNone, IsSome}
 use denote.Enum.Bare.{sameb}
 use Rattle.lol_program.specs.Tests.{is_html}
-use Rattle.lol_vm.specs.Directives.{directive_in}
+use Rattle.lol_stack.specs.Directives.{directive_in}
 use Rattle.lol_vm.specs.Events.{has_content}
 use Rattle.lol_vm.specs.InstructionRuns.{ranges_in}
 use Rattle.lol_base.specs.LocalNames.{Name, local_name}
 use Rattle.lol_memory.specs.LimitedVec.{LimitedVec, IsLimited}
-use Rattle.lol_vm.specs.declared.stack.StackOf.{StackOf}
-use Rattle.lol_vm.specs.declared.stack.StackNames.{StackNames}
-use Rattle.lol_vm.specs.Stacks.{list_in, active_in, element_data_of, IsSame}
+use Rattle.lol_stack.specs.declared.stack.StackOf.{StackOf}
+use Rattle.lol_stack.specs.declared.stack.StackNames.{StackNames}
+use Rattle.lol_stack.specs.Stacks.{list_in, active_in, element_data_of, IsSame}
 use Rattle.lol_vm.specs.TagRuns.{AreTried, IsPointIn, jumps_in, ranges_to_run_in, sight_in, stop_found}
 use Rattle.lol_vm.specs.Vms.{Vm}
-use Rattle.lol_vm.specs.contracts.stack_item.StackDirective.{the_type}
-use Rattle.lol_vm.specs.declared.execution_ctx.ExecutionCtx.{ExecutionCtx}
-use Rattle.lol_vm.specs.declared.stack_item.StackItemOf.{StackItemOf}
-use Rattle.lol_vm.specs.declared.stack_item.StackDirective.TheVariants.{Push, PushIfNotSelfClosing}
+use Rattle.lol_stack.specs.contracts.stack_item.StackDirective.{the_type}
+use Rattle.lol_stack.specs.declared.execution_ctx.ExecutionCtx.{ExecutionCtx}
+use Rattle.lol_stack.specs.declared.stack_item.StackItemOf.{StackItemOf}
+use Rattle.lol_stack.specs.declared.stack_item.StackDirective.TheVariants.{Push, PushIfNotSelfClosing}
 use Rattle.lol_vm.proofs.Directives.{foreign_if, html_if, content_is}
-use Rattle.lol_vm.specs.declared.stack.AddChildError.TheVariants.{CounterFull}
+use Rattle.lol_stack.specs.declared.stack.AddChildError.TheVariants.{CounterFull}
 use Rattle.lol_vm.proofs.FreeTags.{asked_only, full_only, has_none_typed, has_small, never_pushed, void_unspelled}
 use Rattle.lol_vm.proofs.VmStarts.{none_tried, tried_at_most, has_reported, has_content_still, answered, pending_at_once, pending_point, can_run, requested_is}
 use Rattle.lol_vm.proofs.VmRefusals.{reported_with, limited_counted, not_false, err_is_not_ok, data_after, has_open_failed, has_open_same, on_err, open_counted, requested_keeps, same_stack}

@@ -3,7 +3,7 @@ use Rattle.std.specs.Result.{IfOk, OnErr}
 use Rattle.std.proofs.lemmas.Result.{on_ok_weaker, on_err_weaker}
 use Rattle.lol_program.specs.Attributes.{tag_attributes}
 use Rattle.lol_vm.specs.TagRuns.{AreExecuted, jumps_in, ranges_left, ranges_to_run_in, sight_in, stop_at, tried_at}
-use Rattle.lol_vm.specs.declared.execution_ctx.ExecutionCtx.{ExecutionCtx}
+use Rattle.lol_stack.specs.declared.execution_ctx.ExecutionCtx.{ExecutionCtx}
 use Rattle.lol_vm.specs.Vms.{IsFailedAs, IsTriedAtMost, Vm}
 use Rattle.lol_vm.specs.Events.{has_content}
 use Rattle.lol_vm.proofs.FreeTags.{finished_closed, has_small, void_is_closed}

@@ -1,0 +1,6 @@
+mod Spans
+pub mod NameMaps
+pub mod Refusals
+pub mod StackLists
+pub mod EsiNames
+pub mod TypedFunctions

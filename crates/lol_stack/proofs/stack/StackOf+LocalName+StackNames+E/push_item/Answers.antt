@@ -1,0 +1,36 @@
+use Rattle.std.proofs.Common.{◌∙◌, ap, refl, take, length}
+use Rattle.lol_base.specs.LocalNames.{same_local_name}
+use Rattle.lol_stack.specs.OpenPlaces.{places_of}
+use Rattle.lol_stack.specs.Stacks.{active_in, places_in}
+use Rattle.lol_stack.proofs.StackLists.{take-activated, place-undone}
+use Rattle.lol_stack.proofs.stack.StackOf+LocalName+StackNames+E.push_item.Goals as goal
+
+pub returns-in-Err-add-clause-err : goal.returns-in-Err-add-clause-err
+returns-in-Err-add-clause-err g c =
+    let old = active_in c.args.self.now in
+    record {
+      root = refl;
+      items = refl;
+      active =
+          c.truncate.ensures
+          ∙ (ap (λ n. take n c.activate.new.self) c.len-active.ensures
+          ∙ (ap (take (length old)) c.in_default.ensures.ok ∙ take-activated old c.len-place.result c.as_slice-ranges.result.now));
+      typed = refl;
+      places = c.in-Err-add.ensures.err;
+    }
+
+pub returns-in-Err-push-clause-err : goal.returns-in-Err-push-clause-err
+returns-in-Err-push-clause-err g c =
+    let old = active_in c.args.self.now in
+    record {
+      root = refl;
+      items = c.in-Err-push.ensures.err;
+      active =
+          c.truncate-in-Err-push.ensures
+          ∙ (ap (λ n. take n c.activate.new.self) c.len-active.ensures
+          ∙ (ap (take (length old)) c.in_default.ensures.ok ∙ take-activated old c.len-place.result c.as_slice-ranges.result.now));
+      typed = refl;
+      places = λ q.
+          place-undone (same_local_name c.in-Ok.name q) (places_in c.args.self.now q) (places_of c.add.new.self q) (places_of c.remove.new.self q) c.len-place.result
+          (c.in_default-add.ensures.ok q) (c.remove.ensures q);
+    }

@@ -1,0 +1,15 @@
+-- The places of the open elements of each name.
+use Rattle.std.specs.Prelude.{ℕ, List, [], Option, Some, None}
+use Rattle.lol_base.specs.LocalNames.{Name}
+use Rattle.lol_names.specs.NameBlocks.{value_of}
+use Rattle.lol_stack.specs.declared.open_names.Places.{Places}
+use Rattle.lol_stack.specs.declared.open_names.OpenNames.{OpenNames}
+use Rattle.lol_stack.specs.Places.{listed}
+
+abbrev pub places_if : Option Places → List ℕ
+places_if None = []
+places_if (Some places) = listed places
+
+-- the places of a name
+abbrev pub places_of : OpenNames → Name → List ℕ
+places_of open_names name = places_if (value_of open_names.map name)

@@ -1,0 +1,132 @@
+-- That the calls of a stack keep its lists those of its open elements.
+use Rattle.std.proofs.Common.{◌≡◌, ◌∙◌, sym, ap, refl, ℕ, zero, suc, ◌+◌, ◌-◌, ◌≤◌, true, false, List, [], ◌∷◌, ◌++◌, length, take, drop, map, Option, Some, None, slice_get, slice_set, arith}
+use Rattle.std.specs.Bool.{if◌then◌else◌}
+use Rattle.std.proofs.lemmas.List.{map-append, length-map, append-nil, take-append-drop}
+use Rattle.lol_base.specs.LocalNames.{Name, same_local_name}
+use Rattle.lol_stack.specs.Active.{active_ranges_of, activated}
+use Rattle.std.specs.Option.{option_map}
+use Rattle.lol_stack.specs.TypedCounts.{counted_by_type}
+use Rattle.lol_stack.specs.Stacks.{items_in, places_in, typed_in, with_typed, counted_if, counted_item, without_places, last_below}
+use Rattle.lol_stack.specs.SoundStacks.{hereditary_jumps_in, name_places_from, IsSound, NewIsSound, CountingKeepsSound, OpeningKeepsSound, ClosingKeepsSound, SameIsSound, EndsAtLast}
+use Rattle.lol_stack.specs.declared.stack_item.StackItemOf.{StackItemOf}
+use Rattle.lol_stack.specs.SoundPlaceLaws.{places_from-append, without_places-closed, last_below-places}
+use Rattle.lol_stack.specs.SoundRangeLaws.{active_after-append, before, before-active_after, kept-active_after}
+
+length_front : {A : Type 0} (n : ℕ) (xs : List A) → n ≤ length xs → length (take n xs) ≡ n
+length_front zero xs within = refl
+length_front (suc n) [] within = absurd (omega arith)
+length_front (suc n) (x ∷ xs) within = ap suc (length_front n xs (omega arith))
+
+-- an element that f doesn't tell from the one before it
+set_keeps : {A B : Type 0} (f : A → B) (xs : List A) (n : ℕ) (x y : A) → slice_get xs n ≡ Some x → f y ≡ f x → map f (slice_set xs n y) ≡ map f xs
+set_keeps f [] n x y there same = refl
+set_keeps f (z ∷ xs) zero x y there same = ap (λ first. first ∷ map f xs) (same ∙ ap f (let e : z ≡ x = cc in sym e))
+set_keeps f (z ∷ xs) (suc n) x y there same = ap (λ rest. f z ∷ rest) (set_keeps f xs n x y there same)
+
+head_same : {A : Type 0} (x y : A) (xs ys : List A) → x ∷ xs ≡ y ∷ ys → x ≡ y
+head_same x y xs ys e = cc
+
+tail_same : {A : Type 0} (x y : A) (xs ys : List A) → x ∷ xs ≡ y ∷ ys → xs ≡ ys
+tail_same x y xs ys e = cc
+
+module _ {E : Type 0} where
+  pub new_is_sound : NewIsSound E
+  new_is_sound s none no_range no_place = record {
+    active = no_range ∙ sym (ap (λ items. active_ranges_of (hereditary_jumps_in items)) none);
+    places = λ name. no_place name ∙ sym (ap (λ items. name_places_from 0 items name) none);
+  }
+
+  pub same_is_sound : SameIsSound E
+  same_is_sound old new sound same =
+      let items : items_in new ≡ items_in old = ap (λ v. v.items) same.items in
+      record {
+        active = same.active ∙ (sound.active ∙ sym (ap (λ is. active_ranges_of (hereditary_jumps_in is)) items));
+        places = λ name. same.places name ∙ (sound.places name ∙ sym (ap (λ is. name_places_from 0 is name) items));
+      }
+
+  pub opening_keeps_sound : OpeningKeepsSound E
+  opening_keeps_sound old new item sound opened =
+      let items = items_in old in
+      let now : items_in new ≡ items ++ item ∷ [] = ap (λ v. v.items) opened.items in
+      let len : 0 + length (hereditary_jumps_in items) ≡ length items = omega (arith, length-map items (λ (i : StackItemOf Name E). i.hereditary_jumps)) in
+      let ranges : active_ranges_of (hereditary_jumps_in (items ++ item ∷ [])) ≡ activated (active_ranges_of (hereditary_jumps_in items)) (length items) item.hereditary_jumps =
+      ap active_ranges_of (map-append (λ (i : StackItemOf Name E). i.hereditary_jumps) items (item ∷ []))
+      ∙ (active_after-append [] 0 (hereditary_jumps_in items) (item.hereditary_jumps ∷ [])
+      ∙ ap (λ place. activated (active_ranges_of (hereditary_jumps_in items)) place item.hereditary_jumps) len)
+      in
+      record {
+        active = opened.active ∙ (ap (λ a. activated a (length items) item.hereditary_jumps) sound.active ∙ (sym ranges ∙ sym (ap (λ is. active_ranges_of (hereditary_jumps_in is)) now)));
+        places = λ name.
+            let place : 0 + length items ≡ length items = omega arith in
+            let split = places_from-append 0 items (item ∷ []) name ∙ ap (λ p. name_places_from 0 items name ++ name_places_from p (item ∷ []) name) place in
+            opened.places name
+            ∙ (elim (same_local_name item.local_name name) as
+            (λ own.
+            (if own then places_in old name ++ length items ∷ [] else places_in old name)
+            ≡ name_places_from 0 items name ++ (if own then length items ∷ [] else [])) [
+              | true ↦ ap (λ front. front ++ length items ∷ []) (sound.places name)
+              | false ↦ sound.places name ∙ sym (append-nil (name_places_from 0 items name))
+            ]
+            ∙ (sym split ∙ sym (ap (λ is. name_places_from 0 is name) now)));
+      }
+
+  pub closing_keeps_sound : ClosingKeepsSound E
+  closing_keeps_sound place old new within sound closed =
+      let items = items_in old in
+      let now : items_in new ≡ take place items = ap (λ v. v.items) closed.items in
+      let front = hereditary_jumps_in (take place items) in
+      let back = hereditary_jumps_in (drop place items) in
+      let parts : hereditary_jumps_in items ≡ front ++ back =
+      ap hereditary_jumps_in (sym (take-append-drop place items)) ∙ map-append (λ (i : StackItemOf Name E). i.hereditary_jumps) (take place items) (drop place items)
+      in
+      let len : length front ≡ place = length-map (take place items) (λ (i : StackItemOf Name E). i.hereditary_jumps) ∙ length_front place items within in
+      let left : before place (active_ranges_of (hereditary_jumps_in items)) ≡ active_ranges_of front =
+      ap (λ ranges. before place (active_ranges_of ranges)) parts
+      ∙ (ap (before place) (active_after-append [] 0 front back)
+      ∙ (before-active_after place (0 + length front) (active_ranges_of front) back (omega arith) ∙ kept-active_after place 0 [] front (omega arith) refl))
+      in
+      record {
+        active = closed.active ∙ (ap (before place) sound.active ∙ (left ∙ sym (ap (λ is. active_ranges_of (hereditary_jumps_in is)) now)));
+        places = λ name.
+            closed.places name
+            ∙ (ap (without_places (drop place items) name) (sound.places name ∙ sym (ap (λ is. name_places_from 0 is name) (take-append-drop place items)))
+            ∙ (without_places-closed (take place items) (drop place items) name ∙ sym (ap (λ is. name_places_from 0 is name) now)));
+      }
+
+  pub ends_at_last : EndsAtLast E
+  ends_at_last s name sound = ap (last_below (length (items_in s))) (sound.places name) ∙ last_below-places (length (items_in s)) 0 (items_in s) name (omega arith)
+
+  names_of : List (StackItemOf Name E) → List Name
+  names_of items = map (λ item. item.local_name) items
+
+  -- places depend on the names alone
+  places_from-names : (place : ℕ) (xs ys : List (StackItemOf Name E)) (name : Name) → names_of xs ≡ names_of ys → name_places_from place xs name ≡ name_places_from place ys name
+  unfolding names_of
+  places_from-names place [] [] name same = refl
+  places_from-names place [] (y ∷ ys) name same = absurd (cc)
+  places_from-names place (x ∷ xs) [] name same = absurd (cc)
+  places_from-names place (x ∷ xs) (y ∷ ys) name same =
+      let first = head_same x.local_name y.local_name (map (λ item. item.local_name) xs) (map (λ item. item.local_name) ys) same in
+      let rest = places_from-names (place + 1) xs ys name (tail_same x.local_name y.local_name (map (λ item. item.local_name) xs) (map (λ item. item.local_name) ys) same) in
+      ap (λ (n : Name). if same_local_name n name then place ∷ name_places_from (place + 1) xs name else name_places_from (place + 1) xs name) first
+      ∙ ap (λ more. if same_local_name y.local_name name then place ∷ more else more) rest
+
+  pub counting_keeps_sound : CountingKeepsSound E
+  unfolding names_of
+  counting_keeps_sound s name sound =
+      let items = items_in s in
+      let n = length items - 1 in
+      elim (slice_get items n) as
+      (λ (found : Option (StackItemOf Name E)). slice_get items n ≡ found
+      → IsSound (counted_if (with_typed s (option_map (λ ts. counted_by_type ts (length items) name) (typed_in s))) found)) [
+        | None ↦ λ none. record { active = sound.active; places = sound.places }
+        | Some item ↦ λ there. record {
+          active =
+              sound.active
+              ∙ sym (ap active_ranges_of (set_keeps (λ (i : StackItemOf Name E). i.hereditary_jumps) items n item (counted_item item) there refl));
+          places = λ q.
+              sound.places q
+              ∙ sym (places_from-names 0 (slice_set items n (counted_item item)) items q
+              (set_keeps (λ (i : StackItemOf Name E). i.local_name) items n item (counted_item item) there refl));
+        }
+      ] refl

@@ -1,0 +1,42 @@
+-- Counts by type as a function of level and name.
+use Rattle.std.specs.Prelude.{ℕ, ◌+◌, ◌≤◌, ◌<◌, ◌≡◌, ◌&&◌, ◌==◌, nat_le, if◌then◌else◌, List, [], ◌∷◌, unwrap_or}
+use Rattle.std.specs.Str.{bytes_eq}
+use Rattle.lol_base.specs.LocalNames.{Name}
+use Rattle.lol_program.specs.Counters.{full_count}
+use Rattle.lol_stack.specs.TypedCounts.{TypedCount, counted_by_type, cut_to, count_at, levels_of}
+
+abbrev pub contributes : ℕ → List ℕ → TypedCount → ℕ
+contributes level name t = if (t.level == level) && bytes_eq t.name.lowercased name then t.count else 0
+
+-- What is counted_by_type of a name, by its bytes in lower case, at a level.
+abbrev pub typed_of : List TypedCount → ℕ → List ℕ → ℕ
+typed_of [] level name = 0
+typed_of (t ∷ ts) level name = contributes level name t + typed_of ts level name
+
+-- the levels ascend, from one on
+abbrev pub IsAscending : ℕ → List TypedCount → Type 0
+IsAscending level [] = Unit {0}
+IsAscending level (t ∷ ts) = (level ≤ t.level) × IsAscending t.level ts
+
+-- A child that is counted_by_type is one more at its level and name, and changes nothing else.
+abbrev pub CountingAddsOne : Type 0
+CountingAddsOne =
+    (ts : List TypedCount) (level : ℕ) (name : Name) → typed_of ts level name.lowercased < full_count → (l : ℕ) (q : List ℕ)
+    → typed_of (counted_by_type ts level name) l q ≡ typed_of ts l q + (if (level == l) && bytes_eq name.lowercased q then 1 else 0)
+
+-- What is cut off are the levels above.
+abbrev pub CuttingDropsAbove : Type 0
+CuttingDropsAbove =
+    (ts : List TypedCount) (level from : ℕ) → IsAscending from ts → (l : ℕ) (q : List ℕ)
+    → typed_of (cut_to level ts) l q ≡ (if nat_le l level then typed_of ts l q else 0)
+
+-- levels that rise strictly up to a level at most
+abbrev pub IsRising : ℕ → List (ℕ × ℕ) → Type 0
+IsRising level [] = Unit {0}
+IsRising level (x ∷ []) = x.0 ≤ level
+IsRising level (x ∷ y ∷ xs) = (x.0 < y.0) × IsRising level (y ∷ xs)
+
+-- The counter that is found for a name at a level, not below one that the name has a counter at, has counted_by_type what is counted_by_type there.
+abbrev pub CountsAtTheirLevel : Type 0
+CountsAtTheirLevel =
+    (ts : List TypedCount) (level : ℕ) (name : Name) → IsRising level (levels_of name ts) → unwrap_or (count_at ts level name) 0 ≡ typed_of ts level name.lowercased

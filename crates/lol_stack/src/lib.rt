@@ -1,0 +1,21 @@
+//! The open elements of a document, with what hangs on each: its data, the counters of its children, the ranges of instructions that it makes active.
+#![tactic(auto)]
+
+mod active_ranges;
+mod address_ranges;
+mod counters;
+mod directive;
+mod element_data;
+mod execution_ctx;
+mod open_names;
+mod stack;
+mod stack_item;
+pub mod stack_laws;
+mod void;
+
+pub use address_ranges::AddressRanges;
+pub use counters::{CounterItem, CounterList, TypedChildCounterMap};
+pub use element_data::ElementData;
+pub use execution_ctx::ExecutionCtx;
+pub use stack::{AddChildError, Stack, StackNames, StackOf};
+pub use stack_item::{StackDirective, StackItem, StackItemOf};

@@ -1,0 +1,137 @@
+//! Open elements.
+
+ghost use Rattle.std.specs.Prelude.{◌≡◌, IsNone, IfOk, IsOk, OnOk, OnErr};
+ghost use Rattle.std.specs.Borrow.{sem};
+ghost use Rattle.lol_memory.specs.Ids.{AllSmall};
+ghost use Rattle.lol_stack.specs.Contexts.{IsNewItem, with_ranges, with_more_ids};
+ghost use Rattle.lol_stack.specs.declared.stack_item.StackItemOf.{StackItemOf};
+
+use crate::address_ranges::AddressRanges;
+use crate::element_data::ElementData;
+use lol_base::LocalName;
+use lol_memory::DenseHashSet;
+use lol_program::{ChildCounter, ExecutionBranch};
+use std::alloc::{AllocError, Global};
+
+/// What becomes of the element of a start tag (lol_html's `StackDirective`).
+#[derive(Debug, Clone, Copy, PartialEq, Eq)]
+pub enum StackDirective {
+    /// It is opened.
+    Push,
+    /// It is opened unless its tag closes itself.
+    PushIfNotSelfClosing,
+    /// It is never opened.
+    PopImmediately,
+}
+
+/// An element that is open, or about to be: see `StackItem`.
+#[derive(Drop)]
+pub struct StackItemOf<N, E> {
+    pub local_name: N,
+    /// What the caller keeps of it.
+    pub element_data: E,
+    /// Where the nodes for its children stand.
+    pub jumps: AddressRanges,
+    /// Where the nodes for all elements inside it stand.
+    pub hereditary_jumps: AddressRanges,
+    /// How many children it has had.
+    pub child_counter: ChildCounter,
+    pub stack_directive: StackDirective,
+}
+
+/// An element that is open, or about to be (lol_html's `StackItem`). The name of an open one borrows nothing.
+pub type StackItem<'i, E> = StackItemOf<LocalName<'i>, E>;
+
+impl<N, E> StackItemOf<N, E> {
+    ghost use Rattle.lol_stack.specs.Lending.{lends_data};
+
+    /// Lends the element's data, to be changed in place.
+    pub(crate) fn element_data_mut(&mut self) -> &mut E
+        ensures* lends { sem 𝓛 (lends_data N.row E.row self.entry result) }
+        ensures value { result.now ≡ self.old.element_data }
+    {
+        &mut self.element_data
+    }
+}
+
+impl<N, E: ElementData> StackItemOf<N, E> {
+    /// An element of this name, with data of its own, no ranges and no children. It takes no memory.
+    pub fn new(alloc: Global, local_name: N) -> Self
+        ensures { IsNewItem E.ids local_name result }
+    {
+        StackItemOf {
+            local_name,
+            element_data: E::new(alloc),
+            jumps: AddressRanges::new(),
+            hereditary_jumps: AddressRanges::new(),
+            child_counter: ChildCounter::default(),
+            stack_directive: StackDirective::Push,
+        }
+    }
+
+    /// Adds ids to those of the element's data. Ids below 32 alone take no memory.
+    pub(crate) fn add_ids(&mut self, ids: &DenseHashSet) -> Result<(), AllocError>
+        ensures ok { OnOk result (self.new ≡ with_more_ids E.ids E.with_ids self.old ids.now) }
+        ensures free { AllSmall ids.now → IsOk result }
+        ensures err { OnErr result (self.new ≡ self.old) }
+    {
+        let element_data = &mut self.element_data;
+        element_data.matched_ids_mut().union(ids)
+    }
+}
+
+impl<N, E> StackItemOf<N, E> {
+    /// Adds those of an instruction's two ranges that are there: both, or refused none.
+    pub(crate) fn add_ranges(
+        &mut self,
+        alloc: Global,
+        branch: &ExecutionBranch,
+    ) -> Result<(), AllocError>
+        ensures ok { OnOk result (self.new ≡ with_ranges self.old branch.now) }
+        ensures err { OnErr result (self.new ≡ self.old) }
+    {
+        self.jumps.extend(alloc, &branch.jumps)?;
+        if let Err(error) = self
+            .hereditary_jumps
+            .extend(alloc, &branch.hereditary_jumps)
+        {
+            self.jumps.shrink(&branch.jumps);
+            return Err(error);
+        }
+        Ok(())
+    }
+
+    /// Takes off what `add_ranges` added.
+    pub(crate) fn remove_ranges(&mut self, branch: &ExecutionBranch)
+        ensures { (before : StackItemOf N E) → self.old ≡ with_ranges before branch.now → self.new ≡ before }
+    {
+        self.jumps.shrink(&branch.jumps);
+        self.hereditary_jumps.shrink(&branch.hereditary_jumps);
+    }
+}
+
+impl<'i, E: Drop> StackItemOf<LocalName<'i>, E> {
+    /// The same element, whose name borrows nothing. A name that is a hash takes no memory.
+    #[inline(always)]
+    pub fn into_owned(self, alloc: Global) -> Result<StackItem<'static, E>, AllocError>
+        ensures same { IfOk result (λ item. item ≡ self.entry) }
+        ensures free { IsNone self.entry.local_name.spelling → IsOk result }
+    {
+        let StackItemOf {
+            local_name,
+            element_data,
+            jumps,
+            hereditary_jumps,
+            child_counter,
+            stack_directive,
+        } = self;
+        Ok(StackItemOf {
+            local_name: local_name.into_owned(alloc)?,
+            element_data,
+            jumps,
+            hereditary_jumps,
+            child_counter,
+            stack_directive,
+        })
+    }
+}

@@ -1,5 +1,0 @@
-use Rattle.lol_vm.proofs.SoundLemmas.{ends_at_last}
-use Rattle.lol_vm.proofs.stack_laws.ends_close_the_last_of_their_name.Goals as goal
-
-pub returns : goal.returns
-returns g c = ends_at_last
