@@ -208,7 +208,7 @@ module _ (s : Selectors) (esi : Bool) (item_bytes : ℕ) (before : Limiter) (vm 
           ∙ (map_push (λ (x : Started). x.event) (data_in vm) (record w { event = number })
           ∙ ((λ i. f.numbers i ++ sym events_before i ∷ []) ∙ sym (reverse-append (d.events ∷ []) (numbers_of d.open_elements))))
 
-      pub goes_started : Goes s esi item_bytes before new events (Start tag) later (reports.Started matched asked (tries_in new))
+      pub goes_started : Goes s esi item_bytes before new events (Start tag) later (reports.Started asked matched (tries_in new))
       goes_started = record {
         answered = (λ i. answers.Started ((ap (map match_of) kept ∙ shown a.matched) i) asked (names_counted (tries i)) (attributes_counted (tries i))) ∙ sym a.answered;
         follows = goes_on (has_content esi tag) (opens_content (has_content esi tag) drops isnt_dropped) (numbers (has_content esi tag) a.opened);

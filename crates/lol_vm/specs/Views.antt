@@ -22,12 +22,12 @@ tag_of name ns aux finish =
 
 -- The event that a value stands for.
 abbrev pub event_of : TagEvent → events.Event
-event_of (Start name ns aux finish) = events.Start (tag_of name.now ns aux finish)
+event_of (Start ns finish name aux) = events.Start (tag_of name.now ns aux finish)
 event_of (End name) = events.End name.now
 
 -- each name range and each value range of a start tag lies inside its input
 abbrev pub HasRangesInside : TagEvent → Type 0
-HasRangesInside (Start name ns aux finish) = RangesAreInside aux
+HasRangesInside (Start ns finish name aux) = RangesAreInside aux
 HasRangesInside (End name) = Unit {0}
 
 abbrev pub match_of : MatchInfo → Match
@@ -35,7 +35,7 @@ match_of m = record { id = m.match_id; with_content = m.with_content }
 
 -- The answer that a report gives.
 abbrev pub answer_of : TagReport → Answer
-answer_of (Started matched asked tries) = answers.Started (map match_of matched.items) asked (names_counted tries) (attributes_counted tries)
+answer_of (Started asked matched tries) = answers.Started (map match_of matched.items) asked (names_counted tries) (attributes_counted tries)
 answer_of Dropped = answers.Dropped
 answer_of (Ended closed) = answers.Ended closed.items
 

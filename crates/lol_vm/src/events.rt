@@ -9,10 +9,10 @@ use lol_program::Tries;
 pub enum TagEvent<'i> {
     /// A start tag. Where its attributes are asked for they are handed over if `finish` is true; otherwise the tag is dropped.
     Start {
-        name: &'i [u8],
         ns: Namespace,
-        aux_info: AuxStartTagInfo<'i>,
         finish: bool,
+        name: &'i [u8],
+        aux_info: AuxStartTagInfo<'i>,
     },
     /// An end tag.
     End {
@@ -25,8 +25,8 @@ pub enum TagEvent<'i> {
 pub enum TagReport {
     /// A start tag: what it is reported under, ascending by id, whether its attributes were asked for, and what was tried.
     Started {
-        matched: Vec<MatchInfo>,
         asked: bool,
+        matched: Vec<MatchInfo>,
         tries: Tries,
     },
     /// A start tag whose attributes were asked for and not handed over.

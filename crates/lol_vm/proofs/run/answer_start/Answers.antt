@@ -35,7 +35,7 @@ returns-clause-goes c = λ s esi item_bytes before events tag f place named hand
     (λ xs q x v j k. search (rules, j, k)) _ _ _ (refl, λ _. c.new-collected.ensures.items) taken.reported in
     let kept : c.collected-2-1.given.0.items.items ≡ map info_of taken.matched = search (rules, collected.0, collected.1, c.if-refused.false) in
     let charge = c.in_ok-taken.ensures.charged ∙ ap (λ n. charged c.args.limiter.now ((n - slots_charged c.args.vm.now) * slot_bytes c.args.vm.now)) (sym c.number_opened.ensures.slots) in
-    subst (λ t. Goes s esi item_bytes before c.number_opened.new.vm events (Start tag) c.take_start.new.limiter (Started c.collected-2-1.given.0.items c.in-Some.asked t)) (sym c.tries.ensures)
+    subst (λ t. Goes s esi item_bytes before c.number_opened.new.vm events (Start tag) c.take_start.new.limiter (Started c.in-Some.asked c.collected-2-1.given.0.items t)) (sym c.tries.ensures)
     (goes_started s esi item_bytes before c.args.vm.now events c.args.limiter.now f tag c.number_opened.new.vm c.take_start.new.limiter (c.number_opened.ensures.stands s esi (events ++ Start tag ∷ []) taken.stands)
     (c.number_opened.ensures.bytes ∙ c.take_start.ensures.bytes) charge (c.in_ok-taken.ensures.counted s esi events f.stands) (c.in_ok-taken.ensures.unlimited s esi events tag f.stands named handed)
     (λ started. started.matched_ids) _ c.in-Some.asked c.take_start.new.vm _ _ taken c.collected-2-1.given.0.items kept c.number_opened.ensures.tries c.args.number c.open_elements-open_before.result place c.open_elements-open_before.ensures
