@@ -132,6 +132,7 @@ impl<E: ElementData> VmOf<Program, LocalName<'static>, StackNames, E> {
         ensures asked { (request : AuxStartTagInfoRequest E) → result ≡ Err (VmError.InfoRequest request) → (s : Selectors) (esi : Bool) (events : List Event) (tag : StartTag) → Stands s esi self.old events → IsTagOf local_name.entry ns tag
             → IsPending E.ids s esi events tag self.new request }
         ensures charged { OnOk result (limiter.new ≡ charged limiter.old ((slots_charged self.new - slots_charged self.old) * slot_bytes self.old)) }
+        ensures grows { OnOk result (slots_charged self.old ≤ slots_charged self.new) }
         ensures uncharged { OnErr result (limiter.new ≡ limiter.old) }
         ensures slots { OnErr result (slots_charged self.new ≡ slots_charged self.old) }
         ensures bytes { slot_bytes self.new ≡ slot_bytes self.old }
@@ -218,6 +219,7 @@ impl<E: ElementData> VmOf<Program, LocalName<'static>, StackNames, E> {
         ensures reported { IsCalledAtEach F.step match_handler.old (reports ctx.entry.with_content (ascending (E.ids ctx.entry.stack_item.element_data))) match_handler.new }
         ensures ok { OnOk result (IsEntered ctx.entry.with_content ctx.entry.stack_item self.old self.new) }
         ensures charged { OnOk result (limiter.new ≡ charged limiter.old ((slots_charged self.new - slots_charged self.old) * slot_bytes self.old)) }
+        ensures grows { OnOk result (slots_charged self.old ≤ slots_charged self.new) }
         ensures limited { IsErrOf result (PushError.Limit (record {})) → (ctx.entry.with_content ≡ true) × IsLimited (list_in self.old.stack) limiter.old }
         ensures unlimited { OnOk result (ctx.entry.with_content ≡ true → IsLimited (list_in self.old.stack) limiter.old → ⊥) }
         ensures closed { ctx.entry.with_content ≡ false → IsOk result }
@@ -260,6 +262,7 @@ impl<E: ElementData> VmOf<Program, LocalName<'static>, StackNames, E> {
         ensures answered { OnOk result ((s : Selectors) (esi : Bool) (events : List Event) (tag : StartTag) → IsPending E.ids s esi events tag self.old request → IsRestOf aux_info.entry tag
             → IsAnswered E.ids F.step s esi events tag true self.old self.new match_handler.old match_handler.new) }
         ensures charged { OnOk result (limiter.new ≡ charged limiter.old ((slots_charged self.new - slots_charged self.old) * slot_bytes self.old)) }
+        ensures grows { OnOk result (slots_charged self.old ≤ slots_charged self.new) }
         ensures uncharged { OnErr result (limiter.new ≡ limiter.old) }
         ensures slots { OnErr result (slots_charged self.new ≡ slots_charged self.old) }
         ensures bytes { slot_bytes self.new ≡ slot_bytes self.old }
