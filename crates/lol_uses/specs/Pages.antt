@@ -1,7 +1,7 @@
 -- Pages, tag by tag.
-use Rattle.std.specs.Prelude.{◌*◌, ◌≡◌, ◌≤◌, Bool, true, false, List, [], ◌∷◌, ◌++◌, map}
+use Rattle.std.specs.Prelude.{◌*◌, ◌≡◌, Bool, true, false, List, [], ◌∷◌, ◌++◌, map}
 use Rattle.lol_base.specs.StartTags.{StartTag, RangesAreInside}
-use Rattle.lol_memory.specs.Limiter.{Limiter}
+use Rattle.lol_memory.specs.Limiter.{Limiter, charged}
 use Rattle.lol_memory.specs.declared.match_info.MatchInfo.{MatchInfo}
 use Rattle.lol_program.specs.Paths.{Selectors}
 use Rattle.lol_vm.specs.Answers.{Match, answer, document}
@@ -24,9 +24,9 @@ abbrev pub HasAttributesInside : PageTag → Type 0
 HasAttributesInside (Start name ns aux) = RangesAreInside aux
 HasAttributesInside (End name) = Unit {0}
 
--- the usage holds the charge of a machine's slots
-abbrev pub HoldsCharge : {E : Type 0} → Vm E → Limiter → Type 0
-HoldsCharge vm limiter = slots_charged vm * slot_bytes vm ≤ limiter.usage
+-- a limiter that was so before, once all slots of a machine are charged
+abbrev pub IsChargedFor : {E : Type 0} → Limiter → Vm E → Limiter → Type 0
+IsChargedFor before vm limiter = limiter ≡ charged before (slots_charged vm * slot_bytes vm)
 
 -- an item comes last, or memory was refused; after a refusal nothing is kept
 abbrev pub Keeps : {T : Type 0} → Kept T → T → Kept T → Type 0

@@ -98,6 +98,7 @@ impl<E: ElementData> VmOf<Program, LocalName<'static>, StackNames, E> {
         requires { 1 ≤ item_bytes }
         ensures stands { IfOk result (λ vm. Stands (selectors ast) enable_esi_tags vm []) }
         ensures bytes { IfOk result (λ vm. slot_bytes vm ≡ item_bytes) }
+        ensures slots { IfOk result (λ vm. slots_charged vm ≡ 0) }
         ensures empty { IfOk result (λ vm. data_in vm ≡ []) }
         ensures names { IfOk result (λ vm. names_counted (tries_in vm) ≡ 0) }
         ensures attributes { IfOk result (λ vm. attributes_counted (tries_in vm) ≡ 0) }

@@ -8,3 +8,6 @@ use Rattle.lol_uses.proofs.page.ids_of_tag.Goals as goal
 pub returns-in-Start-clause-reported : goal.returns-in-Start-clause-reported
 returns-in-Start-clause-reported c = IfOk-weaker c.start_tag.result _ _
     (λ ids told s esi events stands. told s esi events stands ∙ ap (λ tag. ids_of (answer s esi (document s esi events) (event_of_tag tag))) (sym c.in-Start.is)) c.start_tag.ensures.reported
+
+pub returns-after-end_tag-clause-charge : goal.returns-after-end_tag-clause-charge
+returns-after-end_tag-clause-charge c = λ before held. c.end_tag.ensures.charge before c.args.limiter.now held

@@ -19,10 +19,16 @@ loop-tag-preserved c =
           let reported = c.in_ok-reported.ensures.reported s esi before (c.loop-tag.invariant.stands s esi stands) in
           pushed ∙ ((λ i. c.loop-tag.invariant.ids s esi stands i ++ reported i) ∙ sym (ap (reported_ids s esi) front ∙ reported_more s esi before (event_of_tag tag)));
       stands = λ s esi stands. subst (λ events. Stands s esi c.ids_of_tag.new.vm events) (sym front) (c.in_ok-reported.ensures.stands s esi before (c.loop-tag.invariant.stands s esi stands));
-      charge = λ held. c.ids_of_tag.ensures.charge (c.loop-tag.invariant.charge held);
+      charge = λ before held. c.ids_of_tag.ensures.charge before (c.loop-tag.invariant.charge before held);
     }
 
 pub returns-clause-ids : goal.returns-clause-ids
 returns-clause-ids c = λ s esi stands.
     let whole = take_all c.loop-tag.tag-index c.args.page.now (omega (arith, c.loop-tag-test.false)) in
     c.loop-tag.invariant.ids s esi stands ∙ ap (λ tags. reported_ids s esi (map event_of_tag tags)) whole
+
+pub returns-in_err-reported-clause-charge : goal.returns-in_err-reported-clause-charge
+returns-in_err-reported-clause-charge c = λ before held. c.ids_of_tag.ensures.charge before (c.loop-tag.invariant.charge before held)
+
+pub returns-then-is_err-clause-charge : goal.returns-then-is_err-clause-charge
+returns-then-is_err-clause-charge c = λ before held. c.ids_of_tag.ensures.charge before (c.loop-tag.invariant.charge before held)

@@ -1,8 +1,9 @@
 use Rattle.std.proofs.Common.{◌≡◌, [], map, take}
 use Rattle.std.specs.Prelude.{Bool}
+use Rattle.lol_memory.specs.Limiter.{Limiter}
 use Rattle.lol_program.specs.Paths.{Selectors}
 use Rattle.lol_vm.specs.Vms.{Stands}
-use Rattle.lol_uses.specs.Pages.{HoldsCharge, event_of_tag}
+use Rattle.lol_uses.specs.Pages.{IsChargedFor, event_of_tag}
 use Rattle.lol_uses.specs.Reported.{reported_ids}
 use Rattle.lol_uses.proofs.page.ids_of_tags.Given as goal
 
@@ -11,5 +12,5 @@ invariant-loop-tag l =
     record {
       ids : (s : Selectors) (esi : Bool) → Stands s esi l.initial.vm [] → l.ids.items ≡ reported_ids s esi (map event_of_tag (take l.tag-index l.page));
       stands : (s : Selectors) (esi : Bool) → Stands s esi l.initial.vm [] → Stands s esi l.vm (map event_of_tag (take l.tag-index l.page));
-      charge : HoldsCharge l.initial.vm l.initial.limiter → HoldsCharge l.vm l.limiter;
+      charge : (before : Limiter) → IsChargedFor before l.initial.vm l.initial.limiter → IsChargedFor before l.vm l.limiter;
     }

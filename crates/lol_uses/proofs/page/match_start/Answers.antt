@@ -1,7 +1,7 @@
 use Rattle.std.proofs.Common.{Err, ap, ◌∙◌}
 use Rattle.lol_vm.specs.declared.error.VmError.TheVariants.{InfoRequest}
-use Rattle.lol_uses.specs.Pages.{HoldsCharge}
-use Rattle.lol_uses.proofs.Charges.{holds_more}
+use Rattle.lol_uses.specs.Pages.{IsChargedFor}
+use Rattle.lol_uses.proofs.Charges.{charged_more}
 use Rattle.lol_uses.proofs.Told.{told_of, told_since}
 use Rattle.lol_uses.proofs.page.match_start.Goals as goal
 
@@ -10,7 +10,7 @@ returns-in-Ok-clause-told g c = λ s esi events tag stands named rest.
     told_of (λ e. e.link_ids) _ s esi events tag _ c.args.vm.now c.exec_for_start_tag.new.self c.args.handler.now c.exec_for_start_tag.new.match_handler (c.in-Ok.ensures.answered s esi events tag stands named)
 
 pub returns-in-Ok-clause-charge : goal.returns-in-Ok-clause-charge
-returns-in-Ok-clause-charge g c = holds_more c.args.vm.now c.exec_for_start_tag.new.self c.args.limiter.now c.exec_for_start_tag.new.limiter c.exec_for_start_tag.ensures.bytes c.in-Ok.ensures.charged
+returns-in-Ok-clause-charge g c = λ before. charged_more c.args.vm.now c.exec_for_start_tag.new.self before c.args.limiter.now c.exec_for_start_tag.new.limiter c.exec_for_start_tag.ensures.bytes c.in-Ok.ensures.grows c.in-Ok.ensures.charged
 
 pub returns-in-Ok-finish_start_tag-clause-told :
     goal.returns-in-Ok-finish_start_tag-clause-told
@@ -22,6 +22,6 @@ returns-in-Ok-finish_start_tag-clause-told g c = λ s esi events tag stands name
 
 pub returns-in-Ok-finish_start_tag-clause-charge :
     goal.returns-in-Ok-finish_start_tag-clause-charge
-returns-in-Ok-finish_start_tag-clause-charge g c = λ held.
-    let asked : HoldsCharge c.exec_for_start_tag.new.self c.exec_for_start_tag.new.limiter = search (held, c.in-Err-InfoRequest.ensures.slots, c.exec_for_start_tag.ensures.bytes, c.in-Err-InfoRequest.ensures.uncharged) in
-    holds_more c.exec_for_start_tag.new.self c.finish_start_tag.new.self c.exec_for_start_tag.new.limiter c.finish_start_tag.new.limiter c.finish_start_tag.ensures.bytes c.in-Ok-finish_start_tag.ensures.charged asked
+returns-in-Ok-finish_start_tag-clause-charge g c = λ before held.
+    let asked : IsChargedFor before c.exec_for_start_tag.new.self c.exec_for_start_tag.new.limiter = search (held, c.in-Err-InfoRequest.ensures.slots, c.exec_for_start_tag.ensures.bytes, c.in-Err-InfoRequest.ensures.uncharged) in
+    charged_more c.exec_for_start_tag.new.self c.finish_start_tag.new.self before c.exec_for_start_tag.new.limiter c.finish_start_tag.new.limiter c.finish_start_tag.ensures.bytes c.in-Ok-finish_start_tag.ensures.grows c.in-Ok-finish_start_tag.ensures.charged asked
