@@ -7,7 +7,7 @@ ghost use Rattle.lol_css.specs.declared.error.SelectorError.TheVariants.{Memory}
 
 use crate::error::SelectorError;
 use crate::selector::SelectorList;
-use crate::selectors::context::Context;
+use crate::selectors::parser::{Context, Parser};
 use crate::syntax::points::preprocessed;
 use crate::syntax::reader::{Nesting, Reader};
 use std::alloc::Global;
@@ -29,13 +29,15 @@ impl SelectorsParser {
         ensures err { IfErr result (λ cause. (cause ≡ Memory) ⊎ (accept text.now ≡ Err cause)) }
     {
         let points = preprocessed(alloc, text)?;
-        let mut reader = Reader::new(points.as_slice());
-        let context = Context {
+        let mut parser = Parser {
+            reader: Reader::new(points.as_slice()),
+            context: Context {
+                nesting: Nesting::Outside,
+                depth_left: MAX_NESTING,
+            },
             alloc,
-            nesting: Nesting::Outside,
-            depth_left: MAX_NESTING,
         };
-        context.list(&mut reader)?.into_result()
+        parser.list()?.into_result()
     }
 }
 

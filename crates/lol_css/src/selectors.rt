@@ -2,9 +2,9 @@
 
 mod attributes;
 mod compounds;
-pub(crate) mod context;
 mod items;
 mod judged;
 mod logical;
+pub(crate) mod parser;
 mod pseudo_classes;
 mod rules;

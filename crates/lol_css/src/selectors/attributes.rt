@@ -15,8 +15,8 @@ ghost use Rattle.lol_css.specs.TreeViews.{part_of};
 use crate::attribute::{AttrSelectorOperator, ParsedCaseSensitivity};
 use crate::error::SelectorError;
 use crate::selector::{CssString, SimpleSelector};
-use crate::selectors::context::Context;
 use crate::selectors::judged::Judged;
+use crate::selectors::parser::Parser;
 use crate::syntax::reader::{Nesting, Reader};
 use crate::syntax::texts::Name;
 use crate::syntax::tokens::{MatchOperator, Token};
@@ -179,13 +179,14 @@ fn case_sensitivity(
     Ok(found)
 }
 
-impl Context {
+impl Parser<'_> {
     /// The value that is compared with, a name or a quoted text.
     #[tactic(auto, unfolding(crate::specs::Rules::required_token))]
-    fn value(self, reader: &mut Reader<'_>) -> Result<CssString, SelectorError>
-        ensures { ReadsUnlessMemory (λ s. s) result reader.new (giving utf8 (required_token InBrackets value_of UnexpectedTokenInAttribute reader.old)) }
+    fn value(&mut self) -> Result<CssString, SelectorError>
+        ensures reads { ReadsUnlessMemory (λ s. s) result self.new.reader (giving utf8 (required_token InBrackets value_of UnexpectedTokenInAttribute self.old.reader)) }
+        ensures context { self.new.context ≡ self.old.context }
     {
-        match reader.expect(Nesting::InBrackets)? {
+        match self.reader.expect(Nesting::InBrackets)? {
             Token::Ident(name) => Ok(name.to_text(self.alloc)?),
             Token::Quoted(quoted) => Ok(quoted.to_text(self.alloc)?),
             _ => Err(SelectorError::UnexpectedTokenInAttribute),
@@ -194,22 +195,19 @@ impl Context {
 
     /// What stands after the name.
     #[tactic(auto, unfolding(crate::specs::Reading::comparison))]
-    fn comparison(
-        self,
-        name: CssString,
-        reader: &mut Reader<'_>,
-    ) -> Result<SimpleSelector, SelectorError>
-        ensures { ReadsUnlessMemory part_of result reader.new (giving trees.Plain (comparison name reader.old)) }
+    fn comparison(&mut self, name: CssString) -> Result<SimpleSelector, SelectorError>
+        ensures reads { ReadsUnlessMemory part_of result self.new.reader (giving trees.Plain (comparison name self.old.reader)) }
+        ensures context { self.new.context ≡ self.old.context }
     {
-        if reader.is_at_end(Nesting::InBrackets) {
-            reader.advance();
+        if self.reader.is_at_end(Nesting::InBrackets) {
+            self.reader.advance();
             return Ok(SimpleSelector::AttributeExists { name });
         }
-        let operator = operator(reader)?;
-        reader.skip_space();
-        let value = self.value(reader)?;
-        reader.skip_space();
-        let case_sensitivity = case_sensitivity(&name, reader)?;
+        let operator = operator(&mut self.reader)?;
+        self.reader.skip_space();
+        let value = self.value()?;
+        self.reader.skip_space();
+        let case_sensitivity = case_sensitivity(&name, &mut self.reader)?;
         Ok(SimpleSelector::AttributeComparison {
             name,
             value,
@@ -220,17 +218,15 @@ impl Context {
 
     /// An attribute, after the `[`.
     #[tactic(auto, unfolding(crate::specs::Reading::attribute, crate::specs::Accepting::judged_part))]
-    pub(crate) fn attribute(
-        self,
-        reader: &mut Reader<'_>,
-    ) -> Result<Judged<SimpleSelector>, SelectorError>
-        ensures { ReadsUnlessMemory (judgement part_of) result reader.new (giving judged_part (attribute reader.old)) }
+    pub(crate) fn attribute(&mut self) -> Result<Judged<SimpleSelector>, SelectorError>
+        ensures reads { ReadsUnlessMemory (judgement part_of) result self.new.reader (giving judged_part (attribute self.old.reader)) }
+        ensures context { self.new.context ≡ self.old.context }
     {
-        reader.skip_space();
-        let (name, any_namespace) = attribute_name(reader)?;
+        self.reader.skip_space();
+        let (name, any_namespace) = attribute_name(&mut self.reader)?;
         let name = name.to_lowercase_text(self.alloc)?;
-        reader.skip_space();
-        let part = self.comparison(name, reader)?;
+        self.reader.skip_space();
+        let part = self.comparison(name)?;
         Ok(if any_namespace {
             Judged::Refused(SelectorError::NamespacedSelector)
         } else {

@@ -13,33 +13,36 @@ ghost use Rattle.lol_css.specs.TreeViews.{part_of, compound_of};
 
 use crate::error::SelectorError;
 use crate::selector::{Compound, SimpleSelector};
-use crate::selectors::context::Context;
 use crate::selectors::judged::Judged;
-use crate::syntax::reader::Reader;
+use crate::selectors::parser::Parser;
 use crate::syntax::tokens::Token;
 use std::alloc::{AllocError, Global};
 
-impl Context {
+impl Parser<'_> {
     #[tactic(auto, unfolding(crate::specs::Reading::class_name))]
-    pub(crate) fn class_name(self, reader: &mut Reader<'_>) -> Result<SimpleSelector, SelectorError>
-        ensures { ReadsUnlessMemory part_of result reader.new (giving trees.Plain (class_name (nesting_of self.nesting) reader.old)) }
+    pub(crate) fn class_name(&mut self) -> Result<SimpleSelector, SelectorError>
+        ensures reads { ReadsUnlessMemory part_of result self.new.reader (giving trees.Plain (class_name (nesting_of self.old.context.nesting) self.old.reader)) }
+        ensures context { self.new.context ≡ self.old.context }
     {
-        if reader.is_at_stop(self.nesting) {
+        if self.reader.is_at_stop(self.context.nesting) {
             return Err(SelectorError::UnexpectedEnd);
         }
-        let name = reader.expect_name(self.nesting, SelectorError::InvalidClassName)?;
+        let name = self
+            .reader
+            .expect_name(self.context.nesting, SelectorError::InvalidClassName)?;
         Ok(SimpleSelector::Class(name.to_text(self.alloc)?))
     }
 
     /// A name or `*`, directly after a bar; nothing where the item ends.
     #[tactic(auto, unfolding(crate::specs::Reading::after_bar))]
-    fn after_bar(self, reader: &mut Reader<'_>) -> Result<Option<SimpleSelector>, SelectorError>
-        ensures { ReadsUnlessMemory (option_map part_of) result reader.new (giving (option_map trees.Plain) (after_bar (nesting_of self.nesting) reader.old)) }
+    fn after_bar(&mut self) -> Result<Option<SimpleSelector>, SelectorError>
+        ensures reads { ReadsUnlessMemory (option_map part_of) result self.new.reader (giving (option_map trees.Plain) (after_bar (nesting_of self.old.context.nesting) self.old.reader)) }
+        ensures context { self.new.context ≡ self.old.context }
     {
-        if reader.is_at_stop(self.nesting) {
+        if self.reader.is_at_stop(self.context.nesting) {
             return Ok(None);
         }
-        match reader.next() {
+        match self.reader.next() {
             Some(Token::Ident(name)) => Ok(Some(SimpleSelector::LocalName(name.to_text(
                 self.alloc,
             )?))),
@@ -50,10 +53,11 @@ impl Context {
 
     /// A compound that begins after `*|`; nothing where the item ends.
     #[tactic(auto, unfolding(crate::specs::Accepting::judged_compound, crate::specs::Accepting::judged_part))]
-    fn any_namespace(self, reader: &mut Reader<'_>) -> Result<Option<Compound>, SelectorError>
-        ensures { ReadsUnlessMemory (option_map (λ start. Ok (compound_of start))) result reader.new (giving (option_map judged_compound) (giving (option_map any_namespace) (after_bar (nesting_of self.nesting) reader.old))) }
+    fn any_namespace(&mut self) -> Result<Option<Compound>, SelectorError>
+        ensures reads { ReadsUnlessMemory (option_map (λ start. Ok (compound_of start))) result self.new.reader (giving (option_map judged_compound) (giving (option_map any_namespace) (after_bar (nesting_of self.old.context.nesting) self.old.reader))) }
+        ensures context { self.new.context ≡ self.old.context }
     {
-        match self.after_bar(reader)? {
+        match self.after_bar()? {
             Some(name) => Ok(Some(single(self.alloc, name)?)),
             None => Ok(None),
         }
@@ -61,10 +65,11 @@ impl Context {
 
     /// A compound that begins after `|`; nothing where the item ends.
     #[tactic(auto, unfolding(crate::specs::Accepting::judged_compound, crate::specs::Accepting::judged_part), using(crate::proofs::TreeRows::push_steps))]
-    fn no_namespace(self, reader: &mut Reader<'_>) -> Result<Option<Compound>, SelectorError>
-        ensures { ReadsUnlessMemory (option_map (λ start. Ok (compound_of start))) result reader.new (giving (option_map judged_compound) (giving (option_map no_namespace) (after_bar (nesting_of self.nesting) reader.old))) }
+    fn no_namespace(&mut self) -> Result<Option<Compound>, SelectorError>
+        ensures reads { ReadsUnlessMemory (option_map (λ start. Ok (compound_of start))) result self.new.reader (giving (option_map judged_compound) (giving (option_map no_namespace) (after_bar (nesting_of self.old.context.nesting) self.old.reader))) }
+        ensures context { self.new.context ≡ self.old.context }
     {
-        match self.after_bar(reader)? {
+        match self.after_bar()? {
             Some(name) => {
                 let mut compound = single(self.alloc, SimpleSelector::ExplicitNoNamespace)?;
                 compound.parts.push(name)?;
@@ -76,32 +81,30 @@ impl Context {
 
     /// A compound that begins with its type part, where one stands; nothing where a bar ends the item.
     #[tactic(auto, unfolding(crate::specs::Reading::type_part, crate::specs::Accepting::judged_compound, crate::specs::Accepting::judged_part))]
-    pub(crate) fn type_part(
-        self,
-        reader: &mut Reader<'_>,
-    ) -> Result<Option<Compound>, SelectorError>
-        ensures { ReadsUnlessMemory (option_map (λ start. Ok (compound_of start))) result reader.new (giving (option_map judged_compound) (type_part (nesting_of self.nesting) reader.old)) }
+    pub(crate) fn type_part(&mut self) -> Result<Option<Compound>, SelectorError>
+        ensures reads { ReadsUnlessMemory (option_map (λ start. Ok (compound_of start))) result self.new.reader (giving (option_map judged_compound) (type_part (nesting_of self.old.context.nesting) self.old.reader)) }
+        ensures context { self.new.context ≡ self.old.context }
     {
-        match reader.peek() {
+        match self.reader.peek() {
             Some(Token::Ident(name)) => {
-                reader.advance();
-                if reader.is_at_delim('|') {
+                self.reader.advance();
+                if self.reader.is_at_delim('|') {
                     return Err(SelectorError::NamespacedSelector);
                 }
                 let name = SimpleSelector::LocalName(name.to_text(self.alloc)?);
                 Ok(Some(single(self.alloc, name)?))
             }
             Some(Token::Delim('*')) => {
-                reader.advance();
-                if !reader.is_at_delim('|') {
+                self.reader.advance();
+                if !self.reader.is_at_delim('|') {
                     return Ok(Some(single(self.alloc, SimpleSelector::ExplicitUniversalType)?));
                 }
-                reader.advance();
-                self.any_namespace(reader)
+                self.reader.advance();
+                self.any_namespace()
             }
             Some(Token::Delim('|')) => {
-                reader.advance();
-                self.no_namespace(reader)
+                self.reader.advance();
+                self.no_namespace()
             }
             _ => Ok(Some(Compound {
                 parts: Vec::new(self.alloc),

@@ -12,39 +12,44 @@ ghost use Rattle.lol_css.specs.TreeViews.{compound_of, item_of, list_of};
 use crate::error::SelectorError;
 use crate::selector::{Combinator, ComplexSelector, Compound, SelectorList};
 use crate::selectors::judged::Judged;
-use crate::syntax::reader::{Nesting, Reader};
+use crate::selectors::parser::Parser;
+use crate::syntax::reader::Nesting;
 use crate::syntax::tokens::Token;
 use std::alloc::{AllocError, Global};
 
-/// The step after a compound; nothing where the item ends.
-#[tactic(auto, unfolding(crate::specs::Reading::next_step, crate::specs::Reading::step))]
-pub(crate) fn next_step(
-    nesting: Nesting,
-    reader: &mut Reader<'_>,
-) -> Result<Option<Judged<Combinator>>, SelectorError>
-    ensures { Reads (option_map step_judgement) result reader.new (giving (option_map (judged_step (is_inside nesting))) (next_step (nesting_of nesting) reader.old)) }
-{
-    let after_space = matches!(reader.peek(), Some(Token::Space));
-    reader.skip_space();
-    if reader.is_at_stop(nesting) {
-        return Ok(None);
+impl Parser<'_> {
+    /// The step after a compound; nothing where the item ends.
+    #[tactic(auto, unfolding(crate::specs::Reading::next_step, crate::specs::Reading::step))]
+    pub(crate) fn next_step(&mut self) -> Result<Option<Judged<Combinator>>, SelectorError>
+        ensures reads { Reads (option_map step_judgement) result self.new.reader (giving (option_map (judged_step (is_inside self.old.context.nesting))) (next_step (nesting_of self.old.context.nesting) self.old.reader)) }
+        ensures context { self.new.context ≡ self.old.context }
+    {
+        let after_space = matches!(self.reader.peek(), Some(Token::Space));
+        self.reader.skip_space();
+        if self.reader.is_at_stop(self.context.nesting) {
+            return Ok(None);
+        }
+        let step = match self.reader.peek() {
+            Some(Token::Delim('>')) => Some(Judged::Kept(Combinator::Child)),
+            Some(Token::Delim('+')) => Some(Judged::Refused(SelectorError::UnsupportedCombinator(
+                '+',
+            ))),
+            Some(Token::Delim('~')) => Some(Judged::Refused(SelectorError::UnsupportedCombinator(
+                '~',
+            ))),
+            _ => None,
+        };
+        if step.is_some() {
+            self.reader.advance();
+            self.reader.skip_space();
+        } else if !after_space {
+            return Err(SelectorError::UnexpectedToken);
+        }
+        if self.context.nesting == Nesting::InFunction {
+            return Ok(Some(Judged::Refused(SelectorError::UnsupportedPseudoClassOrElement)));
+        }
+        Ok(Some(step.unwrap_or(Judged::Kept(Combinator::Descendant))))
     }
-    let step = match reader.peek() {
-        Some(Token::Delim('>')) => Some(Judged::Kept(Combinator::Child)),
-        Some(Token::Delim('+')) => Some(Judged::Refused(SelectorError::UnsupportedCombinator('+'))),
-        Some(Token::Delim('~')) => Some(Judged::Refused(SelectorError::UnsupportedCombinator('~'))),
-        _ => None,
-    };
-    if step.is_some() {
-        reader.advance();
-        reader.skip_space();
-    } else if !after_space {
-        return Err(SelectorError::UnexpectedToken);
-    }
-    if nesting == Nesting::InFunction {
-        return Ok(Some(Judged::Refused(SelectorError::UnsupportedPseudoClassOrElement)));
-    }
-    Ok(Some(step.unwrap_or(Judged::Kept(Combinator::Descendant))))
 }
 
 /// An item of one compound.

@@ -13,40 +13,41 @@ ghost use Rattle.lol_css.specs.TreeViews.{part_of, compound_of, item_of, list_of
 use crate::error::SelectorError;
 use crate::selector::{ComplexSelector, Compound, SelectorList, SimpleSelector};
 use crate::selectors::compounds::{reads_nothing, with_part};
-use crate::selectors::context::Context;
-use crate::selectors::items::{alone, next_step, with_compound, with_item};
+use crate::selectors::items::{alone, with_compound, with_item};
 use crate::selectors::judged::Judged;
 use crate::selectors::logical::LogicalCombination;
+use crate::selectors::parser::{Context, Parser};
 use crate::selectors::pseudo_classes::{function_part, ident_part};
-use crate::syntax::reader::{Nesting, Reader};
+use crate::syntax::reader::Nesting;
 use crate::syntax::tokens::Token;
 
 /// How many compounds one item has at most after its first.
 const MAX_FURTHER: u32 = 1023;
 
-impl Context {
+impl Parser<'_> {
     /// A part of a compound; nothing where the next token begins none.
     #[tactic(auto, unfolding(crate::specs::Reading::part, crate::specs::Accepting::judged_part))]
     #[cycle(rules)]
-    fn part(self, reader: &mut Reader<'_>) -> Result<Option<Judged<SimpleSelector>>, SelectorError>
-        ensures { ReadsUnlessMemory (option_map (judgement part_of)) result reader.new (giving (option_map judged_part) (part (inner_list self.depth_left) (nesting_of self.nesting) reader.old)) }
+    fn part(&mut self) -> Result<Option<Judged<SimpleSelector>>, SelectorError>
+        ensures reads { ReadsUnlessMemory (option_map (judgement part_of)) result self.new.reader (giving (option_map judged_part) (part (inner_list self.old.context.depth_left) (nesting_of self.old.context.nesting) self.old.reader)) }
+        ensures context { self.new.context ≡ self.old.context }
     {
-        match reader.peek() {
+        match self.reader.peek() {
             Some(Token::Hash(name, true)) => {
-                reader.advance();
+                self.reader.advance();
                 Ok(Some(Judged::Kept(SimpleSelector::ID(name.to_text(self.alloc)?))))
             }
             Some(Token::Delim('.')) => {
-                reader.advance();
-                Ok(Some(Judged::Kept(self.class_name(reader)?)))
+                self.reader.advance();
+                Ok(Some(Judged::Kept(self.class_name()?)))
             }
             Some(Token::Delim('[')) => {
-                reader.advance();
-                Ok(Some(self.attribute(reader)?))
+                self.reader.advance();
+                Ok(Some(self.attribute()?))
             }
             Some(Token::Delim(':')) => {
-                reader.advance();
-                Ok(Some(self.pseudo(reader)?))
+                self.reader.advance();
+                Ok(Some(self.pseudo()?))
             }
             _ => Ok(None),
         }
@@ -55,19 +56,20 @@ impl Context {
     /// A pseudo-class, after its colon.
     #[tactic(auto, unfolding(crate::specs::Reading::pseudo))]
     #[cycle(rules)]
-    fn pseudo(self, reader: &mut Reader<'_>) -> Result<Judged<SimpleSelector>, SelectorError>
-        ensures { ReadsUnlessMemory (judgement part_of) result reader.new (giving judged_part (pseudo (inner_list self.depth_left) (nesting_of self.nesting) reader.old)) }
+    fn pseudo(&mut self) -> Result<Judged<SimpleSelector>, SelectorError>
+        ensures reads { ReadsUnlessMemory (judgement part_of) result self.new.reader (giving judged_part (pseudo (inner_list self.old.context.depth_left) (nesting_of self.old.context.nesting) self.old.reader)) }
+        ensures context { self.new.context ≡ self.old.context }
     {
-        if reader.is_at_stop(self.nesting) {
+        if self.reader.is_at_stop(self.context.nesting) {
             return Err(SelectorError::UnexpectedEnd);
         }
-        match reader.next() {
+        match self.reader.next() {
             Some(Token::Ident(name)) => ident_part(name),
             Some(Token::Function(name)) => match LogicalCombination::from_name(name) {
-                Some(combination) => self.logical_part(reader, combination),
-                None => function_part(name, reader),
+                Some(combination) => self.logical_part(combination),
+                None => function_part(name, &mut self.reader),
             },
-            Some(Token::Delim(':')) if reader.is_at_stop(self.nesting) => Err(
+            Some(Token::Delim(':')) if self.reader.is_at_stop(self.context.nesting) => Err(
                 SelectorError::UnexpectedEnd,
             ),
             _ => Err(SelectorError::UnsupportedPseudoClassOrElement),
@@ -78,21 +80,23 @@ impl Context {
     #[tactic(auto, unfolding(crate::specs::Accepting::judged_part))]
     #[cycle(rules)]
     fn logical_part(
-        self,
-        reader: &mut Reader<'_>,
+        &mut self,
         combination: LogicalCombination,
     ) -> Result<Judged<SimpleSelector>, SelectorError>
-        ensures { ReadsUnlessMemory (judgement part_of) result reader.new (giving judged_part (giving (drafts.Logical combination) (inner_list self.depth_left reader.old))) }
+        ensures reads { ReadsUnlessMemory (judgement part_of) result self.new.reader (giving judged_part (giving (drafts.Logical combination) (inner_list self.old.context.depth_left self.old.reader))) }
+        ensures context { self.new.context ≡ self.old.context }
     {
-        if self.depth_left == 0 {
+        if self.context.depth_left == 0 {
             return Err(SelectorError::UnsupportedSyntax);
         }
-        let inner = Context {
-            alloc: self.alloc,
+        let outer = self.context;
+        self.context = Context {
             nesting: Nesting::InFunction,
-            depth_left: self.depth_left - 1,
+            depth_left: outer.depth_left - 1,
         };
-        match inner.list(reader)? {
+        let list = self.list();
+        self.context = outer;
+        match list? {
             Judged::Kept(list) => Ok(Judged::Kept(combination.of(list))),
             Judged::Refused(cause) => Ok(Judged::Refused(cause)),
         }
@@ -100,15 +104,12 @@ impl Context {
 
     /// The parts of a compound after those that it begins with.
     #[cycle(rules)]
-    fn more_parts(
-        self,
-        reader: &mut Reader<'_>,
-        start: Compound,
-    ) -> Result<Judged<Compound>, SelectorError>
-        ensures { ReadsUnlessMemory (judgement compound_of) result reader.new (judged_parts (inner_list self.depth_left) (nesting_of self.nesting) (Ok (compound_of start)) reader.old) }
+    fn more_parts(&mut self, start: Compound) -> Result<Judged<Compound>, SelectorError>
+        ensures reads { ReadsUnlessMemory (judgement compound_of) result self.new.reader (judged_parts (inner_list self.old.context.depth_left) (nesting_of self.old.context.nesting) (Ok (compound_of start)) self.old.reader) }
+        ensures context { self.new.context ≡ self.old.context }
     {
         let mut parts = Judged::Kept(start);
-        'parts: while let Some(found) = self.part(reader)? {
+        'parts: while let Some(found) = self.part()? {
             parts = with_part(parts, found)?;
         }
         Ok(parts)
@@ -116,17 +117,14 @@ impl Context {
 
     /// A compound; one that reads nothing is refused with the cause `empty`.
     #[cycle(rules)]
-    fn compound(
-        self,
-        reader: &mut Reader<'_>,
-        empty: SelectorError,
-    ) -> Result<Judged<Compound>, SelectorError>
-        ensures { ReadsUnlessMemory (judgement compound_of) result reader.new (giving judged_compound (compound (inner_list self.depth_left) (nesting_of self.nesting) empty reader.old)) }
+    fn compound(&mut self, empty: SelectorError) -> Result<Judged<Compound>, SelectorError>
+        ensures reads { ReadsUnlessMemory (judgement compound_of) result self.new.reader (giving judged_compound (compound (inner_list self.old.context.depth_left) (nesting_of self.old.context.nesting) empty self.old.reader)) }
+        ensures context { self.new.context ≡ self.old.context }
     {
-        let Some(start) = self.type_part(reader)? else {
+        let Some(start) = self.type_part()? else {
             return Err(empty);
         };
-        let parts = self.more_parts(reader, start)?;
+        let parts = self.more_parts(start)?;
         if reads_nothing(&parts) {
             return Err(empty);
         }
@@ -135,18 +133,19 @@ impl Context {
 
     /// An item: compounds, each a step from the one before it.
     #[cycle(rules)]
-    fn item(self, reader: &mut Reader<'_>) -> Result<Judged<ComplexSelector>, SelectorError>
-        ensures { ReadsUnlessMemory (judgement item_of) result reader.new (giving (judged_item (is_inside self.nesting)) (item (inner_list self.depth_left) (nesting_of self.nesting) reader.old)) }
+    fn item(&mut self) -> Result<Judged<ComplexSelector>, SelectorError>
+        ensures reads { ReadsUnlessMemory (judgement item_of) result self.new.reader (giving (judged_item (is_inside self.old.context.nesting)) (item (inner_list self.old.context.depth_left) (nesting_of self.old.context.nesting) self.old.reader)) }
+        ensures context { self.new.context ≡ self.old.context }
     {
-        reader.skip_space();
-        let first = self.compound(reader, SelectorError::EmptySelector)?;
+        self.reader.skip_space();
+        let first = self.compound(SelectorError::EmptySelector)?;
         let mut item = alone(self.alloc, first);
         let mut left = MAX_FURTHER;
-        'steps: while let Some(step) = next_step(self.nesting, reader)? {
+        'steps: while let Some(step) = self.next_step()? {
             if left == 0 {
                 return Err(SelectorError::UnsupportedSyntax);
             }
-            let next = self.compound(reader, SelectorError::DanglingCombinator)?;
+            let next = self.compound(SelectorError::DanglingCombinator)?;
             item = with_compound(item, step, next)?;
             left -= 1;
         }
@@ -155,20 +154,21 @@ impl Context {
 
     /// A list of items separated by commas, and its end.
     #[cycle(rules)]
-    pub(crate) fn list(self, reader: &mut Reader<'_>) -> Result<Judged<SelectorList>, SelectorError>
-        ensures { ReadsUnlessMemory (judgement list_of) result reader.new (giving (judged (is_inside self.nesting)) (list (inner_list self.depth_left) (nesting_of self.nesting) reader.old)) }
+    pub(crate) fn list(&mut self) -> Result<Judged<SelectorList>, SelectorError>
+        ensures reads { ReadsUnlessMemory (judgement list_of) result self.new.reader (giving (judged (is_inside self.old.context.nesting)) (list (inner_list self.old.context.depth_left) (nesting_of self.old.context.nesting) self.old.reader)) }
+        ensures context { self.new.context ≡ self.old.context }
     {
-        let first = self.item(reader)?;
+        let first = self.item()?;
         let nothing = SelectorList {
             items: Vec::new(self.alloc),
         };
         let mut list = with_item(Judged::Kept(nothing), first)?;
-        'items: while !reader.is_at_end(self.nesting) {
-            reader.advance();
-            let next = self.item(reader)?;
+        'items: while !self.reader.is_at_end(self.context.nesting) {
+            self.reader.advance();
+            let next = self.item()?;
             list = with_item(list, next)?;
         }
-        reader.advance();
+        self.reader.advance();
         Ok(list)
     }
 }
