@@ -1,7 +1,7 @@
 -- The lines of a run.
 use Rattle.std.proofs.Common.{◌≡◌, ℕ, zero, suc, Bool, List, [], ◌∷◌, ◌++◌, Option, Some, map, take, refl, sym, ap, ◌∙◌}
 use Rattle.std.proofs.lemmas.Grind.{flat_map-append}
-use Rattle.std.proofs.lemmas.List.{append-nil}
+use Rattle.std.proofs.lemmas.List.{append-nil, map_push}
 use Rattle.lol_program.specs.Paths.{Selectors}
 use Rattle.lol_vm.specs.Events.{Event}
 use Rattle.lol_vm.specs.Documents.{Document}
@@ -16,6 +16,14 @@ use Rattle.lol_script.specs.declared.program.Status.TheVariants.{Refused}
 pub report_lines : (shows : Bool) (reports : List TagReport) → map (λ report. shown_answer shows (answer_of report)) reports ≡ map (shown_answer shows) (map answer_of reports)
 report_lines shows [] = refl
 report_lines shows (r ∷ reports) = ap (λ lines. shown_answer shows (answer_of r) ∷ lines) (report_lines shows reports)
+
+-- one report more
+pub lines_push : (shows : Bool) (reports : List TagReport) (report : TagReport) → lines_of (map (λ r. shown_answer shows (answer_of r)) (reports ++ report ∷ []))
+    ≡ lines_of (map (λ r. shown_answer shows (answer_of r)) reports) ++ (shown_answer shows (answer_of report) ++ 10 ∷ [])
+lines_push shows reports report =
+    ap lines_of (map_push (λ (r : TagReport). shown_answer shows (answer_of r)) reports report)
+    ∙ (flat_map-append (λ (shown : List ℕ). shown ++ 10 ∷ []) (map (λ r. shown_answer shows (answer_of r)) reports) (shown_answer shows (answer_of report) ∷ [])
+    ∙ ap (λ (end : List ℕ). lines_of (map (λ r. shown_answer shows (answer_of r)) reports) ++ end) (append-nil (shown_answer shows (answer_of report) ++ 10 ∷ [])))
 
 -- the answers to the first events are the first answers
 pub answers-take : (s : Selectors) (esi : Bool) (d : Document) (n : ℕ) (events : List Event) → answers_from s esi d (take n events) ≡ take n (answers_from s esi d events)

@@ -1,3 +1,4 @@
+pub mod Adding
 pub mod Devices
 pub mod Lines
 pub mod Output

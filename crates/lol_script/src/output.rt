@@ -1,13 +1,52 @@
 //! The lines of a run as they are written.
 
-ghost use Rattle.std.specs.Prelude.{◌≡◌, ◌∷◌, [], ◌++◌, OnOk, map, decimal, Bool, true};
+ghost use Rattle.std.specs.Prelude.{◌≡◌, ◌∷◌, [], ◌++◌, IfOk, OnOk, map, decimal, Bool, true, false};
 ghost use Rattle.lol_vm.specs.Views.{match_of, answer_of};
 ghost use Rattle.lol_program.specs.Tries.{names_counted, attributes_counted};
-ghost use Rattle.lol_script.specs.Output.{listed, shown_match, tries_field, shown_answer, lines_of};
+ghost use Rattle.lol_script.specs.Output.{listed, shown_match, tries_field, shown_answer};
+ghost use Rattle.lol_script.specs.Adding.{AddsLine};
 
 use itoa::Buffer;
 use lol_vm::{MatchInfo, TagReport, Tries};
-use std::alloc::AllocError;
+use std::alloc::{AllocError, Global};
+
+/// The lines of the reports that came, up to the first that memory was refused for.
+#[derive(Drop)]
+pub struct ReportLines {
+    text: Vec<u8>,
+    refused: bool,
+}
+
+impl ReportLines {
+    pub fn new(alloc: Global) -> Self
+        ensures text { result.text.items ≡ [] }
+        ensures refused { result.refused ≡ false }
+    {
+        ReportLines {
+            text: Vec::new(alloc),
+            refused: false,
+        }
+    }
+
+    /// Adds the line of a report. After a refusal nothing is added.
+    pub fn add(&mut self, report: &TagReport, shows_tries: bool)
+        ensures { AddsLine shows_tries self.old report.now self.new }
+    {
+        if !self.refused && push_report(&mut self.text, report, shows_tries).is_err() {
+            self.refused = true;
+        }
+    }
+
+    /// All lines, unless memory was refused.
+    pub fn into_text(self) -> Result<Vec<u8>, AllocError>
+        ensures { IfOk result (λ text. (self.refused ≡ false) × (text ≡ self.text)) }
+    {
+        if self.refused {
+            return Err(AllocError);
+        }
+        Ok(self.text)
+    }
+}
 
 /// Adds a number in decimal digits.
 pub fn push_number(text: &mut Vec<u8>, number: u64) -> Result<(), AllocError>
@@ -94,19 +133,5 @@ fn push_report(text: &mut Vec<u8>, report: &TagReport, shows_tries: bool) -> Res
         }
     }
     text.push(b'\n')?;
-    Ok(())
-}
-
-/// Adds the lines of reports.
-pub fn push_reports(
-    text: &mut Vec<u8>,
-    reports: &[TagReport],
-    shows_tries: bool,
-) -> Result<(), AllocError>
-    ensures { OnOk result (text.new.items ≡ text.old.items ++ lines_of (map (λ report. shown_answer shows_tries (answer_of report)) reports.now)) }
-{
-    for report in reports {
-        push_report(text, report, shows_tries)?;
-    }
     Ok(())
 }

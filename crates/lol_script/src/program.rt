@@ -1,22 +1,22 @@
 //! The program over a script.
 
-ghost use Rattle.std.specs.Prelude.{◌≡◌, ◌≢◌, ◌<◌, List, ℕ, Option, Ok, IfOk, IfErr, IsErrOf, map, take};
+ghost use Rattle.std.specs.Prelude.{◌≡◌, ◌≢◌, ◌<◌, List, ℕ, Option, Ok, IfOk, IfErr, IsErrOf, take};
 ghost use Rattle.std.specs.Io.KnownBytes.{Consumes, Appends, Keeps, IsAtEnd};
 ghost use Rattle.lol_script.specs.Devices.{device_of, failures_of, AppendsBeginning};
 ghost use Rattle.lol_script.specs.Scripts as scripts;
-ghost use Rattle.lol_script.specs.Output.{bad_line, shown_answer, lines_of};
+ghost use Rattle.lol_script.specs.Output.{bad_line, lines_of};
+ghost use Rattle.lol_script.specs.Adding.{AddsLine};
 ghost use Rattle.lol_vm.specs.Refusals.{Cause};
-ghost use Rattle.lol_vm.specs.RunRefusals.{IsRefusedAt};
-ghost use Rattle.lol_vm.specs.Views.{answer_of};
+ghost use Rattle.lol_vm.specs.RunRefusals.{StopsFor};
 ghost use Rattle.lol_script.specs.Scripts.{output, output_of, run_output};
 ghost use Rattle.lol_script.specs.Readings.{IsReading};
 
 use crate::bad_line::{BadLine, push_bad_line};
 use crate::device::{Counted, RunFault, read_all, write_text};
-use crate::output::push_reports;
+use crate::output::ReportLines;
 use crate::script::{Script, Stop, read_script};
 use bumpalo::Bump;
-use lol_vm::{RunCause, RunRefusal, SharedMemoryLimiter, TagReport, match_events};
+use lol_vm::{RunCause, SharedMemoryLimiter, TagReport, match_each_event};
 use std::alloc::{AllocError, Global};
 use std::io::{Read, Write};
 
@@ -102,41 +102,38 @@ fn good_output(alloc: Global, script: Script) -> Result<(Vec<u8>, Status), Alloc
         tags,
     } = script;
     let mut limiter = SharedMemoryLimiter::new(limit as usize);
-    match match_events(alloc, ast, ITEM_BYTES, esi, &tags, &mut limiter) {
-        Ok(reports) => Ok((reports_text(alloc, &reports, shows_tries)?, Status::Good)),
-        Err(refusal) => Ok((refused_text(alloc, refusal, shows_tries)?, Status::Refused)),
+    let mut lines = ReportLines::new(alloc);
+    let mut handler = |report: TagReport|
+        ensures { AddsLine shows_tries lines.entry report lines.exit }
+    {
+        lines.add(&report, shows_tries);
+    };
+    let answered = match_each_event(
+        alloc,
+        ast,
+        ITEM_BYTES,
+        esi,
+        &tags,
+        &mut limiter,
+        &mut handler,
+    );
+    let text = lines.into_text()?;
+    match answered {
+        Ok(()) => Ok((text, Status::Good)),
+        Err(stop) => Ok((refused_text(text, stop.cause)?, Status::Refused)),
     }
 }
 
-fn reports_text(
-    alloc: Global,
-    reports: &[TagReport],
-    shows_tries: bool,
-) -> Result<Vec<u8>, AllocError>
-    ensures { IfOk result (λ text. text.items ≡ lines_of (map (λ report. shown_answer shows_tries (answer_of report)) reports.now)) }
+/// The lines of a refused run, and after them that of its cause. There are none where the cause is memory.
+fn refused_text(mut text: Vec<u8>, cause: RunCause) -> Result<Vec<u8>, AllocError>
+    ensures { IfOk result (λ all. (lines written : List (List ℕ)) (event : ℕ) (first : Option (ℕ × Cause)) → text.items ≡ lines_of written
+        → written ≡ take event lines → StopsFor cause event first → run_output lines first ≡ record { text = all.items; status = Status.Refused }) }
 {
-    let mut text = Vec::new(alloc);
-    push_reports(&mut text, reports, shows_tries)?;
-    Ok(text)
-}
-
-/// The lines of a refused run, and that of its cause. There are none where the cause is memory.
-fn refused_text(
-    alloc: Global,
-    refusal: RunRefusal,
-    shows_tries: bool,
-) -> Result<Vec<u8>, AllocError>
-    ensures { IfOk result (λ text. (lines : List (List ℕ)) (first : Option (ℕ × Cause))
-        → map (λ report. shown_answer shows_tries (answer_of report)) refusal.reports.items ≡ take refusal.event lines
-        → IsRefusedAt refusal first → run_output lines first ≡ record { text = text.items; status = Status.Refused }) }
-{
-    let RunRefusal { reports, cause, .. } = refusal;
     let line = match cause {
         RunCause::MemoryLimitExceeded => b"refused limit\n".as_slice(),
         RunCause::CounterFull => b"refused counter\n".as_slice(),
         RunCause::Memory => return Err(AllocError),
     };
-    let mut text = reports_text(alloc, &reports, shows_tries)?;
     text.extend_from_slice(line)?;
     Ok(text)
 }

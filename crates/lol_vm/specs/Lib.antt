@@ -11,6 +11,7 @@ pub mod Vms
 pub mod VmLending
 pub mod Collecting
 pub mod Follows
+pub mod Handlers
 pub mod FreeTags
 pub mod VmLaws
 pub mod InstructionRuns

@@ -55,3 +55,10 @@ pub struct RunRefusal {
     pub event: usize,
     pub cause: RunCause,
 }
+
+/// The event that a run stopped at, and why. (Not in lol_html.)
+#[derive(Debug, Clone, Copy, PartialEq, Eq)]
+pub struct RunStop {
+    pub event: usize,
+    pub cause: RunCause,
+}

@@ -16,7 +16,7 @@ mod vm;
 pub mod vm_laws;
 
 pub use error::{AuxStartTagInfoRequest, VmError};
-pub use events::{RunCause, RunRefusal, TagEvent, TagReport};
+pub use events::{RunCause, RunRefusal, RunStop, TagEvent, TagReport};
 pub use lol_base::{
     AttributeBuffer, AttributeOutline, AuxStartTagInfo, Bytes, LocalName, Namespace, Range, Tag,
 };
@@ -38,5 +38,5 @@ pub use lol_stack::{
     AddChildError, AddressRanges, CounterItem, CounterList, ElementData, ExecutionCtx, Stack,
     StackDirective, StackItem, StackItemOf, StackNames, StackOf, TypedChildCounterMap,
 };
-pub use run::match_events;
+pub use run::{match_each_event, match_events};
 pub use vm::{SelectorMatchingVm, VmOf};

@@ -10,14 +10,15 @@ ghost use Rattle.lol_vm.specs.Answers.{answers};
 ghost use Rattle.lol_vm.specs.Collecting.{Keeps};
 ghost use Rattle.lol_vm.specs.Events.{Event, Start, End};
 ghost use Rattle.lol_vm.specs.Follows.{Follows, Goes, IsCharged, IsHandedOver, IsTaken, IsRefusedFor, Stops, opens, refusal_after};
+ghost use Rattle.lol_vm.specs.Handlers.{IsCalledWithAnswers};
 ghost use Rattle.lol_vm.specs.Refusals.{refused};
-ghost use Rattle.lol_vm.specs.RunRefusals.{allowance_of, IsRefusedAt};
+ghost use Rattle.lol_vm.specs.RunRefusals.{allowance_of, IsRefusedAt, StopsFor};
 ghost use Rattle.lol_stack.specs.Stacks.{list_in, last_count};
 ghost use Rattle.lol_vm.specs.Views.{HasRangesInside, event_of, answer_of, selectors};
 ghost use Rattle.lol_vm.specs.Vms.{Stands, IsNameOf, IsTagOf, stack_in, tries_in, data_in, slots_charged, slot_bytes};
 
 use crate::error::VmError;
-use crate::events::{RunCause, RunRefusal, TagEvent, TagReport};
+use crate::events::{RunCause, RunRefusal, RunStop, TagEvent, TagReport};
 use crate::started::{Collected, Started};
 use crate::vm::SelectorMatchingVm;
 use lol_base::{AuxStartTagInfo, LocalName, Namespace};
@@ -59,12 +60,69 @@ pub fn match_events(
     ensures cause { IfErr result (λ refusal. IsRefusedAt refusal (refused (selectors ast) enable_esi_tags (allowance_of item_bytes limiter.old) (map event_of events.now))) }
     ensures usage { limiter.new ≡ limiter.old }
 {
+    let Ok(mut collected) = Collected::with_capacity(alloc, events.len()) else {
+        return Err(refused(Vec::new(alloc), 0, RunCause::Memory));
+    };
+    let mut handler = |report: TagReport|
+        ensures { Keeps collected.entry report collected.exit }
+    {
+        collected.keep(report);
+    };
+    let answered = match_each_event(
+        alloc,
+        ast,
+        item_bytes,
+        enable_esi_tags,
+        events,
+        limiter,
+        &mut handler,
+    );
+    let Collected {
+        items: reports,
+        refused: is_short,
+    } = collected;
+    if is_short {
+        return Err(refused(Vec::new(alloc), 0, RunCause::Memory));
+    }
+    match answered {
+        Ok(()) => Ok(reports),
+        Err(stop) => Err(refused(reports, stop.event, stop.cause)),
+    }
+}
+
+/// Answers a list of tags as `match_events` does, and calls the handler with each report as it is made, in the order of the tags.
+///
+/// # Errors
+/// As those of `match_events`. The handler was called with the reports of the tags before.
+pub fn match_each_event<F: FnMut(TagReport)>(
+    alloc: Global,
+    ast: Ast,
+    item_bytes: usize,
+    enable_esi_tags: bool,
+    events: &[TagEvent],
+    limiter: &mut SharedMemoryLimiter,
+    handler: &mut F,
+) -> Result<(), RunStop>
+    requires item_bytes { 1 ≤ item_bytes }
+    requires ranges { All HasRangesInside events.now }
+    requires callable { F.IsAlwaysCallable handler.old }
+    ensures again { F.IsAlwaysCallable handler.new }
+    ensures ok { OnOk result (IsCalledWithAnswers F.step (selectors ast) enable_esi_tags (map event_of events.now) handler.old handler.new) }
+    ensures fits { OnOk result (refused (selectors ast) enable_esi_tags (allowance_of item_bytes limiter.old) (map event_of events.now) ≡ None) }
+    ensures refused { IfErr result (λ stop. IsCalledWithAnswers F.step (selectors ast) enable_esi_tags (map event_of (take stop.event events.now)) handler.old handler.new) }
+    ensures event { IfErr result (λ stop. (stop.event ≡ 0) ⊎ (stop.event < length events.now)) }
+    ensures cause { IfErr result (λ stop. StopsFor stop.cause stop.event (refused (selectors ast) enable_esi_tags (allowance_of item_bytes limiter.old) (map event_of events.now))) }
+    ensures usage { limiter.new ≡ limiter.old }
+{
     let usage = limiter.current_usage();
     let made = SelectorMatchingVm::new(alloc, ast, item_bytes, enable_esi_tags);
     let Ok(mut vm) = made else {
-        return Err(refused(Vec::new(alloc), 0, RunCause::Memory));
+        return Err(RunStop {
+            event: 0,
+            cause: RunCause::Memory,
+        });
     };
-    let answered = answer_events(alloc, &mut vm, events, limiter);
+    let answered = answer_events(alloc, &mut vm, events, limiter, handler);
     vm.release(limiter);
     let unchanged = limiter.current_usage() == usage;
     prove!(unchanged);
@@ -72,34 +130,39 @@ pub fn match_events(
 }
 
 /// Answers events, up to the first that is refused.
-fn answer_events(
+fn answer_events<F: FnMut(TagReport)>(
     alloc: Global,
     vm: &mut SelectorMatchingVm<Started>,
     events: &[TagEvent],
     limiter: &mut SharedMemoryLimiter,
-) -> Result<Vec<TagReport>, RunRefusal>
-    requires { All HasRangesInside events.now }
-    ensures ok { IfOk result (λ reports. (s : Selectors) (esi : Bool) (item_bytes : ℕ) (before : Limiter) → Follows s esi item_bytes before vm.old [] limiter.old
-        → map answer_of reports.items ≡ answers s esi (map event_of events.now)) }
+    handler: &mut F,
+) -> Result<(), RunStop>
+    requires ranges { All HasRangesInside events.now }
+    requires callable { F.IsAlwaysCallable handler.old }
+    ensures again { F.IsAlwaysCallable handler.new }
+    ensures ok { OnOk result ((s : Selectors) (esi : Bool) (item_bytes : ℕ) (before : Limiter) → Follows s esi item_bytes before vm.old [] limiter.old
+        → IsCalledWithAnswers F.step s esi (map event_of events.now) handler.old handler.new) }
     ensures fits { OnOk result ((s : Selectors) (esi : Bool) (item_bytes : ℕ) (before : Limiter) → Follows s esi item_bytes before vm.old [] limiter.old
         → refused s esi (allowance_of item_bytes before) (map event_of events.now) ≡ None) }
-    ensures refused { IfErr result (λ refusal. (s : Selectors) (esi : Bool) (item_bytes : ℕ) (before : Limiter) → Follows s esi item_bytes before vm.old [] limiter.old
-        → map answer_of refusal.reports.items ≡ answers s esi (map event_of (take refusal.event events.now))) }
-    ensures event { IfErr result (λ refusal. (refusal.event ≡ 0) ⊎ (refusal.event < length events.now)) }
-    ensures cause { IfErr result (λ refusal. (s : Selectors) (esi : Bool) (item_bytes : ℕ) (before : Limiter) → Follows s esi item_bytes before vm.old [] limiter.old
-        → IsRefusedAt refusal (refused s esi (allowance_of item_bytes before) (map event_of events.now))) }
+    ensures refused { IfErr result (λ stop. (s : Selectors) (esi : Bool) (item_bytes : ℕ) (before : Limiter) → Follows s esi item_bytes before vm.old [] limiter.old
+        → IsCalledWithAnswers F.step s esi (map event_of (take stop.event events.now)) handler.old handler.new) }
+    ensures event { IfErr result (λ stop. (stop.event ≡ 0) ⊎ (stop.event < length events.now)) }
+    ensures cause { IfErr result (λ stop. (s : Selectors) (esi : Bool) (item_bytes : ℕ) (before : Limiter) → Follows s esi item_bytes before vm.old [] limiter.old
+        → StopsFor stop.cause stop.event (refused s esi (allowance_of item_bytes before) (map event_of events.now))) }
     ensures charged { (s : Selectors) (esi : Bool) (item_bytes : ℕ) (before : Limiter) → Follows s esi item_bytes before vm.old [] limiter.old → IsCharged item_bytes before vm.new limiter.new }
 {
-    let Ok(mut reports) = Vec::with_capacity(alloc, events.len()) else {
-        return Err(refused(Vec::new(alloc), 0, RunCause::Memory));
-    };
     for (number, event) in events.iter().enumerate() {
         match answer_event(alloc, vm, number, event, limiter) {
-            Ok(report) => reports.push_reserved(report),
-            Err(cause) => return Err(refused(reports, number, cause)),
+            Ok(report) => handler(report),
+            Err(cause) => {
+                return Err(RunStop {
+                    event: number,
+                    cause,
+                });
+            }
         }
     }
-    Ok(reports)
+    Ok(())
 }
 
 /// Answers one event.

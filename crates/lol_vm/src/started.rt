@@ -1,11 +1,11 @@
 //! What a run keeps of its tags.
 
-ghost use Rattle.std.specs.Prelude.{◌≡◌, [], false, refl};
+ghost use Rattle.std.specs.Prelude.{◌≡◌, [], false, IfOk, refl};
 ghost use Rattle.lol_vm.specs.Collecting.{Keeps};
 
 use lol_memory::{DenseHashSet, MatchInfo};
 use lol_stack::ElementData;
-use std::alloc::Global;
+use std::alloc::{AllocError, Global};
 
 /// What a run keeps of an open element: the ids that it was reported under, and the number of its start tag.
 #[derive(Drop)]
@@ -51,6 +51,17 @@ impl<T: Drop> Collected<T> {
             items: Vec::new(alloc),
             refused: false,
         }
+    }
+
+    /// With room for so many items.
+    pub(crate) fn with_capacity(alloc: Global, capacity: usize) -> Result<Self, AllocError>
+        ensures items { IfOk result (λ collected. collected.items.items ≡ []) }
+        ensures refused { IfOk result (λ collected. collected.refused ≡ false) }
+    {
+        Ok(Collected {
+            items: Vec::with_capacity(alloc, capacity)?,
+            refused: false,
+        })
     }
 
     pub(crate) fn keep(&mut self, item: T)

@@ -1,13 +1,13 @@
-use Rattle.std.proofs.Common.{◌≡◌, ℕ, ◌+◌, ◌<◌, List, [], ◌∷◌, ◌++◌, ap, sym, subst, ◌∙◌, arith, map, take, drop, length, get_or}
-use Rattle.std.proofs.lemmas.List.{map_push, map-append, append_assoc, take_more, take_all, take-append-drop, length-map, length-take-le, length-append}
+use Rattle.std.proofs.Common.{of_calls, ◌≡◌, ℕ, ◌+◌, ◌<◌, List, [], ◌∷◌, ◌++◌, ap, sym, subst, ◌∙◌, arith, map, take, drop, length, get_or}
+use Rattle.std.proofs.lemmas.Fn.{FoldsTo-push}
+use Rattle.std.proofs.lemmas.List.{map_push, map-append, append_assoc, take_more, take_all, take-append-drop, length-map, length-take-le}
 use Rattle.lol_vm.specs.Answers.{answers}
 use Rattle.lol_vm.specs.Documents.{empty}
 use Rattle.lol_vm.specs.Events.{Event}
 use Rattle.lol_vm.specs.Follows.{Follows}
 use Rattle.lol_vm.specs.Refusals.{refused}
-use Rattle.lol_vm.specs.RunRefusals.{allowance_of, IsRefusedAt, StopsFor}
+use Rattle.lol_vm.specs.RunRefusals.{allowance_of, StopsFor}
 use Rattle.lol_vm.specs.Views.{event_of, answer_of}
-use Rattle.lol_vm.specs.declared.events.RunRefusal.{RunRefusal}
 use Rattle.lol_vm.specs.declared.events.TagEvent.{TagEvent}
 use Rattle.lol_vm.proofs.RefusedRuns.{stops_for}
 use Rattle.lol_vm.proofs.Runs.{answers_push}
@@ -32,12 +32,8 @@ module _ (all : List TagEvent) (n : ℕ) (event : TagEvent) (within : n < length
   before_counts : length before ≡ n
   before_counts = length-map (take n all) event_of ∙ length-take-le n all (omega (arith, within))
 
-pub returns-in-Err-clause-refused : goal.returns-in-Err-clause-refused
-returns-in-Err-clause-refused c = λ s esi item_bytes before f.
-    subst (λ (r : RunRefusal). map answer_of r.reports.items ≡ answers s esi (map event_of (take r.event c.args.events.now))) (sym c.refused-in-Err.ensures) (c.loop-number.invariant.told s esi item_bytes before f)
-
 pub returns-in-Err-clause-cause : goal.returns-in-Err-clause-cause
-returns-in-Err-clause-cause c = λ s esi item_bytes limiter f.
+returns-in-Err-clause-cause g c = λ s esi item_bytes limiter f.
     let all = c.args.events.now in
     let n = c.loop-number.number in
     let event = c.index-events-number.result in
@@ -47,16 +43,15 @@ returns-in-Err-clause-cause c = λ s esi item_bytes limiter f.
     let a = allowance_of item_bytes limiter in
     let stops = c.in-Err.ensures.stops s esi item_bytes limiter (before all n event within read) now in
     let is = stops_for s esi item_bytes limiter (before all n event within read) (later all n event within read) (event_of event) now.fits c.in-Err.cause stops in
-    subst (λ (r : RunRefusal). IsRefusedAt r (refused s esi a (map event_of all))) (sym c.refused-in-Err.ensures)
-    (subst (λ k. StopsFor c.in-Err.cause k (refused s esi a (map event_of all))) (before_counts all n event within read)
-    (subst (λ es. StopsFor c.in-Err.cause (length (before all n event within read)) (refused s esi a es)) (sym (all_are all n event within read)) is))
+    subst (λ k. StopsFor c.in-Err.cause k (refused s esi a (map event_of all))) (before_counts all n event within read)
+    (subst (λ es. StopsFor c.in-Err.cause (length (before all n event within read)) (refused s esi a es)) (sym (all_are all n event within read)) is)
 
 pub returns-in-Err-clause-charged : goal.returns-in-Err-clause-charged
-returns-in-Err-clause-charged c = λ s esi item_bytes before f.
+returns-in-Err-clause-charged g c = λ s esi item_bytes before f.
     c.in-Err.ensures.charged s esi item_bytes before (map event_of (take c.loop-number.number c.args.events.now)) (c.loop-number.invariant.follows s esi item_bytes before f)
 
 pub loop-number-preserved : goal.loop-number-preserved
-loop-number-preserved c =
+loop-number-preserved g c =
     let all = c.args.events.now in
     let n = c.loop-number.number in
     let event = c.index-events-number.result in
@@ -65,25 +60,30 @@ loop-number-preserved c =
     let counts = before_counts all n event within read in
     let front = front_more all n event within read in
     record {
+      callable = search of_calls;
       told = λ s esi item_bytes limiter f.
           let now = c.loop-number.invariant.follows s esi item_bytes limiter f in
-          let goes = c.in-Ok-answer_event.ensures.goes s esi item_bytes limiter (before all n event within read) now counts in
-          ap (map answer_of) c.push_reserved.ensures.items
-          ∙ (map_push answer_of c.loop-number.reports.items c.in-Ok-answer_event.report
-          ∙ ((λ i. c.loop-number.invariant.told s esi item_bytes limiter f i ++ goes.answered i ∷ [])
-          ∙ sym (ap (answers s esi) front ∙ answers_push s esi empty (before all n event within read) (event_of event))));
+          let told = c.loop-number.invariant.told s esi item_bytes limiter f in
+          let goes = c.in-Ok.ensures.goes s esi item_bytes limiter (before all n event within read) now counts in
+          record {
+            reports = told.reports ++ c.in-Ok.report ∷ [];
+            answered =
+                map_push answer_of told.reports c.in-Ok.report
+                ∙ ((λ i. told.answered i ++ goes.answered i ∷ [])
+                ∙ sym (ap (answers s esi) front ∙ answers_push s esi empty (before all n event within read) (event_of event)));
+            called = FoldsTo-push _ _ _ _ _ _ told.called c.handler.ensures;
+          };
       follows = λ s esi item_bytes limiter f.
           let now = c.loop-number.invariant.follows s esi item_bytes limiter f in
-          let goes = c.in-Ok-answer_event.ensures.goes s esi item_bytes limiter (before all n event within read) now counts in
+          let goes = c.in-Ok.ensures.goes s esi item_bytes limiter (before all n event within read) now counts in
           subst (λ es. Follows s esi item_bytes limiter c.answer_event.new.vm es c.answer_event.new.limiter) (sym front) goes.follows;
-      many = ap length c.push_reserved.ensures.items ∙ (length-append c.loop-number.reports.items (c.in-Ok-answer_event.report ∷ []) ∙ ap (λ k. k + 1) c.loop-number.invariant.many);
-      room = let enough = c.loop-number.invariant.room in let same = c.push_reserved.ensures.capacity in omega (arith, enough, same);
     }
 
 pub returns-clause-ok : goal.returns-clause-ok
-returns-clause-ok c = λ s esi item_bytes before f.
+returns-clause-ok g c = λ s esi item_bytes before f.
     let whole = take_all c.loop-number.number c.args.events.now (omega (arith, c.loop-number-test.false)) in
-    c.loop-number.invariant.told s esi item_bytes before f ∙ ap (λ es. answers s esi (map event_of es)) whole
+    let told = c.loop-number.invariant.told s esi item_bytes before f in
+    record { reports = told.reports; answered = told.answered ∙ ap (λ es. answers s esi (map event_of es)) whole; called = told.called }
 
 pub returns-clause-charged : goal.returns-clause-charged
-returns-clause-charged c = λ s esi item_bytes before f. (c.loop-number.invariant.follows s esi item_bytes before f).charged
+returns-clause-charged g c = λ s esi item_bytes before f. (c.loop-number.invariant.follows s esi item_bytes before f).charged

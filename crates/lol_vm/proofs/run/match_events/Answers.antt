@@ -1,52 +1,24 @@
-use Rattle.std.proofs.Common.{ap, sym, ◌∙◌, arith}
-use Rattle.std.proofs.lemmas.Result.{IfOk-weaker, IfErr-weaker}
-use Rattle.lol_memory.specs.Limiter.{Limiter}
-use Rattle.lol_vm.specs.Views.{selectors}
-use Rattle.lol_vm.proofs.RunSteps.{starts, released}
+use Rattle.std.proofs.Common.{rules, ◌≡◌, List, false, refl, sym, ap, ◌∙◌, subst, map, take}
+use Rattle.std.proofs.lemmas.Fn.{chained_keeps}
+use Rattle.lol_vm.specs.Answers.{answers}
+use Rattle.lol_vm.specs.Views.{answer_of, event_of, selectors}
+use Rattle.lol_vm.specs.declared.events.RunRefusal.{RunRefusal}
+use Rattle.lol_vm.specs.declared.events.TagReport.{TagReport}
 use Rattle.lol_vm.proofs.run.match_events.Goals as goal
 
-pub release-requires : goal.release-requires
-release-requires c =
-    let within = c.current_usage-usage.ensures.within in
-    let value = c.current_usage-usage.ensures.value in
-    let f = starts (selectors c.args.ast) c.args.enable_esi_tags c.args.item_bytes c.args.limiter.now c.in-Ok.vm c.requires.item_bytes c.current_usage-usage.ensures.word (omega (arith, within, value))
-    c.in-Ok.ensures.stands c.in-Ok.ensures.bytes c.in-Ok.ensures.empty in
-    let charge = released c.args.item_bytes c.args.limiter.now c.answer_events-answered.new.vm c.answer_events-answered.new.limiter
-    (c.answer_events-answered.ensures.charged (selectors c.args.ast) c.args.enable_esi_tags c.args.item_bytes c.args.limiter.now f) in
-    charge.0
+pub returns-in-Ok-answered-clause-ok : goal.returns-in-Ok-answered-clause-ok
+returns-in-Ok-answered-clause-ok c =
+    let handed = c.in-Ok-answered.ensures.ok in
+    let collected = chained_keeps _ (λ (xs : List TagReport) q. (q.0.ghost_name ≡ c.collected-2-1.given.0) × (q.0.now.refused ≡ false → q.0.now.items.items ≡ xs))
+    (λ xs q x v j k. search (rules, j, k)) _ _ _ (refl, λ _. c.in-Ok.ensures.items) handed.called in
+    let kept : c.collected-3-1.given.0.items.items ≡ handed.reports = search (rules, collected.0, collected.1, c.if-is_short.false) in
+    ap (map answer_of) kept ∙ handed.answered
 
-pub prove-unreachable-requires : goal.prove-unreachable-requires
-prove-unreachable-requires c =
-    let within = c.current_usage-usage.ensures.within in
-    let value = c.current_usage-usage.ensures.value in
-    let f = starts (selectors c.args.ast) c.args.enable_esi_tags c.args.item_bytes c.args.limiter.now c.in-Ok.vm c.requires.item_bytes c.current_usage-usage.ensures.word (omega (arith, within, value))
-    c.in-Ok.ensures.stands c.in-Ok.ensures.bytes c.in-Ok.ensures.empty in
-    let charge = released c.args.item_bytes c.args.limiter.now c.answer_events-answered.new.vm c.answer_events-answered.new.limiter
-    (c.answer_events-answered.ensures.charged (selectors c.args.ast) c.args.enable_esi_tags c.args.item_bytes c.args.limiter.now f) in
-    c.if-prove.true (c.current_usage.ensures.value ∙ (ap (λ (l : Limiter). l.usage) (c.release.ensures ∙ charge.1) ∙ sym value))
-
-pub returns-clause-ok : goal.returns-clause-ok
-returns-clause-ok c =
-    let within = c.current_usage-usage.ensures.within in
-    let value = c.current_usage-usage.ensures.value in
-    let f = starts (selectors c.args.ast) c.args.enable_esi_tags c.args.item_bytes c.args.limiter.now c.in-Ok.vm c.requires.item_bytes c.current_usage-usage.ensures.word (omega (arith, within, value))
-    c.in-Ok.ensures.stands c.in-Ok.ensures.bytes c.in-Ok.ensures.empty in
-    IfOk-weaker c.answer_events-answered.result _ _ (λ reports ok. ok (selectors c.args.ast) c.args.enable_esi_tags c.args.item_bytes c.args.limiter.now f) c.answer_events-answered.ensures.ok
-
-pub returns-clause-refused : goal.returns-clause-refused
-returns-clause-refused c =
-    let within = c.current_usage-usage.ensures.within in
-    let value = c.current_usage-usage.ensures.value in
-    let f = starts (selectors c.args.ast) c.args.enable_esi_tags c.args.item_bytes c.args.limiter.now c.in-Ok.vm c.requires.item_bytes c.current_usage-usage.ensures.word (omega (arith, within, value))
-    c.in-Ok.ensures.stands c.in-Ok.ensures.bytes c.in-Ok.ensures.empty in
-    IfErr-weaker c.answer_events-answered.result _ _ (λ refusal told. told (selectors c.args.ast) c.args.enable_esi_tags c.args.item_bytes c.args.limiter.now f) c.answer_events-answered.ensures.refused
-
-pub returns-clause-usage : goal.returns-clause-usage
-returns-clause-usage c =
-    let within = c.current_usage-usage.ensures.within in
-    let value = c.current_usage-usage.ensures.value in
-    let f = starts (selectors c.args.ast) c.args.enable_esi_tags c.args.item_bytes c.args.limiter.now c.in-Ok.vm c.requires.item_bytes c.current_usage-usage.ensures.word (omega (arith, within, value))
-    c.in-Ok.ensures.stands c.in-Ok.ensures.bytes c.in-Ok.ensures.empty in
-    let charge = released c.args.item_bytes c.args.limiter.now c.answer_events-answered.new.vm c.answer_events-answered.new.limiter
-    (c.answer_events-answered.ensures.charged (selectors c.args.ast) c.args.enable_esi_tags c.args.item_bytes c.args.limiter.now f) in
-    c.release.ensures ∙ charge.1
+pub returns-in-Err-clause-refused : goal.returns-in-Err-clause-refused
+returns-in-Err-clause-refused c =
+    let handed = c.in-Err.ensures.refused in
+    let collected = chained_keeps _ (λ (xs : List TagReport) q. (q.0.ghost_name ≡ c.collected-2-1.given.0) × (q.0.now.refused ≡ false → q.0.now.items.items ≡ xs))
+    (λ xs q x v j k. search (rules, j, k)) _ _ _ (refl, λ _. c.in-Ok.ensures.items) handed.called in
+    let kept : c.collected-3-1.given.0.items.items ≡ handed.reports = search (rules, collected.0, collected.1, c.if-is_short.false) in
+    subst (λ (r : RunRefusal). map answer_of r.reports.items ≡ answers (selectors c.args.ast) c.args.enable_esi_tags (map event_of (take r.event c.args.events.now))) (sym c.refused-in-Err.ensures)
+    (ap (map answer_of) kept ∙ handed.answered)
