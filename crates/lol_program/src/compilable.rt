@@ -19,16 +19,26 @@ use std::alloc::{AllocError, Global};
 
 /// What compiles to a test (lol_html's `Compilable`).
 pub trait Compilable {
+    ghost use Rattle.lol_program.specs.Compounds as compounds;
+
+    /// The test that is compiled.
+    ghost test_of: { Self → compounds.Test };
+
     /// The compiled test. The flag is set where a test by type is in it, at any depth, and isn't changed otherwise. It is refused where
     /// memory is.
     fn compile(
         self,
         alloc: Global,
         enable_nth_of_type: &mut bool,
-    ) -> Result<CompiledTest, AllocError>;
+    ) -> Result<CompiledTest, AllocError>
+        ensures test { IfOk result (λ compiled. IsCompiledTest compiled (test_of self)) }
+        ensures flag { OnOk result (enable_nth_of_type.new ≡ (enable_nth_of_type.old || test_has_type (test_of self))) }
+        ensures stays { IsTrue enable_nth_of_type.old → IsTrue enable_nth_of_type.new };
 }
 
 impl Compilable for Test {
+    ghost test_of = { test_shown };
+
     /// The compiled test, into which names and operands move. A comparison's name is kept in ASCII lower case, and that of a test that an
     /// attribute is there as it is, so that with a capital in it no attribute has it. `~=`, `^=`, `$=` and `*=` with an empty operand become
     /// a test of attributes that no element passes.
@@ -36,11 +46,7 @@ impl Compilable for Test {
         self,
         alloc: Global,
         enable_nth_of_type: &mut bool,
-    ) -> Result<CompiledTest, AllocError>
-        ensures test { IfOk result (λ compiled. IsCompiledTest compiled (test_shown self)) }
-        ensures flag { OnOk result (enable_nth_of_type.new ≡ (enable_nth_of_type.old || test_has_type (test_shown self))) }
-        ensures stays { IsTrue enable_nth_of_type.old → IsTrue enable_nth_of_type.new }
-    {
+    ) -> Result<CompiledTest, AllocError> {
         compile_test(alloc, self, enable_nth_of_type)
     }
 }
