@@ -4,10 +4,11 @@ ghost use Rattle.std.specs.Prelude.{◌≡◌, []};
 ghost use Rattle.lol_vm.specs.Views.{HasRangesInside};
 
 use lol_vm::{
-    Ast, AttributeBuffer, AuxStartTagInfo, Bytes, MatchInfo, Namespace, Selector,
-    SharedMemoryLimiter, TagEvent, TagReport, match_events,
+    Ast, AttributeBuffer, AuxStartTagInfo, Bytes, MatchInfo, Namespace, RunCause, RunStop,
+    Selector, SharedMemoryLimiter, TagEvent, TagReport, match_each_event, match_events,
 };
 use std::alloc::Global;
+use std::process::Abort;
 use std::test::Fail;
 
 /// The selectors of these texts, each under an id.
@@ -68,6 +69,11 @@ fn answers_tags(rt: HostRuntime) -> Result<(), Fail> {
     let Ok(reports) = reports else {
         return Err(Fail::from("the run was refused"));
     };
+    expect_reports(&rt, &reports)
+}
+
+/// The reports of `div`, `section`, `p` and the end of `div`, under `div p` and `div > p`.
+fn expect_reports(rt: &impl Abort, reports: &[TagReport]) -> Result<(), Fail> {
     let found = MatchInfo {
         match_id: 0,
         with_content: true,
@@ -89,5 +95,52 @@ fn answers_tags(rt: HostRuntime) -> Result<(), Fail> {
     assert!(rt;
         matches!(&reports[3], TagReport::Ended { closed } if closed.as_slice() == [0, 1, 2].as_slice())
     );
+    Ok(())
+}
+
+#[test]
+fn hands_out_each_report(rt: HostRuntime) -> Result<(), Fail> {
+    let alloc = rt.alloc();
+    let ast = selectors(alloc, &[("div p", 0), ("div > p", 1)])?;
+    let none = AttributeBuffer::new(alloc);
+    let events = [
+        start(b"div", &none),
+        start(b"section", &none),
+        start(b"p", &none),
+        TagEvent::End { name: b"DIV" },
+    ];
+    let mut limiter = SharedMemoryLimiter::new(512);
+    let mut reports = Vec::new(alloc);
+    let mut handler = |report: TagReport| {
+        let _ = reports.push(report);
+    };
+    let answered = match_each_event(alloc, ast, 64, false, &events, &mut limiter, &mut handler);
+    assert_eq!(rt; answered, Ok(()));
+    assert_eq!(rt; limiter.current_usage(), 0);
+    expect_reports(&rt, &reports)
+}
+
+/// 512 bytes are eight elements of 64: the ninth is refused.
+#[test]
+fn hands_out_the_reports_before_a_refusal(rt: HostRuntime) -> Result<(), Fail> {
+    let alloc = rt.alloc();
+    let ast = selectors(alloc, &[("div div", 5)])?;
+    let none = AttributeBuffer::new(alloc);
+    let events = [start(b"div", &none); 9];
+    let mut limiter = SharedMemoryLimiter::new(512);
+    let mut counts = Vec::new(alloc);
+    let mut handler = |report: TagReport| {
+        if let TagReport::Started { matched, .. } = report {
+            let _ = counts.push(matched.len());
+        }
+    };
+    let answered = match_each_event(alloc, ast, 64, false, &events, &mut limiter, &mut handler);
+    let stop = RunStop {
+        event: 8,
+        cause: RunCause::MemoryLimitExceeded,
+    };
+    assert_eq!(rt; answered, Err(stop));
+    assert_eq!(rt; counts.as_slice(), [0, 1, 1, 1, 1, 1, 1, 1].as_slice());
+    assert_eq!(rt; limiter.current_usage(), 0);
     Ok(())
 }
