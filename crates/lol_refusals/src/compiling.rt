@@ -1,0 +1,49 @@
+//! Programs and machines of selectors.
+
+ghost use Rattle.std.specs.Prelude.{◌≡◌};
+
+use crate::element::{Element, ITEM_BYTES, release};
+use crate::outcome::{Met, Stop, TURNS, expect};
+use crate::trees::two;
+use lol_program::{Compiler, Program};
+use lol_vm::{SelectorMatchingVm, SharedMemoryLimiter};
+use std::alloc::Global;
+
+/// Whether a program is that of `div p` and `div > p`: `div`, then the `p` of its children, then the `p` of its descendants.
+fn is_of_div_p(program: &Program) -> bool {
+    let [div, child, descendant] = program.instructions.as_slice() else {
+        return false;
+    };
+    program.entry_points == (0..1)
+        && !program.enable_nth_of_type
+        && div.associated_branch.jumps == Some(1..2)
+        && div.associated_branch.hereditary_jumps == Some(2..3)
+        && child.associated_branch.matched_ids.iter().eq([1])
+        && descendant.associated_branch.matched_ids.iter().eq([0])
+}
+
+pub fn compile(alloc: Global) -> Result<Met, Stop> {
+    for met in TURNS {
+        let ast = two(alloc, "div p", "div > p")?;
+        if let Ok(program) = Compiler::new(alloc).compile(ast) {
+            expect(is_of_div_p(&program))?;
+            return Ok(met);
+        }
+    }
+    Err(Stop::Wrong)
+}
+
+/// A machine that was made has charged nothing, and opened nothing.
+pub fn new_machine(alloc: Global) -> Result<Met, Stop> {
+    let mut limiter = SharedMemoryLimiter::new(1_000_000);
+    for met in TURNS {
+        let ast = two(alloc, "div p", "div > p:nth-of-type(2)")?;
+        if let Ok(vm) = SelectorMatchingVm::<Element>::new(alloc, ast, ITEM_BYTES, false) {
+            let slots = vm.charged_slots();
+            let released = release(vm, &mut limiter, 0);
+            expect(released && slots == 0)?;
+            return Ok(met);
+        }
+    }
+    Err(Stop::Wrong)
+}

@@ -1,0 +1,121 @@
+//! Element data, reports without memory, and releases.
+
+ghost use Rattle.std.specs.Prelude.{◌≡◌, refl};
+ghost use Rattle.lol_stack.specs.Stacks.{item_bytes_in};
+ghost use Rattle.lol_vm.specs.Vms.{slot_bytes};
+
+use lol_vm::{
+    DenseHashSet, ElementData, MatchInfo, SelectorMatchingVm, SharedMemoryLimiter, Stack,
+};
+use std::alloc::Global;
+
+/// How many bytes an open element is charged for: with 1, a list has 128 slots at first.
+pub const ITEM_BYTES: usize = 1;
+
+/// The ids of an open element.
+#[derive(Drop)]
+pub struct Element {
+    pub ids: DenseHashSet,
+}
+
+impl ElementData for Element {
+    ghost ids = { λ e. e.ids };
+
+    ghost with_ids = { λ e w. record e { ids = w } };
+
+    ghost ids_of_changed = { λ e w. refl };
+
+    ghost same_ids_change_nothing = { λ e. refl };
+
+    fn new(alloc: Global) -> Self {
+        Element {
+            ids: DenseHashSet::new(alloc),
+        }
+    }
+
+    fn matched_ids_mut(&mut self) -> &mut DenseHashSet {
+        &mut self.ids
+    }
+}
+
+/// The first ids that a handler was called with, and how many calls there were.
+#[derive(Drop)]
+pub struct Calls {
+    ids: [u32; 8],
+    kept: usize,
+    pub count: u32,
+    pub with_content: bool,
+}
+
+impl Calls {
+    pub fn none() -> Self {
+        Calls {
+            ids: [0; 8],
+            kept: 0,
+            count: 0,
+            with_content: true,
+        }
+    }
+
+    fn keep(&mut self, id: u32) {
+        if self.kept < 8 {
+            self.ids[self.kept] = id;
+            self.kept += 1;
+        }
+    }
+
+    pub fn keep_info(&mut self, info: MatchInfo) {
+        self.keep(info.match_id);
+        self.with_content = info.with_content;
+        self.count = self.count.saturating_add(1);
+    }
+
+    pub fn keep_element(&mut self, element: Element) {
+        for id in element.ids.iter() {
+            self.keep(id);
+        }
+        self.count = self.count.saturating_add(1);
+    }
+
+    pub fn ids(&self) -> &[u32] {
+        &self.ids[..self.kept.min(8)]
+    }
+}
+
+/// Releases a machine: whether the limiter's usage is then so much.
+pub fn release(
+    vm: SelectorMatchingVm<Element>,
+    limiter: &mut SharedMemoryLimiter,
+    usage: usize,
+) -> bool
+    requires { slot_bytes vm ≡ 1 }
+{
+    let slots = vm.charged_slots();
+    if slots <= limiter.current_usage() {
+        vm.release(limiter);
+        return limiter.current_usage() == usage;
+    }
+    let mut enough = SharedMemoryLimiter::new(slots);
+    match enough.increase_usage(slots) {
+        Ok(()) => vm.release(&mut enough),
+        Err(_) => unreachable!(),
+    }
+    false
+}
+
+/// Releases a stack: whether the limiter's usage is then 0.
+pub fn release_stack(stack: Stack<Element>, limiter: &mut SharedMemoryLimiter) -> bool
+    requires { item_bytes_in stack ≡ 1 }
+{
+    let slots = stack.charged_slots();
+    if slots <= limiter.current_usage() {
+        stack.release(limiter);
+        return limiter.current_usage() == 0;
+    }
+    let mut enough = SharedMemoryLimiter::new(slots);
+    match enough.increase_usage(slots) {
+        Ok(()) => stack.release(&mut enough),
+        Err(_) => unreachable!(),
+    }
+    false
+}

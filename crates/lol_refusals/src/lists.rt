@@ -1,0 +1,130 @@
+//! Sets of ids, and lists with charged slots.
+
+ghost use Rattle.std.specs.Prelude.{◌≡◌};
+
+use crate::element::ITEM_BYTES;
+use crate::outcome::{Met, Stop, TURNS, expect};
+use lol_vm::{DenseHashSet, LimitedVec, SharedMemoryLimiter};
+use std::alloc::{AllocError, Global};
+
+fn set_of(alloc: Global, ids: &[u32]) -> Result<DenseHashSet, AllocError> {
+    let mut set = DenseHashSet::new(alloc);
+    for id in ids {
+        set.insert(*id)?;
+    }
+    Ok(set)
+}
+
+/// Whether a set has exactly these ids.
+pub fn has(set: &DenseHashSet, ids: &[u32]) -> bool {
+    set.iter().eq(ids.iter().copied())
+}
+
+pub fn insert(alloc: Global) -> Result<Met, Stop> {
+    let mut set = set_of(alloc, &[33, 70])?;
+    for met in TURNS {
+        if set.insert(1000).is_ok() {
+            expect(has(&set, &[33, 70, 1000]))?;
+            return Ok(met);
+        }
+        expect(has(&set, &[33, 70]))?;
+    }
+    Err(Stop::Wrong)
+}
+
+pub fn union(alloc: Global) -> Result<Met, Stop> {
+    let mut set = set_of(alloc, &[33, 70])?;
+    let other = set_of(alloc, &[1, 70, 1000])?;
+    for met in TURNS {
+        if set.union(&other).is_ok() {
+            expect(has(&set, &[1, 33, 70, 1000]))?;
+            return Ok(met);
+        }
+        expect(has(&set, &[33, 70]) && has(&other, &[1, 70, 1000]))?;
+    }
+    Err(Stop::Wrong)
+}
+
+pub fn set_try_clone(alloc: Global) -> Result<Met, Stop> {
+    let set = set_of(alloc, &[33, 70])?;
+    for met in TURNS {
+        if let Ok(copy) = set.try_clone() {
+            expect(copy == set && has(&copy, &[33, 70]))?;
+            return Ok(met);
+        }
+        expect(has(&set, &[33, 70]))?;
+    }
+    Err(Stop::Wrong)
+}
+
+/// Ids below 32 ask for no memory: a refusal is wrong here.
+pub fn small_sets(alloc: Global) -> Result<Met, Stop> {
+    let (Ok(mut set), Ok(other)) = (set_of(alloc, &[0, 31]), set_of(alloc, &[7, 31])) else {
+        return Err(Stop::Wrong);
+    };
+    expect(set.union(&other).is_ok() && has(&set, &[0, 7, 31]))?;
+    let Ok(copy) = set.try_clone() else {
+        return Err(Stop::Wrong);
+    };
+    expect(copy == set)?;
+    Ok(Met::Nothing)
+}
+
+/// 300 elements: 128 slots, then 256, then 512.
+pub fn push(alloc: Global) -> Result<Met, Stop> {
+    let mut limiter = SharedMemoryLimiter::new(1_000_000);
+    let mut list = LimitedVec::new(alloc, ITEM_BYTES);
+    let met = fill(&mut list, &mut limiter);
+    let (len, slots, usage) = (list.len(), list.slots(), limiter.current_usage());
+    let released = release(list, &mut limiter);
+    expect(released)?;
+    let met = met?;
+    expect(len == 300 && slots == 512 && usage == 512)?;
+    Ok(met)
+}
+
+fn fill(list: &mut LimitedVec<usize>, limiter: &mut SharedMemoryLimiter) -> Result<Met, Stop>
+    ensures { list.new.item_bytes ≡ list.old.item_bytes }
+{
+    let mut met = Met::Nothing;
+    for number in 0..300usize {
+        if pushed(list, number, limiter)? == Met::Refusal {
+            met = Met::Refusal;
+        }
+    }
+    Ok(met)
+}
+
+/// Pushes a number, a second time where memory is refused first.
+fn pushed(
+    list: &mut LimitedVec<usize>,
+    number: usize,
+    limiter: &mut SharedMemoryLimiter,
+) -> Result<Met, Stop>
+    ensures { list.new.item_bytes ≡ list.old.item_bytes }
+{
+    let before = (list.len(), list.slots(), limiter.current_usage());
+    if list.push(number, limiter).is_ok() {
+        return Ok(Met::Nothing);
+    }
+    expect((list.len(), list.slots(), limiter.current_usage()) == before)?;
+    expect(list.push(number, limiter).is_ok() && list.last() == Some(&number))?;
+    Ok(Met::Refusal)
+}
+
+/// Releases a list: whether the limiter's usage is then 0.
+fn release(list: LimitedVec<usize>, limiter: &mut SharedMemoryLimiter) -> bool
+    requires { list.item_bytes ≡ 1 }
+{
+    let slots = list.slots();
+    if slots <= limiter.current_usage() {
+        list.release(limiter);
+        return limiter.current_usage() == 0;
+    }
+    let mut enough = SharedMemoryLimiter::new(slots);
+    match enough.increase_usage(slots) {
+        Ok(()) => list.release(&mut enough),
+        Err(_) => unreachable!(),
+    }
+    false
+}

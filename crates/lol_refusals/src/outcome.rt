@@ -1,0 +1,37 @@
+//! How a scenario ends.
+
+use std::alloc::AllocError;
+
+/// What a scenario met whose answers were all as they have to be.
+#[derive(Debug, Clone, Copy, PartialEq, Eq)]
+pub enum Met {
+    /// No request was refused.
+    Nothing,
+
+    /// A request was refused and answered as out of memory; what has to stand stood, and with memory the same call answered exactly.
+    Refusal,
+}
+
+/// What a call meets that is made again after a refusal.
+pub const TURNS: [Met; 2] = [Met::Nothing, Met::Refusal];
+
+/// Why a scenario stops early.
+#[derive(Debug, Clone, Copy, PartialEq, Eq)]
+pub enum Stop {
+    /// A request of the scenario's own was refused.
+    Own,
+
+    /// An answer or a state was another than it has to be.
+    Wrong,
+}
+
+impl From<AllocError> for Stop {
+    fn from(_: AllocError) -> Self {
+        Stop::Own
+    }
+}
+
+/// Stops where something doesn't hold.
+pub fn expect(holds: bool) -> Result<(), Stop> {
+    if holds { Ok(()) } else { Err(Stop::Wrong) }
+}

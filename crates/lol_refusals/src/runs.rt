@@ -1,0 +1,240 @@
+//! Whole runs.
+
+ghost use Rattle.std.specs.Prelude.{◌≡◌, IfOk, All};
+ghost use Rattle.lol_vm.specs.Views.{HasRangesInside};
+
+use crate::outcome::{Met, Stop, TURNS, expect};
+use crate::trees::two;
+use lol_script::{Counted, RunFault, Status, run};
+use lol_vm::{
+    Ast, AttributeBuffer, AuxStartTagInfo, Bytes, Namespace, RunCause, SharedMemoryLimiter,
+    TagEvent, TagReport, match_events,
+};
+use std::alloc::Global;
+use std::io;
+use std::io::Write;
+
+/// A start tag of HTML.
+pub fn start<'i>(
+    name: &'i [u8],
+    input: &'i [u8],
+    attributes: &'i AttributeBuffer,
+) -> Result<TagEvent<'i>, Stop>
+    ensures { IfOk result (λ event. HasRangesInside event) }
+{
+    let aux_info = AuxStartTagInfo {
+        input: Bytes::new(input),
+        attr_buffer: attributes,
+        self_closing: false,
+    };
+    if !aux_info.ranges_inside() {
+        return Err(Stop::Wrong);
+    }
+    Ok(TagEvent::Start {
+        name,
+        ns: Namespace::Html,
+        aux_info,
+        finish: true,
+    })
+}
+
+/// Whether a report is of these ids, asked for or not, or of these closed elements.
+fn is_report(report: &TagReport, ids: &[u32], asked_for: bool) -> bool {
+    match report {
+        TagReport::Started { matched, asked, .. } => {
+            *asked == asked_for
+                && matched
+                    .iter()
+                    .map(|info| info.match_id)
+                    .eq(ids.iter().copied())
+        }
+        TagReport::Dropped => false,
+        TagReport::Ended { closed } => {
+            closed.iter().copied().eq(ids.iter().map(|id| *id as usize))
+        }
+    }
+}
+
+/// Whether reports are a beginning of those that are wanted.
+fn begin(reports: &[TagReport], wanted: &[(&[u32], bool)]) -> bool {
+    reports.len() <= wanted.len()
+        && reports
+            .iter()
+            .zip(wanted)
+            .all(|(report, (ids, asked))| is_report(report, ids, *asked))
+}
+
+/// Answers tags, and stops where the reports aren't those that are wanted. A refusal is the scenario's own.
+pub fn matches_in_turn(
+    alloc: Global,
+    ast: Ast,
+    events: &[TagEvent],
+    wanted: &[(&[u32], bool)],
+) -> Result<(), Stop>
+    requires { All HasRangesInside events.now }
+{
+    expect(answered(alloc, ast, events, wanted)? == Met::Nothing).map_err(|_| Stop::Own)
+}
+
+/// Answers tags over a limiter with some usage: whether memory was refused. Then the reports are a beginning.
+fn answered(
+    alloc: Global,
+    ast: Ast,
+    events: &[TagEvent],
+    wanted: &[(&[u32], bool)],
+) -> Result<Met, Stop>
+    requires { All HasRangesInside events.now }
+{
+    let mut limiter = SharedMemoryLimiter::new(10_000);
+    expect(limiter.increase_usage(100).is_ok())?;
+    let answer = match_events(alloc, ast, 64, false, events, &mut limiter);
+    expect(limiter.current_usage() == 100)?;
+    match answer {
+        Ok(reports) => {
+            expect(begin(&reports, wanted) && reports.len() == wanted.len())?;
+            Ok(Met::Nothing)
+        }
+        Err(refusal) => {
+            expect(refusal.cause == RunCause::Memory)?;
+            expect(begin(&refusal.reports, wanted) && refusal.reports.len() == refusal.event)?;
+            Ok(Met::Refusal)
+        }
+    }
+}
+
+/// Answers tags over the selectors of two texts, a second time where memory is refused first.
+fn answered_in_turn(
+    alloc: Global,
+    texts: (&str, &str),
+    events: &[TagEvent],
+    wanted: &[(&[u32], bool)],
+) -> Result<Met, Stop>
+    requires { All HasRangesInside events.now }
+{
+    for met in TURNS {
+        let ast = two(alloc, texts.0, texts.1)?;
+        if answered(alloc, ast, events, wanted)? == Met::Nothing {
+            return Ok(met);
+        }
+    }
+    Err(Stop::Wrong)
+}
+
+/// Three nested `div`, an end tag, and one more.
+pub fn nested(alloc: Global) -> Result<Met, Stop> {
+    let none = AttributeBuffer::new(alloc);
+    let div = start(b"div", b"", &none)?;
+    let events = [div, div, div, TagEvent::End { name: b"div" }, div];
+    let wanted: [(&[u32], bool); 5] = [
+        (&[], false),
+        (&[0], false),
+        (&[0], false),
+        (&[2], false),
+        (&[0], false),
+    ];
+    answered_in_turn(alloc, ("div div", "div > p"), &events, &wanted)
+}
+
+/// Children counted by type, and elements whose names are no hashes.
+pub fn by_type(alloc: Global) -> Result<Met, Stop> {
+    let none = AttributeBuffer::new(alloc);
+    let item = start(b"x-item", b"", &none)?;
+    let end = TagEvent::End { name: b"X-Item" };
+    let events = [start(b"ul", b"", &none)?, item, end, item, item, end];
+    let wanted: [(&[u32], bool); 6] = [
+        (&[], false),
+        (&[1], false),
+        (&[1], false),
+        (&[0, 1], false),
+        (&[1], false),
+        (&[4], false),
+    ];
+    answered_in_turn(
+        alloc,
+        ("ul > X-item:nth-of-type(2)", "ul x-item"),
+        &events,
+        &wanted,
+    )
+}
+
+/// Keeps the first 256 bytes, without memory.
+#[derive(Drop)]
+struct Page {
+    bytes: [u8; 256],
+    len: usize,
+}
+
+impl Page {
+    fn text(&self) -> &[u8] {
+        &self.bytes[..self.len.min(256)]
+    }
+}
+
+impl Write for Page {
+    fn write(&mut self, bytes: &[u8]) -> io::Result<usize> {
+        for byte in bytes {
+            if self.len < 256 {
+                self.bytes[self.len] = *byte;
+                self.len += 1;
+            }
+        }
+        Ok(bytes.len())
+    }
+
+    fn flush(&mut self) -> io::Result<()> {
+        Ok(())
+    }
+}
+
+/// Runs a script, a second time where memory is refused first; then nothing is written.
+fn written(
+    alloc: Global,
+    script: &[u8],
+    wanted: Result<Status, RunFault>,
+    text: &[u8],
+) -> Result<Met, Stop> {
+    for met in TURNS {
+        let mut reader = Counted::new(script);
+        let mut writer = Counted::new(Page {
+            bytes: [0; 256],
+            len: 0,
+        });
+        let outcome = run(alloc, &mut reader, &mut writer);
+        expect(reader.failures() == 0 && writer.failures() == 0)?;
+        let _ = reader.into_inner();
+        let page = writer.into_inner();
+        if outcome != Err(RunFault::Memory) {
+            expect(outcome == wanted && page.text() == text)?;
+            return Ok(met);
+        }
+        expect(page.text().is_empty())?;
+    }
+    Err(Stop::Wrong)
+}
+
+pub fn run_tags(alloc: Global) -> Result<Met, Stop> {
+    written(
+        alloc,
+        b"tries\nselect\t0\t.a p\nselect\t1\tp\nstart\thtml\tdiv\tclass=a\nstart\thtml\tp\n",
+        Ok(Status::Good),
+        b"start\t-\tasked\ttries 2 1\nstart\t0,1\tasked\ttries 3 1\n",
+    )
+}
+
+pub fn run_of_a_bad_line(alloc: Global) -> Result<Met, Stop> {
+    written(
+        alloc,
+        b"select\t0\t.a p\nstart\thtml\tdiv\nselect\t1\tp\n",
+        Ok(Status::BadLine),
+        b"bad line 3: form\n",
+    )
+}
+
+pub fn run_past_the_limit(alloc: Global) -> Result<Met, Stop> {
+    written(
+        alloc,
+        b"limit\t511\nselect\t40\t*\nstart\thtml\tbr\nstart\thtml\td\n",
+        Ok(Status::Refused),
+        b"start\t40/\nrefused limit\n",
+    )
+}

@@ -1,0 +1,149 @@
+//! Selectors under ids.
+
+use crate::lists::has;
+use crate::outcome::{Met, Stop, TURNS, expect};
+use crate::runs::{matches_in_turn, start};
+use lol_vm::{
+    Ast, AstNode, AttributeBuffer, AttributeOutline, Range, Selector, SelectorError, TagEvent,
+};
+use std::alloc::Global;
+
+/// A selector that was read; its memory is the scenario's own.
+pub fn read(alloc: Global, text: &str) -> Result<Selector, Stop> {
+    match Selector::from_str(alloc, text) {
+        Ok(selector) => Ok(selector),
+        Err(SelectorError::Memory) => Err(Stop::Own),
+        Err(_) => Err(Stop::Wrong),
+    }
+}
+
+/// The selectors of two texts, under 0 and 1.
+pub fn two(alloc: Global, first: &str, second: &str) -> Result<Ast, Stop> {
+    let mut ast = Ast::new(alloc);
+    ast.add_selector(&read(alloc, first)?, 0)?;
+    ast.add_selector(&read(alloc, second)?, 1)?;
+    Ok(ast)
+}
+
+/// Whether a node has exactly this id, and nothing under it.
+fn is_leaf(node: &AstNode, match_id: u32) -> bool {
+    has(&node.match_ids, &[match_id]) && node.children.is_empty() && node.descendants.is_empty()
+}
+
+/// The root `#foo`, if it is one node without ids and descendants.
+fn foo(ast: &Ast) -> Option<&AstNode> {
+    match ast.root() {
+        [foo] if foo.match_ids.iter().next().is_none() && foo.descendants.is_empty() => Some(foo),
+        _ => None,
+    }
+}
+
+/// Whether the pairs are those of the first text alone: nodes of the second have no ids.
+fn are_first_pairs(ast: &Ast) -> bool {
+    let Some(foo) = foo(ast) else {
+        return false;
+    };
+    let (Some(div), Some(span)) = (foo.children.first(), foo.children.get(1)) else {
+        return false;
+    };
+    is_leaf(div, 0)
+        && is_leaf(span, 0)
+        && foo.children[2..]
+            .iter()
+            .all(|node| has(&node.match_ids, &[]))
+        && ast.cumulative_node_count() == foo.children.len() + 1
+}
+
+fn are_all_pairs(ast: &Ast) -> bool {
+    let Some(foo) = foo(ast) else {
+        return false;
+    };
+    let [div, span, first_class, second_class] = foo.children.as_slice() else {
+        return false;
+    };
+    is_leaf(div, 0)
+        && is_leaf(span, 0)
+        && is_leaf(first_class, 1)
+        && is_leaf(second_class, 1)
+        && ast.cumulative_node_count() == 5
+}
+
+pub fn add_selector(alloc: Global) -> Result<Met, Stop> {
+    let mut ast = Ast::new(alloc);
+    ast.add_selector(&read(alloc, "#foo > div, #foo > span")?, 0)?;
+    let second = read(alloc, "#foo > .c1, #foo > .c2")?;
+    for met in TURNS {
+        if ast.add_selector(&second, 1).is_ok() {
+            expect(are_all_pairs(&ast))?;
+            matches_children_of_foo(alloc, ast)?;
+            return Ok(met);
+        }
+        expect(are_first_pairs(&ast))?;
+    }
+    Err(Stop::Wrong)
+}
+
+/// Stops where the reports aren't those of both texts: `#foo` with a `div.c1` and a `p.c2` inside.
+fn matches_children_of_foo(alloc: Global, ast: Ast) -> Result<(), Stop> {
+    let foo = attribute(alloc, b"id=foo", 2)?;
+    let class = attribute(alloc, b"class=c1", 5)?;
+    matches_with(alloc, ast, &foo, &class)
+}
+
+fn matches_with<'i>(
+    alloc: Global,
+    ast: Ast,
+    foo: &'i AttributeBuffer,
+    class: &'i AttributeBuffer,
+) -> Result<(), Stop> {
+    let (Ok(section), Ok(div), Ok(p)) = (
+        start(b"section", b"id=foo", foo),
+        start(b"div", b"class=c1", class),
+        start(b"p", b"class=c2", class),
+    ) else {
+        return Err(Stop::Wrong);
+    };
+    let events = [section, div, TagEvent::End { name: b"div" }, p];
+    let wanted: [(&[u32], bool); 4] = [(&[], true), (&[0, 1], true), (&[1], false), (&[1], true)];
+    matches_in_turn(alloc, ast, &events, &wanted)
+}
+
+/// One attribute, whose name is so long and whose value is the rest of the input.
+pub fn attribute(alloc: Global, input: &[u8], name_len: usize) -> Result<AttributeBuffer, Stop> {
+    let name = Range {
+        start: 0,
+        end: name_len,
+    };
+    let value = Some(Range {
+        start: name_len.saturating_add(1),
+        end: input.len(),
+    });
+    let mut attributes = AttributeBuffer::new(alloc);
+    let outline = AttributeOutline {
+        name,
+        value,
+        raw_range: name,
+    };
+    match attributes.push(outline) {
+        Ok(()) => Ok(attributes),
+        Err(_) => Err(Stop::Own),
+    }
+}
+
+/// `.a p` refused under 0, then `p` under 1: a start tag `p` reports 1 alone, and asks exactly if the node `.a` stands.
+pub fn add_selector_refused(alloc: Global) -> Result<Met, Stop> {
+    let mut ast = Ast::new(alloc);
+    let first = read(alloc, ".a p")?;
+    let second = read(alloc, "p")?;
+    let met = match ast.add_selector(&first, 0) {
+        Ok(()) => Met::Nothing,
+        Err(_) => Met::Refusal,
+    };
+    ast.add_selector(&second, 1)?;
+    let stands = ast.root().len() == 2;
+    expect(stands || met == Met::Refusal)?;
+    let none = AttributeBuffer::new(alloc);
+    let events = [start(b"p", b"", &none)?];
+    matches_in_turn(alloc, ast, &events, &[(&[1], stands)])?;
+    Ok(met)
+}
