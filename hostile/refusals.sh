@@ -1,12 +1,14 @@
 #!/bin/sh
 # Refuses each request for memory in turn: of every scenario of crates/lol_refusals, and of lol_match over the scripts of examples/.
 #
-# Run it at the top of the repository; it wants a C compiler (cc), and the two programs built:
+# Run it at the top of the repository; it wants a C compiler (cc) and glibc, and the two programs built:
 #     (cd crates/lol_refusals && rt run < /dev/null) && (cd crates/lol_match && rt run < /dev/null)
 #     sh hostile/refusals.sh
 #
-# A place is a request that was refused while the scenario's call was made: then the scenario answered out of memory, what has to stand stood,
-# and the same call with memory answered exactly. "Own" are refused requests of the scenario itself, before or after the call.
+# One run refuses one request, the first, the second, and so on until a run meets none. It is told for each scenario how many of them were
+#   refused: out of memory was answered, what has to stand stood, and the same call with memory answered exactly;
+#   done without: the answer was exact all the same (an arena that takes a smaller chunk, a limit that is met too);
+#   own: the scenario asked for the memory itself, before or after its calls.
 # It ends with 1 where an answer or a state was wrong.
 set -u
 folder=$(mktemp -d)
@@ -24,49 +26,57 @@ run() {
 }
 
 complain() {
-    echo "$1: request $2: $3"
+    echo "$1: request $2: status $3"
     wrong=1
 }
 
 # The scenario that the file $folder/name names.
 scenario() {
-    places=0
+    refused=0
+    without=0
     own=0
     number=1
-    while :; do
-        run "$number" "$refusals" "$folder/name"
-        if [ "$count" -lt "$number" ]; then
-            [ "$status" -eq 0 ] || complain "$1" "none" "status $status"
-            break
-        fi
+    run "$number" "$refusals" "$folder/name"
+    while [ "$count" -ge "$number" ]; do
         case $status in
-            3) places=$((places + 1)) ;;
+            0) without=$((without + 1)) ;;
+            3) refused=$((refused + 1)) ;;
             5) own=$((own + 1)) ;;
-            *) complain "$1" "$number" "status $status" ;;
+            *) complain "$1" "$number" "$status" ;;
         esac
         number=$((number + 1))
+        run "$number" "$refusals" "$folder/name"
     done
-    echo "$1: $places places, $own own"
+    [ "$status" -eq 0 ] || complain "$1" "none" "$status"
+    echo "$1: $refused refused, $without done without, $own own"
 }
 
-# A script: its run is either as it is without a refusal, or out of memory with nothing written.
+# A script: its run is out of memory with nothing written, or as it is without a refusal.
 script() {
     run 0 "$match" "$1"
-    places=$count
+    cp "$folder/output" "$folder/whole"
+    ended=$status
+    refused=0
+    without=0
     number=1
-    while [ "$number" -le "$places" ]; do
-        run "$number" "$match" "$1"
-        if [ "$status" -ne 3 ] || [ -s "$folder/output" ] || [ "$(cat "$folder/errors")" != "lol_match: out of memory" ]; then
-            complain "$1" "$number" "status $status"
+    run "$number" "$match" "$1"
+    while [ "$count" -ge "$number" ]; do
+        if [ "$status" -eq 3 ] && [ ! -s "$folder/output" ] && [ "$(cat "$folder/errors")" = "lol_match: out of memory" ]; then
+            refused=$((refused + 1))
+        elif [ "$status" -eq "$ended" ] && cmp -s "$folder/output" "$folder/whole"; then
+            without=$((without + 1))
+        else
+            complain "$1" "$number" "$status"
         fi
         number=$((number + 1))
+        run "$number" "$match" "$1"
     done
-    echo "$1: $places places"
+    echo "$1: $refused refused, $without done without"
 }
 
 : > "$folder/all"
 run 0 "$refusals" "$folder/all"
-[ "$status" -eq 0 ] || complain "all scenarios" "none" "status $status"
+[ "$status" -eq 0 ] || complain "all scenarios" "none" "$status"
 cut -d: -f1 "$folder/output" > "$folder/names"
 while read -r name; do
     echo "$name" > "$folder/name"

@@ -46,6 +46,7 @@ __attribute__((destructor)) static void write_count(void)
 {
     const char *path = getenv("REFUSE_COUNT");
     unsigned long count = requests;
+    refused_request = 0;
     FILE *file = path ? fopen(path, "w") : NULL;
     if (file) {
         fprintf(file, "%lu\n", count);

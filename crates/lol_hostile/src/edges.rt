@@ -1,0 +1,165 @@
+//! Ids, drops, limits and lines at their edges.
+
+ghost use Rattle.std.specs.Prelude.{◌≡◌, []};
+ghost use Rattle.lol_vm.specs.Views.{HasRangesInside};
+
+use crate::runs::{expect_run, run_on};
+use lol_script::Status;
+use lol_vm::{
+    Ast, AttributeBuffer, AuxStartTagInfo, Bytes, Namespace, RunCause, Selector,
+    SharedMemoryLimiter, TagEvent, match_events,
+};
+use std::alloc::Global;
+use std::process::Abort;
+use std::test::Fail;
+
+/// Lines of a script, each of them some times.
+fn lines(alloc: Global, parts: &[(&str, u32)]) -> Result<String, Fail> {
+    let mut text = String::new(alloc);
+    for (line, count) in parts {
+        for _ in 0..*count {
+            text.push_str(line)?;
+        }
+    }
+    Ok(text)
+}
+
+fn expect_lines(
+    rt: &impl Abort,
+    alloc: Global,
+    script: &[(&str, u32)],
+    status: Status,
+    output: &[(&str, u32)],
+) -> Result<(), Fail> {
+    let script = lines(alloc, script)?;
+    let output = lines(alloc, output)?;
+    expect_run(rt, alloc, script.as_bytes(), status, output.as_bytes());
+    Ok(())
+}
+
+const EVERY: (&str, u32) = ("select\t0\t*\n", 1);
+
+const OPENED: &str = "start\thtml\td\n";
+
+const REFUSED: (&str, u32) = ("refused limit\n", 1);
+
+#[test]
+fn limits_are_met_at_their_edges(rt: HostRuntime) -> Result<(), Fail> {
+    for (limit, opened) in [
+        ("limit\t511\n", 0),
+        ("limit\t1023\n", 8),
+        ("limit\t1024\n", 16),
+        ("limit\t2047\n", 16),
+        ("limit\t2048\n", 32),
+    ] {
+        let script = [(limit, 1), EVERY, (OPENED, opened + 1)];
+        let output = [("start\t0\n", opened), REFUSED];
+        expect_lines(&rt, rt.alloc(), &script, Status::Refused, &output)?;
+        let script = [(limit, 1), EVERY, (OPENED, opened)];
+        let output = [("start\t0\n", opened)];
+        expect_lines(&rt, rt.alloc(), &script, Status::Good, &output)?;
+    }
+    Ok(())
+}
+
+#[test]
+fn void_elements_are_not_charged(rt: HostRuntime) -> Result<(), Fail> {
+    let void = "start\thtml\tbr\n";
+    for (limit, opened) in [("limit\t512\n", 8), ("limit\t0\n", 0)] {
+        let script = [(limit, 1), EVERY, (OPENED, opened), (void, 3)];
+        let output = [("start\t0\n", opened), ("start\t0/\n", 3)];
+        expect_lines(&rt, rt.alloc(), &script, Status::Good, &output)?;
+    }
+    Ok(())
+}
+
+#[test]
+fn ids_go_to_a_million_and_beyond(rt: HostRuntime) {
+    expect_run(
+        &rt,
+        rt.alloc(),
+        b"select\t1000000\tp\nselect\t64\tp\nselect\t31\tp\nselect\t63\tp\nselect\t32\tp\nstart\thtml\tp\n",
+        Status::Good,
+        b"start\t31,32,63,64,1000000\n",
+    );
+}
+
+#[test]
+fn dropped_tags_are_dropped_where_they_ask(rt: HostRuntime) {
+    expect_run(
+        &rt,
+        rt.alloc(),
+        b"select\t0\tdiv.a\nselect\t1\tp\ndrop\thtml\tp\ndrop\thtml\tdiv\tclass=a\nend\tdiv\nend\tp\n",
+        Status::Good,
+        b"start\t1\ndropped\nend\t-\nend\t0\n",
+    );
+}
+
+#[test]
+fn lines_past_their_edges_are_bad(rt: HostRuntime) {
+    let rows: [(&[u8], &[u8]); 5] = [
+        (b"limit\t18446744073709551616\n", b"bad line 1: form\n"),
+        (b"select\t4294967296\tp\n", b"bad line 1: form\n"),
+        (b"end\tp\nselect\t0\tp\n", b"bad line 2: form\n"),
+        (b"esi\nselect\t0\t\xff\n", b"bad line 2: form\n"),
+        (b"select\t0\t\xc3", b"bad line 1: form\n"),
+    ];
+    for (script, output) in rows {
+        expect_run(&rt, rt.alloc(), script, Status::BadLine, output);
+    }
+    let script = b"limit\t18446744073709551615\nselect\t4294967295\tp\n";
+    expect_run(&rt, rt.alloc(), script, Status::Good, b"");
+}
+
+/// A `:not` inside another, 128 deep, is passed by an `a` and by nothing else.
+#[test]
+fn functions_nest_to_their_bound(rt: HostRuntime) -> Result<(), Fail> {
+    let tags = "a\nstart\thtml\ta\nstart\thtml\tb\n";
+    let script = lines(rt.alloc(), &[("select\t0\t", 1), (":not(", 128), (tags, 1)])?;
+    let output = b"start\t0\nstart\t-\n";
+    expect_run(&rt, rt.alloc(), script.as_bytes(), Status::Good, output);
+    let script = lines(rt.alloc(), &[("select\t0\t", 1), (":not(", 129), (tags, 1)])?;
+    let (outcome, written) = run_on(rt.alloc(), script.as_bytes());
+    assert!(rt; outcome == Ok(Status::BadLine));
+    assert!(rt; written.as_slice() == b"bad line 1: UnsupportedSyntax\n".as_slice());
+    Ok(())
+}
+
+fn start<'i>(name: &'i [u8], none: &'i AttributeBuffer) -> TagEvent<'i>
+    ensures ranges { none.now.items ≡ [] → HasRangesInside result }
+{
+    TagEvent::Start {
+        name,
+        ns: Namespace::Html,
+        aux_info: AuxStartTagInfo {
+            input: Bytes::new(name),
+            attr_buffer: none,
+            self_closing: false,
+        },
+        finish: true,
+    }
+}
+
+/// One element is charged for 512 bytes; 100 are in use before.
+#[test]
+fn usage_before_a_run_counts(rt: HostRuntime) -> Result<(), Fail> {
+    let alloc = rt.alloc();
+    for (maximum, fits) in [(611, false), (612, true)] {
+        let mut ast = Ast::new(alloc);
+        ast.add_selector(&Selector::from_str(alloc, "*")?, 0)?;
+        let none = AttributeBuffer::new(alloc);
+        let events = [start(b"d", &none)];
+        let mut limiter = SharedMemoryLimiter::new(maximum);
+        assert!(rt; limiter.increase_usage(100).is_ok());
+        let fitted = match match_events(alloc, ast, 64, false, &events, &mut limiter) {
+            Ok(reports) => reports.len() == 1,
+            Err(refusal) => {
+                assert_eq!(rt; refusal.cause, RunCause::MemoryLimitExceeded);
+                assert!(rt; refusal.event == 0 && refusal.reports.is_empty());
+                false
+            }
+        };
+        assert_eq!(rt; (fitted, limiter.current_usage()), (fits, 100));
+    }
+    Ok(())
+}

@@ -1,0 +1,120 @@
+//! Texts at the edge of the grammar.
+
+use lol_css::{
+    AttrSelectorOperator, CssString, NthChild, ParsedCaseSensitivity, Selector, SelectorError,
+    SelectorsParser, SimpleSelector,
+};
+use lol_program::Ast;
+use std::alloc::{AllocError, Global};
+use std::process::Abort;
+use std::test::Fail;
+
+/// Expects a text to be one part alone.
+fn expect_part(rt: &impl Abort, alloc: Global, text: &str, part: &SimpleSelector) {
+    let list = SelectorsParser::parse(alloc, text).expect(rt, "a list");
+    let [item] = list.items.as_slice() else {
+        assert!(rt; false, "{text}");
+        return;
+    };
+    assert!(rt;
+        item.rest.is_empty() && item.first.parts.as_slice().len() == 1,
+        "{text}"
+    );
+    assert!(rt; item.first.parts.first() == Some(part), "{text}");
+}
+
+fn equals(alloc: Global, value: &str) -> Result<SimpleSelector, AllocError> {
+    Ok(SimpleSelector::AttributeComparison {
+        name: CssString::new(alloc, "a")?,
+        value: CssString::new(alloc, value)?,
+        operator: AttrSelectorOperator::Equal,
+        case_sensitivity: ParsedCaseSensitivity::CaseSensitive,
+    })
+}
+
+#[test]
+fn escapes_and_unclosed_strings_are_read(rt: HostRuntime) -> Result<(), Fail> {
+    let alloc = rt.alloc();
+    let replaced = SimpleSelector::LocalName(CssString::new(alloc, "\u{fffd}")?);
+    for text in ["\\", "\\110000", "\\0", "\\D800", "\u{0}"] {
+        expect_part(&rt, alloc, text, &replaced);
+    }
+    let id = SimpleSelector::ID(CssString::new(alloc, "\u{fffd}")?);
+    expect_part(&rt, alloc, "#\\0", &id);
+    expect_part(&rt, alloc, "[a=\"\\", &equals(alloc, "")?);
+    expect_part(&rt, alloc, "[a=\"x\\\ny\"]", &equals(alloc, "xy")?);
+    Ok(())
+}
+
+#[test]
+fn progressions_at_the_edge_are_read(rt: HostRuntime) -> Result<(), Fail> {
+    for (text, step, offset) in [
+        (":nth-child(-2147483648n-2147483648)", i32::MIN, i32::MIN),
+        (":nth-child(2147483647n+2147483647)", i32::MAX, i32::MAX),
+        (":nth-child(+n)", 1, 0),
+        (":nth-child(-n-1)", -1, -1),
+        (":nth-child(EVEN)", 2, 0),
+    ] {
+        let nth = NthChild::new(step, offset);
+        let part = SimpleSelector::Nth {
+            of_type: false,
+            nth,
+        };
+        expect_part(&rt, rt.alloc(), text, &part);
+    }
+    Ok(())
+}
+
+#[test]
+fn hostile_texts_have_their_causes(rt: HostRuntime) {
+    for (text, cause) in [
+        ("[a=\"x\ny\"]", SelectorError::UnexpectedTokenInAttribute),
+        ("#1a", SelectorError::EmptySelector),
+        ("a#1", SelectorError::UnexpectedToken),
+        ("a #1", SelectorError::DanglingCombinator),
+        (".1a", SelectorError::EmptySelector),
+        ("a.1b", SelectorError::UnexpectedToken),
+        ("-->", SelectorError::EmptySelector),
+        ("a/**/b", SelectorError::UnexpectedToken),
+        (":not(a]", SelectorError::UnexpectedToken),
+        (":nth-child(n-2147483649)", SelectorError::UnexpectedToken),
+        (":nth-child(n+2147483648)", SelectorError::UnexpectedToken),
+        (":nth-child(2e1n)", SelectorError::UnexpectedToken),
+        (":nth-child(1.0)", SelectorError::UnexpectedToken),
+        (":nth-child(--n)", SelectorError::UnexpectedToken),
+        ("a + b c ~ d", SelectorError::UnsupportedCombinator('~')),
+        ("a + .", SelectorError::UnexpectedEnd),
+    ] {
+        let refusal = SelectorsParser::parse(rt.alloc(), text).err();
+        assert_eq!(rt; refusal, Some(cause), "{text}");
+    }
+}
+
+/// Expects a text to be read, and to make so many nodes.
+fn expect_nodes(rt: &impl Abort, alloc: Global, text: &str, count: usize) -> Result<(), Fail> {
+    let mut ast = Ast::new(alloc);
+    ast.add_selector(&Selector::from_str(alloc, text)?, 0)?;
+    assert_eq!(rt; ast.cumulative_node_count(), count, "{text}");
+    Ok(())
+}
+
+#[test]
+fn texts_make_their_nodes(rt: HostRuntime) -> Result<(), Fail> {
+    for (text, count) in [
+        ("a-->b", 2),
+        ("a/* b", 1),
+        ("\\D800 a", 1),
+        ("a\u{0}b", 1),
+        (":not(a", 1),
+        ("[foo", 1),
+    ] {
+        expect_nodes(&rt, rt.alloc(), text, count)?;
+    }
+    let mut text = String::from_str(rt.alloc(), "a")?;
+    for _ in 1..1024u32 {
+        text.push_str(" a")?;
+    }
+    expect_nodes(&rt, rt.alloc(), text.as_str(), 1024)?;
+    text.push_str(" ")?;
+    expect_nodes(&rt, rt.alloc(), text.as_str(), 1024)
+}
