@@ -1,4 +1,5 @@
 pub mod NameOrder
 pub mod NameBlocks
 pub mod NameChanges
+pub mod NameMaps
 pub mod Refusals

@@ -9,7 +9,7 @@ use Rattle.std.specs.declared.cmp.Ordering.TheVariants.{Less, Equal, Greater}
 use Rattle.std.specs.Ordering.{is_lt}
 use Rattle.lol_base.specs.LocalNames.{Name, same_local_name, local_name_cmp}
 use Rattle.lol_names.specs.NameBlocks.{joined, block_at, AllFilled, value_of, AllBelow, AllAbove, AreAscending, AreBlocks, begins_above, is_named, before, from, Stands, IsMissing}
-use Rattle.lol_names.specs.declared.name_map.NamePlace.{NamePlace}
+use Rattle.lol_names.specs.declared.name_blocks.BlockPlace.{BlockPlace}
 use Rattle.lol_names.proofs.NameOrder.{all_above-append, all_above-back, all_above-below, all_above-same, all_below-append, all_below-above, all_below-same, ascending-back, ascending-front, ascending-below, ascending-above, found-missing, found-back, tested-same, same-flip, same-tested, above-other, above-flip}
 
 -- 1. Lists of lists
@@ -96,7 +96,7 @@ is_less a b h =
     elim (local_name_cmp a b) as (λ o. is_lt o ≡ true → o ≡ Less) [ Less ↦ λ e. refl | Equal ↦ λ e. cc | Greater ↦ λ e. cc ] h
 
 module _ {V : Type 0} where
-  pub round-missing : (blocks : List (List (Name × V))) (place : NamePlace) → joined blocks ≡ before blocks place ++ from blocks place 0
+  pub round-missing : (blocks : List (List (Name × V))) (place : BlockPlace) → joined blocks ≡ before blocks place ++ from blocks place 0
   round-missing blocks place =
       let block = block_at blocks place.block in
       let later = joined (drop 1 (drop place.block blocks)) in
@@ -105,7 +105,7 @@ module _ {V : Type 0} where
       ∙ (ap (λ xs. joined (take place.block blocks) ++ xs) (append-assoc (take place.at block) (drop place.at block) later)
       ∙ sym (append-assoc (joined (take place.block blocks)) (take place.at block) (drop place.at block ++ later))))
 
-  pub round-entry : (blocks : List (List (Name × V))) (place : NamePlace) (e : Name × V) → slice_get (block_at blocks place.block) place.at ≡ Some e
+  pub round-entry : (blocks : List (List (Name × V))) (place : BlockPlace) (e : Name × V) → slice_get (block_at blocks place.block) place.at ≡ Some e
       → joined blocks ≡ before blocks place ++ e ∷ from blocks place 1
   round-entry blocks place e at =
       round-missing blocks place
@@ -229,7 +229,7 @@ module _ {V : Type 0} where
             subst (λ rest. AllAbove name (joined rest)) (ap (λ n. drop (suc n) (map items bs)) (sym one) ∙ sym (drop-one b (map items bs))) later,
           )
 
-  pub stands_at : (name : Name) (blocks : List (List (Name × V))) (place : NamePlace) (block : List (Name × V)) → AreBlocks blocks
+  pub stands_at : (name : Name) (blocks : List (List (Name × V))) (place : BlockPlace) (block : List (Name × V)) → AreBlocks blocks
       → slice_get blocks place.block ≡ Some block
       → AllBelow name (joined (take place.block blocks)) × AllAbove name (joined (drop 1 (drop place.block blocks)))
       → place.at ≤ length block → ((d : Name × V) → 0 < place.at → local_name_cmp (slice_index_or block (place.at - 1) d).0 name ≡ Less)
@@ -250,7 +250,7 @@ module _ {V : Type 0} where
             (all_above-append name (drop 1 (drop place.at block)) (joined (drop 1 (drop place.block blocks))) (names_above name block place.at e.0 ascending e.1 e.2) round.1);
       }
 
-  pub missing_at : (name : Name) (blocks : List (List (Name × V))) (place : NamePlace) (block : List (Name × V)) → AreBlocks blocks
+  pub missing_at : (name : Name) (blocks : List (List (Name × V))) (place : BlockPlace) (block : List (Name × V)) → AreBlocks blocks
       → slice_get blocks place.block ≡ Some block
       → AllBelow name (joined (take place.block blocks)) × AllAbove name (joined (drop 1 (drop place.block blocks)))
       → place.at ≤ length block → ((d : Name × V) → 0 < place.at → local_name_cmp (slice_index_or block (place.at - 1) d).0 name ≡ Less)
@@ -271,7 +271,7 @@ module _ {V : Type 0} where
       }
 
   -- the entry of a place, read by its two indices
-  pub read_at : {B : Type 0} (items : B → List (Name × V)) (bs : List B) (place : NamePlace) (block : B) (e : Name × V) (found : Name × V)
+  pub read_at : {B : Type 0} (items : B → List (Name × V)) (bs : List B) (place : BlockPlace) (block : B) (e : Name × V) (found : Name × V)
       → slice_get (block_at (map items bs) place.block) place.at ≡ Some found
       → block ≡ slice_index_or bs place.block block → e ≡ slice_index_or (items block) place.at e → found ≡ e
   read_at {B = B} items bs place block e found at block_read read =
@@ -289,13 +289,13 @@ module _ {V : Type 0} where
 
   -- 4. What names find
 
-  pub value-stands : (blocks : List (List (Name × V))) (name : Name) (place : NamePlace) (s : Stands blocks name place) → value_of blocks name ≡ Some s.entry.1
+  pub value-stands : (blocks : List (List (Name × V))) (name : Name) (place : BlockPlace) (s : Stands blocks name place) → value_of blocks name ≡ Some s.entry.1
   value-stands blocks name place s =
       ap (lookup (same_local_name name)) (round-entry blocks place s.entry s.at)
       ∙ (found-back name (before blocks place) (s.entry ∷ from blocks place 1) s.below
       ∙ ap (λ same. cond same (Some s.entry.1) (lookup (same_local_name name) (from blocks place 1))) (tested-same name s.entry.0 (same-flip s.entry.0 name s.same)))
 
-  pub value-missing : (blocks : List (List (Name × V))) (name : Name) (place : NamePlace) → IsMissing blocks name place → value_of blocks name ≡ None
+  pub value-missing : (blocks : List (List (Name × V))) (name : Name) (place : BlockPlace) → IsMissing blocks name place → value_of blocks name ≡ None
   value-missing blocks name place m =
       ap (lookup (same_local_name name)) (round-missing blocks place) ∙ found-missing name (before blocks place) (from blocks place 0) m.below m.above
 

@@ -11,7 +11,7 @@ use Rattle.std.specs.Map.{lookup}
 use Rattle.std.specs.declared.cmp.Ordering.TheVariants.{Equal}
 use Rattle.lol_base.specs.LocalNames.{Name, same_local_name, local_name_cmp}
 use Rattle.lol_names.specs.NameBlocks.{joined, block_at, AllFilled, AllBelow, AllAbove, AreAscending, AreBlocks, before, from, Stands, IsPutAt, IsSamePlace}
-use Rattle.lol_names.specs.declared.name_map.NamePlace.{NamePlace}
+use Rattle.lol_names.specs.declared.name_blocks.BlockPlace.{BlockPlace}
 use Rattle.lol_names.proofs.NameOrder.{ascending-below, ascending-above, ascending-without, ascending-with, found-with, found-missing, same-alike, same-flip, same-tested, all_above-same, all_below-same}
 use Rattle.lol_names.proofs.NameBlocks.{block_is, append-assoc, joined-append, split-at, take-drop, filled-set}
 
@@ -144,7 +144,7 @@ module _ {V : Type 0} where
       ∙ sym (append-assoc (joined pre) xs (ys ++ joined post)))
 
   -- an entry, with what stands before it and after it
-  pub record Around (blocks : List (List (Name × V))) (place : NamePlace) (e : Name × V) : Type 0 where
+  pub record Around (blocks : List (List (Name × V))) (place : BlockPlace) (e : Name × V) : Type 0 where
     pub pre : List (List (Name × V))
     pub post : List (List (Name × V))
     pub xs : List (Name × V)
@@ -153,7 +153,7 @@ module _ {V : Type 0} where
     pub place_is : place ≡ record { block = length pre; at = length xs }
 
   -- the same where no entry stands
-  pub record Between (blocks : List (List (Name × V))) (place : NamePlace) : Type 0 where
+  pub record Between (blocks : List (List (Name × V))) (place : BlockPlace) : Type 0 where
     pub pre : List (List (Name × V))
     pub post : List (List (Name × V))
     pub xs : List (Name × V)
@@ -161,7 +161,7 @@ module _ {V : Type 0} where
     pub is : blocks ≡ pre ++ (xs ++ ys) ∷ post
     pub place_is : place ≡ record { block = length pre; at = length xs }
 
-  abbrev pub around_from : (blocks : List (List (Name × V))) (place : NamePlace) (block : List (Name × V)) (e : Name × V)
+  abbrev pub around_from : (blocks : List (List (Name × V))) (place : BlockPlace) (block : List (Name × V)) (e : Name × V)
       → slice_get blocks place.block ≡ Some block → slice_get block place.at ≡ Some e → Around blocks place e
   around_from blocks place block e at found =
       let a = at_from blocks place.block block at in
@@ -175,7 +175,7 @@ module _ {V : Type 0} where
         place_is = λ i. record { block = a.place i; at = inside.place i };
       }
 
-  abbrev pub between_from : (blocks : List (List (Name × V))) (place : NamePlace) (block : List (Name × V))
+  abbrev pub between_from : (blocks : List (List (Name × V))) (place : BlockPlace) (block : List (Name × V))
       → slice_get blocks place.block ≡ Some block → place.at ≤ length block → Between blocks place
   between_from blocks place block at within =
       let a = at_from blocks place.block block at in
@@ -189,25 +189,25 @@ module _ {V : Type 0} where
         place_is = λ i. record { block = a.place i; at = length_is i };
       }
 
-  pub before-around : (blocks : List (List (Name × V))) (place : NamePlace) (e : Name × V) (a : Around blocks place e) → before blocks place ≡ joined a.pre ++ a.xs
+  pub before-around : (blocks : List (List (Name × V))) (place : BlockPlace) (e : Name × V) (a : Around blocks place e) → before blocks place ≡ joined a.pre ++ a.xs
   before-around blocks place e a =
       (λ i. before (a.is i) (a.place_is i)) ∙ (before-at a.pre (a.xs ++ e ∷ a.ys) a.post (length a.xs) ∙ ap (λ es. joined a.pre ++ es) (take-front a.xs (e ∷ a.ys)))
 
-  pub from-around : (blocks : List (List (Name × V))) (place : NamePlace) (e : Name × V) (a : Around blocks place e) → from blocks place 1 ≡ a.ys ++ joined a.post
+  pub from-around : (blocks : List (List (Name × V))) (place : BlockPlace) (e : Name × V) (a : Around blocks place e) → from blocks place 1 ≡ a.ys ++ joined a.post
   from-around blocks place e a =
       (λ i. from (a.is i) (a.place_is i) 1) ∙ (from-at a.pre (a.xs ++ e ∷ a.ys) a.post (length a.xs) 1 ∙ ap (λ es. drop 1 es ++ joined a.post) (drop-front a.xs (e ∷ a.ys)))
 
-  pub at-around : (blocks : List (List (Name × V))) (place : NamePlace) (e : Name × V) → Around blocks place e → slice_get (block_at blocks place.block) place.at ≡ Some e
+  pub at-around : (blocks : List (List (Name × V))) (place : BlockPlace) (e : Name × V) → Around blocks place e → slice_get (block_at blocks place.block) place.at ≡ Some e
   at-around blocks place e a =
       (λ i. slice_get (block_at (a.is i) (a.place_is i).block) (a.place_is i).at)
       ∙ (ap (λ o. slice_get (unwrap_or o []) (length a.xs)) (get-front a.pre (a.xs ++ e ∷ a.ys) a.post) ∙ get-front a.xs e a.ys)
 
-  pub joined-around : (blocks : List (List (Name × V))) (place : NamePlace) (e : Name × V) (a : Around blocks place e)
+  pub joined-around : (blocks : List (List (Name × V))) (place : BlockPlace) (e : Name × V) (a : Around blocks place e)
       → joined blocks ≡ (joined a.pre ++ a.xs) ++ e ∷ (a.ys ++ joined a.post)
   joined-around blocks place e a = ap joined a.is ∙ joined-round a.pre a.xs (e ∷ a.ys) a.post
 
   -- another entry in its place
-  abbrev pub around-set : (blocks : List (List (Name × V))) (place : NamePlace) (block : List (Name × V)) (e y : Name × V)
+  abbrev pub around-set : (blocks : List (List (Name × V))) (place : BlockPlace) (block : List (Name × V)) (e y : Name × V)
       → slice_get blocks place.block ≡ Some block → slice_get block place.at ≡ Some e
       → Around (slice_set blocks place.block (slice_set block place.at y)) place y
   around-set blocks place block e y at found =
@@ -251,7 +251,7 @@ module _ {V : Type 0} where
 
   -- 4. Another value
 
-  pub blocks-set : (blocks : List (List (Name × V))) (place : NamePlace) (block : List (Name × V)) (e : Name × V) (v : V)
+  pub blocks-set : (blocks : List (List (Name × V))) (place : BlockPlace) (block : List (Name × V)) (e : Name × V) (v : V)
       → slice_get blocks place.block ≡ Some block → slice_get block place.at ≡ Some e → AreBlocks blocks
       → AreBlocks (slice_set blocks place.block (slice_set block place.at (e.0, v)))
   blocks-set blocks place block e v at found are =
@@ -269,7 +269,7 @@ module _ {V : Type 0} where
         filled = filled-set blocks place.block (slice_set block place.at (e.0, v)) filled are.filled;
       }
 
-  pub stands-set : (blocks : List (List (Name × V))) (place : NamePlace) (block : List (Name × V)) (e : Name × V) (v : V) (name : Name)
+  pub stands-set : (blocks : List (List (Name × V))) (place : BlockPlace) (block : List (Name × V)) (e : Name × V) (v : V) (name : Name)
       → slice_get blocks place.block ≡ Some block → slice_get block place.at ≡ Some e → (s : Stands blocks name place) → s.entry ≡ e
       → Stands (slice_set blocks place.block (slice_set block place.at (e.0, v))) name place
   stands-set blocks place block e v name at found s is =
@@ -284,7 +284,7 @@ module _ {V : Type 0} where
         above = subst (AllAbove name) (from-around blocks place e a ∙ sym (from-around new place (e.0, v) n)) s.above;
       }
 
-  pub value-set : (blocks : List (List (Name × V))) (place : NamePlace) (block : List (Name × V)) (e : Name × V) (v : V) (name : Name)
+  pub value-set : (blocks : List (List (Name × V))) (place : BlockPlace) (block : List (Name × V)) (e : Name × V) (v : V) (name : Name)
       → slice_get blocks place.block ≡ Some block → slice_get block place.at ≡ Some e → AreBlocks blocks → local_name_cmp e.0 name ≡ Equal
       → IsPutAt name (Some v) blocks (slice_set blocks place.block (slice_set block place.at (e.0, v)))
   value-set blocks place block e v name at found are same q =
@@ -309,12 +309,12 @@ module _ {V : Type 0} where
       ∙ sym (append-assoc (joined pre) xs (ys ++ joined post))))
 
   -- the names but one, however they stand in blocks
-  pub record IsWithout (blocks : List (List (Name × V))) (place : NamePlace) (e : Name × V) (new : List (List (Name × V))) : Type 0 where
+  pub record IsWithout (blocks : List (List (Name × V))) (place : BlockPlace) (e : Name × V) (new : List (List (Name × V))) : Type 0 where
     pub around : Around blocks place e
     pub is : joined new ≡ (joined around.pre ++ around.xs) ++ (around.ys ++ joined around.post)
     pub filled : AllFilled blocks → AllFilled new
 
-  pub without-one : (blocks : List (List (Name × V))) (place : NamePlace) (block : List (Name × V)) (e : Name × V)
+  pub without-one : (blocks : List (List (Name × V))) (place : BlockPlace) (block : List (Name × V)) (e : Name × V)
       → slice_get blocks place.block ≡ Some block → slice_get block place.at ≡ Some e → 0 < length (remove block place.at)
       → IsWithout blocks place e (slice_set blocks place.block (remove block place.at))
   without-one blocks place block e at found some =
@@ -331,7 +331,7 @@ module _ {V : Type 0} where
         filled = filled-set blocks place.block (remove block place.at) some;
       }
 
-  pub without-block : (blocks : List (List (Name × V))) (place : NamePlace) (block : List (Name × V)) (e : Name × V)
+  pub without-block : (blocks : List (List (Name × V))) (place : BlockPlace) (block : List (Name × V)) (e : Name × V)
       → slice_get blocks place.block ≡ Some block → slice_get block place.at ≡ Some e → length (remove block place.at) ≡ 0
       → IsWithout blocks place e (remove (slice_set blocks place.block (remove block place.at)) place.block)
   without-block blocks place block e at found none =
@@ -351,7 +351,7 @@ module _ {V : Type 0} where
             subst AllFilled (sym left) (filled-append a.pre a.post (filled-front a.pre (block ∷ a.post) whole) (filled-back a.pre (block ∷ a.post) whole).1);
       }
 
-  pub blocks-without : (blocks : List (List (Name × V))) (place : NamePlace) (e : Name × V) (new : List (List (Name × V))) → IsWithout blocks place e new → AreBlocks blocks → AreBlocks new
+  pub blocks-without : (blocks : List (List (Name × V))) (place : BlockPlace) (e : Name × V) (new : List (List (Name × V))) → IsWithout blocks place e new → AreBlocks blocks → AreBlocks new
   blocks-without blocks place e new w are =
       let old = subst AreAscending (joined-around blocks place e w.around) are.ascending in
       record {
@@ -359,7 +359,7 @@ module _ {V : Type 0} where
         filled = w.filled are.filled;
       }
 
-  pub value-without : (blocks : List (List (Name × V))) (place : NamePlace) (e : Name × V) (new : List (List (Name × V))) (name : Name) → IsWithout blocks place e new
+  pub value-without : (blocks : List (List (Name × V))) (place : BlockPlace) (e : Name × V) (new : List (List (Name × V))) (name : Name) → IsWithout blocks place e new
       → AreBlocks blocks → local_name_cmp e.0 name ≡ Equal → IsPutAt name None blocks new
   value-without blocks place e new name w are same q =
       let old = subst AreAscending (joined-around blocks place e w.around) are.ascending in
@@ -371,11 +371,11 @@ module _ {V : Type 0} where
 
   -- 6. A name that comes
 
-  pub before-between : (blocks : List (List (Name × V))) (place : NamePlace) (a : Between blocks place) → before blocks place ≡ joined a.pre ++ a.xs
+  pub before-between : (blocks : List (List (Name × V))) (place : BlockPlace) (a : Between blocks place) → before blocks place ≡ joined a.pre ++ a.xs
   before-between blocks place a =
       (λ i. before (a.is i) (a.place_is i)) ∙ (before-at a.pre (a.xs ++ a.ys) a.post (length a.xs) ∙ ap (λ es. joined a.pre ++ es) (take-front a.xs a.ys))
 
-  pub from-between : (blocks : List (List (Name × V))) (place : NamePlace) (a : Between blocks place) → from blocks place 0 ≡ a.ys ++ joined a.post
+  pub from-between : (blocks : List (List (Name × V))) (place : BlockPlace) (a : Between blocks place) → from blocks place 0 ≡ a.ys ++ joined a.post
   from-between blocks place a =
       (λ i. from (a.is i) (a.place_is i) 0) ∙ (from-at a.pre (a.xs ++ a.ys) a.post (length a.xs) 0 ∙ ap (λ es. es ++ joined a.post) (drop-front a.xs a.ys))
 
@@ -383,7 +383,7 @@ module _ {V : Type 0} where
   insert-between xs ys e = (λ i. take-front xs ys i ++ e ∷ drop-front xs ys i)
 
   -- the names with one more, between those that stood before its place and after it
-  pub joined-with : (blocks : List (List (Name × V))) (place : NamePlace) (block : List (Name × V)) (e : Name × V)
+  pub joined-with : (blocks : List (List (Name × V))) (place : BlockPlace) (block : List (Name × V)) (e : Name × V)
       → slice_get blocks place.block ≡ Some block → place.at ≤ length block
       → joined (slice_set blocks place.block (insert block place.at e)) ≡ before blocks place ++ e ∷ from blocks place 0
   joined-with blocks place block e at within =
@@ -472,7 +472,7 @@ module _ {V : Type 0} where
   within-pre blocks pre block post b is place = omega (arith, ap length is, place, length-append pre (block ∷ post))
 
   -- a place in the lower half
-  pub lower-place : (blocks : List (List (Name × V))) (place : NamePlace) (half : ℕ) (block : List (Name × V)) → slice_get blocks place.block ≡ Some block
+  pub lower-place : (blocks : List (List (Name × V))) (place : BlockPlace) (half : ℕ) (block : List (Name × V)) → slice_get blocks place.block ≡ Some block
       → half ≤ length block → place.at ≤ half
       → IsSamePlace blocks place (insert (slice_set blocks place.block (take half block)) (place.block + 1) (drop half block)) place
   lower-place blocks place half block at whole within =
@@ -496,7 +496,7 @@ module _ {V : Type 0} where
       }
 
   -- and one in the upper half
-  pub upper-place : (blocks : List (List (Name × V))) (place : NamePlace) (half : ℕ) (block : List (Name × V)) → slice_get blocks place.block ≡ Some block
+  pub upper-place : (blocks : List (List (Name × V))) (place : BlockPlace) (half : ℕ) (block : List (Name × V)) → slice_get blocks place.block ≡ Some block
       → half ≤ length block → half ≤ place.at → place.at ≤ length block
       → IsSamePlace blocks place (insert (slice_set blocks place.block (take half block)) (place.block + 1) (drop half block)) (record { block = place.block + 1; at = place.at - half })
   upper-place blocks place half block at whole above within =
@@ -527,7 +527,7 @@ module _ {V : Type 0} where
 
   -- 8. What two indices read
 
-  pub there : {B : Type 0} (items : B → List (Name × V)) (bs : List B) (place : NamePlace) (block : B) → place.at < length (block_at (map items bs) place.block)
+  pub there : {B : Type 0} (items : B → List (Name × V)) (bs : List B) (place : BlockPlace) (block : B) → place.at < length (block_at (map items bs) place.block)
       → block ≡ slice_index_or bs place.block block → slice_get (map items bs) place.block ≡ Some (items block)
   there items bs place block within read = first items bs place.block place.at block within read
     where
@@ -537,7 +537,7 @@ module _ {V : Type 0} where
       first items (b ∷ bs) zero n block within read = ap (λ x. Some (items x)) (sym read)
       first items (b ∷ bs) (suc k) n block within read = first items bs k n block within read
 
-  pub entry_there : {B : Type 0} (items : B → List (Name × V)) (bs : List B) (place : NamePlace) (block : B) (e : Name × V) → place.at < length (block_at (map items bs) place.block)
+  pub entry_there : {B : Type 0} (items : B → List (Name × V)) (bs : List B) (place : BlockPlace) (block : B) (e : Name × V) → place.at < length (block_at (map items bs) place.block)
       → block ≡ slice_index_or bs place.block block → e ≡ slice_index_or (items block) place.at e → slice_get (items block) place.at ≡ Some e
   entry_there items bs place block e within block_read read =
       let whole : block_at (map items bs) place.block ≡ items block = ap (λ o. unwrap_or o []) (there items bs place block within block_read) in
@@ -550,6 +550,6 @@ module _ {V : Type 0} where
   pub same_block : (found : Option (List (Name × V))) (xs ys : List (Name × V)) → found ≡ Some xs → found ≡ Some ys → xs ≡ ys
   same_block found xs ys a b = let is : Some xs ≡ Some ys = sym a ∙ b in cc
 
-  pub place_in : (old shown left new : List (List (Name × V))) (place moved : NamePlace) → old ≡ shown → new ≡ left → IsSamePlace old place left moved → IsSamePlace shown place new moved
+  pub place_in : (old shown left new : List (List (Name × V))) (place moved : BlockPlace) → old ≡ shown → new ≡ left → IsSamePlace old place left moved → IsSamePlace shown place new moved
   place_in old shown left new place moved was is same =
       subst (λ blocks. IsSamePlace blocks place new moved) was (subst (λ blocks. IsSamePlace old place blocks moved) (sym is) same)

@@ -1,1 +1,2 @@
 pub mod NameBlocks
+pub mod NameMaps

@@ -4,7 +4,7 @@ use Rattle.std.specs.Map.{lookup}
 use Rattle.std.specs.declared.cmp.Ordering.TheVariants.{Less, Equal}
 use Rattle.std.specs.Ordering.{is_lt}
 use Rattle.lol_base.specs.LocalNames.{Name, same_local_name, local_name_cmp}
-use Rattle.lol_names.specs.declared.name_map.NamePlace.{NamePlace}
+use Rattle.lol_names.specs.declared.name_blocks.BlockPlace.{BlockPlace}
 
 -- the lists, one after another
 abbrev pub joined : {A : Type 0} → List (List A) → List A
@@ -51,15 +51,15 @@ module _ {V : Type 0} where
   is_named (Some e) name = same_local_name e.0 name
 
   -- what stands before a place
-  abbrev pub before : List (List (Name × V)) → NamePlace → List (Name × V)
+  abbrev pub before : List (List (Name × V)) → BlockPlace → List (Name × V)
   before blocks place = joined (take place.block blocks) ++ take place.at (block_at blocks place.block)
 
   -- what stands from a place on, without the next n of its block
-  abbrev pub from : List (List (Name × V)) → NamePlace → ℕ → List (Name × V)
+  abbrev pub from : List (List (Name × V)) → BlockPlace → ℕ → List (Name × V)
   from blocks place n = drop n (drop place.at (block_at blocks place.block)) ++ joined (drop 1 (drop place.block blocks))
 
   -- the name stands at the place
-  pub record Stands (blocks : List (List (Name × V))) (name : Name) (place : NamePlace) : Type 0 where
+  pub record Stands (blocks : List (List (Name × V))) (name : Name) (place : BlockPlace) : Type 0 where
     pub entry : Name × V
     pub at : slice_get (block_at blocks place.block) place.at ≡ Some entry
     pub same : local_name_cmp entry.0 name ≡ Equal
@@ -67,7 +67,7 @@ module _ {V : Type 0} where
     pub above : AllAbove name (from blocks place 1)
 
   -- the name stands nowhere, and would stand at the place
-  pub record IsMissing (blocks : List (List (Name × V))) (name : Name) (place : NamePlace) : Type 0 where
+  pub record IsMissing (blocks : List (List (Name × V))) (name : Name) (place : BlockPlace) : Type 0 where
     pub inside : 0 < length blocks → place.block < length blocks
     pub within : place.at ≤ length (block_at blocks place.block)
     pub below : AllBelow name (before blocks place)
@@ -78,7 +78,7 @@ module _ {V : Type 0} where
   IsPutAt name value old new = (q : Name) → value_of new q ≡ (if same_local_name name q then value else value_of old q)
 
   -- the same stands before a place and after it
-  pub record IsSamePlace (old : List (List (Name × V))) (place : NamePlace) (new : List (List (Name × V))) (moved : NamePlace) : Type 0 where
+  pub record IsSamePlace (old : List (List (Name × V))) (place : BlockPlace) (new : List (List (Name × V))) (moved : BlockPlace) : Type 0 where
     pub block : moved.block < length new
     pub within : moved.at ≤ length (block_at new moved.block)
     pub earlier : before new moved ≡ before old place

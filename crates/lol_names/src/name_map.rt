@@ -1,103 +1,107 @@
 //! Values by the names of elements.
 
-ghost use Rattle.std.specs.Prelude.{◌≡◌, ℕ, ◌<◌, ◌≤◌, ◌-◌, ◌+◌, [], true, false, length, MatchResult, slice_get, slice_index_or, OnOk, OnErr, IfOk, IfErr, Some, None};
+ghost use Rattle.std.specs.Prelude.{◌≡◌, ◌<◌, ◌≤◌, length, MatchResult, OnOk, OnErr, IfOk, IfErr, Some, None};
 ghost use Rattle.std.specs.Option.{option_copied};
-ghost use Rattle.std.specs.declared.cmp.Ordering.TheVariants.{Less};
-ghost use Rattle.lol_base.specs.LocalNames.{Name, local_name_cmp};
-ghost use Rattle.std.specs.Ordering.{is_lt};
-ghost use Rattle.lol_names.specs.NameBlocks.{begins_above, is_named, value_of, joined, block_at, Stands, IsMissing, IsPutAt, IsSamePlace};
+ghost use Rattle.lol_base.specs.LocalNames.{Name};
+ghost use Rattle.lol_names.specs.NameMaps.{slot_of, in_slot, no_names, value_of, Stands, IsTaken, IsMissing, IsPutAt};
+ghost use Rattle.lol_names.specs.NameBlocks.{is_named};
 
+use crate::name_blocks::{BlockPlace, NameBlocks};
 use lol_base::LocalName;
 use std::alloc::{AllocError, Global};
 use std::marker::Model;
 
-/// How many names a block has at most.
-const BLOCK_LEN: usize = 64;
+/// How many slots a map has.
+const SLOT_COUNT: usize = 64;
 
-/// Values by name. The names stand in ascending order, in blocks of up to `BLOCK_LEN`. A search takes two
-/// binary searches, in either case of ASCII; a name that comes or goes moves the names of its block alone, and
-/// where the block was full or had no other name, the list of blocks too.
+/// Values by name. Each name has one of `SLOT_COUNT` slots, by the last bits of its code (all names without a code have the last
+/// one), and stands there where the slot was free when it came; otherwise it stands among the ordered blocks. So most names are
+/// found by one comparison, and none at more than two binary searches besides, whichever names a page's author picks. A name that is
+/// taken out leaves nothing, and a slot's name moves no other. The slots take memory with the first name.
 #[derive(Drop)]
 pub struct NameMap<V> {
-    blocks: Vec<Vec<(LocalName<'static>, V)>>,
-    alloc: Global,
+    slots: Vec<Option<(LocalName<'static>, V)>>,
+    overflow: NameBlocks<V>,
 }
 
 impl<V> Model for NameMap<V> {
-    ghost use Rattle.std.specs.Prelude.{List, map};
-    ghost use Rattle.lol_base.specs.LocalNames.{Name};
+    ghost use Rattle.lol_names.specs.NameMaps.{SlottedNames, AreApart};
 
-    ghost Value = { List (List (Name × V)) };
+    ghost Value = { SlottedNames V };
 
-    ghost use Rattle.lol_names.specs.NameBlocks.{AreBlocks};
+    ghost view = { λ m. record { slots = m.slots.items; overflow = m.overflow } };
 
-    ghost view = { λ m. map (λ block. block.items) m.blocks.items };
-
-    ghost invariant = { λ m. AreBlocks (map (λ block. block.items) m.blocks.items) };
+    ghost invariant = { λ m. AreApart m.slots.items m.overflow };
 }
 
-/// Where a name stands, or would.
+/// Where a name stands, or would: in its slot, or in the blocks.
 #[derive(Clone, Copy)]
-pub struct NamePlace {
-    block: usize,
-    at: usize,
+pub enum NamePlace {
+    Slot(usize),
+    Overflow(BlockPlace),
 }
 
 impl<V> NameMap<V> {
+    /// No names. It takes no memory.
     pub fn new(alloc: Global) -> Self
-        ensures { result ≡ [] }
+        ensures { result ≡ no_names }
     {
         NameMap {
-            blocks: Vec::new(alloc),
-            alloc,
+            slots: Vec::new(alloc),
+            overflow: NameBlocks::new(alloc),
         }
     }
 
     /// Where a name stands, or else where it would.
+    #[inline]
     pub fn search<'s, 'i: 's>(&'s self, name: &LocalName<'i>) -> Result<NamePlace, NamePlace>
         ensures place { MatchResult result (Stands self.now name.now) (IsMissing self.now name.now) }
+        ensures taken { IfOk result (IsTaken self.now) }
         ensures missing { IfErr result (λ _. value_of self.now name.now ≡ None) }
     {
-        let blocks: &[Vec<(LocalName<'i>, V)>] = self.blocks.as_slice();
-        let block = block_for(blocks, name);
-        let Some(names) = blocks.get(block) else {
-            return Err(NamePlace { block: 0, at: 0 });
-        };
-        let at = names_below(names, name);
-        let place = NamePlace { block, at };
-        if is_at(names, at, name) {
-            Ok(place)
-        } else {
-            Err(place)
+        let slot = slot_of(name);
+        let in_slot: Option<&(LocalName<'i>, V)> = in_slot(self.slots.as_slice(), slot);
+        if is_named(in_slot, name) {
+            return Ok(NamePlace::Slot(slot));
+        }
+        match self.overflow.search(name) {
+            Ok(place) => Ok(NamePlace::Overflow(place)),
+            Err(_) if in_slot.is_none() => Err(NamePlace::Slot(slot)),
+            Err(place) => Err(NamePlace::Overflow(place)),
         }
     }
 
     /// Puts another value at a place, and answers the one that was there.
+    #[inline]
     pub fn replace(&mut self, place: NamePlace, value: V) -> V
-        requires { place.at < length (block_at self.old place.block) }
+        requires { IsTaken self.old place }
         ensures was { (name : Name) → Stands self.old name place → value_of self.old name ≡ Some result }
         ensures stands { (name : Name) → Stands self.old name place → Stands self.new name place }
+        ensures taken { IsTaken self.new place }
         ensures is { (name : Name) → Stands self.old name place → IsPutAt name (Some value) self.old self.new }
     {
-        let block = &mut self.blocks[place.block];
-        std::mem::replace(&mut block[place.at].1, value)
+        match place {
+            NamePlace::Slot(slot) => replace_value(&mut self.slots[slot], value),
+            NamePlace::Overflow(place) => self.overflow.replace(place, value),
+        }
     }
 
     /// Takes the name at a place out.
+    #[inline]
     pub fn remove(&mut self, place: NamePlace)
     where
         V: Drop,
-        requires { place.at < length (block_at self.old place.block) }
+        requires { IsTaken self.old place }
         ensures { (name : Name) → Stands self.old name place → IsPutAt name None self.old self.new }
     {
-        let block = &mut self.blocks[place.block];
-        block.remove(place.at);
-        if block.is_empty() {
-            self.blocks.remove(place.block);
+        match place {
+            NamePlace::Slot(slot) => self.slots[slot] = None,
+            NamePlace::Overflow(place) => self.overflow.remove(place),
         }
     }
 
     /// Puts a name that stands nowhere at the place that a search gave. Refused, each name has the value that it had.
+    #[inline]
     pub fn insert(
         &mut self,
         place: NamePlace,
@@ -108,121 +112,88 @@ impl<V> NameMap<V> {
         V: Drop,
         requires { IsMissing self.old name place }
         ensures ok { OnOk result (IsPutAt name.entry (Some value) self.old self.new) }
-        ensures err { OnErr result (joined self.new ≡ joined self.old) }
+        ensures err { (q : Name) → OnErr result (value_of self.new q ≡ value_of self.old q) }
     {
-        if self.blocks.is_empty() {
-            let mut block: Vec<(LocalName<'static>, V)> = Vec::new(self.alloc);
-            block.push((name, value))?;
-            self.blocks.push(block)?;
-            return Ok(());
+        match place {
+            NamePlace::Slot(slot) => {
+                make_slots(&mut self.slots)?;
+                self.slots[slot] = Some((name, value));
+                Ok(())
+            }
+            NamePlace::Overflow(place) => self.overflow.insert(place, name, value),
         }
-        let place = self.make_room(place)?;
-        self.blocks[place.block].insert(place.at, (name, value))?;
-        Ok(())
-    }
-
-    /// Halves the block of a place where it is full, and answers where the place is then.
-    fn make_room(&mut self, place: NamePlace) -> Result<NamePlace, AllocError>
-    where
-        V: Drop,
-        requires inside { place.block < length self.old }
-        requires within { place.at ≤ length (block_at self.old place.block) }
-        ensures joined { joined self.new ≡ joined self.old }
-        ensures ok { IfOk result (λ new. IsSamePlace self.old place self.new new) }
-    {
-        if self.blocks[place.block].len() < BLOCK_LEN {
-            return Ok(place);
-        }
-        self.blocks.reserve(1)?;
-        let upper = self.blocks[place.block].split_off(BLOCK_LEN / 2)?;
-        self.blocks.insert(place.block + 1, upper)?;
-        if place.at <= BLOCK_LEN / 2 {
-            return Ok(place);
-        }
-        Ok(NamePlace {
-            block: place.block + 1,
-            at: place.at - BLOCK_LEN / 2,
-        })
     }
 
     /// The value of a name.
+    #[inline]
     pub fn get<'s, 'i: 's>(&'s self, name: &LocalName<'i>) -> Option<&'s V>
         ensures { option_copied result ≡ value_of self.now name.now }
     {
-        match self.search(name) {
-            Ok(place) => Some(&self.blocks[place.block][place.at].1),
-            Err(_) => None,
+        let in_slot: Option<&(LocalName<'i>, V)> = in_slot(self.slots.as_slice(), slot_of(name));
+        match in_slot {
+            Some((found, value)) if found == name => Some(value),
+            _ => self.overflow.get(name),
         }
     }
 }
 
-/// The last block that doesn't begin above a name, or else the first. A single block isn't looked at.
+/// The slot of a name.
 #[inline]
-fn block_for<'i, V>(blocks: &[Vec<(LocalName<'i>, V)>], name: &LocalName<'i>) -> usize
-    ensures inside { 0 < length blocks.now → result < length blocks.now }
-    ensures sought { (p : ℕ) × (result ≡ p - 1) × ((d : _) → 0 < p → begins_above name.now (slice_index_or blocks.now (p - 1) d).items ≡ false)
-        × ((d : _) → p < length blocks.now → begins_above name.now (slice_index_or blocks.now p d).items ≡ true) }
+fn slot_of(name: &LocalName<'_>) -> usize
+    ensures is { result ≡ slot_of name.now }
+    ensures bound { result < 64 }
 {
-    if blocks.len() <= 1 {
-        return 0;
-    }
-    blocks_up_to(blocks, name).saturating_sub(1)
+    let code = name.code().unwrap_or(u64::MAX);
+    (code % 64) as usize
 }
 
-/// How many blocks don't begin above a name, up to the first that does.
-fn blocks_up_to<'i, V>(blocks: &[Vec<(LocalName<'i>, V)>], name: &LocalName<'i>) -> usize
-    ensures bound { result ≤ length blocks.now }
-    ensures before { (d : _) → 0 < result → begins_above name.now (slice_index_or blocks.now (result - 1) d).items ≡ false }
-    ensures after { (d : _) → result < length blocks.now → begins_above name.now (slice_index_or blocks.now result d).items ≡ true }
+/// What stands in a slot.
+#[inline]
+fn in_slot<'i, 's, V>(
+    slots: &'s [Option<(LocalName<'i>, V)>],
+    slot: usize,
+) -> Option<&'s (LocalName<'i>, V)>
+    ensures { option_copied result ≡ in_slot slots.now slot }
 {
-    let mut low = 0;
-    let mut high = blocks.len();
-    while low < high {
-        let middle = low + (high - low) / 2;
-        if begins_above(&blocks[middle], name) {
-            high = middle;
-        } else {
-            low = middle + 1;
-        }
-    }
-    low
-}
-
-/// Whether the first name of a block is above this one.
-fn begins_above<'i, V>(block: &[(LocalName<'i>, V)], name: &LocalName<'i>) -> bool
-    ensures { result ≡ begins_above name.now block.now }
-{
-    match block.first() {
-        Some((first, _)) => name < first,
-        None => false,
+    match slots.get(slot) {
+        Some(Some(entry)) => Some(entry),
+        _ => None,
     }
 }
 
-/// How many names of a block are below this one.
-fn names_below<'i, V>(names: &[(LocalName<'i>, V)], name: &LocalName<'i>) -> usize
-    ensures bound { result ≤ length names.now }
-    ensures before { (d : _) → 0 < result → local_name_cmp (slice_index_or names.now (result - 1) d).0 name.now ≡ Less }
-    ensures after { (d : _) → result < length names.now → is_lt (local_name_cmp (slice_index_or names.now result d).0 name.now) ≡ false }
+/// Whether what stands in a slot is this name's.
+#[inline]
+fn is_named<'i, V>(entry: Option<&(LocalName<'i>, V)>, name: &LocalName<'i>) -> bool
+    ensures { result ≡ is_named (option_copied entry.entry) name.now }
 {
-    let mut low = 0;
-    let mut high = names.len();
-    while low < high {
-        let middle = low + (high - low) / 2;
-        if names[middle].0 < *name {
-            low = middle + 1;
-        } else {
-            high = middle;
-        }
-    }
-    low
-}
-
-/// Whether this name stands at a place.
-fn is_at<'i, V>(names: &[(LocalName<'i>, V)], at: usize, name: &LocalName<'i>) -> bool
-    ensures { result ≡ is_named (slice_get names.now at) name.now }
-{
-    match names.get(at) {
+    match entry {
         Some((found, _)) => found == name,
         None => false,
     }
+}
+
+/// Puts another value at the name of a slot, and answers the one that was there.
+#[inline]
+fn replace_value<V>(entry: &mut Option<(LocalName<'static>, V)>, value: V) -> V
+    ensures was { (e : _) → entry.old ≡ Some e → result ≡ e.1 }
+    ensures is { (e : _) → entry.old ≡ Some e → entry.new ≡ Some (e.0, value) }
+{
+    match entry {
+        Some((_, kept)) => std::mem::replace(kept, value),
+        None => value,
+    }
+}
+
+/// Has as many slots as there are. Those that there were keep what stands in them, when it is refused too.
+#[inline]
+fn make_slots<V>(slots: &mut Vec<Option<(LocalName<'static>, V)>>) -> Result<(), AllocError>
+where
+    V: Drop,
+    ensures count { OnOk result (64 ≤ length slots.new.items) }
+    ensures kept { (slot : _) → in_slot slots.new.items slot ≡ in_slot slots.old.items slot }
+{
+    while slots.len() < SLOT_COUNT {
+        slots.push(None)?;
+    }
+    Ok(())
 }

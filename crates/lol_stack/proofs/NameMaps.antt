@@ -1,25 +1,17 @@
 -- Maps by name, looked up after a change.
-use Rattle.std.proofs.Common.{◌≡◌, ◌∙◌, sym, ap, refl, Bool, true, false, cond, List, [], ◌∷◌, Option, Some}
-use Rattle.std.specs.Map.{lookup}
-use Rattle.std.specs.Str.{bytes_eq}
+use Rattle.std.proofs.Common.{◌≡◌, ◌∙◌, sym, ap, refl, true, false, cond, Option, None}
 use Rattle.std.proofs.lemmas.Slice.Eq.{bytes_eq-Decides}
 use Rattle.lol_base.specs.LocalNames.{Name, same_local_name}
-use Rattle.lol_names.specs.NameBlocks.{value_of, joined, IsPutAt}
-
-lookup-congr : {K X : Type 0} (f g : K → Bool) → ((k : K) → f k ≡ g k) → (es : List (K × X)) → lookup f es ≡ lookup g es
-lookup-congr f g same [] = refl
-lookup-congr f g same (e ∷ es) =
-    ap (λ test. cond test (Some e.1) (lookup f es)) (same e.0) ∙ ap (λ found. cond (g e.0) (Some e.1) found) (lookup-congr f g same es)
+use Rattle.lol_names.specs.NameMaps.{SlottedNames, value_of, IsPutAt}
 
 module _ {V : Type 0} where
   -- equal names find the same
-  pub value-same : (m : List (List (Name × V))) (k q : Name) → same_local_name k q ≡ true → value_of m q ≡ value_of m k
+  pub value-same : (m : SlottedNames V) (k q : Name) → same_local_name k q ≡ true → value_of m q ≡ value_of m k
   value-same m k q same =
-      let bytes = (bytes_eq-Decides k.lowercased q.lowercased).0 same in
-      lookup-congr (same_local_name q) (same_local_name k) (λ e. ap (λ name. bytes_eq name e.lowercased) (sym bytes)) (joined m)
+      sym (ap (λ bytes. value_of m (record { lowercased = bytes; spelling = None })) ((bytes_eq-Decides k.lowercased q.lowercased).0 same))
 
   -- of two values that are put at one name, the second stays
-  pub put-twice : (l m n : List (List (Name × V))) (k : Name) (v w : Option V) → IsPutAt k v l m → IsPutAt k w m n → IsPutAt k w l n
+  pub put-twice : (l m n : SlottedNames V) (k : Name) (v w : Option V) → IsPutAt k v l m → IsPutAt k w m n → IsPutAt k w l n
   put-twice l m n k v w first second q =
       second q
       ∙ (elim (same_local_name k q) as
@@ -30,7 +22,7 @@ module _ {V : Type 0} where
 
   module _ {B : Type 0} (read : Option V → B) where
     -- what is read from the values, after a change at one name that changes what is read there by f
-    pub read-put : (f : B → B) (m n : List (List (Name × V))) (k : Name) (w : Option V) → IsPutAt k w m n → read w ≡ f (read (value_of m k)) → (q : Name)
+    pub read-put : (f : B → B) (m n : SlottedNames V) (k : Name) (w : Option V) → IsPutAt k w m n → read w ≡ f (read (value_of m k)) → (q : Name)
         → read (value_of n q) ≡ cond (same_local_name k q) (f (read (value_of m q))) (read (value_of m q))
     read-put f m n k w put is q =
         ap read (put q)
@@ -41,7 +33,7 @@ module _ {V : Type 0} where
         ] refl
 
     -- and where nothing changes, since f changes nothing of what is read there
-    pub read-same : (f : B → B) (m : List (List (Name × V))) (k : Name) → f (read (value_of m k)) ≡ read (value_of m k) → (q : Name)
+    pub read-same : (f : B → B) (m : SlottedNames V) (k : Name) → f (read (value_of m k)) ≡ read (value_of m k) → (q : Name)
         → read (value_of m q) ≡ cond (same_local_name k q) (f (read (value_of m q))) (read (value_of m q))
     read-same f m k is q =
         elim (same_local_name k q) as
@@ -51,7 +43,7 @@ module _ {V : Type 0} where
         ] refl
 
     -- a change at one name that changes nothing of what is read there
-    pub read-kept : (m n : List (List (Name × V))) (k : Name) (w : Option V) → IsPutAt k w m n → read w ≡ read (value_of m k) → (q : Name)
+    pub read-kept : (m n : SlottedNames V) (k : Name) (w : Option V) → IsPutAt k w m n → read w ≡ read (value_of m k) → (q : Name)
         → read (value_of n q) ≡ read (value_of m q)
     read-kept m n k w put is q =
         ap read (put q)

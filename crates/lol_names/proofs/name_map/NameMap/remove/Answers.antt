@@ -1,85 +1,46 @@
-use Rattle.std.proofs.Common.{rules, ◌≡◌, ◌<◌, ◌∙◌, sym, ap, subst, None, map, length, cond}
+use Rattle.std.proofs.Common.{◌≡◌, ◌∙◌, ap, subst, None}
 use Rattle.std.specs.Prelude.{slice_set}
-use Rattle.std.specs.List.{remove}
-use Rattle.lol_base.specs.LocalNames.{Name, same_local_name, local_name_cmp}
-use Rattle.std.specs.declared.cmp.Ordering.TheVariants.{Equal}
-use Rattle.lol_names.specs.NameBlocks.{AreBlocks, Stands, block_at, value_of}
-use Rattle.lol_names.proofs.NameBlocks.{read_at}
-use Rattle.lol_names.proofs.NameChanges.{map-set, map-remove, there, entry_there, without-one, without-block, blocks-without, value-without}
+use Rattle.lol_names.specs.NameMaps.{value_of, IsPutAt, SlottedNames}
+use Rattle.lol_names.proofs.NameMaps.{slot-apart, slot-put, slot-stands, slot-removed, overflow-stands, overflow-within, blocks-apart}
+use Rattle.lol_names.proofs.name_map.NameMap.remove.Goals.{in-Some-1, in-None-1}
 use Rattle.lol_names.proofs.name_map.NameMap.remove.Goals as goal
 
 pub invariant_of-self : goal.invariant_of-self
 invariant_of-self g c =
-    let bs = c.self.inside.blocks.items in
-    let place = c.args.place in
-    let block = c.index_mut-block.result.now in
-    let e = c.remove.result in
-    let within = subst (λ blocks. place.at < length (block_at blocks place.block)) (sym c.self.view_is) c.requires in
-    let at = there (λ b. b.items) bs place block within c.index_mut-block.ensures.value in
-    let found = entry_there (λ b. b.items) bs place block e within c.index_mut-block.ensures.value c.remove.ensures.value in
-    let left : length c.remove.new.self.items ≡ 0 = search rules in
-    let none = ap length (sym c.remove.ensures.items) ∙ left in
-    let without = without-block (map (λ b. b.items) bs) place block.items e at found none in
-    let is =
-    ap (map (λ b. b.items)) c.remove-then-is_empty.ensures.items
-    ∙ (map-remove (λ b. b.items) (slice_set bs place.block c.remove.new.self) place.block
-    ∙ ap (λ blocks. remove blocks place.block) (map-set (λ b. b.items) bs place.block c.remove.new.self ∙ ap (slice_set (map (λ b. b.items) bs) place.block) c.remove.ensures.items)) in
-    subst AreBlocks (sym is) (blocks-without (map (λ b. b.items) bs) place e _ without c.self.invariant)
+    let slots = c.self.inside.slots.items in
+    let overflow = c.self.inside.overflow in
+    let slot = c.in-Slot.slot in
+    let name = c.requires.0 in
+    let s = slot-stands c.args.self.now slots overflow c.args.place slot name c.self.view_is c.in-Slot.is c.requires.1 in
+    slot-apart slots overflow slot name None None (slot-removed slots overflow slot name c.self.invariant s) c.self.invariant
 
-pub invariant_of-self-else-is_empty : goal.invariant_of-self-else-is_empty
-invariant_of-self-else-is_empty g c =
-    let bs = c.self.inside.blocks.items in
-    let place = c.args.place in
-    let block = c.index_mut-block.result.now in
-    let e = c.remove.result in
-    let within = subst (λ blocks. place.at < length (block_at blocks place.block)) (sym c.self.view_is) c.requires in
-    let at = there (λ b. b.items) bs place block within c.index_mut-block.ensures.value in
-    let found = entry_there (λ b. b.items) bs place block e within c.index_mut-block.ensures.value c.remove.ensures.value in
-    let left : 0 < length c.remove.new.self.items = search rules in
-    let some = subst (λ es. 0 < length es) c.remove.ensures.items left in
-    let without = without-one (map (λ b. b.items) bs) place block.items e at found some in
-    let is = map-set (λ b. b.items) bs place.block c.remove.new.self ∙ ap (slice_set (map (λ b. b.items) bs) place.block) c.remove.ensures.items in
-    subst AreBlocks (sym is) (blocks-without (map (λ b. b.items) bs) place e _ without c.self.invariant)
+pub remove-requires : goal.remove-requires
+remove-requires g c =
+    let overflow = c.self.inside.overflow in
+    let at = c.in-Overflow.place in
+    let name = c.requires.0 in
+    let s = overflow-stands c.args.self.now c.self.inside.slots.items overflow c.args.place at name c.self.view_is c.in-Overflow.is c.requires.1 in
+    overflow-within overflow at name s.1
 
-pub returns-then-is_empty : goal.returns-then-is_empty
-returns-then-is_empty g c name stands q =
-    let bs = c.self.inside.blocks.items in
-    let place = c.args.place in
-    let block = c.index_mut-block.result.now in
-    let e = c.remove.result in
-    let within = subst (λ blocks. place.at < length (block_at blocks place.block)) (sym c.self.view_is) c.requires in
-    let at = there (λ b. b.items) bs place block within c.index_mut-block.ensures.value in
-    let found = entry_there (λ b. b.items) bs place block e within c.index_mut-block.ensures.value c.remove.ensures.value in
-    let left : length c.remove.new.self.items ≡ 0 = search rules in
-    let none = ap length (sym c.remove.ensures.items) ∙ left in
-    let without = without-block (map (λ b. b.items) bs) place block.items e at found none in
-    let is =
-    ap (map (λ b. b.items)) c.remove-then-is_empty.ensures.items
-    ∙ (map-remove (λ b. b.items) (slice_set bs place.block c.remove.new.self) place.block
-    ∙ ap (λ blocks. remove blocks place.block) (map-set (λ b. b.items) bs place.block c.remove.new.self ∙ ap (slice_set (map (λ b. b.items) bs) place.block) c.remove.ensures.items)) in
-    let s = subst (λ blocks. Stands blocks name place) (sym c.self.view_is) stands in
-    let read = read_at (λ b. b.items) bs place block e s.entry s.at c.index_mut-block.ensures.value c.remove.ensures.value in
-    let same : local_name_cmp e.0 name ≡ Equal = ap (λ (x : Name × g.row.V.Denot). local_name_cmp x.0 name) (sym read) ∙ s.same in
-    ap (λ blocks. value_of blocks q) is
-    ∙ (value-without (map (λ b. b.items) bs) place e _ name without c.self.invariant same q
-    ∙ (λ i. cond (same_local_name name q) None (value_of (c.self.view_is i) q)))
+pub invariant_of-self-in-Overflow : goal.invariant_of-self-in-Overflow
+invariant_of-self-in-Overflow g c =
+    let slots = c.self.inside.slots.items in
+    let overflow = c.self.inside.overflow in
+    let name = c.requires.0 in
+    let s = overflow-stands c.args.self.now slots overflow c.args.place c.in-Overflow.place name c.self.view_is c.in-Overflow.is c.requires.1 in
+    blocks-apart slots overflow c.remove.new.self name None s.0 (c.remove.ensures name s.1) c.self.invariant
 
-pub returns-else-is_empty : goal.returns-else-is_empty
-returns-else-is_empty g c name stands q =
-    let bs = c.self.inside.blocks.items in
-    let place = c.args.place in
-    let block = c.index_mut-block.result.now in
-    let e = c.remove.result in
-    let within = subst (λ blocks. place.at < length (block_at blocks place.block)) (sym c.self.view_is) c.requires in
-    let at = there (λ b. b.items) bs place block within c.index_mut-block.ensures.value in
-    let found = entry_there (λ b. b.items) bs place block e within c.index_mut-block.ensures.value c.remove.ensures.value in
-    let left : 0 < length c.remove.new.self.items = search rules in
-    let some = subst (λ es. 0 < length es) c.remove.ensures.items left in
-    let without = without-one (map (λ b. b.items) bs) place block.items e at found some in
-    let is = map-set (λ b. b.items) bs place.block c.remove.new.self ∙ ap (slice_set (map (λ b. b.items) bs) place.block) c.remove.ensures.items in
-    let s = subst (λ blocks. Stands blocks name place) (sym c.self.view_is) stands in
-    let read = read_at (λ b. b.items) bs place block e s.entry s.at c.index_mut-block.ensures.value c.remove.ensures.value in
-    let same : local_name_cmp e.0 name ≡ Equal = ap (λ (x : Name × g.row.V.Denot). local_name_cmp x.0 name) (sym read) ∙ s.same in
-    ap (λ blocks. value_of blocks q) is
-    ∙ (value-without (map (λ b. b.items) bs) place e _ name without c.self.invariant same q
-    ∙ (λ i. cond (same_local_name name q) None (value_of (c.self.view_is i) q)))
+pub returns-in-Slot : goal.returns-in-Slot
+returns-in-Slot g c name stands q =
+    let slots = c.self.inside.slots.items in
+    let overflow = c.self.inside.overflow in
+    let slot = c.in-Slot.slot in
+    let s = slot-stands c.args.self.now slots overflow c.args.place slot name c.self.view_is c.in-Slot.is stands in
+    let new : SlottedNames g.row.V.Denot = record { slots = slice_set slots slot None; overflow = overflow } in
+    let put =
+    subst (λ (m : SlottedNames g.row.V.Denot). IsPutAt name None m new) c.self.view_is
+    (slot-put slots overflow slot name None None (slot-removed slots overflow slot name c.self.invariant s)) in
+    elim c.match-index_mut.branch [
+      | in-Some-1 w ↦ ap (λ (m : SlottedNames g.row.V.Denot). value_of m q) w.self-is ∙ put q
+      | in-None-1 w ↦ ap (λ (m : SlottedNames g.row.V.Denot). value_of m q) w.self-is ∙ put q
+    ]

@@ -1,57 +1,55 @@
-use Rattle.std.proofs.Common.{◌≡◌, ◌<◌, ◌∙◌, sym, ap, subst, Some, map, length, cond}
-use Rattle.std.specs.Prelude.{slice_get}
-use Rattle.std.specs.Vec.{with_item}
-use Rattle.lol_base.specs.LocalNames.{Name, same_local_name, local_name_cmp}
-use Rattle.std.specs.declared.cmp.Ordering.TheVariants.{Equal}
-use Rattle.lol_names.specs.NameBlocks.{AreBlocks, Stands, block_at, value_of}
-use Rattle.lol_names.proofs.NameBlocks.{read_at, value-stands}
-use Rattle.lol_names.proofs.NameChanges.{map-set, there, entry_there, blocks-set, stands-set, value-set}
+use Rattle.std.proofs.Common.{◌≡◌, ◌∙◌, sym, ap, subst, Some}
+use Rattle.std.specs.Prelude.{slice_set}
+use Rattle.lol_names.specs.NameMaps.{AreApart, Stands, IsPutAt, SlottedNames}
+use Rattle.lol_names.proofs.NameMaps.{slot-apart, slot-put, slot-stands, slot-replaced, slot-still, overflow-stands, overflow-within, blocks-apart}
 use Rattle.lol_names.proofs.name_map.NameMap.replace.Goals as goal
 
 pub invariant_of-self : goal.invariant_of-self
 invariant_of-self g c =
-    let bs = c.self.inside.blocks.items in
-    let place = c.args.place in
-    let block = c.index_mut-block.result.now in
-    let e = c.index_mut.result.now in
-    let within = subst (λ blocks. place.at < length (block_at blocks place.block)) (sym c.self.view_is) c.requires in
-    let at = there (λ b. b.items) bs place block within c.index_mut-block.ensures.value in
-    let found = entry_there (λ b. b.items) bs place block e within c.index_mut-block.ensures.value c.index_mut.ensures.value in
-    subst AreBlocks (sym (map-set (λ b. b.items) bs place.block _)) (blocks-set (map (λ b. b.items) bs) place block.items e c.replace.new.dest at found c.self.invariant)
+    let slots = c.self.inside.slots.items in
+    let overflow = c.self.inside.overflow in
+    let slot = c.in-Slot.slot in
+    let name = c.requires.0 in
+    let s = slot-stands c.args.self.now slots overflow c.args.place slot name c.self.view_is c.in-Slot.is c.requires.1 in
+    let put = slot-replaced slots overflow slot name c.index_mut.result.now c.replace_value.new.entry c.args.value s c.index_mut.ensures.value c.replace_value.ensures.is c.self.invariant in
+    slot-apart slots overflow slot name c.replace_value.new.entry (Some c.args.value) put c.self.invariant
 
-pub returns-clause-was : goal.returns-clause-was
-returns-clause-was g c name s =
-    let at = subst (λ blocks. slice_get (block_at blocks c.args.place.block) c.args.place.at ≡ Some s.entry) (sym c.self.view_is) s.at in
-    let read = read_at (λ b. b.items) c.self.inside.blocks.items c.args.place c.index_mut-block.result.now c.index_mut.result.now s.entry at c.index_mut-block.ensures.value c.index_mut.ensures.value in
-    value-stands c.args.self.now name c.args.place s ∙ ap Some (ap (λ (e : Name × g.row.V.Denot). e.1) read ∙ sym c.replace.ensures.value)
+pub replace-requires : goal.replace-requires
+replace-requires g c =
+    let overflow = c.self.inside.overflow in
+    let at = c.in-Overflow.place in
+    let name = c.requires.0 in
+    let s = overflow-stands c.args.self.now c.self.inside.slots.items overflow c.args.place at name c.self.view_is c.in-Overflow.is c.requires.1 in
+    overflow-within overflow at name s.1
 
-pub returns-clause-stands : goal.returns-clause-stands
-returns-clause-stands g c name stands =
-    let bs = c.self.inside.blocks.items in
-    let place = c.args.place in
-    let block = c.index_mut-block.result.now in
-    let e = c.index_mut.result.now in
-    let within = subst (λ blocks. place.at < length (block_at blocks place.block)) (sym c.self.view_is) c.requires in
-    let at = there (λ b. b.items) bs place block within c.index_mut-block.ensures.value in
-    let found = entry_there (λ b. b.items) bs place block e within c.index_mut-block.ensures.value c.index_mut.ensures.value in
-    let s = subst (λ blocks. Stands blocks name place) (sym c.self.view_is) stands in
-    let read = read_at (λ b. b.items) bs place block e s.entry s.at c.index_mut-block.ensures.value c.index_mut.ensures.value in
-    subst (λ blocks. Stands blocks name place) (sym (map-set (λ b. b.items) bs place.block _))
-    (stands-set (map (λ b. b.items) bs) place block.items e c.replace.new.dest name at found s read)
+pub invariant_of-self-in-Overflow : goal.invariant_of-self-in-Overflow
+invariant_of-self-in-Overflow g c =
+    let slots = c.self.inside.slots.items in
+    let overflow = c.self.inside.overflow in
+    let name = c.requires.0 in
+    let s = overflow-stands c.args.self.now slots overflow c.args.place c.in-Overflow.place name c.self.view_is c.in-Overflow.is c.requires.1 in
+    blocks-apart slots overflow c.replace.new.self name (Some c.args.value) s.0 (c.replace.ensures.is name s.1) c.self.invariant
 
-pub returns-clause-is : goal.returns-clause-is
-returns-clause-is g c name stands =
-    let bs = c.self.inside.blocks.items in
-    let place = c.args.place in
-    let block = c.index_mut-block.result.now in
-    let e = c.index_mut.result.now in
-    let within = subst (λ blocks. place.at < length (block_at blocks place.block)) (sym c.self.view_is) c.requires in
-    let at = there (λ b. b.items) bs place block within c.index_mut-block.ensures.value in
-    let found = entry_there (λ b. b.items) bs place block e within c.index_mut-block.ensures.value c.index_mut.ensures.value in
-    let s = subst (λ blocks. Stands blocks name place) (sym c.self.view_is) stands in
-    let read = read_at (λ b. b.items) bs place block e s.entry s.at c.index_mut-block.ensures.value c.index_mut.ensures.value in
-    let same : local_name_cmp e.0 name ≡ Equal = ap (λ (x : Name × g.row.V.Denot). local_name_cmp x.0 name) (sym read) ∙ s.same in
-    (λ q.
-    ap (λ blocks. value_of blocks q) (map-set (λ b. b.items) bs place.block (with_item block place.at (e.0, c.replace.new.dest)))
-    ∙ (value-set (map (λ b. b.items) bs) place block.items e c.replace.new.dest name at found c.self.invariant same q
-    ∙ (λ i. cond (same_local_name name q) (Some (c.replace.ensures.after i)) (value_of (c.self.view_is i) q))))
+pub returns-in-Slot-clause-stands : goal.returns-in-Slot-clause-stands
+returns-in-Slot-clause-stands g c name stands =
+    let slots = c.self.inside.slots.items in
+    let overflow = c.self.inside.overflow in
+    let slot = c.in-Slot.slot in
+    let new : SlottedNames g.row.V.Denot = record { slots = slice_set slots slot c.replace_value.new.entry; overflow = overflow } in
+    let s = slot-stands c.args.self.now slots overflow c.args.place slot name c.self.view_is c.in-Slot.is stands in
+    subst (Stands new name) (sym c.in-Slot.is)
+    (slot-still slots overflow slot name c.index_mut.result.now c.replace_value.new.entry c.args.value s c.index_mut.ensures.value c.replace_value.ensures.is)
+
+pub returns-in-Slot-clause-taken : goal.returns-in-Slot-clause-taken
+returns-in-Slot-clause-taken g c = (c.requires.0, returns-in-Slot-clause-stands g c c.requires.0 c.requires.1)
+
+pub returns-in-Slot-clause-is : goal.returns-in-Slot-clause-is
+returns-in-Slot-clause-is g c name stands =
+    let slots = c.self.inside.slots.items in
+    let overflow = c.self.inside.overflow in
+    let slot = c.in-Slot.slot in
+    let new : SlottedNames g.row.V.Denot = record { slots = slice_set slots slot c.replace_value.new.entry; overflow = overflow } in
+    let s = slot-stands c.args.self.now slots overflow c.args.place slot name c.self.view_is c.in-Slot.is stands in
+    let put = slot-replaced slots overflow slot name c.index_mut.result.now c.replace_value.new.entry c.args.value s c.index_mut.ensures.value c.replace_value.ensures.is c.self.invariant in
+    subst (λ (m : SlottedNames g.row.V.Denot). IsPutAt name (Some c.args.value) m new) c.self.view_is
+    (slot-put slots overflow slot name c.replace_value.new.entry (Some c.args.value) put)

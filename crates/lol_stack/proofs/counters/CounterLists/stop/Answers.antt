@@ -1,13 +1,27 @@
-use Rattle.std.proofs.lemmas.Option.{slice_get_within}
-use Rattle.lol_names.specs.NameBlocks.{block_at}
+use Rattle.std.proofs.Common.{◌∙◌, sym, ap, Some, None}
+use Rattle.lol_stack.specs.Levels.{without_last}
+use Rattle.lol_stack.specs.CounterLists.{levels_if}
+use Rattle.lol_stack.proofs.NameMaps.{put-twice, read-put}
 use Rattle.lol_stack.proofs.counters.CounterLists.stop.Goals as goal
 
-pub replace-requires : goal.replace-requires
-replace-requires c =
-    let stands = c.replace-list.ensures.stands c.args.name.now c.in-Ok.ensures.place in
-    slice_get_within (block_at c.replace-list.new.self c.in-Ok.at.block) c.in-Ok.at.at stands.entry stands.at
+pub returns-then-pop : goal.returns-then-pop
+returns-then-pop c =
+    let name = c.args.name.now in
+    let stands = c.replace-list.ensures.stands name c.in-Ok.ensures.place in
+    let was = ap levels_if (c.replace-list.ensures.was name c.in-Ok.ensures.place) in
+    let put =
+    put-twice c.args.self.now.map c.replace-list.new.self c.replace.new.self name _ (Some c.pop.new.self)
+    (c.replace-list.ensures.is name c.in-Ok.ensures.place) (c.replace.ensures.is name stands)
+    in
+    read-put levels_if without_last c.args.self.now.map c.replace.new.self name (Some c.pop.new.self) put (c.if-pop.ensures ∙ sym (ap without_last was))
 
-pub remove-requires : goal.remove-requires
-remove-requires c =
-    let stands = c.replace-list.ensures.stands c.args.name.now c.in-Ok.ensures.place in
-    slice_get_within (block_at c.replace-list.new.self c.in-Ok.at.block) c.in-Ok.at.at stands.entry stands.at
+pub returns-else-pop : goal.returns-else-pop
+returns-else-pop c =
+    let name = c.args.name.now in
+    let stands = c.replace-list.ensures.stands name c.in-Ok.ensures.place in
+    let was = ap levels_if (c.replace-list.ensures.was name c.in-Ok.ensures.place) in
+    let gone =
+    put-twice c.args.self.now.map c.replace-list.new.self c.remove.new.self name _ None
+    (c.replace-list.ensures.is name c.in-Ok.ensures.place) (c.remove.ensures name stands)
+    in
+    read-put levels_if without_last c.args.self.now.map c.remove.new.self name None gone (sym (ap without_last was ∙ c.if-pop.ensures))

@@ -1,5 +1,5 @@
 use Rattle.std.proofs.Common.{◌∙◌, sym, ap, subst, Some, ◌++◌, ◌∷◌, []}
-use Rattle.lol_names.specs.NameBlocks.{IsPutAt}
+use Rattle.lol_names.specs.NameMaps.{IsPutAt}
 use Rattle.lol_stack.specs.declared.open_names.Places.TheVariants.{One}
 use Rattle.lol_stack.specs.OpenPlaces.{places_if}
 use Rattle.lol_stack.proofs.NameMaps.{put-twice, read-put, read-kept}
@@ -27,3 +27,20 @@ returns-in_ok-key-in-Err-clause-ok c q =
     read-put places_if (λ xs. xs ++ c.args.place ∷ []) c.args.self.now.map c.insert.new.self name (Some (One c.args.place))
     (subst (λ k. IsPutAt k (Some (One c.args.place)) c.args.self.now.map c.insert.new.self) c.in_ok-key-in-Err.ensures.same put)
     (ap (λ xs. xs ++ c.args.place ∷ []) (sym none)) q)
+
+pub returns-in-Ok-clause-ok : goal.returns-in-Ok-clause-ok
+returns-in-Ok-clause-ok c q =
+    let name = c.args.name.now in
+    let stands = c.replace-places.ensures.stands name c.in-Ok.ensures.place in
+    let was = ap places_if (c.replace-places.ensures.was name c.in-Ok.ensures.place) in
+    let put =
+    put-twice c.args.self.now.map c.replace-places.new.self c.replace.new.self name _ (Some c.push-added.new.self)
+    (c.replace-places.ensures.is name c.in-Ok.ensures.place) (c.replace.ensures.is name stands)
+    in
+    on_ok_then c.push-added.result c.push-added.ensures.ok
+    (λ added.
+    read-put places_if (λ xs. xs ++ c.args.place ∷ []) c.args.self.now.map c.replace.new.self name (Some c.push-added.new.self) put
+    (added ∙ ap (λ xs. xs ++ c.args.place ∷ []) (sym was)) q)
+
+pub returns-in_ok-key-in-Err-clause-err : goal.returns-in_ok-key-in-Err-clause-err
+returns-in_ok-key-in-Err-clause-err c q = on_err_then c.insert.result (c.insert.ensures.err q) (ap places_if)

@@ -1,6 +1,4 @@
-use Rattle.std.proofs.Common.{◌∙◌, sym, ap, None}
-use Rattle.std.proofs.lemmas.Option.{slice_get_within}
-use Rattle.lol_names.specs.NameBlocks.{block_at}
+use Rattle.std.proofs.Common.{◌∙◌, sym, ap, Some, None}
 use Rattle.lol_stack.specs.Levels.{without_last}
 use Rattle.lol_stack.specs.OpenPlaces.{places_if}
 use Rattle.lol_stack.proofs.NameMaps.{put-twice, read-put, read-same}
@@ -11,18 +9,16 @@ returns-in_default c =
     let none = ap places_if c.in_default.ensures.missing in
     read-same places_if without_last c.args.self.now.map c.args.name.now (ap without_last none ∙ sym none)
 
-pub replace-places-requires : goal.replace-places-requires
-replace-places-requires c = slice_get_within (block_at c.args.self.now.map c.in-Ok.at.block) c.in-Ok.at.at c.in-Ok.ensures.place.entry c.in-Ok.ensures.place.at
-
-pub replace-requires : goal.replace-requires
-replace-requires c =
-    let stands = c.replace-places.ensures.stands c.args.name.now c.in-Ok.ensures.place in
-    slice_get_within (block_at c.replace-places.new.self c.in-Ok.at.block) c.in-Ok.at.at stands.entry stands.at
-
-pub remove-requires : goal.remove-requires
-remove-requires c =
-    let stands = c.replace-places.ensures.stands c.args.name.now c.in-Ok.ensures.place in
-    slice_get_within (block_at c.replace-places.new.self c.in-Ok.at.block) c.in-Ok.at.at stands.entry stands.at
+pub returns-then-pop : goal.returns-then-pop
+returns-then-pop c =
+    let name = c.args.name.now in
+    let stands = c.replace-places.ensures.stands name c.in-Ok.ensures.place in
+    let was = ap places_if (c.replace-places.ensures.was name c.in-Ok.ensures.place) in
+    let put =
+    put-twice c.args.self.now.map c.replace-places.new.self c.replace.new.self name _ (Some c.pop.new.self)
+    (c.replace-places.ensures.is name c.in-Ok.ensures.place) (c.replace.ensures.is name stands)
+    in
+    read-put places_if without_last c.args.self.now.map c.replace.new.self name (Some c.pop.new.self) put (c.if-pop.ensures ∙ sym (ap without_last was))
 
 pub returns-else-pop : goal.returns-else-pop
 returns-else-pop c =

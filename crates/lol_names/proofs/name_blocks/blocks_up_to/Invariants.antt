@@ -1,7 +1,7 @@
 use Rattle.std.proofs.Common.{◌-◌, ◌≡◌, ◌<◌, ◌≤◌, true, false, length}
 use Rattle.std.specs.Prelude.{slice_index_or}
 use Rattle.lol_names.specs.NameBlocks.{begins_above}
-use Rattle.lol_names.proofs.name_map.blocks_up_to.Given as goal
+use Rattle.lol_names.proofs.name_blocks.blocks_up_to.Given as goal
 
 abbrev pub invariant-loop-low : goal.invariant-loop-low
 invariant-loop-low g l = record {

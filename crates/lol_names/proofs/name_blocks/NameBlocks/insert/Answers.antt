@@ -6,7 +6,7 @@ use Rattle.lol_names.specs.NameBlocks.{AreBlocks, AreAscending, AllFilled, AllBe
 use Rattle.lol_names.proofs.NameBlocks.{round-missing, filled-set}
 use Rattle.lol_names.proofs.Refusals.{on_err}
 use Rattle.lol_names.proofs.NameChanges.{map-set, set-same, block_there, joined-with, blocks-with, value-with, length-insert, length-zero}
-use Rattle.lol_names.proofs.name_map.NameMap.insert.Goals as goal
+use Rattle.lol_names.proofs.name_blocks.NameBlocks.insert.Goals as goal
 
 pub returns-then-is_empty-clause-ok : goal.returns-then-is_empty-clause-ok
 returns-then-is_empty-clause-ok g c =

@@ -4,17 +4,17 @@ use Rattle.std.proofs.lemmas.Option.{slice_get_read}
 use Rattle.std.specs.declared.cmp.Ordering.TheVariants.{Less}
 use Rattle.std.specs.Ordering.{is_lt}
 use Rattle.lol_base.specs.LocalNames.{Name, local_name_cmp}
-use Rattle.lol_names.specs.declared.name_map.NamePlace.{NamePlace}
+use Rattle.lol_names.specs.declared.name_blocks.BlockPlace.{BlockPlace}
 use Rattle.lol_names.specs.NameBlocks.{AreBlocks, Stands, IsMissing, is_named}
 use Rattle.lol_names.proofs.NameBlocks.{sought, block_is, stands_at, missing_at, value-missing}
-use Rattle.lol_names.proofs.name_map.NameMap.search.Goals as goal
+use Rattle.lol_names.proofs.name_blocks.NameBlocks.search.Goals as goal
 
 pub returns-then-is_at : goal.returns-then-is_at
 returns-then-is_at g c =
     let name = c.args.name.now in
     let bs = c.as_slice-blocks.result.now in
     let found = c.block_for-block.ensures.sought in
-    let place : NamePlace = record { block = c.block_for-block.result; at = c.names_below-at.result } in
+    let place : BlockPlace = record { block = c.block_for-block.result; at = c.names_below-at.result } in
     let shown = ap (map (λ b. b.items)) c.as_slice-blocks.ensures.value ∙ c.self.view_is in
     let are = subst AreBlocks (ap (map (λ b. b.items)) (sym c.as_slice-blocks.ensures.value)) c.self.invariant in
     let at = slice_get_read bs (length bs) place.block c.in-Some.names.now refl c.in-Some.ensures.lookup.3.0 c.in-Some.ensures.lookup.1 in
@@ -36,7 +36,7 @@ returns-else-is_at g c =
     let name = c.args.name.now in
     let bs = c.as_slice-blocks.result.now in
     let found = c.block_for-block.ensures.sought in
-    let place : NamePlace = record { block = c.block_for-block.result; at = c.names_below-at.result } in
+    let place : BlockPlace = record { block = c.block_for-block.result; at = c.names_below-at.result } in
     let shown = ap (map (λ b. b.items)) c.as_slice-blocks.ensures.value ∙ c.self.view_is in
     let are = subst AreBlocks (ap (map (λ b. b.items)) (sym c.as_slice-blocks.ensures.value)) c.self.invariant in
     let at = slice_get_read bs (length bs) place.block c.in-Some.names.now refl c.in-Some.ensures.lookup.3.0 c.in-Some.ensures.lookup.1 in

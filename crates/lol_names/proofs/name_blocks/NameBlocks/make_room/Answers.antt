@@ -3,7 +3,7 @@ use Rattle.std.specs.Prelude.{slice_set, slice_index_or}
 use Rattle.std.specs.List.{insert}
 use Rattle.lol_names.specs.NameBlocks.{AreBlocks, AreAscending, joined, block_at}
 use Rattle.lol_names.proofs.NameChanges.{map-set, map-insert, block_there, same_block, joined-halved, filled-halved, lower-place, upper-place, place_in}
-use Rattle.lol_names.proofs.name_map.NameMap.make_room.Goals as goal
+use Rattle.lol_names.proofs.name_blocks.NameBlocks.make_room.Goals as goal
 
 pub invariant_of-self-then-place : goal.invariant_of-self-then-place
 invariant_of-self-then-place g c =

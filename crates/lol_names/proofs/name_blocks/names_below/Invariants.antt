@@ -3,7 +3,7 @@ use Rattle.std.specs.Prelude.{slice_index_or}
 use Rattle.std.specs.declared.cmp.Ordering.TheVariants.{Less}
 use Rattle.std.specs.Ordering.{is_lt}
 use Rattle.lol_base.specs.LocalNames.{local_name_cmp}
-use Rattle.lol_names.proofs.name_map.names_below.Given as goal
+use Rattle.lol_names.proofs.name_blocks.names_below.Given as goal
 
 abbrev pub invariant-loop-low : goal.invariant-loop-low
 invariant-loop-low g l = record {

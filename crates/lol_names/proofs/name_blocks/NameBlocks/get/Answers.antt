@@ -3,7 +3,7 @@ use Rattle.std.specs.Prelude.{slice_get}
 use Rattle.lol_base.specs.LocalNames.{Name}
 use Rattle.lol_names.specs.NameBlocks.{block_at}
 use Rattle.lol_names.proofs.NameBlocks.{value-stands, read_at}
-use Rattle.lol_names.proofs.name_map.NameMap.get.Goals as goal
+use Rattle.lol_names.proofs.name_blocks.NameBlocks.get.Goals as goal
 
 pub returns-in-Err : goal.returns-in-Err
 returns-in-Err g c = sym c.in-Err.ensures.missing
