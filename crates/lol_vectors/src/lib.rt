@@ -23,6 +23,8 @@ mod machine_stops;
 #[cfg(test)]
 mod machines;
 #[cfg(test)]
+mod name_maps;
+#[cfg(test)]
 mod names;
 #[cfg(test)]
 mod nodes;
