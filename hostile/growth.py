@@ -1,0 +1,146 @@
+#!/usr/bin/env python3
+"""Times lol_match on hostile scripts of three sizes each, and prints a table of the growth.
+
+Run it at the top of the repository once lol_match is built:
+
+    (cd crates/lol_match && rt run < /dev/null)
+    python3 hostile/growth.py [ROW ..]
+
+Each size is twice the one before; the times are processor seconds, the least of three runs. A word picks the rows whose name has it.
+"""
+
+import os
+import resource
+import subprocess
+import sys
+import tempfile
+
+PROGRAM = "crates/lol_match/out/lol_match"
+RUNS = 3
+
+
+def script(selectors, tags):
+    lines = [f"select\t{match_id}\t{text}" for match_id, text in enumerate(selectors)]
+    return "\n".join(lines + tags) + "\n"
+
+
+def start(name, *attributes, ns="html"):
+    return "\t".join(["start", ns, name, *attributes])
+
+
+def end(name):
+    return f"end\t{name}"
+
+
+def repeated(pattern, last=""):
+    """A selector that repeats a pattern up to a size in bytes."""
+    return lambda size: script([pattern * (size // len(pattern)) + last], [start("a")])
+
+
+def distinct_items(size):
+    return script([",".join(f"x{number}" for number in range(size // 7))], [start("x1")])
+
+
+def siblings(count):
+    selectors = ["p", "ul > li:nth-child(2n+1)", "li:nth-of-type(3n)", "ul li", ".a", "li.b", ":not(li)", "a[href]"]
+    return script(selectors, [start("ul")] + [start("li", "class=b"), end("li")] * count)
+
+
+def nested(count):
+    selectors = [f"div x{number}" for number in range(100)] + [f"div > y{number}" for number in range(100)]
+    return script(selectors, [start("div")] * count + [end("div")] * count)
+
+
+def stray_ends(count):
+    return script(["div"], [start("div")] * count + [end("table")] * count)
+
+
+def distinct_names_open(count):
+    return script([":nth-of-type(2)"], [start(f"x{number}") for number in range(count)])
+
+
+def distinct_names_beside(count):
+    return script([":nth-of-type(2)"], [start(f"x{number}", ns="svg/") for number in range(count)])
+
+
+def names_with_equal_ends(count):
+    """Names of equal length, alike up to their last letters."""
+    return script([":nth-of-type(2)"], [start("x" * 40 + f"{number:07}") for number in range(count)])
+
+
+def hereditary_ranges(count):
+    return script([f"x{number} y" for number in range(count)], [start(f"x{number}") for number in range(count)])
+
+
+def value(selector):
+    """One tag whose attribute is a value up to a size in bytes."""
+    return lambda size: script([selector], [start("p", "a=" + "a" * size)])
+
+
+def words(size):
+    return script([".b", "[class~=c]"], [start("p", "class=" + "a " * (size // 2))])
+
+
+def many_attributes(count):
+    selectors = [f"[x{number}=v]" for number in range(200)]
+    return script(selectors, [start("p", *(f"a{number}=v" for number in range(count)))])
+
+
+KB = "a" * 1023 + "b"
+MB = 1 << 20
+ROWS = [(f"selector: {name}", MB // 4, repeated(pattern, last)) for name, pattern, last in [
+    ("`a `", "a ", ""), ("`a,`", "a,", "a"), ("`a>`", "a>", "a"), ("`.a`", ".a", ""), ("`#a`", "#a", ""), ("`[a]`", "[a]", ""),
+    ("`[a=\"b\"]`", '[a="b"]', ""), ("`:not(a)`", ":not(a)", ""), ("`:not(`", ":not(", "a"), ("`:is(a,`", ":is(a,", "a"),
+    ("`:not(a),`", ":not(a),", "a"), ("`:nth-child(n)`", ":nth-child(n)", ""), ("`\\61 `", "\\61 ", ""), ("`a`", "a", ""), ("`/**/`", "/**/", "a"),
+    ("`(`", "(", ""), ("`[`", "[", ""), ("`\"`", '"', ""), ("`a|`", "a|", ""), ("`:is(a b),`", ":is(a b),", "a")]]
+ROWS += [
+    ("selector: a list of distinct names", MB // 64, distinct_items),
+    ("siblings", 25_000, siblings),
+    ("nested elements, 200 selectors", 25_000, nested),
+    ("nested elements and stray end tags", 25_000, stray_ends),
+    ("distinct names, one inside the other", 25_000, distinct_names_open),
+    ("distinct names side by side", 25_000, distinct_names_beside),
+    ("distinct names that begin alike", 25_000, names_with_equal_ends),
+    ("open elements that each add a hereditary range", 1_250, hereditary_ranges),
+    ("value, `*=` with 1 KB", MB // 4, value(f'[a*="{KB}"]')),
+    ("value, `*=` with 1 KB, without case", MB // 4, value(f'[a*="{KB.upper()}" i]')),
+    ("value, `~=` with 1 KB", MB // 4, value(f'[a~="{KB}"]')),
+    ("value, `$=` with 1 KB", MB // 4, value(f'[a$="{KB}"]')),
+    ("words of `class`", MB // 4, words),
+    ("attributes of one tag, 200 selectors", 2_500, many_attributes),
+]
+
+
+def seconds(path):
+    best = None
+    for _ in range(RUNS):
+        before = resource.getrusage(resource.RUSAGE_CHILDREN)
+        with open(path, "rb") as source:
+            ended = subprocess.run([PROGRAM], stdin=source, stdout=subprocess.DEVNULL, check=False)
+        after = resource.getrusage(resource.RUSAGE_CHILDREN)
+        if ended.returncode not in (0, 2):
+            sys.exit(f"{path}: status {ended.returncode}")
+        spent = after.ru_utime + after.ru_stime - before.ru_utime - before.ru_stime
+        best = spent if best is None else min(best, spent)
+    return best
+
+
+def main(words_wanted):
+    print("| Input | Size | Twice | Four times | Growth |")
+    print("|---|---|---|---|---|")
+    with tempfile.TemporaryDirectory() as folder:
+        path = os.path.join(folder, "script")
+        for name, size, make in ROWS:
+            if words_wanted and not any(word in name for word in words_wanted):
+                continue
+            times = []
+            for factor in (1, 2, 4):
+                with open(path, "w", encoding="utf-8") as target:
+                    target.write(make(size * factor))
+                times.append(seconds(path))
+            growth = ", ".join(f"{after / max(before, 0.001):.1f}" for before, after in zip(times, times[1:]))
+            cells = " | ".join(f"{time:.3f}" for time in times)
+            print(f"| {name}, {size:,} | {cells} | {growth} |", flush=True)
+
+
+main(sys.argv[1:])
