@@ -144,3 +144,46 @@ fn hands_out_the_reports_before_a_refusal(rt: HostRuntime) -> Result<(), Fail> {
     assert_eq!(rt; limiter.current_usage(), 0);
     Ok(())
 }
+
+/// The ids of a start tag's report.
+fn ids_of(alloc: Global, report: &TagReport) -> Result<Vec<u32>, Fail> {
+    let TagReport::Started { matched, .. } = report else {
+        return Err(Fail::from("no start tag"));
+    };
+    let mut ids = Vec::new(alloc);
+    for found in matched.as_slice() {
+        ids.push(found.match_id)?;
+    }
+    Ok(ids)
+}
+
+#[test]
+fn answers_where_many_ranges_are_active(rt: HostRuntime) -> Result<(), Fail> {
+    let alloc = rt.alloc();
+    let mut ast = Ast::new(alloc);
+    let mut all = Vec::new(alloc);
+    for id in 0..130 {
+        let text = format!(in alloc; ":not(a{id}) x")?;
+        ast.add_selector(&Selector::from_str(alloc, &text)?, id)?;
+        all.push(id)?;
+    }
+    let none = AttributeBuffer::new(alloc);
+    let events = [
+        start(b"a5", &none),
+        start(b"x", &none),
+        TagEvent::End { name: b"x" },
+        start(b"div", &none),
+        start(b"div", &none),
+        start(b"x", &none),
+    ];
+    let mut limiter = SharedMemoryLimiter::new(512);
+    let Ok(reports) = match_events(alloc, ast, 64, false, &events, &mut limiter) else {
+        return Err(Fail::from("the run was refused"));
+    };
+    assert_eq!(rt; reports.len(), 6);
+    assert!(rt; ids_of(alloc, &reports[0])?.is_empty() && ids_of(alloc, &reports[4])?.is_empty());
+    assert_eq!(rt; ids_of(alloc, &reports[5])?, all);
+    all.retain(|id| *id != 5);
+    assert_eq!(rt; ids_of(alloc, &reports[1])?, all);
+    Ok(())
+}

@@ -9,6 +9,7 @@ use lol_vm::{
 };
 use std::alloc::{AllocError, Global};
 use std::process::Abort;
+use std::test::Fail;
 
 /// Data that know their element's number.
 #[derive(Drop)]
@@ -181,6 +182,59 @@ fn keep_the_active_ranges(rt: HostRuntime) {
     assert!(rt; stack.active_hereditary_jumps().is_empty());
     release(&rt, stack, 64, &mut limiter);
     assert_eq!(rt; limiter.current_usage(), 0);
+}
+
+/// The ranges 0 to 1, 1 to 2 and so on, as many as this.
+fn ranges_of_one(alloc: Global, count: usize) -> Result<Vec<AddressRange>, AllocError> {
+    let mut ranges = Vec::new(alloc);
+    for start in 0..count {
+        ranges.push(start..start.saturating_add(1))?;
+    }
+    Ok(ranges)
+}
+
+/// Whether these ranges are of this place, each one after the one before it.
+fn are_of_place(active: &[(AddressRange, usize)], place: usize) -> bool {
+    active.iter().enumerate().all(|(at, (range, of))| range.start == at
+        && range.end == at.saturating_add(1)
+        && *of == place)
+}
+
+#[test]
+fn keep_many_active_ranges(rt: HostRuntime) -> Result<(), Fail> {
+    let alloc = rt.alloc();
+    let ranges = ranges_of_one(alloc, 130)?;
+    let mut more = ranges_of_one(alloc, 130)?;
+    more.reverse();
+    more.push(0..130)?;
+    more.push(0..130)?;
+
+    let mut limiter = SharedMemoryLimiter::new(2048);
+    let mut stack = Stack::new(alloc, 64, false);
+    assert!(rt; open(alloc, &mut stack, b"a", 0, &ranges, &mut limiter).is_ok());
+    assert_eq!(rt; stack.active_hereditary_jumps().len(), 130);
+    assert!(rt; are_of_place(stack.active_hereditary_jumps(), 0));
+    assert!(rt; open(alloc, &mut stack, b"b", 1, &more, &mut limiter).is_ok());
+    assert_eq!(rt; stack.active_hereditary_jumps().len(), 131);
+    let active = stack.active_hereditary_jumps();
+    assert!(rt;
+        active
+            .get(..130)
+            .is_some_and(|first| are_of_place(first, 0))
+    );
+    assert!(rt;
+        active
+            .get(130)
+            .is_some_and(|(range, place)| *range == (0..130) && *place == 1)
+    );
+
+    assert_eq!(rt;
+        close(&rt, alloc, &mut stack, b"b").as_slice(),
+        [1].as_slice()
+    );
+    assert_eq!(rt; stack.active_hereditary_jumps().len(), 130);
+    release(&rt, stack, 64, &mut limiter);
+    Ok(())
 }
 
 #[test]
