@@ -20,7 +20,7 @@ use std::io::Read;
 use std::process::ExitCode;
 
 /// The names of the scenarios.
-const NAMES: [&str; 29] = [
+const NAMES: [&str; 30] = [
     "from_str",
     "css_string",
     "to_boxed_slice",
@@ -47,6 +47,7 @@ const NAMES: [&str; 29] = [
     "item_into_owned",
     "context_into_owned",
     "short_names",
+    "owned_names",
     "match_events_by_type",
     "run_of_a_bad_line",
     "run_past_the_limit",
@@ -120,6 +121,7 @@ fn part(alloc: Global, name: &str) -> Result<Met, Stop> {
         "item_into_owned" => names::item_into_owned(alloc),
         "context_into_owned" => names::context_into_owned(alloc),
         "short_names" => names::short_names(alloc),
+        "owned_names" => names::owned_names(alloc),
         _ => Err(Stop::Wrong),
     }
 }

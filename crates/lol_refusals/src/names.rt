@@ -51,6 +51,16 @@ pub fn short_names(alloc: Global) -> Result<Met, Stop> {
     Ok(Met::Nothing)
 }
 
+/// A name that owns its bytes asks for no memory to own them: a refusal is wrong here.
+pub fn owned_names(alloc: Global) -> Result<Met, Stop> {
+    let name = LocalName::from_vec(LONG.to_vec(alloc)?);
+    let Ok(owned) = name.into_owned(alloc) else {
+        return Err(Stop::Wrong);
+    };
+    expect(is_long(&owned))?;
+    Ok(Met::Nothing)
+}
+
 /// An item of that name, with an id, a range of each kind, a counter and a directive of its own.
 fn item(alloc: Global) -> Result<StackItem<'static, Element>, AllocError> {
     let mut item: StackItem<Element> = StackItemOf::new(alloc, LocalName::new(LONG));
