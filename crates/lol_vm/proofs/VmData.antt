@@ -1,5 +1,5 @@
 -- Machines with other data of their last element.
-use Rattle.std.proofs.Common.{◌≡◌, ℕ, suc, zero, ◌+◌, ◌-◌, List, [], ◌∷◌, ◌++◌, length, map, Option, Some, None, refl, sym, ap, ◌∙◌, arith}
+use Rattle.std.proofs.Common.{◌≡◌, ℕ, suc, zero, ◌+◌, ◌-◌, List, [], ◌∷◌, ◌++◌, length, map, Option, Some, None, refl, sym, ap, subst, ◌∙◌, arith}
 use Rattle.std.specs.Prelude.{reverse, slice_get, slice_set, if◌then◌else◌}
 use Rattle.std.specs.Option.{option_map}
 use Rattle.std.proofs.lemmas.List.{length-append, length-map}
@@ -12,10 +12,17 @@ use Rattle.lol_stack.specs.SoundStacks.{IsSound, name_places_from}
 use Rattle.lol_stack.specs.StackLending.{with_current, with_data_at, with_data_if}
 use Rattle.lol_vm.specs.VmLending.{with_current_in}
 use Rattle.lol_vm.specs.StackMachines.{Keeps, item_shown}
-use Rattle.lol_stack.specs.Stacks.{items_in}
-use Rattle.lol_vm.specs.Standing.{Machine}
-use Rattle.lol_vm.specs.VmLaws.{DataChangeNothing, DataKeepOpen, SlotsAreOfDepth}
-use Rattle.lol_vm.specs.Vms.{Vm, Shows, data_in}
+use Rattle.lol_stack.specs.Stacks.{items_in, active_in, count_or, typed_in, count_by_type}
+use Rattle.lol_program.specs.Programs.{all_places}
+use Rattle.lol_program.specs.ProgramViews.{range_shown}
+use Rattle.lol_program.specs.Tests.{is_html}
+use Rattle.lol_program.specs.Tries.{names_counted}
+use Rattle.lol_vm.specs.Events.{has_content}
+use Rattle.lol_vm.specs.InstructionRuns.{ranges_in}
+use Rattle.lol_vm.specs.Standing.{Machine, ranges_of_machine}
+use Rattle.lol_vm.specs.TagRuns.{jumps_of_item, jumps_in, sight_in, tag_ranges, stop_at, ranges_left, IsPointIn, tried_at}
+use Rattle.lol_vm.specs.VmLaws.{DataChangeNothing, DataKeepOpen, DataKeepRequests, PendingStands, SlotsAreOfDepth}
+use Rattle.lol_vm.specs.Vms.{Vm, Shows, GoesOnAt, instructions_in, data_in}
 use Rattle.lol_stack.specs.declared.stack_item.StackItemOf.{StackItemOf}
 use Rattle.lol_stack.specs.declared.stack.StackOf.{StackOf}
 use Rattle.lol_stack.specs.declared.stack.StackNames.{StackNames}
@@ -73,6 +80,40 @@ module _ {E : Type 0} (w : E) where
       places = λ name. h.places name ∙ sym (same_places name last refl);
     }
 
+  -- what looks at one element, and not at its data
+  get_set : {B : Type 0} (f : Option (StackItemOf Name E) → B) → ((item : StackItemOf Name E) → f (Some (with_data item w)) ≡ f (Some item))
+      → (xs : List (StackItemOf Name E)) (k j : ℕ) (item : StackItemOf Name E) → slice_get xs k ≡ Some item → f (slice_get (slice_set xs k (with_data item w)) j) ≡ f (slice_get xs j)
+  get_set f same [] k j item at = refl
+  get_set f same (x ∷ xs) zero zero item at = same item ∙ ap (λ y. f (Some y)) (sym (same_item x xs zero item at))
+  get_set f same (x ∷ xs) zero (suc j) item at = refl
+  get_set f same (x ∷ xs) (suc k) zero item at = refl
+  get_set f same (x ∷ xs) (suc k) (suc j) item at = get_set f same xs k j item at
+
+  module _ (s : StackOf Name StackNames E) where
+    same_get : {B : Type 0} (f : Option (StackItemOf Name E) → B) → ((item : StackItemOf Name E) → f (Some (with_data item w)) ≡ f (Some item)) → (j : ℕ) (o : Option (StackItemOf Name E)) → At s o
+        → f (slice_get (changed s o) j) ≡ f (slice_get (items_in s) j)
+    same_get f same j None at = refl
+    same_get f same j (Some item) at = get_set f same (items_in s) (length (items_in s) - 1) j item at
+
+    same_length : length (changed s (last s)) ≡ length (items_in s)
+    same_length =
+        sym (length-map (changed s (last s)) (λ (x : StackItemOf Name E). x.child_counter))
+        ∙ (ap length (same_map s (λ (x : StackItemOf Name E). x.child_counter) (λ item. refl) (last s) refl) ∙ length-map (items_in s) (λ (x : StackItemOf Name E). x.child_counter))
+
+    same_last : {B : Type 0} (f : Option (StackItemOf Name E) → B) → ((item : StackItemOf Name E) → f (Some (with_data item w)) ≡ f (Some item))
+        → f (slice_get (changed s (last s)) (length (changed s (last s)) - 1)) ≡ f (slice_get (items_in s) (length (items_in s) - 1))
+    same_last f same = ap (λ n. f (slice_get (changed s (last s)) (n - 1))) same_length ∙ same_get f same (length (items_in s) - 1) (last s) refl
+
+    same_jumps : jumps_in (with_current s w) ≡ jumps_in s
+    same_jumps = same_last jumps_of_item (λ item. refl)
+
+    same_sight : (name : Name) → sight_in (with_current s w) name ≡ sight_in s name
+    same_sight name i = record {
+      name = name.lowercased;
+      position = same_last (count_or s.root_child_counter) (λ item. refl) i;
+      typed_position = count_by_type (typed_in s) (same_length i) name;
+    }
+
   shows_data : (vm : Vm E) (m : Machine) → Shows vm m → Shows (with_current_in vm w) m
   shows_data vm m h = record { stack = keeps_data vm.stack m h.stack; sound = sound_data vm.stack h.sound; program = h.program; switch = h.switch; refused = h.refused }
 
@@ -92,6 +133,42 @@ data_keep_open vm elements w h = record {
   ordered = h.ordered;
   same = h.same;
 }
+
+pub data_keep_requests : {E : Type 0} → DataKeepRequests E
+data_keep_requests ids_of s esi events tag vm request w h = record {
+  paths = h.paths;
+  machine = h.machine;
+  closed = h.closed;
+  shown = shows_data w vm h.machine h.shown;
+  standing = h.standing;
+  asks = h.asks;
+  context = h.context;
+  left = h.left;
+  is_request = h.is_request;
+  named = h.named;
+  seen = same_sight w vm.stack request.ctx.stack_item.local_name ∙ h.seen;
+  childless = h.childless;
+  gathered = h.gathered;
+  goes_on = subst (λ js. GoesOnAt (is_html tag.namespace) (has_content esi tag) h.context (stop_at vm.program.entry_points js request.point) request.ctx.with_content) back h.goes_on;
+  stopped = subst (λ js. IsPointIn (instructions_in vm) vm.program.entry_points js (ranges_in (active_in vm.stack)) request.point) back h.stopped;
+  places_left =
+    subst
+      (λ js. h.left ≡ all_places (map range_shown (ranges_left (tag_ranges vm.program.entry_points js (ranges_in (active_in vm.stack))) (stop_at vm.program.entry_points js request.point))))
+      back
+      h.places_left;
+  names =
+    subst
+      (λ js. names_counted vm.tries + length h.left ≡ length (all_places (ranges_of_machine h.machine)) + tried_at (stop_at vm.program.entry_points js request.point))
+      back
+      h.names;
+  attributes = h.attributes;
+}
+  where
+    back : jumps_in vm.stack ≡ jumps_in (with_current vm.stack w)
+    back = sym (same_jumps w vm.stack)
+
+pub pending_stands : {E : Type 0} → PendingStands E
+pending_stands ids_of s esi events tag vm request h = record { paths = h.paths; machine = h.machine; closed = h.closed; shown = h.shown; standing = h.standing }
 
 pub slots_are_of_depth : {E : Type 0} → SlotsAreOfDepth E
 slots_are_of_depth s esi vm events h =

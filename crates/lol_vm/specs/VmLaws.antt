@@ -1,13 +1,14 @@
 -- What those who go tag by tag rely on.
-use Rattle.std.specs.Prelude.{◌≡◌, Bool, List}
+use Rattle.std.specs.Prelude.{◌≡◌, Bool, List, [], ◌∷◌, ◌++◌}
 use Rattle.lol_base.specs.StartTags.{StartTag}
 use Rattle.lol_memory.specs.Ids.{Ids}
 use Rattle.lol_memory.specs.Slots.{slots}
 use Rattle.lol_program.specs.Paths.{Selectors}
 use Rattle.lol_program.specs.Tests.{Element}
 use Rattle.lol_vm.specs.Answers.{document}
-use Rattle.lol_vm.specs.Events.{Event}
+use Rattle.lol_vm.specs.Events.{Event, Start}
 use Rattle.lol_vm.specs.Refusals.{longest}
+use Rattle.lol_vm.specs.Standing.{unfinished}
 use Rattle.lol_vm.specs.VmLending.{with_current_in}
 use Rattle.lol_vm.specs.Vms.{Vm, Stands, HasOpen, IsPending, IsTriedAtMost, tries_in, slots_charged, slot_bytes}
 use Rattle.lol_vm.specs.declared.error.AuxStartTagInfoRequest.{AuxStartTagInfoRequest}
@@ -19,6 +20,18 @@ DataChangeNothing E = (s : Selectors) (esi : Bool) (vm : Vm E) (events : List Ev
 
 abbrev pub DataKeepOpen : Type 0 → Type 0
 DataKeepOpen E = (vm : Vm E) (elements : List Element) (w : E) → HasOpen vm elements → HasOpen (with_current_in vm w) elements
+
+-- The same while a request is open: finishing its tag answers the same.
+abbrev pub DataKeepRequests : Type 0 → Type 0
+DataKeepRequests E =
+    (ids_of : E → Ids) (s : Selectors) (esi : Bool) (events : List Event) (tag : StartTag) (vm : Vm E) (request : AuxStartTagInfoRequest E) (w : E)
+    → IsPending ids_of s esi events tag vm request → IsPending ids_of s esi events tag (with_current_in vm w) request
+
+-- A machine whose request is dropped stands for the events with the tag dropped.
+abbrev pub PendingStands : Type 0 → Type 0
+PendingStands E =
+    (ids_of : E → Ids) (s : Selectors) (esi : Bool) (events : List Event) (tag : StartTag) (vm : Vm E) (request : AuxStartTagInfoRequest E)
+    → IsPending ids_of s esi events tag vm request → Stands s esi vm (events ++ Start (unfinished tag) ∷ [])
 
 -- A machine that stands for events has their open elements.
 abbrev pub StandingHasOpen : Type 0 → Type 0

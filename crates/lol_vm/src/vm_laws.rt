@@ -1,11 +1,17 @@
 //! What those who go tag by tag rely on: each function takes and gives nothing, and its contract is the law.
 
-ghost use Rattle.lol_vm.specs.VmLaws.{DataChangeNothing, DataKeepOpen, RequestsTryAtMost, SlotsAreOfDepth, StandingHasOpen};
+ghost use Rattle.lol_vm.specs.VmLaws.{DataChangeNothing, DataKeepOpen, DataKeepRequests, PendingStands, RequestsTryAtMost, SlotsAreOfDepth, StandingHasOpen};
 
-/// What a caller writes into the data of the last open element changes no later report, and no open element.
+/// What a caller writes into the data of the last open element changes no later report, no open element, and no request.
 pub fn data_change_nothing<E>()
     ensures stands { DataChangeNothing E }
     ensures still_open { DataKeepOpen E }
+    ensures pending { DataKeepRequests E }
+{}
+
+/// A request that is dropped leaves the machine as if its tag had been dropped.
+pub fn dropped_requests_stand<E>()
+    ensures { PendingStands E }
 {}
 
 /// A machine that stands for events has their open elements.
