@@ -63,6 +63,13 @@ def distinct_names_beside(count):
     return script([":nth-of-type(2)"], [start(f"x{number}", ns="svg/") for number in range(count)])
 
 
+def names_in_one_slot(count):
+    """Names of letters whose codes leave the same remainder, so that a map keeps them in the same slot; one end tag closes all."""
+    letters = "abcdefghijklmnopqrstuvwxyz"
+    names = ["".join(letters[number // 26**place % 26] for place in range(4)) + "aa" for number in range(count)]
+    return script([":nth-of-type(2)"], [start(name) for name in names] + [end(names[0])])
+
+
 def names_with_equal_ends(count):
     """Names of equal length, alike up to their last letters."""
     return script([":nth-of-type(2)"], [start("x" * 40 + f"{number:07}") for number in range(count)])
@@ -92,7 +99,9 @@ ROWS = [(f"selector: {name}", MB // 4, repeated(pattern, last)) for name, patter
     ("`a `", "a ", ""), ("`a,`", "a,", "a"), ("`a>`", "a>", "a"), ("`.a`", ".a", ""), ("`#a`", "#a", ""), ("`[a]`", "[a]", ""),
     ("`[a=\"b\"]`", '[a="b"]', ""), ("`:not(a)`", ":not(a)", ""), ("`:not(`", ":not(", "a"), ("`:is(a,`", ":is(a,", "a"),
     ("`:not(a),`", ":not(a),", "a"), ("`:nth-child(n)`", ":nth-child(n)", ""), ("`\\61 `", "\\61 ", ""), ("`a`", "a", ""), ("`/**/`", "/**/", "a"),
-    ("`(`", "(", ""), ("`[`", "[", ""), ("`\"`", '"', ""), ("`a|`", "a|", ""), ("`:is(a b),`", ":is(a b),", "a")]]
+    ("`(`", "(", ""), ("`[`", "[", ""), ("`\"`", '"', ""), ("`a|`", "a|", ""), ("`:is(a b),`", ":is(a b),", "a"),
+    ("`a+`", "a+", ""), ("`a~`", "a~", ""), ("`*`", "*", ""), ("`/*`", "/*", ""), ("`'`", "'", ""), ("`:is(`", ":is(", "a"), ("`:where(`", ":where(", "a"),
+    ("`-`", "-", ""), ("`1`", "1", ""), ("`\\`", "\\", ""), ("`|`", "|", "")]]
 ROWS += [
     ("selector: a list of distinct names", MB // 64, distinct_items),
     ("siblings", 25_000, siblings),
@@ -101,6 +110,7 @@ ROWS += [
     ("distinct names, one inside the other", 25_000, distinct_names_open),
     ("distinct names side by side", 25_000, distinct_names_beside),
     ("distinct names that begin alike", 25_000, names_with_equal_ends),
+    ("distinct names in one slot, closed by one end tag", 25_000, names_in_one_slot),
     ("open elements that each add a hereditary range", 1_250, hereditary_ranges),
     ("value, `*=` with 1 KB", MB // 4, value(f'[a*="{KB}"]')),
     ("value, `*=` with 1 KB, without case", MB // 4, value(f'[a*="{KB.upper()}" i]')),
