@@ -1,4 +1,5 @@
-//! Tests with hostile input: great sizes with ample memory, deep documents, limits at their edges, and devices that fail at each call.
+//! Tests of whole scripts, worked and replayed; and of hostile input: great sizes with ample memory, deep documents, limits at their edges, and
+//! devices that fail at each call.
 #![tactic(auto)]
 
 #[cfg(test)]
@@ -8,8 +9,14 @@ mod devices;
 #[cfg(test)]
 mod edges;
 #[cfg(test)]
+mod replayed;
+#[cfg(test)]
 mod runs;
+#[cfg(test)]
+mod scripts;
 #[cfg(test)]
 mod selectors;
 #[cfg(test)]
 mod sizes;
+#[cfg(test)]
+mod worked;

@@ -4,7 +4,7 @@
 //! first scripts of names and `*`, from a few names, then scripts of every kind. They were run through lol_html too: it answers
 //! alike wherever its rules are those of this project (docs/DECISIONS.md has the differences).
 
-use crate::program::Status;
+use lol_script::Status;
 
 /// A script of names and `*`, its output, and how its run ends.
 pub(super) const OF_NAMES: [(&str, &str, Status); 42] = [

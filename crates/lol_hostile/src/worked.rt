@@ -1,10 +1,20 @@
 //! Scripts that were worked by hand.
 
-use crate::program::Status;
+use lol_script::Status;
 
 /// A script, its output, and how its run ends.
-pub(super) const ANSWERED: [(&str, &str, Status); 36] = [
+pub(super) const ANSWERED: [(&str, &str, Status); 38] = [
+    (
+        "tries\nselect\t0\tdiv p\nselect\t1\tdiv > p\nselect\t2\t.lead p, p.lead\nselect\t3\t:not(p, .lead) > p:first-child\nstart\thtml\tdiv\nstart\thtml\tsection\tclass=wide lead\nstart\thtml\tp\nend\tp\nstart\thtml\tp\tclass=lead\nend\tdiv\nstart\thtml\tp\tclass=lead\n",
+        "start\t-\tasked\ttries 4 2\nstart\t-\tasked\ttries 7 2\nstart\t0,2\tasked\ttries 6 2\nend\t2\nstart\t0,2\tasked\ttries 6 2\nend\t0,1,4\nstart\t2\tasked\ttries 4 2\n",
+        Status::Good,
+    ),
     ("", "", Status::Good),
+    (
+        "select\t07\tp\nstart\thtml\tp\n",
+        "start\t7\n",
+        Status::Good,
+    ),
     (
         "select\t0\t:not(div)\nselect\t1\t|p\nstart\thtml\tdiv\nstart\thtml\tp\n",
         "start\t-\nstart\t0\n",
@@ -179,7 +189,9 @@ pub(super) const ANSWERED: [(&str, &str, Status); 36] = [
 ];
 
 /// A script with a bad line, and its output.
-pub(super) const BAD: [(&str, &str); 42] = [
+pub(super) const BAD: [(&str, &str); 44] = [
+    ("end\tdiv\t\n", "bad line 1: form\n"),
+    ("\n\n\n\n\n\n\n\n\n\n\nend\n", "bad line 12: form\n"),
     (
         "select\t0\tdiv + span\n",
         "bad line 1: UnsupportedCombinator(+)\n",

@@ -10,14 +10,8 @@ pub mod laws;
 mod lines;
 mod output;
 mod program;
-#[cfg(test)]
-mod replayed;
 mod script;
 mod tags;
-#[cfg(test)]
-mod tests;
-#[cfg(test)]
-mod worked;
 
 pub use device::{Counted, RunFault};
 pub use program::{Status, run};
