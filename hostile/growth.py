@@ -150,7 +150,8 @@ def main(words_wanted):
                 times.append(seconds(path))
             growth = ", ".join(f"{after / max(before, 0.001):.1f}" for before, after in zip(times, times[1:]))
             cells = " | ".join(f"{time:.3f}" for time in times)
-            print(f"| {name}, {size:,} | {cells} | {growth} |", flush=True)
+            shown = name.replace("|", "\\|")
+            print(f"| {shown}, {size:,} | {cells} | {growth} |", flush=True)
 
 
 main(sys.argv[1:])
