@@ -119,7 +119,7 @@ impl CounterLists {
     }
 
     /// Counts one more at the name's last level, if that is `index`; answers whether it is.
-    fn count(&mut self, name: &LocalName<'static>, index: usize) -> bool
+    fn count(&mut self, name: &LocalName<'_>, index: usize) -> bool
         ensures is { result ≡ is_at_level index (counters_of self.old name.now) }
         ensures counted { (q : Name) → counters_of self.new q ≡ (if same_local_name name.now q then (if result then counted_at_last (counters_of self.old q) else counters_of self.old q) else counters_of self.old q) }
     {
@@ -219,10 +219,10 @@ impl TypedChildCounterMap {
         ensures ok { OnOk result (self.new ≡ counted_by_type self.old index name.now) }
         ensures err { OnErr result (self.new ≡ self.old) }
     {
-        let name = name.try_clone(self.alloc)?;
-        if self.lists.count(&name, index) {
+        if self.lists.count(name, index) {
             return Ok(());
         }
+        let name = name.try_clone(self.alloc)?;
         self.kept.reserve(1)?;
         self.lists.start(&name, index)?;
         self.kept.push_reserved((index, name));

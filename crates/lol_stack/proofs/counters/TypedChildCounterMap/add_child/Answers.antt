@@ -1,7 +1,7 @@
 use Rattle.std.proofs.Common.{◌∙◌, sym, ap, ◌++◌, ◌∷◌, []}
 use Rattle.lol_stack.specs.Levels.{is_at_level}
 use Rattle.lol_stack.specs.CounterMaps.{counters_of}
-use Rattle.lol_stack.specs.TypedCounts.{TypedCount, last_counted, counted_by_type}
+use Rattle.lol_stack.specs.TypedCounts.{TypedCount, last_counted}
 use Rattle.lol_stack.proofs.Refusals.{on_err}
 use Rattle.lol_stack.specs.TypedListLaws.{view-is, view-keeps, keys-seen, levels-seen, levels-kept, levels-uncounted, counted-again, counted-first, keys-last_counted, levels-last_counted, levels-started, keys-push}
 use Rattle.lol_stack.proofs.counters.TypedChildCounterMap.add_child.Goals as goal
@@ -9,7 +9,7 @@ use Rattle.lol_stack.proofs.counters.TypedChildCounterMap.add_child.Goals as goa
 pub invariant_of-self : goal.invariant_of-self
 invariant_of-self c =
     let ts = c.args.self.now in
-    let name = c.in_ok-name.name in
+    let name = c.args.name.now in
     let keys = keys-seen ts c.self.inside.kept.items (counters_of c.self.inside.lists) c.self.view_is in
     let levels = levels-seen ts c.self.inside.kept.items (counters_of c.self.inside.lists) c.self.view_is c.self.invariant in
     view-keeps (last_counted ts name) c.self.inside.kept.items (counters_of c.count.new.self) (keys ∙ sym (keys-last_counted ts name))
@@ -18,14 +18,31 @@ invariant_of-self c =
 pub returns-then-count-clause-ok : goal.returns-then-count-clause-ok
 returns-then-count-clause-ok c =
     let ts = c.args.self.now in
-    let name = c.in_ok-name.name in
+    let name = c.args.name.now in
     let keys = keys-seen ts c.self.inside.kept.items (counters_of c.self.inside.lists) c.self.view_is in
     let levels = levels-seen ts c.self.inside.kept.items (counters_of c.self.inside.lists) c.self.view_is c.self.invariant in
     let now =
     view-is (last_counted ts name) c.self.inside.kept.items (counters_of c.count.new.self) (keys ∙ sym (keys-last_counted ts name))
     (levels-last_counted ts name (counters_of c.self.inside.lists) (counters_of c.count.new.self) levels c.if-count.ensures.counted)
     in
-    now ∙ (counted-again ts c.args.index name (sym (c.if-count.ensures.is ∙ ap (is_at_level c.args.index) (levels name))) ∙ ap (counted_by_type ts c.args.index) c.in_ok-name.ensures.same)
+    now ∙ (counted-again ts c.args.index name (sym (c.if-count.ensures.is ∙ ap (is_at_level c.args.index) (levels name))))
+
+pub invariant_of-self-in_err-name : goal.invariant_of-self-in_err-name
+invariant_of-self-in_err-name c =
+    let ts = c.args.self.now in
+    let keys = keys-seen ts c.self.inside.kept.items (counters_of c.self.inside.lists) c.self.view_is in
+    let levels = levels-seen ts c.self.inside.kept.items (counters_of c.self.inside.lists) c.self.view_is c.self.invariant in
+    view-keeps ts c.self.inside.kept.items (counters_of c.count.new.self) keys
+    (levels-uncounted ts c.args.name.now (counters_of c.self.inside.lists) (counters_of c.count.new.self) levels c.if-count.ensures.counted)
+
+pub returns-in_err-name-clause-err : goal.returns-in_err-name-clause-err
+returns-in_err-name-clause-err c =
+    let ts = c.args.self.now in
+    let keys = keys-seen ts c.self.inside.kept.items (counters_of c.self.inside.lists) c.self.view_is in
+    let levels = levels-seen ts c.self.inside.kept.items (counters_of c.self.inside.lists) c.self.view_is c.self.invariant in
+    on_err c.from_residual.result
+    (view-is ts c.self.inside.kept.items (counters_of c.count.new.self) keys
+    (levels-uncounted ts c.args.name.now (counters_of c.self.inside.lists) (counters_of c.count.new.self) levels c.if-count.ensures.counted))
 
 pub invariant_of-self-in_err-reserve : goal.invariant_of-self-in_err-reserve
 invariant_of-self-in_err-reserve c =
@@ -33,7 +50,7 @@ invariant_of-self-in_err-reserve c =
     let keys = keys-seen ts c.self.inside.kept.items (counters_of c.self.inside.lists) c.self.view_is in
     let levels = levels-seen ts c.self.inside.kept.items (counters_of c.self.inside.lists) c.self.view_is c.self.invariant in
     view-keeps ts c.reserve.new.self.items (counters_of c.count.new.self) (c.reserve.ensures.items ∙ keys)
-    (levels-uncounted ts c.in_ok-name.name (counters_of c.self.inside.lists) (counters_of c.count.new.self) levels c.if-count.ensures.counted)
+    (levels-uncounted ts c.args.name.now (counters_of c.self.inside.lists) (counters_of c.count.new.self) levels c.if-count.ensures.counted)
 
 pub returns-in_err-reserve-clause-err : goal.returns-in_err-reserve-clause-err
 returns-in_err-reserve-clause-err c =
@@ -42,14 +59,14 @@ returns-in_err-reserve-clause-err c =
     let levels = levels-seen ts c.self.inside.kept.items (counters_of c.self.inside.lists) c.self.view_is c.self.invariant in
     on_err c.from_residual-in_err-reserve.result
     (view-is ts c.reserve.new.self.items (counters_of c.count.new.self) (c.reserve.ensures.items ∙ keys)
-    (levels-uncounted ts c.in_ok-name.name (counters_of c.self.inside.lists) (counters_of c.count.new.self) levels c.if-count.ensures.counted))
+    (levels-uncounted ts c.args.name.now (counters_of c.self.inside.lists) (counters_of c.count.new.self) levels c.if-count.ensures.counted))
 
 pub invariant_of-self-in_err-start : goal.invariant_of-self-in_err-start
 invariant_of-self-in_err-start c =
     let ts = c.args.self.now in
     let keys = keys-seen ts c.self.inside.kept.items (counters_of c.self.inside.lists) c.self.view_is in
     let levels = levels-seen ts c.self.inside.kept.items (counters_of c.self.inside.lists) c.self.view_is c.self.invariant in
-    let uncounted = levels-uncounted ts c.in_ok-name.name (counters_of c.self.inside.lists) (counters_of c.count.new.self) levels c.if-count.ensures.counted in
+    let uncounted = levels-uncounted ts c.args.name.now (counters_of c.self.inside.lists) (counters_of c.count.new.self) levels c.if-count.ensures.counted in
     view-keeps ts c.reserve.new.self.items (counters_of c.start.new.self) (c.reserve.ensures.items ∙ keys)
     (levels-kept ts (counters_of c.count.new.self) (counters_of c.start.new.self) uncounted c.in_err-start.ensures.err)
 
@@ -58,7 +75,7 @@ returns-in_err-start-clause-err c =
     let ts = c.args.self.now in
     let keys = keys-seen ts c.self.inside.kept.items (counters_of c.self.inside.lists) c.self.view_is in
     let levels = levels-seen ts c.self.inside.kept.items (counters_of c.self.inside.lists) c.self.view_is c.self.invariant in
-    let uncounted = levels-uncounted ts c.in_ok-name.name (counters_of c.self.inside.lists) (counters_of c.count.new.self) levels c.if-count.ensures.counted in
+    let uncounted = levels-uncounted ts c.args.name.now (counters_of c.self.inside.lists) (counters_of c.count.new.self) levels c.if-count.ensures.counted in
     on_err c.from_residual-in_err-start.result
     (view-is ts c.reserve.new.self.items (counters_of c.start.new.self) (c.reserve.ensures.items ∙ keys)
     (levels-kept ts (counters_of c.count.new.self) (counters_of c.start.new.self) uncounted c.in_err-start.ensures.err))
@@ -70,7 +87,7 @@ invariant_of-self-2 c =
     let new : TypedCount = record { level = c.args.index; name = name; count = 1 } in
     let keys = keys-seen ts c.self.inside.kept.items (counters_of c.self.inside.lists) c.self.view_is in
     let levels = levels-seen ts c.self.inside.kept.items (counters_of c.self.inside.lists) c.self.view_is c.self.invariant in
-    let uncounted = levels-uncounted ts name (counters_of c.self.inside.lists) (counters_of c.count.new.self) levels c.if-count.ensures.counted in
+    let uncounted = levels-uncounted ts c.args.name.now (counters_of c.self.inside.lists) (counters_of c.count.new.self) levels c.if-count.ensures.counted in
     view-keeps (ts ++ new ∷ []) c.push_reserved.new.self.items (counters_of c.start.new.self)
     (c.push_reserved.ensures.items ∙ (ap (λ front. front ++ (c.args.index, name) ∷ []) (c.reserve.ensures.items ∙ keys) ∙ sym (keys-push ts new)))
     (levels-started ts new (counters_of c.count.new.self) (counters_of c.start.new.self) uncounted c.in_ok-start.ensures.ok)
@@ -82,10 +99,10 @@ returns-clause-ok c =
     let new : TypedCount = record { level = c.args.index; name = name; count = 1 } in
     let keys = keys-seen ts c.self.inside.kept.items (counters_of c.self.inside.lists) c.self.view_is in
     let levels = levels-seen ts c.self.inside.kept.items (counters_of c.self.inside.lists) c.self.view_is c.self.invariant in
-    let uncounted = levels-uncounted ts name (counters_of c.self.inside.lists) (counters_of c.count.new.self) levels c.if-count.ensures.counted in
+    let uncounted = levels-uncounted ts c.args.name.now (counters_of c.self.inside.lists) (counters_of c.count.new.self) levels c.if-count.ensures.counted in
     let now =
     view-is (ts ++ new ∷ []) c.push_reserved.new.self.items (counters_of c.start.new.self)
     (c.push_reserved.ensures.items ∙ (ap (λ front. front ++ (c.args.index, name) ∷ []) (c.reserve.ensures.items ∙ keys) ∙ sym (keys-push ts new)))
     (levels-started ts new (counters_of c.count.new.self) (counters_of c.start.new.self) uncounted c.in_ok-start.ensures.ok)
     in
-    now ∙ (counted-first ts c.args.index name (sym (c.if-count.ensures.is ∙ ap (is_at_level c.args.index) (levels name))) ∙ ap (counted_by_type ts c.args.index) c.in_ok-name.ensures.same)
+    now ∙ (ap (λ n. ts ++ record { level = c.args.index; name = n; count = 1 } ∷ []) c.in_ok-name.ensures.same ∙ counted-first ts c.args.index c.args.name.now (sym (c.if-count.ensures.is ∙ ap (is_at_level c.args.index) (levels c.args.name.now))))
