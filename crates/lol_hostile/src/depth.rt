@@ -152,8 +152,7 @@ fn a_document_may_be_deep(rt: HostRuntime) -> Result<(), Fail> {
         (vm.charged_slots(), limiter.current_usage()),
         (131_072, 8_388_608)
     );
-    end_from(&rt, &mut vm, b"DIV", DEPTH - 1, DEPTH);
-    end_from(&rt, &mut vm, b"html", 0, DEPTH - 1);
+    end_from(&rt, &mut vm, b"HTML", 0, DEPTH);
     end_from(&rt, &mut vm, b"html", 0, 0);
     assert_eq!(rt;
         (vm.charged_slots(), limiter.current_usage()),

@@ -55,39 +55,43 @@ fn expect_output(rt: &impl Abort, alloc: Global, script: &str, output: &str, sta
     assert!(rt; written.as_slice() == output.as_bytes(), "{script:?}");
 }
 
+/// Runs scripts that have an output and a status each.
+fn expect_outputs(rt: &impl Abort, alloc: Global, rows: &[(&str, &str, Status)]) {
+    for (script, output, status) in rows {
+        expect_output(rt, alloc, script, output, *status);
+    }
+}
+
+/// Runs scripts that have a bad line each.
+fn expect_bad_lines(rt: &impl Abort, alloc: Global, rows: &[(&str, &str)]) {
+    for (script, output) in rows {
+        expect_output(rt, alloc, script, output, Status::BadLine);
+    }
+}
+
 #[test]
 fn runs_scripts(rt: HostRuntime) {
-    for (script, output, status) in worked::ANSWERED {
-        expect_output(&rt, rt.alloc(), script, output, status);
-    }
+    expect_outputs(&rt, rt.alloc(), &worked::ANSWERED);
 }
 
 #[test]
 fn names_bad_lines(rt: HostRuntime) {
-    for (script, output) in worked::BAD {
-        expect_output(&rt, rt.alloc(), script, output, Status::BadLine);
-    }
+    expect_bad_lines(&rt, rt.alloc(), &worked::BAD);
 }
 
 #[test]
 fn replays_scripts_of_names(rt: HostRuntime) {
-    for (script, output, status) in replayed::OF_NAMES {
-        expect_output(&rt, rt.alloc(), script, output, status);
-    }
+    expect_outputs(&rt, rt.alloc(), &replayed::OF_NAMES);
 }
 
 #[test]
 fn replays_scripts(rt: HostRuntime) {
-    for (script, output, status) in replayed::OF_EVERY_KIND {
-        expect_output(&rt, rt.alloc(), script, output, status);
-    }
+    expect_outputs(&rt, rt.alloc(), &replayed::OF_EVERY_KIND);
 }
 
 #[test]
 fn replays_bad_lines(rt: HostRuntime) {
-    for (script, output) in replayed::BAD {
-        expect_output(&rt, rt.alloc(), script, output, Status::BadLine);
-    }
+    expect_bad_lines(&rt, rt.alloc(), &replayed::BAD);
 }
 
 #[test]
