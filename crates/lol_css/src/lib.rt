@@ -18,6 +18,3 @@ pub use parser::{Selector, SelectorsParser};
 pub use selector::{
     Combinator, ComplexSelector, Compound, CssString, SelectorList, SimpleSelector,
 };
-
-#[cfg(test)]
-mod tests;

@@ -3,7 +3,7 @@
 use lol_script::Status;
 
 /// A script, its output, and how its run ends.
-pub(super) const ANSWERED: [(&str, &str, Status); 38] = [
+pub(super) const ANSWERED: [(&str, &str, Status); 39] = [
     (
         "tries\nselect\t0\tdiv p\nselect\t1\tdiv > p\nselect\t2\t.lead p, p.lead\nselect\t3\t:not(p, .lead) > p:first-child\nstart\thtml\tdiv\nstart\thtml\tsection\tclass=wide lead\nstart\thtml\tp\nend\tp\nstart\thtml\tp\tclass=lead\nend\tdiv\nstart\thtml\tp\tclass=lead\n",
         "start\t-\tasked\ttries 4 2\nstart\t-\tasked\ttries 7 2\nstart\t0,2\tasked\ttries 6 2\nend\t2\nstart\t0,2\tasked\ttries 6 2\nend\t0,1,4\nstart\t2\tasked\ttries 4 2\n",
@@ -104,6 +104,11 @@ pub(super) const ANSWERED: [(&str, &str, Status); 38] = [
     (
         "tries\nselect\t0\tdiv:not([a*=\"\"])\nstart\thtml\tdiv\nstart\thtml\tp\n",
         "start\t0\tasked\ttries 1 1\nstart\t-\ttries 1 0\n",
+        Status::Good,
+    ),
+    (
+        "tries\nselect\t0\t:not(*)\nselect\t1\t:not(|a)\nstart\thtml\ta\n",
+        "start\t1\ttries 2 0\n",
         Status::Good,
     ),
     (

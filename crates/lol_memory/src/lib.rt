@@ -7,8 +7,6 @@ pub mod laws;
 mod limited_vec;
 mod limiter;
 mod match_info;
-#[cfg(test)]
-mod tests;
 mod words;
 
 pub use dense_hash_set::DenseHashSet;

@@ -2,6 +2,11 @@
 
 ghost use Rattle.lol_base.specs.StartTags.{RangesAreInside};
 
+use AttrSelectorOperator::{DashMatch, Equal, Includes, Prefix, Substring, Suffix};
+use Namespace::{Html, MathML, Svg};
+use ParsedCaseSensitivity::{
+    AsciiCaseInsensitive, AsciiCaseInsensitiveIfInHtmlElementInHtmlDocument, CaseSensitive,
+};
 use lol_vm::{
     AttrExprOperands, AttrSelectorOperator, AttributeBuffer, AttributeMatcher, AttributeOutline,
     AuxStartTagInfo, Bytes, Namespace, ParsedCaseSensitivity, Range,
@@ -9,6 +14,9 @@ use lol_vm::{
 use std::alloc::{AllocError, Global};
 use std::process::Abort;
 use std::test::Fail;
+
+/// Attributes as they are written: their names and values.
+type Written<'t> = &'t [(&'t str, Option<&'t str>)];
 
 /// The attributes of a tag, and the input that they stand in.
 #[derive(Drop)]
@@ -19,7 +27,7 @@ pub(crate) struct Attributes {
 
 impl Attributes {
     /// Attributes with these names and values, in this order.
-    pub(crate) fn new(alloc: Global, written: &[(&str, Option<&str>)]) -> Result<Self, AllocError> {
+    pub(crate) fn new(alloc: Global, written: Written<'_>) -> Result<Self, AllocError> {
         let mut input = Vec::new(alloc);
         let mut outlines = Vec::new(alloc);
         for (name, value) in written {
@@ -63,6 +71,120 @@ fn push(input: &mut Vec<u8>, text: &str) -> Result<Range, AllocError> {
     Ok(Range { start, end })
 }
 
+/// What an attribute is compared with: its name, the operator, the value, and whether the comparison holds.
+type Comparison<'t> = (&'t str, AttrSelectorOperator, &'t str, bool);
+
+/// Attributes, their element's namespace, and how case counts in the comparisons of them.
+type Row<'t> = (
+    Written<'t>,
+    Namespace,
+    ParsedCaseSensitivity,
+    &'t [Comparison<'t>],
+);
+
+const COMPARED: [Row<'static>; 12] = [
+    (
+        TWICE,
+        Html,
+        CaseSensitive,
+        &[("a", Equal, "a", true), ("a", Equal, "b", false)],
+    ),
+    (
+        &[("disabled", None)],
+        Html,
+        CaseSensitive,
+        &[("disabled", Equal, "", true)],
+    ),
+    (
+        &[("class", Some(" a  b"))],
+        Html,
+        CaseSensitive,
+        &[
+            ("class", Includes, "b", true),
+            ("class", Includes, " ", false),
+        ],
+    ),
+    (HYPHENS, Html, CaseSensitive, &HYPHENATED),
+    (PARTS, Html, CaseSensitive, &PARTS_OF_VALUES),
+    (
+        PARTS,
+        Html,
+        AsciiCaseInsensitive,
+        &[("b", Substring, "aba", true)],
+    ),
+    (&[("a", Some("x"))], Html, CaseSensitive, &EMPTY_OPERANDS),
+    (TYPE, Html, IN_HTML, &[("type", Equal, "TEXT", true)]),
+    (TYPE, Svg, IN_HTML, &[("type", Equal, "TEXT", false)]),
+    (TYPE, MathML, IN_HTML, &[("type", Equal, "TEXT", false)]),
+    (
+        MANY_WORDS,
+        Html,
+        AsciiCaseInsensitive,
+        &[("class", Includes, "MM", true)],
+    ),
+    (
+        MANY_WORDS,
+        Html,
+        CaseSensitive,
+        &[("class", Includes, "MM", false)],
+    ),
+];
+
+const IN_HTML: ParsedCaseSensitivity = AsciiCaseInsensitiveIfInHtmlElementInHtmlDocument;
+
+const TWICE: Written<'static> = &[
+    ("a", Some("a")),
+    ("a", Some("b")),
+    ("ID", Some("A")),
+    ("id", Some("b")),
+];
+
+const TYPE: Written<'static> = &[("type", Some("text"))];
+
+const MANY_WORDS: Written<'static> = &[(
+    "class",
+    Some("aa bb cc dd ee ff gg hh ii jj kk ll mm nn oo pp qq rr ss tt uu vv ww xx yy zz"),
+)];
+
+const HYPHENS: Written<'static> = &[
+    ("none", Some("")),
+    ("short", Some("-x")),
+    ("other", Some("x")),
+    ("whole", Some("en")),
+    ("long", Some("en-US")),
+    ("longer", Some("eng")),
+];
+
+const HYPHENATED: [Comparison<'static>; 6] = [
+    ("none", DashMatch, "", true),
+    ("short", DashMatch, "", true),
+    ("other", DashMatch, "", false),
+    ("whole", DashMatch, "en", true),
+    ("long", DashMatch, "en", true),
+    ("longer", DashMatch, "en", false),
+];
+
+const PARTS: Written<'static> = &[("a", Some("ab")), ("b", Some("xABab"))];
+
+const PARTS_OF_VALUES: [Comparison<'static>; 9] = [
+    ("a", Prefix, "abc", false),
+    ("a", Suffix, "abc", false),
+    ("a", Substring, "abc", false),
+    ("b", Prefix, "xA", true),
+    ("b", Prefix, "A", false),
+    ("b", Suffix, "Bab", true),
+    ("b", Suffix, "a", false),
+    ("b", Substring, "ABa", true),
+    ("b", Substring, "aba", false),
+];
+
+const EMPTY_OPERANDS: [Comparison<'static>; 4] = [
+    ("a", Prefix, "", true),
+    ("a", Suffix, "", true),
+    ("a", Substring, "", false),
+    ("a", Includes, "", false),
+];
+
 fn operand(
     alloc: Global,
     name: &str,
@@ -76,252 +198,118 @@ fn operand(
     })
 }
 
-/// What an attribute's value is compared with: its name, the operator, the value, and whether the comparison holds.
-type Row<'t> = (&'t str, AttrSelectorOperator, &'t str, bool);
-
 fn holds(
     attributes: &AttributeMatcher<'_>,
     operator: AttrSelectorOperator,
     operand: &AttrExprOperands,
 ) -> bool {
     match operator {
-        AttrSelectorOperator::Equal => attributes.attr_eq(operand),
-        AttrSelectorOperator::Includes => attributes.matches_splitted_by_whitespace(operand),
-        AttrSelectorOperator::DashMatch => attributes.has_dash_matching_attr(operand),
-        AttrSelectorOperator::Prefix => attributes.has_attr_with_prefix(operand),
-        AttrSelectorOperator::Suffix => attributes.has_attr_with_suffix(operand),
-        AttrSelectorOperator::Substring => attributes.has_attr_with_substring(operand),
+        Equal => attributes.attr_eq(operand),
+        Includes => attributes.matches_splitted_by_whitespace(operand),
+        DashMatch => attributes.has_dash_matching_attr(operand),
+        Prefix => attributes.has_attr_with_prefix(operand),
+        Suffix => attributes.has_attr_with_suffix(operand),
+        Substring => attributes.has_attr_with_substring(operand),
     }
 }
 
-fn compare(
-    rt: &impl Abort,
+/// Whether each comparison holds where it is said to.
+fn hold_as_said(
     alloc: Global,
     attributes: &AttributeMatcher<'_>,
     case_sensitivity: ParsedCaseSensitivity,
-    row: &Row<'_>,
-) -> Result<(), AllocError> {
-    let (name, operator, value, answer) = row;
-    let operand = operand(alloc, name, value, case_sensitivity)?;
-    assert!(rt;
-        holds(attributes, *operator, &operand) == *answer,
-        "{name}, {value}"
-    );
-    Ok(())
-}
-
-/// Compares attributes with case.
-fn compare_all(
-    rt: &impl Abort,
-    alloc: Global,
-    attributes: &AttributeMatcher<'_>,
-    rows: &[Row<'_>],
-) -> Result<(), AllocError> {
-    for row in rows {
-        compare(
-            rt,
-            alloc,
-            attributes,
-            ParsedCaseSensitivity::CaseSensitive,
-            row,
-        )?;
+    comparisons: &[Comparison<'_>],
+) -> Result<bool, AllocError> {
+    for (name, operator, value, answer) in comparisons {
+        let operand = operand(alloc, name, value, case_sensitivity)?;
+        if holds(attributes, *operator, &operand) != *answer {
+            return Ok(false);
+        }
     }
-    Ok(())
+    Ok(true)
 }
 
-/// Looks for words of `class`.
-fn expect_words(rt: &impl Abort, attributes: &AttributeMatcher<'_>, words: &[(&str, bool)]) {
-    for (word, there) in words {
-        assert!(rt; attributes.has_class(word.as_bytes()) == *there, "{word}");
-    }
-}
-
-/// Looks for attributes.
-fn expect_names(rt: &impl Abort, attributes: &AttributeMatcher<'_>, names: &[(&str, bool)]) {
-    for (name, there) in names {
+#[test]
+fn are_compared(rt: HostRuntime) -> Result<(), Fail> {
+    let alloc = rt.alloc();
+    for (place, (written, ns, case_sensitivity, comparisons)) in COMPARED.iter().enumerate() {
+        let tag = Attributes::new(alloc, written)?;
+        let tag = tag.matcher(&rt, *ns);
         assert!(rt;
-            attributes.has_attribute(name.as_bytes()) == *there,
-            "{name}"
+            hold_as_said(alloc, &tag, *case_sensitivity, comparisons)?,
+            "row {place}"
         );
     }
+    Ok(())
 }
 
-/// Looks for ids.
-fn expect_ids(rt: &impl Abort, attributes: &AttributeMatcher<'_>, ids: &[(&str, bool)]) {
-    for (id, there) in ids {
-        assert!(rt; attributes.has_id(id.as_bytes()) == *there, "{id}");
+/// What is looked for.
+#[derive(Clone, Copy)]
+enum Sought {
+    Name,
+    Id,
+    Word,
+}
+
+use Sought::{Id, Name, Word};
+
+/// Attributes, and what is looked for in them: whether it is there.
+const LOOKED_FOR: [(Written<'static>, &[(Sought, &str, bool)]); 4] = [
+    (
+        TWICE,
+        &[(Id, "A", true), (Id, "a", false), (Id, "b", false)],
+    ),
+    (
+        &[("disabled", None), ("FOO", Some("bar"))],
+        &[
+            (Name, "disabled", true),
+            (Name, "foo", true),
+            (Name, "FOO", false),
+            (Name, "fo", false),
+            (Id, "", false),
+            (Word, "", false),
+        ],
+    ),
+    (
+        &[("class", Some(" a  b"))],
+        &[
+            (Word, "a", true),
+            (Word, "b", true),
+            (Word, "", true),
+            (Word, "A", false),
+            (Word, "a  b", false),
+        ],
+    ),
+    (
+        MANY_WORDS,
+        &[
+            (Word, "aa", true),
+            (Word, "mm", true),
+            (Word, "zz", true),
+            (Word, "a", false),
+            (Word, "aa bb", false),
+            (Word, "MM", false),
+            (Word, "", false),
+        ],
+    ),
+];
+
+fn has(attributes: &AttributeMatcher<'_>, sought: Sought, text: &str) -> bool {
+    match sought {
+        Name => attributes.has_attribute(text.as_bytes()),
+        Id => attributes.has_id(text.as_bytes()),
+        Word => attributes.has_class(text.as_bytes()),
     }
 }
 
 #[test]
-fn first_attribute_of_a_name(rt: HostRuntime) -> Result<(), Fail> {
-    let alloc = rt.alloc();
-    let written = [
-        ("a", Some("a")),
-        ("a", Some("b")),
-        ("ID", Some("A")),
-        ("id", Some("b")),
-    ];
-    let twice = Attributes::new(alloc, &written)?;
-    let twice = twice.matcher(&rt, Namespace::Html);
-    let rows = [
-        ("a", AttrSelectorOperator::Equal, "a", true),
-        ("a", AttrSelectorOperator::Equal, "b", false),
-    ];
-    compare_all(&rt, alloc, &twice, &rows)?;
-    expect_ids(&rt, &twice, &[("A", true), ("a", false), ("b", false)]);
-    Ok(())
-}
-
-#[test]
-fn attributes_that_are_there(rt: HostRuntime) -> Result<(), Fail> {
-    let alloc = rt.alloc();
-    let written = Attributes::new(alloc, &[("disabled", None), ("FOO", Some("bar"))])?;
-    let written = written.matcher(&rt, Namespace::Html);
-    let names = [
-        ("disabled", true),
-        ("foo", true),
-        ("FOO", false),
-        ("fo", false),
-    ];
-    expect_names(&rt, &written, &names);
-    expect_ids(&rt, &written, &[("", false)]);
-    expect_words(&rt, &written, &[("", false)]);
-    compare_all(
-        &rt,
-        alloc,
-        &written,
-        &[("disabled", AttrSelectorOperator::Equal, "", true)],
-    )?;
-    Ok(())
-}
-
-#[test]
-fn words_of_class(rt: HostRuntime) -> Result<(), Fail> {
-    let alloc = rt.alloc();
-    let words = Attributes::new(alloc, &[("class", Some(" a  b"))])?;
-    let words = words.matcher(&rt, Namespace::Html);
-    let wanted = [
-        ("a", true),
-        ("b", true),
-        ("", true),
-        ("A", false),
-        ("a  b", false),
-    ];
-    expect_words(&rt, &words, &wanted);
-    let rows = [
-        ("class", AttrSelectorOperator::Includes, "b", true),
-        ("class", AttrSelectorOperator::Includes, " ", false),
-    ];
-    compare_all(&rt, alloc, &words, &rows)?;
-    Ok(())
-}
-
-#[test]
-fn hyphens(rt: HostRuntime) -> Result<(), Fail> {
-    let alloc = rt.alloc();
-    let written = [
-        ("none", Some("")),
-        ("short", Some("-x")),
-        ("other", Some("x")),
-        ("whole", Some("en")),
-        ("long", Some("en-US")),
-        ("longer", Some("eng")),
-    ];
-    let tag = Attributes::new(alloc, &written)?;
-    let rows = [
-        ("none", AttrSelectorOperator::DashMatch, "", true),
-        ("short", AttrSelectorOperator::DashMatch, "", true),
-        ("other", AttrSelectorOperator::DashMatch, "", false),
-        ("whole", AttrSelectorOperator::DashMatch, "en", true),
-        ("long", AttrSelectorOperator::DashMatch, "en", true),
-        ("longer", AttrSelectorOperator::DashMatch, "en", false),
-    ];
-    compare_all(&rt, alloc, &tag.matcher(&rt, Namespace::Html), &rows)?;
-    Ok(())
-}
-
-#[test]
-fn parts_of_a_value(rt: HostRuntime) -> Result<(), Fail> {
-    let alloc = rt.alloc();
-    let tag = Attributes::new(alloc, &[("a", Some("ab")), ("b", Some("xABab"))])?;
-    let tag = tag.matcher(&rt, Namespace::Html);
-    let rows = [
-        ("a", AttrSelectorOperator::Prefix, "abc", false),
-        ("a", AttrSelectorOperator::Suffix, "abc", false),
-        ("a", AttrSelectorOperator::Substring, "abc", false),
-        ("b", AttrSelectorOperator::Prefix, "xA", true),
-        ("b", AttrSelectorOperator::Prefix, "A", false),
-        ("b", AttrSelectorOperator::Suffix, "Bab", true),
-        ("b", AttrSelectorOperator::Suffix, "a", false),
-        ("b", AttrSelectorOperator::Substring, "ABa", true),
-        ("b", AttrSelectorOperator::Substring, "aba", false),
-    ];
-    compare_all(&rt, alloc, &tag, &rows)?;
-    let caseless = ("b", AttrSelectorOperator::Substring, "aba", true);
-    compare(
-        &rt,
-        alloc,
-        &tag,
-        ParsedCaseSensitivity::AsciiCaseInsensitive,
-        &caseless,
-    )?;
-    Ok(())
-}
-
-#[test]
-fn empty_operands(rt: HostRuntime) -> Result<(), Fail> {
-    let alloc = rt.alloc();
-    let tag = Attributes::new(alloc, &[("a", Some("x"))])?;
-    let rows = [
-        ("a", AttrSelectorOperator::Prefix, "", true),
-        ("a", AttrSelectorOperator::Suffix, "", true),
-        ("a", AttrSelectorOperator::Substring, "", false),
-        ("a", AttrSelectorOperator::Includes, "", false),
-    ];
-    compare_all(&rt, alloc, &tag.matcher(&rt, Namespace::Html), &rows)?;
-    Ok(())
-}
-
-#[test]
-fn case_by_namespace(rt: HostRuntime) -> Result<(), Fail> {
-    let alloc = rt.alloc();
-    let tag = Attributes::new(alloc, &[("type", Some("text"))])?;
-    let case = ParsedCaseSensitivity::AsciiCaseInsensitiveIfInHtmlElementInHtmlDocument;
-    for (ns, answer) in [
-        (Namespace::Html, true),
-        (Namespace::Svg, false),
-        (Namespace::MathML, false),
-    ] {
-        let row = ("type", AttrSelectorOperator::Equal, "TEXT", answer);
-        compare(&rt, alloc, &tag.matcher(&rt, ns), case, &row)?;
+fn are_looked_for(rt: HostRuntime) -> Result<(), Fail> {
+    for (written, rows) in LOOKED_FOR {
+        let tag = Attributes::new(rt.alloc(), written)?;
+        let tag = tag.matcher(&rt, Html);
+        for (sought, text, there) in rows {
+            assert!(rt; has(&tag, *sought, text) == *there, "{text}");
+        }
     }
-    Ok(())
-}
-
-#[test]
-fn long_values(rt: HostRuntime) -> Result<(), Fail> {
-    let alloc = rt.alloc();
-    let value = "aa bb cc dd ee ff gg hh ii jj kk ll mm nn oo pp qq rr ss tt uu vv ww xx yy zz";
-    let tag = Attributes::new(alloc, &[("class", Some(value))])?;
-    let tag = tag.matcher(&rt, Namespace::Html);
-    let words = [
-        ("aa", true),
-        ("mm", true),
-        ("zz", true),
-        ("a", false),
-        ("aa bb", false),
-        ("MM", false),
-        ("", false),
-    ];
-    expect_words(&rt, &tag, &words);
-    let caseless = ("class", AttrSelectorOperator::Includes, "MM", true);
-    compare(
-        &rt,
-        alloc,
-        &tag,
-        ParsedCaseSensitivity::AsciiCaseInsensitive,
-        &caseless,
-    )?;
     Ok(())
 }

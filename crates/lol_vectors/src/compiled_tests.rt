@@ -8,76 +8,83 @@ use lol_program::{
     CompiledTest, LocalNameExprTest,
 };
 use lol_vm::{
-    AttrSelectorOperator, AttributeComparisonExpr, ChildCounter, LocalName, NameValue, Namespace,
-    NthChild, OnAttributesExpr, OnTagNameExpr, ParsedCaseSensitivity, Predicate, SelectorState,
-    Test, Tries,
+    AttrSelectorOperator, AttributeComparisonExpr, AttributeMatcher, ChildCounter, LocalName,
+    NameValue, Namespace, NthChild, OnAttributesExpr, OnTagNameExpr, ParsedCaseSensitivity,
+    Predicate, SelectorState, Test, Tries,
 };
 use std::alloc::{AllocError, Global};
 use std::process::Abort;
 use std::test::Fail;
 
-fn comparison(
+/// Tests of attributes: the name, the operator and the value (none where the attribute only has to be there), and whether `foo=bar` passes.
+const TESTS: [(&str, Option<(AttrSelectorOperator, &str)>, bool); 15] = [
+    ("FOO", Some((AttrSelectorOperator::Equal, "bar")), true),
+    ("FOO", None, false),
+    ("foo", None, true),
+    ("foo", Some((AttrSelectorOperator::Includes, "bar")), true),
+    ("foo", Some((AttrSelectorOperator::Includes, "")), false),
+    ("foo", Some((AttrSelectorOperator::Prefix, "ba")), true),
+    ("foo", Some((AttrSelectorOperator::Prefix, "")), false),
+    ("foo", Some((AttrSelectorOperator::Suffix, "ar")), true),
+    ("foo", Some((AttrSelectorOperator::Suffix, "")), false),
+    ("foo", Some((AttrSelectorOperator::Substring, "a")), true),
+    ("foo", Some((AttrSelectorOperator::Substring, "")), false),
+    ("foo", Some((AttrSelectorOperator::Equal, "bar")), true),
+    ("foo", Some((AttrSelectorOperator::Equal, "")), false),
+    ("foo", Some((AttrSelectorOperator::DashMatch, "bar")), true),
+    ("foo", Some((AttrSelectorOperator::DashMatch, "ba")), false),
+];
+
+fn test_of(
     alloc: Global,
     name: &str,
-    operator: AttrSelectorOperator,
-    value: &str,
+    compared: Option<(AttrSelectorOperator, &str)>,
 ) -> Result<Test, AllocError> {
-    Ok(Test::Attribute(OnAttributesExpr::AttributeComparisonExpr(AttributeComparisonExpr::new(
-        String::from_str(alloc, name)?,
-        String::from_str(alloc, value)?,
-        ParsedCaseSensitivity::CaseSensitive,
-        operator,
-    ))))
+    let name = String::from_str(alloc, name)?;
+    let expr = match compared {
+        Some((operator, value)) => {
+            let value = String::from_str(alloc, value)?;
+            let case = ParsedCaseSensitivity::CaseSensitive;
+            let comparison = AttributeComparisonExpr::new(name, value, case, operator);
+            OnAttributesExpr::AttributeComparisonExpr(comparison)
+        }
+        None => OnAttributesExpr::AttributeExists(name),
+    };
+    Ok(Test::Attribute(expr))
 }
 
-/// Whether `foo=bar` passes a test of attributes.
-fn passes(rt: &impl Abort, alloc: Global, test: Test) -> Result<bool, AllocError> {
-    let mut enable_nth_of_type = false;
-    let CompiledTest::Attribute(expr) = test.compile(alloc, &mut enable_nth_of_type)? else {
-        return Ok(false);
-    };
-    assert!(rt; !enable_nth_of_type);
-    let attributes = Attributes::new(alloc, &[("foo", Some("bar"))])?;
+/// Whether attributes pass a compiled test of attributes.
+fn is_passed(compiled: &CompiledTest, attributes: &AttributeMatcher<'_>) -> bool {
     let counter = ChildCounter::new_and_inc();
     let state = SelectorState {
         cumulative: &counter,
         typed: None,
     };
-    Ok(expr.eval(&state, &attributes.matcher(rt, Namespace::Html)))
+    match compiled {
+        CompiledTest::Attribute(expr) => expr.eval(&state, attributes),
+        _ => false,
+    }
+}
+
+/// Whether attributes pass a test, once it is compiled; it isn't one by type.
+fn passes(
+    alloc: Global,
+    test: Test,
+    attributes: &AttributeMatcher<'_>,
+) -> Result<bool, AllocError> {
+    let mut enable_nth_of_type = false;
+    let compiled = test.compile(alloc, &mut enable_nth_of_type)?;
+    Ok(!enable_nth_of_type && is_passed(&compiled, attributes))
 }
 
 #[test]
-fn names_of_attributes(rt: HostRuntime) -> Result<(), Fail> {
-    let alloc = rt.alloc();
-    let equal = comparison(alloc, "FOO", AttrSelectorOperator::Equal, "bar")?;
-    assert!(rt; passes(&rt, alloc, equal)?);
-    for (name, there) in [("FOO", false), ("foo", true)] {
-        let name = String::from_str(alloc, name)?;
-        let exists = Test::Attribute(OnAttributesExpr::AttributeExists(name));
-        assert!(rt; passes(&rt, alloc, exists)? == there);
-    }
-    Ok(())
-}
-
-#[test]
-fn operators(rt: HostRuntime) -> Result<(), Fail> {
-    let alloc = rt.alloc();
-    for (operator, operand) in [
-        (AttrSelectorOperator::Includes, "bar"),
-        (AttrSelectorOperator::Prefix, "ba"),
-        (AttrSelectorOperator::Suffix, "ar"),
-        (AttrSelectorOperator::Substring, "a"),
-    ] {
-        assert!(rt; passes(&rt, alloc, comparison(alloc, "foo", operator, operand)?)?);
-        assert!(rt; !passes(&rt, alloc, comparison(alloc, "foo", operator, "")?)?);
-    }
-    for (operator, operand, holds) in [
-        (AttrSelectorOperator::Equal, "bar", true),
-        (AttrSelectorOperator::Equal, "", false),
-        (AttrSelectorOperator::DashMatch, "bar", true),
-        (AttrSelectorOperator::DashMatch, "ba", false),
-    ] {
-        assert!(rt; passes(&rt, alloc, comparison(alloc, "foo", operator, operand)?)? == holds);
+fn of_attributes(rt: HostRuntime) -> Result<(), Fail> {
+    let attributes = Attributes::new(rt.alloc(), &[("foo", Some("bar"))])?;
+    let attributes = attributes.matcher(&rt, Namespace::Html);
+    for (name, compared, answer) in TESTS {
+        let test = test_of(rt.alloc(), name, compared)?;
+        let passed = passes(rt.alloc(), test, &attributes)?;
+        assert!(rt; passed == answer, "{name}");
     }
     Ok(())
 }
@@ -104,7 +111,7 @@ fn flag_of_tests_by_type(rt: HostRuntime) -> Result<(), Fail> {
 }
 
 /// Selectors, the tag of an element that is the first child, its value by names, and whether it passes.
-const ROWS: [(&str, &str, NameValue, bool); 26] = [
+const ROWS: [(&str, &str, NameValue, bool); 28] = [
     (":not(div.foo)", "div", NameValue::Open, true),
     (":not(div.foo)", "div@class=foo", NameValue::Open, false),
     (":not(div.foo)", "p@class=foo", NameValue::True, true),
@@ -126,6 +133,8 @@ const ROWS: [(&str, &str, NameValue, bool); 26] = [
     (":where(a.x, p)", "a@class=x", NameValue::Open, true),
     (":not(:is(a, b))", "a", NameValue::False, false),
     (":not(:is(a, b))", "c", NameValue::True, true),
+    (":is(h1, h2)", "h1", NameValue::True, true),
+    (":is(h1, h2)", "p", NameValue::False, false),
     ("p:nth-child(2)", "p", NameValue::False, false),
     ("p:first-child", "P", NameValue::True, true),
     ("p:first-of-type.x", "p@class=x", NameValue::Open, true),

@@ -8,21 +8,42 @@ use std::alloc::{AllocError, Global};
 use std::process::Abort;
 use std::test::Fail;
 
-fn branch(
+/// A branch: its ids, and its two ranges.
+type Branch = (
+    &'static [u32],
+    Option<(usize, usize)>,
+    Option<(usize, usize)>,
+);
+
+/// What a start tag gathers.
+const GATHERED: [Branch; 2] = [
+    (&[40, 7], Some((2, 4)), None),
+    (&[3, 7], None, Some((5, 6))),
+];
+
+fn range(bounds: &Option<(usize, usize)>) -> Option<AddressRange> {
+    match bounds {
+        Some((start, end)) => Some(*start..*end),
+        None => None,
+    }
+}
+
+fn add(
+    ctx: &mut ExecutionCtx<'static, Numbered>,
     alloc: Global,
-    ids: &[u32],
-    jumps: Option<AddressRange>,
-    hereditary_jumps: Option<AddressRange>,
-) -> Result<ExecutionBranch, AllocError> {
+    branch: &Branch,
+) -> Result<(), AllocError> {
+    let (ids, jumps, hereditary_jumps) = branch;
     let mut matched_ids = DenseHashSet::new(alloc);
-    for id in ids {
+    for id in *ids {
         matched_ids.insert(*id)?;
     }
-    Ok(ExecutionBranch {
+    let branch = ExecutionBranch {
         matched_ids,
-        jumps,
-        hereditary_jumps,
-    })
+        jumps: range(jumps),
+        hereditary_jumps: range(hereditary_jumps),
+    };
+    ctx.add_execution_branch(alloc, &branch)
 }
 
 /// The ids that were reported with and without content, and whether memory for one was refused.
@@ -62,9 +83,16 @@ fn ids_of(
 fn gathered(alloc: Global) -> Result<ExecutionCtx<'static, Numbered>, AllocError> {
     let name = LocalName::new(b"x-Item");
     let mut ctx = ExecutionCtx::new(alloc, name, Namespace::Svg, true);
-    ctx.add_execution_branch(alloc, &branch(alloc, &[40, 7], Some(2..4), None)?)?;
-    ctx.add_execution_branch(alloc, &branch(alloc, &[3, 7], None, Some(5..6))?)?;
+    for branch in &GATHERED {
+        add(&mut ctx, alloc, branch)?;
+    }
     Ok(ctx)
+}
+
+/// Whether the ranges are those of `GATHERED`.
+fn has_ranges(ctx: &ExecutionCtx<'_, Numbered>) -> bool {
+    ctx.stack_item.jumps.as_slice() == [2..4].as_slice()
+        && ctx.stack_item.hereditary_jumps.as_slice() == [5..6].as_slice()
 }
 
 /// Expects three ids and a range of each kind.
@@ -76,8 +104,7 @@ fn expect_gathered(
 ) {
     let ids = ids_of(rt, alloc, ctx);
     assert!(rt; ids.as_slice() == [(3, content), (7, content), (40, content)].as_slice());
-    assert!(rt; ctx.stack_item.jumps.as_slice() == [2..4].as_slice());
-    assert!(rt; ctx.stack_item.hereditary_jumps.as_slice() == [5..6].as_slice());
+    assert!(rt; has_ranges(ctx));
 }
 
 #[test]
@@ -93,12 +120,9 @@ fn are_ids_and_ranges(rt: HostRuntime) -> Result<(), Fail> {
 fn gain_no_range_without_content(rt: HostRuntime) -> Result<(), Fail> {
     let mut ctx = gathered(rt.alloc())?;
     ctx.with_content = false;
-    let other = branch(rt.alloc(), &[1], Some(7..8), Some(8..9))?;
-    ctx.add_execution_branch(rt.alloc(), &other)?;
+    add(&mut ctx, rt.alloc(), &(&[1], Some((7, 8)), Some((8, 9))))?;
     let mut owned = ctx.into_owned(rt.alloc())?;
-    assert!(rt; !owned.with_content);
-    assert!(rt; owned.stack_item.jumps.as_slice() == [2..4].as_slice());
-    assert!(rt; owned.stack_item.hereditary_jumps.as_slice() == [5..6].as_slice());
+    assert!(rt; !owned.with_content && has_ranges(&owned));
     let ids = ids_of(&rt, rt.alloc(), &mut owned);
     assert!(rt; ids.as_slice() == [(1, false), (3, false), (7, false), (40, false)].as_slice());
     Ok(())

@@ -70,36 +70,52 @@ fn expect_exec(
 
 #[test]
 fn tries_with_attributes(rt: HostRuntime) -> Result<(), Fail> {
-    let alloc = rt.alloc();
-    let div_a = instruction(&rt, alloc, "div.a")?;
-    expect_exec(&rt, alloc, &div_a, "p@class=a", false, (1, 0))?;
-    expect_exec(&rt, alloc, &div_a, "div@class=b", false, (1, 1))?;
-    expect_exec(&rt, alloc, &div_a, "div@class=a", true, (1, 1))?;
-    expect_exec(
-        &rt,
-        alloc,
-        &Instruction::noop(alloc),
-        "p@class=b",
-        true,
-        (1, 0),
-    )?;
+    let div_a = instruction(&rt, rt.alloc(), "div.a")?;
+    for (tag, passes, tries) in [
+        ("p@class=a", false, (1, 0)),
+        ("div@class=b", false, (1, 1)),
+        ("div@class=a", true, (1, 1)),
+    ] {
+        expect_exec(&rt, rt.alloc(), &div_a, tag, passes, tries)?;
+    }
     Ok(())
 }
 
 #[test]
-fn completes_with_attributes(rt: HostRuntime) -> Result<(), Fail> {
-    let div_a = instruction(&rt, rt.alloc(), "div.a")?;
-    let attributes = TagWord::of("div@class=a").attributes(rt.alloc())?;
-    let matcher = attributes.matcher(&rt, Namespace::Html);
+fn passes_where_nothing_is_tested(rt: HostRuntime) -> Result<(), Fail> {
+    let noop = Instruction::noop(rt.alloc());
+    expect_exec(&rt, rt.alloc(), &noop, "p@class=b", true, (1, 0))?;
+    Ok(())
+}
+
+/// Completes an instruction at a tag with its attributes, and expects its branch and one try.
+fn expect_completion(
+    rt: &impl Abort,
+    alloc: Global,
+    instruction: &Instruction,
+    tag: &TagWord<'_>,
+) -> Result<(), AllocError> {
+    let attributes = tag.attributes(alloc)?;
+    let matcher = attributes.matcher(rt, Namespace::Html);
     let counter = ChildCounter::new_and_inc();
     let state = SelectorState {
         cumulative: &counter,
         typed: None,
     };
     let mut tries = Tries::new();
-    let name = LocalName::new(b"div");
-    let branch = div_a.complete_exec_with_attrs(&state, &name, &matcher, &mut tries);
-    assert!(rt; *branch.expect(&rt, "a branch") == div_a.associated_branch);
-    expect_tries(&rt, &tries, 0, 1);
+    let name = LocalName::new(tag.name.as_bytes());
+    let passed = match instruction.complete_exec_with_attrs(&state, &name, &matcher, &mut tries) {
+        Some(branch) => *branch == instruction.associated_branch,
+        None => false,
+    };
+    assert!(rt; passed);
+    expect_tries(rt, &tries, 0, 1);
+    Ok(())
+}
+
+#[test]
+fn completes_with_attributes(rt: HostRuntime) -> Result<(), Fail> {
+    let div_a = instruction(&rt, rt.alloc(), "div.a")?;
+    expect_completion(&rt, rt.alloc(), &div_a, &TagWord::of("div@class=a"))?;
     Ok(())
 }

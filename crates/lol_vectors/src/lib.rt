@@ -11,6 +11,8 @@ mod contexts;
 #[cfg(test)]
 mod counters;
 #[cfg(test)]
+mod css;
+#[cfg(test)]
 mod instructions;
 #[cfg(test)]
 mod limits;
@@ -50,6 +52,8 @@ mod stack_model;
 mod stacks;
 #[cfg(test)]
 mod tag_words;
+#[cfg(test)]
+mod texts;
 #[cfg(test)]
 mod trees;
 

@@ -6,17 +6,19 @@ use lol_memory::{LimitedVec, MemoryLimitExceededError, PushError, SharedMemoryLi
 use std::process::Abort;
 use std::test::Fail;
 
+/// Whether so many bytes more are counted or not, as it is said, and this is the usage then.
+fn counts(limiter: &mut SharedMemoryLimiter, bytes: usize, fits: bool, usage: usize) -> bool {
+    limiter.increase_usage(bytes).is_ok() == fits && limiter.current_usage() == usage
+}
+
 #[test]
 fn counts_up_to_the_maximum(rt: HostRuntime) {
     let mut limiter = SharedMemoryLimiter::new(10);
-    assert!(rt; limiter.increase_usage(3).is_ok());
-    assert_eq!(rt; limiter.current_usage(), 3);
-    assert!(rt; limiter.increase_usage(5).is_ok());
+    assert!(rt; counts(&mut limiter, 3, true, 3) && counts(&mut limiter, 5, true, 8));
     assert_eq!(rt; limiter.current_usage(), 8);
     limiter.decrease_usage(4);
     assert_eq!(rt; limiter.current_usage(), 4);
-    assert!(rt; limiter.increase_usage(15).is_err());
-    assert_eq!(rt; limiter.current_usage(), 4);
+    assert!(rt; counts(&mut limiter, 15, false, 4));
 }
 
 #[test]

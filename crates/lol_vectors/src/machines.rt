@@ -105,26 +105,26 @@ fn combine_children_and_descendants(rt: HostRuntime) -> Result<(), Fail> {
                 End("div", &[&[], &[], &[0]]),
             ],
         ),
-    )?;
+    )
+}
+
+#[test]
+fn find_descendants_again(rt: HostRuntime) -> Result<(), Fail> {
+    let first = Start(Written::html("div"), Unasked, &[], true, (1, 0));
+    let inside = Start(Written::html("div"), Unasked, &[0], true, (2, 0));
     check(
         &rt,
         rt.alloc(),
         (
             &[("div div", 0)],
             false,
-            &[
-                Start(Written::html("div"), Unasked, &[], true, (1, 0)),
-                Start(Written::html("div"), Unasked, &[0], true, (2, 0)),
-                Start(Written::html("div"), Unasked, &[0], true, (2, 0)),
-                End("div", &[&[0]]),
-                Start(Written::html("div"), Unasked, &[0], true, (2, 0)),
-            ],
+            &[first, inside, inside, End("div", &[&[0]]), inside],
         ),
     )
 }
 
 #[test]
-fn ask_where_attributes_decide(rt: HostRuntime) -> Result<(), Fail> {
+fn stop_at_an_entry(rt: HostRuntime) -> Result<(), Fail> {
     let class_a = Written::html("div").with(&[("class", Some("a"))]);
     check(
         &rt,
@@ -137,7 +137,46 @@ fn ask_where_attributes_decide(rt: HostRuntime) -> Result<(), Fail> {
                 Start(Written::html("p"), Asked, &[0, 1], true, (3, 1)),
             ],
         ),
-    )?;
+    )
+}
+
+#[test]
+fn stop_at_a_child(rt: HostRuntime) -> Result<(), Fail> {
+    let class_b = Written::html("p").with(&[("class", Some("b"))]);
+    check(
+        &rt,
+        rt.alloc(),
+        (
+            &[("div > .a", 0), ("div .b", 1), ("div > p", 2)],
+            false,
+            &[
+                Start(Written::html("div"), Unasked, &[], true, (1, 0)),
+                Start(class_b, Asked, &[1, 2], true, (4, 2)),
+            ],
+        ),
+    )
+}
+
+#[test]
+fn stop_at_a_descendant(rt: HostRuntime) -> Result<(), Fail> {
+    let class_b = Written::html("p").with(&[("class", Some("b"))]);
+    check(
+        &rt,
+        rt.alloc(),
+        (
+            &[("div .b", 0)],
+            false,
+            &[
+                Start(Written::html("div"), Unasked, &[], true, (1, 0)),
+                Start(Written::html("section"), Asked, &[], true, (2, 1)),
+                Start(class_b, Asked, &[0], true, (2, 1)),
+            ],
+        ),
+    )
+}
+
+#[test]
+fn ask_where_attributes_decide(rt: HostRuntime) -> Result<(), Fail> {
     check(
         &rt,
         rt.alloc(),
@@ -149,7 +188,11 @@ fn ask_where_attributes_decide(rt: HostRuntime) -> Result<(), Fail> {
                 Start(Written::html("p"), Unasked, &[0], true, (1, 0)),
             ],
         ),
-    )?;
+    )
+}
+
+#[test]
+fn try_each_test_of_attributes(rt: HostRuntime) -> Result<(), Fail> {
     let p = Written::html("p").with(&[("a", Some("x"))]);
     check(
         &rt,
@@ -282,11 +325,16 @@ fn charge_in_steps(rt: HostRuntime) -> Result<(), Fail> {
     let alloc = rt.alloc();
     let mut limiter = SharedMemoryLimiter::new(2048);
     let mut vm = machine(&rt, alloc, selectors(alloc, &[("p", 0)])?);
+    assert_eq!(rt; vm.charged_slots(), 0);
     for slots in [8, 8, 8, 8, 8, 8, 8, 8, 16] {
         let step = Start(Written::html("b"), Unasked, &[], true, (1, 0));
         take_step(&rt, alloc, &mut vm, &mut limiter, &step);
         assert_eq!(rt; vm.charged_slots(), slots);
     }
+    for name in ["b"; 6] {
+        take_step(&rt, alloc, &mut vm, &mut limiter, &End(name, &[&[]]));
+    }
+    assert_eq!(rt; (vm.charged_slots(), limiter.current_usage()), (16, 1024));
     release(&rt, vm, &mut limiter);
     Ok(())
 }

@@ -33,6 +33,25 @@ fn name(alloc: Global, name: &str) -> Result<Test, AllocError> {
     Ok(Test::Name(OnTagNameExpr::LocalName(String::from_str(alloc, name)?)))
 }
 
+/// The test of a part: an id after `#`, a class after `.`, an attribute after `[`, or a name.
+fn part(alloc: Global, text: &str) -> Result<Test, AllocError> {
+    if let Some(id) = text.strip_prefix("#") {
+        let id = String::from_str(alloc, id)?;
+        return Ok(Test::Attribute(OnAttributesExpr::Id(id)));
+    }
+    if let Some(class) = text.strip_prefix(".") {
+        let class = String::from_str(alloc, class)?;
+        return Ok(Test::Attribute(OnAttributesExpr::Class(class)));
+    }
+    match text.strip_prefix("[") {
+        Some(name) => {
+            let name = String::from_str(alloc, name)?;
+            Ok(Test::Attribute(OnAttributesExpr::AttributeExists(name)))
+        }
+        None => name(alloc, text),
+    }
+}
+
 /// The test that no element passes this one.
 fn none_of(alloc: Global, test: Test) -> Result<Test, AllocError> {
     let tests = vec![in alloc; test]?;
@@ -45,6 +64,22 @@ fn node<'n>(rt: &impl Abort, nodes: &'n [AstNode], place: usize) -> &'n AstNode 
 
 fn has_ids(node: &AstNode, ids: &[u32]) -> bool {
     node.match_ids.iter().eq(ids.iter().copied())
+}
+
+/// Expects a node to test this part alone, and to have these ids.
+fn expect_node(
+    rt: &impl Abort,
+    alloc: Global,
+    node: &AstNode,
+    text: &str,
+    ids: &[u32],
+) -> Result<(), AllocError> {
+    let tests = vec![in alloc; part(alloc, text)?]?;
+    assert!(rt;
+        node.predicate.tests == tests && has_ids(node, ids),
+        "{text}"
+    );
+    Ok(())
 }
 
 /// The tests of the one node that a text makes.
@@ -80,20 +115,19 @@ fn parts_stand_from_right_to_left(rt: HostRuntime) -> Result<(), Fail> {
 
 #[test]
 fn equal_beginnings_are_shared(rt: HostRuntime) -> Result<(), Fail> {
-    let ast = tree(
-        rt.alloc(),
-        &[
-            ("#foo > div, #foo > span", 0),
-            ("#foo > .c1, #foo > .c2", 1),
-        ],
-    )?;
+    let alloc = rt.alloc();
+    let texts = [
+        ("#foo > div, #foo > span", 0),
+        ("#foo > .c1, #foo > .c2", 1),
+    ];
+    let ast = tree(alloc, &texts)?;
     assert!(rt; ast.cumulative_node_count() == 5);
     assert!(rt; ast.root().len() == 1);
     let foo = node(&rt, ast.root(), 0);
-    assert!(rt; has_ids(foo, &[]));
+    expect_node(&rt, alloc, foo, "#foo", &[])?;
     assert!(rt; foo.descendants.is_empty());
-    for (place, id) in [(0, 0), (1, 0), (2, 1), (3, 1)] {
-        assert!(rt; has_ids(node(&rt, &foo.children, place), &[id]));
+    for (place, text, id) in [(0, "div", 0), (1, "span", 0), (2, ".c1", 1), (3, ".c2", 1)] {
+        expect_node(&rt, alloc, node(&rt, &foo.children, place), text, &[id])?;
     }
     Ok(())
 }
@@ -106,15 +140,21 @@ fn steps_of_both_kinds(rt: HostRuntime) -> Result<(), Fail> {
     let c2 = node(&rt, &c1.children, 0);
     let c3 = node(&rt, &c2.descendants, 0);
     let has_foo = node(&rt, &c1.descendants, 1);
-    for without_ids in [c1, c2, c3, has_foo] {
-        assert!(rt; has_ids(without_ids, &[]));
+    let rows: [(&AstNode, &str, &[u32]); 10] = [
+        (c1, ".c1", &[]),
+        (c2, ".c2", &[]),
+        (c3, ".c3", &[]),
+        (has_foo, "[foo", &[]),
+        (node(&rt, &c3.descendants, 0), "#foo", &[0]),
+        (node(&rt, &c2.descendants, 1), "#bar", &[1]),
+        (node(&rt, &c1.children, 1), "#qux", &[2]),
+        (node(&rt, &c1.descendants, 0), "#baz", &[3]),
+        (node(&rt, &has_foo.descendants, 0), "[bar", &[4]),
+        (node(&rt, ast.root(), 1), "#quz", &[5]),
+    ];
+    for (node, text, ids) in rows {
+        expect_node(&rt, rt.alloc(), node, text, ids)?;
     }
-    assert!(rt; has_ids(node(&rt, &c3.descendants, 0), &[0]));
-    assert!(rt; has_ids(node(&rt, &c2.descendants, 1), &[1]));
-    assert!(rt; has_ids(node(&rt, &c1.children, 1), &[2]));
-    assert!(rt; has_ids(node(&rt, &c1.descendants, 0), &[3]));
-    assert!(rt; has_ids(node(&rt, &has_foo.descendants, 0), &[4]));
-    assert!(rt; has_ids(node(&rt, ast.root(), 1), &[5]));
     Ok(())
 }
 
@@ -181,20 +221,32 @@ fn lists_have_no_condition(rt: HostRuntime) -> Result<(), Fail> {
     Ok(())
 }
 
-/// `[foo="bar"]`
+/// The operators, with their names.
+const OPERATORS: [(AttrSelectorOperator, &str); 6] = [
+    (AttrSelectorOperator::Equal, "Equal"),
+    (AttrSelectorOperator::Includes, "Includes"),
+    (AttrSelectorOperator::DashMatch, "DashMatch"),
+    (AttrSelectorOperator::Prefix, "Prefix"),
+    (AttrSelectorOperator::Suffix, "Suffix"),
+    (AttrSelectorOperator::Substring, "Substring"),
+];
+
+/// `[foo="bar"]` and the like
 #[test]
 fn comparisons_are_shown(rt: HostRuntime) -> Result<(), Fail> {
     let alloc = rt.alloc();
-    let expr = AttributeComparisonExpr::new(
-        String::from_str(alloc, "foo")?,
-        String::from_str(alloc, "bar")?,
-        ParsedCaseSensitivity::CaseSensitive,
-        AttrSelectorOperator::Equal,
-    );
-    let text = format!(in alloc; "{expr:?}")?;
-    assert!(rt;
-        text.as_str()
-            == "AttributeExpr { name: \"foo\", value: \"bar\", case_sensitivity: CaseSensitive, operator: \"AttrSelectorOperator::Equal\" }"
-    );
+    for (operator, name) in OPERATORS {
+        let expr = AttributeComparisonExpr::new(
+            String::from_str(alloc, "foo")?,
+            String::from_str(alloc, "bar")?,
+            ParsedCaseSensitivity::CaseSensitive,
+            operator,
+        );
+        let shown = format!(in alloc; "{expr:?}")?;
+        let wanted = format!(in alloc;
+            "AttributeExpr {{ name: \"foo\", value: \"bar\", case_sensitivity: CaseSensitive, operator: \"AttrSelectorOperator::{name}\" }}"
+        )?;
+        assert_eq!(rt; shown, wanted);
+    }
     Ok(())
 }

@@ -3,7 +3,7 @@
 use crate::plain::{PlainAnswer, plain_answers};
 use crate::runs::selectors;
 use crate::tag_words::{attributes_of, events_of, words_of};
-use lol_vm::MatchInfo;
+use lol_vm::{Ast, MatchInfo};
 use std::alloc::{AllocError, Global};
 use std::process::Abort;
 use std::test::Fail;
@@ -68,6 +68,24 @@ fn write_answer(text: &mut String, answer: &PlainAnswer) -> Result<(), AllocErro
     text.push(' ')
 }
 
+/// The answers to tags, written one after the other.
+fn answers(
+    rt: &impl Abort,
+    alloc: Global,
+    ast: &Ast,
+    enable_esi_tags: bool,
+    tags: &str,
+) -> Result<String, AllocError> {
+    let words = words_of(alloc, tags)?;
+    let attributes = attributes_of(alloc, &words)?;
+    let events = events_of(rt, alloc, &words, &attributes)?;
+    let mut text = String::new(alloc);
+    for answer in &plain_answers(alloc, ast, enable_esi_tags, &events)? {
+        write_answer(&mut text, answer)?;
+    }
+    Ok(text)
+}
+
 fn check(
     rt: &impl Abort,
     alloc: Global,
@@ -77,13 +95,7 @@ fn check(
     wanted: &str,
 ) -> Result<(), Fail> {
     let ast = selectors(alloc, texts)?;
-    let words = words_of(alloc, tags)?;
-    let attributes = attributes_of(alloc, &words)?;
-    let events = events_of(rt, alloc, &words, &attributes)?;
-    let mut text = String::new(alloc);
-    for answer in &plain_answers(alloc, &ast, enable_esi_tags, &events)? {
-        write_answer(&mut text, answer)?;
-    }
+    let text = answers(rt, alloc, &ast, enable_esi_tags, tags)?;
     assert_eq!(rt; text.as_str(), wanted);
     Ok(())
 }

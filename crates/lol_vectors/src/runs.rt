@@ -69,33 +69,68 @@ fn answers_tags(rt: HostRuntime) -> Result<(), Fail> {
     let Ok(reports) = reports else {
         return Err(Fail::from("the run was refused"));
     };
-    expect_reports(&rt, &reports)
+    expect_reports(&rt, &reports);
+    Ok(())
 }
 
 /// The reports of `div`, `section`, `p` and the end of `div`, under `div p` and `div > p`.
-fn expect_reports(rt: &impl Abort, reports: &[TagReport]) -> Result<(), Fail> {
+fn expect_reports(rt: &impl Abort, reports: &[TagReport]) {
+    assert_eq!(rt; reports.len(), 4);
     let found = MatchInfo {
         match_id: 0,
         with_content: true,
     };
-    let wanted: [(&[MatchInfo], u64); 3] = [(&[], 1), (&[], 3), (&[found], 2)];
-    assert_eq!(rt; reports.len(), 4);
-    for (report, (infos, names)) in reports.iter().zip(wanted) {
-        let TagReport::Started {
-            matched,
-            asked,
-            tries,
-        } = report
-        else {
-            return Err(Fail::from("no start tag"));
-        };
-        assert_eq!(rt; matched.as_slice(), infos);
-        assert!(rt; !*asked && tries.names() == names && tries.attributes() == 0);
+    assert!(rt; is_started(&reports[0], &[], 1));
+    assert!(rt; is_started(&reports[1], &[], 3));
+    assert!(rt; is_started(&reports[2], &[found], 2));
+    assert!(rt; closes(&reports[3], &[0, 1, 2]));
+}
+
+/// Whether a report is of a start tag that wasn't asked for, with these matches, and so many tries by names.
+fn is_started(report: &TagReport, infos: &[MatchInfo], names: u64) -> bool {
+    let TagReport::Started {
+        matched,
+        asked,
+        tries,
+    } = report
+    else {
+        return false;
+    };
+    let is_tried = tries.names() == names && tries.attributes() == 0;
+    matched.as_slice() == infos && !*asked && is_tried
+}
+
+#[test]
+fn answers_children(rt: HostRuntime) -> Result<(), Fail> {
+    let alloc = rt.alloc();
+    let mut ast = Ast::new(alloc);
+    for (text, match_id) in [("div p", 0), ("div > p", 1)] {
+        ast.add_selector(&Selector::from_str(alloc, text)?, match_id)?;
     }
-    assert!(rt;
-        matches!(&reports[3], TagReport::Ended { closed } if closed.as_slice() == [0, 1, 2].as_slice())
-    );
+    let none = AttributeBuffer::new(alloc);
+    let events = [
+        start(b"div", &none),
+        start(b"p", &none),
+        TagEvent::End { name: b"div" },
+    ];
+    let mut limiter = SharedMemoryLimiter::new(1_000_000);
+    let Ok(reports) = match_events(alloc, ast, 64, false, &events, &mut limiter) else {
+        return Err(Fail::from("out of memory"));
+    };
+    // The reports: no id for `div`, the ids 0 and 1 for `p`, and the elements 0 and 1 closed.
+    assert_eq!(rt; reports.len(), 3);
+    assert!(rt; ids_of(alloc, &reports[0])?.is_empty());
+    assert_eq!(rt; ids_of(alloc, &reports[1])?.as_slice(), [0, 1].as_slice());
+    assert!(rt; closes(&reports[2], &[0, 1]));
     Ok(())
+}
+
+/// Whether a report is of an end tag that closes these elements.
+fn closes(report: &TagReport, elements: &[usize]) -> bool {
+    match report {
+        TagReport::Ended { closed } => closed.as_slice() == elements,
+        TagReport::Started { .. } | TagReport::Dropped => false,
+    }
 }
 
 #[test]
@@ -117,7 +152,8 @@ fn hands_out_each_report(rt: HostRuntime) -> Result<(), Fail> {
     let answered = match_each_event(alloc, ast, 64, false, &events, &mut limiter, &mut handler);
     assert_eq!(rt; answered, Ok(()));
     assert_eq!(rt; limiter.current_usage(), 0);
-    expect_reports(&rt, &reports)
+    expect_reports(&rt, &reports);
+    Ok(())
 }
 
 /// 512 bytes are eight elements of 64: the ninth is refused.

@@ -14,6 +14,9 @@ const CALLS: u32 = 100_000;
 /// How many elements are open at most.
 const MOST: usize = 64;
 
+/// How many bytes an open element is charged for.
+const ITEM_BYTES: usize = 64;
+
 /// How many children a level has had, by the three names.
 #[derive(Clone, Copy)]
 struct Children([i32; 3]);
@@ -154,6 +157,17 @@ pub(crate) fn next_random(state: u64) -> u64 {
         .wrapping_add(1_442_695_040_888_963_407)
 }
 
+/// Whether the slots are charged, and the last open element has its number.
+fn is_charged_and_numbered(
+    stack: &Stack<Numbered>,
+    limiter: &SharedMemoryLimiter,
+    numbers: &[usize],
+) -> bool {
+    let last = stack.items().last().map(|item| item.element_data.number);
+    stack.charged_slots().checked_mul(ITEM_BYTES) == Some(limiter.current_usage())
+        && last == numbers.last().copied()
+}
+
 fn has_counted(counter: &ChildCounter, count: i32) -> bool {
     counter.is_nth(NthChild::new(0, count))
 }
@@ -230,13 +244,14 @@ fn step(
     }
     let agree = agrees(alloc, stack, plain, &LocalName::new(name), kind);
     assert!(rt; agree.expect(rt, "memory"));
+    assert!(rt; is_charged_and_numbered(stack, limiter, &plain.numbers));
 }
 
 #[test]
 fn agrees_with_plain_lists(rt: HostRuntime) {
     let alloc = rt.alloc();
-    let mut limiter = SharedMemoryLimiter::new(64 * MOST);
-    let mut stack = Stack::new(alloc, 64, true);
+    let mut limiter = SharedMemoryLimiter::new(ITEM_BYTES * MOST);
+    let mut stack = Stack::new(alloc, ITEM_BYTES, true);
     let mut plain = Plain::new(alloc).expect(&rt, "memory");
     let mut random = 1;
     for _ in 0..CALLS {
@@ -245,5 +260,5 @@ fn agrees_with_plain_lists(rt: HostRuntime) {
         step(&rt, alloc, &mut stack, &mut plain, &mut limiter, word);
     }
 
-    release(&rt, stack, 64, &mut limiter);
+    release(&rt, stack, ITEM_BYTES, &mut limiter);
 }

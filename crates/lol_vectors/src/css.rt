@@ -1,10 +1,12 @@
-//! Printed texts, the bounds of the grammar, and each call that takes memory once.
+//! Selectors: printed texts, the bounds of the grammar, and each call that takes memory once.
 
-use crate::{
-    CaseSensitivity, Combinator, ComplexSelector, Compound, CssString, NthChild, Selector,
-    SelectorError, SelectorList, SelectorsParser, SimpleSelector,
+use lol_css::{
+    AttrSelectorOperator, CaseSensitivity, Combinator, ComplexSelector, Compound, CssString,
+    NthChild, ParsedCaseSensitivity, Selector, SelectorError, SelectorList, SelectorsParser,
+    SimpleSelector,
 };
 use std::alloc::{AllocError, Global};
+use std::process::Abort;
 use std::test::Fail;
 
 /// The text of each cause.
@@ -92,6 +94,28 @@ fn a_selector_is_read(rt: HostRuntime) -> Result<(), Fail> {
     Ok(())
 }
 
+/// `a |b`
+fn descendant_in_no_namespace(alloc: Global) -> Result<SelectorList, AllocError> {
+    let mut last = Vec::new(alloc);
+    last.push(SimpleSelector::ExplicitNoNamespace)?;
+    last.push(SimpleSelector::LocalName(CssString::new(alloc, "b")?))?;
+    let mut rest = Vec::new(alloc);
+    rest.push((Combinator::Descendant, Compound { parts: last }))?;
+    let mut items = Vec::new(alloc);
+    items.push(ComplexSelector {
+        first: compound(alloc, "a")?,
+        rest,
+    })?;
+    Ok(SelectorList { items })
+}
+
+#[test]
+fn a_bar_begins_a_compound(rt: HostRuntime) -> Result<(), Fail> {
+    let expected = descendant_in_no_namespace(rt.alloc())?;
+    assert_eq!(rt; SelectorsParser::parse(rt.alloc(), "a |b"), Ok(expected));
+    Ok(())
+}
+
 /// A list of this part alone.
 fn alone(alloc: Global, part: SimpleSelector) -> Result<SelectorList, AllocError> {
     let mut parts = Vec::new(alloc);
@@ -104,23 +128,81 @@ fn alone(alloc: Global, part: SimpleSelector) -> Result<SelectorList, AllocError
     Ok(SelectorList { items })
 }
 
-/// `a`
-fn named(alloc: Global) -> Result<SelectorList, AllocError> {
+/// Expects a text to be one part alone.
+fn expect_part(
+    rt: &impl Abort,
+    alloc: Global,
+    text: &str,
+    part: SimpleSelector,
+) -> Result<(), AllocError> {
+    let expected = alone(alloc, part)?;
+    assert!(rt;
+        SelectorsParser::parse(alloc, text) == Ok(expected),
+        "{text}"
+    );
+    Ok(())
+}
+
+fn named(alloc: Global, name: &str) -> Result<SelectorList, AllocError> {
     alone(
         alloc,
-        SimpleSelector::LocalName(CssString::new(alloc, "a")?),
+        SimpleSelector::LocalName(CssString::new(alloc, name)?),
     )
 }
 
 #[test]
 fn lists_inside_a_function_are_read(rt: HostRuntime) -> Result<(), Fail> {
     let alloc = rt.alloc();
-    let expected = alone(alloc, SimpleSelector::Negation(named(alloc)?))?;
-    assert_eq!(rt; SelectorsParser::parse(alloc, ":not(a)"), Ok(expected));
-    let expected = alone(alloc, SimpleSelector::Is(named(alloc)?))?;
-    assert_eq!(rt; SelectorsParser::parse(alloc, ":IS(a)"), Ok(expected));
-    let expected = alone(alloc, SimpleSelector::Where(named(alloc)?))?;
-    assert_eq!(rt; SelectorsParser::parse(alloc, ":wh\\65re( a"), Ok(expected));
+    for (text, name) in [(":is(header)", "header"), (":IS(a)", "a")] {
+        expect_part(&rt, alloc, text, SimpleSelector::Is(named(alloc, name)?))?;
+    }
+    for (text, name) in [(":where(p)", "p"), (":wh\\65re( a", "a")] {
+        expect_part(&rt, alloc, text, SimpleSelector::Where(named(alloc, name)?))?;
+    }
+    let none = SimpleSelector::Negation(named(alloc, "a")?);
+    expect_part(&rt, alloc, ":not(a)", none)?;
+    Ok(())
+}
+
+/// A comparison with case.
+fn comparison(
+    alloc: Global,
+    name: &str,
+    operator: AttrSelectorOperator,
+    value: &str,
+) -> Result<SimpleSelector, AllocError> {
+    Ok(SimpleSelector::AttributeComparison {
+        name: CssString::new(alloc, name)?,
+        value: CssString::new(alloc, value)?,
+        operator,
+        case_sensitivity: ParsedCaseSensitivity::CaseSensitive,
+    })
+}
+
+#[test]
+fn attributes_are_read(rt: HostRuntime) -> Result<(), Fail> {
+    let alloc = rt.alloc();
+    for (text, name, operator, value) in [
+        ("[foo=\"bar", "foo", AttrSelectorOperator::Equal, "bar"),
+        ("[a|=b]", "a", AttrSelectorOperator::DashMatch, "b"),
+    ] {
+        let part = comparison(alloc, name, operator, value)?;
+        expect_part(&rt, alloc, text, part)?;
+    }
+    let name = CssString::new(alloc, "a")?;
+    expect_part(&rt, alloc, "[|a]", SimpleSelector::AttributeExists { name })?;
+    let id = SimpleSelector::ID(CssString::new(alloc, "1a")?);
+    expect_part(&rt, alloc, "#\\31 a", id)?;
+    Ok(())
+}
+
+#[test]
+fn a_progression_is_read(rt: HostRuntime) -> Result<(), Fail> {
+    let nth = SimpleSelector::Nth {
+        of_type: false,
+        nth: NthChild::new(-2, 7),
+    };
+    expect_part(&rt, rt.alloc(), ":NTH-CHILD( -2N + 7 )", nth)?;
     Ok(())
 }
 
