@@ -1,5 +1,6 @@
 -- How a `LocalName` keeps its name.
-use Rattle.std.specs.Prelude.{◌≡◌, ℕ, zero, suc, ◌+◌, ◌/◌, ◌%◌, ◌==◌, nat_lt, if◌then◌else◌, List, [], ◌∷◌, Some, None}
+use Rattle.std.specs.Prelude.{◌≡◌, ℕ, zero, suc, ◌+◌, ◌-◌, ◌/◌, ◌%◌, ◌==◌, nat_lt, if◌then◌else◌, List, [], ◌∷◌, Some, None}
+use Rattle.std.specs.Str.{byte}
 use Rattle.lol_base.specs.Names.{lowercased}
 use Rattle.lol_base.specs.LocalNames.{Name, name_code}
 use Rattle.lol_base.specs.declared.local_name.Kept.{Kept}
@@ -7,7 +8,7 @@ use Rattle.lol_base.specs.declared.local_name.Kept.TheVariants.{Hash, Borrowed, 
 
 -- the byte that has these five bits
 abbrev pub byte_of : ℕ → ℕ
-byte_of bits = if nat_lt bits 6 then bits + 49 else bits + 91
+byte_of bits = if nat_lt bits 6 then byte "1" + bits else byte "a" + (bits - 6)
 
 -- the last n bytes that a code has at most, in front of others
 abbrev pub bytes_before : ℕ → ℕ → List ℕ → List ℕ

@@ -1,7 +1,7 @@
 -- Names of elements, as contracts see a `LocalName`.
 use Rattle.std.specs.Prelude.{ℕ, Bool, false, ◌&&◌, ◌||◌, not, nat_lt, nat_le, ◌==◌, ◌+◌, ◌-◌, ◌*◌, if◌then◌else◌, List, [], ◌∷◌, length, fold, Option, Some, None, unwrap_or}
 use Rattle.std.specs.List.{list_all}
-use Rattle.std.specs.Str.{bytes_eq}
+use Rattle.std.specs.Str.{bytes_eq, byte}
 use Rattle.std.specs.Hash as fed
 use Rattle.std.specs.Hash.{HashWrites}
 use Rattle.std.specs.declared.cmp.Ordering.{Ordering}
@@ -16,16 +16,16 @@ pub record Name : Type 0 where
 
 -- whether a byte of a name in lower case is a letter, or a digit from 1 to 6
 abbrev pub is_hash_byte : ℕ → Bool
-is_hash_byte b = (nat_le 49 b && nat_le b 54) || (nat_le 97 b && nat_le b 122)
+is_hash_byte b = (nat_le (byte "1") b && nat_le b (byte "6")) || (nat_le (byte "a") b && nat_le b (byte "z"))
 
 -- A name in lower case is a hash if it has 1 to 12 bytes, all of them letters or digits from 1 to 6, and doesn't begin with 1.
 abbrev pub is_hash : List ℕ → Bool
 is_hash [] = false
-is_hash (b ∷ bs) = not (b == 49) && nat_lt (length bs) 12 && list_all is_hash_byte (b ∷ bs)
+is_hash (b ∷ bs) = not (b == byte "1") && nat_lt (length bs) 12 && list_all is_hash_byte (b ∷ bs)
 
 -- the five bits of such a byte: 0 to 5 for the digits 1 to 6, 6 to 31 for the letters a to z
 abbrev pub five_bits : ℕ → ℕ
-five_bits b = if nat_lt b 97 then b - 49 else b - 91
+five_bits b = if nat_lt b (byte "a") then b - byte "1" else b - byte "a" + 6
 
 -- those bits, if it is such a byte
 abbrev pub bits_of : ℕ → Option ℕ

@@ -1,12 +1,13 @@
 -- The simple tests of an element, and whether it passes them.
 use Rattle.std.specs.Prelude.{ℕ, Bool, true, false, not, ◌&&◌, ◌||◌, if◌then◌else◌, ◌==◌, List, [], ◌∷◌, ◌++◌, Option, Some, None, unwrap_or, pos, codes}
 use Rattle.std.specs.Option.{option_map}
-use Rattle.std.specs.Str.{bytes_eq}
+use Rattle.std.specs.Str.{bytes_eq, byte}
 use Rattle.std.specs.List.{list_any, starts_with, ends_with, slice_split}
 use Rattle.lol_base.specs.Names.{same_name, lowercased}
 use Rattle.lol_base.specs.StartTags.{Attribute, StartTag}
 use Rattle.lol_base.specs.declared.namespace.Namespace.{Namespace}
 use Rattle.lol_base.specs.declared.namespace.Namespace.TheVariants.{Html, Svg, MathML}
+use Rattle.lol_css.specs.Points.{tab, line_feed, form_feed, carriage_return}
 use Rattle.lol_css.specs.Progression.{Progression, has_index}
 use Rattle.lol_css.specs.declared.attribute.AttrSelectorOperator.{AttrSelectorOperator}
 use Rattle.lol_css.specs.declared.attribute.AttrSelectorOperator.TheVariants.{Equal, Includes, DashMatch, Prefix, Substring, Suffix}
@@ -60,7 +61,7 @@ value_of name tag = option_map (λ a. unwrap_or a.value []) (find_attribute name
 
 -- space, line feed, carriage return, tab, form feed (HTML Standard, "ASCII whitespace")
 abbrev pub is_white : ℕ → Bool
-is_white b = (((b == 32 || b == 10) || b == 13) || b == 9) || b == 12
+is_white b = (((b == byte " " || b == line_feed) || b == carriage_return) || b == tab) || b == form_feed
 
 -- the pieces between white space bytes, one more than there are such bytes
 abbrev pub words : List ℕ → List (List ℕ)
@@ -79,7 +80,7 @@ stands_in (b ∷ bytes) part = starts_with ◌==◌ (b ∷ bytes) part || stands
 abbrev pub operator_holds : AttrSelectorOperator → List ℕ → List ℕ → Bool
 operator_holds Equal value operand = bytes_eq value operand
 operator_holds Includes value operand = list_any (λ word. bytes_eq word operand) (words value)
-operator_holds DashMatch value operand = bytes_eq value operand || starts_with ◌==◌ value (operand ++ 45 ∷ [])
+operator_holds DashMatch value operand = bytes_eq value operand || starts_with ◌==◌ value (operand ++ codes "-")
 operator_holds Prefix value operand = starts_with ◌==◌ value operand
 operator_holds Substring value operand = not (is_empty_text operand) && stands_in value operand
 operator_holds Suffix value operand = ends_with ◌==◌ value operand

@@ -2,6 +2,8 @@
 use Rattle.std.specs.Prelude.{ℕ, Bool, map, if◌then◌else◌, List, [], ◌∷◌, ◌++◌, codes, decimal}
 use Rattle.std.specs.Char.{encode_utf8}
 use Rattle.std.specs.List.{join_with_byte, flat_map}
+use Rattle.std.specs.Str.{byte}
+use Rattle.lol_css.specs.Points.{tab, line_feed}
 use Rattle.lol_css.specs.declared.error.SelectorError.{SelectorError}
 use Rattle.lol_css.specs.declared.error.SelectorError.TheVariants.{UnexpectedToken, UnexpectedEnd, MissingAttributeName, EmptySelector, DanglingCombinator, UnexpectedTokenInAttribute, UnsupportedPseudoClassOrElement, NestedNegation, NamespacedSelector, InvalidClassName, EmptyNegation, UnsupportedCombinator, UnsupportedSyntax, Memory}
 use Rattle.lol_vm.specs.Answers.{Match, Answer, Started, Dropped, Ended}
@@ -12,7 +14,7 @@ use Rattle.lol_script.specs.declared.bad_line.Cause.TheVariants.{Form, Selector}
 -- fields separated by commas, or `-` where there are none
 abbrev pub listed : List (List ℕ) → List ℕ
 listed [] = codes "-"
-listed (field ∷ fields) = join_with_byte 44 (field ∷ fields)
+listed (field ∷ fields) = join_with_byte (byte ",") (field ∷ fields)
 
 -- an id, with `/` after it where the element has no content
 abbrev pub shown_match : Match → List ℕ
@@ -20,18 +22,18 @@ shown_match found = decimal found.id ++ (if found.with_content then [] else code
 
 -- the field of the tries, where tries are shown
 abbrev pub tries_field : Bool → ℕ → ℕ → List ℕ
-tries_field shows names attributes = if shows then 9 ∷ codes "tries " ++ (decimal names ++ 32 ∷ decimal attributes) else []
+tries_field shows names attributes = if shows then tab ∷ codes "tries " ++ (decimal names ++ byte " " ∷ decimal attributes) else []
 
 -- the line of an answer
 abbrev pub shown_answer : Bool → Answer → List ℕ
 shown_answer shows (Started matched asked names attributes) =
-    codes "start" ++ (9 ∷ listed (map shown_match matched) ++ ((if asked then 9 ∷ codes "asked" else []) ++ tries_field shows names attributes))
+    codes "start" ++ (tab ∷ listed (map shown_match matched) ++ ((if asked then tab ∷ codes "asked" else []) ++ tries_field shows names attributes))
 shown_answer shows Dropped = codes "dropped"
-shown_answer shows (Ended closed) = codes "end" ++ 9 ∷ listed (map decimal closed)
+shown_answer shows (Ended closed) = codes "end" ++ tab ∷ listed (map decimal closed)
 
 -- lines, each of which LF ends
 abbrev pub lines_of : List (List ℕ) → List ℕ
-lines_of lines = flat_map (λ line. line ++ 10 ∷ []) lines
+lines_of lines = flat_map (λ line. line ++ line_feed ∷ []) lines
 
 -- the name of a variant
 abbrev pub variant_name : SelectorError → List ℕ
@@ -65,4 +67,4 @@ cause_name (Selector error) = error_name error
 
 -- the line for the first bad line of a script
 abbrev pub bad_line : BadLine → List ℕ
-bad_line bad = codes "bad line " ++ (decimal bad.number ++ (codes ": " ++ (cause_name bad.cause ++ 10 ∷ [])))
+bad_line bad = codes "bad line " ++ (decimal bad.number ++ (codes ": " ++ (cause_name bad.cause ++ line_feed ∷ [])))

@@ -1,7 +1,8 @@
 -- The lines of a script.
 use Rattle.std.specs.Prelude.{ℕ, ◌+◌, ◌-◌, ◌*◌, Bool, true, false, ◌&&◌, if◌then◌else◌, ◌==◌, nat_le, List, [], ◌∷◌, map, fold, Option, Some, None, option_map, codes}
-use Rattle.std.specs.Str.{bytes_eq, is_utf8}
+use Rattle.std.specs.Str.{bytes_eq, byte, is_utf8}
 use Rattle.std.specs.List.{list_all, list_any, slice_split, join_with_byte, before_first, after_first}
+use Rattle.lol_css.specs.Points.{tab}
 use Rattle.lol_base.specs.StartTags.{Attribute, StartTag}
 use Rattle.lol_base.specs.declared.namespace.Namespace.{Namespace}
 use Rattle.lol_base.specs.declared.namespace.Namespace.TheVariants.{Html, Svg, MathML}
@@ -16,10 +17,10 @@ pub data Line : Type 0 where
   EndLine : (name : List ℕ) → Line
 
 abbrev pub is_tab : ℕ → Bool
-is_tab b = b == 9
+is_tab b = b == tab
 
 abbrev pub is_digit : ℕ → Bool
-is_digit b = nat_le 48 b && nat_le b 57
+is_digit b = nat_le (byte "0") b && nat_le b (byte "9")
 
 abbrev pub some_bytes : List ℕ → Bool
 some_bytes [] = false
@@ -27,7 +28,7 @@ some_bytes (b ∷ bytes) = true
 
 -- the number that decimal digits spell
 abbrev pub number_value : List ℕ → ℕ
-number_value digits = fold (λ n digit. 10 * n + (digit - 48)) 0 digits
+number_value digits = fold (λ n digit. 10 * n + (digit - byte "0")) 0 digits
 
 -- the number of one or more decimal digits, up to a greatest one
 abbrev pub number_up_to : ℕ → List ℕ → Option ℕ
@@ -42,7 +43,7 @@ namespace_at field =
     else (if bytes_eq field (codes "mathml") then Some (MathML, false) else (if bytes_eq field (codes "mathml/") then Some (MathML, true) else None)))))
 
 abbrev pub is_equals : ℕ → Bool
-is_equals b = b == 61
+is_equals b = b == byte "="
 
 -- an attribute, cut at its first `=`
 abbrev pub attribute_at : List ℕ → Attribute
@@ -69,7 +70,7 @@ end_at other = None
 -- a selector under an id: its text is the rest of the line, with its tabs
 abbrev pub select_at : List (List ℕ) → Option Line
 select_at (id ∷ text ∷ more) =
-    let whole = join_with_byte 9 (text ∷ more) in
+    let whole = join_with_byte tab (text ∷ more) in
     if is_utf8 whole then option_map (λ n. Select n whole) (number_up_to 4294967295 id) else None
 select_at other = None
 

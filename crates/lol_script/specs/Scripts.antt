@@ -2,6 +2,7 @@
 use Rattle.std.specs.Prelude.{ℕ, ◌+◌, Bool, false, true, ◌==◌, List, [], ◌∷◌, ◌++◌, map, take, Option, Some, None, Result, Ok, Err, codes}
 use Rattle.std.specs.List.{slice_split}
 use Rattle.lol_css.specs.Accepting.{accept}
+use Rattle.lol_css.specs.Points.{line_feed}
 use Rattle.lol_css.specs.Trees.{Items}
 use Rattle.lol_css.specs.declared.error.SelectorError.{SelectorError}
 use Rattle.lol_program.specs.Paths.{Path, Selectors}
@@ -72,7 +73,7 @@ read_lines number s (line ∷ lines) = and_then (with_bytes number s line) (λ t
 
 -- Lines end with LF and are numbered from 1. The first bad line decides.
 abbrev pub read_script : List ℕ → Result Script BadLine
-read_script bytes = read_lines 1 empty_script (slice_split (λ b. b == 10) bytes)
+read_script bytes = read_lines 1 empty_script (slice_split (λ b. b == line_feed) bytes)
 
 -- 2. Output
 
