@@ -16,7 +16,7 @@ use Rattle.std.proofs.lemmas.Nat.{pow-add}
 use Rattle.std.proofs.Math.Nat.{pow-le-pow_right}
 use Rattle.std.proofs.lemmas.Bool.Decides.{nat_tests}
 use Rattle.std.proofs.lemmas.Slice.Eq.{bytes_eq-Decides}
-use Rattle.lol_base.specs.BoolLaws.{and_parts}
+use Rattle.lol_base.specs.BoolLaws.{and_parts, and_of, and-left_false, and-right_false}
 use Rattle.lol_base.specs.CodeLaws.{five_bits-lt, name_code-hash, name_code-none, hash_of_code, name_of_code-name_code, codes_decide}
 use Rattle.lol_base.specs.LocalNames.{Name, code_or_last, same_local_name, local_name_cmp, is_hash_byte, is_hash, five_bits, bits_of, with_byte, name_code, local_name}
 use Rattle.lol_base.specs.Names.{lowercased}
@@ -44,18 +44,6 @@ is_some-name_code name =
     ] refl
 
 -- ---- from spelled bytes
-
-all_false : (a b : Bool) → b ≡ false → (a && b) ≡ false
-all_false true b is = is
-all_false false b is = refl
-
-all_false_left : (a b : Bool) → a ≡ false → (a && b) ≡ false
-all_false_left true b is = absurd (true≢false is)
-all_false_left false b is = refl
-
-both_true : (a b : Bool) → a ≡ true → b ≡ true → (a && b) ≡ true
-both_true true b is is' = is'
-both_true false b is is' = is
 
 -- a byte's lower case is the digit 1 only if the byte is
 one_from_lower : (b : ℕ) → to_ascii_lowercase b ≡ 49 → b ≡ 49
@@ -85,27 +73,27 @@ no_code_if_long (b ∷ bs) long =
     let len : length (lowercased bs) ≡ length bs = length-map bs to_ascii_lowercase in
     let far : nat_lt (length (lowercased bs)) 12 ≡ false = grind (arith, nat_tests) in
     name_code-none (lowercased (b ∷ bs))
-    (all_false_left (not (to_ascii_lowercase b == 49) && nat_lt (length (lowercased bs)) 12) (list_all is_hash_byte (lowercased (b ∷ bs)))
-    (all_false (not (to_ascii_lowercase b == 49)) (nat_lt (length (lowercased bs)) 12) far))
+    (and-left_false (not (to_ascii_lowercase b == 49) && nat_lt (length (lowercased bs)) 12) (list_all is_hash_byte (lowercased (b ∷ bs)))
+    (and-right_false (not (to_ascii_lowercase b == 49)) (nat_lt (length (lowercased bs)) 12) far))
 
 pub no_code_if_one : (bs : List ℕ) → get_or bs 0 0 ≡ 49 → name_code (lowercased bs) ≡ None
 no_code_if_one [] first = absurd (omega arith)
 no_code_if_one (b ∷ bs) first =
     name_code-none (lowercased (b ∷ bs))
-    (all_false_left (not (to_ascii_lowercase b == 49) && nat_lt (length (lowercased bs)) 12) (list_all is_hash_byte (lowercased (b ∷ bs)))
-    (all_false_left (not (to_ascii_lowercase b == 49)) (nat_lt (length (lowercased bs)) 12) (rw first refl)))
+    (and-left_false (not (to_ascii_lowercase b == 49) && nat_lt (length (lowercased bs)) 12) (list_all is_hash_byte (lowercased (b ∷ bs)))
+    (and-left_false (not (to_ascii_lowercase b == 49)) (nat_lt (length (lowercased bs)) 12) (rw first refl)))
 
 other_byte : (bs : List ℕ) (i : ℕ) → i < length bs → is_hash_byte (to_ascii_lowercase (get_or bs i 0)) ≡ false → list_all is_hash_byte (lowercased bs) ≡ false
 other_byte [] i within other = absurd (omega arith)
-other_byte (b ∷ bs) zero within other = all_false_left (is_hash_byte (to_ascii_lowercase b)) (list_all is_hash_byte (lowercased bs)) other
+other_byte (b ∷ bs) zero within other = and-left_false (is_hash_byte (to_ascii_lowercase b)) (list_all is_hash_byte (lowercased bs)) other
 other_byte (b ∷ bs) (suc i) within other =
-    all_false (is_hash_byte (to_ascii_lowercase b)) (list_all is_hash_byte (lowercased bs)) (other_byte bs i (omega arith) other)
+    and-right_false (is_hash_byte (to_ascii_lowercase b)) (list_all is_hash_byte (lowercased bs)) (other_byte bs i (omega arith) other)
 
 pub no_code_if_other : (bs : List ℕ) (i : ℕ) → i < length bs → bits_of (to_ascii_lowercase (get_or bs i 0)) ≡ None → name_code (lowercased bs) ≡ None
 no_code_if_other [] i within none = absurd (omega arith)
 no_code_if_other (b ∷ bs) i within none =
     let other = other_byte (b ∷ bs) i within (bits_of-none (to_ascii_lowercase (get_or (b ∷ bs) i 0)) none) in
-    name_code-none (lowercased (b ∷ bs)) (all_false (not (to_ascii_lowercase b == 49) && nat_lt (length (lowercased bs)) 12) (list_all is_hash_byte (lowercased (b ∷ bs))) other)
+    name_code-none (lowercased (b ∷ bs)) (and-right_false (not (to_ascii_lowercase b == 49) && nat_lt (length (lowercased bs)) 12) (list_all is_hash_byte (lowercased (b ∷ bs))) other)
 
 pub code_if_hashed : (bs : List ℕ) → 0 < length bs → length bs ≤ 12 → get_or bs 0 0 ≢ 49 → list_all is_hash_byte (lowercased bs) ≡ true
     → name_code (lowercased bs) ≡ Some (fold with_byte 0 (lowercased bs))
@@ -116,8 +104,8 @@ code_if_hashed (b ∷ bs) some few other hashed =
     let differs : to_ascii_lowercase b ≢ 49 = λ e. other (one_from_lower b e) in
     let first : not (to_ascii_lowercase b == 49) ≡ true = grind (arith, nat_tests) in
     name_code-hash (lowercased (b ∷ bs))
-    (both_true (not (to_ascii_lowercase b == 49) && nat_lt (length (lowercased bs)) 12) (list_all is_hash_byte (lowercased (b ∷ bs)))
-    (both_true (not (to_ascii_lowercase b == 49)) (nat_lt (length (lowercased bs)) 12) first near) hashed)
+    (and_of (not (to_ascii_lowercase b == 49) && nat_lt (length (lowercased bs)) 12) (list_all is_hash_byte (lowercased (b ∷ bs)))
+    (and_of (not (to_ascii_lowercase b == 49)) (nat_lt (length (lowercased bs)) 12) first near) hashed)
 
 -- ---- what a name is kept as
 
@@ -192,14 +180,7 @@ kept_code code Hash right = rw right refl
 kept_code code (Borrowed bytes) right = rw right.1 right.0
 kept_code code (Owned bytes) right = rw right.1 right.0
 
--- names whose codes differ are not the same; those of one code are, unless it stands for none
-pub other_codes : (a b : Name) → code_or_last a ≢ code_or_last b → same_local_name a b ≡ false
-other_codes a b other =
-    elim (same_local_name a b) as (λ same. same_local_name a b ≡ same → same ≡ false) [
-      | true ↦ λ same. absurd (other (ap (λ name. unwrap_or (name_code name) 18446744073709551615) ((bytes_eq-Decides a.lowercased b.lowercased).0 same)))
-      | false ↦ λ differ. refl
-    ] refl
-
+-- names of one code are the same, unless it stands for none
 pub one_code : (a b : Name) → code_or_last a ≡ code_or_last b → code_or_last a ≢ 18446744073709551615 → a.lowercased ≡ b.lowercased
 one_code a b same other =
     let first = some_code a other in

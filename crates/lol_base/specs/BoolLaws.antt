@@ -1,5 +1,5 @@
 -- Laws of tests that are joined.
-use Rattle.std.proofs.Common.{◌≡◌, Bool, true, false, ◌&&◌, ◌||◌, ◌⊎◌, inl, inr, refl}
+use Rattle.std.proofs.Common.{◌≡◌, Bool, true, false, ◌&&◌, ◌||◌, ◌⊎◌, inl, inr, refl, sym}
 
 -- 1. Both
 
@@ -14,6 +14,13 @@ and_of a b p q = λ i. p i && q i
 pub and-true : (a : Bool) → (a && true) ≡ a
 and-true true = refl
 and-true false = refl
+
+pub and-false : (a : Bool) → (a && false) ≡ false
+and-false true = refl
+and-false false = refl
+
+pub and-left_false : (a b : Bool) → a ≡ false → (a && b) ≡ false
+and-left_false a b h = λ i. h i && b
 
 pub and-right_false : (a b : Bool) → b ≡ false → (a && b) ≡ false
 and-right_false true b h = h
@@ -30,8 +37,9 @@ or_of true b h = refl
 or_of false b (inl h) = cc
 or_of false b (inr h) = h
 
-pub or_neither : (a b : Bool) → a ≡ false → b ≡ false → (a || b) ≡ false
-or_neither a b p q = λ i. p i || q i
+pub or-right_true : (a b : Bool) → b ≡ true → (a || b) ≡ true
+or-right_true true b h = refl
+or-right_true false b h = h
 
 pub or-false : (a : Bool) → (a || false) ≡ a
 or-false true = refl
@@ -42,3 +50,10 @@ or-false false = refl
 pub not_true : (a : Bool) → (a ≡ true → ⊥) → a ≡ false
 not_true true h = absurd (h refl)
 not_true false h = refl
+
+-- 4. The same test
+
+pub same_test : (a b : Bool) → (a ≡ true → b ≡ true) → (b ≡ true → a ≡ true) → a ≡ b
+same_test true b to from = sym (to refl)
+same_test false true to from = from refl
+same_test false false to from = refl

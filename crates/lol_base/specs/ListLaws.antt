@@ -4,6 +4,7 @@ use Rattle.std.specs.List.{list_all, list_any}
 use Rattle.std.proofs.lemmas.Bool.{cases_lt}
 use Rattle.std.proofs.lemmas.List.{take_more, take_all, map-append, length-map, get_or-map, reverse-append}
 use Rattle.std.proofs.lemmas.List.Folds.{list_all_more, list_any_more}
+use Rattle.lol_base.specs.BoolLaws.{and-right_false, or-right_true}
 
 -- 1. Tests of each element
 
@@ -15,11 +16,7 @@ passes_more p xs i x within at before here = list_all_more p xs i x within ∙ (
 pub passes_not : {A : Type 0} (p : A → Bool) (xs : List A) (i : ℕ) (x : A) → i < length xs → x ≡ get_or xs i x → p x ≡ false → list_all p xs ≡ false
 passes_not p [] i x within at h = absurd (omega (arith, within))
 passes_not p (y ∷ xs) zero x within at h = ap (λ (b : Bool). b && list_all p xs) (ap p (sym at) ∙ h)
-passes_not p (y ∷ xs) (suc i) x within at h = right (p y) (list_all p xs) (passes_not p xs i x (omega (arith, within)) at h)
-  where
-    right : (a b : Bool) → b ≡ false → (a && b) ≡ false
-    right true b e = e
-    right false b e = refl
+passes_not p (y ∷ xs) (suc i) x within at h = and-right_false (p y) (list_all p xs) (passes_not p xs i x (omega (arith, within)) at h)
 
 pub passes_all : {A : Type 0} (p : A → Bool) (xs : List A) (i : ℕ) → length xs ≤ i → list_all p (take i xs) ≡ true → list_all p xs ≡ true
 passes_all p xs i h before = ap (list_all p) (sym (take_all i xs h)) ∙ before
@@ -32,11 +29,7 @@ fails_more p xs i x within at before here = list_any_more p xs i x within ∙ (�
 pub passes_some : {A : Type 0} (p : A → Bool) (xs : List A) (i : ℕ) (x : A) → i < length xs → x ≡ get_or xs i x → p x ≡ true → list_any p xs ≡ true
 passes_some p [] i x within at h = absurd (omega (arith, within))
 passes_some p (y ∷ xs) zero x within at h = ap (λ (b : Bool). b || list_any p xs) (ap p (sym at) ∙ h)
-passes_some p (y ∷ xs) (suc i) x within at h = right (p y) (list_any p xs) (passes_some p xs i x (omega (arith, within)) at h)
-  where
-    right : (a b : Bool) → b ≡ true → (a || b) ≡ true
-    right true b e = refl
-    right false b e = e
+passes_some p (y ∷ xs) (suc i) x within at h = or-right_true (p y) (list_any p xs) (passes_some p xs i x (omega (arith, within)) at h)
 
 pub fails_all : {A : Type 0} (p : A → Bool) (xs : List A) (i : ℕ) → length xs ≤ i → list_any p (take i xs) ≡ false → list_any p xs ≡ false
 fails_all p xs i h before = ap (list_any p) (sym (take_all i xs h)) ∙ before

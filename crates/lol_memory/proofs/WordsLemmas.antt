@@ -63,11 +63,6 @@ has-ids_held ws q =
       | inr far ↦ list_any-outside ws 0 (32 * length ws) q (inr (omega arith)) ∙ sym (holds-past ws q far)
     ]
 
--- two lists of words that hold the same ids make the same set
-pub same_held : (xs ys : List ℕ) → ((q : ℕ) → holds xs q ≡ holds ys q) → ids_held xs ≡ ids_held ys
-same_held xs ys same =
-    same_set _ _ (λ q. has-ids_held xs q ∙ same q ∙ sym (has-ids_held ys q))
-
 pub ids_held-insert : (xs ys : List ℕ) (id : ℕ) → ((q : ℕ) → holds ys q ≡ (nat_eq q id || holds xs q)) → ids_held ys ≡ with_id (ids_held xs) id
 ids_held-insert xs ys id same =
     same_set _ _

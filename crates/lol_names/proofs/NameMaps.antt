@@ -55,10 +55,6 @@ module _ {V : Type 0} where
   value-named o name e is named =
       ap (value_if name) is ∙ ap (λ same. cond same (Some e.1) None) (ap (λ (x : Option (Name × V)). is_named x name) (sym is) ∙ named)
 
-  pub value-unnamed : (o : Option (Name × V)) (name : Name) → is_named o name ≡ false → value_if name o ≡ None
-  value-unnamed None name other = refl
-  value-unnamed (Some e) name other = ap (λ same. cond same (Some e.1) None) other
-
   pub within-named : (slots : List (Option (Name × V))) (slot : ℕ) (name : Name) → is_named (in_slot slots slot) name ≡ true → slot < length slots
   within-named [] zero name named = cc
   within-named [] (suc k) name named = cc

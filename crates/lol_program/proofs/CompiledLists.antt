@@ -24,9 +24,6 @@ Pairwise R (x ∷ xs) (y ∷ ys) = R x y × Pairwise R xs ys
 abbrev pub Completes : {A B : Type 0} → (A → B → Type 0) → List A → List B → List B → Type 0
 Completes {A} R done left all = (more : List A) → Pairwise R more left → Pairwise R (done ++ more) all
 
-pub completes_more : {A B : Type 0} (R : A → B → Type 0) (done : List A) (x : A) (y : B) (left all : List B) → Completes R done (y ∷ left) all → R x y → Completes R (done ++ x ∷ []) left all
-completes_more R done x y left all h one more pairs = subst (λ l. Pairwise R l all) (sym (append_assoc done (x ∷ []) more)) (h (x ∷ more) (one, pairs))
-
 pub completes_all : {A B : Type 0} (R : A → B → Type 0) (done : List A) (left all : List B) → left ≡ [] → Completes R done left all → Pairwise R done all
 completes_all R done left all none h = subst (λ l. Pairwise R l all) (append-nil done) (h [] (subst (Pairwise R []) (sym none) tt))
 

@@ -28,6 +28,3 @@ paths-front front (item ∷ items) =
 
 pub paths_of-items : (items : List ComplexSelector) → paths_of (with_item_list trees.NoItems items) ≡ map path_shown items
 paths_of-items items = paths-front trees.NoItems items
-
-pub paths_of-list : (list : SelectorList) → paths_of (list_of list) ≡ map path_shown (out-SelectorList list).items.items
-paths_of-list list = ap paths_of (list_of-out list) ∙ paths_of-items (out-SelectorList list).items.items

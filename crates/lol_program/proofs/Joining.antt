@@ -74,14 +74,3 @@ module _ {T : Type 0} where
 -- what a part of a list gives, the list gives
 pub flat_map-front : {A B : Type 0} (f : A → List B) (xs ys : List A) (b : B) → Contains (flat_map f xs) b → Contains (flat_map f (xs ++ ys)) b
 flat_map-front f xs ys b h = subst (λ (l : List _). Contains l b) (sym (flat_map-append f xs ys)) (in_front (flat_map f xs) (flat_map f ys) b h)
-
-pub flat_map-back : {A B : Type 0} (f : A → List B) (xs ys : List A) (b : B) → Contains (flat_map f ys) b → Contains (flat_map f (xs ++ ys)) b
-flat_map-back f xs ys b h = subst (λ (l : List _). Contains l b) (sym (flat_map-append f xs ys)) (in_back (flat_map f xs) (flat_map f ys) b h)
-
--- two lists in either order
-pub Joins-flipped : {T : Type 0} (old mid new xs ys : List T) → Joins old mid xs → Joins mid new ys → Joins old new (ys ++ xs)
-Joins-flipped {T} old mid new xs ys j k =
-    Joins-same old new (xs ++ ys) (ys ++ xs) (λ x. (
-      λ h. ⊎_elim (λ (a : Contains xs x). in_back ys xs x a) (λ (a : Contains ys x). in_front ys xs x a) (in_either xs ys x h),
-      λ h. ⊎_elim (λ (a : Contains ys x). in_back xs ys x a) (λ (a : Contains xs x). in_front xs ys x a) (in_either ys xs x h),
-    )) (Joins-both old mid new xs ys j k)

@@ -47,9 +47,6 @@ pub record MarkedSoFar (value : List ℕ) (marks : Marks) (start end : ℕ) : Ty
   pub none : NoWhite value start end
   pub covered : (all : Marks) → KeepsMarks marks all → All (IsWordMarked all) (words (drop start value)) → All (IsWordMarked all) (words value)
 
-pub MarkedSoFar-init : (value : List ℕ) (marks : Marks) → MarkedSoFar value marks 0 0
-MarkedSoFar-init value marks = record { ordered = omega arith; none = λ k low high. absurd (omega arith); covered = λ all covers rest. rest }
-
 -- these marks and that of one word more
 pub record MarksWord (marks next : Marks) (word : List ℕ) : Type 0 where
   pub before : KeepsMarks marks next

@@ -60,10 +60,6 @@ AllIn-push f (y ∷ xs) x h is = (h.0, AllIn-push f xs x h.1 is)
 pub AllIn-more : (f : Forest) (paths : List ComplexSelector) (i : ℕ) (x : ComplexSelector) → i < length paths → x ≡ get_or paths i x → AllIn f (take i paths) → IsIn f x → AllIn f (take (i + 1) paths)
 AllIn-more f paths i x within at h is = subst (AllIn f) (sym (one_more paths i x within at)) (AllIn-push f (take i paths) x h is)
 
-pub AllIn-front : (f : Forest) (xs ys : List ComplexSelector) → AllIn f (xs ++ ys) → AllIn f xs
-AllIn-front f [] ys h = tt
-AllIn-front f (x ∷ xs) ys h = (h.0, AllIn-front f xs ys h.1)
-
 -- what holds holds on an error
 pub on_err : {T E P : Type 0} (r : Result T E) → P → OnErr r P
 on_err (Ok x) p = tt
@@ -78,13 +74,6 @@ pub AllIn-at : (f : Forest) (paths : List ComplexSelector) (i : ℕ) (x : Comple
 AllIn-at f [] i x within at h = absurd (omega (arith, within))
 AllIn-at f (y ∷ paths) zero x within at h = subst (IsIn f) (sym at) h.0
 AllIn-at f (y ∷ paths) (suc i) x within at h = AllIn-at f paths i x (omega (arith, within)) at h.1
-
--- others, and a last one
-pub all_of-last : (paths others : List ComplexSelector) (last : ComplexSelector) → paths ≡ others ++ last ∷ [] → all_of paths ≡ all_of others ++ beginnings (path_shown last)
-all_of-last paths others last is = ap all_of is ∙ all_of-append others (last ∷ []) ∙ ap (λ (l : List Path). all_of others ++ l) (all_of-one last)
-
-pub pairs_for-last : (id : ℕ) (paths others : List ComplexSelector) (last : ComplexSelector) → paths ≡ others ++ last ∷ [] → pairs_for id paths ≡ pairs_for id others ++ (path_shown last, id) ∷ []
-pairs_for-last id paths others last is = ap (pairs_for id) is ∙ map-append (λ (path : ComplexSelector). (path_shown path, id)) others (last ∷ [])
 
 -- a list of one item
 pub one_item : (items : List ComplexSelector) (x : ComplexSelector) → 1 ≤ length items → length items < 2 → x ≡ get_or items 0 x → items ≡ x ∷ []

@@ -28,7 +28,7 @@ none_passes test (x ∷ xs) h = by_test (test x) refl h (none_passes test xs)
     by_test true is h more = cc
     by_test false is h more = (is, more h)
 
--- each_once keeps the members
+-- `each_once` keeps the members
 kept : (paths : List Path) (path : Path) → Among paths path → Among (each_once paths) path
 kept [] path h = h
 kept (p ∷ paths) path h = by_test (list_any (same_path p) (each_once paths)) refl h (kept paths path)
@@ -85,16 +85,6 @@ same_beginnings : (ps qs : List (Path × ℕ)) → ((pair : Path × ℕ) → Con
 same_beginnings ps qs to path h =
     let at = begins ps path (among_from_contains _ path h) in
     contains_from_among _ path (begun qs at.0 path (among_from_contains qs at.0 (to at.0 (contains_from_among ps at.0 at.1))) at.2)
-
--- Pairs with the same members have the same nodes.
-pub AreNodes-same : (ps qs : List (Path × ℕ)) (nodes : List Path) → ((pair : Path × ℕ) → Contains ps pair ↔ Contains qs pair) → AreNodes qs nodes → AreNodes ps nodes
-AreNodes-same ps qs nodes same are = record {
-  members = λ path. (
-    λ h. same_beginnings qs ps (λ pair. (same pair).1) path ((are.members path).0 h),
-    λ h. (are.members path).1 (same_beginnings ps qs (λ pair. (same pair).0) path h),
-  );
-  each_once = are.each_once;
-}
 
 -- Nodes that take in what the pairs' paths bring stay their nodes.
 pub AreNodes-joined : (pairs more_pairs added : List (Path × ℕ)) (nodes more_nodes : List Path) → AreNodes pairs nodes → Joins pairs more_pairs added → Joins nodes more_nodes (all_beginnings added)

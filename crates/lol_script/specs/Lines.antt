@@ -16,11 +16,6 @@ abbrev pub fields_of : Option (Bor (List ℕ)) → List (List ℕ)
 fields_of None = []
 fields_of (Some rest) = slice_split is_tab rest.now
 
--- the bytes in which the attributes of a start line stand
-abbrev pub input_of : Option (Bor (List ℕ)) → List ℕ
-input_of None = []
-input_of (Some rest) = rest.now
-
 -- the start tag of a line
 abbrev pub start_tag_of : StartLine → StartTag
 start_tag_of line =

@@ -80,9 +80,3 @@ pairs_more nodes i n within at =
 
 pub count_push : {A : Type 0} (p : A → Bool) (xs : List A) (x : A) → count_by p (xs ++ x ∷ []) ≡ count_by p xs + cond (p x) 1 0
 count_push p xs x = omega (arith, sum_by-append (λ y. cond (p y) 1 0) xs (x ∷ []))
-
--- a count of paths, one path more
-pub counted_more : (p : Path → Bool) (nodes : List PlainNode) (i : ℕ) (n : PlainNode) (count : ℕ) (b : Bool) → i < length nodes → n ≡ get_or nodes i n → b ≡ p (path_shown n.path.items)
-    → count ≡ count_by p (selectors_shown (take i nodes)).nodes → count + cond b 1 0 ≡ count_by p (selectors_shown (take (i + 1) nodes)).nodes
-counted_more p nodes i n count b within at told before =
-    (λ j. before j + cond (told j) 1 0) ∙ sym (ap (count_by p) (paths_more nodes i n within at) ∙ count_push p (selectors_shown (take i nodes)).nodes (path_shown n.path.items))

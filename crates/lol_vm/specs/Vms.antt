@@ -53,9 +53,6 @@ module _ {E : Type 0} where
   abbrev pub tries_in : Vm E → Tries
   tries_in vm = vm.tries
 
-  abbrev pub esi_in : Vm E → Bool
-  esi_in vm = vm.enable_esi_tags
-
   -- whether a tag was refused
   abbrev pub has_failed : Vm E → Bool
   has_failed vm = vm.failed
