@@ -193,7 +193,7 @@ module _ (case : CaseSensitivity) (value operand : List ℕ) where
         let same : first ≡ reached.start =
         ⊎_elim
         (λ before. absurd (not_before first reached.start end reached.begins before ordered none))
-        (λ late. ⊎_elim (λ behind. absurd (not_before reached.start first end word.begins behind (omega arith) reached.far.none)) (λ early. omega arith) (cases_lt reached.start first))
+        (λ late. ⊎_elim (λ after. absurd (not_before reached.start first end word.begins after (omega arith) reached.far.none)) (λ early. omega arith) (cases_lt reached.start first))
         (cases_lt first reached.start) in
         let equal : value_holds Equal case (slice_range value reached.start end) operand ≡ true = subst (λ (i : ℕ). value_holds Equal case (slice_range value i end) operand ≡ true) same word.same in
         ⊎_elim

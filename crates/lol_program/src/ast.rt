@@ -67,8 +67,7 @@ impl Ast {
     }
 
     /// Adds each item of a selector's list under an id: its compounds from the left, each step under the node of the one before it. A
-    /// node is used again where the same list has an equal predicate, and goes last otherwise; the last one takes the id. It costs
-    /// time in proportion to the lists that it walks.
+    /// node is used again where the same list has an equal predicate, and goes last otherwise; the last one takes the id.
     ///
     /// It is refused where memory is, and where there would be more nodes than a `usize` counts. Then the ids are as they were, and so
     /// are the nodes but for some without ids, which are beginnings of the items.

@@ -40,7 +40,7 @@ impl Compiler {
 
     /// The program of a tree. A list of siblings takes the next free places in one range, and after it, node by node, its children's list
     /// and its descendants' list are laid out the same way. Names, operands and sets of ids move out of the tree, and nothing is cloned.
-    /// It costs time in proportion to the tree, and is refused where memory is.
+    /// It is refused where memory is.
     pub fn compile(self, ast: Ast) -> Result<Program, AllocError>
         ensures { IfOk result (λ program. IsProgramOf (selectors_in (trees_of ast)) (nodes_of ast) (program_shown program)) }
     {

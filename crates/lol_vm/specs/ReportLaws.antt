@@ -12,7 +12,7 @@ use Rattle.lol_vm.specs.Matching.{matches}
 use Rattle.lol_vm.specs.Answers.{with_number, ascending_once, matching_ids, report}
 use Rattle.lol_vm.specs.Laws.{IsStrictlyAscending, AscendingIsDetermined, IsReport, ids_of}
 
--- 1. Strictly ascending_once lists
+-- 1. Strictly ascending lists
 
 abbrev Ascends : List ℕ → Type 0
 Ascends [] = Unit {0}
@@ -44,16 +44,16 @@ determined [] (n ∷ ns) hm hn to from = absurd (from n (inl refl))
 determined (m ∷ ms) [] hm hn to from = absurd (to m (inl refl))
 determined (m ∷ ms) (n ∷ ns) hm hn to from =
     let same : m ≡ n = first (to m (inl refl)) (from n (inl refl)) in
-    λ i. same i ∷ determined ms ns hm.1 hn.1 (λ k a. behind same k a (to k (inr a))) (λ k a. before same k a (from k (inr a))) i
+    λ i. same i ∷ determined ms ns hm.1 hn.1 (λ k a. after same k a (to k (inr a))) (λ k a. before same k a (from k (inr a))) i
   where
     first : Among (n ∷ ns) m → Among (m ∷ ms) n → m ≡ n
     first (inl is) b = sym is
     first (inr a) (inl is) = is
     first (inr a) (inr b) = absurd (omega (arith, above_all n ns hn.0 m a, above_all m ms hm.0 n b))
 
-    behind : m ≡ n → (k : ℕ) → Among ms k → Among (n ∷ ns) k → Among ns k
-    behind same k a (inr b) = b
-    behind same k a (inl is) = absurd (omega (arith, above_all m ms hm.0 k a, is, same))
+    after : m ≡ n → (k : ℕ) → Among ms k → Among (n ∷ ns) k → Among ns k
+    after same k a (inr b) = b
+    after same k a (inl is) = absurd (omega (arith, above_all m ms hm.0 k a, is, same))
 
     before : m ≡ n → (k : ℕ) → Among ns k → Among (m ∷ ms) k → Among ms k
     before same k a (inr b) = b
@@ -145,12 +145,12 @@ module _ (e : Element) (outer : List Element) where
       at_head : (b : Bool) → b ≡ true → Among (map (λ (p : Path × ℕ). p.1) (cond b (pair ∷ filter (λ (p : Path × ℕ). matches p.0 e outer) pairs) (filter (λ (p : Path × ℕ). matches p.0 e outer) pairs))) id
       at_head true h = inl (ap (λ (p : Path × ℕ). p.1) is)
       at_head false h = cc
-  kept (pair ∷ pairs) path id (inr a) fits = behind (matches pair.0 e outer) (kept pairs path id a fits)
+  kept (pair ∷ pairs) path id (inr a) fits = after (matches pair.0 e outer) (kept pairs path id a fits)
     where
-      behind : (b : Bool) → Among (ids_matching pairs e outer) id
+      after : (b : Bool) → Among (ids_matching pairs e outer) id
           → Among (map (λ (p : Path × ℕ). p.1) (cond b (pair ∷ filter (λ (p : Path × ℕ). matches p.0 e outer) pairs) (filter (λ (p : Path × ℕ). matches p.0 e outer) pairs))) id
-      behind true h = inr h
-      behind false h = h
+      after true h = inr h
+      after false h = h
 
   pub among_matching_ids : (pairs : List (Path × ℕ)) (id : ℕ) → Among (matching_ids pairs e outer) id → Matching pairs e outer id
   among_matching_ids pairs id h = found pairs id (among_ascending _ id h)
