@@ -1,4 +1,4 @@
--- One token after the other, and first_that piece of a string after the other.
+-- One token after the other, and one piece of a string after the other.
 use Rattle.std.proofs.Common.{◌≡◌, ℕ, zero, suc, ◌+◌, ◌-◌, ◌<◌, ◌≤◌, Bool, true, false, cond, eqb, ◌&&◌, ◌||◌, List, [], ◌∷◌, ◌++◌, length, drop, Option, Some, None, refl, sym, ap, ◌∙◌, arith, append_assoc, length-drop}
 use Rattle.std.proofs.lemmas.List.{append-nil}
 use Rattle.std.proofs.lemmas.Bool.{eqb-true}
@@ -246,7 +246,7 @@ next_shorter text =
 pub next-shrinks : Shrinks next
 next-shrinks = record { shorter = next_shorter }
 
--- ---- first_that round
+-- ---- one round
 
 -- what stands first, and the tokens of what is left
 pub tokens-goes_on : (text : List ℕ) (found : Option Token) (rest : List ℕ) → next text ≡ Some (found, rest) → tokens_of text ≡ with_first found (tokens_of rest)

@@ -13,7 +13,7 @@ abbrev pub first_passes : {A : Type 0} → (A → Bool) → List A → Bool
 first_passes p [] = false
 first_passes p (x ∷ xs) = p x
 
--- first_that more place on, where what stands there passes
+-- one more place on, where what stands there passes
 abbrev pub past : {A : Type 0} → (A → Bool) → List A → List A
 past p [] = []
 past p (x ∷ xs) = if p x then xs else x ∷ xs
@@ -28,11 +28,11 @@ unfoldable pub at_most : {A B : Type 0} → ℕ → (List B → Option (A × Lis
 at_most zero step text = ([], text)
 at_most (suc n) step text = took (step text) (at_most n step) text
 
--- as often as the step takes something from the front (each time first_that place at least), and what is left
+-- as often as the step takes something from the front (each time one place at least), and what is left
 abbrev pub many : {A B : Type 0} → (List B → Option (A × List B)) → List B → List A × List B
 many step text = at_most (length text) step text
 
--- first_that that passes
+-- one that passes
 abbrev pub first_that : {B : Type 0} → (B → Bool) → List B → Option (B × List B)
 first_that p [] = None
 first_that p (x ∷ xs) = if p x then Some (x, xs) else None

@@ -11,7 +11,7 @@ use Rattle.lol_css.specs.declared.syntax.tokens.MatchOperator.{MatchOperator}
 use Rattle.lol_css.specs.declared.syntax.tokens.MatchOperator.TheVariants.{Include, Dash, Prefix, Suffix, Substring}
 use Rattle.lol_css.specs.Points.{is, first_passes, past, many, first_that, is_newline, is_white_space, is_decimal, is_sign, decimal, ◌or◌, escaped_point, begins_escape, is_in_name, name, starts_identifier, starts_number, preprocessed}
 
--- a number as it is written: its sign if first_that stands there, and its digits' value if it has neither fraction nor exponent
+-- a number as it is written: its sign if one stands there, and its digits' value if it has neither fraction nor exponent
 pub record Numeral : Type 0 where
   pub sign : Option Sign
   pub integer : Option ℕ
@@ -92,7 +92,7 @@ abbrev pub leading_sign : List ℕ → Option Sign
 leading_sign [] = None
 leading_sign (c ∷ cs) = sign_of c
 
--- after a fraction and after an exponent, where first_that stands
+-- after a fraction and after an exponent, where one stands
 unfoldable pub after_fraction : List ℕ → List ℕ
 after_fraction text = if first_passes (is (byte ".")) text && first_passes is_decimal (drop 1 text) then (many (first_that is_decimal) (drop 1 text)).1 else text
 

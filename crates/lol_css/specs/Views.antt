@@ -96,7 +96,7 @@ judgement view (Refused cause) = Err cause
 abbrev pub step_judgement : Judged Combinator → Result Combinator SelectorError
 step_judgement step = judgement (λ combinator. combinator) step
 
--- an reader_answer, seen by view
+-- an answer, seen by view
 abbrev pub reader_answer : {X Y : Type 0} → (X → Y) → Result X SelectorError → Result Y SelectorError
 reader_answer view (Ok x) = Ok (view x)
 reader_answer view (Err cause) = Err cause

@@ -90,7 +90,7 @@ accepted_rows =
     ∷ stands_for (codes "a\r\n\tb") (And NoItems (Then (item (type (codes "a"))) Descendant (only (type (codes "b")))))
     ∷ []
 
--- texts that are refused_texts with this cause
+-- texts that are refused with this cause
 pub record Refused : Type 0 where
   pub cause : SelectorError
   pub texts : List (List ℕ)
@@ -113,7 +113,7 @@ refused_rows =
     ∷ refused_texts UnsupportedPseudoClassOrElement (codes "a: b" ∷ codes ":not/**/(a)" ∷ codes ":not(foo bar)" ∷ codes ":not(foo > bar)" ∷ codes ":not(* > .x)" ∷ codes ":not([*|b] a)" ∷ codes ":not(:nth-last-child(even))" ∷ codes ":is(:nth-last-child(1))" ∷ codes ":is(a > b)" ∷ codes ":where(a b)" ∷ codes ":is(a, [*|b] c)" ∷ codes ":where(a + b)" ∷ codes ":is" ∷ codes ":where" ∷ codes "::is(a)" ∷ codes "::where(a)" ∷ codes ":is/**/(a)" ∷ [])
     ∷ []
 
--- pseudo-classes and pseudo-elements that are refused_texts, each alone
+-- pseudo-classes and pseudo-elements that are refused, each alone
 abbrev pub refused_pseudo : List (List ℕ)
 refused_pseudo =
     codes ":active" ∷ codes ":any-link" ∷ codes ":blank" ∷ codes ":checked" ∷ codes ":current" ∷ codes ":default" ∷ codes ":defined" ∷ codes ":dir(rtl)"
@@ -141,7 +141,7 @@ abbrev pub alternated : ℕ → Part → Part
 alternated zero part = part
 alternated (suc n) part = Is (one_part (Not (one_part (alternated n part))))
 
--- a name so often, each inside the one_part before it
+-- a name so often, each inside the one before it
 abbrev pub inside : ℕ → Item → Item
 inside zero front = front
 inside (suc n) front = inside n (Then front Descendant (only (type (codes "a"))))

@@ -21,7 +21,7 @@ pub fn refused_pseudo_classes_and_elements()
     ensures { map accept refused_pseudo ≡ map (λ text. Err UnsupportedPseudoClassOrElement) refused_pseudo }
 {}
 
-/// The bounds: 128 of `:not`, `:is` and `:where` one_part inside the other, and 1,024 compounds an item.
+/// The bounds: 128 of `:not`, `:is` and `:where` one inside the other, and 1,024 compounds an item.
 pub fn bounds()
     ensures negations { accept (times 128 (codes ":not(") ++ codes "a") ≡ Ok (one_part (negated 128 (type (codes "a")))) }
     ensures negations_past { accept (times 129 (codes ":not(") ++ codes "a") ≡ Err UnsupportedSyntax }

@@ -110,7 +110,7 @@ module _ (P : List ℕ → Type 0) (more_ids : (xs ys : List ℕ) → ((x : ℕ)
   abbrev KeepsIn : Node → Node → Type 0
   KeepsIn n m = (m.compound ≡ n.compound) × ((P n.ids → P m.ids) × (KeepsWith P n.children m.children × KeepsWith P n.descendants m.descendants))
 
-  -- what a node has, and has grown_under it
+  -- what a node has, and has under it
   abbrev InNode : List (Combinator × Compound) → Node → Type 0
   InNode [] n = P n.ids
   InNode (step ∷ rest) n = StandsWith P step.1 rest (grown_under step.0 n)

@@ -5,7 +5,7 @@ use Rattle.lol_css.specs.declared.selector.Combinator.TheVariants.{Child, Descen
 use Rattle.lol_program.specs.Compounds.{Compound}
 use Rattle.lol_program.specs.Forest.{Forest, none, more, Node, link}
 
--- a node without ids, with nothing grown_under it
+-- a node without ids, with nothing under it
 abbrev pub fresh : Compound → Node
 fresh c = record { compound = c; ids = []; children = none; descendants = none }
 
@@ -24,7 +24,7 @@ abbrev pub Takes : Option ℕ → Node → Node → Type 0
 Takes None n m = m ≡ n
 Takes (Some id) n m = (ids : List ℕ) × IsWith id n.ids ids × (m ≡ record { compound = n.compound; ids = ids; children = n.children; descendants = n.descendants })
 
--- what is grown_under a node by a step
+-- what is under a node by a step
 abbrev pub grown_under : Combinator → Node → Forest
 grown_under Child n = n.children
 grown_under Descendant n = n.descendants

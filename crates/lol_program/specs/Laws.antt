@@ -23,7 +23,7 @@ NodesStayTheBeginnings =
 abbrev pub TreesAreClosed : Type 0
 TreesAreClosed = (ast : Ast) → AreClosed (record { pairs = pairs_of ast; nodes = nodes_of ast })
 
--- So are those of pairs one_test, where nothing was refused.
+-- So are those of pairs alone, where nothing was refused.
 abbrev pub BeginningsAreClosed : Type 0
 BeginningsAreClosed = (s : Selectors) → AreNodes s.pairs s.nodes → AreClosed s
 
@@ -39,7 +39,7 @@ ValuesAreByNames = (c : Compound) (e : Element) (attributes : List Attribute) (s
 abbrev pub tag : List ℕ → Part
 tag name = Plain (trees.LocalName name)
 
--- a list of one_part compound of one_part part, and of two
+-- a list of one compound of one part, and of two
 abbrev pub one_part : Part → Items
 one_part a = And NoItems (trees.First (With Nothing a))
 
@@ -49,7 +49,7 @@ two a b = And (And NoItems (trees.First (With Nothing a))) (trees.First (With No
 abbrev pub named : List ℕ → Test
 named name = OfName (HasName name)
 
--- a compound of one_part test
+-- a compound of one test
 abbrev pub one_test : Test → Compound
 one_test test = AndTest test NoTests
 
@@ -71,7 +71,7 @@ pub record AreRows : Type 0 where
   pub either_of :
       compound_tests (With Nothing (Is (And (And NoItems (trees.First (With (With Nothing (tag (codes "a"))) (Plain (trees.Class (codes "x")))))) (trees.First (With Nothing (tag (codes "p")))))))
       ≡ one_test (SomeOf (any_of (all_of (named (codes "a") ∷ OfAttributes (HasClass (codes "x")) ∷ []) ∷ one_test (named (codes "p")) ∷ [])))
-  -- `:is(a)` and `:where(a)` are one_part, `:is(a)` and `a` two, and so are `:not(a, b)` and `:not(b, a)`, `:not(:not(a))` and `a`
+  -- `:is(a)` and `:where(a)` are one, `:is(a)` and `a` two, and so are `:not(a, b)` and `:not(b, a)`, `:not(:not(a))` and `a`
   pub is_and_where : compound_tests (With Nothing (Is (one_part (tag (codes "a"))))) ≡ compound_tests (With Nothing (Where (one_part (tag (codes "a")))))
   pub is_and_name : same_compound (compound_tests (With Nothing (Is (one_part (tag (codes "a")))))) (compound_tests (With Nothing (tag (codes "a")))) ≡ false
   pub order_counts : same_compound (compound_tests (With Nothing (Not (two (tag (codes "a")) (tag (codes "b")))))) (compound_tests (With Nothing (Not (two (tag (codes "b")) (tag (codes "a")))))) ≡ false

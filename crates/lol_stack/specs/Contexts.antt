@@ -25,7 +25,7 @@ with_ranges item branch =
 abbrev pub with_more_ids : {N E : Type 0} → (E → Ids) → (E → Ids → E) → StackItemOf N E → Ids → StackItemOf N E
 with_more_ids ids with_ids item more = record item { element_data = with_ids item.element_data (union (ids item.element_data) more) }
 
--- What is with_branch with what an instruction gives: its ids, and where there is content its ranges too.
+-- What is gathered with what an instruction gives: its ids, and where there is content its ranges too.
 abbrev pub with_branch : {E : Type 0} → (E → Ids) → (E → Ids → E) → ExecutionCtx E → ExecutionBranch → ExecutionCtx E
 with_branch ids with_ids ctx branch =
     record ctx { stack_item = with_more_ids ids with_ids (if ctx.with_content then with_ranges ctx.stack_item branch else ctx.stack_item) branch.matched_ids }

@@ -89,7 +89,7 @@ count_by_type (Some ts) level name = count_at ts level name
 abbrev pub typed_count : {E : Type 0} → StackOf Name StackNames E → Name → Option ℕ
 typed_count s name = count_by_type (typed_in s) (length (items_in s)) name
 
--- A child of a name is counted_by_type: by the counter of the last open element, or of the root, and by type.
+-- A child of a name is counted: by the counter of the last open element, or of the root, and by type.
 abbrev pub counted_in : {E : Type 0} → StackOf Name StackNames E → Name → StackOf Name StackNames E
 counted_in s name = child_counted (with_typed s (option_map (λ ts. counted_by_type ts (length (items_in s)) name) (typed_in s)))
 

@@ -25,18 +25,18 @@ level_of t = (t.level, t.count)
 abbrev pub levels_of : Name → List TypedCount → List (ℕ × ℕ)
 levels_of name ts = map level_of (filter (is_of name) ts)
 
--- What the last counter of a name has counted_by_type, if it is at this level.
+-- What the last counter of a name has counted, if it is at this level.
 abbrev pub count_at : List TypedCount → ℕ → Name → Option ℕ
 count_at ts level name = count_if_at level (levels_of name ts)
 
--- with one more counted_by_type by the last counter of a name
+-- with one more counted by the last counter of a name
 abbrev pub last_counted : List TypedCount → Name → List TypedCount
 last_counted [] name = []
 last_counted (t ∷ ts) name =
     if list_any (is_of name) ts then t ∷ last_counted ts name
     else (if same_local_name t.name name then record t { count = one_more t.count } else t) ∷ ts
 
--- A child of a name is counted_by_type at a level: by the last counter of that name, if it is at that level, and else by a new one.
+-- A child of a name is counted at a level: by the last counter of that name, if it is at that level, and else by a new one.
 abbrev pub counted_by_type : List TypedCount → ℕ → Name → List TypedCount
 counted_by_type ts level name =
     if is_at_level level (levels_of name ts) then last_counted ts name else ts ++ record { level = level; name = name; count = 1 } ∷ []

@@ -8,7 +8,7 @@ use Rattle.lol_stack.specs.TypedCounts.{TypedCount, counted_by_type, cut_to, cou
 abbrev pub contributes : ℕ → List ℕ → TypedCount → ℕ
 contributes level name t = if (t.level == level) && bytes_eq t.name.lowercased name then t.count else 0
 
--- What is counted_by_type of a name, by its bytes in lower case, at a level.
+-- What is counted of a name, by its bytes in lower case, at a level.
 abbrev pub typed_of : List TypedCount → ℕ → List ℕ → ℕ
 typed_of [] level name = 0
 typed_of (t ∷ ts) level name = contributes level name t + typed_of ts level name
@@ -18,7 +18,7 @@ abbrev pub IsAscending : ℕ → List TypedCount → Type 0
 IsAscending level [] = Unit {0}
 IsAscending level (t ∷ ts) = (level ≤ t.level) × IsAscending t.level ts
 
--- A child that is counted_by_type is one more at its level and name, and changes nothing else.
+-- A child that is counted is one more at its level and name, and changes nothing else.
 abbrev pub CountingAddsOne : Type 0
 CountingAddsOne =
     (ts : List TypedCount) (level : ℕ) (name : Name) → typed_of ts level name.lowercased < full_count → (l : ℕ) (q : List ℕ)
@@ -36,7 +36,7 @@ IsRising level [] = Unit {0}
 IsRising level (x ∷ []) = x.0 ≤ level
 IsRising level (x ∷ y ∷ xs) = (x.0 < y.0) × IsRising level (y ∷ xs)
 
--- The counter that is found for a name at a level, not below one that the name has a counter at, has counted_by_type what is counted_by_type there.
+-- The counter that is found for a name at a level, not below one that the name has a counter at, has counted what is counted there.
 abbrev pub CountsAtTheirLevel : Type 0
 CountsAtTheirLevel =
     (ts : List TypedCount) (level : ℕ) (name : Name) → IsRising level (levels_of name ts) → unwrap_or (count_at ts level name) 0 ≡ typed_of ts level name.lowercased

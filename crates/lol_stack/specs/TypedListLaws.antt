@@ -80,7 +80,7 @@ pub levels-uncounted : (ts : List TypedCount) (name : Name) (old new : Name → 
 levels-uncounted ts name old new are same q =
     same q ∙ (elim (same_local_name name q) as (λ b. (if b then old q else old q) ≡ old q) [ true ↦ refl | false ↦ refl ] ∙ are q)
 
--- ---- one more counted_by_type by the last counter of a name
+-- ---- one more counted by the last counter of a name
 
 pub keys-last_counted : (ts : List TypedCount) (name : Name) → map key_of (last_counted ts name) ≡ map key_of ts
 keys-last_counted [] name = refl
@@ -289,7 +289,7 @@ cut_to-within level (u ∷ ts) t within =
     ap (λ all. if all then [] else u ∷ cut_to level (ts ++ t ∷ [])) (all_above-push level (u ∷ ts) t false is ∙ and-false (all_above level (u ∷ ts)))
     ∙ ap (λ rest. u ∷ rest) (cut_to-within level ts t within)
 
--- ---- a child that is counted_by_type
+-- ---- a child that is counted
 
 pub counted-again : (ts : List TypedCount) (level : ℕ) (name : Name) → is_at_level level (levels_of name ts) ≡ true → last_counted ts name ≡ counted_by_type ts level name
 counted-again ts level name at = rw at refl

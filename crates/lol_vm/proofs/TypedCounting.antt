@@ -1,4 +1,4 @@
--- One more child counted_by_type by type.
+-- One more child counted by type.
 use Rattle.std.proofs.Common.{◌≡◌, ℕ, ◌+◌, ◌<◌, ◌≤◌, Bool, true, false, cond, List, [], ◌∷◌, ◌++◌, map, Some, None, ◌⊎◌, inl, inr, refl, sym, ap, ◌∙◌, subst, arith}
 use Rattle.std.specs.Prelude.{nat_lt, ◌&&◌, ◌||◌, unwrap_or, if◌then◌else◌}
 use Rattle.std.specs.List.{list_any, list_all, filter}
@@ -34,7 +34,7 @@ counted_again level (x ∷ y ∷ xs) h = past x y xs ∙ counted_again level (y 
 abbrev started : ℕ → Name → TypedCount
 started level name = record { level = level; name = name; count = 1 }
 
--- the levels of each name after one more is counted_by_type
+-- the levels of each name after one more is counted
 levels_again : (ts : List TypedCount) (name q : Name) → levels_of q (last_counted ts name) ≡ (if same_local_name name q then counted_at_last (levels_of q ts) else levels_of q ts)
 levels_again ts name q =
     sym (levels-last_counted ts name (λ r. levels_of r ts) (λ r. if same_local_name name r then counted_at_last (levels_of r ts) else levels_of r ts) (λ r. refl) (λ r. refl) q)
@@ -168,7 +168,7 @@ count_counted top ts name q free = by_test (is_at_level top (levels_of name ts))
 pub shown_at_top : (top : ℕ) (ts : List TypedCount) (q : Name) → Climb top (levels_in ts) → typed_shown ts top q ≡ count_in ts top q
 shown_at_top top ts q c = ap (λ xs. count_in xs top q) (cut_to-all top top ts c (omega arith))
 
--- what is counted_by_type at the top, and elsewhere as before
+-- what is counted at the top, and elsewhere as before
 pub shown_counted : (top : ℕ) (ts : List TypedCount) (name q : Name) → Climb top (levels_in ts) → typed_shown ts top name < full_count
     → typed_shown (counted_by_type ts top name) top q ≡ cond (same_local_name name q) (typed_shown ts top q + 1) (typed_shown ts top q)
 shown_counted top ts name q c free =

@@ -22,17 +22,17 @@ pub data Answer : Type 0 where
 
 -- 1. Reports
 
--- an ascending_once list with a number in its place, unless it is there
+-- an ascending list with a number in its place, unless it is there
 abbrev pub with_number : ℕ → List ℕ → List ℕ
 with_number n [] = n ∷ []
 with_number n (x ∷ xs) = if nat_lt n x then n ∷ x ∷ xs else (if n == x then x ∷ xs else x ∷ with_number n xs)
 
--- the numbers of a list, ascending_once and each once
+-- the numbers of a list, ascending and each once
 abbrev pub ascending_once : List ℕ → List ℕ
 ascending_once [] = []
 ascending_once (n ∷ ns) = with_number n (ascending_once ns)
 
--- The ids of the pairs whose path matches, ascending_once and each once.
+-- The ids of the pairs whose path matches, ascending and each once.
 abbrev pub matching_ids : List (Path × ℕ) → Element → List Element → List ℕ
 matching_ids pairs e outer = ascending_once (map (λ pair. pair.1) (filter (λ pair. matches pair.0 e outer) pairs))
 

@@ -10,24 +10,24 @@ use Rattle.lol_vm.specs.PlaceRuns.{Context, no_context, branch}
 use Rattle.lol_stack.specs.declared.stack_item.StackItemOf.{StackItemOf}
 use Rattle.lol_stack.specs.declared.execution_ctx.ExecutionCtx.{ExecutionCtx}
 
--- The ids of the element's data are those that were with_branch, and its ranges too; `ids_of` is what the data mean.
+-- The ids of the element's data are those that were gathered, and its ranges too; `ids_of` is what the data mean.
 pub record Gathers {N E : Type 0} (ids_of : E → Ids) (item : StackItemOf N E) (context : Context) : Type 0 where
   pub ids : (id : ℕ) → (has (ids_of item.element_data) id ≡ true) ↔ Contains context.ids id
   pub jumps : context.jumps ≡ map range_shown item.jumps
   pub hereditary_jumps : context.hereditary_jumps ≡ map range_shown item.hereditary_jumps
 
--- A new element has with_branch nothing.
+-- A new element has gathered nothing.
 abbrev pub NewElementsGather : (N E : Type 0) → Type 0
 NewElementsGather N E = (ids_of : E → Ids) (name : N) (item : StackItemOf N E) → IsNewItem ids_of name item → Gathers ids_of item no_context
 
--- What an instruction gives is with_branch with the rest.
+-- What an instruction gives is gathered with the rest.
 abbrev pub BranchesGather : (E : Type 0) → Type 0
 BranchesGather E =
     (ids_of : E → Ids) (with_ids : E → Ids → E) → ((e : E) (w : Ids) → ids_of (with_ids e w) ≡ w)
     → (ctx : ExecutionCtx E) (context : Context) (i : code.Instruction) (by_type : Bool) → Gathers ids_of ctx.stack_item context
     → Gathers ids_of (with_branch ids_of with_ids ctx i.associated_branch).stack_item (branch ctx.with_content context (instruction_shown by_type i))
 
--- The ids of the data, in ascending_once order, are those that were with_branch, each once.
+-- The ids of the data, in ascending order, are those that were gathered, each once.
 abbrev pub GatheredIdsAscend : (N E : Type 0) → Type 0
 GatheredIdsAscend N E =
     (ids_of : E → Ids) (item : StackItemOf N E) (context : Context) → Gathers ids_of item context → sets.ascending (ids_of item.element_data) ≡ ascending_once context.ids

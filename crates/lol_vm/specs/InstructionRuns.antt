@@ -91,13 +91,13 @@ module _ {E : Type 0} (ids : E → Ids) (with_ids : E → Ids → E) where
   with_branch_if true ctx i = with_branch ids with_ids ctx i.associated_branch
   with_branch_if false ctx i = ctx
 
-  -- What is with_branch by names, up to the first open one.
+  -- What is gathered by names, up to the first open one.
   abbrev pub gathered_by_names : Sight → ExecutionCtx E → List Instruction → ExecutionCtx E
   gathered_by_names s ctx [] = ctx
   gathered_by_names s ctx (i ∷ instructions) =
       if is_open (value_seen s i) then ctx else gathered_by_names s (with_branch_if (is_true (value_seen s i)) ctx i) instructions
 
-  -- What is with_branch with attributes.
+  -- What is gathered with attributes.
   abbrev pub gathered_with_attributes : Sight → TagAttributes → ExecutionCtx E → List Instruction → ExecutionCtx E
   gathered_with_attributes s a ctx [] = ctx
   gathered_with_attributes s a ctx (i ∷ instructions) = gathered_with_attributes s a (with_branch_if (holds_seen s a i) ctx i) instructions

@@ -9,7 +9,7 @@ use Rattle.lol_program.specs.declared.name_value.NameValue.TheVariants.{True, Fa
 
 -- 1. What all places give
 
--- What a start tag has gathered_from_places: ids, and ranges for the elements inside.
+-- What a start tag has gathered: ids, and ranges for the elements inside.
 pub record Context : Type 0 where
   pub ids : List ℕ
   pub jumps : List Range
@@ -35,7 +35,7 @@ jumps_list i = option_to_list i.jumps
 abbrev pub hereditary_jumps_list : Instruction → List Range
 hereditary_jumps_list i = option_to_list i.hereditary_jumps
 
--- What is gathered_from_places from places, in their order; ranges only for an element with content.
+-- What is gathered from places, in their order; ranges only for an element with content.
 abbrev pub context_of : Program → Bool → Element → List ℕ → Context
 context_of p content e ps =
     record {
@@ -74,7 +74,7 @@ value_at p e place = instruction_value e (slice_get p.instructions place)
 abbrev pub is_open_at : Program → Element → ℕ → Bool
 is_open_at p e place = is_open (value_at p e place)
 
--- Where a run without attributes ends: what it gathered_from_places, and the places that are left. None are left, or the first of them is open.
+-- Where a run without attributes ends: what it gathered, and the places that are left. None are left, or the first of them is open.
 pub record Stop : Type 0 where
   pub context : Context
   pub left : List ℕ

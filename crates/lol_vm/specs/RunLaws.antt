@@ -30,7 +30,7 @@ MarksTellContent =
 
 -- 2. One id
 
--- whether an answer reports_id an id
+-- whether an answer reports an id
 abbrev pub reports_id : ℕ → Answer → Bool
 reports_id id (Started matched asked name_tries attribute_tries) = list_any (λ m. m.id == id) matched
 reports_id id Dropped = false

@@ -112,12 +112,12 @@ cut n m =
       typed = λ level name. if nat_le level (length (drop n m.items)) then m.typed level name else 0;
     }
 
--- how many items an end tag closed_count, by the place of the first of its name
+-- how many items an end tag closes, by the place of the first of its name
 abbrev pub closed_count : Option ℕ → ℕ
 closed_count None = 0
 closed_count (Some place) = place + 1
 
--- an end tag closed_count the innermost item of its name and all inside it
+-- an end tag closes the innermost item of its name and all inside it
 abbrev pub ended : Machine → List ℕ → Machine
 ended m name = cut (closed_count (position (λ item. same_name item.name name) m.items)) m
 

@@ -39,7 +39,7 @@ pub(crate) enum MatchOperator {
 /// A number as it is written.
 #[derive(Clone, Copy)]
 pub(crate) struct Numeral<'a> {
-    /// The sign, if first_that is written.
+    /// The sign, if one is written.
     pub sign: Option<Sign>,
     /// The digits, if there are neither fraction nor exponent.
     pub integer: Option<&'a [char]>,
