@@ -53,7 +53,7 @@ not_true false h = refl
 
 -- 4. The same test
 
-pub same_test : (a b : Bool) → (a ≡ true → b ≡ true) → (b ≡ true → a ≡ true) → a ≡ b
-same_test true b to from = sym (to refl)
-same_test false true to from = from refl
-same_test false false to from = refl
+pub same_bool : (a b : Bool) → (a ≡ true → b ≡ true) → (b ≡ true → a ≡ true) → a ≡ b
+same_bool true b to from = sym (to refl)
+same_bool false true to from = from refl
+same_bool false false to from = refl

@@ -8,3 +8,4 @@ pub mod StartTags
 pub mod BoolLaws
 pub mod ListLaws
 pub mod MemberLaws
+pub mod PlaceLaws

@@ -9,6 +9,10 @@ use Rattle.std.specs.Cmp.Lexicographic.{on_texts_equal, slice_cmp, texts_ties}
 use Rattle.std.proofs.lemmas.Slice.Eq.{bytes_eq-Decides}
 use Rattle.lol_base.specs.LocalNames.{Name, same_local_name, code_or_last, local_name_cmp, name_code, writes_of, name_writes}
 
+-- names that are the same have the same bytes in lower case
+pub same_lowercased : (a b : Name) → same_local_name a b ≡ true → a.lowercased ≡ b.lowercased
+same_lowercased a b same = (bytes_eq-Decides a.lowercased b.lowercased).0 same
+
 pub same_local_name_equivalence : IsEquivalence same_local_name
 same_local_name_equivalence = on_texts_equal (λ (n : Name). n.lowercased)
 

@@ -8,7 +8,7 @@ use Rattle.lol_css.specs.Trees.{Simple, LocalName, AnyName, Id, Class, Exists, C
 use Rattle.lol_css.specs.Drafts.{By, DraftPart, Plain, LatePseudoClass, LateNamespace, Logical, DraftCompound, Nothing, With, DraftItem, First, Then, DraftItems, NoItems, And}
 use Rattle.lol_css.specs.Rules.{Read, ◌>>=◌, giving, keeping, is_delim, is_space, skip_space, Nesting, InFunction, InBrackets, closes, at_end, at_stop, required_token, block_end, says, lowercase, ident_of}
 use Rattle.lol_css.specs.AnPlusB.{with_sign, integer_value, unsigned_integer, in_i32, bounded_integer, digits_of_b, after_n, is_n_and_digits, rest_of, with_step, integer, an_plus_b_of_dimension, an_plus_b_of, an_plus_b}
-use Rattle.lol_css.specs.Reading.{utf8, combination_named, name_after_bar, bar_of, attribute_name, operator_of, value_of, flag_of, default_case_sensitivity, case_sensitivity, comparison, attribute, class_name, is_one_of, function_part, ident_part, pseudo, some, part, parts_at_most, more_parts, after_bar, any_namespace, no_namespace, type_part, is_nothing, compound, step_of, step, next_step, further, item, items_at_most, list, inner_list}
+use Rattle.lol_css.specs.Reading.{utf8, combination_named, name_after_bar, bar_of, attribute_name, operator_of, written_value, flag_of, default_case_sensitivity, case_sensitivity, comparison, attribute, class_name, is_one_of, function_part, ident_part, pseudo, some, part, parts_at_most, more_parts, after_bar, any_namespace, no_namespace, type_part, is_nothing, compound, step_of, step, next_step, further, item, items_at_most, list, inner_list}
 use Rattle.lol_css.specs.declared.syntax.tokens.Sign.{Sign}
 use Rattle.lol_css.specs.declared.syntax.tokens.Sign.TheVariants.{Minus}
 use Rattle.lol_css.specs.declared.error.SelectorError.{SelectorError}
@@ -227,11 +227,11 @@ unfolding comparison
 comparison-leaves name tokens =
     let n = length tokens in
     let wanted_operator = required_token InBrackets operator_of errors.UnexpectedTokenInAttribute tokens in
-    if_leaves (at_end InBrackets tokens) (Ok (Exists name, drop 1 tokens)) (wanted_operator >>= λ operator. required_token InBrackets value_of errors.UnexpectedTokenInAttribute (skip_space operator.1) >>= λ value. case_sensitivity name (skip_space value.1) >>= λ case. Ok (Compares name operator.0 (utf8 value.0) case.0, case.1)) n
+    if_leaves (at_end InBrackets tokens) (Ok (Exists name, drop 1 tokens)) (wanted_operator >>= λ operator. required_token InBrackets written_value errors.UnexpectedTokenInAttribute (skip_space operator.1) >>= λ value. case_sensitivity name (skip_space value.1) >>= λ case. Ok (Compares name operator.0 (utf8 value.0) case.0, case.1)) n
     (ok_leaves (Exists name) (drop 1 tokens) n (omega (arith, length-drop 1 tokens)))
-    (then_leaves wanted_operator (λ operator. required_token InBrackets value_of errors.UnexpectedTokenInAttribute (skip_space operator.1) >>= λ value. case_sensitivity name (skip_space value.1) >>= λ case. Ok (Compares name operator.0 (utf8 value.0) case.0, case.1)) n n (required_token-leaves InBrackets operator_of errors.UnexpectedTokenInAttribute tokens)
-    (λ operator rest l. then_leaves (required_token InBrackets value_of errors.UnexpectedTokenInAttribute (skip_space rest)) (λ value. case_sensitivity name (skip_space value.1) >>= λ case. Ok (Compares name operator (utf8 value.0) case.0, case.1)) n n
-    (weaker (required_token InBrackets value_of errors.UnexpectedTokenInAttribute (skip_space rest)) (length rest) n (required_after_space InBrackets value_of errors.UnexpectedTokenInAttribute rest) l)
+    (then_leaves wanted_operator (λ operator. required_token InBrackets written_value errors.UnexpectedTokenInAttribute (skip_space operator.1) >>= λ value. case_sensitivity name (skip_space value.1) >>= λ case. Ok (Compares name operator.0 (utf8 value.0) case.0, case.1)) n n (required_token-leaves InBrackets operator_of errors.UnexpectedTokenInAttribute tokens)
+    (λ operator rest l. then_leaves (required_token InBrackets written_value errors.UnexpectedTokenInAttribute (skip_space rest)) (λ value. case_sensitivity name (skip_space value.1) >>= λ case. Ok (Compares name operator (utf8 value.0) case.0, case.1)) n n
+    (weaker (required_token InBrackets written_value errors.UnexpectedTokenInAttribute (skip_space rest)) (length rest) n (required_after_space InBrackets written_value errors.UnexpectedTokenInAttribute rest) l)
     (λ value rest2 l2. then_leaves (case_sensitivity name (skip_space rest2)) (λ case. Ok (Compares name operator (utf8 value) case.0, case.1)) n n
     (weaker (case_sensitivity name (skip_space rest2)) (length (skip_space rest2)) n (case_sensitivity-leaves name (skip_space rest2)) (omega (arith, skip_space-shorter rest2)))
     (λ case rest3 l3. ok_leaves (Compares name operator (utf8 value) case) rest3 n l3))))

@@ -54,10 +54,10 @@ operator_of (Match operators.Suffix) = Some Suffix
 operator_of (Match operators.Substring) = Some Substring
 operator_of _ = None
 
-abbrev pub value_of : Token → Option (List ℕ)
-value_of (Ident name) = Some name
-value_of (Quoted text) = Some text
-value_of _ = None
+abbrev pub written_value : Token → Option (List ℕ)
+written_value (Ident name) = Some name
+written_value (Quoted text) = Some text
+written_value _ = None
 
 abbrev pub flag_named : List ℕ → Option ParsedCaseSensitivity
 flag_named name =
@@ -87,7 +87,7 @@ comparison name tokens =
     if at_end InBrackets tokens then Ok (Exists name, drop 1 tokens)
     else (do
       operator ← required_token InBrackets operator_of UnexpectedTokenInAttribute tokens
-      value ← required_token InBrackets value_of UnexpectedTokenInAttribute (skip_space operator.1)
+      value ← required_token InBrackets written_value UnexpectedTokenInAttribute (skip_space operator.1)
       case ← case_sensitivity name (skip_space value.1)
       Ok (Compares name operator.0 (utf8 value.0) case.0, case.1))
 

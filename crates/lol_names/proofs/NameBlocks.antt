@@ -8,7 +8,7 @@ use Rattle.std.specs.Map.{lookup}
 use Rattle.std.specs.declared.cmp.Ordering.TheVariants.{Less, Equal, Greater}
 use Rattle.std.specs.Ordering.{is_lt}
 use Rattle.lol_base.specs.LocalNames.{Name, same_local_name, local_name_cmp}
-use Rattle.lol_names.specs.NameBlocks.{joined, block_at, AllFilled, value_of, AllBelow, AllAbove, AreAscending, AreBlocks, begins_above, is_named, before, from, Stands, IsMissing}
+use Rattle.lol_names.specs.NameBlocks.{joined_blocks, block_at, AllFilled, value_in_blocks, AllBelow, AllAbove, AreAscending, AreBlocks, begins_above, is_named, before, from, StandsInBlocks, IsMissing}
 use Rattle.lol_names.specs.declared.name_blocks.BlockPlace.{BlockPlace}
 use Rattle.lol_names.proofs.NameOrder.{all_above-append, all_above-back, all_above-below, all_above-same, all_below-append, all_below-above, all_below-same, ascending-back, ascending-front, ascending-below, ascending-above, found-missing, found-back, tested-same, same-flip, same-tested, above-other, above-flip}
 
@@ -19,9 +19,9 @@ module _ {A : Type 0} where
   append-assoc [] ys zs = refl
   append-assoc (x ∷ xs) ys zs = ap (λ rest. x ∷ rest) (append-assoc xs ys zs)
 
-  pub joined-append : (xs ys : List (List A)) → joined (xs ++ ys) ≡ joined xs ++ joined ys
+  pub joined-append : (xs ys : List (List A)) → joined_blocks (xs ++ ys) ≡ joined_blocks xs ++ joined_blocks ys
   joined-append [] ys = refl
-  joined-append (x ∷ xs) ys = ap (λ rest. x ++ rest) (joined-append xs ys) ∙ sym (append-assoc x (joined xs) (joined ys))
+  joined-append (x ∷ xs) ys = ap (λ rest. x ++ rest) (joined-append xs ys) ∙ sym (append-assoc x (joined_blocks xs) (joined_blocks ys))
 
   pub split-at : (xs : List A) (k : ℕ) (x : A) → slice_get xs k ≡ Some x → xs ≡ take k xs ++ x ∷ drop 1 (drop k xs)
   split-at [] k x at = cc
@@ -62,22 +62,22 @@ module _ {A : Type 0} where
   take-drop (x ∷ xs) (suc k) = ap (λ rest. x ∷ rest) (take-drop xs k)
 
   -- all blocks are those before one, that one and those after it
-  pub joined-at : (blocks : List (List A)) (b : ℕ) → joined blocks ≡ joined (take b blocks) ++ (block_at blocks b ++ joined (drop 1 (drop b blocks)))
+  pub joined-at : (blocks : List (List A)) (b : ℕ) → joined_blocks blocks ≡ joined_blocks (take b blocks) ++ (block_at blocks b ++ joined_blocks (drop 1 (drop b blocks)))
   joined-at [] zero = refl
   joined-at [] (suc b) = refl
   joined-at (block ∷ blocks) zero = refl
   joined-at (block ∷ blocks) (suc b) =
       ap (λ rest. block ++ rest) (joined-at blocks b)
-      ∙ sym (append-assoc block (joined (take b blocks)) (block_at blocks b ++ joined (drop 1 (drop b blocks))))
+      ∙ sym (append-assoc block (joined_blocks (take b blocks)) (block_at blocks b ++ joined_blocks (drop 1 (drop b blocks))))
 
   -- and with another in its place
   pub joined-set : (blocks : List (List A)) (b : ℕ) (block : List A) → b < length blocks
-      → joined (slice_set blocks b block) ≡ joined (take b blocks) ++ (block ++ joined (drop 1 (drop b blocks)))
+      → joined_blocks (slice_set blocks b block) ≡ joined_blocks (take b blocks) ++ (block ++ joined_blocks (drop 1 (drop b blocks)))
   joined-set [] b block h = absurd (omega (arith, h))
   joined-set (other ∷ blocks) zero block h = refl
   joined-set (other ∷ blocks) (suc b) block h =
       ap (λ rest. other ++ rest) (joined-set blocks b block (omega (arith, h)))
-      ∙ sym (append-assoc other (joined (take b blocks)) (block ++ joined (drop 1 (drop b blocks))))
+      ∙ sym (append-assoc other (joined_blocks (take b blocks)) (block ++ joined_blocks (drop 1 (drop b blocks))))
 
   pub filled-set : (blocks : List (List A)) (b : ℕ) (block : List A) → 0 < length block → AllFilled blocks → AllFilled (slice_set blocks b block)
   filled-set [] b block some h = h
@@ -96,20 +96,20 @@ is_less a b h =
     elim (local_name_cmp a b) as (λ o. is_lt o ≡ true → o ≡ Less) [ Less ↦ λ e. refl | Equal ↦ λ e. cc | Greater ↦ λ e. cc ] h
 
 module _ {V : Type 0} where
-  pub round-missing : (blocks : List (List (Name × V))) (place : BlockPlace) → joined blocks ≡ before blocks place ++ from blocks place 0
+  pub round-missing : (blocks : List (List (Name × V))) (place : BlockPlace) → joined_blocks blocks ≡ before blocks place ++ from blocks place 0
   round-missing blocks place =
       let block = block_at blocks place.block in
-      let later = joined (drop 1 (drop place.block blocks)) in
+      let later = joined_blocks (drop 1 (drop place.block blocks)) in
       joined-at blocks place.block
-      ∙ (ap (λ xs. joined (take place.block blocks) ++ (xs ++ later)) (sym (take-drop block place.at))
-      ∙ (ap (λ xs. joined (take place.block blocks) ++ xs) (append-assoc (take place.at block) (drop place.at block) later)
-      ∙ sym (append-assoc (joined (take place.block blocks)) (take place.at block) (drop place.at block ++ later))))
+      ∙ (ap (λ xs. joined_blocks (take place.block blocks) ++ (xs ++ later)) (sym (take-drop block place.at))
+      ∙ (ap (λ xs. joined_blocks (take place.block blocks) ++ xs) (append-assoc (take place.at block) (drop place.at block) later)
+      ∙ sym (append-assoc (joined_blocks (take place.block blocks)) (take place.at block) (drop place.at block ++ later))))
 
   pub round-entry : (blocks : List (List (Name × V))) (place : BlockPlace) (e : Name × V) → slice_get (block_at blocks place.block) place.at ≡ Some e
-      → joined blocks ≡ before blocks place ++ e ∷ from blocks place 1
+      → joined_blocks blocks ≡ before blocks place ++ e ∷ from blocks place 1
   round-entry blocks place e at =
       round-missing blocks place
-      ∙ ap (λ xs. before blocks place ++ (xs ++ joined (drop 1 (drop place.block blocks)))) (drop-at (block_at blocks place.block) place.at e at)
+      ∙ ap (λ xs. before blocks place ++ (xs ++ joined_blocks (drop 1 (drop place.block blocks)))) (drop-at (block_at blocks place.block) place.at e at)
 
   -- 3. What a search finds
 
@@ -123,31 +123,31 @@ module _ {V : Type 0} where
 
   -- where a block doesn't begin above a name, the blocks before it are below
   pub blocks_below : (name : Name) (blocks : List (List (Name × V))) (b : ℕ) (block : List (Name × V)) → AreBlocks blocks → slice_get blocks b ≡ Some block
-      → begins_above name block ≡ false → AllBelow name (joined (take b blocks))
+      → begins_above name block ≡ false → AllBelow name (joined_blocks (take b blocks))
   blocks_below name blocks b [] are at begins = absurd (omega (arith, filled-at blocks b [] at are.filled))
   blocks_below name blocks b (e ∷ es) are at begins =
-      let whole : joined blocks ≡ joined (take b blocks) ++ e ∷ (es ++ joined (drop 1 (drop b blocks))) =
-      joined-at blocks b ∙ ap (λ found. joined (take b blocks) ++ (unwrap_or found [] ++ joined (drop 1 (drop b blocks)))) at in
-      not_above name e.0 begins (joined (take b blocks))
-      (ascending-below (joined (take b blocks)) e (es ++ joined (drop 1 (drop b blocks))) (subst AreAscending whole are.ascending))
+      let whole : joined_blocks blocks ≡ joined_blocks (take b blocks) ++ e ∷ (es ++ joined_blocks (drop 1 (drop b blocks))) =
+      joined-at blocks b ∙ ap (λ found. joined_blocks (take b blocks) ++ (unwrap_or found [] ++ joined_blocks (drop 1 (drop b blocks)))) at in
+      not_above name e.0 begins (joined_blocks (take b blocks))
+      (ascending-below (joined_blocks (take b blocks)) e (es ++ joined_blocks (drop 1 (drop b blocks))) (subst AreAscending whole are.ascending))
 
   -- and where one begins above it, it and those after it are above
-  pub blocks_above : (name : Name) (blocks : List (List (Name × V))) (p : ℕ) → AreAscending (joined blocks) → AllFilled blocks
-      → ((block : List (Name × V)) → slice_get blocks p ≡ Some block → begins_above name block ≡ true) → AllAbove name (joined (drop p blocks))
+  pub blocks_above : (name : Name) (blocks : List (List (Name × V))) (p : ℕ) → AreAscending (joined_blocks blocks) → AllFilled blocks
+      → ((block : List (Name × V)) → slice_get blocks p ≡ Some block → begins_above name block ≡ true) → AllAbove name (joined_blocks (drop p blocks))
   blocks_above name [] zero ascending filled begins = tt
   blocks_above name [] (suc p) ascending filled begins = tt
   blocks_above name ([] ∷ blocks) zero ascending filled begins = absurd (omega (arith, filled.0))
   blocks_above name ((e ∷ es) ∷ blocks) zero ascending filled begins =
       let less = is_less name e.0 (begins (e ∷ es) refl) in
-      (less, all_above-below name e.0 less (es ++ joined blocks) ascending.0)
+      (less, all_above-below name e.0 less (es ++ joined_blocks blocks) ascending.0)
   blocks_above name (block ∷ blocks) (suc p) ascending filled begins =
-      blocks_above name blocks p (ascending-back block (joined blocks) ascending) filled.1 begins
+      blocks_above name blocks p (ascending-back block (joined_blocks blocks) ascending) filled.1 begins
 
-  pub block-ascending : (blocks : List (List (Name × V))) (b : ℕ) (block : List (Name × V)) → slice_get blocks b ≡ Some block → AreAscending (joined blocks) → AreAscending block
+  pub block-ascending : (blocks : List (List (Name × V))) (b : ℕ) (block : List (Name × V)) → slice_get blocks b ≡ Some block → AreAscending (joined_blocks blocks) → AreAscending block
   block-ascending blocks b block at h =
-      let whole : joined blocks ≡ joined (take b blocks) ++ (block ++ joined (drop 1 (drop b blocks))) =
-      joined-at blocks b ∙ ap (λ found. joined (take b blocks) ++ (unwrap_or found [] ++ joined (drop 1 (drop b blocks)))) at in
-      ascending-front block (joined (drop 1 (drop b blocks))) (ascending-back (joined (take b blocks)) (block ++ joined (drop 1 (drop b blocks))) (subst AreAscending whole h))
+      let whole : joined_blocks blocks ≡ joined_blocks (take b blocks) ++ (block ++ joined_blocks (drop 1 (drop b blocks))) =
+      joined-at blocks b ∙ ap (λ found. joined_blocks (take b blocks) ++ (unwrap_or found [] ++ joined_blocks (drop 1 (drop b blocks)))) at in
+      ascending-front block (joined_blocks (drop 1 (drop b blocks))) (ascending-back (joined_blocks (take b blocks)) (block ++ joined_blocks (drop 1 (drop b blocks))) (subst AreAscending whole h))
 
   -- the names of a block up to one that is below
   pub names_below : (name : Name) (es : List (Name × V)) (at : ℕ) → AreAscending es → at ≤ length es
@@ -189,18 +189,18 @@ module _ {V : Type 0} where
   pub block_is : {B : Type 0} (items : B → List (Name × V)) (bs : List B) (b : ℕ) (block : B) → slice_get bs b ≡ Some block → slice_get (map items bs) b ≡ Some (items block)
   block_is items bs b block at = slice_get-map items bs b ∙ ap (option_map items) at
 
-  from_first : (name : Name) (blocks : List (List (Name × V))) → AllAbove name (joined (drop 0 blocks)) → AllAbove name (joined (drop 1 (drop 0 blocks)))
+  from_first : (name : Name) (blocks : List (List (Name × V))) → AllAbove name (joined_blocks (drop 0 blocks)) → AllAbove name (joined_blocks (drop 1 (drop 0 blocks)))
   from_first name [] above = tt
-  from_first name (block ∷ blocks) above = all_above-back name block (joined blocks) above
+  from_first name (block ∷ blocks) above = all_above-back name block (joined_blocks blocks) above
 
   -- The blocks before the one in which a name is sought are below it, and those after it above.
   pub sought : {B : Type 0} (items : B → List (Name × V)) (name : Name) (bs : List B) (p b : ℕ) (block : B) → AreBlocks (map items bs) → b ≡ p - 1
       → ((d : B) → 0 < p → begins_above name (items (slice_index_or bs (p - 1) d)) ≡ false)
       → ((d : B) → p < length bs → begins_above name (items (slice_index_or bs p d)) ≡ true)
       → slice_get bs b ≡ Some block
-      → AllBelow name (joined (take b (map items bs))) × AllAbove name (joined (drop 1 (drop b (map items bs))))
+      → AllBelow name (joined_blocks (take b (map items bs))) × AllAbove name (joined_blocks (drop 1 (drop b (map items bs))))
   sought {B = B} items name bs p b block are is not_above above at =
-      let later : AllAbove name (joined (drop p (map items bs))) =
+      let later : AllAbove name (joined_blocks (drop p (map items bs))) =
       blocks_above name (map items bs) p are.ascending are.filled (λ c found. above_at c found)
       in
       parts p is not_above later
@@ -214,11 +214,11 @@ module _ {V : Type 0} where
           (subst (λ y. begins_above name (items y) ≡ true) (get_or_from_slice_get bs p x.0 x.0 x.1) (above x.0 within))
 
       parts : (p : ℕ) → b ≡ p - 1 → ((d : B) → 0 < p → begins_above name (items (slice_index_or bs (p - 1) d)) ≡ false)
-          → AllAbove name (joined (drop p (map items bs)))
-          → AllBelow name (joined (take b (map items bs))) × AllAbove name (joined (drop 1 (drop b (map items bs))))
+          → AllAbove name (joined_blocks (drop p (map items bs)))
+          → AllBelow name (joined_blocks (take b (map items bs))) × AllAbove name (joined_blocks (drop 1 (drop b (map items bs))))
       parts zero is before later =
           let none : b ≡ 0 = omega (arith, is) in
-          subst (λ k. AllBelow name (joined (take k (map items bs))) × AllAbove name (joined (drop 1 (drop k (map items bs))))) (sym none)
+          subst (λ k. AllBelow name (joined_blocks (take k (map items bs))) × AllAbove name (joined_blocks (drop 1 (drop k (map items bs))))) (sym none)
           (tt, from_first name (map items bs) later)
       parts (suc k) is before later =
           let one : b ≡ k = omega (arith, is) in
@@ -226,14 +226,14 @@ module _ {V : Type 0} where
           subst (λ y. begins_above name (items y) ≡ false)
           (ap (λ n. slice_index_or bs n block) (sym is) ∙ get_or_from_slice_get bs b block block at) (before block (omega arith)) in (
             blocks_below name (map items bs) b (items block) are (block_is items bs b block at) begins,
-            subst (λ rest. AllAbove name (joined rest)) (ap (λ n. drop (suc n) (map items bs)) (sym one) ∙ sym (drop-one b (map items bs))) later,
+            subst (λ rest. AllAbove name (joined_blocks rest)) (ap (λ n. drop (suc n) (map items bs)) (sym one) ∙ sym (drop-one b (map items bs))) later,
           )
 
   pub stands_at : (name : Name) (blocks : List (List (Name × V))) (place : BlockPlace) (block : List (Name × V)) → AreBlocks blocks
       → slice_get blocks place.block ≡ Some block
-      → AllBelow name (joined (take place.block blocks)) × AllAbove name (joined (drop 1 (drop place.block blocks)))
+      → AllBelow name (joined_blocks (take place.block blocks)) × AllAbove name (joined_blocks (drop 1 (drop place.block blocks)))
       → place.at ≤ length block → ((d : Name × V) → 0 < place.at → local_name_cmp (slice_index_or block (place.at - 1) d).0 name ≡ Less)
-      → is_named (slice_get block place.at) name ≡ true → Stands blocks name place
+      → is_named (slice_get block place.at) name ≡ true → StandsInBlocks blocks name place
   stands_at name blocks place block are at round within below named =
       let e = named_entry name (slice_get block place.at) named in
       let whole : block_at blocks place.block ≡ block = ap (λ found. unwrap_or found []) at in
@@ -243,16 +243,16 @@ module _ {V : Type 0} where
         at = ap (λ es. slice_get es place.at) whole ∙ e.1;
         same = e.2;
         below =
-            subst (λ es. AllBelow name (joined (take place.block blocks) ++ take place.at es)) (sym whole)
-            (all_below-append name (joined (take place.block blocks)) (take place.at block) round.0 (names_below name block place.at ascending within below));
+            subst (λ es. AllBelow name (joined_blocks (take place.block blocks) ++ take place.at es)) (sym whole)
+            (all_below-append name (joined_blocks (take place.block blocks)) (take place.at block) round.0 (names_below name block place.at ascending within below));
         above =
-            subst (λ es. AllAbove name (drop 1 (drop place.at es) ++ joined (drop 1 (drop place.block blocks)))) (sym whole)
-            (all_above-append name (drop 1 (drop place.at block)) (joined (drop 1 (drop place.block blocks))) (names_above name block place.at e.0 ascending e.1 e.2) round.1);
+            subst (λ es. AllAbove name (drop 1 (drop place.at es) ++ joined_blocks (drop 1 (drop place.block blocks)))) (sym whole)
+            (all_above-append name (drop 1 (drop place.at block)) (joined_blocks (drop 1 (drop place.block blocks))) (names_above name block place.at e.0 ascending e.1 e.2) round.1);
       }
 
   pub missing_at : (name : Name) (blocks : List (List (Name × V))) (place : BlockPlace) (block : List (Name × V)) → AreBlocks blocks
       → slice_get blocks place.block ≡ Some block
-      → AllBelow name (joined (take place.block blocks)) × AllAbove name (joined (drop 1 (drop place.block blocks)))
+      → AllBelow name (joined_blocks (take place.block blocks)) × AllAbove name (joined_blocks (drop 1 (drop place.block blocks)))
       → place.at ≤ length block → ((d : Name × V) → 0 < place.at → local_name_cmp (slice_index_or block (place.at - 1) d).0 name ≡ Less)
       → ((d : Name × V) → place.at < length block → is_lt (local_name_cmp (slice_index_or block place.at d).0 name) ≡ false)
       → is_named (slice_get block place.at) name ≡ false → IsMissing blocks name place
@@ -263,11 +263,11 @@ module _ {V : Type 0} where
         inside = λ some. slice_get_within blocks place.block block at;
         within = subst (λ es. place.at ≤ length es) (sym whole) within;
         below =
-            subst (λ es. AllBelow name (joined (take place.block blocks) ++ take place.at es)) (sym whole)
-            (all_below-append name (joined (take place.block blocks)) (take place.at block) round.0 (names_below name block place.at ascending within below));
+            subst (λ es. AllBelow name (joined_blocks (take place.block blocks) ++ take place.at es)) (sym whole)
+            (all_below-append name (joined_blocks (take place.block blocks)) (take place.at block) round.0 (names_below name block place.at ascending within below));
         above =
-            subst (λ es. AllAbove name (drop place.at es ++ joined (drop 1 (drop place.block blocks)))) (sym whole)
-            (all_above-append name (drop place.at block) (joined (drop 1 (drop place.block blocks))) (others_above name block place.at ascending above other) round.1);
+            subst (λ es. AllAbove name (drop place.at es ++ joined_blocks (drop 1 (drop place.block blocks)))) (sym whole)
+            (all_above-append name (drop place.at block) (joined_blocks (drop 1 (drop place.block blocks))) (others_above name block place.at ascending above other) round.1);
       }
 
   -- the entry of a place, read by its two indices
@@ -289,13 +289,13 @@ module _ {V : Type 0} where
 
   -- 4. What names find
 
-  pub value-stands : (blocks : List (List (Name × V))) (name : Name) (place : BlockPlace) (s : Stands blocks name place) → value_of blocks name ≡ Some s.entry.1
+  pub value-stands : (blocks : List (List (Name × V))) (name : Name) (place : BlockPlace) (s : StandsInBlocks blocks name place) → value_in_blocks blocks name ≡ Some s.entry.1
   value-stands blocks name place s =
       ap (lookup (same_local_name name)) (round-entry blocks place s.entry s.at)
       ∙ (found-back name (before blocks place) (s.entry ∷ from blocks place 1) s.below
       ∙ ap (λ same. cond same (Some s.entry.1) (lookup (same_local_name name) (from blocks place 1))) (tested-same name s.entry.0 (same-flip s.entry.0 name s.same)))
 
-  pub value-missing : (blocks : List (List (Name × V))) (name : Name) (place : BlockPlace) → IsMissing blocks name place → value_of blocks name ≡ None
+  pub value-missing : (blocks : List (List (Name × V))) (name : Name) (place : BlockPlace) → IsMissing blocks name place → value_in_blocks blocks name ≡ None
   value-missing blocks name place m =
       ap (lookup (same_local_name name)) (round-missing blocks place) ∙ found-missing name (before blocks place) (from blocks place 0) m.below m.above
 

@@ -10,7 +10,7 @@ use Rattle.std.proofs.lemmas.List.{length-map}
 use Rattle.std.specs.Map.{lookup}
 use Rattle.std.specs.declared.cmp.Ordering.TheVariants.{Equal}
 use Rattle.lol_base.specs.LocalNames.{Name, same_local_name, local_name_cmp}
-use Rattle.lol_names.specs.NameBlocks.{joined, block_at, AllFilled, AllBelow, AllAbove, AreAscending, AreBlocks, before, from, Stands, IsPutAt, IsSamePlace}
+use Rattle.lol_names.specs.NameBlocks.{joined_blocks, block_at, AllFilled, AllBelow, AllAbove, AreAscending, AreBlocks, before, from, StandsInBlocks, IsPutAt, IsSamePlace}
 use Rattle.lol_names.specs.declared.name_blocks.BlockPlace.{BlockPlace}
 use Rattle.lol_names.proofs.NameOrder.{ascending-below, ascending-above, ascending-without, ascending-with, found-with, found-missing, same-alike, same-flip, same-tested, all_above-same, all_below-same}
 use Rattle.lol_names.proofs.NameBlocks.{block_is, append-assoc, joined-append, split-at, take-drop, filled-set}
@@ -125,23 +125,23 @@ module _ {A : Type 0} where
 
 module _ {V : Type 0} where
   pub before-at : (pre : List (List (Name × V))) (block : List (Name × V)) (post : List (List (Name × V))) (n : ℕ)
-      → before (pre ++ block ∷ post) (record { block = length pre; at = n }) ≡ joined pre ++ take n block
+      → before (pre ++ block ∷ post) (record { block = length pre; at = n }) ≡ joined_blocks pre ++ take n block
   before-at pre block post n =
-      ap (λ bs. joined bs ++ take n (block_at (pre ++ block ∷ post) (length pre))) (take-front pre (block ∷ post))
-      ∙ ap (λ o. joined pre ++ take n (unwrap_or o [])) (get-front pre block post)
+      ap (λ bs. joined_blocks bs ++ take n (block_at (pre ++ block ∷ post) (length pre))) (take-front pre (block ∷ post))
+      ∙ ap (λ o. joined_blocks pre ++ take n (unwrap_or o [])) (get-front pre block post)
 
   pub from-at : (pre : List (List (Name × V))) (block : List (Name × V)) (post : List (List (Name × V))) (n m : ℕ)
-      → from (pre ++ block ∷ post) (record { block = length pre; at = n }) m ≡ drop m (drop n block) ++ joined post
+      → from (pre ++ block ∷ post) (record { block = length pre; at = n }) m ≡ drop m (drop n block) ++ joined_blocks post
   from-at pre block post n m =
-      ap (λ bs. drop m (drop n (block_at (pre ++ block ∷ post) (length pre))) ++ joined (drop 1 bs)) (drop-front pre (block ∷ post))
-      ∙ ap (λ o. drop m (drop n (unwrap_or o [])) ++ joined post) (get-front pre block post)
+      ap (λ bs. drop m (drop n (block_at (pre ++ block ∷ post) (length pre))) ++ joined_blocks (drop 1 bs)) (drop-front pre (block ∷ post))
+      ∙ ap (λ o. drop m (drop n (unwrap_or o [])) ++ joined_blocks post) (get-front pre block post)
 
   pub joined-round : (pre : List (List (Name × V))) (xs ys : List (Name × V)) (post : List (List (Name × V)))
-      → joined (pre ++ (xs ++ ys) ∷ post) ≡ (joined pre ++ xs) ++ (ys ++ joined post)
+      → joined_blocks (pre ++ (xs ++ ys) ∷ post) ≡ (joined_blocks pre ++ xs) ++ (ys ++ joined_blocks post)
   joined-round pre xs ys post =
       joined-append pre ((xs ++ ys) ∷ post)
-      ∙ (ap (λ rest. joined pre ++ rest) (append-assoc xs ys (joined post))
-      ∙ sym (append-assoc (joined pre) xs (ys ++ joined post)))
+      ∙ (ap (λ rest. joined_blocks pre ++ rest) (append-assoc xs ys (joined_blocks post))
+      ∙ sym (append-assoc (joined_blocks pre) xs (ys ++ joined_blocks post)))
 
   -- an entry, with what stands before it and after it
   pub record Around (blocks : List (List (Name × V))) (place : BlockPlace) (e : Name × V) : Type 0 where
@@ -189,13 +189,13 @@ module _ {V : Type 0} where
         place_is = λ i. record { block = a.place i; at = length_is i };
       }
 
-  pub before-around : (blocks : List (List (Name × V))) (place : BlockPlace) (e : Name × V) (a : Around blocks place e) → before blocks place ≡ joined a.pre ++ a.xs
+  pub before-around : (blocks : List (List (Name × V))) (place : BlockPlace) (e : Name × V) (a : Around blocks place e) → before blocks place ≡ joined_blocks a.pre ++ a.xs
   before-around blocks place e a =
-      (λ i. before (a.is i) (a.place_is i)) ∙ (before-at a.pre (a.xs ++ e ∷ a.ys) a.post (length a.xs) ∙ ap (λ es. joined a.pre ++ es) (take-front a.xs (e ∷ a.ys)))
+      (λ i. before (a.is i) (a.place_is i)) ∙ (before-at a.pre (a.xs ++ e ∷ a.ys) a.post (length a.xs) ∙ ap (λ es. joined_blocks a.pre ++ es) (take-front a.xs (e ∷ a.ys)))
 
-  pub from-around : (blocks : List (List (Name × V))) (place : BlockPlace) (e : Name × V) (a : Around blocks place e) → from blocks place 1 ≡ a.ys ++ joined a.post
+  pub from-around : (blocks : List (List (Name × V))) (place : BlockPlace) (e : Name × V) (a : Around blocks place e) → from blocks place 1 ≡ a.ys ++ joined_blocks a.post
   from-around blocks place e a =
-      (λ i. from (a.is i) (a.place_is i) 1) ∙ (from-at a.pre (a.xs ++ e ∷ a.ys) a.post (length a.xs) 1 ∙ ap (λ es. drop 1 es ++ joined a.post) (drop-front a.xs (e ∷ a.ys)))
+      (λ i. from (a.is i) (a.place_is i) 1) ∙ (from-at a.pre (a.xs ++ e ∷ a.ys) a.post (length a.xs) 1 ∙ ap (λ es. drop 1 es ++ joined_blocks a.post) (drop-front a.xs (e ∷ a.ys)))
 
   pub at-around : (blocks : List (List (Name × V))) (place : BlockPlace) (e : Name × V) → Around blocks place e → slice_get (block_at blocks place.block) place.at ≡ Some e
   at-around blocks place e a =
@@ -203,8 +203,8 @@ module _ {V : Type 0} where
       ∙ (ap (λ o. slice_get (unwrap_or o []) (length a.xs)) (get-front a.pre (a.xs ++ e ∷ a.ys) a.post) ∙ get-front a.xs e a.ys)
 
   pub joined-around : (blocks : List (List (Name × V))) (place : BlockPlace) (e : Name × V) (a : Around blocks place e)
-      → joined blocks ≡ (joined a.pre ++ a.xs) ++ e ∷ (a.ys ++ joined a.post)
-  joined-around blocks place e a = ap joined a.is ∙ joined-round a.pre a.xs (e ∷ a.ys) a.post
+      → joined_blocks blocks ≡ (joined_blocks a.pre ++ a.xs) ++ e ∷ (a.ys ++ joined_blocks a.post)
+  joined-around blocks place e a = ap joined_blocks a.is ∙ joined-round a.pre a.xs (e ∷ a.ys) a.post
 
   -- another entry in its place
   abbrev pub around-set : (blocks : List (List (Name × V))) (place : BlockPlace) (block : List (Name × V)) (e y : Name × V)
@@ -259,8 +259,8 @@ module _ {V : Type 0} where
       let a = around_from blocks place block e at found in
       let n = around-set blocks place block e (e.0, v) at found in
       let old = subst AreAscending (joined-around blocks place e a) are.ascending in
-      let xs = joined a.pre ++ a.xs in
-      let ys = a.ys ++ joined a.post in
+      let xs = joined_blocks a.pre ++ a.xs in
+      let ys = a.ys ++ joined_blocks a.post in
       let filled : 0 < length (slice_set block place.at (e.0, v)) = omega (arith, length-set block place.at (e.0, v), slice_get_within block place.at e found) in
       record {
         ascending =
@@ -270,8 +270,8 @@ module _ {V : Type 0} where
       }
 
   pub stands-set : (blocks : List (List (Name × V))) (place : BlockPlace) (block : List (Name × V)) (e : Name × V) (v : V) (name : Name)
-      → slice_get blocks place.block ≡ Some block → slice_get block place.at ≡ Some e → (s : Stands blocks name place) → s.entry ≡ e
-      → Stands (slice_set blocks place.block (slice_set block place.at (e.0, v))) name place
+      → slice_get blocks place.block ≡ Some block → slice_get block place.at ≡ Some e → (s : StandsInBlocks blocks name place) → s.entry ≡ e
+      → StandsInBlocks (slice_set blocks place.block (slice_set block place.at (e.0, v))) name place
   stands-set blocks place block e v name at found s is =
       let new = slice_set blocks place.block (slice_set block place.at (e.0, v)) in
       let a = around_from blocks place block e at found in
@@ -292,8 +292,8 @@ module _ {V : Type 0} where
       let a = around_from blocks place block e at found in
       let n = around-set blocks place block e (e.0, v) at found in
       let old = subst AreAscending (joined-around blocks place e a) are.ascending in
-      let xs = joined a.pre ++ a.xs in
-      let ys = a.ys ++ joined a.post in
+      let xs = joined_blocks a.pre ++ a.xs in
+      let ys = a.ys ++ joined_blocks a.post in
       ap (lookup (same_local_name q)) (joined-around new place (e.0, v) n)
       ∙ (found-changed xs e ys v name same (ascending-below xs e ys old) (ascending-above xs e ys old) q
       ∙ ap (λ es. cond (same_local_name name q) (Some v) (lookup (same_local_name q) es)) (sym (joined-around blocks place e a)))
@@ -301,17 +301,17 @@ module _ {V : Type 0} where
   -- 5. A name that goes
 
   joined-gone : (pre : List (List (Name × V))) (xs ys : List (Name × V)) (post : List (List (Name × V))) → xs ++ ys ≡ []
-      → joined (pre ++ post) ≡ (joined pre ++ xs) ++ (ys ++ joined post)
+      → joined_blocks (pre ++ post) ≡ (joined_blocks pre ++ xs) ++ (ys ++ joined_blocks post)
   joined-gone pre xs ys post none =
       joined-append pre post
-      ∙ (ap (λ es. joined pre ++ (es ++ joined post)) (sym none)
-      ∙ (ap (λ rest. joined pre ++ rest) (append-assoc xs ys (joined post))
-      ∙ sym (append-assoc (joined pre) xs (ys ++ joined post))))
+      ∙ (ap (λ es. joined_blocks pre ++ (es ++ joined_blocks post)) (sym none)
+      ∙ (ap (λ rest. joined_blocks pre ++ rest) (append-assoc xs ys (joined_blocks post))
+      ∙ sym (append-assoc (joined_blocks pre) xs (ys ++ joined_blocks post))))
 
   -- the names but one, however they stand in blocks
   pub record IsWithout (blocks : List (List (Name × V))) (place : BlockPlace) (e : Name × V) (new : List (List (Name × V))) : Type 0 where
     pub around : Around blocks place e
-    pub is : joined new ≡ (joined around.pre ++ around.xs) ++ (around.ys ++ joined around.post)
+    pub is : joined_blocks new ≡ (joined_blocks around.pre ++ around.xs) ++ (around.ys ++ joined_blocks around.post)
     pub filled : AllFilled blocks → AllFilled new
 
   pub without-one : (blocks : List (List (Name × V))) (place : BlockPlace) (block : List (Name × V)) (e : Name × V)
@@ -325,7 +325,7 @@ module _ {V : Type 0} where
       record {
         around = around_from blocks place block e at found;
         is =
-            ap joined
+            ap joined_blocks
             ((λ i. slice_set (a.is i) (a.place i) (rest i)) ∙ set-front a.pre block a.post (inside.pre ++ inside.post))
             ∙ joined-round a.pre inside.pre inside.post a.post;
         filled = filled-set blocks place.block (remove block place.at) some;
@@ -345,7 +345,7 @@ module _ {V : Type 0} where
       ∙ remove-front a.pre (remove block place.at) a.post) in
       record {
         around = around_from blocks place block e at found;
-        is = ap joined left ∙ joined-gone a.pre inside.pre inside.post a.post (sym rest ∙ length-zero (remove block place.at) none);
+        is = ap joined_blocks left ∙ joined-gone a.pre inside.pre inside.post a.post (sym rest ∙ length-zero (remove block place.at) none);
         filled = λ filled.
             let whole = subst AllFilled a.is filled in
             subst AllFilled (sym left) (filled-append a.pre a.post (filled-front a.pre (block ∷ a.post) whole) (filled-back a.pre (block ∷ a.post) whole).1);
@@ -355,7 +355,7 @@ module _ {V : Type 0} where
   blocks-without blocks place e new w are =
       let old = subst AreAscending (joined-around blocks place e w.around) are.ascending in
       record {
-        ascending = subst AreAscending (sym w.is) (ascending-without (joined w.around.pre ++ w.around.xs) e (w.around.ys ++ joined w.around.post) old);
+        ascending = subst AreAscending (sym w.is) (ascending-without (joined_blocks w.around.pre ++ w.around.xs) e (w.around.ys ++ joined_blocks w.around.post) old);
         filled = w.filled are.filled;
       }
 
@@ -363,21 +363,21 @@ module _ {V : Type 0} where
       → AreBlocks blocks → local_name_cmp e.0 name ≡ Equal → IsPutAt name None blocks new
   value-without blocks place e new name w are same q =
       let old = subst AreAscending (joined-around blocks place e w.around) are.ascending in
-      let xs = joined w.around.pre ++ w.around.xs in
-      let ys = w.around.ys ++ joined w.around.post in
+      let xs = joined_blocks w.around.pre ++ w.around.xs in
+      let ys = w.around.ys ++ joined_blocks w.around.post in
       ap (lookup (same_local_name q)) w.is
       ∙ (found-removed xs e ys name same (ascending-below xs e ys old) (ascending-above xs e ys old) q
       ∙ ap (λ es. cond (same_local_name name q) None (lookup (same_local_name q) es)) (sym (joined-around blocks place e w.around)))
 
   -- 6. A name that comes
 
-  pub before-between : (blocks : List (List (Name × V))) (place : BlockPlace) (a : Between blocks place) → before blocks place ≡ joined a.pre ++ a.xs
+  pub before-between : (blocks : List (List (Name × V))) (place : BlockPlace) (a : Between blocks place) → before blocks place ≡ joined_blocks a.pre ++ a.xs
   before-between blocks place a =
-      (λ i. before (a.is i) (a.place_is i)) ∙ (before-at a.pre (a.xs ++ a.ys) a.post (length a.xs) ∙ ap (λ es. joined a.pre ++ es) (take-front a.xs a.ys))
+      (λ i. before (a.is i) (a.place_is i)) ∙ (before-at a.pre (a.xs ++ a.ys) a.post (length a.xs) ∙ ap (λ es. joined_blocks a.pre ++ es) (take-front a.xs a.ys))
 
-  pub from-between : (blocks : List (List (Name × V))) (place : BlockPlace) (a : Between blocks place) → from blocks place 0 ≡ a.ys ++ joined a.post
+  pub from-between : (blocks : List (List (Name × V))) (place : BlockPlace) (a : Between blocks place) → from blocks place 0 ≡ a.ys ++ joined_blocks a.post
   from-between blocks place a =
-      (λ i. from (a.is i) (a.place_is i) 0) ∙ (from-at a.pre (a.xs ++ a.ys) a.post (length a.xs) 0 ∙ ap (λ es. es ++ joined a.post) (drop-front a.xs a.ys))
+      (λ i. from (a.is i) (a.place_is i) 0) ∙ (from-at a.pre (a.xs ++ a.ys) a.post (length a.xs) 0 ∙ ap (λ es. es ++ joined_blocks a.post) (drop-front a.xs a.ys))
 
   pub insert-between : (xs ys : List (Name × V)) (e : Name × V) → insert (xs ++ ys) (length xs) e ≡ xs ++ e ∷ ys
   insert-between xs ys e = (λ i. take-front xs ys i ++ e ∷ drop-front xs ys i)
@@ -385,26 +385,26 @@ module _ {V : Type 0} where
   -- the names with one more, between those that stood before its place and after it
   pub joined-with : (blocks : List (List (Name × V))) (place : BlockPlace) (block : List (Name × V)) (e : Name × V)
       → slice_get blocks place.block ≡ Some block → place.at ≤ length block
-      → joined (slice_set blocks place.block (insert block place.at e)) ≡ before blocks place ++ e ∷ from blocks place 0
+      → joined_blocks (slice_set blocks place.block (insert block place.at e)) ≡ before blocks place ++ e ∷ from blocks place 0
   joined-with blocks place block e at within =
       let a = at_from blocks place.block block at in
       let b = between_from blocks place block at within in
       let more : insert block place.at e ≡ b.xs ++ e ∷ b.ys =
       (λ i. insert (sym (take-drop block place.at) i) (sym (length-take block place.at within) i) e) ∙ insert-between b.xs b.ys e in
-      ap joined ((λ i. slice_set (a.is i) (a.place i) (more i)) ∙ set-front a.pre block a.post (b.xs ++ e ∷ b.ys))
+      ap joined_blocks ((λ i. slice_set (a.is i) (a.place i) (more i)) ∙ set-front a.pre block a.post (b.xs ++ e ∷ b.ys))
       ∙ (joined-round a.pre b.xs (e ∷ b.ys) a.post
       ∙ (λ i. sym (before-between blocks place b) i ++ e ∷ sym (from-between blocks place b) i))
 
   -- what a list of names becomes that holds one more
   pub blocks-with : (new : List (List (Name × V))) (e : Name × V) (xs ys : List (Name × V)) → AreAscending (xs ++ ys) → AllBelow e.0 xs → AllAbove e.0 ys
-      → joined new ≡ xs ++ e ∷ ys → AllFilled new → AreBlocks new
+      → joined_blocks new ≡ xs ++ e ∷ ys → AllFilled new → AreBlocks new
   blocks-with new e xs ys ascending below above is filled = record {
     ascending = subst AreAscending (sym is) (ascending-with xs e ys below above ascending);
     filled = filled;
   }
 
   pub value-with : (old new : List (List (Name × V))) (name : Name) (v : V) (xs ys : List (Name × V)) → AllBelow name xs → AllAbove name ys
-      → joined old ≡ xs ++ ys → joined new ≡ xs ++ (name, v) ∷ ys → IsPutAt name (Some v) old new
+      → joined_blocks old ≡ xs ++ ys → joined_blocks new ≡ xs ++ (name, v) ∷ ys → IsPutAt name (Some v) old new
   value-with old new name v xs ys below above was is q =
       ap (lookup (same_local_name q)) is
       ∙ (found-with xs (name, v) ys below above q
@@ -421,13 +421,13 @@ module _ {V : Type 0} where
       ∙ insert-front a.pre (take half block) a.post (drop half block))
 
   pub joined-halved : (blocks : List (List (Name × V))) (b half : ℕ) (block : List (Name × V)) → slice_get blocks b ≡ Some block
-      → joined (insert (slice_set blocks b (take half block)) (b + 1) (drop half block)) ≡ joined blocks
+      → joined_blocks (insert (slice_set blocks b (take half block)) (b + 1) (drop half block)) ≡ joined_blocks blocks
   joined-halved blocks b half block at =
       let a = at_from blocks b block at in
-      ap joined (halved blocks b half block a)
+      ap joined_blocks (halved blocks b half block a)
       ∙ (joined-append a.pre (take half block ∷ drop half block ∷ a.post)
-      ∙ (ap (λ rest. joined a.pre ++ rest) (sym (append-assoc (take half block) (drop half block) (joined a.post)) ∙ ap (λ es. es ++ joined a.post) (take-drop block half))
-      ∙ (sym (joined-append a.pre (block ∷ a.post)) ∙ ap joined (sym a.is))))
+      ∙ (ap (λ rest. joined_blocks a.pre ++ rest) (sym (append-assoc (take half block) (drop half block) (joined_blocks a.post)) ∙ ap (λ es. es ++ joined_blocks a.post) (take-drop block half))
+      ∙ (sym (joined-append a.pre (block ∷ a.post)) ∙ ap joined_blocks (sym a.is))))
 
   pub filled-halved : (blocks : List (List (Name × V))) (b half : ℕ) (block : List (Name × V)) → slice_get blocks b ≡ Some block → 0 < half → half < length block
       → AllFilled blocks → AllFilled (insert (slice_set blocks b (take half block)) (b + 1) (drop half block))
@@ -457,11 +457,11 @@ module _ {V : Type 0} where
   drop-rest xs n m h = let both : m + (n - m) ≡ n = omega (arith, h) in drop-drop (n - m) m xs ∙ ap (λ k. drop k xs) both
 
   before-pre : (blocks pre : List (List (Name × V))) (block : List (Name × V)) (post : List (List (Name × V))) (b n : ℕ) → blocks ≡ pre ++ block ∷ post → b ≡ length pre
-      → before blocks (record { block = b; at = n }) ≡ joined pre ++ take n block
+      → before blocks (record { block = b; at = n }) ≡ joined_blocks pre ++ take n block
   before-pre blocks pre block post b n is place = (λ i. before (is i) (record { block = place i; at = n })) ∙ before-at pre block post n
 
   from-pre : (blocks pre : List (List (Name × V))) (block : List (Name × V)) (post : List (List (Name × V))) (b n : ℕ) → blocks ≡ pre ++ block ∷ post → b ≡ length pre
-      → from blocks (record { block = b; at = n }) 0 ≡ drop n block ++ joined post
+      → from blocks (record { block = b; at = n }) 0 ≡ drop n block ++ joined_blocks post
   from-pre blocks pre block post b n is place = (λ i. from (is i) (record { block = place i; at = n }) 0) ∙ from-at pre block post n 0
 
   at-pre : (blocks pre : List (List (Name × V))) (block : List (Name × V)) (post : List (List (Name × V))) (b : ℕ) → blocks ≡ pre ++ block ∷ post → b ≡ length pre
@@ -486,12 +486,12 @@ module _ {V : Type 0} where
             (omega (arith, within, length-take block half whole));
         earlier =
             before-pre new a.pre (take half block) (drop half block ∷ a.post) place.block place.at is a.place
-            ∙ (ap (λ es. joined a.pre ++ es) (take-take place.at half block within)
+            ∙ (ap (λ es. joined_blocks a.pre ++ es) (take-take place.at half block within)
             ∙ sym (before-pre blocks a.pre block a.post place.block place.at a.is a.place));
         later =
             from-pre new a.pre (take half block) (drop half block ∷ a.post) place.block place.at is a.place
-            ∙ (sym (append-assoc (drop place.at (take half block)) (drop half block) (joined a.post))
-            ∙ (ap (λ es. es ++ joined a.post) (drop-halves block place.at half within whole)
+            ∙ (sym (append-assoc (drop place.at (take half block)) (drop half block) (joined_blocks a.post))
+            ∙ (ap (λ es. es ++ joined_blocks a.post) (drop-halves block place.at half within whole)
             ∙ sym (from-pre blocks a.pre block a.post place.block place.at a.is a.place)));
       }
 
@@ -506,8 +506,8 @@ module _ {V : Type 0} where
       let is : new ≡ pre ++ drop half block ∷ a.post =
       halved blocks place.block half block a ∙ sym (append-assoc a.pre (take half block ∷ []) (drop half block ∷ a.post)) in
       let place_is : place.block + 1 ≡ length pre = omega (arith, a.place, length-append a.pre (take half block ∷ [])) in
-      let pre_is : joined pre ≡ joined a.pre ++ take half block =
-      joined-append a.pre (take half block ∷ []) ∙ ap (λ es. joined a.pre ++ es) (append-nil (take half block)) in
+      let pre_is : joined_blocks pre ≡ joined_blocks a.pre ++ take half block =
+      joined-append a.pre (take half block ∷ []) ∙ ap (λ es. joined_blocks a.pre ++ es) (append-nil (take half block)) in
       record {
         block = within-pre new pre (drop half block) a.post (place.block + 1) is place_is;
         within =
@@ -516,12 +516,12 @@ module _ {V : Type 0} where
         earlier =
             before-pre new pre (drop half block) a.post (place.block + 1) (place.at - half) is place_is
             ∙ (ap (λ es. es ++ take (place.at - half) (drop half block)) pre_is
-            ∙ (append-assoc (joined a.pre) (take half block) (take (place.at - half) (drop half block))
-            ∙ (ap (λ es. joined a.pre ++ es) (take-halves block place.at half above)
+            ∙ (append-assoc (joined_blocks a.pre) (take half block) (take (place.at - half) (drop half block))
+            ∙ (ap (λ es. joined_blocks a.pre ++ es) (take-halves block place.at half above)
             ∙ sym (before-pre blocks a.pre block a.post place.block place.at a.is a.place))));
         later =
             from-pre new pre (drop half block) a.post (place.block + 1) (place.at - half) is place_is
-            ∙ (ap (λ es. es ++ joined a.post) (drop-rest block place.at half above)
+            ∙ (ap (λ es. es ++ joined_blocks a.post) (drop-rest block place.at half above)
             ∙ sym (from-pre blocks a.pre block a.post place.block place.at a.is a.place));
       }
 

@@ -1,16 +1,15 @@
 -- Slots and blocks of names, after a change at one name.
-use Rattle.std.proofs.Common.{◌≡◌, ◌≢◌, ◌∙◌, refl, sym, ap, subst, ℕ, zero, suc, ◌<◌, ◌≤◌, arith, Bool, true, false, cond, nat_eq, List, [], ◌∷◌, ◌++◌, length, Option, Some, None}
+use Rattle.std.proofs.Common.{◌≡◌, ◌≢◌, ◌∙◌, refl, sym, ap, subst, ℕ, zero, suc, ◌<◌, arith, true, false, cond, nat_eq, List, [], ◌∷◌, length, Option, Some, None}
 use Rattle.std.specs.Prelude.{slice_set, slice_index_or}
 use Rattle.std.specs.Option.{option_or}
-use Rattle.std.specs.Str.{bytes_eq}
-use Rattle.std.proofs.lemmas.Slice.Eq.{bytes_eq-Decides}
 use Rattle.std.proofs.lemmas.Bool.{eqb-true, eq-eqb}
 use Rattle.std.proofs.lemmas.List.{get_or-set_same, get_or-set_other}
 use Rattle.std.proofs.lemmas.Option.{slice_get_read, get_or_from_slice_get, slice_get_within}
 use Rattle.lol_base.specs.LocalNames.{Name, same_local_name}
+use Rattle.lol_base.specs.NameLaws.{same_lowercased}
 use Rattle.lol_names.specs.NameBlocks as blocks
 use Rattle.lol_names.specs.NameBlocks.{is_named}
-use Rattle.lol_names.specs.NameMaps.{SlottedNames, slot_of, in_slot, value_if, value_in_slot, value_of, AreApart, Stands, IsMissing, IsPutAt}
+use Rattle.lol_names.specs.NameMaps.{SlottedNames, slot_of, in_slot, value_if, value_in_slot, AreApart, StandsInMap, IsPutAt}
 use Rattle.lol_names.specs.declared.name_map.NamePlace.{NamePlace}
 use Rattle.lol_names.specs.declared.name_map.NamePlace.TheVariants.{Slot, Overflow}
 use Rattle.lol_names.specs.declared.name_blocks.BlockPlace.{BlockPlace}
@@ -18,19 +17,16 @@ use Rattle.lol_names.proofs.NameOrder.{same-tested, same-alike}
 
 -- 1. Equal names
 
-same_bytes : (a b : Name) → same_local_name a b ≡ true → a.lowercased ≡ b.lowercased
-same_bytes a b same = (bytes_eq-Decides a.lowercased b.lowercased).0 same
-
 pub slot-same : (a b : Name) → same_local_name a b ≡ true → slot_of b ≡ slot_of a
-slot-same a b same = sym (ap (λ bytes. slot_of (record { lowercased = bytes; spelling = None })) (same_bytes a b same))
+slot-same a b same = sym (ap (λ bytes. slot_of (record { lowercased = bytes; spelling = None })) (same_lowercased a b same))
 
 module _ {V : Type 0} where
   -- equal names find the same, in blocks and in slots
-  pub blocks-same : (m : List (List (Name × V))) (a b : Name) → same_local_name a b ≡ true → blocks.value_of m b ≡ blocks.value_of m a
-  blocks-same m a b same = sym (ap (λ bytes. blocks.value_of m (record { lowercased = bytes; spelling = None })) (same_bytes a b same))
+  pub blocks-same : (m : List (List (Name × V))) (a b : Name) → same_local_name a b ≡ true → blocks.value_in_blocks m b ≡ blocks.value_in_blocks m a
+  blocks-same m a b same = sym (ap (λ bytes. blocks.value_in_blocks m (record { lowercased = bytes; spelling = None })) (same_lowercased a b same))
 
   pub slots-same : (slots : List (Option (Name × V))) (a b : Name) → same_local_name a b ≡ true → value_in_slot slots b ≡ value_in_slot slots a
-  slots-same slots a b same = sym (ap (λ bytes. value_in_slot slots (record { lowercased = bytes; spelling = None })) (same_bytes a b same))
+  slots-same slots a b same = sym (ap (λ bytes. value_in_slot slots (record { lowercased = bytes; spelling = None })) (same_lowercased a b same))
 
   -- 2. What stands in a slot
 
@@ -67,7 +63,7 @@ module _ {V : Type 0} where
 
   -- a name that stands in its slot doesn't stand in the blocks
   pub named-apart : (slots : List (Option (Name × V))) (overflow : List (List (Name × V))) (slot : ℕ) (name : Name) → AreApart slots overflow
-      → slot ≡ slot_of name → is_named (in_slot slots slot) name ≡ true → blocks.value_of overflow name ≡ None
+      → slot ≡ slot_of name → is_named (in_slot slots slot) name ≡ true → blocks.value_in_blocks overflow name ≡ None
   named-apart slots overflow slot name apart is named =
       let e = entry_of (in_slot slots slot) name named in
       apart name e.0.1 (ap (λ k. value_if name (in_slot slots k)) (sym is) ∙ value-named (in_slot slots slot) name e.0 e.1 named)
@@ -83,7 +79,7 @@ module _ {V : Type 0} where
     pub record IsSlotPut : Type 0 where
       pub is : slot ≡ slot_of name
       pub within : slot < length slots
-      pub alone : blocks.value_of overflow name ≡ None
+      pub alone : blocks.value_in_blocks overflow name ≡ None
       pub puts : (q : Name) → value_if q y ≡ cond (same_local_name name q) v None
       pub holds : (q : Name) → same_local_name name q ≡ false → value_if q (in_slot slots slot) ≡ None
 
@@ -110,7 +106,7 @@ module _ {V : Type 0} where
 
     pub slot-apart : IsSlotPut → AreApart slots overflow → AreApart (slice_set slots slot y) overflow
     slot-apart p apart q value found =
-        elim (same_local_name name q) as (λ test. same_local_name name q ≡ test → blocks.value_of overflow q ≡ None) [
+        elim (same_local_name name q) as (λ test. same_local_name name q ≡ test → blocks.value_in_blocks overflow q ≡ None) [
           | true ↦ λ same. blocks-same overflow name q same ∙ p.alone
           | false ↦ λ other. apart q value (sym (value-other p q other) ∙ found)
         ] refl
@@ -119,11 +115,11 @@ module _ {V : Type 0} where
     slot-put p q =
         elim (same_local_name name q) as
         (λ test. same_local_name name q ≡ test
-        → option_or (value_in_slot (slice_set slots slot y) q) (blocks.value_of overflow q) ≡ cond test v (option_or (value_in_slot slots q) (blocks.value_of overflow q))) [
+        → option_or (value_in_slot (slice_set slots slot y) q) (blocks.value_in_blocks overflow q) ≡ cond test v (option_or (value_in_slot slots q) (blocks.value_in_blocks overflow q))) [
           | true ↦ λ same.
-              ap (λ o. option_or o (blocks.value_of overflow q)) (value-here p q same)
+              ap (λ o. option_or o (blocks.value_in_blocks overflow q)) (value-here p q same)
               ∙ (ap (option_or v) (blocks-same overflow name q same ∙ p.alone) ∙ or-none v)
-          | false ↦ λ other. ap (λ o. option_or o (blocks.value_of overflow q)) (value-other p q other)
+          | false ↦ λ other. ap (λ o. option_or o (blocks.value_in_blocks overflow q)) (value-other p q other)
         ] refl
 
   -- 4. A change in the blocks
@@ -132,7 +128,7 @@ module _ {V : Type 0} where
     pub blocks-apart : value_in_slot slots name ≡ None → blocks.IsPutAt name v old new → AreApart slots old → AreApart slots new
     blocks-apart none put apart q value found =
         put q
-        ∙ elim (same_local_name name q) as (λ test. same_local_name name q ≡ test → cond test v (blocks.value_of old q) ≡ None) [
+        ∙ elim (same_local_name name q) as (λ test. same_local_name name q ≡ test → cond test v (blocks.value_in_blocks old q) ≡ None) [
           | true ↦ λ same. cc (sym none ∙ (sym (slots-same slots name q same) ∙ found))
           | false ↦ λ other. apart q value found
         ] refl
@@ -143,7 +139,7 @@ module _ {V : Type 0} where
         ap (option_or (value_in_slot slots q)) (put q)
         ∙ elim (same_local_name name q) as
         (λ test. same_local_name name q ≡ test
-        → option_or (value_in_slot slots q) (cond test v (blocks.value_of old q)) ≡ cond test v (option_or (value_in_slot slots q) (blocks.value_of old q))) [
+        → option_or (value_in_slot slots q) (cond test v (blocks.value_in_blocks old q)) ≡ cond test v (option_or (value_in_slot slots q) (blocks.value_in_blocks old q))) [
           | true ↦ λ same. ap (λ o. option_or o v) (slots-same slots name q same ∙ none)
           | false ↦ λ other. refl
         ] refl
@@ -151,18 +147,18 @@ module _ {V : Type 0} where
   -- 5. What stands at a place
 
   pub slot-stands : (map : SlottedNames V) (slots : List (Option (Name × V))) (overflow : List (List (Name × V))) (place : NamePlace) (slot : ℕ) (name : Name)
-      → record { slots = slots; overflow = overflow } ≡ map → place ≡ Slot slot → Stands map name place
+      → record { slots = slots; overflow = overflow } ≡ map → place ≡ Slot slot → StandsInMap map name place
       → (slot ≡ slot_of name) × (is_named (in_slot slots slot) name ≡ true)
   slot-stands map slots overflow place slot name view is stands =
-      subst (λ (m : SlottedNames V). Stands m name (Slot slot)) (sym view) (subst (Stands map name) is stands)
+      subst (λ (m : SlottedNames V). StandsInMap m name (Slot slot)) (sym view) (subst (StandsInMap map name) is stands)
 
   pub overflow-stands : (map : SlottedNames V) (slots : List (Option (Name × V))) (overflow : List (List (Name × V))) (place : NamePlace) (at : BlockPlace) (name : Name)
-      → record { slots = slots; overflow = overflow } ≡ map → place ≡ Overflow at → Stands map name place
-      → (value_in_slot slots name ≡ None) × blocks.Stands overflow name at
+      → record { slots = slots; overflow = overflow } ≡ map → place ≡ Overflow at → StandsInMap map name place
+      → (value_in_slot slots name ≡ None) × blocks.StandsInBlocks overflow name at
   overflow-stands map slots overflow place at name view is stands =
-      subst (λ (m : SlottedNames V). Stands m name (Overflow at)) (sym view) (subst (Stands map name) is stands)
+      subst (λ (m : SlottedNames V). StandsInMap m name (Overflow at)) (sym view) (subst (StandsInMap map name) is stands)
 
-  pub overflow-within : (overflow : List (List (Name × V))) (at : BlockPlace) (name : Name) → blocks.Stands overflow name at
+  pub overflow-within : (overflow : List (List (Name × V))) (at : BlockPlace) (name : Name) → blocks.StandsInBlocks overflow name at
       → at.at < length (blocks.block_at overflow at.block)
   overflow-within overflow at name s = slice_get_within (blocks.block_at overflow at.block) at.at s.entry s.at
 

@@ -7,9 +7,9 @@ use Rattle.lol_base.specs.LocalNames.{Name, same_local_name, local_name_cmp}
 use Rattle.lol_names.specs.declared.name_blocks.BlockPlace.{BlockPlace}
 
 -- the lists, one after another
-abbrev pub joined : {A : Type 0} → List (List A) → List A
-joined [] = []
-joined (block ∷ blocks) = block ++ joined blocks
+abbrev pub joined_blocks : {A : Type 0} → List (List A) → List A
+joined_blocks [] = []
+joined_blocks (block ∷ blocks) = block ++ joined_blocks blocks
 
 -- the block at a place, and none where there isn't one
 abbrev pub block_at : {A : Type 0} → List (List A) → ℕ → List A
@@ -21,8 +21,8 @@ AllFilled (block ∷ blocks) = (0 < length block) × AllFilled blocks
 
 module _ {V : Type 0} where
   -- the value of a name
-  abbrev pub value_of : List (List (Name × V)) → Name → Option V
-  value_of blocks name = lookup (same_local_name name) (joined blocks)
+  abbrev pub value_in_blocks : List (List (Name × V)) → Name → Option V
+  value_in_blocks blocks name = lookup (same_local_name name) (joined_blocks blocks)
 
   abbrev pub AllBelow : Name → List (Name × V) → Type 0
   AllBelow name [] = Unit {0}
@@ -38,7 +38,7 @@ module _ {V : Type 0} where
 
   -- the names ascend, and no block is without names
   pub record AreBlocks (blocks : List (List (Name × V))) : Type 0 where
-    pub ascending : AreAscending (joined blocks)
+    pub ascending : AreAscending (joined_blocks blocks)
     pub filled : AllFilled blocks
 
   -- whether the first name of a block is above this one
@@ -52,14 +52,14 @@ module _ {V : Type 0} where
 
   -- what stands before a place
   abbrev pub before : List (List (Name × V)) → BlockPlace → List (Name × V)
-  before blocks place = joined (take place.block blocks) ++ take place.at (block_at blocks place.block)
+  before blocks place = joined_blocks (take place.block blocks) ++ take place.at (block_at blocks place.block)
 
   -- what stands from a place on, without the next n of its block
   abbrev pub from : List (List (Name × V)) → BlockPlace → ℕ → List (Name × V)
-  from blocks place n = drop n (drop place.at (block_at blocks place.block)) ++ joined (drop 1 (drop place.block blocks))
+  from blocks place n = drop n (drop place.at (block_at blocks place.block)) ++ joined_blocks (drop 1 (drop place.block blocks))
 
   -- the name stands at the place
-  pub record Stands (blocks : List (List (Name × V))) (name : Name) (place : BlockPlace) : Type 0 where
+  pub record StandsInBlocks (blocks : List (List (Name × V))) (name : Name) (place : BlockPlace) : Type 0 where
     pub entry : Name × V
     pub at : slice_get (block_at blocks place.block) place.at ≡ Some entry
     pub same : local_name_cmp entry.0 name ≡ Equal
@@ -75,7 +75,7 @@ module _ {V : Type 0} where
 
   -- the name has this value, and the others have theirs
   abbrev pub IsPutAt : Name → Option V → List (List (Name × V)) → List (List (Name × V)) → Type 0
-  IsPutAt name value old new = (q : Name) → value_of new q ≡ (if same_local_name name q then value else value_of old q)
+  IsPutAt name value old new = (q : Name) → value_in_blocks new q ≡ (if same_local_name name q then value else value_in_blocks old q)
 
   -- the same stands before a place and after it
   pub record IsSamePlace (old : List (List (Name × V))) (place : BlockPlace) (new : List (List (Name × V))) (moved : BlockPlace) : Type 0 where

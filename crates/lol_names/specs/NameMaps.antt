@@ -35,24 +35,24 @@ module _ {V : Type 0} where
 
   -- the value of a name
   abbrev pub value_of : SlottedNames V → Name → Option V
-  value_of map name = option_or (value_in_slot map.slots name) (blocks.value_of map.overflow name)
+  value_of map name = option_or (value_in_slot map.slots name) (blocks.value_in_blocks map.overflow name)
 
   -- no name that stands in its slot stands in the blocks
   abbrev pub AreApart : List (Option (Name × V)) → List (List (Name × V)) → Type 0
-  AreApart slots overflow = (name : Name) (value : V) → value_in_slot slots name ≡ Some value → blocks.value_of overflow name ≡ None
+  AreApart slots overflow = (name : Name) (value : V) → value_in_slot slots name ≡ Some value → blocks.value_in_blocks overflow name ≡ None
 
   -- the name stands at the place
-  abbrev pub Stands : SlottedNames V → Name → NamePlace → Type 0
-  Stands map name (Slot slot) = (slot ≡ slot_of name) × (is_named (in_slot map.slots slot) name ≡ true)
-  Stands map name (Overflow place) = (value_in_slot map.slots name ≡ None) × blocks.Stands map.overflow name place
+  abbrev pub StandsInMap : SlottedNames V → Name → NamePlace → Type 0
+  StandsInMap map name (Slot slot) = (slot ≡ slot_of name) × (is_named (in_slot map.slots slot) name ≡ true)
+  StandsInMap map name (Overflow place) = (value_in_slot map.slots name ≡ None) × blocks.StandsInBlocks map.overflow name place
 
   -- some name stands at the place
   abbrev pub IsTaken : SlottedNames V → NamePlace → Type 0
-  IsTaken map place = (name : Name) × Stands map name place
+  IsTaken map place = (name : Name) × StandsInMap map name place
 
   -- the name stands nowhere, and would stand at the place
   abbrev pub IsMissing : SlottedNames V → Name → NamePlace → Type 0
-  IsMissing map name (Slot slot) = (slot ≡ slot_of name) × (in_slot map.slots slot ≡ None) × (blocks.value_of map.overflow name ≡ None)
+  IsMissing map name (Slot slot) = (slot ≡ slot_of name) × (in_slot map.slots slot ≡ None) × (blocks.value_in_blocks map.overflow name ≡ None)
   IsMissing map name (Overflow place) = (value_in_slot map.slots name ≡ None) × blocks.IsMissing map.overflow name place
 
   -- the name has this value, and the others have theirs

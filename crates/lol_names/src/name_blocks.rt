@@ -5,7 +5,7 @@ ghost use Rattle.std.specs.Option.{option_copied};
 ghost use Rattle.std.specs.declared.cmp.Ordering.TheVariants.{Less};
 ghost use Rattle.lol_base.specs.LocalNames.{Name, local_name_cmp};
 ghost use Rattle.std.specs.Ordering.{is_lt};
-ghost use Rattle.lol_names.specs.NameBlocks.{begins_above, is_named, value_of, joined, block_at, Stands, IsMissing, IsPutAt, IsSamePlace};
+ghost use Rattle.lol_names.specs.NameBlocks.{begins_above, is_named, value_in_blocks, joined_blocks, block_at, StandsInBlocks, IsMissing, IsPutAt, IsSamePlace};
 
 use lol_base::LocalName;
 use std::alloc::{AllocError, Global};
@@ -55,8 +55,8 @@ impl<V> NameBlocks<V> {
 
     /// Where a name stands, or else where it would.
     pub fn search<'s, 'i: 's>(&'s self, name: &LocalName<'i>) -> Result<BlockPlace, BlockPlace>
-        ensures place { MatchResult result (Stands self.now name.now) (IsMissing self.now name.now) }
-        ensures missing { IfErr result (λ _. value_of self.now name.now ≡ None) }
+        ensures place { MatchResult result (StandsInBlocks self.now name.now) (IsMissing self.now name.now) }
+        ensures missing { IfErr result (λ _. value_in_blocks self.now name.now ≡ None) }
     {
         let blocks: &[Vec<(LocalName<'i>, V)>] = self.blocks.as_slice();
         let block = block_for(blocks, name);
@@ -75,9 +75,9 @@ impl<V> NameBlocks<V> {
     /// Puts another value at a place, and answers the one that was there.
     pub fn replace(&mut self, place: BlockPlace, value: V) -> V
         requires { place.at < length (block_at self.old place.block) }
-        ensures was { (name : Name) → Stands self.old name place → value_of self.old name ≡ Some result }
-        ensures stands { (name : Name) → Stands self.old name place → Stands self.new name place }
-        ensures is { (name : Name) → Stands self.old name place → IsPutAt name (Some value) self.old self.new }
+        ensures was { (name : Name) → StandsInBlocks self.old name place → value_in_blocks self.old name ≡ Some result }
+        ensures stands { (name : Name) → StandsInBlocks self.old name place → StandsInBlocks self.new name place }
+        ensures is { (name : Name) → StandsInBlocks self.old name place → IsPutAt name (Some value) self.old self.new }
     {
         let block = &mut self.blocks[place.block];
         std::mem::replace(&mut block[place.at].1, value)
@@ -88,7 +88,7 @@ impl<V> NameBlocks<V> {
     where
         V: Drop,
         requires { place.at < length (block_at self.old place.block) }
-        ensures { (name : Name) → Stands self.old name place → IsPutAt name None self.old self.new }
+        ensures { (name : Name) → StandsInBlocks self.old name place → IsPutAt name None self.old self.new }
     {
         let block = &mut self.blocks[place.block];
         block.remove(place.at);
@@ -108,7 +108,7 @@ impl<V> NameBlocks<V> {
         V: Drop,
         requires { IsMissing self.old name place }
         ensures ok { OnOk result (IsPutAt name.entry (Some value) self.old self.new) }
-        ensures err { OnErr result (joined self.new ≡ joined self.old) }
+        ensures err { OnErr result (joined_blocks self.new ≡ joined_blocks self.old) }
     {
         if self.blocks.is_empty() {
             let mut block: Vec<(LocalName<'static>, V)> = Vec::new(self.alloc);
@@ -127,7 +127,7 @@ impl<V> NameBlocks<V> {
         V: Drop,
         requires inside { place.block < length self.old }
         requires within { place.at ≤ length (block_at self.old place.block) }
-        ensures joined { joined self.new ≡ joined self.old }
+        ensures joined { joined_blocks self.new ≡ joined_blocks self.old }
         ensures ok { IfOk result (λ new. IsSamePlace self.old place self.new new) }
     {
         if self.blocks[place.block].len() < BLOCK_LEN {
@@ -147,7 +147,7 @@ impl<V> NameBlocks<V> {
 
     /// The value of a name.
     pub fn get<'s, 'i: 's>(&'s self, name: &LocalName<'i>) -> Option<&'s V>
-        ensures { option_copied result ≡ value_of self.now name.now }
+        ensures { option_copied result ≡ value_in_blocks self.now name.now }
     {
         match self.search(name) {
             Ok(place) => Some(&self.blocks[place.block][place.at].1),

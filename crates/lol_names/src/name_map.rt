@@ -3,7 +3,7 @@
 ghost use Rattle.std.specs.Prelude.{◌≡◌, ◌<◌, ◌≤◌, length, MatchResult, OnOk, OnErr, IfOk, IfErr, Some, None};
 ghost use Rattle.std.specs.Option.{option_copied};
 ghost use Rattle.lol_base.specs.LocalNames.{Name};
-ghost use Rattle.lol_names.specs.NameMaps.{slot_of, in_slot, no_names, value_of, Stands, IsTaken, IsMissing, IsPutAt};
+ghost use Rattle.lol_names.specs.NameMaps.{slot_of, in_slot, no_names, value_of, StandsInMap, IsTaken, IsMissing, IsPutAt};
 ghost use Rattle.lol_names.specs.NameBlocks.{is_named};
 
 use crate::name_blocks::{BlockPlace, NameBlocks};
@@ -55,7 +55,7 @@ impl<V> NameMap<V> {
     /// Where a name stands, or else where it would.
     #[inline]
     pub fn search<'s, 'i: 's>(&'s self, name: &LocalName<'i>) -> Result<NamePlace, NamePlace>
-        ensures place { MatchResult result (Stands self.now name.now) (IsMissing self.now name.now) }
+        ensures place { MatchResult result (StandsInMap self.now name.now) (IsMissing self.now name.now) }
         ensures taken { IfOk result (IsTaken self.now) }
         ensures missing { IfErr result (λ _. value_of self.now name.now ≡ None) }
     {
@@ -75,10 +75,10 @@ impl<V> NameMap<V> {
     #[inline]
     pub fn replace(&mut self, place: NamePlace, value: V) -> V
         requires { IsTaken self.old place }
-        ensures was { (name : Name) → Stands self.old name place → value_of self.old name ≡ Some result }
-        ensures stands { (name : Name) → Stands self.old name place → Stands self.new name place }
+        ensures was { (name : Name) → StandsInMap self.old name place → value_of self.old name ≡ Some result }
+        ensures stands { (name : Name) → StandsInMap self.old name place → StandsInMap self.new name place }
         ensures taken { IsTaken self.new place }
-        ensures is { (name : Name) → Stands self.old name place → IsPutAt name (Some value) self.old self.new }
+        ensures is { (name : Name) → StandsInMap self.old name place → IsPutAt name (Some value) self.old self.new }
     {
         match place {
             NamePlace::Slot(slot) => replace_value(&mut self.slots[slot], value),
@@ -92,7 +92,7 @@ impl<V> NameMap<V> {
     where
         V: Drop,
         requires { IsTaken self.old place }
-        ensures { (name : Name) → Stands self.old name place → IsPutAt name None self.old self.new }
+        ensures { (name : Name) → StandsInMap self.old name place → IsPutAt name None self.old self.new }
     {
         match place {
             NamePlace::Slot(slot) => self.slots[slot] = None,

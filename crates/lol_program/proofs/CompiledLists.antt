@@ -1,7 +1,8 @@
 -- Compiled tests stand for tests, one for one.
-use Rattle.std.proofs.Common.{◌≡◌, Bool, true, false, not, ◌||◌, ◌&&◌, List, [], ◌∷◌, ◌++◌, refl, sym, ap, ◌∙◌, subst, append_assoc}
+use Rattle.std.proofs.Common.{◌≡◌, Bool, true, false, not, ◌||◌, ◌&&◌, List, [], ◌∷◌, ◌++◌, refl, sym, ap, ◌∙◌, subst}
 use Rattle.std.proofs.lemmas.List.{append-nil}
 use Rattle.std.specs.Global.{Vec}
+use Rattle.lol_base.specs.BoolLaws.{or-right_true}
 use Rattle.lol_program.specs.Compounds as compounds
 use Rattle.lol_program.specs.Compounds.{Compound, both, either, all_of, any_of}
 use Rattle.lol_program.specs.Attributes.{tag_attributes}
@@ -29,17 +30,13 @@ completes_all R done left all none h = subst (λ l. Pairwise R l all) (append-ni
 
 -- 2. What they stand for
 
-pub or_right : (a b : Bool) → b ≡ true → (a || b) ≡ true
-or_right true b h = refl
-or_right false b h = h
-
 pub tests_compiled : (compiled : List CompiledTest) (tests : List compounds.Test) → Pairwise IsCompiledTest compiled tests → AreCompiledTests compiled (all_of tests)
 tests_compiled [] [] h = λ by_type serves e. (refl, refl)
 tests_compiled [] (t ∷ tests) h = absurd h
 tests_compiled (x ∷ compiled) [] h = absurd h
 tests_compiled (x ∷ compiled) (t ∷ tests) h = λ by_type serves e.
     let first = h.0 by_type (λ y. serves (ap (λ (b : Bool). b || compounds.has_test_by_type (all_of tests)) y)) e in
-    let others = tests_compiled compiled tests h.1 by_type (λ y. serves (or_right (compounds.test_has_type t) _ y)) e in
+    let others = tests_compiled compiled tests h.1 by_type (λ y. serves (or-right_true (compounds.test_has_type t) _ y)) e in
     (λ i. both (first.0 i) (others.0 i), λ i. first.1 i && others.1 i)
 
 abbrev pub IsCompiledPredicate : CompiledPredicate → Compound → Type 0
@@ -51,7 +48,7 @@ predicates_compiled [] (c ∷ cs) h = absurd h
 predicates_compiled (x ∷ compiled) [] h = absurd h
 predicates_compiled (x ∷ compiled) (c ∷ cs) h = λ by_type serves e.
     let first = h.0 by_type (λ y. serves (ap (λ (b : Bool). b || compounds.some_has_type (any_of cs)) y)) e in
-    let others = predicates_compiled compiled cs h.1 by_type (λ y. serves (or_right (compounds.has_test_by_type c) _ y)) e in
+    let others = predicates_compiled compiled cs h.1 by_type (λ y. serves (or-right_true (compounds.has_test_by_type c) _ y)) e in
     (λ i. either (first.0 i) (others.0 i), λ i. first.1 i || others.1 i)
 
 -- 3. Flags
@@ -59,10 +56,6 @@ predicates_compiled (x ∷ compiled) (c ∷ cs) h = λ by_type serves e.
 pub or_assoc : (a b c : Bool) → ((a || b) || c) ≡ (a || (b || c))
 or_assoc true b c = refl
 or_assoc false b c = refl
-
-pub or_false : (a : Bool) → (a || false) ≡ a
-or_false true = refl
-or_false false = refl
 
 -- a flag that is set where the next one asks for it, or one of those that are left
 pub flag_more : (flag flag' here others all : Bool) → flag' ≡ (flag || here) → (flag || (here || others)) ≡ all → (flag' || others) ≡ all

@@ -9,7 +9,8 @@ use Rattle.lol_program.specs.Programs.{Instruction, IsAt}
 use Rattle.lol_program.specs.Layouts.{width, Entry, laid_tops, laid_below, laid, program_of}
 use Rattle.lol_program.specs.Laying.{Laid}
 use Rattle.lol_base.specs.MemberLaws.{Among, among_either}
-use Rattle.lol_program.proofs.ListPlaces.{at_among, at_map}
+use Rattle.lol_base.specs.PlaceLaws.{some_is, at_among}
+use Rattle.lol_program.proofs.ListPlaces.{at_map}
 use Rattle.lol_program.proofs.Laid.{numbered_at, laid_from, below_numbered, length_laid}
 
 abbrev HasPlace : List Instruction → Entry → Type 0
@@ -50,9 +51,6 @@ equal_at (x ∷ xs) [] e h = absurd (omega (arith, e))
 equal_at (x ∷ xs) (y ∷ ys) e h =
     let first : x ≡ y = some_is (h 0 y refl) in
     λ i. first i ∷ equal_at xs ys (omega (arith, e)) (λ k z at. h (suc k) z at) i
-  where
-    some_is : {A : Type 0} {x y : A} → Some x ≡ Some y → x ≡ y
-    some_is e = cc
 
 pub filled : (f : Forest) (instructions : List Instruction) → length instructions ≡ size f → Laid instructions 0 (0 + width f) f → instructions ≡ (program_of f).instructions
 filled f instructions count l =

@@ -281,7 +281,7 @@ module _ (c : Compound) (R : Node → Node → Type 0) (same : (n m : Node) → 
   at_root_differ law (more d ids children descendants rest) new (inr h) differ =
       subst SiblingsDiffer (sym h.3) (λ top. ⊎_elim differ.0 (λ e. h.0 (sym e)) (tops_kept d rest h.1 h.2 top), (differ.1.0, (differ.1.1.0, at_root_differ law rest h.1 h.2 differ.1.1.1)))
 
-under_same : (step : Combinator) (R : Forest → Forest → Type 0) (n m : Node) → Under step R n m → m.compound ≡ n.compound
+pub under_same : (step : Combinator) (R : Forest → Forest → Type 0) (n m : Node) → Under step R n m → m.compound ≡ n.compound
 under_same Child R n m u = ap (λ k. k.compound) u.2
 under_same Descendant R n m u = ap (λ k. k.compound) u.2
 
@@ -289,7 +289,7 @@ under_differ : (step : Combinator) (R : Forest → Forest → Type 0) → ((old 
 under_differ Child R law n m u d = subst DifferIn (sym u.2) (law n.children u.0 u.1 d.0, d.1)
 under_differ Descendant R law n m u d = subst DifferIn (sym u.2) (d.0, law n.descendants u.0 u.1 d.1)
 
-takes_same : (id : Option ℕ) (n m : Node) → Takes id n m → m.compound ≡ n.compound
+pub takes_same : (id : Option ℕ) (n m : Node) → Takes id n m → m.compound ≡ n.compound
 takes_same None n m t = ap (λ k. k.compound) t
 takes_same (Some id) n m t = ap (λ k. k.compound) t.2
 

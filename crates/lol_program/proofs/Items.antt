@@ -4,14 +4,13 @@ use Rattle.lol_css.specs.Trees as trees
 use Rattle.lol_css.specs.declared.selector.Combinator.{Combinator}
 use Rattle.lol_css.specs.declared.selector.Compound as css
 use Rattle.lol_css.specs.declared.selector.ComplexSelector.{ComplexSelector}
-use Rattle.lol_css.specs.declared.selector.SelectorList.{SelectorList}
-use Rattle.lol_css.specs.declared.selector.SimpleSelector.TheViews.{out-ComplexSelector, out-SelectorList}
-use Rattle.lol_css.specs.TreeViews.{item_of, list_of, compound_of, with_compound_list, with_item_list}
+use Rattle.lol_css.specs.declared.selector.SimpleSelector.TheViews.{out-ComplexSelector}
+use Rattle.lol_css.specs.TreeViews.{item_of, compound_of, with_compound_list, with_item_list}
 use Rattle.lol_program.specs.Paths.{Path, extended}
 use Rattle.lol_program.specs.Conditions.{path_of, paths_of}
 use Rattle.lol_program.specs.Views.{steps_of}
 use Rattle.lol_program.specs.AstPaths.{path_shown}
-use Rattle.lol_css.specs.TreeLaws.{item_of-out, list_of-out}
+use Rattle.lol_css.specs.TreeLaws.{item_of-out}
 
 path_of-steps : (front : trees.Item) (others : List (Combinator × css.Compound)) → path_of (with_compound_list front others) ≡ extended (path_of front) (steps_of others)
 path_of-steps front [] = refl

@@ -1,22 +1,14 @@
 -- Lists as sets that take in others.
-use Rattle.std.proofs.Common.{◌↔◌, ◌⊎◌, inl, inr, ⊎_elim, List, [], ◌++◌, sym, subst}
+use Rattle.std.proofs.Common.{◌↔◌, inl, inr, ⊎_elim, List, [], ◌++◌, sym, subst}
 use Rattle.std.specs.Prelude.{Contains, flat_map}
 use Rattle.std.proofs.lemmas.Grind.{flat_map-append}
+use Rattle.std.proofs.lemmas.List.Elements.{Contains-append_left, Contains-append_right, Contains-append_cases}
 use Rattle.lol_program.specs.Sets.{Joins, SameMembers, IsBetween}
-use Rattle.lol_base.specs.MemberLaws.{Among, among_from_contains, contains_from_among, among_front, among_back, among_either}
+use Rattle.lol_base.specs.MemberLaws.{among_from_contains}
 
 module _ {T : Type 0} where
   pub none_in : (x : T) → Contains [] x → ⊥
   none_in x h = among_from_contains [] x h
-
-  pub in_front : (xs ys : List T) (x : T) → Contains xs x → Contains (xs ++ ys) x
-  in_front xs ys x h = contains_from_among (xs ++ ys) x (among_front xs ys x (among_from_contains xs x h))
-
-  pub in_back : (xs ys : List T) (x : T) → Contains ys x → Contains (xs ++ ys) x
-  in_back xs ys x h = contains_from_among (xs ++ ys) x (among_back xs ys x (among_from_contains ys x h))
-
-  pub in_either : (xs ys : List T) (x : T) → Contains (xs ++ ys) x → Contains xs x ⊎ Contains ys x
-  in_either xs ys x h = ⊎_elim (λ (a : Among xs x). inl (contains_from_among xs x a)) (λ (a : Among ys x). inr (contains_from_among ys x a)) (among_either xs ys x (among_from_contains (xs ++ ys) x h))
 
   -- a set takes in nothing
   pub Joins-none : (old new : List T) → SameMembers old new → Joins old new []
@@ -32,11 +24,11 @@ module _ {T : Type 0} where
   pub Joins-both : (old mid new xs ys : List T) → Joins old mid xs → Joins mid new ys → Joins old new (xs ++ ys)
   Joins-both old mid new xs ys j k x = (
     λ h. ⊎_elim
-        (λ (m : Contains mid x). ⊎_elim (λ (a : Contains old x). inl a) (λ (a : Contains xs x). inr (in_front xs ys x a)) ((j x).0 m))
-        (λ (a : Contains ys x). inr (in_back xs ys x a)) ((k x).0 h),
+        (λ (m : Contains mid x). ⊎_elim (λ (a : Contains old x). inl a) (λ (a : Contains xs x). inr (Contains-append_left xs ys x a)) ((j x).0 m))
+        (λ (a : Contains ys x). inr (Contains-append_right xs ys x a)) ((k x).0 h),
     λ h. ⊎_elim
         (λ (a : Contains old x). (k x).1 (inl ((j x).1 (inl a))))
-        (λ (b : Contains (xs ++ ys) x). ⊎_elim (λ (a : Contains xs x). (k x).1 (inl ((j x).1 (inr a)))) (λ (a : Contains ys x). (k x).1 (inr a)) (in_either xs ys x b)) h,
+        (λ (b : Contains (xs ++ ys) x). ⊎_elim (λ (a : Contains xs x). (k x).1 (inl ((j x).1 (inr a)))) (λ (a : Contains ys x). (k x).1 (inr a)) (Contains-append_cases xs ys x b)) h,
   )
 
   pub Joins-same : (old new xs ys : List T) → ((x : T) → Contains xs x ↔ Contains ys x) → Joins old new xs → Joins old new ys
@@ -54,7 +46,7 @@ module _ {T : Type 0} where
   -- a list of which all is taken in already, or some
   pub Joins-again : (old mid new xs : List T) → Joins old mid xs → Joins mid new xs → Joins old new xs
   Joins-again old mid new xs j k =
-      Joins-same old new (xs ++ xs) xs (λ x. (λ h. ⊎_elim (λ (a : Contains xs x). a) (λ (a : Contains xs x). a) (in_either xs xs x h), λ h. in_front xs xs x h)) (Joins-both old mid new xs xs j k)
+      Joins-same old new (xs ++ xs) xs (λ x. (λ h. ⊎_elim (λ (a : Contains xs x). a) (λ (a : Contains xs x). a) (Contains-append_cases xs xs x h), λ h. Contains-append_left xs xs x h)) (Joins-both old mid new xs xs j k)
 
   pub IsBetween-joined : (old new xs : List T) → Joins old new xs → IsBetween old new xs
   IsBetween-joined old new xs j = record { kept = λ x h. (j x).1 (inl h); only = λ x h. (j x).0 h }
@@ -73,4 +65,4 @@ module _ {T : Type 0} where
 
 -- what a part of a list gives, the list gives
 pub flat_map-front : {A B : Type 0} (f : A → List B) (xs ys : List A) (b : B) → Contains (flat_map f xs) b → Contains (flat_map f (xs ++ ys)) b
-flat_map-front f xs ys b h = subst (λ (l : List _). Contains l b) (sym (flat_map-append f xs ys)) (in_front (flat_map f xs) (flat_map f ys) b h)
+flat_map-front f xs ys b h = subst (λ (l : List _). Contains l b) (sym (flat_map-append f xs ys)) (Contains-append_left (flat_map f xs) (flat_map f ys) b h)

@@ -2,6 +2,7 @@
 use Rattle.std.proofs.Common.{◌≡◌, ℕ, zero, suc, ◌+◌, ◌<◌, ◌≤◌, List, [], ◌∷◌, ◌++◌, length, map, Option, Some, None, ◌⊎◌, inl, inr, refl, sym, ap, ◌∙◌, subst, arith, Contains}
 use Rattle.std.specs.List.{list_any}
 use Rattle.std.proofs.lemmas.List.{map-append, length-append, length-map}
+use Rattle.std.proofs.lemmas.Option.{none-some}
 use Rattle.lol_css.specs.declared.selector.Combinator.{Combinator}
 use Rattle.lol_css.specs.declared.selector.Combinator.TheVariants.{Child, Descendant}
 use Rattle.lol_program.specs.Compounds.{Compound, has_test_by_type}
@@ -13,8 +14,9 @@ use Rattle.lol_base.specs.MemberLaws.{Among, Distinct, among_front, among_back, 
 use Rattle.lol_program.specs.NodeOnceLaws.{nodes_distinct, AllPairs-from_Distinct}
 use Rattle.lol_program.specs.Programs.{Range, Instruction, IsWithin, IsAt, HoldsPlaces, IsRangeOf, IsInstruction, IsProgramOf, above}
 use Rattle.lol_program.specs.Layouts.{width, range_of, instruction_of, Entry, laid_tops, laid_below, laid, selectors_in, program_of, LayoutsArePrograms, WorkedLayout}
-use Rattle.lol_program.proofs.ListPlaces.{at_among, same_at, one_place, at_within, at_map, map_at}
-use Rattle.lol_program.proofs.Apart.{same_front, same_step}
+use Rattle.lol_base.specs.PlaceLaws.{some_is, at_among, same_at, one_place, at_within}
+use Rattle.lol_program.specs.StepLaws.{one_front, one_step}
+use Rattle.lol_program.proofs.ListPlaces.{at_map, map_at}
 use Rattle.lol_program.proofs.ByType.{any_by_type-nodes}
 
 -- 1. Places in order
@@ -369,22 +371,16 @@ module _ (f : Forest) (differ : SiblingsDiffer f) where
       elim (parent_entry u.0 u.1) [
         | inl top ↦ let is = top_is First f 0 (0 + width f) u.0 top in
             let no : None ≡ Some (t.path, step) = ap above (sym is.1 ∙ u.3) ∙ under in
-            absurd (no_some no)
+            absurd (none-some _ no)
         | inr h ↦
             let both = sym h.under ∙ (ap above u.3 ∙ under) in
-            let same = same_entry h.parent t h.among a (same_front h.parent.path t.path h.step step both) in
-            let gives : which step t.instruction ≡ Some h.range = (λ i. which (sym (same_step h.parent.path t.path h.step step both) i) (sym same i).instruction) ∙ h.gives in
+            let same = same_entry h.parent t h.among a (one_front h.parent.path t.path h.step step both) in
+            let gives : which step t.instruction ≡ Some h.range = (λ i. which (sym (one_step h.parent.path t.path h.step step both) i) (sym same i).instruction) ∙ h.gives in
             (h.range, gives, subst (λ n. IsWithin n h.range) u.2 h.within)
       ]
-    where
-      no_some : {A : Type 0} {x : A} → None ≡ Some x → ⊥
-      no_some e = cc
 
   range_right : (t : Entry) → Among entries t → (step : Combinator) (F : Forest) (a x : ℕ) → which step t.instruction ≡ range_of F a → Within (laid_tops (Then t.path step) F a x) entries → IsRangeOf paths (range_of F a) (Some (t.path, step))
-  range_right t among step none a x is h = λ k q at under. let r = under_range t among step k q at under in none_some (sym is ∙ r.1)
-    where
-      none_some : {A : Type 0} {x : A} → None ≡ Some x → ⊥
-      none_some e = cc
+  range_right t among step none a x is h = λ k q at under. let r = under_range t among step k q at under in none-some _ (sym is ∙ r.1)
   range_right t among step (more c ids children descendants rest) a x is h = (
     record {
       ordered = omega arith;
@@ -403,9 +399,6 @@ module _ (f : Forest) (differ : SiblingsDiffer f) where
     },
     omega arith,
   )
-    where
-      some_is : {A : Type 0} {x y : A} → Some x ≡ Some y → x ≡ y
-      some_is e = cc
 
   instruction_right : (t : Entry) → Among entries t → IsInstruction (selectors_in f) paths t.path t.instruction
   instruction_right t a =

@@ -16,7 +16,7 @@ use Rattle.lol_program.specs.ProgramViews.{range_shown, instruction_shown, code_
 use Rattle.lol_program.specs.Laying.{under, Laid, AreLaid, SameOutside, SameElsewhere}
 use Rattle.lol_program.specs.declared.ast_node.AstNode.{AstNode}
 use Rattle.lol_program.specs.declared.instruction.Instruction as code
-use Rattle.lol_program.proofs.CompiledLists.{or_false, or_right}
+use Rattle.lol_base.specs.BoolLaws.{or-false, or-right_true}
 use Rattle.lol_program.proofs.ListPlaces.{get_map}
 
 pub size_is : (f : Forest) → size f ≡ width f + under f
@@ -109,7 +109,7 @@ half_step all start end old n left place free more_free instructions next h s e 
       nodes = omega (arith, h.nodes, e);
       after_roots = omega (arith, h.after_roots, e);
       fewer = omega (arith, h.fewer);
-      types = λ t. h.types (or_right own (any_by_type left) t);
+      types = λ t. h.types (or-right_true own (any_by_type left) t);
       same = record {
         count = s.count ∙ h.same.count;
         below = λ k a. s.below k (omega (arith, a, h.after_roots, h.from_start, h.roots)) (λ q. omega (arith, a, q, h.from_start)) ∙ h.same.below k a;
@@ -117,7 +117,7 @@ half_step all start end old n left place free more_free instructions next h s e 
       };
       when_laid = λ by_type serves final a b m.
           let g = instruction_shown by_type in
-          let laid = l by_type (λ t. serves (h.types (ap (λ (x : Bool). x || any_by_type left) (sym (or_false own) ∙ t)))) in
+          let laid = l by_type (λ t. serves (h.types (ap (λ (x : Bool). x || any_by_type left) (sym (or-false own) ∙ t)))) in
           h.when_laid by_type serves final
           (λ k u. a k (omega (arith, u)) ∙ shown_same g instructions next k (s.below k (omega (arith, u, h.after_roots, h.roots)) (λ q. omega (arith, u, q))))
           (λ k u v. b k u (omega (arith, v, e)) ∙ shown_same g instructions next k (s.below k v (λ q. omega (arith, u, q, h.roots)))) (
@@ -163,15 +163,15 @@ node_laid n place free first second i before within lc ld s e by_type serves =
     let last = slice_set second place i in
     let sc = size_is n.children in
     let deeper = any_by_type n.children || any_by_type n.descendants in
-    let own : Serves by_type (has_test_by_type n.compound || deeper) = λ t. serves (or_false (has_test_by_type n.compound || deeper) ∙ t) in
-    let inner : Serves by_type deeper = λ t. own (or_right (has_test_by_type n.compound) deeper t) in (
+    let own : Serves by_type (has_test_by_type n.compound || deeper) = λ t. serves (or-false (has_test_by_type n.compound || deeper) ∙ t) in
+    let inner : Serves by_type deeper = λ t. own (or-right_true (has_test_by_type n.compound) deeper t) in (
       get_map g last place ∙ ap (option_map g) (get_set_here second place i within) ∙ ap Some (e by_type (λ t. own (ap (λ (x : Bool). x || deeper) t))),
       (
         frame n.children (code_of by_type first) (code_of by_type last) free (free + width n.children) (lc by_type (λ t. inner (ap (λ (x : Bool). x || any_by_type n.descendants) t)))
             (λ k u v. shown_same g first last k (get_set_other second place k i (λ q. omega (arith, q, u, before)) ∙ s.below k (omega (arith, v, sc))))
             (λ k u v. shown_same g first last k (get_set_other second place k i (λ q. omega (arith, q, u, before)) ∙ s.below k (omega (arith, v, sc)))),
         (
-          frame n.descendants (code_of by_type second) (code_of by_type last) (free + size n.children) (free + size n.children + width n.descendants) (ld by_type (λ t. inner (or_right (any_by_type n.children) (any_by_type n.descendants) t)))
+          frame n.descendants (code_of by_type second) (code_of by_type last) (free + size n.children) (free + size n.children + width n.descendants) (ld by_type (λ t. inner (or-right_true (any_by_type n.children) (any_by_type n.descendants) t)))
               (λ k u v. shown_same g second last k (get_set_other second place k i (λ q. omega (arith, q, u, before))))
               (λ k u v. shown_same g second last k (get_set_other second place k i (λ q. omega (arith, q, u, before)))),
           tt,

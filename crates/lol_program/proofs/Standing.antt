@@ -17,6 +17,7 @@ use Rattle.lol_program.specs.declared.ast_node.AstNode.TheViews.{out-AstNode}
 use Rattle.lol_program.specs.NodeViewLaws.{shape, node_out}
 use Rattle.lol_program.specs.IdSetLaws.{with_id-IsWith}
 use Rattle.lol_program.proofs.Placed.{place_within}
+use Rattle.lol_program.proofs.Grown.{under_same, takes_same}
 
 -- a node's set that takes an id, or none
 pub SetTakes-Takes : (id : Option ℕ) (c : Compound) (old new : Ids) (children descendants : Forest) → SetTakes id old new
@@ -182,14 +183,6 @@ module _ (c : Compound) (R : Node → Node → Type 0) (same : (n m : Node) → 
   root_stands none new h = subst (AtTop c P) (sym h.2) (inl (same (fresh c) h.0 h.1, law (fresh c) h.0 h.1))
   root_stands (more d ids children descendants rest) new (inl h) = subst (AtTop c P) (sym h.3) (inl (same _ h.1 h.2 ∙ h.0, law _ h.1 h.2))
   root_stands (more d ids children descendants rest) new (inr h) = subst (AtTop c P) (sym h.3) (inr (h.0, root_stands rest h.1 h.2))
-
-takes_same : (id : Option ℕ) (n m : Node) → Takes id n m → m.compound ≡ n.compound
-takes_same None n m t = ap (λ k. k.compound) t
-takes_same (Some id) n m t = ap (λ k. k.compound) t.2
-
-under_same : (step : Combinator) (R : Forest → Forest → Type 0) (n m : Node) → Under step R n m → m.compound ≡ n.compound
-under_same Child R n m u = ap (λ k. k.compound) u.2
-under_same Descendant R n m u = ap (λ k. k.compound) u.2
 
 under_stands : (step : Combinator) (R : Forest → Forest → Type 0) (Q : Forest → Type 0) → ((old new : Forest) → R old new → Q new) → (n m : Node) → Under step R n m → Q (grown_under step m)
 under_stands Child R Q law n m u = subst (λ (k : Node). Q k.children) (sym u.2) (law n.children u.0 u.1)

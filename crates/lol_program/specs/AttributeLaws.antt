@@ -6,7 +6,7 @@ use Rattle.lol_base.specs.Names.{lowercased}
 use Rattle.lol_css.specs.declared.attribute.AttrSelectorOperator.{AttrSelectorOperator}
 use Rattle.lol_css.specs.declared.attribute.AttrSelectorOperator.TheVariants.{Includes}
 use Rattle.lol_css.specs.declared.attribute.ParsedCaseSensitivity.{ParsedCaseSensitivity}
-use Rattle.lol_program.specs.Tests.{Element, HasId, HasClass, HasAttribute, Compares, attribute_holds, has_value, operator_holds, compared, needs_operand, is_empty_text, ignores_case, value_of}
+use Rattle.lol_program.specs.Tests.{Element, HasId, HasClass, HasAttribute, Compares, attribute_holds, has_value, operator_holds, compared, needs_operand, is_empty_text, ignores_case, attribute_value}
 use Rattle.lol_program.specs.Attributes.{TagAttributes, tag_attributes, value_in, operands_hold}
 use Rattle.lol_program.specs.declared.attribute_matcher.AttrExprOperands.{AttrExprOperands}
 
@@ -39,15 +39,15 @@ module _ (seen : TagAttributes) (e : Element) (same : seen ≡ tag_attributes e.
       let ignoring = ignores_case case e.tag.namespace in
       let test = λ (value : List ℕ). operator_holds operator (compared ignoring value) (compared ignoring operand) in
       ap (λ (s : TagAttributes). operands_hold operator operands s) same
-      ∙ ap (λ (c : ParsedCaseSensitivity). has_value (value_of operands.name.items e.tag) (λ value. operator_holds operator (compared (ignores_case c e.tag.namespace) value) (compared (ignores_case c e.tag.namespace) operands.value.items))) cases
-      ∙ ap (λ (bytes : List ℕ). has_value (value_of operands.name.items e.tag) (λ value. operator_holds operator (compared ignoring value) (compared ignoring bytes))) values
-      ∙ ap (λ (bytes : List ℕ). has_value (value_of bytes e.tag) test) names
-      ∙ sym (ap (λ (lacks : Bool). has_value (value_of (lowercased name) e.tag) (λ value. not lacks && test value)) (lacks-compared operator ignoring operand ∙ enough))
+      ∙ ap (λ (c : ParsedCaseSensitivity). has_value (attribute_value operands.name.items e.tag) (λ value. operator_holds operator (compared (ignores_case c e.tag.namespace) value) (compared (ignores_case c e.tag.namespace) operands.value.items))) cases
+      ∙ ap (λ (bytes : List ℕ). has_value (attribute_value operands.name.items e.tag) (λ value. operator_holds operator (compared ignoring value) (compared ignoring bytes))) values
+      ∙ ap (λ (bytes : List ℕ). has_value (attribute_value bytes e.tag) test) names
+      ∙ sym (ap (λ (lacks : Bool). has_value (attribute_value (lowercased name) e.tag) (λ value. not lacks && test value)) (lacks-compared operator ignoring operand ∙ enough))
 
 -- An operator that needs an operand and has an empty one holds nowhere.
 pub never-Compares : (name operand : List ℕ) (operator : AttrSelectorOperator) (case : ParsedCaseSensitivity) (e : Element) → (needs_operand operator && is_empty_text operand) ≡ true
     → attribute_holds (Compares name operator operand case) e ≡ false
 never-Compares name operand operator case e lacks =
     let ignoring = ignores_case case e.tag.namespace in
-    ap (λ (b : Bool). has_value (value_of (lowercased name) e.tag) (λ value. not b && operator_holds operator (compared ignoring value) (compared ignoring operand))) (lacks-compared operator ignoring operand ∙ lacks)
-    ∙ has_value-false (value_of (lowercased name) e.tag)
+    ap (λ (b : Bool). has_value (attribute_value (lowercased name) e.tag) (λ value. not b && operator_holds operator (compared ignoring value) (compared ignoring operand))) (lacks-compared operator ignoring operand ∙ lacks)
+    ∙ has_value-false (attribute_value (lowercased name) e.tag)

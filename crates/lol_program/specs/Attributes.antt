@@ -21,7 +21,7 @@ tag_attributes tag = record { attributes = tag.attributes; namespace = tag.names
 abbrev pub value_among : List ℕ → List Attribute → Option (List ℕ)
 value_among name attributes = option_map (λ a. unwrap_or a.value []) (find_attribute name attributes)
 
--- The same among the attributes of a tag: `value_of` of each tag that has these.
+-- The same among the attributes of a tag: `attribute_value` of each tag that has these.
 abbrev pub value_in : List ℕ → TagAttributes → Option (List ℕ)
 value_in name seen = value_among name seen.attributes
 

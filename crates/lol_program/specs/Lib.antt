@@ -40,3 +40,4 @@ pub mod IdSetLaws
 pub mod NodeViewLaws
 pub mod PredicateListLaws
 pub mod PredicateMarks
+pub mod StepLaws

@@ -56,8 +56,8 @@ find_attribute name (a ∷ more) = if bytes_eq (lowercased a.name) name then Som
 
 -- The value of the first attribute of that name, which is empty where none is written, or nothing where it isn't there
 -- (HTML Standard, "Attributes": of two attributes of one name the first counts).
-abbrev pub value_of : List ℕ → StartTag → Option (List ℕ)
-value_of name tag = option_map (λ a. unwrap_or a.value []) (find_attribute name tag.attributes)
+abbrev pub attribute_value : List ℕ → StartTag → Option (List ℕ)
+attribute_value name tag = option_map (λ a. unwrap_or a.value []) (find_attribute name tag.attributes)
 
 -- space, line feed, carriage return, tab, form feed (HTML Standard, "ASCII whitespace")
 abbrev pub is_white : ℕ → Bool
@@ -119,9 +119,9 @@ has_value None test = false
 has_value (Some value) test = test value
 
 abbrev pub attribute_holds : AttributeTest → Element → Bool
-attribute_holds (HasId id) e = has_value (value_of (codes "id") e.tag) (λ value. bytes_eq value id)
-attribute_holds (HasClass name) e = has_value (value_of (codes "class") e.tag) (λ value. list_any (λ word. bytes_eq word name) (words value))
-attribute_holds (HasAttribute name) e = has_value (value_of name e.tag) (λ value. true)
+attribute_holds (HasId id) e = has_value (attribute_value (codes "id") e.tag) (λ value. bytes_eq value id)
+attribute_holds (HasClass name) e = has_value (attribute_value (codes "class") e.tag) (λ value. list_any (λ word. bytes_eq word name) (words value))
+attribute_holds (HasAttribute name) e = has_value (attribute_value name e.tag) (λ value. true)
 attribute_holds (Compares name operator operand case) e =
     let ignoring = ignores_case case e.tag.namespace in
-    has_value (value_of (lowercased name) e.tag) (λ value. compares operator (compared ignoring value) (compared ignoring operand))
+    has_value (attribute_value (lowercased name) e.tag) (λ value. compares operator (compared ignoring value) (compared ignoring operand))

@@ -6,6 +6,7 @@ use Rattle.std.specs.List.{slice_split, onto_first, position_or_len, join_with_b
 use Rattle.std.proofs.lemmas.Bool.Decides.{nat_tests}
 use Rattle.std.proofs.lemmas.List.Splits.{slice_split_none, slice_split_first, join_with_byte-slice_split}
 use Rattle.std.proofs.lemmas.List.Sums.{fails_before_first, position_or_len_is}
+use Rattle.lol_base.specs.BoolLaws.{not_true}
 use Rattle.memchr.specs.Find.{IsFirstByte}
 use Rattle.lol_script.specs.Script.{Line, Select, is_tab, limit_at, select_at, end_at, of_kind, number_up_to}
 
@@ -32,16 +33,12 @@ pub split_some : (xs : List ℕ) (n : ℕ) → position is_tab xs ≡ Some n →
 split_some xs n h = parts_some is_tab xs n h
 
 -- the first place that a search of bytes finds
-not_passed : (b : Bool) → (b ≡ true → ⊥) → b ≡ false
-not_passed true h = absurd (h refl)
-not_passed false h = refl
-
 pub first_place : (p : ℕ → Bool) (xs : List ℕ) (found : Option ℕ) → IsFirstByte p xs found → found ≡ position p xs
 first_place p xs None h =
-    let at : position_or_len p xs ≡ length xs = position_or_len_is p xs (length xs) 0 (omega arith) (λ k below. not_passed _ (h k (omega arith) below)) (λ below. absurd (omega (arith, below))) in
+    let at : position_or_len p xs ≡ length xs = position_or_len_is p xs (length xs) 0 (omega arith) (λ k below. not_true _ (h k (omega arith) below)) (λ below. absurd (omega (arith, below))) in
     grind (arith, nat_tests, at)
 first_place p xs (Some n) h =
-    let at : position_or_len p xs ≡ n = position_or_len_is p xs n 0 (omega (arith, h.0.high)) (λ k below. not_passed _ (h.0.before k (omega arith) below)) (λ below. h.1) in
+    let at : position_or_len p xs ≡ n = position_or_len_is p xs n 0 (omega (arith, h.0.high)) (λ k below. not_true _ (h.0.before k (omega arith) below)) (λ below. h.1) in
     grind (arith, nat_tests, at, h.0.high)
 
 pub within_position : (p : ℕ → Bool) (xs : List ℕ) (n : ℕ) → position p xs ≡ Some n → n < length xs

@@ -23,8 +23,8 @@ pub not_begun : (events : List Event) (number : ℕ) (result : Result Script Bad
 not_begun events number result none = ap (λ (es : List Event). unless_begun es number result) none
 
 -- members that join others
-pub joined : {T : Type 0} (old new added members : List T) → SameMembers members old → Joins old new added → SameMembers (members ++ added) new
-joined old new added members same joins x = (
+pub joins_members : {T : Type 0} (old new added members : List T) → SameMembers members old → Joins old new added → SameMembers (members ++ added) new
+joins_members old new added members same joins x = (
   λ h. (contains-append members added x).1 (elim ((joins x).0 h) [ inl a ↦ inl ((same x).0 a) | inr b ↦ inr b ]),
   λ h. (joins x).1 (elim ((contains-append members added x).0 h) [ inl a ↦ inl ((same x).1 a) | inr b ↦ inr b ]),
 )

@@ -12,9 +12,9 @@ use Rattle.lol_script.specs.declared.bad_line.Cause.{Cause}
 use Rattle.lol_script.specs.declared.bad_line.Cause.TheVariants.{Form, Selector}
 
 -- fields separated by commas, or `-` where there are none
-abbrev pub listed : List (List ℕ) → List ℕ
-listed [] = codes "-"
-listed (field ∷ fields) = join_with_byte (byte ",") (field ∷ fields)
+abbrev pub comma_list : List (List ℕ) → List ℕ
+comma_list [] = codes "-"
+comma_list (field ∷ fields) = join_with_byte (byte ",") (field ∷ fields)
 
 -- an id, with `/` after it where the element has no content
 abbrev pub shown_match : Match → List ℕ
@@ -27,9 +27,9 @@ tries_field shows names attributes = if shows then tab ∷ codes "tries " ++ (de
 -- the line of an answer
 abbrev pub shown_answer : Bool → Answer → List ℕ
 shown_answer shows (Started matched asked names attributes) =
-    codes "start" ++ (tab ∷ listed (map shown_match matched) ++ ((if asked then tab ∷ codes "asked" else []) ++ tries_field shows names attributes))
+    codes "start" ++ (tab ∷ comma_list (map shown_match matched) ++ ((if asked then tab ∷ codes "asked" else []) ++ tries_field shows names attributes))
 shown_answer shows Dropped = codes "dropped"
-shown_answer shows (Ended closed) = codes "end" ++ tab ∷ listed (map decimal closed)
+shown_answer shows (Ended closed) = codes "end" ++ tab ∷ comma_list (map decimal closed)
 
 -- lines, each of which LF ends
 abbrev pub lines_of : List (List ℕ) → List ℕ

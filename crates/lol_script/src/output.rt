@@ -3,7 +3,7 @@
 ghost use Rattle.std.specs.Prelude.{◌≡◌, ◌∷◌, [], ◌++◌, IfOk, OnOk, map, decimal, Bool, true, false};
 ghost use Rattle.lol_vm.specs.Views.{match_of, answer_of};
 ghost use Rattle.lol_program.specs.Tries.{names_counted, attributes_counted};
-ghost use Rattle.lol_script.specs.Output.{listed, shown_match, tries_field, shown_answer};
+ghost use Rattle.lol_script.specs.Output.{comma_list, shown_match, tries_field, shown_answer};
 ghost use Rattle.lol_script.specs.Adding.{AddsLine};
 
 use itoa::Buffer;
@@ -69,7 +69,7 @@ pub fn push_match(text: &mut Vec<u8>, found: MatchInfo) -> Result<(), AllocError
 
 /// Adds ids, separated by commas, or `-` where there are none.
 pub fn push_matches(text: &mut Vec<u8>, matched: &[MatchInfo]) -> Result<(), AllocError>
-    ensures { OnOk result (text.new.items ≡ text.old.items ++ listed (map shown_match (map match_of matched.now))) }
+    ensures { OnOk result (text.new.items ≡ text.old.items ++ comma_list (map shown_match (map match_of matched.now))) }
 {
     let Some((first, others)) = matched.split_first() else {
         return Ok(text.push(b'-')?);
@@ -84,7 +84,7 @@ pub fn push_matches(text: &mut Vec<u8>, matched: &[MatchInfo]) -> Result<(), All
 
 /// Adds numbers, separated by commas, or `-` where there are none.
 pub fn push_numbers(text: &mut Vec<u8>, numbers: &[usize]) -> Result<(), AllocError>
-    ensures { OnOk result (text.new.items ≡ text.old.items ++ listed (map decimal numbers.now)) }
+    ensures { OnOk result (text.new.items ≡ text.old.items ++ comma_list (map decimal numbers.now)) }
 {
     let Some((first, others)) = numbers.split_first() else {
         return Ok(text.push(b'-')?);

@@ -1,13 +1,10 @@
 -- The two names that are void where ESI is on.
-use Rattle.std.proofs.Common.{◌≡◌, ◌∙◌, sym, ap, refl, true≢false, ℕ, Bool, true, false, ◌||◌, List, codes}
+use Rattle.std.proofs.Common.{◌≡◌, ◌∙◌, sym, ap, refl, true≢false, ℕ, true, false, ◌||◌, List, codes}
 use Rattle.std.specs.Str.{bytes_eq}
 use Rattle.std.proofs.lemmas.Slice.Eq.{bytes_eq-Decides}
+use Rattle.lol_base.specs.BoolLaws.{or-false}
 use Rattle.lol_base.specs.Names.{is_esi, esi_names, lowercased}
 use Rattle.lol_base.specs.LocalNames.{is_hash}
-
-or-false : (b : Bool) → (b || false) ≡ b
-or-false true = refl
-or-false false = refl
 
 pub is_esi-either : (name : List ℕ) → is_esi name ≡ (bytes_eq name (codes "esi:include") || bytes_eq name (codes "esi:comment"))
 unfolding esi_names

@@ -4,11 +4,11 @@ use Rattle.lol_base.specs.LocalNames.{Name}
 use Rattle.lol_names.specs.NameMaps.{value_of}
 use Rattle.lol_stack.specs.declared.open_names.Places.{Places}
 use Rattle.lol_stack.specs.declared.open_names.OpenNames.{OpenNames}
-use Rattle.lol_stack.specs.Places.{listed}
+use Rattle.lol_stack.specs.Places.{places_listed}
 
 abbrev pub places_if : Option Places → List ℕ
 places_if None = []
-places_if (Some places) = listed places
+places_if (Some places) = places_listed places
 
 -- the places of a name
 abbrev pub places_of : OpenNames → Name → List ℕ

@@ -3,6 +3,6 @@ use Rattle.std.specs.Prelude.{ℕ, List, [], ◌∷◌}
 use Rattle.lol_stack.specs.declared.open_names.Places.{Places}
 use Rattle.lol_stack.specs.declared.open_names.Places.TheVariants.{One, Many}
 
-abbrev pub listed : Places → List ℕ
-listed (One place) = place ∷ []
-listed (Many places) = places.items
+abbrev pub places_listed : Places → List ℕ
+places_listed (One place) = place ∷ []
+places_listed (Many places) = places.items

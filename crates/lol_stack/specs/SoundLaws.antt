@@ -3,6 +3,7 @@ use Rattle.std.proofs.Common.{◌≡◌, ◌∙◌, sym, ap, refl, ℕ, zero, su
 use Rattle.std.specs.Bool.{if◌then◌else◌}
 use Rattle.std.proofs.lemmas.List.{map-append, length-map, append-nil, take-append-drop}
 use Rattle.lol_base.specs.LocalNames.{Name, same_local_name}
+use Rattle.lol_base.specs.PlaceLaws.{head_is, tail_is}
 use Rattle.lol_stack.specs.Active.{active_ranges_of, activated}
 use Rattle.std.specs.Option.{option_map}
 use Rattle.lol_stack.specs.TypedCounts.{counted_by_type}
@@ -22,12 +23,6 @@ set_keeps : {A B : Type 0} (f : A → B) (xs : List A) (n : ℕ) (x y : A) → s
 set_keeps f [] n x y there same = refl
 set_keeps f (z ∷ xs) zero x y there same = ap (λ first. first ∷ map f xs) (same ∙ ap f (let e : z ≡ x = cc in sym e))
 set_keeps f (z ∷ xs) (suc n) x y there same = ap (λ rest. f z ∷ rest) (set_keeps f xs n x y there same)
-
-head_same : {A : Type 0} (x y : A) (xs ys : List A) → x ∷ xs ≡ y ∷ ys → x ≡ y
-head_same x y xs ys e = cc
-
-tail_same : {A : Type 0} (x y : A) (xs ys : List A) → x ∷ xs ≡ y ∷ ys → xs ≡ ys
-tail_same x y xs ys e = cc
 
 module _ {E : Type 0} where
   pub new_is_sound : NewIsSound E
@@ -106,8 +101,8 @@ module _ {E : Type 0} where
   places_from-names place [] (y ∷ ys) name same = absurd (cc)
   places_from-names place (x ∷ xs) [] name same = absurd (cc)
   places_from-names place (x ∷ xs) (y ∷ ys) name same =
-      let first = head_same x.local_name y.local_name (map (λ item. item.local_name) xs) (map (λ item. item.local_name) ys) same in
-      let rest = places_from-names (place + 1) xs ys name (tail_same x.local_name y.local_name (map (λ item. item.local_name) xs) (map (λ item. item.local_name) ys) same) in
+      let first = head_is x.local_name y.local_name (map (λ item. item.local_name) xs) (map (λ item. item.local_name) ys) same in
+      let rest = places_from-names (place + 1) xs ys name (tail_is x.local_name y.local_name (map (λ item. item.local_name) xs) (map (λ item. item.local_name) ys) same) in
       ap (λ (n : Name). if same_local_name n name then place ∷ name_places_from (place + 1) xs name else name_places_from (place + 1) xs name) first
       ∙ ap (λ more. if same_local_name y.local_name name then place ∷ more else more) rest
 

@@ -6,19 +6,19 @@ use Rattle.std.proofs.lemmas.Bool.Decides.{nat_tests}
 use Rattle.std.proofs.lemmas.List.{map-append}
 use Rattle.std.specs.Str.{bytes_eq}
 use Rattle.std.proofs.lemmas.Slice.Eq.{bytes_eq-Decides}
+use Rattle.lol_base.specs.BoolLaws.{and-true, and-false}
 use Rattle.lol_base.specs.LocalNames.{Name, same_local_name}
+use Rattle.lol_base.specs.NameLaws.{same_lowercased}
+use Rattle.lol_base.specs.PlaceLaws.{head_is, tail_is}
 use Rattle.lol_stack.specs.Levels.{one_more, is_at_level, counted_at_last, without_last}
 use Rattle.lol_stack.specs.TypedCounts.{TypedCount, key_of, is_of, level_of, levels_of, last_counted, counted_by_type, all_above, cut_to}
 use Rattle.lol_stack.specs.TypedViews.{first_count, without_first, typed_counts_of, AreLevels}
 
 -- ---- names
 
-same_bytes : (a b : Name) → same_local_name a b ≡ true → a.lowercased ≡ b.lowercased
-same_bytes a b same = (bytes_eq-Decides a.lowercased b.lowercased).0 same
-
 -- equal names are told from others alike
 is_of-same : (name q : Name) → same_local_name name q ≡ true → (t : TypedCount) → is_of q t ≡ is_of name t
-is_of-same name q same t = ap (λ bytes. bytes_eq t.name.lowercased bytes) (sym (same_bytes name q same))
+is_of-same name q same t = ap (λ bytes. bytes_eq t.name.lowercased bytes) (sym (same_lowercased name q same))
 
 name_is_its_own : (name : Name) → same_local_name name name ≡ true
 name_is_its_own name = (bytes_eq-Decides name.lowercased name.lowercased).1 refl
@@ -142,7 +142,7 @@ own_levels (t ∷ ts) name =
 
 -- of another name
 same_turned : (a b q : Name) → same_local_name a b ≡ true → same_local_name a q ≡ same_local_name b q
-same_turned a b q same = ap (λ bytes. bytes_eq bytes q.lowercased) (same_bytes a b same)
+same_turned a b q same = ap (λ bytes. bytes_eq bytes q.lowercased) (same_lowercased a b same)
 
 other_levels : (ts : List TypedCount) (name q : Name) → same_local_name name q ≡ false → levels_of q (last_counted ts name) ≡ levels_of q ts
 other_levels [] name q other = refl
@@ -235,12 +235,6 @@ pub record EndsIn (ts : List TypedCount) (ks : List (ℕ × Name)) (k : ℕ × N
   pub keys : map key_of front ≡ ks
   pub key : key_of last ≡ k
 
-head_is : {A : Type 0} (x y : A) (xs ys : List A) → x ∷ xs ≡ y ∷ ys → x ≡ y
-head_is x y xs ys e = cc
-
-tail_is : {A : Type 0} (x y : A) (xs ys : List A) → x ∷ xs ≡ y ∷ ys → xs ≡ ys
-tail_is x y xs ys e = cc
-
 pub ends_in : (ts : List TypedCount) (ks : List (ℕ × Name)) (k : ℕ × Name) → map key_of ts ≡ ks ++ k ∷ [] → EndsIn ts ks k
 ends_in [] [] k is = absurd (cc)
 ends_in [] (l ∷ ks) k is = absurd (cc)
@@ -266,14 +260,6 @@ all_above-push level (u ∷ ts) t b is =
       | true ↦ all_above-push level ts t b is
       | false ↦ refl
     ]
-
-and-true : (b : Bool) → (b && true) ≡ b
-and-true true = refl
-and-true false = refl
-
-and-false : (b : Bool) → (b && false) ≡ false
-and-false true = refl
-and-false false = refl
 
 pub cut_to-above : (level : ℕ) (ts : List TypedCount) (t : TypedCount) → level < t.level → cut_to level (ts ++ t ∷ []) ≡ cut_to level ts
 cut_to-above level [] t above = let is : nat_lt level t.level ≡ true = grind (arith, nat_tests) in rw is refl

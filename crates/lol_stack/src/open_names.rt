@@ -3,7 +3,7 @@
 ghost use Rattle.std.specs.Prelude.{◌≡◌, ◌++◌, ◌∷◌, [], if◌then◌else◌, OnOk, OnErr, MatchBool};
 ghost use Rattle.lol_base.specs.LocalNames.{Name, same_local_name};
 ghost use Rattle.lol_stack.specs.Levels.{without_last};
-ghost use Rattle.lol_stack.specs.Places.{listed};
+ghost use Rattle.lol_stack.specs.Places.{places_listed};
 ghost use Rattle.lol_stack.specs.OpenPlaces.{places_of};
 
 use lol_base::LocalName;
@@ -20,7 +20,7 @@ enum Places {
 
 impl Places {
     fn as_slice(&self) -> &[usize]
-        ensures { result.now ≡ listed self.now }
+        ensures { result.now ≡ places_listed self.now }
     {
         match self {
             Places::One(place) => slice::from_ref(place),
@@ -29,8 +29,8 @@ impl Places {
     }
 
     fn push(&mut self, alloc: Global, place: usize) -> Result<(), AllocError>
-        ensures ok { OnOk result (listed self.new ≡ listed self.old ++ place ∷ []) }
-        ensures err { OnErr result (listed self.new ≡ listed self.old) }
+        ensures ok { OnOk result (places_listed self.new ≡ places_listed self.old ++ place ∷ []) }
+        ensures err { OnErr result (places_listed self.new ≡ places_listed self.old) }
     {
         match self {
             Places::One(first) => {
@@ -46,7 +46,7 @@ impl Places {
 
     /// Takes the last place off, and answers true; or answers false, where no other place is left.
     fn pop(&mut self) -> bool
-        ensures { MatchBool result (listed self.new ≡ without_last (listed self.old)) (without_last (listed self.old) ≡ []) }
+        ensures { MatchBool result (places_listed self.new ≡ without_last (places_listed self.old)) (without_last (places_listed self.old) ≡ []) }
     {
         match self {
             Places::One(_) => false,

@@ -1,16 +1,12 @@
 -- One tag more.
-use Rattle.std.proofs.Common.{◌≡◌, ℕ, ◌+◌, ◌<◌, Bool, List, [], ◌∷◌, ◌++◌, sym, ap, ◌∙◌, map, take, length, get_or}
+use Rattle.std.proofs.Common.{◌≡◌, Bool, List, [], ◌∷◌, ◌++◌, sym, ap, ◌∙◌}
 use Rattle.std.specs.List.{flat_map}
-use Rattle.std.proofs.lemmas.List.{map_push, take_more, flat_map_more, append_assoc}
+use Rattle.std.proofs.lemmas.List.{flat_map_more, append_assoc}
 use Rattle.lol_program.specs.Paths.{Selectors}
 use Rattle.lol_vm.specs.Answers.{Answer, answer, after, answers_from, document_from, document}
 use Rattle.lol_vm.specs.Documents.{Document, empty}
 use Rattle.lol_vm.specs.Events.{Event}
 use Rattle.lol_uses.specs.Reported.{ids_of, reported_ids}
-
--- the members up to one and with it, each as another value
-pub map_taken : {A B : Type 0} (f : A → B) (xs : List A) (n : ℕ) (x : A) → n < length xs → x ≡ get_or xs n x → map f (take (n + 1) xs) ≡ map f (take n xs) ++ f x ∷ []
-map_taken f xs n x within read = ap (map f) (take_more xs n x within ∙ ap (λ y. take n xs ++ y ∷ []) (sym read)) ∙ map_push f (take n xs) x
 
 -- the ids of answers, and of one more
 pub ids_more : (answers : List Answer) (answer : Answer) → flat_map ids_of (answers ++ answer ∷ []) ≡ flat_map ids_of answers ++ ids_of answer

@@ -29,8 +29,8 @@ abbrev pub IsChargedFor : {E : Type 0} → Limiter → Vm E → Limiter → Type
 IsChargedFor before vm limiter = limiter ≡ charged before (slots_charged vm * slot_bytes vm)
 
 -- an item comes last, or memory was refused; after a refusal nothing is kept
-abbrev pub Keeps : {T : Type 0} → Kept T → T → Kept T → Type 0
-Keeps old item new = (new.refused ≡ false) → (old.refused ≡ false) × (new.items.items ≡ old.items.items ++ item ∷ [])
+abbrev pub KeepsItem : {T : Type 0} → Kept T → T → Kept T → Type 0
+KeepsItem old item new = (new.refused ≡ false) → (old.refused ≡ false) × (new.items.items ≡ old.items.items ++ item ∷ [])
 
 -- A start tag was answered: the handler was called with exactly its report, in order, and the machine stands for the events with the tag.
 pub record IsTold {E F : Type 0} (step : F → MatchInfo → Unit {0} → F → Type 0) (s : Selectors) (esi : Bool) (told : List events.Event) (tag : StartTag) (vm : Vm E) (f g : F) : Type 0 where

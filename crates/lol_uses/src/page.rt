@@ -4,7 +4,7 @@ ghost use Rattle.std.specs.Prelude.{◌≡◌, ◌++◌, ◌∷◌, [], Bool, tr
 ghost use Rattle.lol_base.specs.StartTags.{StartTag, RangesAreInside};
 ghost use Rattle.lol_memory.specs.Limiter.{Limiter};
 ghost use Rattle.lol_program.specs.Paths.{Selectors};
-ghost use Rattle.lol_uses.specs.Pages.{HasAttributesInside, IsChargedFor, IsTold, Keeps, event_of_tag};
+ghost use Rattle.lol_uses.specs.Pages.{HasAttributesInside, IsChargedFor, IsTold, KeepsItem, event_of_tag};
 ghost use Rattle.lol_uses.specs.Reported.{ids_of, reported_ids};
 ghost use Rattle.lol_vm.specs.Answers.{answer, document};
 ghost use Rattle.lol_vm.specs.Events.{Event, Start, End};
@@ -83,7 +83,7 @@ impl<T: Drop> Kept<T> {
     }
 
     fn keep(&mut self, item: T)
-        ensures { Keeps self.old item self.new }
+        ensures { KeepsItem self.old item self.new }
     {
         if !self.refused && self.items.push(item).is_err() {
             self.refused = true;
@@ -176,7 +176,7 @@ pub fn start_tag(
 {
     let mut kept = Kept::new(alloc);
     let mut handler = |info: MatchInfo|
-        ensures { Keeps kept.entry info.match_id kept.exit }
+        ensures { KeepsItem kept.entry info.match_id kept.exit }
     {
         kept.keep(info.match_id);
     };
@@ -237,7 +237,7 @@ pub fn end_tag(
     standing_has_open::<LinkElement>();
     let mut kept = Kept::new(alloc);
     let mut handler = |element: LinkElement|
-        ensures { Keeps kept.entry element kept.exit }
+        ensures { KeepsItem kept.entry element kept.exit }
     {
         kept.keep(element);
     };

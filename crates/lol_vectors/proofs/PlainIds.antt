@@ -7,7 +7,7 @@ use Rattle.lol_base.specs.MemberLaws.{Among, among_front, among_back, among_eith
 use Rattle.lol_memory.specs.Ids.{Ids, has, union, ascending}
 use Rattle.lol_memory.specs.SetLaws.{has-union}
 use Rattle.lol_memory.specs.AscendingLaws.{ascending_rises}
-use Rattle.lol_program.specs.IdSetLaws.{listed, held}
+use Rattle.lol_program.specs.IdSetLaws.{listed_if_held, held}
 use Rattle.lol_program.specs.Tests.{Element}
 use Rattle.lol_program.specs.Paths.{Path}
 use Rattle.lol_vm.specs.Matching.{matches}
@@ -30,7 +30,7 @@ module _ (e : Element) (outer : List Element) (pairs : List (Path × ℕ)) (path
 
   stays : (id : ℕ) → has old id ≡ true → Contains (matching_ids (pairs ++ mine) e outer) id
   stays id h =
-      let m = among_matching_ids e outer pairs id (among_from_contains _ id (subst (λ ids. Contains ids id) before (listed old id h))) in
+      let m = among_matching_ids e outer pairs id (among_from_contains _ id (subst (λ ids. Contains ids id) before (listed_if_held old id h))) in
       contains_from_among _ id (matching_ids_among e outer (pairs ++ mine) m.0 id (among_front pairs mine (m.0, id) m.1) m.2)
 
   was : (id : ℕ) (found : Path) → Among pairs (found, id) → matches found e outer ≡ true → has old id ≡ true
@@ -50,13 +50,13 @@ module _ (e : Element) (outer : List Element) (pairs : List (Path × ℕ)) (path
       to id h = ⊎_elim
           (λ (a : has old id ≡ true). stays id a)
           (λ (b : has own id ≡ true). contains_from_among _ id (matching_ids_among e outer (pairs ++ mine) path id
-          (among_back pairs mine (path, id) (among_one path (ascending own) id (among_from_contains _ id (listed own id b)))) fits))
+          (among_back pairs mine (path, id) (among_one path (ascending own) id (among_from_contains _ id (listed_if_held own id b)))) fits))
           (or_parts _ _ (sym (same id) ∙ held new id h))
 
       from : (id : ℕ) → Contains (matching_ids (pairs ++ mine) e outer) id → Contains (ascending new) id
       from id h =
           let m = among_matching_ids e outer (pairs ++ mine) id (among_from_contains _ id h) in
-          listed new id (same id ∙ or_of _ _ (⊎_elim
+          listed_if_held new id (same id ∙ or_of _ _ (⊎_elim
           (λ (a : Among pairs (m.0, id)). inl (was id m.0 a m.2))
           (λ (b : Among mine (m.0, id)). inr (held own id (contains_from_among _ id (one_among path (ascending own) m.0 id b).1)))
           (among_either pairs mine (m.0, id) m.1)))
@@ -71,7 +71,7 @@ module _ (e : Element) (outer : List Element) (pairs : List (Path × ℕ)) (path
       from : (id : ℕ) → Contains (matching_ids (pairs ++ mine) e outer) id → Contains (ascending old) id
       from id h =
           let m = among_matching_ids e outer (pairs ++ mine) id (among_from_contains _ id h) in
-          listed old id (⊎_elim
+          listed_if_held old id (⊎_elim
           (λ (a : Among pairs (m.0, id)). was id m.0 a m.2)
           (λ (b : Among mine (m.0, id)). absurd (true≢false (sym m.2 ∙ ap (λ (p : Path). matches p e outer) (sym (one_among path (ascending own) m.0 id b).0) ∙ fails)))
           (among_either pairs mine (m.0, id) m.1))

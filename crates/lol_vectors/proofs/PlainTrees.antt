@@ -1,5 +1,5 @@
 -- The listed nodes answer as the tree's nodes.
-use Rattle.std.proofs.Common.{◌≡◌, ℕ, ◌+◌, ◌<◌, Bool, true, false, ◌||◌, ◌&&◌, not, cond, List, [], ◌∷◌, ◌++◌, map, refl, sym, ap, ◌∙◌, arith}
+use Rattle.std.proofs.Common.{◌≡◌, ℕ, ◌+◌, ◌<◌, Bool, true, false, ◌||◌, not, cond, List, [], ◌∷◌, ◌++◌, map, refl, sym, ap, ◌∙◌, arith}
 use Rattle.std.specs.Prelude.{nat_lt}
 use Rattle.std.specs.List.{count_by, list_any, flat_map}
 use Rattle.std.proofs.lemmas.Bool.Decides.{Decides-ltb}
@@ -13,10 +13,10 @@ use Rattle.lol_program.specs.Tests.{Element, is_html}
 use Rattle.lol_program.specs.Compounds.{Compound}
 use Rattle.lol_program.specs.Paths.{Path, First, Then, Selectors}
 use Rattle.lol_program.specs.Forest.{Forest, none, more, tops, below, nodes_in, pairs_in}
-use Rattle.lol_vm.specs.Events.{Event, Start, End, has_content}
-use Rattle.lol_vm.specs.Documents.{Document, empty, element_of, after_start}
-use Rattle.lol_vm.specs.Matching.{left_matches}
-use Rattle.lol_vm.specs.Answers.{Started, Dropped, matching_ids, needs_attributes, asks, answer, after, answers_from, answers}
+use Rattle.lol_vm.specs.Events.{Event}
+use Rattle.lol_vm.specs.Documents.{empty}
+use Rattle.lol_vm.specs.AnswerLaws.{same_answers}
+use Rattle.lol_vm.specs.Answers.{matching_ids, needs_attributes, asks, answers}
 use Rattle.lol_vectors.specs.PlainNodes.{nodes_listed, pairs_at, selectors_listed}
 
 -- 1. Counts
@@ -76,31 +76,15 @@ module _ (p : Path → Bool) where
 
 -- 3. Answers
 
-module _ (s t : Selectors) (esi : Bool) (pairs : s.pairs ≡ t.pairs) (counts : (p : Path → Bool) → count_by p s.nodes ≡ count_by p t.nodes) where
+module _ (s t : Selectors) (counts : (p : Path → Bool) → count_by p s.nodes ≡ count_by p t.nodes) where
   same_asks : (e : Element) (outer : List Element) → asks s e outer ≡ asks t e outer
   same_asks e outer =
       ap (λ b. not (is_html e.tag.namespace) || b)
       (any_counted (needs_attributes e outer) s.nodes ∙ ap (nat_lt 0) (counts (needs_attributes e outer)) ∙ sym (any_counted (needs_attributes e outer) t.nodes))
 
-  same_answer : (d : Document) (event : Event) → answer s esi d event ≡ answer t esi d event
-  same_answer d (Start tag) =
-      let e = element_of d tag in
-      let outer = d.open_elements in
-      λ i. cond (same_asks e outer i && not tag.finish) Dropped
-      (Started (map (λ (id : ℕ). record { id = id; with_content = has_content esi tag }) (matching_ids (pairs i) e outer)) (same_asks e outer i)
-      (counts (λ node. left_matches node outer) i) (counts (needs_attributes e outer) i))
-  same_answer d (End name) = refl
-
-  same_after : (d : Document) (event : Event) → after s esi d event ≡ after t esi d event
-  same_after d (Start tag) = λ i. after_start d tag (has_content esi tag && not (same_asks (element_of d tag) d.open_elements i && not tag.finish))
-  same_after d (End name) = refl
-
-  same_answers : (d : Document) (events : List Event) → answers_from s esi d events ≡ answers_from t esi d events
-  same_answers d [] = refl
-  same_answers d (event ∷ events) =
-      (λ i. same_answer d event i ∷ answers_from s esi (same_after d event i) events)
-      ∙ ap (λ more. answer t esi d event ∷ more) (same_answers (after t esi d event) events)
-
 pub listed_answers : (f : Forest) (esi : Bool) (events : List Event) → answers (selectors_listed (nodes_listed First f)) esi events ≡ answers (record { pairs = pairs_in First f; nodes = nodes_in First f }) esi events
 listed_answers f esi events =
-    same_answers (selectors_listed (nodes_listed First f)) (record { pairs = pairs_in First f; nodes = nodes_in First f }) esi (pairs_listed First f) (λ p. nodes_counted p f) empty events
+    let listed = selectors_listed (nodes_listed First f) in
+    let grown : Selectors = record { pairs = pairs_in First f; nodes = nodes_in First f } in
+    let counts : (p : Path → Bool) → count_by p listed.nodes ≡ count_by p grown.nodes = λ p. nodes_counted p f in
+    same_answers listed grown esi (λ e outer. ap (λ pairs. matching_ids pairs e outer) (pairs_listed First f)) (same_asks listed grown counts) counts empty events

@@ -8,14 +8,15 @@ use Rattle.lol_program.specs.Paths.{Path, Selectors}
 use Rattle.lol_base.specs.MemberLaws.{Among, same_count}
 use Rattle.lol_vm.specs.Matching.{left_matches}
 use Rattle.lol_vm.specs.Answers.{name_tries, attribute_tries, needs_attributes}
-use Rattle.lol_base.specs.BoolLaws.{and_parts}
-use Rattle.lol_vm.proofs.Bools.{and_true, same_bool}
+use Rattle.lol_base.specs.BoolLaws.{and_parts, same_bool}
+use Rattle.lol_base.specs.PlaceLaws.{at_among, at_within}
+use Rattle.lol_vm.proofs.Bools.{and_true}
 use Rattle.lol_program.specs.Compounds.{is_open}
 use Rattle.lol_program.specs.Programs.{Range, Program, IsAt, IsProgramOf, AreClosed, places, all_places}
 use Rattle.lol_vm.specs.Machines.{HoldOnce, LeftMatches}
 use Rattle.lol_vm.specs.PlaceRuns.{instruction_value, is_open_at}
 use Rattle.lol_vm.specs.MachineLaws.{PlacesCountTries, sum_of_lengths}
-use Rattle.lol_vm.proofs.Lists.{to_contains, to_among, to_distinct, at_among, at_within, is_at, is_at_of, is_at_is, below, among_below, distinct_below, count_by_places, count_same, count_all, same_passing, any_among, among_any}
+use Rattle.lol_vm.proofs.Lists.{to_contains, to_among, to_distinct, is_at, is_at_of, is_at_is, below, among_below, distinct_below, count_by_places, count_same, count_all, same_passing, any_among, among_any}
 use Rattle.lol_vm.proofs.Held.{instruction_at, place_of_node}
 
 module _ (s : Selectors) (paths : List Path) (p : Program) (closed : AreClosed s) (program : IsProgramOf s paths p) where

@@ -14,7 +14,7 @@ use Rattle.lol_base.specs.StartTags.{StartTag}
 use Rattle.lol_base.specs.declared.namespace.Namespace.{Namespace}
 use Rattle.lol_base.specs.declared.namespace.Namespace.TheVariants.{Html}
 use Rattle.lol_program.specs.Compounds.{has_test_by_type}
-use Rattle.lol_program.specs.IdSetLaws.{listed}
+use Rattle.lol_program.specs.IdSetLaws.{listed_if_held}
 use Rattle.lol_program.specs.Paths.{Path, Selectors, last_compound}
 use Rattle.lol_program.specs.Programs.{IsProgramOf}
 use Rattle.lol_program.specs.Programs as programs
@@ -45,7 +45,8 @@ use Rattle.lol_vm.specs.declared.error.VmError.TheVariants.{InfoRequest, MemoryL
 use Rattle.lol_stack.specs.declared.execution_ctx.ExecutionCtx.{ExecutionCtx}
 use Rattle.lol_vm.specs.declared.tag_runs.RecoveryPoint.{RecoveryPoint}
 use Rattle.lol_vm.specs.declared.tag_runs.RecoveryPoint.TheVariants.{AtOnce, EntryPoints, Jumps, HereditaryJumps}
-use Rattle.lol_vm.proofs.Lists.{among_any, within_at, to_contains}
+use Rattle.lol_base.specs.PlaceLaws.{within_at}
+use Rattle.lol_vm.proofs.Lists.{among_any, to_contains}
 
 -- 1. Void names
 
@@ -102,7 +103,7 @@ module _ (s : Selectors) (paths : List Path) (prog : Program) (small : AreSmall 
       let many = length-map all (instruction_shown prog.enable_nth_of_type) in
       let path = within_at paths k (omega (arith, count, many, within)) in
       let means = program.each k path.0 (instruction_shown prog.enable_nth_of_type (get_or all k d)) path.1 (shown_at all k d within) in
-      λ q held. small.ids path.0 q ((means.ids q).0 (listed (get_or all k d).associated_branch.matched_ids q held))
+      λ q held. small.ids path.0 q ((means.ids q).0 (listed_if_held (get_or all k d).associated_branch.matched_ids q held))
 
   none_by_type : (ps : List Path) → ((path : Path) → Among ps path → Contains paths path) → list_any (λ path. has_test_by_type (last_compound path)) ps ≡ false
   none_by_type [] each = refl

@@ -13,7 +13,7 @@ use Rattle.lol_memory.specs.SetLaws.{has-no_ids, has-union}
 use Rattle.lol_memory.specs.AscendingLaws.{ascending_rises}
 use Rattle.lol_program.specs.ProgramViews.{range_shown, instruction_shown}
 use Rattle.lol_program.specs.declared.instruction.Instruction as code
-use Rattle.lol_program.specs.IdSetLaws.{listed, held}
+use Rattle.lol_program.specs.IdSetLaws.{listed_if_held, held}
 use Rattle.lol_vm.specs.Answers.{ascending_once}
 use Rattle.lol_vm.specs.ReportLaws.{ascending_is_determined, ascending_ascends, pairs_from_ascends}
 use Rattle.lol_stack.specs.Contexts.{with_branch}
@@ -41,7 +41,7 @@ ids_more : (s t : Ids) (ids : List ℕ) → ((id : ℕ) → (has s id ≡ true) 
 ids_more s t ids same id = (
   λ h. (contains-append ids (sets.ascending t) id).1 (elim (or_parts (has s id) (has t id) (sym (has-union s t id) ∙ h)) [
     | inl old ↦ inl ((same id).0 old)
-    | inr new ↦ inr (listed t id new)
+    | inr new ↦ inr (listed_if_held t id new)
   ]),
   λ c. has-union s t id ∙ or_of (has s id) (has t id) (elim ((contains-append ids (sets.ascending t) id).0 c) [
     | inl old ↦ inl ((same id).1 old)
@@ -78,5 +78,5 @@ gathered_ids_ascend ids_of item context h =
     ascending_is_determined (sets.ascending s) (ascending_once context.ids) (AllPairs-from_increasing (sets.ascending s) (ascending_rises s)) (pairs_from_ascends (ascending_once context.ids) (ascending_ascends context.ids))
     (λ id. (
       λ c. contains_from_among (ascending_once context.ids) id (ascending_among context.ids id (among_from_contains context.ids id ((h.ids id).0 (held s id c)))),
-      λ c. listed s id ((h.ids id).1 (contains_from_among context.ids id (among_ascending context.ids id (among_from_contains (ascending_once context.ids) id c)))),
+      λ c. listed_if_held s id ((h.ids id).1 (contains_from_among context.ids id (among_ascending context.ids id (among_from_contains (ascending_once context.ids) id c)))),
     ))

@@ -11,11 +11,13 @@ use Rattle.lol_program.specs.Paths.{Path, First, Then, Selectors}
 use Rattle.lol_base.specs.MemberLaws.{Among, Distinct, among_front, among_back, among_either}
 use Rattle.lol_vm.specs.Matching.{matches, left_matches, parent_passes, some_ancestor_passes}
 use Rattle.lol_base.specs.BoolLaws.{and_parts, and_of, or_parts, or_of}
+use Rattle.lol_base.specs.PlaceLaws.{some_is, at_among, same_at, one_place, at_within, within_at}
+use Rattle.lol_program.specs.StepLaws.{one_front, one_step}
 use Rattle.lol_vm.proofs.Bools.{not_both, true_or_not}
 use Rattle.lol_program.specs.Programs.{Range, Instruction, Program, IsWithin, IsAt, HoldsPlaces, IsRangeOf, IsProgramOf, AreClosed, above, places, all_places}
 use Rattle.lol_vm.specs.Machines.{OpenItem, ranges_to_run, IsReached, HasRanges, IsItem, AreItems, Matches, HoldOnce, LeftMatches, active_of, is_active, same_range, last_jumps, ranges_of_active, jumps_of, hereditary_jumps_of}
 use Rattle.lol_vm.specs.MachineLaws.{ProgramsHaveEachNode, RangesHoldLeftMatches, PlacesAreWithin}
-use Rattle.lol_vm.proofs.Lists.{same_length, to_contains, to_among, to_once, to_distinct, distinct_append, at_among, among_at, same_at, one_place, at_within, within_at, among_flat_map, flat_map_among, distinct_flat_map, among_range, range_among, distinct_range, among_map, map_among, among_filter, filter_among, distinct_filter, any_among, among_any}
+use Rattle.lol_vm.proofs.Lists.{same_length, to_contains, to_among, to_once, to_distinct, distinct_append, among_at, among_flat_map, flat_map_among, distinct_flat_map, among_range, range_among, distinct_range, among_map, map_among, among_filter, filter_among, distinct_filter, any_among, among_any}
 
 -- 1. Ranges and the places in them
 
@@ -24,23 +26,6 @@ within_places r place h = let at = among_range r.start (r.end - r.start) place h
 
 pub places_within : (r : Range) (place : ℕ) → IsWithin place r → Among (places r) place
 places_within r place h = range_among r.start (r.end - r.start) place h.0 (omega (arith, h.0, h.1))
-
-abbrev front_or : Path → Option (Path × Combinator) → Path
-front_or d None = d
-front_or d (Some u) = u.0
-
-abbrev step_or : Combinator → Option (Path × Combinator) → Combinator
-step_or d None = d
-step_or d (Some u) = u.1
-
-abbrev under : Path → Combinator → Option (Path × Combinator)
-under a x = Some (a, x)
-
-pub same_front : (a b : Path) (x y : Combinator) → under a x ≡ under b y → a ≡ b
-same_front a b x y h = ap (front_or a) h
-
-pub same_step : (a b : Path) (x y : Combinator) → under a x ≡ under b y → x ≡ y
-same_step a b x y h = ap (step_or x) h
 
 not_child : Child ≡ Descendant → ⊥
 not_child h = cc
@@ -65,7 +50,7 @@ module _ (s : Selectors) (paths : List Path) (p : Program) (program : IsProgramO
     front_at place (First c) front step at is = cc
     front_at place (Then other step' c) front step at is =
         let node : Contains s.nodes (Then other step' c) = (program.same (Then other step' c)).0 (to_contains paths (Then other step' c) (at_among paths place (Then other step' c) at)) in
-        subst (λ f. (k : ℕ) × IsAt paths k f) (same_front other front step' step is) (place_of_node other (closed.fronts other step' c node))
+        subst (λ f. (k : ℕ) × IsAt paths k f) (one_front other front step' step is) (place_of_node other (closed.fronts other step' c node))
 
     -- 3. Ranges that instructions give hold their places once
 
@@ -81,7 +66,7 @@ module _ (s : Selectors) (paths : List Path) (p : Program) (program : IsProgramO
           let under = ((range_of_reached j a x r at_a at_x is_x).0.members place).0 within_r in
           let under' = ((range_of_reached k b y r' at_b at_y is_y).0.members place).0 within_r' in
           let same : under.0 ≡ under'.0 = same_at paths place under.0 under'.0 under.1 under'.1 in
-          let front : a ≡ b = same_front a b step step (sym under.2 ∙ (ap above same ∙ under'.2)) in
+          let front : a ≡ b = one_front a b step step (sym under.2 ∙ (ap above same ∙ under'.2)) in
           one_place paths paths_once j k b (at_a ∙ ap Some front) at_b
 
       module _ (P : Path → Type 0) (ranges : List Range) (h : HasRanges which paths p P ranges) where
@@ -94,10 +79,7 @@ module _ (s : Selectors) (paths : List Path) (p : Program) (program : IsProgramO
             let m' = reached r' a' in
             let same : m.0 ≡ m'.0 = one_owner m.0 m'.0 m.1 m'.1 m.2 m'.2 r r' place m.3 m'.3 m.4 m'.4 m.5 m'.5 (within_places r place in_r) (within_places r' place in_r') in
             let instruction : m.2 ≡ m'.2 = same_at p.instructions m'.0 m.2 m'.2 (subst (λ k. IsAt p.instructions k m.2) same m.4) m'.4 in
-            some_same (sym m.5 ∙ (ap which instruction ∙ m'.5))
-          where
-            some_same : {A : Type 0} {x y : A} → Some x ≡ Some y → x ≡ y
-            some_same is = cc
+            some_is (sym m.5 ∙ (ap which instruction ∙ m'.5))
 
         pub hold_under : HoldOnce paths ranges (λ path. (front : Path) × (above path ≡ Some (front, step)) × P front)
         hold_under = record {
@@ -233,13 +215,13 @@ module _ (elements : List Element) where
 
   child_left : (path : Path) → Under Child (ParentMatches elements) path → left_matches path elements ≡ true
   child_left (First c) h = let e = h.1 in cc
-  child_left (Then front Child c) h = subst (ParentMatches elements) (sym (same_front front h.0 Child Child h.1)) h.2
-  child_left (Then front Descendant c) h = absurd (not_child (sym (same_step front h.0 Descendant Child h.1)))
+  child_left (Then front Child c) h = subst (ParentMatches elements) (sym (one_front front h.0 Child Child h.1)) h.2
+  child_left (Then front Descendant c) h = absurd (not_child (sym (one_step front h.0 Descendant Child h.1)))
 
   descendant_left : (path : Path) → Under Descendant (SomeAncestorMatches elements) path → left_matches path elements ≡ true
   descendant_left (First c) h = let e = h.1 in cc
-  descendant_left (Then front Child c) h = absurd (not_child (same_step front h.0 Child Descendant h.1))
-  descendant_left (Then front Descendant c) h = subst (SomeAncestorMatches elements) (sym (same_front front h.0 Descendant Descendant h.1)) h.2
+  descendant_left (Then front Child c) h = absurd (not_child (one_step front h.0 Child Descendant h.1))
+  descendant_left (Then front Descendant c) h = subst (SomeAncestorMatches elements) (sym (one_front front h.0 Descendant Descendant h.1)) h.2
 
 module _ (paths : List Path) where
   entry_holds : (r : Range) → HoldsPlaces paths r None → HoldOnce paths (r ∷ []) (λ path. above path ≡ None)
@@ -274,7 +256,7 @@ module _ (paths : List Path) where
       }
 
 steps_differ : (path : Path) (P Q : Path → Type 0) → Under Child P path → Under Descendant Q path → ⊥
-steps_differ path P Q a b = not_child (same_step a.0 b.0 Child Descendant (sym a.1 ∙ b.1))
+steps_differ path P Q a b = not_child (one_step a.0 b.0 Child Descendant (sym a.1 ∙ b.1))
 
 none_under : (path : Path) (step : Combinator) (P : Path → Type 0) → above path ≡ None → Under step P path → ⊥
 none_under path step P none under = let e = under.1 in cc

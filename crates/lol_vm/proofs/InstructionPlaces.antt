@@ -22,7 +22,7 @@ use Rattle.lol_vm.specs.InstructionRuns.{IsInsideOf, instructions_at, all_at, va
 use Rattle.lol_vm.specs.PlaceRuns.{Context, instruction_value, value_at, is_open_at, first_open, branch, step_with_attributes, step_by_names, run, run_by_names}
 use Rattle.lol_stack.specs.declared.execution_ctx.ExecutionCtx.{ExecutionCtx}
 use Rattle.lol_vm.proofs.GatheringLemmas.{branches_gather}
-use Rattle.lol_vm.proofs.Lists.{within_at}
+use Rattle.lol_base.specs.PlaceLaws.{within_at}
 
 -- 1. What stands at the places of ranges
 
@@ -144,11 +144,11 @@ inside_each instructions ranges all r a = let at = contains_from_among ranges r 
 
 pub instructions_are_as_open : InstructionsAreAsOpen
 instructions_are_as_open p by_type e instructions ranges are =
-    let at = at_all p by_type instructions are.shown ranges (inside_each instructions ranges are.inside) in
+    let at = at_all p by_type instructions are.same_code ranges (inside_each instructions ranges are.inside) in
     record {
-      count = sym (length-map (all_at instructions ranges) (stands p by_type instructions are.shown)) ∙ (sym (ap length at) ∙ length-map (all_places (map range_shown ranges)) (slice_get p.instructions));
-      stop = same_stop p by_type instructions are.shown e 0 (all_places (map range_shown ranges)) (all_at instructions ranges) at ∙ as_it_is (first_open p e (all_places (map range_shown ranges)));
-      opens = same_opens p by_type instructions are.shown e (all_places (map range_shown ranges)) (all_at instructions ranges) at;
+      count = sym (length-map (all_at instructions ranges) (stands p by_type instructions are.same_code)) ∙ (sym (ap length at) ∙ length-map (all_places (map range_shown ranges)) (slice_get p.instructions));
+      stop = same_stop p by_type instructions are.same_code e 0 (all_places (map range_shown ranges)) (all_at instructions ranges) at ∙ as_it_is (first_open p e (all_places (map range_shown ranges)));
+      opens = same_opens p by_type instructions are.same_code e (all_places (map range_shown ranges)) (all_at instructions ranges) at;
     }
   where
     as_it_is : (o : Option ℕ) → option_map (λ n. 0 + n) o ≡ o
@@ -157,8 +157,8 @@ instructions_are_as_open p by_type e instructions ranges are =
 
 pub instructions_gather : {E : Type 0} → InstructionsGather E
 instructions_gather ids_of with_ids keeps p by_type e instructions ranges ctx context are has =
-    let at = at_all p by_type instructions are.shown ranges (inside_each instructions ranges are.inside) in
+    let at = at_all p by_type instructions are.same_code ranges (inside_each instructions ranges are.inside) in
     record {
-      attributes = gather_attributes p by_type instructions are.shown e ids_of with_ids keeps (all_places (map range_shown ranges)) (all_at instructions ranges) ctx context at has;
-      names = gather_names p by_type instructions are.shown e ids_of with_ids keeps (all_places (map range_shown ranges)) (all_at instructions ranges) ctx context at has;
+      attributes = gather_attributes p by_type instructions are.same_code e ids_of with_ids keeps (all_places (map range_shown ranges)) (all_at instructions ranges) ctx context at has;
+      names = gather_names p by_type instructions are.same_code e ids_of with_ids keeps (all_places (map range_shown ranges)) (all_at instructions ranges) ctx context at has;
     }

@@ -17,7 +17,7 @@ use Rattle.lol_vm.specs.Documents.{Document, Child, empty, element_of, parent_of
 use Rattle.lol_vm.specs.Answers.{document, document_from, after, is_dropped, asks}
 use Rattle.lol_vm.specs.Refusals.{longest, longest_from}
 use Rattle.lol_vm.proofs.Runs.{document_push, position-map}
-use Rattle.lol_base.specs.BoolLaws.{not_true}
+use Rattle.lol_base.specs.BoolLaws.{and-false, not_true}
 use Rattle.lol_program.specs.Programs.{Range, Program, AreClosed, all_places}
 use Rattle.lol_vm.specs.Machines.{OpenItem, AreItems, HasRanges, Matches, HoldOnce, LeftMatches, active_of, newly_active, is_active, ranges_to_run, jumps_of, hereditary_jumps_of}
 use Rattle.lol_vm.specs.PlaceRuns.{Context, context_of, run}
@@ -503,11 +503,7 @@ module _ (s : Selectors) (esi : Bool) (events : List Event) (tag : StartTag) whe
   asked_for = asks s (element_of before tag) before.open_elements ≡ true
 
   and_not : (a b : Bool) → a ≡ true → (b && not (a && true)) ≡ false
-  and_not a b h = ap (λ c. b && not (c && true)) h ∙ and_false b
-    where
-      and_false : (b : Bool) → (b && false) ≡ false
-      and_false true = refl
-      and_false false = refl
+  and_not a b h = ap (λ c. b && not (c && true)) h ∙ and-false b
 
   and_asked : (a b finish : Bool) → finish ≡ true → (b && not (a && not finish)) ≡ b
   and_asked a b finish h = ap (λ f. b && not (a && not f)) h ∙ not_dropped a b

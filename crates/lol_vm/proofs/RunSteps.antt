@@ -41,16 +41,16 @@ module _ {E : Type 0} (s : Selectors) (esi : Bool) (vm : Vm E) (events : List Ev
   as_many = items_length stands.paths stands.machine.program stands.machine.items (document s esi events).open_elements stands.standing.items
 
   pub many_open : length (items_in vm.stack) ≡ length (document s esi events).open_elements
-  many_open = sym (items_counted vm.stack stands.machine stands.shown.stack) ∙ as_many
+  many_open = sym (items_counted vm.stack stands.machine stands.shows.stack) ∙ as_many
 
   pub position_is : (tag : StartTag) → (element_of (document s esi events) tag).position ≡ last_count vm.stack + 1
   position_is tag =
       let m = stands.machine in
       sym (counters_are_places m (document s esi events) tag stands.standing.counted as_many).0
-      ∙ (one_more m.children m.root_children ∙ ap (λ n. n + 1) (sym (seen_children vm.stack m stands.shown.stack (items_in vm.stack) refl)))
+      ∙ (one_more m.children m.root_children ∙ ap (λ n. n + 1) (sym (seen_children vm.stack m stands.shows.stack (items_in vm.stack) refl)))
 
   pub hasnt_failed : vm.failed ≡ false
-  hasnt_failed = sym stands.shown.refused ∙ stands.standing.never_refused
+  hasnt_failed = sym stands.shows.refused ∙ stands.standing.never_refused
 
 parent_is : (a b : Option ℕ) → same_parent a b ≡ true → a ≡ b
 parent_is None None same = refl

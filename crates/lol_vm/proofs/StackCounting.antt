@@ -17,11 +17,11 @@ use Rattle.lol_vm.specs.Standing as standing
 use Rattle.lol_stack.specs.TypedCounts as typed
 use Rattle.lol_stack.specs.TypedCounts.{TypedCount, count_at}
 use Rattle.lol_stack.specs.Stacks.{items_in, typed_in, last_count, typed_count, count_or, counted_in, counted_if, counted_item, with_typed, count_by_type}
-use Rattle.lol_vm.specs.StackMachines.{item_shown, items_shown, children_shown, typed_shown, KeepsTyped, Keeps, CountingStackKeeps, CountersAreSeen, StatesShowElements, TypedCountsAreFewer}
+use Rattle.lol_vm.specs.StackMachines.{item_shown, items_shown, children_shown, typed_shown, KeepsTyped, KeepsMachine, CountingStackKeeps, CountersAreSeen, StatesShowElements, TypedCountsAreFewer}
 use Rattle.lol_stack.specs.declared.stack_item.StackItemOf.{StackItemOf}
 use Rattle.lol_stack.specs.declared.stack.StackOf.{StackOf}
 use Rattle.lol_stack.specs.declared.stack.StackNames.{StackNames}
-use Rattle.lol_vm.proofs.Bools.{same_bool}
+use Rattle.lol_base.specs.BoolLaws.{same_bool}
 use Rattle.lol_vm.proofs.Kept.{counters_are_places}
 use Rattle.lol_vm.proofs.StackMachines.{shown_push, items_counted}
 use Rattle.lol_vm.proofs.TypedCounting.{climb_counted, shown_at_top, shown_counted, shown_elsewhere}
@@ -86,18 +86,18 @@ seen_typed (Some ts) by_type top counts name keeps some =
 
 module _ {E : Type 0} where
   -- the children of the stack's elements, the innermost first
-  children_end : (s : StackOf Name StackNames E) (m : Machine) → Keeps s m → (front : List (StackItemOf Name E)) (last : StackItemOf Name E) → items_in s ≡ front ++ last ∷ [] → m.children ≡ last.child_counter ∷ children_shown front
+  children_end : (s : StackOf Name StackNames E) (m : Machine) → KeepsMachine s m → (front : List (StackItemOf Name E)) (last : StackItemOf Name E) → items_in s ≡ front ++ last ∷ [] → m.children ≡ last.child_counter ∷ children_shown front
   children_end s m keeps front last whole = keeps.children ∙ (ap children_shown whole ∙ shown_push (λ (x : StackItemOf Name E). x.child_counter) front last)
 
-  counting : (s : StackOf Name StackNames E) (m : Machine) (name : List ℕ) → Keeps s m → (m.program.by_type ≡ true → m.typed (length m.items) name < full_count)
+  counting : (s : StackOf Name StackNames E) (m : Machine) (name : List ℕ) → KeepsMachine s m → (m.program.by_type ≡ true → m.typed (length m.items) name < full_count)
       → (items : List (StackItemOf Name E)) → items_in s ≡ items
-      → Keeps (counted_in s (local_name name)) (counted m name)
+      → KeepsMachine (counted_in s (local_name name)) (counted m name)
   counting s m name keeps free [] none =
       let count = items_counted s m keeps in
       let none_last : slice_get (items_in s) (length (items_in s) - 1) ≡ None = ap (λ xs. slice_get xs (length xs - 1)) none in
       let no_children : m.children ≡ [] = keeps.children ∙ ap children_shown none in
       let after = with_typed s (option_map (λ ts. typed.counted_by_type ts (length (items_in s)) (local_name name)) (typed_in s)) in
-      subst (λ o. Keeps (counted_if after o) (counted m name)) (sym none_last) (record {
+      subst (λ o. KeepsMachine (counted_if after o) (counted m name)) (sym none_last) (record {
         items = keeps.items;
         active = keeps.active;
         root_children = (λ i. counted_root (no_children i) (keeps.root_children i));
@@ -118,7 +118,7 @@ module _ {E : Type 0} where
       ∙ (ap (λ k. slice_set (end.front ++ end.last ∷ []) k (counted_item end.last)) (last_place end.front end.last) ∙ last_set end.front end.last (counted_item end.last)) in
       let children = children_end s m keeps end.front end.last whole in
       let after = with_typed s (option_map (λ ts. typed.counted_by_type ts (length (items_in s)) (local_name name)) (typed_in s)) in
-      subst (λ o. Keeps (counted_if after o) (counted m name)) (sym here) (record {
+      subst (λ o. KeepsMachine (counted_if after o) (counted m name)) (sym here) (record {
         items = keeps.items ∙ (ap items_shown whole ∙ (shown_push item_shown end.front end.last ∙ (sym (shown_push item_shown end.front (counted_item end.last)) ∙ sym (ap items_shown set))));
         active = keeps.active;
         root_children = ap (λ cs. counted_root cs m.root_children) children ∙ keeps.root_children;
@@ -134,7 +134,7 @@ module _ {E : Type 0} where
 
   -- 4. What is seen
 
-  pub seen_children : (s : StackOf Name StackNames E) (m : Machine) → Keeps s m → (items : List (StackItemOf Name E)) → items_in s ≡ items → last_count s ≡ standing.innermost_count m
+  pub seen_children : (s : StackOf Name StackNames E) (m : Machine) → KeepsMachine s m → (items : List (StackItemOf Name E)) → items_in s ≡ items → last_count s ≡ standing.innermost_count m
   seen_children s m keeps [] none =
       ap (λ xs. count_or s.root_child_counter (slice_get xs (length xs - 1))) none
       ∙ (sym keeps.root_children ∙ sym (ap (λ cs. or_root cs m.root_children) (keeps.children ∙ ap children_shown none)))
@@ -153,7 +153,7 @@ module _ {E : Type 0} where
   }
 
   -- the counters of a stack that counted a tag show its element's places
-  pub seen_places : (s : StackOf Name StackNames E) (m : Machine) (d : Document) (tag : StartTag) → AreCounted m d → length m.items ≡ length d.open_elements → Keeps s (counted m tag.name)
+  pub seen_places : (s : StackOf Name StackNames E) (m : Machine) (d : Document) (tag : StartTag) → AreCounted m d → length m.items ≡ length d.open_elements → KeepsMachine s (counted m tag.name)
       → (last_count s ≡ (element_of d tag).position) × (typed_count s (local_name tag.name) ≡ (if m.program.by_type then Some (element_of d tag).typed_position else None))
   seen_places s m d tag counts sizes keeps =
       let places = counters_are_places m d tag counts sizes in

@@ -12,7 +12,7 @@ use Rattle.lol_vm.specs.Machines.{OpenItem}
 use Rattle.lol_vm.specs.Standing.{Machine, ended}
 use Rattle.lol_stack.specs.Stacks.{items_in, place_to_close, IsEndedAt}
 use Rattle.lol_stack.specs.SoundStacks.{last_place_from, last_place}
-use Rattle.lol_vm.specs.StackMachines.{item_shown, items_shown, in_lower_case, Keeps, EndingStackKeeps}
+use Rattle.lol_vm.specs.StackMachines.{item_shown, items_shown, in_lower_case, KeepsMachine, EndingStackKeeps}
 use Rattle.lol_stack.specs.declared.stack_item.StackItemOf.{StackItemOf}
 use Rattle.lol_stack.specs.declared.stack.StackOf.{StackOf}
 use Rattle.lol_stack.specs.declared.stack.StackNames.{StackNames}
@@ -77,7 +77,7 @@ module _ (name : List ℕ) where
           ap Some same ∙ ap (λ o. option_or o (Some place)) later
       by_place None within later false count = ap (λ o. option_or o None) later
 
-  pub place_is_last : {E : Type 0} (s : StackOf Name StackNames E) (m : Machine) → Keeps s m → place_of_last m name ≡ last_place (items_in s) (local_name name)
+  pub place_is_last : {E : Type 0} (s : StackOf Name StackNames E) (m : Machine) → KeepsMachine s m → place_of_last m name ≡ last_place (items_in s) (local_name name)
   place_is_last s m keeps =
       let count = items_counted s m keeps in
       same_option (λ k. length m.items - (k + 1)) (from_last 0 (length (items_in s))) (λ k. omega (arith, count)) (position (λ item. is_named (in_lower_case item)) m.items)

@@ -21,7 +21,7 @@ use Rattle.lol_vm.specs.Machines.{OpenItem, active_of, is_active, same_range, ne
 use Rattle.lol_stack.specs.TypedCounts.{TypedCount, cut_to}
 use Rattle.lol_vm.specs.Standing.{Machine, slots_after, cut, closed_count, ended}
 use Rattle.lol_stack.specs.Stacks.{items_in, active_in, typed_in, IsSame, IsClosed, IsEndedAt}
-use Rattle.lol_vm.specs.StackMachines.{item_shown, items_shown, children_shown, active_shown, in_lower_case, Climb, levels_in, KeepsTyped, Keeps, NewStackKeeps, SameStackKeeps, OpeningStackKeeps}
+use Rattle.lol_vm.specs.StackMachines.{item_shown, items_shown, children_shown, active_shown, in_lower_case, Climb, levels_in, KeepsTyped, KeepsMachine, NewStackKeeps, SameStackKeeps, OpeningStackKeeps}
 use Rattle.lol_stack.specs.declared.stack_item.StackItemOf.{StackItemOf}
 use Rattle.lol_stack.specs.declared.stack.StackOf.{StackOf}
 use Rattle.lol_stack.specs.declared.stack.StackNames.{StackNames}
@@ -108,7 +108,7 @@ keeps_typed_above (Some ts) by_type a b counts h keeps = (keeps.0, climb_lower a
 -- 4. Stacks
 
 module _ {E : Type 0} where
-  pub items_counted : (s : StackOf Name StackNames E) (m : Machine) → Keeps s m → length m.items ≡ length (items_in s)
+  pub items_counted : (s : StackOf Name StackNames E) (m : Machine) → KeepsMachine s m → length m.items ≡ length (items_in s)
   items_counted s m keeps = sym (length-map m.items in_lower_case) ∙ (ap length keeps.items ∙ shown_length item_shown (items_in s))
 
   pub new_stack_keeps : NewStackKeeps E
@@ -206,8 +206,8 @@ place_of_last m name = option_map (λ k. length m.items - (k + 1)) (position (λ
 found_within : (p : OpenItem → Bool) (xs : List OpenItem) (k : ℕ) → position p xs ≡ Some k → k < length xs
 found_within p xs k is = (position-Some p xs k (record { name = []; jumps = []; hereditary_jumps = [] }) is).0
 
-module _ {E : Type 0} (old new : StackOf Name StackNames E) (m : Machine) (keeps : Keeps old m) where
-  cut_keeps : (n place : ℕ) → n + place ≡ length (items_in old) → IsClosed place old new → Keeps new (cut n m)
+module _ {E : Type 0} (old new : StackOf Name StackNames E) (m : Machine) (keeps : KeepsMachine old m) where
+  cut_keeps : (n place : ℕ) → n + place ≡ length (items_in old) → IsClosed place old new → KeepsMachine new (cut n m)
   cut_keeps n place sizes closed =
       let items : items_in new ≡ take place (items_in old) = ap (λ (v : LimitedVec (StackItemOf Name E)). v.items) closed.items in
       let count = items_counted old m keeps in
@@ -224,7 +224,7 @@ module _ {E : Type 0} (old new : StackOf Name StackNames E) (m : Machine) (keeps
         slots = keeps.slots ∙ sym (ap (λ (v : LimitedVec (StackItemOf Name E)). v.slots) closed.items);
       }
 
-  stray_keeps : m.active ≡ active_of m.items → IsSame old new → Keeps new (cut 0 m)
+  stray_keeps : m.active ≡ active_of m.items → IsSame old new → KeepsMachine new (cut 0 m)
   stray_keeps active same =
       let kept = same_stack_keeps old new m keeps same in
       record {
@@ -237,13 +237,13 @@ module _ {E : Type 0} (old new : StackOf Name StackNames E) (m : Machine) (keeps
         slots = kept.slots;
       }
 
-  by_place : m.active ≡ active_of m.items → (o : Option ℕ) → ((k : ℕ) → o ≡ Some k → k < length m.items) → IsEndedAt (option_map (λ k. length m.items - (k + 1)) o) old new → Keeps new (cut (closed_count o) m)
+  by_place : m.active ≡ active_of m.items → (o : Option ℕ) → ((k : ℕ) → o ≡ Some k → k < length m.items) → IsEndedAt (option_map (λ k. length m.items - (k + 1)) o) old new → KeepsMachine new (cut (closed_count o) m)
   by_place active None within ended = stray_keeps active ended
   by_place active (Some k) within ended =
       let below = within k refl in
       let count = items_counted old m keeps in
       cut_keeps (k + 1) (length m.items - (k + 1)) (omega (arith, below, count)) ended
 
-pub ended_at_last_keeps : {E : Type 0} (old new : StackOf Name StackNames E) (m : Machine) (name : List ℕ) → Keeps old m → m.active ≡ active_of m.items → IsEndedAt (place_of_last m name) old new → Keeps new (ended m name)
+pub ended_at_last_keeps : {E : Type 0} (old new : StackOf Name StackNames E) (m : Machine) (name : List ℕ) → KeepsMachine old m → m.active ≡ active_of m.items → IsEndedAt (place_of_last m name) old new → KeepsMachine new (ended m name)
 ended_at_last_keeps old new m name keeps active ended =
     by_place old new m keeps active (position (λ (item : OpenItem). same_name item.name name) m.items) (λ k is. found_within (λ (item : OpenItem). same_name item.name name) m.items k is) ended

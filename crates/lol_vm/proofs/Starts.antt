@@ -37,7 +37,7 @@ use Rattle.lol_vm.specs.MachineLaws.{WholeStart, started_by_names, starts_open, 
 use Rattle.lol_vm.specs.Machines.{OpenItem, AreItems, HoldOnce, LeftMatches, active_of, last_jumps, ranges_of_active, ranges_to_run}
 use Rattle.lol_vm.specs.Matching as matching
 use Rattle.lol_vm.specs.PlaceRuns.{Context, no_context, context_of, branch, is_open_at, value_at, first_open, run, run_by_names, step_by_names, step_with_attributes}
-use Rattle.lol_vm.specs.StackMachines.{Keeps, in_lower_case, item_shown, items_shown, active_shown}
+use Rattle.lol_vm.specs.StackMachines.{KeepsMachine, in_lower_case, item_shown, items_shown, active_shown}
 use Rattle.lol_stack.specs.Stacks.{items_in, active_in}
 use Rattle.lol_vm.specs.Standing.{Machine, ranges_of_machine}
 use Rattle.lol_vm.specs.TagRuns.{AreTried, jumps_in, jumps_of_item, ranges_to_run_in, sight_in}
@@ -91,7 +91,7 @@ last_shown (x ∷ xs) =
     ∙ (ap (λ k. map range_shown (jumps_of_item (slice_get (end.front ++ end.last ∷ []) k))) (last_place end.front end.last) ∙ ap (λ o. map range_shown (jumps_of_item o)) (last_at end.front end.last))))
 
 -- the ranges that the code runs are those of the machine
-pub ranges_shown : {E : Type 0} (stack : StackOf Name StackNames E) (m : Machine) (prog : Program) → Keeps stack m → m.program ≡ program_shown prog
+pub ranges_shown : {E : Type 0} (stack : StackOf Name StackNames E) (m : Machine) (prog : Program) → KeepsMachine stack m → m.program ≡ program_shown prog
     → map range_shown (ranges_to_run_in prog stack) ≡ ranges_of_machine m
 ranges_shown stack m prog keeps is =
     let jumps : map range_shown (jumps_in stack) ≡ last_jumps m.items = sym (sym (last_in_lower m.items) ∙ (ap last_jumps keeps.items ∙ last_shown (items_in stack))) in
@@ -104,7 +104,7 @@ ranges_shown stack m prog keeps is =
 -- 3. What is run
 
 module _ {E : Type 0} (s : Selectors) (paths : List Path) (m : Machine) (outer : List Element) (closed : AreClosed s) (program : IsProgramOf s paths m.program) (items : AreItems paths m.program m.items outer) (active : m.active ≡ active_of m.items)
-    (stack : StackOf Name StackNames E) (prog : Program) (keeps : Keeps stack m) (is : m.program ≡ program_shown prog) where
+    (stack : StackOf Name StackNames E) (prog : Program) (keeps : KeepsMachine stack m) (is : m.program ≡ program_shown prog) where
   abbrev ranges : List Range
   ranges = ranges_of_machine m
 
@@ -131,7 +131,7 @@ module _ {E : Type 0} (s : Selectors) (paths : List Path) (m : Machine) (outer :
       (within.0, omega (arith, within.1, as_many)))
 
   pub are_ranges : AreRangesOf m.program m.program.by_type instructions code_ranges
-  are_ranges = record { shown = shown; inside = inside }
+  are_ranges = record { same_code = shown; inside = inside }
 
   module _ (e : Element) where
     pub as_open : AreAsOpen m.program m.program.by_type e instructions code_ranges
@@ -285,7 +285,7 @@ module _ (p : programs.Program) (e : Element) where
       by_test false (Some k) later n h = let next : suc k ≡ n = cc in let within = later k refl in omega (arith, next, within)
 
 module _ {E : Type 0} (s : Selectors) (paths : List Path) (m : Machine) (outer : List Element) (closed : AreClosed s) (program : IsProgramOf s paths m.program) (items : AreItems paths m.program m.items outer) (active : m.active ≡ active_of m.items)
-    (stack : StackOf Name StackNames E) (prog : Program) (keeps : Keeps stack m) (is : m.program ≡ program_shown prog)
+    (stack : StackOf Name StackNames E) (prog : Program) (keeps : KeepsMachine stack m) (is : m.program ≡ program_shown prog)
     (ids : E → Ids) (with_ids : E → Ids → E) (lends : (w : E) (more : Ids) → ids (with_ids w more) ≡ more) (e : Element) (name : Name) (seen : sight_in stack name ≡ sight_of m.program.by_type e) where
   abbrev p : programs.Program
   p = m.program
@@ -366,7 +366,7 @@ module _ {E : Type 0} (s : Selectors) (paths : List Path) (m : Machine) (outer :
         let back = drop (stop.range + 1) tag_code in
         let parts = around tag_code stop.range no_range within.0 in
         let shown_parts : map range_shown tag_code ≡ map range_shown front ++ range_shown stopped ∷ map range_shown back = ap (map range_shown) parts ∙ map-append range_shown front (stopped ∷ back) in
-        let same_count = (instructions_are_as_open p p.by_type e all front (record { shown = are.shown; inside = All-take (IsInsideOf all) stop.range tag_code are.inside })).count in
+        let same_count = (instructions_are_as_open p p.by_type e all front (record { same_code = are.same_code; inside = All-take (IsInsideOf all) stop.range tag_code are.inside })).count in
         let offset_inside : stopped.start + stop.offset ≤ stopped.end = omega (arith, within.1, length-take (stopped.end - stopped.start) (drop stopped.start all)) in
         let sizes = length-range_with_len stopped.start (stopped.end - stopped.start) in
         stops_leave p true e no_context (all_places rs)

@@ -78,7 +78,7 @@ module _ (s : Selectors) (esi : Bool) (events : List Event) (tag : StartTag) whe
         paths = pending.paths;
         machine = pending.machine;
         closed = pending.closed;
-        shown = pending.shown;
+        shows = pending.shows;
         standing = subst (λ t. StandsFor s esi pending.paths pending.machine (events ++ Start t ∷ [])) (unfinished_is none) pending.standing;
       };
       kept = kept;

@@ -11,7 +11,7 @@ use Rattle.lol_stack.specs.Lending.{with_data}
 use Rattle.lol_stack.specs.SoundStacks.{IsSound, name_places_from}
 use Rattle.lol_stack.specs.StackLending.{with_current, with_data_at, with_data_if}
 use Rattle.lol_vm.specs.VmLending.{with_current_in}
-use Rattle.lol_vm.specs.StackMachines.{Keeps, item_shown}
+use Rattle.lol_vm.specs.StackMachines.{KeepsMachine, item_shown}
 use Rattle.lol_stack.specs.Stacks.{items_in, active_in, count_or, typed_in, count_by_type}
 use Rattle.lol_program.specs.Programs.{all_places}
 use Rattle.lol_program.specs.ProgramViews.{range_shown}
@@ -63,7 +63,7 @@ module _ {E : Type 0} (w : E) where
     abbrev last : Option (StackItemOf Name E)
     last = slice_get (items_in s) (length (items_in s) - 1)
 
-    keeps_data : (m : Machine) → Keeps s m → Keeps (with_current s w) m
+    keeps_data : (m : Machine) → KeepsMachine s m → KeepsMachine (with_current s w) m
     keeps_data m k = record {
       items = k.items ∙ sym (ap reverse (same_map item_shown (λ item. refl) last refl));
       active = k.active;
@@ -118,7 +118,7 @@ module _ {E : Type 0} (w : E) where
   shows_data vm m h = record { stack = keeps_data vm.stack m h.stack; sound = sound_data vm.stack h.sound; program = h.program; switch = h.switch; refused = h.refused }
 
 pub data_change_nothing : {E : Type 0} → DataChangeNothing E
-data_change_nothing s esi vm events w h = record { paths = h.paths; machine = h.machine; closed = h.closed; shown = shows_data w vm h.machine h.shown; standing = h.standing }
+data_change_nothing s esi vm events w h = record { paths = h.paths; machine = h.machine; closed = h.closed; shows = shows_data w vm h.machine h.shows; standing = h.standing }
 
 pub data_keep_open : {E : Type 0} → DataKeepOpen E
 data_keep_open vm elements w h = record {
@@ -128,7 +128,7 @@ data_keep_open vm elements w h = record {
   machine = h.machine;
   document = h.document;
   most = h.most;
-  shown = shows_data w vm h.machine h.shown;
+  shows = shows_data w vm h.machine h.shows;
   standing = h.standing;
   ordered = h.ordered;
   same = h.same;
@@ -139,14 +139,14 @@ data_keep_requests ids_of s esi events tag vm request w h = record {
   paths = h.paths;
   machine = h.machine;
   closed = h.closed;
-  shown = shows_data w vm h.machine h.shown;
+  shows = shows_data w vm h.machine h.shows;
   standing = h.standing;
   asks = h.asks;
   context = h.context;
   left = h.left;
   is_request = h.is_request;
   named = h.named;
-  seen = same_sight w vm.stack request.ctx.stack_item.local_name ∙ h.seen;
+  sight = same_sight w vm.stack request.ctx.stack_item.local_name ∙ h.sight;
   childless = h.childless;
   gathered = h.gathered;
   goes_on = subst (λ js. GoesOnAt (is_html tag.namespace) (has_content esi tag) h.context (stop_at vm.program.entry_points js request.point) request.ctx.with_content) back h.goes_on;
@@ -168,11 +168,11 @@ data_keep_requests ids_of s esi events tag vm request w h = record {
     back = sym (same_jumps w vm.stack)
 
 pub pending_stands : {E : Type 0} → PendingStands E
-pending_stands ids_of s esi events tag vm request h = record { paths = h.paths; machine = h.machine; closed = h.closed; shown = h.shown; standing = h.standing }
+pending_stands ids_of s esi events tag vm request h = record { paths = h.paths; machine = h.machine; closed = h.closed; shows = h.shows; standing = h.standing }
 
 pub slots_are_of_depth : {E : Type 0} → SlotsAreOfDepth E
 slots_are_of_depth s esi vm events h =
-    sym h.shown.stack.slots ∙ (h.standing.charged ∙ ap (λ n. slots n (longest s esi events)) h.shown.stack.item_bytes)
+    sym h.shows.stack.slots ∙ (h.standing.charged ∙ ap (λ n. slots n (longest s esi events)) h.shows.stack.item_bytes)
 
 -- the data, where those of the last element change
 module _ {E : Type 0} where

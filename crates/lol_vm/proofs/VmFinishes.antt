@@ -115,11 +115,11 @@ module _ {E : Type 0} (ids : E → Ids) (vm : Vm E) (s : Selectors) (esi : Bool)
   items = subst (λ (x : Document). AreItems pending.paths m.program m.items x.open_elements) (after_unfinished s esi events tag pending.asks) pending.standing.items
 
   are : AreRangesOf m.program m.program.by_type all (ranges_to_run_in vm.program vm.stack)
-  are = are_ranges s pending.paths m d.open_elements pending.closed pending.standing.program items pending.standing.active vm.stack vm.program pending.shown.stack pending.shown.program
+  are = are_ranges s pending.paths m d.open_elements pending.closed pending.standing.program items pending.standing.active vm.stack vm.program pending.shows.stack pending.shows.program
 
   are_left : AreRangesOf m.program m.program.by_type all left_code
   are_left = record {
-    shown = are.shown;
+    same_code = are.same_code;
     inside = left_inside all (ranges_to_run_in vm.program vm.stack) are.inside stop (point_is_stop all vm.program.entry_points (jumps_in vm.stack) (ranges_in (active_in vm.stack)) request.point pending.stopped);
   }
 
@@ -130,11 +130,11 @@ module _ {E : Type 0} (ids : E → Ids) (vm : Vm E) (s : Selectors) (esi : Bool)
   all_count =
       length-flat_map places rs
       ∙ (places_count_tries s pending.paths m.program rs e d.open_elements pending.closed pending.standing.program
-      (held s pending.paths m d.open_elements pending.closed pending.standing.program items pending.standing.active vm.stack vm.program pending.shown.stack pending.shown.program)).names
+      (held s pending.paths m d.open_elements pending.closed pending.standing.program items pending.standing.active vm.stack vm.program pending.shows.stack pending.shows.program)).names
 
   pub can_finish : length all < 2 ^ 63 → AreRunnable all left_code vm.tries
   can_finish size =
-      let bounds = within_bounds s pending.paths m d.open_elements pending.closed pending.standing.program items pending.standing.active vm.stack vm.program pending.shown.stack pending.shown.program e in
+      let bounds = within_bounds s pending.paths m d.open_elements pending.closed pending.standing.program items pending.standing.active vm.stack vm.program pending.shows.stack pending.shows.program e in
       let names = pending.names in
       let tried = at_most_one stop in
       let parts = ap length pending.is_request.parts ∙ length-append pending.is_request.before pending.left in
@@ -150,12 +150,12 @@ module _ {E : Type 0} (ids : E → Ids) (vm : Vm E) (s : Selectors) (esi : Bool)
   tries_all : TriesAreExact s m.program rs e d.open_elements
   tries_all =
       places_count_tries s pending.paths m.program rs e d.open_elements pending.closed pending.standing.program
-      (held s pending.paths m d.open_elements pending.closed pending.standing.program items pending.standing.active vm.stack vm.program pending.shown.stack pending.shown.program)
+      (held s pending.paths m d.open_elements pending.closed pending.standing.program items pending.standing.active vm.stack vm.program pending.shows.stack pending.shows.program)
 
   -- as many are open among those that are left as the definition tries by attributes
   opens_left : open_among (sight_in vm.stack request.ctx.stack_item.local_name) (all_at all left_code) ≡ attribute_tries s.nodes e d.open_elements
   opens_left =
-      ap (λ z. open_among z (all_at all left_code)) pending.seen
+      ap (λ z. open_among z (all_at all left_code)) pending.sight
       ∙ ((instructions_are_as_open m.program m.program.by_type e all left_code are_left).opens
       ∙ (ap (count_by (is_open_at m.program e)) (sym pending.places_left)
       ∙ (left_counted (is_open_at m.program e) pending.is_request.before pending.left (λ place a. pending.is_request.closed place (contains_from_among pending.is_request.before place a))
@@ -227,7 +227,7 @@ module _ {E : Type 0} (ids : E → Ids) (vm : Vm E) (s : Selectors) (esi : Bool)
       x = context_of m.program true e (all_places rs)
 
       is_held : HoldOnce pending.paths rs (LeftMatches d.open_elements)
-      is_held = held s pending.paths m d.open_elements pending.closed pending.standing.program items pending.standing.active vm.stack vm.program pending.shown.stack pending.shown.program
+      is_held = held s pending.paths m d.open_elements pending.closed pending.standing.program items pending.standing.active vm.stack vm.program pending.shows.stack pending.shows.program
 
       given : GivesReport s pending.paths m.program x e d.open_elements
       given = runs_give_reports s pending.paths m.program rs e d.open_elements pending.closed pending.standing.program is_held
@@ -238,7 +238,7 @@ module _ {E : Type 0} (ids : E → Ids) (vm : Vm E) (s : Selectors) (esi : Bool)
       all_gathered : Gathers ids new_ctx.stack_item (content_of (has_content esi tag) x)
       all_gathered =
           let gathers = (instructions_gather ids with_ids lends m.program m.program.by_type e all left_code ctx (content_of ctx.with_content pending.context) are_left (gathered_before self_closing)).attributes in
-          let new_is = executed.gathered ∙ ap (λ z. gathered_with_attributes ids with_ids z (tag_attributes tag) ctx (all_at all left_code)) pending.seen in
+          let new_is = executed.gathered ∙ ap (λ z. gathered_with_attributes ids with_ids z (tag_attributes tag) ctx (all_at all left_code)) pending.sight in
           let ran : run m.program ctx.with_content e (content_of ctx.with_content pending.context) (all_places (map range_shown left_code)) ≡ content_of (has_content esi tag) x =
           ap (run m.program ctx.with_content e (content_of ctx.with_content pending.context)) (sym pending.places_left)
           ∙ (run_content m.program ctx.with_content e pending.context pending.left ∙ (λ i. content_of (content_now self_closing is_closing i) (finishes i))) in
@@ -277,7 +277,7 @@ module _ {E : Type 0} (ids : E → Ids) (vm : Vm E) (s : Selectors) (esi : Bool)
             once = once_of (has_content esi tag) x given.hereditary_jumps.once;
             children = same.children ∙ pending.childless;
           } in
-          let shown_now : Shows (record vm { tries = after }) m = record { stack = pending.shown.stack; sound = pending.shown.sound; program = pending.shown.program; switch = pending.shown.switch; refused = pending.shown.refused } in
+          let shown_now : Shows (record vm { tries = after }) m = record { stack = pending.shows.stack; sound = pending.shows.sound; program = pending.shows.program; switch = pending.shows.switch; refused = pending.shows.refused } in
           let entering = entered_stands vm vm.stack after m shown_now tag.name x new_ctx.stack_item next (has_content esi tag) item
           (subst (λ b. IsEntered b new_ctx.stack_item (record vm { tries = after }) next) has_content_still entered) in
           record {
@@ -288,7 +288,7 @@ module _ {E : Type 0} (ids : E → Ids) (vm : Vm E) (s : Selectors) (esi : Bool)
               paths = pending.paths;
               machine = opened_if (has_content esi tag) m tag.name x;
               closed = pending.closed;
-              shown = entering.shown;
+              shows = entering.shows;
               standing = subst (λ c. StandsFor s esi pending.paths (opened_if (has_content esi tag) m tag.name c) (events ++ Start tag ∷ [])) finishes
                   (finishing_is_kept s esi pending.paths m events tag pending.context pending.left pending.closed finish pending.asks pending.standing pending.is_request);
             };

@@ -25,7 +25,7 @@ use Rattle.lol_vm.specs.Answers.{document}
 use Rattle.lol_vm.specs.Documents.{Document, after_start, after_end}
 use Rattle.lol_vm.specs.Events.{Event, End}
 use Rattle.lol_stack.specs.SoundStacks.{IsSound}
-use Rattle.lol_vm.specs.StackMachines.{Keeps, IsNew}
+use Rattle.lol_vm.specs.StackMachines.{KeepsMachine, IsNew}
 use Rattle.lol_stack.specs.Stacks.{items_in, list_in, slots_in, places_in, last_count, counted_in, counted_if, counted_item, with_typed, closed_from, element_data_of, place_to_close, last_below, IsSame, IsEnded, IsEndedAt}
 use Rattle.lol_vm.specs.Standing.{Machine, new_machine, AreCounted, StandsOn, IsOrdered, counted, ended}
 use Rattle.lol_vm.specs.Views.{selectors}
@@ -57,7 +57,7 @@ stands_has_open s esi vm events h = record {
   machine = h.machine;
   document = document s esi events;
   most = _;
-  shown = h.shown;
+  shows = h.shows;
   standing = unrefused s esi h.paths h.machine (document s esi events) _ h.standing;
   ordered = documents_are_ordered s esi events;
   same = refl;
@@ -67,11 +67,11 @@ wider : (d : Document) (a b : ℕ) → a ≤ b → IsOrdered d a → IsOrdered d
 wider d a b le h = let enough = h.enough in record { numbers = h.numbers; fresh = h.fresh; enough = omega (arith, le, enough) }
 
 module _ {E : Type 0} where
-  keeps_as : (stack : StackOf Name StackNames E) (m : Machine) (refused : Bool) → Keeps stack m → Keeps stack (record m { refused = refused })
+  keeps_as : (stack : StackOf Name StackNames E) (m : Machine) (refused : Bool) → KeepsMachine stack m → KeepsMachine stack (record m { refused = refused })
   keeps_as stack m refused k = record { items = k.items; active = k.active; root_children = k.root_children; children = k.children; typed = k.typed; item_bytes = k.item_bytes; slots = k.slots }
 
   -- what a machine shows with another stack
-  shows_as : (vm new : Vm E) (m next : Machine) → Shows vm m → Keeps new.stack next → IsSound new.stack → next.program ≡ m.program → next.esi ≡ m.esi → new.program ≡ vm.program → new.enable_esi_tags ≡ vm.enable_esi_tags
+  shows_as : (vm new : Vm E) (m next : Machine) → Shows vm m → KeepsMachine new.stack next → IsSound new.stack → next.program ≡ m.program → next.esi ≡ m.esi → new.program ≡ vm.program → new.enable_esi_tags ≡ vm.enable_esi_tags
       → Shows new (record next { refused = new.failed })
   shows_as vm new m next shown keeps sound program switch same_program same_switch = record {
     stack = keeps_as new.stack next new.failed keeps;
@@ -89,7 +89,7 @@ module _ {E : Type 0} where
     machine = record h.machine { refused = new.failed };
     document = h.document;
     most = h.most;
-    shown = shows_as vm new h.machine h.machine h.shown (same_stack_keeps vm.stack new.stack h.machine h.shown.stack same) (same_is_sound vm.stack new.stack h.shown.sound same) refl refl same_program same_switch;
+    shows = shows_as vm new h.machine h.machine h.shows (same_stack_keeps vm.stack new.stack h.machine h.shows.stack same) (same_is_sound vm.stack new.stack h.shows.sound same) refl refl same_program same_switch;
     standing = h.standing;
     ordered = h.ordered;
     same = h.same;
@@ -104,8 +104,8 @@ module _ {E : Type 0} where
       let tag : StartTag = record { name = bytes; namespace = Html; attributes = []; self_closing = false; finish = false } in
       let are : AreCounted m d = record { root = h.standing.counted.root; children = h.standing.counted.children; typed = h.standing.counted.typed } in
       let sizes = items_length h.paths m.program m.items d.open_elements h.standing.items in
-      let last = seen_children vm.stack m h.shown.stack (items_in vm.stack) refl in
-      let keeps = counting_stack_keeps vm.stack m bytes h.shown.stack (λ by_type. let fewer = typed_counts_are_fewer m d bytes are sizes by_type in omega (arith, fewer, last, room)) in
+      let last = seen_children vm.stack m h.shows.stack (items_in vm.stack) refl in
+      let keeps = counting_stack_keeps vm.stack m bytes h.shows.stack (λ by_type. let fewer = typed_counts_are_fewer m d bytes are sizes by_type in omega (arith, fewer, last, room)) in
       record {
         selectors = h.selectors;
         esi = h.esi;
@@ -113,8 +113,8 @@ module _ {E : Type 0} where
         machine = record (counted m bytes) { refused = new.failed };
         document = after_start d tag false;
         most = max h.most (length d.open_elements);
-        shown = shows_as vm new m (counted m bytes) h.shown (subst (λ x. Keeps x (counted m bytes)) (sym is) keeps)
-            (subst (λ (x : StackOf Name StackNames E). IsSound x) (sym is) (counting_keeps_sound vm.stack (local_name bytes) h.shown.sound)) refl refl same_program same_switch;
+        shows = shows_as vm new m (counted m bytes) h.shows (subst (λ x. KeepsMachine x (counted m bytes)) (sym is) keeps)
+            (subst (λ (x : StackOf Name StackNames E). IsSound x) (sym is) (counting_keeps_sound vm.stack (local_name bytes) h.shows.sound)) refl refl same_program same_switch;
         standing = counted_stands h.selectors h.esi h.paths (record m { refused = false }) d h.most h.ordered h.standing tag;
         ordered = wider (after_start d tag false) (length d.open_elements) (max h.most (length d.open_elements)) (omega arith) (ordered_start d h.most tag false h.ordered);
         same = h.same;
@@ -151,7 +151,7 @@ module _ {E : Type 0} where
         machine = record (ended m name) { refused = new.failed };
         document = after_end d name;
         most = max h.most (length (after_end d name).open_elements);
-        shown = shows_as vm new m (ended m name) h.shown (ending_stack_keeps vm.stack new.stack m name h.shown.stack h.standing.active h.shown.sound is) (sound_after vm.stack new.stack (local_name name) is h.shown.sound)
+        shows = shows_as vm new m (ended m name) h.shows (ending_stack_keeps vm.stack new.stack m name h.shows.stack h.standing.active h.shows.sound is) (sound_after vm.stack new.stack (local_name name) is h.shows.sound)
             refl refl same_program same_switch;
         standing = ended_stands h.selectors h.esi h.paths (record m { refused = false }) d h.most h.ordered h.standing name;
         ordered = wider (after_end d name) (length (after_end d name).open_elements) (max h.most (length (after_end d name).open_elements)) (omega arith) (ordered_end d h.most name h.ordered);
@@ -162,13 +162,13 @@ module _ {E : Type 0} where
       → Stands s esi vm events → Stands s esi new (events ++ End name ∷ [])
   stands_ended s esi vm new events name is same_program same_switch same_failed h =
       let m = h.machine in
-      let shown = shows_as vm new m (ended m name) h.shown (ending_stack_keeps vm.stack new.stack m name h.shown.stack h.standing.active h.shown.sound is) (sound_after vm.stack new.stack (local_name name) is h.shown.sound)
+      let shown = shows_as vm new m (ended m name) h.shows (ending_stack_keeps vm.stack new.stack m name h.shows.stack h.standing.active h.shows.sound is) (sound_after vm.stack new.stack (local_name name) is h.shows.sound)
       refl refl same_program same_switch in
       record {
         paths = h.paths;
         machine = ended m name;
         closed = h.closed;
-        shown = record { stack = keeps_as new.stack _ m.refused shown.stack; sound = shown.sound; program = shown.program; switch = shown.switch; refused = h.shown.refused ∙ sym same_failed };
+        shows = record { stack = keeps_as new.stack _ m.refused shown.stack; sound = shown.sound; program = shown.program; switch = shown.switch; refused = h.shows.refused ∙ sym same_failed };
         standing = standing_is_kept s esi h.paths m events (End name) h.closed h.standing;
       }
 
@@ -185,7 +185,7 @@ module _ {E : Type 0} where
   ends_data vm new elements name is same_program same_switch h =
       let after = has_open_ended vm new elements name is same_program same_switch h in
       let many : length (open_after name elements) ≡ length (items_in new.stack) =
-      sym (ap length after.same) ∙ (sym (items_length after.paths after.machine.program after.machine.items after.document.open_elements after.standing.items) ∙ items_counted new.stack after.machine after.shown.stack) in
+      sym (ap length after.same) ∙ (sym (items_length after.paths after.machine.program after.machine.items after.document.open_elements after.standing.items) ∙ items_counted new.stack after.machine after.shows.stack) in
       let at_end = by_place (place_to_close vm.stack (local_name name)) (λ k at. below (length (items_in vm.stack)) (places_in vm.stack (local_name name)) k at) is (length (open_after name elements)) many in
       record { kept = at_end.kept; handed = at_end.handed }
     where
@@ -223,8 +223,8 @@ new_vm_stands ast prog stack vm esi item_bytes is new places program has switch 
   paths = nodes_of ast;
   machine = new_machine (program_shown prog) esi item_bytes;
   closed = trees_are_closed ast;
-  shown = record {
-    stack = subst (λ s. Keeps s (new_machine (program_shown prog) esi item_bytes)) (sym has) (new_stack_keeps stack (program_shown prog) esi item_bytes new);
+  shows = record {
+    stack = subst (λ s. KeepsMachine s (new_machine (program_shown prog) esi item_bytes)) (sym has) (new_stack_keeps stack (program_shown prog) esi item_bytes new);
     sound = subst (λ (s : StackOf Name StackNames _). IsSound s) (sym has) (new_is_sound stack (ap (λ (v : LimitedVec (StackItemOf Name _)). v.items) new.items) new.active places);
     program = ap program_shown (sym program);
     switch = sym switch;

@@ -29,7 +29,7 @@ use Rattle.lol_vm.specs.InstructionRuns.{AreRunnable, ranges_in}
 use Rattle.lol_vm.specs.MachineLaws.{started_by_names}
 use Rattle.lol_vm.specs.PlaceRuns.{Context, no_context, context_of}
 use Rattle.lol_stack.specs.SoundStacks.{IsSound}
-use Rattle.lol_vm.specs.StackMachines.{Keeps, IsItemOf}
+use Rattle.lol_vm.specs.StackMachines.{KeepsMachine, IsItemOf}
 use Rattle.lol_stack.specs.Stacks.{items_in, active_in, last_count, typed_count, counted_in, counted_item, counted_if, with_typed, element_data_of}
 use Rattle.lol_vm.specs.Standing.{Machine, StandsFor, AnswersStart, counted, opened, started, ranges_of_machine}
 use Rattle.lol_vm.specs.TagRuns.{AreTried, AreWithin, IsPointIn, jumps_in, ranges_to_run_in, sight_in, stop_at, ranges_left, tried_at}
@@ -52,6 +52,7 @@ use Rattle.lol_stack.specs.SoundLaws.{counting_keeps_sound, opening_keeps_sound}
 use Rattle.lol_vm.proofs.StackCounting.{counting_stack_keeps, seen_children, seen_places, typed_counts_are_fewer}
 use Rattle.lol_vm.proofs.StackMachines.{opening_stack_keeps}
 use Rattle.lol_vm.proofs.Starts.{counted as run_count, StaysThe, held, stays, gathered, gathered_all, names_all, no_attributes, no_need, needs, left_places, names_left, runnable, content_ids, ranges_shown}
+use Rattle.lol_base.specs.BoolLaws.{and-true, or-right_true}
 use Rattle.lol_vm.proofs.Lists.{to_once}
 use Rattle.lol_vm.proofs.Stops.{foreign_tags_ask, stops_are_requests}
 
@@ -73,14 +74,6 @@ counted_data s name = data_if (with_typed s _) (slice_get (items_in s) (length (
 
 -- 2. Opening
 
-or_true : (a b : Bool) → b ≡ true → (a || b) ≡ true
-or_true true b h = refl
-or_true false b h = h
-
-and_true : (b : Bool) → (b && true) ≡ b
-and_true true = refl
-and_true false = refl
-
 pub once_of : (content : Bool) (x : Context) → Once x.hereditary_jumps → Once (content_of content x).hereditary_jumps
 once_of true x once = once
 once_of false x once = to_once [] tt
@@ -95,7 +88,7 @@ abbrev pub opened_if : Bool → Machine → List ℕ → Context → Machine
 opened_if opens m name context = if opens then opened m name context else m
 
 pub record Enters {E : Type 0} (after : Tries) (before : List E) (m : Machine) (name : List ℕ) (x : Context) (item : StackItemOf Name E) (next : Vm E) (content : Bool) : Type 0 where
-  pub shown : Shows next (opened_if content m name x)
+  pub shows : Shows next (opened_if content m name x)
   pub tries : next.tries ≡ after
   pub has : data_in next ≡ data_with content item before
 
@@ -110,12 +103,12 @@ entered_stands vm stack after m shown name x item next true is entered =
       refused = shown.refused;
     } in
     record {
-      shown = subst (λ v. Shows v (opened m name x)) (sym entered.1) opened_now;
+      shows = subst (λ v. Shows v (opened m name x)) (sym entered.1) opened_now;
       tries = ap (λ (v : Vm _). v.tries) entered.1;
       has = ap (λ (v : LimitedVec (StackItemOf Name _)). element_data_of v.items) entered.0.items ∙ map-append (λ (i : StackItemOf Name _). i.element_data) (items_in stack) (item ∷ []);
     }
 entered_stands vm stack after m shown name x item next false is entered = record {
-  shown = subst (λ v. Shows v m) (sym entered) shown;
+  shows = subst (λ v. Shows v m) (sym entered) shown;
   tries = ap (λ (v : Vm _). v.tries) entered;
   has = ap data_in entered;
 }
@@ -151,13 +144,13 @@ module _ {E : Type 0} (ids : E → Ids) (with_ids : E → Ids → E) (lends : (w
   stack_is : stack ≡ counted_in vm.stack (local_name tag.name)
   stack_is = counted_is ∙ ap (counted_in vm.stack) named.0
 
-  pub keeps : Keeps stack (counted m tag.name)
+  pub keeps : KeepsMachine stack (counted m tag.name)
   keeps =
-      subst (λ x. Keeps x (counted m tag.name)) (sym stack_is) (counting_stack_keeps vm.stack m tag.name st.shown.stack
-      (λ by_type. let fewer = typed_counts_are_fewer m d tag.name st.standing.counted sizes by_type in let last = seen_children vm.stack m st.shown.stack (items_in vm.stack) refl in omega (arith, fewer, last, room)))
+      subst (λ x. KeepsMachine x (counted m tag.name)) (sym stack_is) (counting_stack_keeps vm.stack m tag.name st.shows.stack
+      (λ by_type. let fewer = typed_counts_are_fewer m d tag.name st.standing.counted sizes by_type in let last = seen_children vm.stack m st.shows.stack (items_in vm.stack) refl in omega (arith, fewer, last, room)))
 
   pub sound : IsSound stack
-  sound = subst (λ (x : StackOf Name StackNames E). IsSound x) (sym stack_is) (counting_keeps_sound vm.stack (local_name tag.name) st.shown.sound)
+  sound = subst (λ (x : StackOf Name StackNames E). IsSound x) (sym stack_is) (counting_keeps_sound vm.stack (local_name tag.name) st.shows.sound)
 
   pub seen : sight_in stack name ≡ sight_of m.program.by_type e
   seen =
@@ -172,12 +165,12 @@ module _ {E : Type 0} (ids : E → Ids) (with_ids : E → Ids → E) (lends : (w
   answers = starts_answer s esi st.paths m events tag st.closed st.standing
 
   shown_now : (after : Tries) → Shows (record vm { stack = stack; tries = after }) (counted m tag.name)
-  shown_now after = record { stack = keeps; sound = sound; program = st.shown.program; switch = st.shown.switch; refused = st.shown.refused }
+  shown_now after = record { stack = keeps; sound = sound; program = st.shows.program; switch = st.shows.switch; refused = st.shows.refused }
 
   -- what is run for it can be run
   pub can_run : (before : Tries) → names_counted before ≡ 0 → attributes_counted before ≡ 0 → length vm.program.instructions.items < 2 ^ 63 → AreRunnable vm.program.instructions.items (ranges_to_run_in vm.program stack) before
   can_run before no_names no_attributes size =
-      runnable s st.paths (counted m tag.name) d.open_elements st.closed st.standing.program st.standing.items st.standing.active stack vm.program keeps st.shown.program e before no_names no_attributes size
+      runnable s st.paths (counted m tag.name) d.open_elements st.closed st.standing.program st.standing.items st.standing.active stack vm.program keeps st.shows.program e before no_names no_attributes size
 
   -- and no more nodes are tried than the definition tries
   pub tried_at_most : (before after next : Tries) → names_counted before ≡ 0 → attributes_counted before ≡ 0 → attributes_counted after ≡ attributes_counted before → next ≡ after → length vm.program.instructions.items < 2 ^ 63
@@ -185,7 +178,7 @@ module _ {E : Type 0} (ids : E → Ids) (with_ids : E → Ids → E) (lends : (w
       → (AreRunnable vm.program.instructions.items (ranges_to_run_in vm.program stack) before → AreWithin (sight_in stack own) vm.program.instructions.items (ranges_to_run_in vm.program stack) before after 0)
       → IsTriedAtMost s esi events tag next
   tried_at_most before after next no_names no_attributes same kept size own is within =
-      let run = run_count s st.paths (counted m tag.name) d.open_elements st.closed st.standing.program st.standing.items st.standing.active stack vm.program keeps st.shown.program e in
+      let run = run_count s st.paths (counted m tag.name) d.open_elements st.closed st.standing.program st.standing.items st.standing.active stack vm.program keeps st.shows.program e in
       let most = within (can_run before no_names no_attributes size) in
       record { names = omega (arith, most.names, no_names, run, ap names_counted kept); attributes = omega (arith, same, no_attributes, ap attributes_counted kept) }
 
@@ -199,19 +192,19 @@ module _ {E : Type 0} (ids : E → Ids) (with_ids : E → Ids → E) (lends : (w
         paths = st.paths;
         machine = counted m tag.name;
         closed = st.closed;
-        shown = shown_now before;
+        shows = shown_now before;
         standing = requests_stand s esi st.paths m events tag st.standing asked;
         asks = asked;
         context = no_context;
         left = all_places rs;
         is_request = foreign_tags_ask m.program true e rs foreign;
         named = (new.name ∙ named.0, named.1 ∙ sym namespace);
-        seen = ap (sight_in stack) new.name ∙ seen;
+        sight = ap (sight_in stack) new.name ∙ seen;
         childless = new.children;
         gathered = subst (λ c. Gathers ids ctx.stack_item (content_of c no_context)) (sym content) (new_elements_gather ids name ctx.stack_item new);
         goes_on = (foreign, refl, content);
         stopped = tt;
-        places_left = ap all_places (sym (ranges_shown stack (counted m tag.name) vm.program keeps st.shown.program));
+        places_left = ap all_places (sym (ranges_shown stack (counted m tag.name) vm.program keeps st.shows.program));
         names = ap (λ n. n + length (all_places rs)) no_names ∙ omega arith;
         attributes = no_attributes;
       }
@@ -224,10 +217,10 @@ module _ {E : Type 0} (ids : E → Ids) (with_ids : E → Ids → E) (lends : (w
     Tried stop = AreTried ids with_ids (sight_in stack name) vm.program.instructions.items (ranges_to_run_in vm.program stack) ctx new_ctx before after stop
 
     kept : (stop : Option Stop) → Tried stop → StaysThe ctx new_ctx
-    kept stop tried = stays s st.paths (counted m tag.name) d.open_elements st.closed st.standing.program st.standing.items st.standing.active stack vm.program keeps st.shown.program ids with_ids lends e name seen ctx new_ctx before after stop tried
+    kept stop tried = stays s st.paths (counted m tag.name) d.open_elements st.closed st.standing.program st.standing.items st.standing.active stack vm.program keeps st.shows.program ids with_ids lends e name seen ctx new_ctx before after stop tried
 
     has_gathered : (stop : Option Stop) → Tried stop → Gathers ids new_ctx.stack_item (content_of new_ctx.with_content (started_by_names m.program true e rs).context)
-    has_gathered stop tried = gathered s st.paths (counted m tag.name) d.open_elements st.closed st.standing.program st.standing.items st.standing.active stack vm.program keeps st.shown.program ids with_ids lends e name seen ctx new_ctx before after stop tried
+    has_gathered stop tried = gathered s st.paths (counted m tag.name) d.open_elements st.closed st.standing.program st.standing.items st.standing.active stack vm.program keeps st.shows.program ids with_ids lends e name seen ctx new_ctx before after stop tried
         (new_elements_gather ids name ctx.stack_item new)
 
     -- it stopped
@@ -235,29 +228,29 @@ module _ {E : Type 0} (ids : E → Ids) (with_ids : E → Ids → E) (lends : (w
         → IsPointIn vm.program.instructions.items vm.program.entry_points (jumps_in stack) (ranges_in (active_in stack)) point
         → Tried (Some stop) → IsPending ids s esi events tag (record vm { stack = stack; tries = after }) (record { ctx = new_ctx; point = point })
     pending_stop point stop at inside tried =
-        let open_there = needs s st.paths (counted m tag.name) d.open_elements st.closed st.standing.program st.standing.items st.standing.active stack vm.program keeps st.shown.program ids with_ids lends e name seen ctx new_ctx before after stop tried in
-        let asked : asks s e d.open_elements ≡ true = sym answers.asked ∙ or_true (not (is_html tag.namespace)) _ open_there in
+        let open_there = needs s st.paths (counted m tag.name) d.open_elements st.closed st.standing.program st.standing.items st.standing.active stack vm.program keeps st.shows.program ids with_ids lends e name seen ctx new_ctx before after stop tried in
+        let asked : asks s e d.open_elements ≡ true = sym answers.asked ∙ or-right_true (not (is_html tag.namespace)) _ open_there in
         let same = kept (Some stop) tried in
         record {
           paths = st.paths;
           machine = counted m tag.name;
           closed = st.closed;
-          shown = shown_now after;
+          shows = shown_now after;
           standing = requests_stand s esi st.paths m events tag st.standing asked;
           asks = asked;
           context = (started_by_names m.program true e rs).context;
           left = (started_by_names m.program true e rs).left;
           is_request = stops_are_requests s st.paths m.program true e rs st.standing.program open_there;
           named = (same.name ∙ (new.name ∙ named.0), named.1 ∙ sym (same.namespace ∙ namespace));
-          seen = ap (sight_in stack) (same.name ∙ new.name) ∙ seen;
+          sight = ap (sight_in stack) (same.name ∙ new.name) ∙ seen;
           childless = same.children ∙ new.children;
           gathered = has_gathered (Some stop) tried;
           goes_on = subst (λ o. GoesOnAt (is_html tag.namespace) (has_content esi tag) (started_by_names m.program true e rs).context o new_ctx.with_content) (sym at) (html, same.content ∙ content);
           stopped = inside;
           places_left = subst (λ o. (started_by_names m.program true e rs).left ≡ all_places (map range_shown (ranges_left (ranges_to_run_in vm.program stack) o))) (sym at)
-              (left_places s st.paths (counted m tag.name) d.open_elements st.closed st.standing.program st.standing.items st.standing.active stack vm.program keeps st.shown.program ids with_ids lends e name seen ctx new_ctx before after stop tried);
+              (left_places s st.paths (counted m tag.name) d.open_elements st.closed st.standing.program st.standing.items st.standing.active stack vm.program keeps st.shows.program ids with_ids lends e name seen ctx new_ctx before after stop tried);
           names = subst (λ o. names_counted after + length (started_by_names m.program true e rs).left ≡ length (all_places rs) + tried_at o) (sym at)
-              (names_left s st.paths (counted m tag.name) d.open_elements st.closed st.standing.program st.standing.items st.standing.active stack vm.program keeps st.shown.program ids with_ids lends e name seen ctx new_ctx before after stop tried no_names);
+              (names_left s st.paths (counted m tag.name) d.open_elements st.closed st.standing.program st.standing.items st.standing.active stack vm.program keeps st.shows.program ids with_ids lends e name seen ctx new_ctx before after stop tried no_names);
           attributes = no_tries;
         }
 
@@ -274,12 +267,12 @@ module _ {E : Type 0} (ids : E → Ids) (with_ids : E → Ids → E) (lends : (w
     module _ (tried : Tried None) where
       no_ask : asks s e d.open_elements ≡ false
       no_ask =
-          let closed_all = no_need s st.paths (counted m tag.name) d.open_elements st.closed st.standing.program st.standing.items st.standing.active stack vm.program keeps st.shown.program ids with_ids lends e name seen ctx new_ctx before after tried in
+          let closed_all = no_need s st.paths (counted m tag.name) d.open_elements st.closed st.standing.program st.standing.items st.standing.active stack vm.program keeps st.shows.program ids with_ids lends e name seen ctx new_ctx before after tried in
           sym answers.asked ∙ (λ i. not (html i) || closed_all i)
 
       all_gathered : Gathers ids new_ctx.stack_item (content_of (has_content esi tag) (context_of m.program true e (all_places rs)))
       all_gathered =
-          let context = gathered_all s st.paths (counted m tag.name) d.open_elements st.closed st.standing.program st.standing.items st.standing.active stack vm.program keeps st.shown.program ids with_ids lends e name seen ctx new_ctx before after tried in
+          let context = gathered_all s st.paths (counted m tag.name) d.open_elements st.closed st.standing.program st.standing.items st.standing.active stack vm.program keeps st.shows.program ids with_ids lends e name seen ctx new_ctx before after tried in
           let here = (kept None tried).content ∙ content in
           subst (λ x. Gathers ids new_ctx.stack_item x) (λ i. content_of (here i) (context i)) (has_gathered None tried)
 
@@ -296,8 +289,8 @@ module _ {E : Type 0} (ids : E → Ids) (with_ids : E → Ids → E) (lends : (w
             asks = no_ask;
             called = subst (λ infos. IsCalledAtEach step f infos g)
                 ((λ i. reports (here i) (is_matched i)) ∙ sym (map-map info_of (λ id. record { id = id; with_content = has_content esi tag }) (matching_ids s.pairs e d.open_elements))) called;
-            names = names_all s st.paths (counted m tag.name) d.open_elements st.closed st.standing.program st.standing.items st.standing.active stack vm.program keeps st.shown.program ids with_ids lends e name seen ctx new_ctx before after tried no_names;
-            attributes = no_tries ∙ no_attributes s st.paths (counted m tag.name) d.open_elements st.closed st.standing.program st.standing.items st.standing.active stack vm.program keeps st.shown.program ids with_ids lends e name seen ctx new_ctx before after tried;
+            names = names_all s st.paths (counted m tag.name) d.open_elements st.closed st.standing.program st.standing.items st.standing.active stack vm.program keeps st.shows.program ids with_ids lends e name seen ctx new_ctx before after tried no_names;
+            attributes = no_tries ∙ no_attributes s st.paths (counted m tag.name) d.open_elements st.closed st.standing.program st.standing.items st.standing.active stack vm.program keeps st.shows.program ids with_ids lends e name seen ctx new_ctx before after tried;
           }
 
       pub has_content_still : new_ctx.with_content ≡ has_content esi tag
@@ -315,13 +308,13 @@ module _ {E : Type 0} (ids : E → Ids) (with_ids : E → Ids → E) (lends : (w
           ap (λ b. if (b && not tag.finish) then Dropped else Started (report s esi e d.open_elements) b (name_tries s.nodes d.open_elements) (attribute_tries s.nodes e d.open_elements)) no_ask
           ∙ (λ i. Started (report s esi e d.open_elements) false (sym told_all.names i) (sym told_all.attributes i)) in
           let opens : (has_content m.esi tag && not (is_dropped s e d.open_elements)) ≡ has_content esi tag =
-          (λ i. has_content (st.standing.switch i) tag && not (no_ask i && not tag.finish)) ∙ and_true (has_content esi tag) in
+          (λ i. has_content (st.standing.switch i) tag && not (no_ask i && not tag.finish)) ∙ and-true (has_content esi tag) in
           let item : IsItemOf new_ctx.stack_item tag.name (content_of (has_content esi tag) x) = record {
             named = same.name ∙ (new.name ∙ named.0);
             jumps = all_gathered.jumps;
             hereditary_jumps = all_gathered.hereditary_jumps;
             once = once_of (has_content esi tag) x (runs_give_reports s st.paths m.program rs e d.open_elements st.closed st.standing.program
-                (held s st.paths (counted m tag.name) d.open_elements st.closed st.standing.program st.standing.items st.standing.active stack vm.program keeps st.shown.program)).hereditary_jumps.once;
+                (held s st.paths (counted m tag.name) d.open_elements st.closed st.standing.program st.standing.items st.standing.active stack vm.program keeps st.shows.program)).hereditary_jumps.once;
             children = same.children ∙ new.children;
           } in
           let entering = entered_stands vm stack after (counted m tag.name) (shown_now after) tag.name x new_ctx.stack_item next (has_content esi tag) item
@@ -334,7 +327,7 @@ module _ {E : Type 0} (ids : E → Ids) (with_ids : E → Ids → E) (lends : (w
               paths = st.paths;
               machine = started m (has_content esi tag) e;
               closed = st.closed;
-              shown = entering.shown;
+              shows = entering.shows;
               standing = subst (λ b. StandsFor s esi st.paths (started m b e) (events ++ Start tag ∷ [])) opens (standing_is_kept s esi st.paths m events (Start tag) st.closed st.standing);
             };
             opened = opened_as ids (has_content esi tag) (report s esi e d.open_elements) new_ctx.stack_item (is_matched ∙ sym (map-map (λ (r : Match). r.id) (λ id. record { id = id; with_content = has_content esi tag }) (matching_ids s.pairs e d.open_elements) ∙ map-id (matching_ids s.pairs e d.open_elements)))

@@ -3,5 +3,5 @@ use Rattle.std.specs.Prelude.{◌≡◌, false, [], ◌∷◌, ◌++◌}
 use Rattle.lol_vm.specs.declared.started.Collected.{Collected}
 
 -- The item comes last, or memory was refused; after a refusal nothing is kept.
-abbrev pub Keeps : {T : Type 0} → Collected T → T → Collected T → Type 0
-Keeps old item new = (new.refused ≡ false) → (old.refused ≡ false) × (new.items.items ≡ old.items.items ++ item ∷ [])
+abbrev pub Collects : {T : Type 0} → Collected T → T → Collected T → Type 0
+Collects old item new = (new.refused ≡ false) → (old.refused ≡ false) × (new.items.items ≡ old.items.items ++ item ∷ [])

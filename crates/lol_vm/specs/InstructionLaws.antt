@@ -15,7 +15,7 @@ use Rattle.lol_stack.specs.declared.execution_ctx.ExecutionCtx.{ExecutionCtx}
 
 -- ranges inside the instructions of a program
 pub record AreRangesOf (p : Program) (by_type : Bool) (instructions : List code.Instruction) (ranges : List (std.Range ℕ)) : Type 0 where
-  pub shown : p.instructions ≡ code_of by_type instructions
+  pub same_code : p.instructions ≡ code_of by_type instructions
   pub inside : All (IsInsideOf instructions) ranges
 
 -- As many are open, and the first open one stands at the same place.

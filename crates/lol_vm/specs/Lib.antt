@@ -2,6 +2,7 @@ pub mod Events
 pub mod Documents
 pub mod Matching
 pub mod Answers
+pub mod AnswerLaws
 pub mod Refusals
 pub mod RunRefusals
 pub mod Rows

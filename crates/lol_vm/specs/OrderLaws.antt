@@ -1,27 +1,24 @@
 -- The order of pairs and nodes.
-use Rattle.std.proofs.Common.{◌≡◌, ℕ, Bool, true, false, ◌||◌, ◌&&◌, not, cond, List, [], ◌∷◌, length, map, inl, inr, refl, sym, ap, ◌∙◌}
+use Rattle.std.proofs.Common.{◌≡◌, ℕ, Bool, true, false, ◌||◌, not, cond, List, [], ◌∷◌, length, inl, inr, refl, ap, ◌∙◌}
 use Rattle.std.specs.Prelude.{max, nat_lt, Some, None, count_by}
 use Rattle.std.specs.List.{list_any}
 use Rattle.lol_program.specs.Tests.{Element, is_html}
 use Rattle.lol_program.specs.Paths.{Path, Selectors}
+use Rattle.lol_base.specs.BoolLaws.{or-right_true, same_bool}
 use Rattle.lol_base.specs.MemberLaws.{Among, among_from_contains, contains_from_among, distinct_from_pairs, same_count}
-use Rattle.lol_vm.specs.Events.{Event, Start, End, has_content}
-use Rattle.lol_vm.specs.Documents.{Document, empty, element_of, after_start}
-use Rattle.lol_vm.specs.Matching.{left_matches}
-use Rattle.lol_vm.specs.Answers.{Started, Dropped, matching_ids, needs_attributes, asks, answer, after, answers_from}
+use Rattle.lol_vm.specs.Events.{Event, Start, End}
+use Rattle.lol_vm.specs.Documents.{Document, empty, element_of}
+use Rattle.lol_vm.specs.Answers.{matching_ids, needs_attributes, asks, after}
 use Rattle.lol_vm.specs.Refusals.{Allowance, Limit, Counter, exceeds, greatest_count, refusal, or_later, refused_from}
 use Rattle.lol_vm.specs.Laws.{SameSelectors, OrderChangesNothing}
+use Rattle.lol_vm.specs.AnswerLaws.{same_after, same_answers}
 use Rattle.lol_vm.specs.ReportLaws.{matching_ids-same}
 
 -- a test that some element passes
 passed : {T : Type 0} (p : T → Bool) (xs : List T) (x : T) → Among xs x → p x ≡ true → list_any p xs ≡ true
 passed p [] x h fits = absurd h
 passed p (y ∷ xs) x (inl is) fits = λ i. (ap p is ∙ fits) i || list_any p xs
-passed p (y ∷ xs) x (inr h) fits = or_true (p y) (list_any p xs) (passed p xs x h fits)
-  where
-    or_true : (a b : Bool) → b ≡ true → (a || b) ≡ true
-    or_true true b h = refl
-    or_true false b h = h
+passed p (y ∷ xs) x (inr h) fits = or-right_true (p y) (list_any p xs) (passed p xs x h fits)
 
 record Passes {T : Type 0} (p : T → Bool) (xs : List T) : Type 0 where
   at : T
@@ -36,14 +33,9 @@ some_passes p (y ∷ xs) h = by_test (p y) refl h (some_passes p xs)
     by_test true is h more = record { at = y; within = inl refl; fits = is }
     by_test false is h more = let rest = more h in record { at = rest.at; within = inr rest.within; fits = rest.fits }
 
-same_test : (a b : Bool) → (a ≡ true → b ≡ true) → (b ≡ true → a ≡ true) → a ≡ b
-same_test true b to from = sym (to refl)
-same_test false true to from = from refl
-same_test false false to from = refl
-
 same_any : {T : Type 0} (p : T → Bool) (xs ys : List T) → ((x : T) → Among xs x → Among ys x) → ((x : T) → Among ys x → Among xs x) → list_any p xs ≡ list_any p ys
 same_any p xs ys to from =
-    same_test _ _
+    same_bool _ _
     (λ h. let found = some_passes p xs h in passed p ys found.at (to found.at found.within) found.fits)
     (λ h. let found = some_passes p ys h in passed p xs found.at (from found.at found.within) found.fits)
 
@@ -67,38 +59,22 @@ module _ (s t : Selectors) (same : SameSelectors s t) (esi : Bool) where
     same_asks : asks s e outer ≡ asks t e outer
     same_asks = λ i. not (is_html e.tag.namespace) || same_any (needs_attributes e outer) s.nodes t.nodes to_nodes from_nodes i
 
-    same_tries : (p : Path → Bool) → count_by p s.nodes ≡ count_by p t.nodes
-    same_tries p = same_count p s.nodes t.nodes (distinct_from_pairs s.nodes same.each_once) (distinct_from_pairs t.nodes same.each_once') to_nodes from_nodes
+  same_tries : (p : Path → Bool) → count_by p s.nodes ≡ count_by p t.nodes
+  same_tries p = same_count p s.nodes t.nodes (distinct_from_pairs s.nodes same.each_once) (distinct_from_pairs t.nodes same.each_once') to_nodes from_nodes
 
-  same_answer : (d : Document) (event : Event) → answer s esi d event ≡ answer t esi d event
-  same_answer d (Start tag) =
-      let e = element_of d tag in
-      let outer = d.open_elements in
-      λ i. cond (same_asks e outer i && not tag.finish) Dropped
-      (Started (map (λ (id : ℕ). record { id = id; with_content = has_content esi tag }) (same_ids e outer i)) (same_asks e outer i)
-      (same_tries e outer (λ node. left_matches node outer) i) (same_tries e outer (needs_attributes e outer) i))
-  same_answer d (End name) = refl
-
-  same_after : (d : Document) (event : Event) → after s esi d event ≡ after t esi d event
-  same_after d (Start tag) = λ i. after_start d tag (has_content esi tag && not (same_asks (element_of d tag) d.open_elements i && not tag.finish))
-  same_after d (End name) = refl
-
-  same_answers : (d : Document) (events : List Event) → answers_from s esi d events ≡ answers_from t esi d events
-  same_answers d [] = refl
-  same_answers d (event ∷ events) =
-      (λ i. same_answer d event i ∷ answers_from s esi (same_after d event i) events)
-      ∙ ap (λ more. answer t esi d event ∷ more) (same_answers (after t esi d event) events)
+  after_same : (d : Document) (event : Event) → after s esi d event ≡ after t esi d event
+  after_same = same_after s t esi same_ids same_asks same_tries
 
   same_refusal : (a : Allowance) (d : Document) (most : ℕ) (event : Event) → refusal s esi a d most event ≡ refusal t esi a d most event
   same_refusal a d most (Start tag) =
-      λ i. cond (nat_lt greatest_count (element_of d tag).position) (Some Counter) (cond (exceeds a (max most (length (same_after d (Start tag) i).open_elements))) (Some Limit) None)
+      λ i. cond (nat_lt greatest_count (element_of d tag).position) (Some Counter) (cond (exceeds a (max most (length (after_same d (Start tag) i).open_elements))) (Some Limit) None)
   same_refusal a d most (End name) = refl
 
   same_refused : (a : Allowance) (d : Document) (most : ℕ) (events : List Event) → refused_from s esi a d most events ≡ refused_from t esi a d most events
   same_refused a d most [] = refl
   same_refused a d most (event ∷ events) =
-      (λ i. or_later d.events (same_refusal a d most event i) (refused_from s esi a (same_after d event i) (max most (length (same_after d event i).open_elements)) events))
+      (λ i. or_later d.events (same_refusal a d most event i) (refused_from s esi a (after_same d event i) (max most (length (after_same d event i).open_elements)) events))
       ∙ ap (or_later d.events (refusal t esi a d most event)) (same_refused a (after t esi d event) (max most (length (after t esi d event).open_elements)) events)
 
 pub order_changes_nothing : OrderChangesNothing
-order_changes_nothing s t same esi events = (same_answers s t same esi empty events, λ a. same_refused s t same esi a empty 0 events)
+order_changes_nothing s t same esi events = (same_answers s t esi (same_ids s t same esi) (same_asks s t same esi) (same_tries s t same esi) empty events, λ a. same_refused s t same esi a empty 0 events)

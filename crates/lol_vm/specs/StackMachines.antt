@@ -71,7 +71,7 @@ KeepsTyped (Some ts) by_type top typed =
 -- 3. Keeping
 
 -- A stack keeps the items, active ranges, counters and slots of a machine.
-pub record Keeps {E : Type 0} (s : StackOf Name StackNames E) (m : Machine) : Type 0 where
+pub record KeepsMachine {E : Type 0} (s : StackOf Name StackNames E) (m : Machine) : Type 0 where
   pub items : map in_lower_case m.items ≡ items_shown (items_in s)
   pub active : m.active ≡ active_shown (active_in s)
   pub root_children : m.root_children ≡ root_count s
@@ -90,10 +90,10 @@ pub record IsNew {E : Type 0} (s : StackOf Name StackNames E) (by_type : Bool) (
   pub typed : typed_in s ≡ (if by_type then Some [] else None)
 
 abbrev pub NewStackKeeps : Type 0 → Type 0
-NewStackKeeps E = (s : StackOf Name StackNames E) (p : Program) (esi : Bool) (item_bytes : ℕ) → IsNew s p.by_type item_bytes → Keeps s (new_machine p esi item_bytes)
+NewStackKeeps E = (s : StackOf Name StackNames E) (p : Program) (esi : Bool) (item_bytes : ℕ) → IsNew s p.by_type item_bytes → KeepsMachine s (new_machine p esi item_bytes)
 
 abbrev pub SameStackKeeps : Type 0 → Type 0
-SameStackKeeps E = (old new : StackOf Name StackNames E) (m : Machine) → Keeps old m → IsSame old new → Keeps new m
+SameStackKeeps E = (old new : StackOf Name StackNames E) (m : Machine) → KeepsMachine old m → IsSame old new → KeepsMachine new m
 
 -- an element that has what was gathered, and no children yet
 pub record IsItemOf {E : Type 0} (item : StackItemOf Name E) (name : List ℕ) (context : Context) : Type 0 where
@@ -106,19 +106,19 @@ pub record IsItemOf {E : Type 0} (item : StackItemOf Name E) (name : List ℕ) (
 abbrev pub OpeningStackKeeps : Type 0 → Type 0
 OpeningStackKeeps E =
     (old new : StackOf Name StackNames E) (m : Machine) (item : StackItemOf Name E) (name : List ℕ) (context : Context)
-    → Keeps old m → IsPushed old item new → IsItemOf item name context → Keeps new (opened m name context)
+    → KeepsMachine old m → IsPushed old item new → IsItemOf item name context → KeepsMachine new (opened m name context)
 
 -- An end tag closes what it closes on the machine, where the stack's lists are those of its elements.
 abbrev pub EndingStackKeeps : Type 0 → Type 0
 EndingStackKeeps E =
     (old new : StackOf Name StackNames E) (m : Machine) (name : List ℕ)
-    → Keeps old m → m.active ≡ active_of m.items → IsSound old → IsEnded old (local_name name) new → Keeps new (ended m name)
+    → KeepsMachine old m → m.active ≡ active_of m.items → IsSound old → IsEnded old (local_name name) new → KeepsMachine new (ended m name)
 
 -- A child is counted, where no count by type is full.
 abbrev pub CountingStackKeeps : Type 0 → Type 0
 CountingStackKeeps E =
     (s : StackOf Name StackNames E) (m : Machine) (name : List ℕ)
-    → Keeps s m → (m.program.by_type ≡ true → m.typed (length m.items) name < full_count) → Keeps (counted_in s (local_name name)) (counted m name)
+    → KeepsMachine s m → (m.program.by_type ≡ true → m.typed (length m.items) name < full_count) → KeepsMachine (counted_in s (local_name name)) (counted m name)
 
 -- the counters of the innermost open element, or of the root, for a child of this name
 pub record AreSeen {E : Type 0} (s : StackOf Name StackNames E) (m : Machine) (name : List ℕ) : Type 0 where
@@ -128,7 +128,7 @@ pub record AreSeen {E : Type 0} (s : StackOf Name StackNames E) (m : Machine) (n
 -- They are seen once a child of that name is counted.
 abbrev pub CountersAreSeen : Type 0 → Type 0
 CountersAreSeen E =
-    (s : StackOf Name StackNames E) (m : Machine) (name : List ℕ) → Keeps s m → (m.program.by_type ≡ true → 0 < m.typed (length m.items) name) → AreSeen s m name
+    (s : StackOf Name StackNames E) (m : Machine) (name : List ℕ) → KeepsMachine s m → (m.program.by_type ≡ true → 0 < m.typed (length m.items) name) → AreSeen s m name
 
 -- No more children of a name are counted than children.
 abbrev pub TypedCountsAreFewer : Type 0
@@ -140,6 +140,6 @@ TypedCountsAreFewer =
 abbrev pub StatesShowElements : Type 0 → Type 0
 StatesShowElements E =
     (s : StackOf Name StackNames E) (m : Machine) (d : Document) (tag : StartTag) (state : SelectorState)
-    → AreCounted m d → length m.items ≡ length d.open_elements → Keeps s (counted m tag.name)
+    → AreCounted m d → length m.items ≡ length d.open_elements → KeepsMachine s (counted m tag.name)
     → state.cumulative.now ≡ last_count s → option_copied state.typed ≡ typed_count s (local_name tag.name)
     → sight state (local_name tag.name) ≡ sight_of m.program.by_type (element_of d tag)

@@ -25,7 +25,7 @@ use Rattle.lol_vm.specs.InstructionRuns.{ranges_in}
 use Rattle.lol_vm.specs.MachineLaws.{IsRequest}
 use Rattle.lol_vm.specs.PlaceRuns.{Context, no_context}
 use Rattle.lol_stack.specs.SoundStacks.{IsSound}
-use Rattle.lol_vm.specs.StackMachines.{Keeps}
+use Rattle.lol_vm.specs.StackMachines.{KeepsMachine}
 use Rattle.lol_stack.specs.Stacks.{items_in, active_in, element_data_of, slots_in, item_bytes_in, IsSame, IsPushed}
 use Rattle.lol_vm.specs.Standing.{Machine, StandsOn, IsOrdered, StandsFor, ranges_of_machine, unfinished}
 use Rattle.lol_vm.specs.TagRuns.{sight_in, jumps_in, ranges_to_run_in, stop_at, ranges_left, IsPointIn, tried_at}
@@ -81,7 +81,7 @@ module _ {E : Type 0} where
 
 -- A machine of the code is one of the definitions.
 pub record Shows {E : Type 0} (vm : Vm E) (m : Machine) : Type 0 where
-  pub stack : Keeps vm.stack m
+  pub stack : KeepsMachine vm.stack m
   pub sound : IsSound vm.stack
   pub program : m.program ≡ program_shown vm.program
   pub switch : m.esi ≡ vm.enable_esi_tags
@@ -92,7 +92,7 @@ pub record Stands {E : Type 0} (s : Selectors) (esi : Bool) (vm : Vm E) (events 
   pub paths : List Path
   pub machine : Machine
   pub closed : AreClosed s
-  pub shown : Shows vm machine
+  pub shows : Shows vm machine
   pub standing : StandsFor s esi paths machine events
 
 -- It has these open elements, the innermost first: but for a refusal it stands on a document that has them. This survives a refusal.
@@ -103,7 +103,7 @@ pub record HasOpen {E : Type 0} (vm : Vm E) (elements : List Element) : Type 0 w
   pub machine : Machine
   pub document : Document
   pub most : ℕ
-  pub shown : Shows vm machine
+  pub shows : Shows vm machine
   pub standing : StandsOn selectors esi paths (record machine { refused = false }) document most
   pub ordered : IsOrdered document most
   pub same : document.open_elements ≡ elements
@@ -218,14 +218,14 @@ module _ {E : Type 0} (ids_of : E → Ids) where
     pub paths : List Path
     pub machine : Machine
     pub closed : AreClosed s
-    pub shown : Shows vm machine
+    pub shows : Shows vm machine
     pub standing : StandsFor s esi paths machine (events ++ Start (unfinished tag) ∷ [])
     pub asks : asks s (element_of (document s esi events) tag) (document s esi events).open_elements ≡ true
     pub context : Context
     pub left : List ℕ
     pub is_request : IsRequest machine.program true (element_of (document s esi events) tag) (ranges_of_machine machine) context left
     pub named : IsTagOf request.ctx.stack_item.local_name request.ctx.ns tag
-    pub seen : sight_in vm.stack request.ctx.stack_item.local_name ≡ sight_of machine.program.by_type (element_of (document s esi events) tag)
+    pub sight : sight_in vm.stack request.ctx.stack_item.local_name ≡ sight_of machine.program.by_type (element_of (document s esi events) tag)
     pub childless : request.ctx.stack_item.child_counter ≡ 0
     pub gathered : Gathers ids_of request.ctx.stack_item (content_of request.ctx.with_content context)
     pub goes_on : GoesOnAt (is_html tag.namespace) (has_content esi tag) context (stop_to_try vm request.point) request.ctx.with_content

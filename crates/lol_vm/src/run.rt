@@ -7,7 +7,7 @@ ghost use Rattle.lol_memory.specs.Limiter.{Limiter, charged};
 ghost use Rattle.lol_program.specs.Counters.{full_count};
 ghost use Rattle.lol_program.specs.Paths.{Selectors};
 ghost use Rattle.lol_vm.specs.Answers.{answers};
-ghost use Rattle.lol_vm.specs.Collecting.{Keeps};
+ghost use Rattle.lol_vm.specs.Collecting.{Collects};
 ghost use Rattle.lol_vm.specs.Events.{Event, Start, End};
 ghost use Rattle.lol_vm.specs.Follows.{Follows, Goes, IsCharged, IsHandedOver, IsTaken, IsRefusedFor, Stops, opens, refusal_after};
 ghost use Rattle.lol_vm.specs.Handlers.{IsCalledWithAnswers};
@@ -64,7 +64,7 @@ pub fn match_events(
         return Err(refused(Vec::new(alloc), 0, RunCause::Memory));
     };
     let mut handler = |report: TagReport|
-        ensures { Keeps collected.entry report collected.exit }
+        ensures { Collects collected.entry report collected.exit }
     {
         collected.keep(report);
     };
@@ -215,7 +215,7 @@ fn answer_start(
     let open_before = vm.open_elements();
     let mut collected = Collected::new(alloc);
     let mut handler = |info: MatchInfo|
-        ensures { Keeps collected.entry info collected.exit }
+        ensures { Collects collected.entry info collected.exit }
     {
         collected.keep(info);
     };
@@ -307,7 +307,7 @@ fn answer_end(
 {
     let mut collected = Collected::new(alloc);
     let mut handler = |started: Started|
-        ensures { Keeps collected.entry started.event collected.exit }
+        ensures { Collects collected.entry started.event collected.exit }
     {
         collected.keep(started.event);
     };

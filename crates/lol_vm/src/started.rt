@@ -1,7 +1,7 @@
 //! What a run keeps of its tags.
 
 ghost use Rattle.std.specs.Prelude.{◌≡◌, [], false, IfOk, refl};
-ghost use Rattle.lol_vm.specs.Collecting.{Keeps};
+ghost use Rattle.lol_vm.specs.Collecting.{Collects};
 
 use lol_memory::{DenseHashSet, MatchInfo};
 use lol_stack::ElementData;
@@ -65,7 +65,7 @@ impl<T: Drop> Collected<T> {
     }
 
     pub(crate) fn keep(&mut self, item: T)
-        ensures { Keeps self.old item self.new }
+        ensures { Collects self.old item self.new }
     {
         if !self.refused && self.items.push(item).is_err() {
             self.refused = true;

@@ -6,7 +6,7 @@ ghost use Rattle.std.specs.Str.{bytes_eq};
 ghost use Rattle.lol_css.specs.CaselessAttributes.{caseless_attributes};
 ghost use Rattle.lol_css.specs.Trees as trees;
 ghost use Rattle.lol_css.specs.Rules.{required_token, giving, InBrackets};
-ghost use Rattle.lol_css.specs.Reading.{name_after_bar, attribute_name, operator_of, value_of, flag_of, flag_named, default_case_sensitivity, case_sensitivity, comparison, attribute, utf8};
+ghost use Rattle.lol_css.specs.Reading.{name_after_bar, attribute_name, operator_of, written_value, flag_of, flag_named, default_case_sensitivity, case_sensitivity, comparison, attribute, utf8};
 ghost use Rattle.lol_css.specs.Accepting.{judged_part};
 ghost use Rattle.lol_css.specs.declared.error.SelectorError.TheVariants.{UnexpectedToken, UnexpectedTokenInAttribute};
 ghost use Rattle.lol_css.specs.Views.{Reads, ReadsUnlessMemory, points_of, judgement};
@@ -183,7 +183,7 @@ impl Parser<'_> {
     /// The value that is compared with, a name or a quoted text.
     #[tactic(auto, unfolding(crate::specs::Rules::required_token))]
     fn value(&mut self) -> Result<CssString, SelectorError>
-        ensures reads { ReadsUnlessMemory (λ s. s) result self.new.reader (giving utf8 (required_token InBrackets value_of UnexpectedTokenInAttribute self.old.reader)) }
+        ensures reads { ReadsUnlessMemory (λ s. s) result self.new.reader (giving utf8 (required_token InBrackets written_value UnexpectedTokenInAttribute self.old.reader)) }
         ensures context { self.new.context ≡ self.old.context }
     {
         match self.reader.expect(Nesting::InBrackets)? {

@@ -9,7 +9,7 @@ use Rattle.lol_program.specs.Sets.{SameMembers}
 use Rattle.lol_script.specs.Lines.{set_by}
 use Rattle.lol_vm.specs.Views.{event_of}
 use Rattle.lol_script.specs.Scripts.{with_line, with_selector}
-use Rattle.lol_script.proofs.Scripts.{not_begun, joined}
+use Rattle.lol_script.proofs.Scripts.{not_begun, joins_members}
 use Rattle.lol_script.proofs.script.take_setting.Goals as goal
 
 pub returns-in-Limit-clause-taken : goal.returns-in-Limit-clause-taken
@@ -52,9 +52,9 @@ returns-in_ok-take_selector-in-Select-clause-taken c = λ s reading.
         limit = reading.limit;
         esi = reading.esi;
         shows_tries = reading.shows_tries;
-        pairs = joined (pairs_of old) (pairs_of new) pairs s.pairs reading.pairs added.pairs;
+        pairs = joins_members (pairs_of old) (pairs_of new) pairs s.pairs reading.pairs added.pairs;
         nodes = subst (λ (members : List Path). SameMembers members (nodes_of new)) (sym (flat_map-append (λ (pair : Path × ℕ). beginnings pair.0) s.pairs pairs))
-            (joined (nodes_of old) (nodes_of new) (all_beginnings pairs) (all_beginnings s.pairs) reading.nodes added.nodes);
+            (joins_members (nodes_of old) (nodes_of new) (all_beginnings pairs) (all_beginnings s.pairs) reading.nodes added.nodes);
         events = reading.events;
         inside = reading.inside;
       },

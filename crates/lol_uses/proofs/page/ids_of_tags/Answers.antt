@@ -3,7 +3,8 @@ use Rattle.std.proofs.lemmas.List.{take_all}
 use Rattle.lol_vm.specs.Vms.{Stands}
 use Rattle.lol_uses.specs.Pages.{event_of_tag}
 use Rattle.lol_uses.specs.Reported.{reported_ids}
-use Rattle.lol_uses.proofs.Pushed.{map_taken, reported_more}
+use Rattle.lol_base.specs.ListLaws.{mapped_more}
+use Rattle.lol_uses.proofs.Pushed.{reported_more}
 use Rattle.lol_uses.proofs.page.ids_of_tags.Goals as goal
 
 pub loop-tag-preserved : goal.loop-tag-preserved
@@ -12,7 +13,7 @@ loop-tag-preserved c =
     let page = c.args.page.now in
     let tag = c.tag-item.result in
     let before = map event_of_tag (take n page) in
-    let front = map_taken event_of_tag page n tag c.loop-tag-test.true c.tag-item.is in
+    let front = mapped_more event_of_tag page n tag c.loop-tag-test.true c.tag-item.is in
     let pushed : c.extend_from_slice.new.self.items ≡ c.loop-tag.ids.items ++ c.in_ok-reported.reported.items = search (rules, c.extend_from_slice.ensures.items, c.is_err.ensures.negation, c.if-is_err.false, c.deref.ensures.value) in
     record {
       ids = λ s esi stands.

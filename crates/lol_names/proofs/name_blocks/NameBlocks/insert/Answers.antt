@@ -2,7 +2,7 @@ use Rattle.std.proofs.Common.{rules, ◌≡◌, ◌<◌, ◌≤◌, ◌∙◌, s
 use Rattle.std.specs.Prelude.{slice_set}
 use Rattle.std.proofs.lemmas.List.{length-map}
 use Rattle.lol_base.specs.LocalNames.{Name}
-use Rattle.lol_names.specs.NameBlocks.{AreBlocks, AreAscending, AllFilled, AllBelow, AllAbove, before, from, joined, block_at}
+use Rattle.lol_names.specs.NameBlocks.{AreBlocks, AreAscending, AllFilled, AllBelow, AllAbove, before, from, joined_blocks, block_at}
 use Rattle.lol_names.proofs.NameBlocks.{round-missing, filled-set}
 use Rattle.lol_names.proofs.Refusals.{on_err}
 use Rattle.lol_names.proofs.NameChanges.{map-set, set-same, block_there, joined-with, blocks-with, value-with, length-insert, length-zero}
@@ -14,8 +14,8 @@ returns-then-is_empty-clause-ok g c =
     let none = length-zero c.self.inside.blocks.items zero in
     let first : c.push.new.self.items ≡ (c.args.name, c.args.value) ∷ [] = search rules in
     let blocks : c.push-then-is_empty.new.self.items ≡ c.push.new.self ∷ [] = search rules in
-    value-with c.args.self.now (map (λ b. b.items) c.push-then-is_empty.new.self.items) c.args.name c.args.value [] [] tt tt (ap joined (sym c.self.view_is) ∙ ap (λ bs. joined (map (λ b. b.items) bs)) none)
-    (ap (λ bs. joined (map (λ b. b.items) bs)) blocks ∙ ap (λ es. joined (es ∷ [])) first)
+    value-with c.args.self.now (map (λ b. b.items) c.push-then-is_empty.new.self.items) c.args.name c.args.value [] [] tt tt (ap joined_blocks (sym c.self.view_is) ∙ ap (λ bs. joined_blocks (map (λ b. b.items) bs)) none)
+    (ap (λ bs. joined_blocks (map (λ b. b.items) bs)) blocks ∙ ap (λ es. joined_blocks (es ∷ [])) first)
 
 pub make_room-requires-clause-inside : goal.make_room-requires-clause-inside
 make_room-requires-clause-inside g c =
@@ -65,7 +65,7 @@ returns-in_err-insert-clause-err g c =
     let is =
     map-set (λ b. b.items) bs place.block c.insert.new.self
     ∙ (ap (slice_set (map (λ b. b.items) bs) place.block) c.in_err-insert.ensures.items ∙ set-same (map (λ b. b.items) bs) place.block block.items at) in
-    on_err c.from_residual-in_err-insert.result (ap joined is ∙ (ap joined c.self-2.view_is ∙ c.in_ok-place.ensures.joined))
+    on_err c.from_residual-in_err-insert.result (ap joined_blocks is ∙ (ap joined_blocks c.self-2.view_is ∙ c.in_ok-place.ensures.joined))
 
 pub invariant_of-self-2 : goal.invariant_of-self-2
 invariant_of-self-2 g c =
@@ -85,7 +85,7 @@ invariant_of-self-2 g c =
     ∙ ap (slice_set (map (λ b. b.items) bs) place.block) c.in_ok-insert.ensures.items in
     let below = subst (AllBelow name) (sym moved.earlier ∙ ap (λ blocks. before blocks place) (sym c.self-2.view_is)) c.requires.below in
     let above = subst (AllAbove name) (sym moved.later ∙ ap (λ blocks. from blocks place 0) (sym c.self-2.view_is)) c.requires.above in
-    let with = ap joined is ∙ joined-with (map (λ b. b.items) bs) place block.items e at within in
+    let with = ap joined_blocks is ∙ joined-with (map (λ b. b.items) bs) place block.items e at within in
     let was = round-missing (map (λ b. b.items) bs) place in
     let some : 0 < length c.insert.new.self.items = omega (arith, ap length c.in_ok-insert.ensures.items, length-insert block.items place.at e within) in
     let filled = subst AllFilled (sym (map-set (λ b. b.items) bs place.block c.insert.new.self)) (filled-set (map (λ b. b.items) bs) place.block c.insert.new.self.items some c.self-2.invariant.filled) in
@@ -109,6 +109,6 @@ returns-clause-ok g c =
     ∙ ap (slice_set (map (λ b. b.items) bs) place.block) c.in_ok-insert.ensures.items in
     let below = subst (AllBelow name) (sym moved.earlier ∙ ap (λ blocks. before blocks place) (sym c.self-2.view_is)) c.requires.below in
     let above = subst (AllAbove name) (sym moved.later ∙ ap (λ blocks. from blocks place 0) (sym c.self-2.view_is)) c.requires.above in
-    let with = ap joined is ∙ joined-with (map (λ b. b.items) bs) place block.items e at within in
+    let with = ap joined_blocks is ∙ joined-with (map (λ b. b.items) bs) place block.items e at within in
     let was = round-missing (map (λ b. b.items) bs) place in
-    value-with c.args.self.now (map (λ b. b.items) (slice_set bs place.block c.insert.new.self)) name c.args.value _ _ below above (sym c.in_ok-place.ensures.joined ∙ (ap joined (sym c.self-2.view_is) ∙ was)) with
+    value-with c.args.self.now (map (λ b. b.items) (slice_set bs place.block c.insert.new.self)) name c.args.value _ _ below above (sym c.in_ok-place.ensures.joined ∙ (ap joined_blocks (sym c.self-2.view_is) ∙ was)) with

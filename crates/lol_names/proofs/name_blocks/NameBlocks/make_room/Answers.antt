@@ -1,7 +1,7 @@
 use Rattle.std.proofs.Common.{rules, ◌≡◌, ◌<◌, ◌≤◌, ◌+◌, ◌∙◌, sym, ap, subst, map, length, arith, [], unwrap_or}
 use Rattle.std.specs.Prelude.{slice_set, slice_index_or}
 use Rattle.std.specs.List.{insert}
-use Rattle.lol_names.specs.NameBlocks.{AreBlocks, AreAscending, joined, block_at}
+use Rattle.lol_names.specs.NameBlocks.{AreBlocks, AreAscending, joined_blocks, block_at}
 use Rattle.lol_names.proofs.NameChanges.{map-set, map-insert, block_there, same_block, joined-halved, filled-halved, lower-place, upper-place, place_in}
 use Rattle.lol_names.proofs.name_blocks.NameBlocks.make_room.Goals as goal
 
@@ -46,7 +46,7 @@ returns-then-place-clause-joined g c =
     ∙ (map-insert (λ b. b.items) (slice_set c.reserve.new.self.items place.block c.split_off.new.self) (place.block + 1) c.in_ok-upper.upper
     ∙ (λ i. insert ((map-set (λ b. b.items) c.reserve.new.self.items place.block c.split_off.new.self
     ∙ (λ j. slice_set (map (λ b. b.items) (kept j)) place.block (c.in_ok-upper.ensures.items j))) i) (place.block + 1) (c.in_ok-upper.ensures.tail i))) in
-    ap joined is ∙ (joined-halved (map (λ b. b.items) bs) place.block 32 block.items at ∙ ap joined c.self.view_is)
+    ap joined_blocks is ∙ (joined-halved (map (λ b. b.items) bs) place.block 32 block.items at ∙ ap joined_blocks c.self.view_is)
 
 pub returns-then-place-clause-ok : goal.returns-then-place-clause-ok
 returns-then-place-clause-ok g c =
@@ -110,7 +110,7 @@ returns-clause-joined g c =
     ∙ (map-insert (λ b. b.items) (slice_set c.reserve.new.self.items place.block c.split_off.new.self) (place.block + 1) c.in_ok-upper.upper
     ∙ (λ i. insert ((map-set (λ b. b.items) c.reserve.new.self.items place.block c.split_off.new.self
     ∙ (λ j. slice_set (map (λ b. b.items) (kept j)) place.block (c.in_ok-upper.ensures.items j))) i) (place.block + 1) (c.in_ok-upper.ensures.tail i))) in
-    ap joined is ∙ (joined-halved (map (λ b. b.items) bs) place.block 32 block.items at ∙ ap joined c.self.view_is)
+    ap joined_blocks is ∙ (joined-halved (map (λ b. b.items) bs) place.block 32 block.items at ∙ ap joined_blocks c.self.view_is)
 
 pub returns-clause-ok : goal.returns-clause-ok
 returns-clause-ok g c =

@@ -3,7 +3,7 @@ use Rattle.std.specs.Prelude.{slice_set}
 use Rattle.std.specs.List.{remove}
 use Rattle.lol_base.specs.LocalNames.{Name, same_local_name, local_name_cmp}
 use Rattle.std.specs.declared.cmp.Ordering.TheVariants.{Equal}
-use Rattle.lol_names.specs.NameBlocks.{AreBlocks, Stands, block_at, value_of}
+use Rattle.lol_names.specs.NameBlocks.{AreBlocks, StandsInBlocks, block_at, value_in_blocks}
 use Rattle.lol_names.proofs.NameBlocks.{read_at}
 use Rattle.lol_names.proofs.NameChanges.{map-set, map-remove, there, entry_there, without-one, without-block, blocks-without, value-without}
 use Rattle.lol_names.proofs.name_blocks.NameBlocks.remove.Goals as goal
@@ -57,12 +57,12 @@ returns-then-is_empty g c name stands q =
     ap (map (λ b. b.items)) c.remove-then-is_empty.ensures.items
     ∙ (map-remove (λ b. b.items) (slice_set bs place.block c.remove.new.self) place.block
     ∙ ap (λ blocks. remove blocks place.block) (map-set (λ b. b.items) bs place.block c.remove.new.self ∙ ap (slice_set (map (λ b. b.items) bs) place.block) c.remove.ensures.items)) in
-    let s = subst (λ blocks. Stands blocks name place) (sym c.self.view_is) stands in
+    let s = subst (λ blocks. StandsInBlocks blocks name place) (sym c.self.view_is) stands in
     let read = read_at (λ b. b.items) bs place block e s.entry s.at c.index_mut-block.ensures.value c.remove.ensures.value in
     let same : local_name_cmp e.0 name ≡ Equal = ap (λ (x : Name × g.row.V.Denot). local_name_cmp x.0 name) (sym read) ∙ s.same in
-    ap (λ blocks. value_of blocks q) is
+    ap (λ blocks. value_in_blocks blocks q) is
     ∙ (value-without (map (λ b. b.items) bs) place e _ name without c.self.invariant same q
-    ∙ (λ i. cond (same_local_name name q) None (value_of (c.self.view_is i) q)))
+    ∙ (λ i. cond (same_local_name name q) None (value_in_blocks (c.self.view_is i) q)))
 
 pub returns-else-is_empty : goal.returns-else-is_empty
 returns-else-is_empty g c name stands q =
@@ -77,9 +77,9 @@ returns-else-is_empty g c name stands q =
     let some = subst (λ es. 0 < length es) c.remove.ensures.items left in
     let without = without-one (map (λ b. b.items) bs) place block.items e at found some in
     let is = map-set (λ b. b.items) bs place.block c.remove.new.self ∙ ap (slice_set (map (λ b. b.items) bs) place.block) c.remove.ensures.items in
-    let s = subst (λ blocks. Stands blocks name place) (sym c.self.view_is) stands in
+    let s = subst (λ blocks. StandsInBlocks blocks name place) (sym c.self.view_is) stands in
     let read = read_at (λ b. b.items) bs place block e s.entry s.at c.index_mut-block.ensures.value c.remove.ensures.value in
     let same : local_name_cmp e.0 name ≡ Equal = ap (λ (x : Name × g.row.V.Denot). local_name_cmp x.0 name) (sym read) ∙ s.same in
-    ap (λ blocks. value_of blocks q) is
+    ap (λ blocks. value_in_blocks blocks q) is
     ∙ (value-without (map (λ b. b.items) bs) place e _ name without c.self.invariant same q
-    ∙ (λ i. cond (same_local_name name q) None (value_of (c.self.view_is i) q)))
+    ∙ (λ i. cond (same_local_name name q) None (value_in_blocks (c.self.view_is i) q)))

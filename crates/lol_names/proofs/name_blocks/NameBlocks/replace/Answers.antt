@@ -3,7 +3,7 @@ use Rattle.std.specs.Prelude.{slice_get}
 use Rattle.std.specs.Vec.{with_item}
 use Rattle.lol_base.specs.LocalNames.{Name, same_local_name, local_name_cmp}
 use Rattle.std.specs.declared.cmp.Ordering.TheVariants.{Equal}
-use Rattle.lol_names.specs.NameBlocks.{AreBlocks, Stands, block_at, value_of}
+use Rattle.lol_names.specs.NameBlocks.{AreBlocks, StandsInBlocks, block_at, value_in_blocks}
 use Rattle.lol_names.proofs.NameBlocks.{read_at, value-stands}
 use Rattle.lol_names.proofs.NameChanges.{map-set, there, entry_there, blocks-set, stands-set, value-set}
 use Rattle.lol_names.proofs.name_blocks.NameBlocks.replace.Goals as goal
@@ -34,9 +34,9 @@ returns-clause-stands g c name stands =
     let within = subst (λ blocks. place.at < length (block_at blocks place.block)) (sym c.self.view_is) c.requires in
     let at = there (λ b. b.items) bs place block within c.index_mut-block.ensures.value in
     let found = entry_there (λ b. b.items) bs place block e within c.index_mut-block.ensures.value c.index_mut.ensures.value in
-    let s = subst (λ blocks. Stands blocks name place) (sym c.self.view_is) stands in
+    let s = subst (λ blocks. StandsInBlocks blocks name place) (sym c.self.view_is) stands in
     let read = read_at (λ b. b.items) bs place block e s.entry s.at c.index_mut-block.ensures.value c.index_mut.ensures.value in
-    subst (λ blocks. Stands blocks name place) (sym (map-set (λ b. b.items) bs place.block _))
+    subst (λ blocks. StandsInBlocks blocks name place) (sym (map-set (λ b. b.items) bs place.block _))
     (stands-set (map (λ b. b.items) bs) place block.items e c.replace.new.dest name at found s read)
 
 pub returns-clause-is : goal.returns-clause-is
@@ -48,10 +48,10 @@ returns-clause-is g c name stands =
     let within = subst (λ blocks. place.at < length (block_at blocks place.block)) (sym c.self.view_is) c.requires in
     let at = there (λ b. b.items) bs place block within c.index_mut-block.ensures.value in
     let found = entry_there (λ b. b.items) bs place block e within c.index_mut-block.ensures.value c.index_mut.ensures.value in
-    let s = subst (λ blocks. Stands blocks name place) (sym c.self.view_is) stands in
+    let s = subst (λ blocks. StandsInBlocks blocks name place) (sym c.self.view_is) stands in
     let read = read_at (λ b. b.items) bs place block e s.entry s.at c.index_mut-block.ensures.value c.index_mut.ensures.value in
     let same : local_name_cmp e.0 name ≡ Equal = ap (λ (x : Name × g.row.V.Denot). local_name_cmp x.0 name) (sym read) ∙ s.same in
     (λ q.
-    ap (λ blocks. value_of blocks q) (map-set (λ b. b.items) bs place.block (with_item block place.at (e.0, c.replace.new.dest)))
+    ap (λ blocks. value_in_blocks blocks q) (map-set (λ b. b.items) bs place.block (with_item block place.at (e.0, c.replace.new.dest)))
     ∙ (value-set (map (λ b. b.items) bs) place block.items e c.replace.new.dest name at found c.self.invariant same q
-    ∙ (λ i. cond (same_local_name name q) (Some (c.replace.ensures.after i)) (value_of (c.self.view_is i) q))))
+    ∙ (λ i. cond (same_local_name name q) (Some (c.replace.ensures.after i)) (value_in_blocks (c.self.view_is i) q))))

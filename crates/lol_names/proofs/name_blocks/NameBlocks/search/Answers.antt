@@ -5,7 +5,7 @@ use Rattle.std.specs.declared.cmp.Ordering.TheVariants.{Less}
 use Rattle.std.specs.Ordering.{is_lt}
 use Rattle.lol_base.specs.LocalNames.{Name, local_name_cmp}
 use Rattle.lol_names.specs.declared.name_blocks.BlockPlace.{BlockPlace}
-use Rattle.lol_names.specs.NameBlocks.{AreBlocks, Stands, IsMissing, is_named}
+use Rattle.lol_names.specs.NameBlocks.{AreBlocks, StandsInBlocks, IsMissing, is_named}
 use Rattle.lol_names.proofs.NameBlocks.{sought, block_is, stands_at, missing_at, value-missing}
 use Rattle.lol_names.proofs.name_blocks.NameBlocks.search.Goals as goal
 
@@ -23,7 +23,7 @@ returns-then-is_at g c =
     let same-2 = c.deref-2.ensures.value in
     record {
       place =
-          subst (λ blocks. Stands blocks name place) shown
+          subst (λ blocks. StandsInBlocks blocks name place) shown
           (stands_at name (map (λ b. b.items) bs) place c.in-Some.names.now.items are (block_is (λ b. b.items) bs place.block c.in-Some.names.now at) round
           (subst (λ es. place.at ≤ length es) same c.names_below-at.ensures.bound)
           (subst (λ es. (d : Name × g.row.V.Denot) → 0 < place.at → local_name_cmp (slice_index_or es (place.at - 1) d).0 name ≡ Less) same c.names_below-at.ensures.before)

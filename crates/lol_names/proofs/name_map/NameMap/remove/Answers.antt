@@ -1,4 +1,4 @@
-use Rattle.std.proofs.Common.{◌≡◌, ◌∙◌, ap, subst, None}
+use Rattle.std.proofs.Common.{◌∙◌, ap, subst, None}
 use Rattle.std.specs.Prelude.{slice_set}
 use Rattle.lol_names.specs.NameMaps.{value_of, IsPutAt, SlottedNames}
 use Rattle.lol_names.proofs.NameMaps.{slot-apart, slot-put, slot-stands, slot-removed, overflow-stands, overflow-within, blocks-apart}

@@ -1,6 +1,6 @@
-use Rattle.std.proofs.Common.{◌≡◌, ◌∙◌, sym, ap, subst, Some}
+use Rattle.std.proofs.Common.{sym, subst, Some}
 use Rattle.std.specs.Prelude.{slice_set}
-use Rattle.lol_names.specs.NameMaps.{AreApart, Stands, IsPutAt, SlottedNames}
+use Rattle.lol_names.specs.NameMaps.{StandsInMap, IsPutAt, SlottedNames}
 use Rattle.lol_names.proofs.NameMaps.{slot-apart, slot-put, slot-stands, slot-replaced, slot-still, overflow-stands, overflow-within, blocks-apart}
 use Rattle.lol_names.proofs.name_map.NameMap.replace.Goals as goal
 
@@ -37,7 +37,7 @@ returns-in-Slot-clause-stands g c name stands =
     let slot = c.in-Slot.slot in
     let new : SlottedNames g.row.V.Denot = record { slots = slice_set slots slot c.replace_value.new.entry; overflow = overflow } in
     let s = slot-stands c.args.self.now slots overflow c.args.place slot name c.self.view_is c.in-Slot.is stands in
-    subst (Stands new name) (sym c.in-Slot.is)
+    subst (StandsInMap new name) (sym c.in-Slot.is)
     (slot-still slots overflow slot name c.index_mut.result.now c.replace_value.new.entry c.args.value s c.index_mut.ensures.value c.replace_value.ensures.is)
 
 pub returns-in-Slot-clause-taken : goal.returns-in-Slot-clause-taken

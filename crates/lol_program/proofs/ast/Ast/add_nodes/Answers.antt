@@ -5,7 +5,8 @@ use Rattle.lol_program.specs.AstPaths.{path_shown, AllIn}
 use Rattle.lol_program.specs.Sets.{Joins}
 use Rattle.lol_program.specs.Asts.{trees_of, nodes_of, pairs_of}
 use Rattle.lol_css.specs.declared.selector.ComplexSelector.{ComplexSelector}
-use Rattle.lol_program.proofs.Joining.{SameMembers-both, SameMembers-from, Joins-both, IsBetween-joined, IsBetween-more, IsBetween-both, in_back}
+use Rattle.std.proofs.lemmas.List.Elements.{Contains-append_right}
+use Rattle.lol_program.proofs.Joining.{SameMembers-both, SameMembers-from, Joins-both, IsBetween-joined, IsBetween-more, IsBetween-both}
 use Rattle.lol_program.proofs.PathLists.{all_of, all_of-more, all_taken, part_of_all, AllIn-more, on_err}
 use Rattle.lol_program.proofs.ast.Ast.add_nodes.Goals as goal
 
@@ -25,7 +26,7 @@ returns-in_err-add_path-clause-refused_nodes c =
     on_err c.from_residual.result
     (IsBetween-both old mid new (all_of paths)
     (IsBetween-more old mid _ (all_of paths) (λ path h. part_of_all paths i path h) (IsBetween-joined old mid _ c.loop-item.invariant.nodes))
-    (IsBetween-more mid new _ (all_of paths) (λ path h. part_of_all paths (i + 1) path (subst (λ (l : List Path). Contains l path) (sym all) (in_back (all_of (take i paths)) (beginnings (path_shown x)) path h))) c.in_err-add_path.ensures.refused_nodes))
+    (IsBetween-more mid new _ (all_of paths) (λ path h. part_of_all paths (i + 1) path (subst (λ (l : List Path). Contains l path) (sym all) (Contains-append_right (all_of (take i paths)) (beginnings (path_shown x)) path h))) c.in_err-add_path.ensures.refused_nodes))
 
 pub loop-item-preserved : goal.loop-item-preserved
 loop-item-preserved c =

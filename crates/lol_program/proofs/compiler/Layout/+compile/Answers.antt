@@ -18,7 +18,8 @@ use Rattle.lol_program.specs.Laying.{AreLaid}
 use Rattle.lol_program.specs.declared.ast_node.AstNode.{AstNode}
 use Rattle.lol_program.specs.declared.ast_node.AstNode.TheViews.{out-AstNode}
 use Rattle.lol_program.specs.declared.instruction.Instruction as code
-use Rattle.lol_program.proofs.CompiledLists.{flag_more, or_false}
+use Rattle.lol_base.specs.BoolLaws.{or-false}
+use Rattle.lol_program.proofs.CompiledLists.{flag_more}
 use Rattle.lol_program.proofs.ListPlaces.{empty_from}
 use Rattle.lol_program.specs.NodeViewLaws.{shape, node_out}
 use Rattle.lol_program.proofs.Laying.{IsHalfLaid, half_init, half_step, half_done, node_done, node_same, same_from, width_is, range_some}
@@ -98,7 +99,7 @@ compile_nodes-loop-node-preserved t c =
       can_next = tt;
       finite = tt;
       start = refl;
-      by_type = flag_more flag c.compile_node.new.self.enable_nth_of_type own (any_by_type (forest_of (into_iter_items c.next.new.self))) _ (done.by_type ∙ ap (λ (b : Bool). flag || b) (or_false own))
+      by_type = flag_more flag c.compile_node.new.self.enable_nth_of_type own (any_by_type (forest_of (into_iter_items c.next.new.self))) _ (done.by_type ∙ ap (λ (b : Bool). flag || b) (or-false own))
           (ap (λ (ns : List AstNode). flag || any_by_type (forest_of ns)) (sym c.in-Some.ensures.steps.0) ∙ c.loop-node.invariant.by_type);
       half = half_step f start end old (node_of c.in-Some.node) (forest_of (into_iter_items c.next.new.self)) place free c.compile_node.new.self.free_space_start instructions next h done.same done.free done.laid;
     }

@@ -52,7 +52,7 @@ returns-in-Ok-answer-clause-answered g c = λ s esi events tag stands named.
     ap is_html named.1 ∙ html_if c.args.ns vm.enable_esi_tags tag.name (ap (λ x. sameb the_type x PushIfNotSelfClosing) (sym directive) ∙ (sym c.eq.ensures ∙ c.if-eq.false)) in
     let content : c.eq-2.result ≡ has_content vm.enable_esi_tags tag =
     c.eq-2.ensures ∙ (ap (λ x. sameb the_type x Push) (directive ∙ ap (λ ns. directive_in ns vm.enable_esi_tags tag.name) (sym named.1)) ∙ content_is tag vm.enable_esi_tags html) in
-    let switch : vm.enable_esi_tags ≡ esi = sym stands.shown.switch ∙ stands.standing.switch in
+    let switch : vm.enable_esi_tags ≡ esi = sym stands.shows.switch ∙ stands.standing.switch in
     let ctx : ExecutionCtx _ = record c.new-ctx.result { with_content = c.eq-2.result } in
     let runnable = can_run ids with_ids lends vm name c.args.ns s esi events tag stands named stack ok room tries c.new-self.ensures.names c.new-self.ensures.attributes c.try_tag-tried.ensures.size in
     let of_name = subst (λ n. IfOk c.try_tag-tried.result (λ point. AreTried ids with_ids (sight_in stack n) vm.program.instructions.items (ranges_to_run_in vm.program stack) ctx c.try_tag-tried.new.ctx tries after (stop_found vm.program.entry_points (jumps_in stack) point))) new.name in
@@ -81,7 +81,7 @@ returns-in-Some-clause-asked g c = λ request is s esi events tag stands named.
     ap is_html named.1 ∙ html_if c.args.ns vm.enable_esi_tags tag.name (ap (λ x. sameb the_type x PushIfNotSelfClosing) (sym directive) ∙ (sym c.eq.ensures ∙ c.if-eq.false)) in
     let content : c.eq-2.result ≡ has_content vm.enable_esi_tags tag =
     c.eq-2.ensures ∙ (ap (λ x. sameb the_type x Push) (directive ∙ ap (λ ns. directive_in ns vm.enable_esi_tags tag.name) (sym named.1)) ∙ content_is tag vm.enable_esi_tags html) in
-    let switch : vm.enable_esi_tags ≡ esi = sym stands.shown.switch ∙ stands.standing.switch in
+    let switch : vm.enable_esi_tags ≡ esi = sym stands.shows.switch ∙ stands.standing.switch in
     let ctx : ExecutionCtx _ = record c.new-ctx.result { with_content = c.eq-2.result } in
     let runnable = can_run ids with_ids lends vm name c.args.ns s esi events tag stands named stack ok room tries c.new-self.ensures.names c.new-self.ensures.attributes c.try_tag-tried.ensures.size in
     let of_name = subst (λ n. IfOk c.try_tag-tried.result (λ point. AreTried ids with_ids (sight_in stack n) vm.program.instructions.items (ranges_to_run_in vm.program stack) ctx c.try_tag-tried.new.ctx tries after (stop_found vm.program.entry_points (jumps_in stack) point))) new.name in
@@ -159,7 +159,7 @@ returns-in-Ok-answer-clause-unlimited g c = λ s esi events tag stands named ope
     ap is_html named.1 ∙ html_if c.args.ns vm.enable_esi_tags tag.name (ap (λ x. sameb the_type x PushIfNotSelfClosing) (sym directive) ∙ (sym c.eq.ensures ∙ c.if-eq.false)) in
     let content : c.eq-2.result ≡ has_content vm.enable_esi_tags tag =
     c.eq-2.ensures ∙ (ap (λ x. sameb the_type x Push) (directive ∙ ap (λ ns. directive_in ns vm.enable_esi_tags tag.name) (sym named.1)) ∙ content_is tag vm.enable_esi_tags html) in
-    let switch : vm.enable_esi_tags ≡ esi = sym stands.shown.switch ∙ stands.standing.switch in
+    let switch : vm.enable_esi_tags ≡ esi = sym stands.shows.switch ∙ stands.standing.switch in
     let ctx : ExecutionCtx _ = record c.new-ctx.result { with_content = c.eq-2.result } in
     let runnable = can_run ids with_ids lends vm name c.args.ns s esi events tag stands named stack ok room tries c.new-self.ensures.names c.new-self.ensures.attributes c.try_tag-tried.ensures.size in
     let of_name = subst (λ n. IfOk c.try_tag-tried.result (λ point. AreTried ids with_ids (sight_in stack n) vm.program.instructions.items (ranges_to_run_in vm.program stack) ctx c.try_tag-tried.new.ctx tries after (stop_found vm.program.entry_points (jumps_in stack) point))) new.name in
@@ -188,7 +188,7 @@ returns-in-Err-answer-clause-limit_reported g c = λ limit s esi events tag stan
     ap is_html named.1 ∙ html_if c.args.ns vm.enable_esi_tags tag.name (ap (λ x. sameb the_type x PushIfNotSelfClosing) (sym directive) ∙ (sym c.eq.ensures ∙ c.if-eq.false)) in
     let content : c.eq-2.result ≡ has_content vm.enable_esi_tags tag =
     c.eq-2.ensures ∙ (ap (λ x. sameb the_type x Push) (directive ∙ ap (λ ns. directive_in ns vm.enable_esi_tags tag.name) (sym named.1)) ∙ content_is tag vm.enable_esi_tags html) in
-    let switch : vm.enable_esi_tags ≡ esi = sym stands.shown.switch ∙ stands.standing.switch in
+    let switch : vm.enable_esi_tags ≡ esi = sym stands.shows.switch ∙ stands.standing.switch in
     let ctx : ExecutionCtx _ = record c.new-ctx.result { with_content = c.eq-2.result } in
     let runnable = can_run ids with_ids lends vm name c.args.ns s esi events tag stands named stack ok room tries c.new-self.ensures.names c.new-self.ensures.attributes c.try_tag-tried.ensures.size in
     let of_name = subst (λ n. IfOk c.try_tag-tried.result (λ point. AreTried ids with_ids (sight_in stack n) vm.program.instructions.items (ranges_to_run_in vm.program stack) ctx c.try_tag-tried.new.ctx tries after (stop_found vm.program.entry_points (jumps_in stack) point))) new.name in
@@ -202,14 +202,14 @@ returns-in-Err-answer-clause-limit_reported g c = λ limit s esi events tag stan
 
 pub returns-in-Err-clause-free : goal.returns-in-Err-clause-free
 returns-in-Err-clause-free g c = λ error is s esi events tag stands named takes.
-    let none = has_none_typed s stands.paths c.args.self.now stands.machine stands.shown stands.standing.program takes.0 in
+    let none = has_none_typed s stands.paths c.args.self.now stands.machine stands.shows stands.standing.program takes.0 in
     let full = c.in-Err.ensures.free none in
     let child : c.in-Err.error ≡ CounterFull = cc in
     full_only c.in-Err.error c.from.result error child c.from.ensures cc
 
 pub returns-in-Err-tried-clause-free : goal.returns-in-Err-tried-clause-free
 returns-in-Err-tried-clause-free g c = λ error is s esi events tag stands named takes.
-    let small = has_small s stands.paths c.args.self.now stands.machine stands.shown stands.standing.program takes.0 in
+    let small = has_small s stands.paths c.args.self.now stands.machine stands.shows stands.standing.program takes.0 in
     let directive = c.get_stack_directive-directive.ensures tag.name (c.new-ctx.ensures.item.name ∙ named.0) in
     absurd (err_is_not_ok c.try_tag-tried.result c.in-Err-tried.error c.in-Err-tried.is
     (c.try_tag-tried.ensures.free (never_pushed c.args.ns c.args.self.now.enable_esi_tags tag.name (sym named.1 ∙ takes.1) takes.2 c.get_stack_directive-directive.result c.eq-2.result directive c.eq-2.ensures) small))
@@ -218,7 +218,7 @@ pub returns-in-Some-clause-free : goal.returns-in-Some-clause-free
 returns-in-Some-clause-free g c = λ error is s esi events tag stands named takes.
     let name : c.try_tag-tried.new.ctx.stack_item.local_name ≡ local_name tag.name = c.try_tag-tried.ensures.name ∙ (c.new-ctx.ensures.item.name ∙ named.0) in
     asked_only c.try_tag-tried.new.ctx c.in-Some.point _ c.request-in-Some.new.self c.request-in-Some.result error c.request-in-Some.ensures.requested
-    (c.request-in-Some.ensures.free (subst (λ (n : Name). IsNone n.spelling) (sym name) (void_unspelled tag.name takes.2))) (sym stands.shown.refused ∙ stands.standing.never_refused) is
+    (c.request-in-Some.ensures.free (subst (λ (n : Name). IsNone n.spelling) (sym name) (void_unspelled tag.name takes.2))) (sym stands.shows.refused ∙ stands.standing.never_refused) is
 
 pub returns-in-Err-answer-clause-all_or_none : goal.returns-in-Err-answer-clause-all_or_none
 returns-in-Err-answer-clause-all_or_none g c = λ error is. inr (λ s esi events tag stands named.
@@ -238,7 +238,7 @@ returns-in-Err-answer-clause-all_or_none g c = λ error is. inr (λ s esi events
     ap is_html named.1 ∙ html_if c.args.ns vm.enable_esi_tags tag.name (ap (λ x. sameb the_type x PushIfNotSelfClosing) (sym directive) ∙ (sym c.eq.ensures ∙ c.if-eq.false)) in
     let content : c.eq-2.result ≡ has_content vm.enable_esi_tags tag =
     c.eq-2.ensures ∙ (ap (λ x. sameb the_type x Push) (directive ∙ ap (λ ns. directive_in ns vm.enable_esi_tags tag.name) (sym named.1)) ∙ content_is tag vm.enable_esi_tags html) in
-    let switch : vm.enable_esi_tags ≡ esi = sym stands.shown.switch ∙ stands.standing.switch in
+    let switch : vm.enable_esi_tags ≡ esi = sym stands.shows.switch ∙ stands.standing.switch in
     let ctx : ExecutionCtx _ = record c.new-ctx.result { with_content = c.eq-2.result } in
     let runnable = can_run ids with_ids lends vm name c.args.ns s esi events tag stands named stack ok room tries c.new-self.ensures.names c.new-self.ensures.attributes c.try_tag-tried.ensures.size in
     let of_name = subst (λ n. IfOk c.try_tag-tried.result (λ point. AreTried ids with_ids (sight_in stack n) vm.program.instructions.items (ranges_to_run_in vm.program stack) ctx c.try_tag-tried.new.ctx tries after (stop_found vm.program.entry_points (jumps_in stack) point))) new.name in

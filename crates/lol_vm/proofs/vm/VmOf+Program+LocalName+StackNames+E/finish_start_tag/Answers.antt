@@ -90,7 +90,7 @@ pub returns-in-Err-clause-free : goal.returns-in-Err-clause-free
 returns-in-Err-clause-free g c = λ s esi events tag pending takes.
     let vm = c.args.self.now in
     let request = c.args.request in
-    let small = has_small s pending.paths vm pending.machine pending.shown pending.standing.program takes.0 in
+    let small = has_small s pending.paths vm pending.machine pending.shows pending.standing.program takes.0 in
     let closed = finished_closed request.point vm.program.entry_points (jumps_in vm.stack) (has_content esi tag) request.ctx.with_content c.args.aux_info.self_closing pending.context tag.namespace
     pending.goes_on takes.1 (void_is_closed esi tag takes.1 takes.2) in
     absurd (err_is_not_ok c.complete_tag-completed.result c.in-Err.error c.in-Err.is (c.complete_tag-completed.ensures.free (c.content_at.ensures ∙ closed) small))
