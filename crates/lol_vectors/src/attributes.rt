@@ -31,16 +31,7 @@ impl Attributes {
         let mut input = Vec::new(alloc);
         let mut outlines = Vec::new(alloc);
         for (name, value) in written {
-            let name = push(&mut input, name)?;
-            let value = match value {
-                Some(value) => Some(push(&mut input, value)?),
-                None => None,
-            };
-            outlines.push(AttributeOutline {
-                name,
-                value,
-                raw_range: name,
-            })?;
+            outlines.push(outline(&mut input, name, *value)?)?;
         }
         Ok(Attributes { input, outlines })
     }
@@ -62,6 +53,24 @@ impl Attributes {
         let tag = self.info(rt, false);
         AttributeMatcher::new(tag.input, tag.attr_buffer, ns)
     }
+}
+
+/// Writes an attribute: where it stands then.
+fn outline(
+    input: &mut Vec<u8>,
+    name: &str,
+    value: Option<&str>,
+) -> Result<AttributeOutline, AllocError> {
+    let name = push(input, name)?;
+    let value = match value {
+        Some(value) => Some(push(input, value)?),
+        None => None,
+    };
+    Ok(AttributeOutline {
+        name,
+        value,
+        raw_range: name,
+    })
 }
 
 fn push(input: &mut Vec<u8>, text: &str) -> Result<Range, AllocError> {
@@ -213,16 +222,26 @@ fn holds(
     }
 }
 
+fn holds_as_said(
+    alloc: Global,
+    attributes: &AttributeMatcher<'_>,
+    case_sensitivity: ParsedCaseSensitivity,
+    comparison: &Comparison<'_>,
+) -> Result<bool, AllocError> {
+    let (name, operator, value, answer) = comparison;
+    let operand = operand(alloc, name, value, case_sensitivity)?;
+    Ok(holds(attributes, *operator, &operand) == *answer)
+}
+
 /// Whether each comparison holds where it is said to.
-fn hold_as_said(
+fn all_hold_as_said(
     alloc: Global,
     attributes: &AttributeMatcher<'_>,
     case_sensitivity: ParsedCaseSensitivity,
     comparisons: &[Comparison<'_>],
 ) -> Result<bool, AllocError> {
-    for (name, operator, value, answer) in comparisons {
-        let operand = operand(alloc, name, value, case_sensitivity)?;
-        if holds(attributes, *operator, &operand) != *answer {
+    for comparison in comparisons {
+        if !holds_as_said(alloc, attributes, case_sensitivity, comparison)? {
             return Ok(false);
         }
     }
@@ -236,7 +255,7 @@ fn are_compared(rt: HostRuntime) -> Result<(), Fail> {
         let tag = Attributes::new(alloc, written)?;
         let tag = tag.matcher(&rt, *ns);
         assert!(rt;
-            hold_as_said(alloc, &tag, *case_sensitivity, comparisons)?,
+            all_hold_as_said(alloc, &tag, *case_sensitivity, comparisons)?,
             "row {place}"
         );
     }

@@ -35,22 +35,34 @@ const TESTS: [(&str, Option<(AttrSelectorOperator, &str)>, bool); 15] = [
     ("foo", Some((AttrSelectorOperator::DashMatch, "ba")), false),
 ];
 
+fn comparison(
+    alloc: Global,
+    name: &str,
+    operator: AttrSelectorOperator,
+    value: &str,
+) -> Result<Test, AllocError> {
+    Ok(Test::Attribute(OnAttributesExpr::AttributeComparisonExpr(AttributeComparisonExpr::new(
+        String::from_str(alloc, name)?,
+        String::from_str(alloc, value)?,
+        ParsedCaseSensitivity::CaseSensitive,
+        operator,
+    ))))
+}
+
+fn existence(alloc: Global, name: &str) -> Result<Test, AllocError> {
+    let name = String::from_str(alloc, name)?;
+    Ok(Test::Attribute(OnAttributesExpr::AttributeExists(name)))
+}
+
 fn test_of(
     alloc: Global,
     name: &str,
     compared: Option<(AttrSelectorOperator, &str)>,
 ) -> Result<Test, AllocError> {
-    let name = String::from_str(alloc, name)?;
-    let expr = match compared {
-        Some((operator, value)) => {
-            let value = String::from_str(alloc, value)?;
-            let case = ParsedCaseSensitivity::CaseSensitive;
-            let comparison = AttributeComparisonExpr::new(name, value, case, operator);
-            OnAttributesExpr::AttributeComparisonExpr(comparison)
-        }
-        None => OnAttributesExpr::AttributeExists(name),
-    };
-    Ok(Test::Attribute(expr))
+    match compared {
+        Some((operator, value)) => comparison(alloc, name, operator, value),
+        None => existence(alloc, name),
+    }
 }
 
 /// Whether attributes pass a compiled test of attributes.
@@ -142,34 +154,44 @@ const ROWS: [(&str, &str, NameValue, bool); 28] = [
     ("my-element", "MY-Element", NameValue::True, true),
 ];
 
-fn check_values(
-    rt: &impl Abort,
-    alloc: Global,
-    text: &str,
-    tag: &str,
-    value: NameValue,
-    passes: bool,
-) -> Result<(), Fail> {
-    let instruction = instruction(rt, alloc, text)?;
-    let tag = TagWord::of(tag);
-    let attributes = tag.attributes(alloc)?;
-    let name = LocalName::new(tag.name.as_bytes());
+/// The value by names of the first child of its name and of all, and whether it passes.
+fn values(
+    predicate: &CompiledPredicate,
+    name: &LocalName<'_>,
+    attributes: &AttributeMatcher<'_>,
+) -> (NameValue, bool) {
     let counter = ChildCounter::new_and_inc();
     let state = SelectorState {
         cumulative: &counter,
         typed: Some(&counter),
     };
+    let passes = predicate.eval(&state, name, attributes);
+    (predicate.by_names(&state, name), passes)
+}
+
+fn check_values(
+    rt: &impl Abort,
+    alloc: Global,
+    text: &str,
+    tag: &str,
+    wanted: (NameValue, bool),
+) -> Result<(), Fail> {
+    let instruction = instruction(rt, alloc, text)?;
+    let tag = TagWord::of(tag);
+    let attributes = tag.attributes(alloc)?;
     let matcher = attributes.matcher(rt, Namespace::Html);
-    let by_names = instruction.predicate.by_names(&state, &name);
-    let passed = instruction.predicate.eval(&state, &name, &matcher);
-    assert!(rt; by_names == value && passed == passes, "{text}");
+    let name = LocalName::new(tag.name.as_bytes());
+    assert!(rt;
+        values(&instruction.predicate, &name, &matcher) == wanted,
+        "{text}"
+    );
     Ok(())
 }
 
 #[test]
 fn values_by_names_and_with_attributes(rt: HostRuntime) -> Result<(), Fail> {
     for (text, tag, value, passes) in ROWS {
-        check_values(&rt, rt.alloc(), text, tag, value, passes)?;
+        check_values(&rt, rt.alloc(), text, tag, (value, passes))?;
     }
     Ok(())
 }

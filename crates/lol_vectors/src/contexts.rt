@@ -116,6 +116,9 @@ fn are_ids_and_ranges(rt: HostRuntime) -> Result<(), Fail> {
     Ok(())
 }
 
+/// The ids of a third branch too, for an element without content.
+const WITHOUT_CONTENT: [(u32, bool); 4] = [(1, false), (3, false), (7, false), (40, false)];
+
 #[test]
 fn gain_no_range_without_content(rt: HostRuntime) -> Result<(), Fail> {
     let mut ctx = gathered(rt.alloc())?;
@@ -124,7 +127,7 @@ fn gain_no_range_without_content(rt: HostRuntime) -> Result<(), Fail> {
     let mut owned = ctx.into_owned(rt.alloc())?;
     assert!(rt; !owned.with_content && has_ranges(&owned));
     let ids = ids_of(&rt, rt.alloc(), &mut owned);
-    assert!(rt; ids.as_slice() == [(1, false), (3, false), (7, false), (40, false)].as_slice());
+    assert!(rt; ids.as_slice() == WITHOUT_CONTENT.as_slice());
     Ok(())
 }
 

@@ -60,8 +60,7 @@ const CAUSES: [(SelectorError, &str); 14] = [
 #[test]
 fn causes_print_as_in_lol_html(rt: HostRuntime) -> Result<(), Fail> {
     for (cause, text) in CAUSES {
-        let printed = format!(in rt.alloc(); "{cause}")?;
-        assert_eq!(rt; printed.as_str(), text);
+        assert_eq!(rt; cause.to_string(rt.alloc())?.as_str(), text);
     }
     Ok(())
 }

@@ -3,7 +3,7 @@
 use crate::programs::instruction;
 use crate::tag_words::TagWord;
 use lol_program::{Instruction, TryExecResult};
-use lol_vm::{ChildCounter, LocalName, Namespace, SelectorState, Tries};
+use lol_vm::{AttributeMatcher, ChildCounter, LocalName, Namespace, SelectorState, Tries};
 use std::alloc::{AllocError, Global};
 use std::process::Abort;
 use std::test::Fail;
@@ -40,43 +40,50 @@ fn tries_without_attributes(rt: HostRuntime) -> Result<(), Fail> {
     Ok(())
 }
 
-/// Runs an instruction at a tag with its attributes, and expects its branch or nothing, and so many tries.
-fn expect_exec(
-    rt: &impl Abort,
-    alloc: Global,
+/// Runs an instruction at a first child: whether its branch is given, and what is tried.
+fn run(
     instruction: &Instruction,
-    tag: &str,
-    passes: bool,
-    wanted: (u64, u64),
-) -> Result<(), AllocError> {
-    let tag = TagWord::of(tag);
-    let attributes = tag.attributes(alloc)?;
-    let matcher = attributes.matcher(rt, Namespace::Html);
+    name: &LocalName<'_>,
+    attributes: &AttributeMatcher<'_>,
+) -> (bool, (u64, u64)) {
     let counter = ChildCounter::new_and_inc();
     let state = SelectorState {
         cumulative: &counter,
         typed: None,
     };
     let mut tries = Tries::new();
-    let name = LocalName::new(tag.name.as_bytes());
-    let passed = match instruction.exec(&state, &name, &matcher, &mut tries) {
+    let passed = match instruction.exec(&state, name, attributes, &mut tries) {
         Some(branch) => *branch == instruction.associated_branch,
         None => false,
     };
-    assert!(rt; passed == passes);
-    expect_tries(rt, &tries, wanted.0, wanted.1);
+    (passed, (tries.names(), tries.attributes()))
+}
+
+/// Runs an instruction at a tag with its attributes, and expects its branch or nothing, and so many tries.
+fn expect_exec(
+    rt: &impl Abort,
+    alloc: Global,
+    instruction: &Instruction,
+    tag: &str,
+    wanted: (bool, (u64, u64)),
+) -> Result<(), AllocError> {
+    let tag = TagWord::of(tag);
+    let attributes = tag.attributes(alloc)?;
+    let matcher = attributes.matcher(rt, Namespace::Html);
+    let name = LocalName::new(tag.name.as_bytes());
+    assert!(rt; run(instruction, &name, &matcher) == wanted);
     Ok(())
 }
 
 #[test]
 fn tries_with_attributes(rt: HostRuntime) -> Result<(), Fail> {
     let div_a = instruction(&rt, rt.alloc(), "div.a")?;
-    for (tag, passes, tries) in [
-        ("p@class=a", false, (1, 0)),
-        ("div@class=b", false, (1, 1)),
-        ("div@class=a", true, (1, 1)),
+    for (tag, wanted) in [
+        ("p@class=a", (false, (1, 0))),
+        ("div@class=b", (false, (1, 1))),
+        ("div@class=a", (true, (1, 1))),
     ] {
-        expect_exec(&rt, rt.alloc(), &div_a, tag, passes, tries)?;
+        expect_exec(&rt, rt.alloc(), &div_a, tag, wanted)?;
     }
     Ok(())
 }
@@ -84,7 +91,7 @@ fn tries_with_attributes(rt: HostRuntime) -> Result<(), Fail> {
 #[test]
 fn passes_where_nothing_is_tested(rt: HostRuntime) -> Result<(), Fail> {
     let noop = Instruction::noop(rt.alloc());
-    expect_exec(&rt, rt.alloc(), &noop, "p@class=b", true, (1, 0))?;
+    expect_exec(&rt, rt.alloc(), &noop, "p@class=b", (true, (1, 0)))?;
     Ok(())
 }
 

@@ -320,20 +320,35 @@ fn refuse_what_passes_the_limit(rt: HostRuntime) -> Result<(), Fail> {
     Ok(())
 }
 
+/// Takes a step so often, and expects so many charged slots each time.
+fn repeat(
+    rt: &impl Abort,
+    alloc: Global,
+    vm: &mut Machine,
+    limiter: &mut SharedMemoryLimiter,
+    step: &Step<'_>,
+    times: u32,
+    slots: usize,
+)
+    ensures { slot_bytes vm.new ≡ slot_bytes vm.old }
+{
+    for _ in 0..times {
+        take_step(rt, alloc, vm, limiter, step);
+        assert_eq!(rt; vm.charged_slots(), slots);
+    }
+}
+
 #[test]
 fn charge_in_steps(rt: HostRuntime) -> Result<(), Fail> {
     let alloc = rt.alloc();
     let mut limiter = SharedMemoryLimiter::new(2048);
     let mut vm = machine(&rt, alloc, selectors(alloc, &[("p", 0)])?);
     assert_eq!(rt; vm.charged_slots(), 0);
-    for slots in [8, 8, 8, 8, 8, 8, 8, 8, 16] {
-        let step = Start(Written::html("b"), Unasked, &[], true, (1, 0));
-        take_step(&rt, alloc, &mut vm, &mut limiter, &step);
-        assert_eq!(rt; vm.charged_slots(), slots);
-    }
-    for name in ["b"; 6] {
-        take_step(&rt, alloc, &mut vm, &mut limiter, &End(name, &[&[]]));
-    }
+    let opens = Start(Written::html("b"), Unasked, &[], true, (1, 0));
+    repeat(&rt, alloc, &mut vm, &mut limiter, &opens, 8, 8);
+    repeat(&rt, alloc, &mut vm, &mut limiter, &opens, 1, 16);
+    let closes = End("b", &[&[]]);
+    repeat(&rt, alloc, &mut vm, &mut limiter, &closes, 6, 16);
     assert_eq!(rt; (vm.charged_slots(), limiter.current_usage()), (16, 1024));
     release(&rt, vm, &mut limiter);
     Ok(())

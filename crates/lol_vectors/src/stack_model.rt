@@ -172,6 +172,18 @@ fn has_counted(counter: &ChildCounter, count: i32) -> bool {
     counter.is_nth(NthChild::new(0, count))
 }
 
+/// Whether the counters of a name are as the lists say.
+fn are_counted(stack: &Stack<Numbered>, plain: &Plain, name: &LocalName, kind: usize) -> bool {
+    let state = stack.build_state(name);
+    let children = plain.children.as_slice().last().copied();
+    let children = children.unwrap_or(Children::new());
+    let typed = match state.typed {
+        Some(counter) => has_counted(counter, children.of(kind)),
+        None => children.of(kind) == 0,
+    };
+    typed && has_counted(state.cumulative, children.all())
+}
+
 /// Whether the stack is as the lists say, as far as this name sees it.
 fn agrees(
     alloc: Global,
@@ -180,19 +192,13 @@ fn agrees(
     name: &LocalName,
     kind: usize,
 ) -> Result<bool, AllocError> {
-    let state = stack.build_state(name);
-    let children = plain.children.as_slice().last().copied();
-    let children = children.unwrap_or(Children::new());
-    let typed = match state.typed {
-        Some(counter) => has_counted(counter, children.of(kind)),
-        None => children.of(kind) == 0,
-    };
+    let places = plain.places(alloc, kind)?;
+    let active = plain.active(alloc)?;
     Ok(
-        typed
-            && has_counted(state.cumulative, children.all())
+        are_counted(stack, plain, name, kind)
             && stack.items().len() == plain.kinds.len()
-            && stack.open_places(name) == plain.places(alloc, kind)?.as_slice()
-            && stack.active_hereditary_jumps() == plain.active(alloc)?.as_slice(),
+            && stack.open_places(name) == places.as_slice()
+            && stack.active_hereditary_jumps() == active.as_slice(),
     )
 }
 
