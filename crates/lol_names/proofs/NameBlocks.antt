@@ -8,6 +8,7 @@ use Rattle.std.specs.Map.{lookup}
 use Rattle.std.specs.declared.cmp.Ordering.TheVariants.{Less, Equal, Greater}
 use Rattle.std.specs.Ordering.{is_lt}
 use Rattle.lol_base.specs.LocalNames.{Name, same_local_name, local_name_cmp}
+use Rattle.lol_base.specs.PlaceLaws.{within_at}
 use Rattle.lol_names.specs.NameBlocks.{joined_blocks, block_at, AllFilled, value_in_blocks, AllBelow, AllAbove, AreAscending, AreBlocks, begins_above, is_named, before, from, StandsInBlocks, IsMissing}
 use Rattle.lol_names.specs.declared.name_blocks.BlockPlace.{BlockPlace}
 use Rattle.lol_names.proofs.NameOrder.{all_above-append, all_above-back, all_above-below, all_above-same, all_below-append, all_below-above, all_below-same, ascending-back, ascending-front, ascending-below, ascending-above, found-missing, found-back, tested-same, same-flip, same-tested, above-other, above-flip}
@@ -43,11 +44,6 @@ module _ {A : Type 0} where
   drop-one (suc k) [] = refl
   drop-one zero (x ∷ xs) = refl
   drop-one (suc k) (x ∷ xs) = drop-one k xs
-
-  pub within_at : (xs : List A) (k : ℕ) → k < length xs → (x : A) × (slice_get xs k ≡ Some x)
-  within_at [] k h = absurd (omega (arith, h))
-  within_at (x ∷ xs) zero h = (x, refl)
-  within_at (x ∷ xs) (suc k) h = within_at xs k (omega (arith, h))
 
   pub drop-end : (xs : List A) (k : ℕ) → length xs ≤ k → drop k xs ≡ []
   drop-end [] zero h = refl

@@ -11,7 +11,7 @@ use Rattle.lol_program.specs.Laws.{TreesAreClosed, BeginningsAreClosed}
 use Rattle.lol_program.specs.NodeMemberLaws.{HasNode, HasPair}
 use Rattle.lol_program.specs.NodeListLaws.{nodes_listed, pairs_listed}
 use Rattle.lol_base.specs.MemberLaws.{Among, among_from_contains, contains_from_among, among_front, among_back, among_either}
-use Rattle.lol_program.specs.NodeOnceLaws.{nodes_distinct, AllPairs-from_Distinct}
+use Rattle.lol_program.specs.NodeOnceLaws.{begins_itself, front_begins, nodes_distinct, AllPairs-from_Distinct}
 
 -- 1. Trees
 
@@ -68,16 +68,6 @@ flat_map_among : {A B : Type 0} (f : A → List B) (xs : List A) (x : A) (y : B)
 flat_map_among f [] x y h g = absurd h
 flat_map_among f (z ∷ xs) x y (inl is) g = among_front (f z) (flat_map f xs) y (subst (λ w. Among (f w) y) (sym is) g)
 flat_map_among f (z ∷ xs) x y (inr h) g = among_back (f z) (flat_map f xs) y (flat_map_among f xs x y h g)
-
-begins_itself : (path : Path) → Among (beginnings path) path
-begins_itself (First a) = inl refl
-begins_itself (Then p s a) = inl refl
-
-front_begins : (path front : Path) (step : Combinator) (c : Compound) → Among (beginnings path) (Then front step c) → Among (beginnings path) front
-front_begins (First d) front step c (inl is) = cc
-front_begins (First d) front step c (inr h) = absurd h
-front_begins (Then other step' d) front step c (inl is) = let same : other ≡ front = cc in inr (subst (Among (beginnings other)) same (begins_itself other))
-front_begins (Then other step' d) front step c (inr h) = inr (front_begins other front step c h)
 
 pub beginnings_are_closed : BeginningsAreClosed
 beginnings_are_closed s are =

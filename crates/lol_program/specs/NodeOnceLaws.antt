@@ -51,22 +51,22 @@ one_depth (Then front step c) q r (inl a) (inr b) e = absurd (omega (arith, ap d
 one_depth (Then front step c) q r (inr a) (inl b) e = absurd (omega (arith, ap depth b, no_deeper front q a, e))
 one_depth (Then front step c) q r (inr a) (inr b) e = one_depth front q r a b e
 
-itself : (path : Path) → Among (beginnings path) path
-itself (First c) = inl refl
-itself (Then front step c) = inl refl
+pub begins_itself : (path : Path) → Among (beginnings path) path
+begins_itself (First c) = inl refl
+begins_itself (Then front step c) = inl refl
 
-front_of : (path front : Path) (step : Combinator) (c : Compound) → Among (beginnings path) (Then front step c) → Among (beginnings path) front
-front_of (First d) front step c (inl is) = cc
-front_of (First d) front step c (inr h) = absurd h
-front_of (Then f s d) front step c (inl is) = let same : f ≡ front = cc in inr (subst (Among (beginnings f)) same (itself f))
-front_of (Then f s d) front step c (inr h) = inr (front_of f front step c h)
+pub front_begins : (path front : Path) (step : Combinator) (c : Compound) → Among (beginnings path) (Then front step c) → Among (beginnings path) front
+front_begins (First d) front step c (inl is) = cc
+front_begins (First d) front step c (inr h) = absurd h
+front_begins (Then f s d) front step c (inl is) = let same : f ≡ front = cc in inr (subst (Among (beginnings f)) same (begins_itself f))
+front_begins (Then f s d) front step c (inr h) = inr (front_begins f front step c h)
 
 -- a node begins with a root
 begins : (make : Compound → Path) (f : Forest) (path : Path) → HasNode make f path → (d : Compound) × (HasTop d f × Among (beginnings path) (make d))
 begins make none path h = absurd h
-begins make (more c ids children descendants rest) path (inl (inl is)) = (c, (inl refl, subst (λ (p : Path). Among (beginnings p) (make c)) is (itself (make c))))
-begins make (more c ids children descendants rest) path (inl (inr (inl h))) = let b = begins (Then (make c) Child) children path h in (c, (inl refl, front_of path (make c) Child b.0 b.1.1))
-begins make (more c ids children descendants rest) path (inl (inr (inr h))) = let b = begins (Then (make c) Descendant) descendants path h in (c, (inl refl, front_of path (make c) Descendant b.0 b.1.1))
+begins make (more c ids children descendants rest) path (inl (inl is)) = (c, (inl refl, subst (λ (p : Path). Among (beginnings p) (make c)) is (begins_itself (make c))))
+begins make (more c ids children descendants rest) path (inl (inr (inl h))) = let b = begins (Then (make c) Child) children path h in (c, (inl refl, front_begins path (make c) Child b.0 b.1.1))
+begins make (more c ids children descendants rest) path (inl (inr (inr h))) = let b = begins (Then (make c) Descendant) descendants path h in (c, (inl refl, front_begins path (make c) Descendant b.0 b.1.1))
 begins make (more c ids children descendants rest) path (inr h) = let b = begins make rest path h in (b.0, (inr b.1.0, b.1.1))
 
 -- 3. Nodes
@@ -120,7 +120,7 @@ module _ (make : Compound → Path) (n : ℕ) (len : (c : Compound) → depth (m
   rest_apart c step f rest path other a b =
       let x = begins (Then (make c) step) f path a in
       let y = begins make rest path b in
-      let e = one_depth path (make c) (make y.0) (front_of path (make c) step x.0 x.1.1) y.1.1 (len c ∙ sym (len y.0)) in
+      let e = one_depth path (make c) (make y.0) (front_begins path (make c) step x.0 x.1.1) y.1.1 (len c ∙ sym (len y.0)) in
       other (subst (λ (d : Compound). HasTop d rest) (sym (same c y.0 e)) y.1.0)
 
 next_len : (make : Compound → Path) (n : ℕ) → ((c : Compound) → depth (make c) ≡ n) → (c : Compound) (step : Combinator) (d : Compound) → depth (Then (make c) step d) ≡ suc n

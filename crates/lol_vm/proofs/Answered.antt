@@ -1,12 +1,11 @@
 -- What a machine that stands for events answers.
-use Rattle.std.proofs.Common.{◌≡◌, ℕ, true, List, [], ◌∷◌, ◌↔◌, inl, inr, sym, ap, subst, Contains}
+use Rattle.std.proofs.Common.{◌≡◌, ℕ, true, List, ◌↔◌, sym, ap, subst, Contains}
 use Rattle.std.specs.Prelude.{◌||◌, not}
 use Rattle.lol_program.specs.Tests.{Element, is_html}
 use Rattle.lol_program.specs.Paths.{Selectors}
-use Rattle.lol_base.specs.MemberLaws.{Among}
 use Rattle.lol_vm.specs.Documents.{element_of}
-use Rattle.lol_vm.specs.Answers.{document, with_number, ascending_once, matching_ids}
-use Rattle.lol_vm.specs.ReportLaws.{ascending_is_determined, ascending_ascends, pairs_from_ascends, matching_ids_ascend, among_with_number, number_among, others_among}
+use Rattle.lol_vm.specs.Answers.{document, ascending_once, matching_ids}
+use Rattle.lol_vm.specs.ReportLaws.{ascending_is_determined, ascending_ascends, pairs_from_ascends, matching_ids_ascend, among_ascending, ascending_among}
 use Rattle.lol_program.specs.Programs.{all_places}
 use Rattle.lol_vm.specs.Machines.{HoldOnce, LeftMatches, ranges_to_run}
 use Rattle.lol_vm.specs.PlaceRuns.{context_of}
@@ -16,15 +15,6 @@ use Rattle.lol_vm.proofs.Held.{ranges_hold_left_matches}
 use Rattle.lol_vm.proofs.Counted.{places_count_tries}
 use Rattle.lol_vm.proofs.Gathered.{runs_give_reports}
 use Rattle.lol_vm.proofs.Stops.{stopped_starts_are_whole}
-
-pub among_ascending : (ns : List ℕ) (m : ℕ) → Among (ascending_once ns) m → Among ns m
-among_ascending [] m h = h
-among_ascending (n ∷ ns) m h = let more = among_ascending ns m in elim (among_with_number n (ascending_once ns) m h) [ inl is ↦ inl is | inr a ↦ inr (more a) ]
-
-pub ascending_among : (ns : List ℕ) (m : ℕ) → Among ns m → Among (ascending_once ns) m
-ascending_among [] m h = h
-ascending_among (n ∷ ns) m (inl is) = subst (Among (with_number n (ascending_once ns))) is (number_among n (ascending_once ns))
-ascending_among (n ∷ ns) m (inr a) = others_among n (ascending_once ns) m (ascending_among ns m a)
 
 -- a list with the members of a report, put in order, is the report
 pub in_order : (ids : List ℕ) (s : Selectors) (e : Element) (outer : List Element) → ((id : ℕ) → Contains ids id ↔ Contains (matching_ids s.pairs e outer) id) → ascending_once ids ≡ matching_ids s.pairs e outer

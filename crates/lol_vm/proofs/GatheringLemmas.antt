@@ -15,13 +15,12 @@ use Rattle.lol_program.specs.ProgramViews.{range_shown, instruction_shown}
 use Rattle.lol_program.specs.declared.instruction.Instruction as code
 use Rattle.lol_program.specs.IdSetLaws.{listed_if_held, held}
 use Rattle.lol_vm.specs.Answers.{ascending_once}
-use Rattle.lol_vm.specs.ReportLaws.{ascending_is_determined, ascending_ascends, pairs_from_ascends}
+use Rattle.lol_vm.specs.ReportLaws.{ascending_is_determined, ascending_ascends, pairs_from_ascends, among_ascending, ascending_among}
 use Rattle.lol_stack.specs.Contexts.{with_branch}
 use Rattle.lol_stack.specs.WithRange.{with_range}
 use Rattle.lol_vm.specs.PlaceRuns.{Context, branch}
 use Rattle.lol_vm.specs.Gathering.{Gathers, NewElementsGather, BranchesGather, GatheredIdsAscend}
 use Rattle.lol_stack.specs.declared.execution_ctx.ExecutionCtx.{ExecutionCtx}
-use Rattle.lol_vm.proofs.Answered.{among_ascending, ascending_among}
 
 pub new_elements_gather : {N E : Type 0} → NewElementsGather N E
 new_elements_gather ids_of name item new = record {

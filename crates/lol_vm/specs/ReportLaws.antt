@@ -106,11 +106,11 @@ pub ascending_ascends : (ns : List ℕ) → Ascends (ascending_once ns)
 ascending_ascends [] = tt
 ascending_ascends (n ∷ ns) = with_number_ascends n (ascending_once ns) (ascending_ascends ns)
 
-among_ascending : (ns : List ℕ) (m : ℕ) → Among (ascending_once ns) m → Among ns m
+pub among_ascending : (ns : List ℕ) (m : ℕ) → Among (ascending_once ns) m → Among ns m
 among_ascending [] m h = h
 among_ascending (n ∷ ns) m h = let more = among_ascending ns m in elim (among_with_number n (ascending_once ns) m h) [ inl is ↦ inl is | inr a ↦ inr (more a) ]
 
-ascending_among : (ns : List ℕ) (m : ℕ) → Among ns m → Among (ascending_once ns) m
+pub ascending_among : (ns : List ℕ) (m : ℕ) → Among ns m → Among (ascending_once ns) m
 ascending_among [] m h = h
 ascending_among (n ∷ ns) m (inl is) = subst (Among (with_number n (ascending_once ns))) is (number_among n (ascending_once ns))
 ascending_among (n ∷ ns) m (inr a) = others_among n (ascending_once ns) m (ascending_among ns m a)
