@@ -152,12 +152,12 @@ data_keep_requests ids_of s esi events tag vm request w h = record {
   goes_on = subst (λ js. GoesOnAt (is_html tag.namespace) (has_content esi tag) h.context (stop_at vm.program.entry_points js request.point) request.ctx.with_content) back h.goes_on;
   stopped = subst (λ js. IsPointIn (instructions_in vm) vm.program.entry_points js (ranges_in (active_in vm.stack)) request.point) back h.stopped;
   places_left =
-    subst
+      subst
       (λ js. h.left ≡ all_places (map range_shown (ranges_left (tag_ranges vm.program.entry_points js (ranges_in (active_in vm.stack))) (stop_at vm.program.entry_points js request.point))))
       back
       h.places_left;
   names =
-    subst
+      subst
       (λ js. names_counted vm.tries + length h.left ≡ length (all_places (ranges_of_machine h.machine)) + tried_at (stop_at vm.program.entry_points js request.point))
       back
       h.names;
