@@ -87,34 +87,17 @@ fn complete_ranges_of_tag<E: ElementData>(
     ensures content { ctx.new.with_content ≡ ctx.old.with_content }
     ensures free { ctx.old.with_content ≡ false → HaveSmallIds instructions.now → IsOk result }
 {
-    let entry_points = slice::from_ref(ranges.entry_points);
+    let entry = slice::from_ref(ranges.entry_points);
     let jumps = ranges.jumps;
     let active = ranges.hereditary_jumps;
     match point {
         RecoveryPoint::AtOnce => {
-            exec_ranges(
-                instructions,
-                entry_points,
-                state,
-                matcher,
-                alloc,
-                ctx,
-                tries,
-            )?;
+            exec_ranges(instructions, entry, state, matcher, alloc, ctx, tries)?;
             exec_ranges(instructions, jumps, state, matcher, alloc, ctx, tries)?;
             exec_active(instructions, active, state, matcher, alloc, ctx, tries)
         }
         RecoveryPoint::EntryPoints(stop) => {
-            complete_ranges(
-                instructions,
-                entry_points,
-                stop,
-                state,
-                matcher,
-                alloc,
-                ctx,
-                tries,
-            )?;
+            complete_ranges(instructions, entry, stop, state, matcher, alloc, ctx, tries)?;
             exec_ranges(instructions, jumps, state, matcher, alloc, ctx, tries)?;
             exec_active(instructions, active, state, matcher, alloc, ctx, tries)
         }

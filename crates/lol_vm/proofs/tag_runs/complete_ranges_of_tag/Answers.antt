@@ -26,8 +26,8 @@ returns-in_ok-exec_ranges-in-AtOnce-2-clause-executed g c =
     → IfOk c.exec_active.result (λ done. AreExecuted ids with_ids s all (left_of given p) ctx c.exec_active.new.ctx tries c.exec_active.new.tries a (tried_at (stop_of given p))) in
     subst P (sym c.in-AtOnce.is) (λ point runnable.
     let whole : AreRunnable all (entry ++ (jumps ++ active)) tries = runnable in
-    let run-1 = executed_if ids with_ids s s all entry c.from_ref-entry_points.result.now ctx c.exec_ranges.new.ctx tries c.exec_ranges.new.tries a 0 c.from_ref-entry_points.ensures.value (λ i. s) c.exec_ranges.result
-    (c.exec_ranges.ensures.ctx (subst (λ rs. AreRunnable all rs tries) (sym c.from_ref-entry_points.ensures.value) (front_runnable all entry (jumps ++ active) tries whole))) (none_tried c.exec_ranges.result _ _ (c.exec_ranges.ensures.names (subst (λ rs. AreRunnable all rs tries) (sym c.from_ref-entry_points.ensures.value) (front_runnable all entry (jumps ++ active) tries whole)))) (c.exec_ranges.ensures.attributes (subst (λ rs. AreRunnable all rs tries) (sym c.from_ref-entry_points.ensures.value) (front_runnable all entry (jumps ++ active) tries whole))) in
+    let run-1 = executed_if ids with_ids s s all entry c.from_ref-entry.result.now ctx c.exec_ranges.new.ctx tries c.exec_ranges.new.tries a 0 c.from_ref-entry.ensures.value (λ i. s) c.exec_ranges.result
+    (c.exec_ranges.ensures.ctx (subst (λ rs. AreRunnable all rs tries) (sym c.from_ref-entry.ensures.value) (front_runnable all entry (jumps ++ active) tries whole))) (none_tried c.exec_ranges.result _ _ (c.exec_ranges.ensures.names (subst (λ rs. AreRunnable all rs tries) (sym c.from_ref-entry.ensures.value) (front_runnable all entry (jumps ++ active) tries whole)))) (c.exec_ranges.ensures.attributes (subst (λ rs. AreRunnable all rs tries) (sym c.from_ref-entry.ensures.value) (front_runnable all entry (jumps ++ active) tries whole))) in
     let done-1 = subst (λ r. IfOk r (λ done. AreExecuted ids with_ids s all entry ctx c.exec_ranges.new.ctx tries c.exec_ranges.new.tries a 0)) c.in_ok-exec_ranges-in-AtOnce.was run-1 in
     let t-1 = sight c.args.state.now c.exec_ranges.new.ctx.stack_item.local_name in
     let same-1 : t-1 ≡ s = ap (sight c.args.state.now) c.exec_ranges.ensures.name in
@@ -66,9 +66,9 @@ returns-in_ok-exec_ranges-in-EntryPoints-clause-executed g c =
     let here : IsStopIn all entry stop = point in
     let parts = left_before all entry (jumps ++ active) stop here.0 in
     let whole = subst (λ rs. AreRunnable all rs tries) parts runnable in
-    let same_left = ap (λ rs. ranges_from rs stop) c.from_ref-entry_points.ensures.value in
-    let run-1 = executed_if ids with_ids s s all (ranges_from entry stop) (ranges_from c.from_ref-entry_points.result.now stop) ctx c.complete_ranges.new.ctx tries c.complete_ranges.new.tries a 1 same_left (λ i. s) c.complete_ranges.result
-    (c.complete_ranges.ensures.ctx (subst (λ rs. IsStopIn all rs stop) (sym c.from_ref-entry_points.ensures.value) here) (subst (λ rs. AreRunnable all rs tries) (sym same_left) (front_runnable all (ranges_from entry stop) (jumps ++ active) tries whole))) (c.complete_ranges.ensures.names (subst (λ rs. IsStopIn all rs stop) (sym c.from_ref-entry_points.ensures.value) here) (subst (λ rs. AreRunnable all rs tries) (sym same_left) (front_runnable all (ranges_from entry stop) (jumps ++ active) tries whole))) (c.complete_ranges.ensures.attributes (subst (λ rs. IsStopIn all rs stop) (sym c.from_ref-entry_points.ensures.value) here) (subst (λ rs. AreRunnable all rs tries) (sym same_left) (front_runnable all (ranges_from entry stop) (jumps ++ active) tries whole))) in
+    let same_left = ap (λ rs. ranges_from rs stop) c.from_ref-entry.ensures.value in
+    let run-1 = executed_if ids with_ids s s all (ranges_from entry stop) (ranges_from c.from_ref-entry.result.now stop) ctx c.complete_ranges.new.ctx tries c.complete_ranges.new.tries a 1 same_left (λ i. s) c.complete_ranges.result
+    (c.complete_ranges.ensures.ctx (subst (λ rs. IsStopIn all rs stop) (sym c.from_ref-entry.ensures.value) here) (subst (λ rs. AreRunnable all rs tries) (sym same_left) (front_runnable all (ranges_from entry stop) (jumps ++ active) tries whole))) (c.complete_ranges.ensures.names (subst (λ rs. IsStopIn all rs stop) (sym c.from_ref-entry.ensures.value) here) (subst (λ rs. AreRunnable all rs tries) (sym same_left) (front_runnable all (ranges_from entry stop) (jumps ++ active) tries whole))) (c.complete_ranges.ensures.attributes (subst (λ rs. IsStopIn all rs stop) (sym c.from_ref-entry.ensures.value) here) (subst (λ rs. AreRunnable all rs tries) (sym same_left) (front_runnable all (ranges_from entry stop) (jumps ++ active) tries whole))) in
     let done-1 = subst (λ r. IfOk r (λ done. AreExecuted ids with_ids s all (ranges_from entry stop) ctx c.complete_ranges.new.ctx tries c.complete_ranges.new.tries a 1)) c.in_ok-complete_ranges-in-EntryPoints.was run-1 in
     let t-1 = sight c.args.state.now c.complete_ranges.new.ctx.stack_item.local_name in
     let same-1 : t-1 ≡ s = ap (sight c.args.state.now) c.complete_ranges.ensures.name in
@@ -156,11 +156,11 @@ returns-in_err-exec_ranges-in-AtOnce-clause-within g c =
     let s = sight c.args.state.now c.args.ctx.now.stack_item.local_name in
     let P : RecoveryPoint → Type 0 = λ p. IsPointOf all given p → AreRunnable all (left_of given p) tries → AreWithin s all (left_of given p) tries c.exec_ranges.new.tries (tried_at (stop_of given p)) in
     subst P (sym c.in-AtOnce.is) (λ point runnable.
-    let is = c.from_ref-entry_points.ensures.value in
+    let is = c.from_ref-entry.ensures.value in
     let whole : AreRunnable all (entry ++ (jumps ++ active)) tries = runnable in
     let mid-1 = c.exec_ranges.new.tries in
     let lent = subst (λ rs. AreRunnable all rs tries) (sym is) (front_runnable all entry (jumps ++ active) tries whole) in
-    let first = within_from s s all entry c.from_ref-entry_points.result.now tries mid-1 0 is refl (omega (arith, c.exec_ranges.ensures.names_bound lent)) (c.exec_ranges.ensures.attributes_bound lent) in
+    let first = within_from s s all entry c.from_ref-entry.result.now tries mid-1 0 is refl (omega (arith, c.exec_ranges.ensures.names_bound lent)) (c.exec_ranges.ensures.attributes_bound lent) in
     within_front s all entry (jumps ++ active) tries mid-1 0 first)
 
 pub returns-in_err-exec_ranges-in-AtOnce-2-clause-within : goal.returns-in_err-exec_ranges-in-AtOnce-2-clause-within
@@ -174,11 +174,11 @@ returns-in_err-exec_ranges-in-AtOnce-2-clause-within g c =
     let s = sight c.args.state.now c.args.ctx.now.stack_item.local_name in
     let P : RecoveryPoint → Type 0 = λ p. IsPointOf all given p → AreRunnable all (left_of given p) tries → AreWithin s all (left_of given p) tries c.exec_ranges-in-AtOnce.new.tries (tried_at (stop_of given p)) in
     subst P (sym c.in-AtOnce.is) (λ point runnable.
-    let is = c.from_ref-entry_points.ensures.value in
+    let is = c.from_ref-entry.ensures.value in
     let whole : AreRunnable all (entry ++ (jumps ++ active)) tries = runnable in
     let mid-1 = c.exec_ranges.new.tries in
     let lent = subst (λ rs. AreRunnable all rs tries) (sym is) (front_runnable all entry (jumps ++ active) tries whole) in
-    let first = within_from s s all entry c.from_ref-entry_points.result.now tries mid-1 0 is refl (omega (arith, c.exec_ranges.ensures.names_bound lent)) (c.exec_ranges.ensures.attributes_bound lent) in
+    let first = within_from s s all entry c.from_ref-entry.result.now tries mid-1 0 is refl (omega (arith, c.exec_ranges.ensures.names_bound lent)) (c.exec_ranges.ensures.attributes_bound lent) in
     let mid-2 = c.exec_ranges-in-AtOnce.new.tries in
     let t-1 = sight c.args.state.now c.exec_ranges.new.ctx.stack_item.local_name in
     let same-1 : t-1 ≡ s = ap (sight c.args.state.now) c.exec_ranges.ensures.name in
@@ -198,11 +198,11 @@ returns-in_ok-exec_ranges-in-AtOnce-2-clause-within g c =
     let s = sight c.args.state.now c.args.ctx.now.stack_item.local_name in
     let P : RecoveryPoint → Type 0 = λ p. IsPointOf all given p → AreRunnable all (left_of given p) tries → AreWithin s all (left_of given p) tries c.exec_active.new.tries (tried_at (stop_of given p)) in
     subst P (sym c.in-AtOnce.is) (λ point runnable.
-    let is = c.from_ref-entry_points.ensures.value in
+    let is = c.from_ref-entry.ensures.value in
     let whole : AreRunnable all (entry ++ (jumps ++ active)) tries = runnable in
     let mid-1 = c.exec_ranges.new.tries in
     let lent = subst (λ rs. AreRunnable all rs tries) (sym is) (front_runnable all entry (jumps ++ active) tries whole) in
-    let first = within_from s s all entry c.from_ref-entry_points.result.now tries mid-1 0 is refl (omega (arith, c.exec_ranges.ensures.names_bound lent)) (c.exec_ranges.ensures.attributes_bound lent) in
+    let first = within_from s s all entry c.from_ref-entry.result.now tries mid-1 0 is refl (omega (arith, c.exec_ranges.ensures.names_bound lent)) (c.exec_ranges.ensures.attributes_bound lent) in
     let mid-2 = c.exec_ranges-in-AtOnce.new.tries in
     let t-1 = sight c.args.state.now c.exec_ranges.new.ctx.stack_item.local_name in
     let same-1 : t-1 ≡ s = ap (sight c.args.state.now) c.exec_ranges.ensures.name in
@@ -231,13 +231,13 @@ returns-in_err-complete_ranges-in-EntryPoints-clause-within g c =
     let here : IsStopIn all entry stop = point in
     let parts = left_before all entry (jumps ++ active) stop here.0 in
     let whole = subst (λ rs. AreRunnable all rs tries) parts runnable in
-    let is = c.from_ref-entry_points.ensures.value in
+    let is = c.from_ref-entry.ensures.value in
     let left = ranges_from entry stop in
     let same_left = ap (λ rs. ranges_from rs stop) is in
     let mid-1 = c.complete_ranges.new.tries in
     let stands = subst (λ rs. IsStopIn all rs stop) (sym is) here in
     let lent = subst (λ rs. AreRunnable all rs tries) (sym same_left) (front_runnable all left (jumps ++ active) tries whole) in
-    let first = within_from s s all left (ranges_from c.from_ref-entry_points.result.now stop) tries mid-1 1 same_left refl (c.complete_ranges.ensures.names_bound stands lent) (c.complete_ranges.ensures.attributes_bound stands lent) in
+    let first = within_from s s all left (ranges_from c.from_ref-entry.result.now stop) tries mid-1 1 same_left refl (c.complete_ranges.ensures.names_bound stands lent) (c.complete_ranges.ensures.attributes_bound stands lent) in
     subst (λ rs. AreWithin s all rs tries mid-1 1) (sym parts)
     (within_front s all left (jumps ++ active) tries mid-1 1 first))
 
@@ -256,13 +256,13 @@ returns-in_err-exec_ranges-in-EntryPoints-clause-within g c =
     let here : IsStopIn all entry stop = point in
     let parts = left_before all entry (jumps ++ active) stop here.0 in
     let whole = subst (λ rs. AreRunnable all rs tries) parts runnable in
-    let is = c.from_ref-entry_points.ensures.value in
+    let is = c.from_ref-entry.ensures.value in
     let left = ranges_from entry stop in
     let same_left = ap (λ rs. ranges_from rs stop) is in
     let mid-1 = c.complete_ranges.new.tries in
     let stands = subst (λ rs. IsStopIn all rs stop) (sym is) here in
     let lent = subst (λ rs. AreRunnable all rs tries) (sym same_left) (front_runnable all left (jumps ++ active) tries whole) in
-    let first = within_from s s all left (ranges_from c.from_ref-entry_points.result.now stop) tries mid-1 1 same_left refl (c.complete_ranges.ensures.names_bound stands lent) (c.complete_ranges.ensures.attributes_bound stands lent) in
+    let first = within_from s s all left (ranges_from c.from_ref-entry.result.now stop) tries mid-1 1 same_left refl (c.complete_ranges.ensures.names_bound stands lent) (c.complete_ranges.ensures.attributes_bound stands lent) in
     let mid-2 = c.exec_ranges-in-EntryPoints.new.tries in
     let t-1 = sight c.args.state.now c.complete_ranges.new.ctx.stack_item.local_name in
     let same-1 : t-1 ≡ s = ap (sight c.args.state.now) c.complete_ranges.ensures.name in
@@ -287,13 +287,13 @@ returns-in_ok-exec_ranges-in-EntryPoints-clause-within g c =
     let here : IsStopIn all entry stop = point in
     let parts = left_before all entry (jumps ++ active) stop here.0 in
     let whole = subst (λ rs. AreRunnable all rs tries) parts runnable in
-    let is = c.from_ref-entry_points.ensures.value in
+    let is = c.from_ref-entry.ensures.value in
     let left = ranges_from entry stop in
     let same_left = ap (λ rs. ranges_from rs stop) is in
     let mid-1 = c.complete_ranges.new.tries in
     let stands = subst (λ rs. IsStopIn all rs stop) (sym is) here in
     let lent = subst (λ rs. AreRunnable all rs tries) (sym same_left) (front_runnable all left (jumps ++ active) tries whole) in
-    let first = within_from s s all left (ranges_from c.from_ref-entry_points.result.now stop) tries mid-1 1 same_left refl (c.complete_ranges.ensures.names_bound stands lent) (c.complete_ranges.ensures.attributes_bound stands lent) in
+    let first = within_from s s all left (ranges_from c.from_ref-entry.result.now stop) tries mid-1 1 same_left refl (c.complete_ranges.ensures.names_bound stands lent) (c.complete_ranges.ensures.attributes_bound stands lent) in
     let mid-2 = c.exec_ranges-in-EntryPoints.new.tries in
     let t-1 = sight c.args.state.now c.complete_ranges.new.ctx.stack_item.local_name in
     let same-1 : t-1 ≡ s = ap (sight c.args.state.now) c.complete_ranges.ensures.name in
