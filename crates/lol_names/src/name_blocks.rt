@@ -150,9 +150,17 @@ impl<V> NameBlocks<V> {
         ensures { option_copied result ≡ value_in_blocks self.now name.now }
     {
         match self.search(name) {
-            Ok(place) => Some(&self.blocks[place.block][place.at].1),
+            Ok(place) => self.value_at(place),
             Err(_) => None,
         }
+    }
+
+    /// The value at a place, and none where no name stands there.
+    pub fn value_at(&self, place: BlockPlace) -> Option<&V>
+        ensures { (name : Name) → StandsInBlocks self.now name place → option_copied result ≡ value_in_blocks self.now name }
+    {
+        let (_, value) = self.blocks.get(place.block)?.get(place.at)?;
+        Some(value)
     }
 }
 

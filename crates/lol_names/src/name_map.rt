@@ -124,6 +124,20 @@ impl<V> NameMap<V> {
         }
     }
 
+    /// The value at a place, and none where no name stands there.
+    #[inline]
+    pub fn value_at(&self, place: NamePlace) -> Option<&V>
+        ensures { (name : Name) → StandsInMap self.now name place → option_copied result ≡ value_of self.now name }
+    {
+        match place {
+            NamePlace::Slot(slot) => {
+                let (_, value) = in_slot(self.slots.as_slice(), slot)?;
+                Some(value)
+            }
+            NamePlace::Overflow(place) => self.overflow.value_at(place),
+        }
+    }
+
     /// The value of a name.
     #[inline]
     pub fn get<'s, 'i: 's>(&'s self, name: &LocalName<'i>) -> Option<&'s V>

@@ -73,7 +73,7 @@ module _ {E : Type 0} where
 
   -- the places of the open elements of a name
   abbrev pub places_in : StackOf Name StackNames E → Name → List ℕ
-  places_in s name = places_of s.names.open name
+  places_in s name = places_of s.names.open_names name
 
   -- the stack with other counters by type
   abbrev pub with_typed : StackOf Name StackNames E → Option (List TypedCount) → StackOf Name StackNames E

@@ -1,13 +1,14 @@
 //! Names of the open elements.
 
-ghost use Rattle.std.specs.Prelude.{◌≡◌, ◌++◌, ◌∷◌, [], if◌then◌else◌, OnOk, OnErr, MatchBool};
+ghost use Rattle.std.specs.Prelude.{◌≡◌, ◌++◌, ◌∷◌, [], if◌then◌else◌, OnOk, OnErr, MatchBool, MatchOption};
 ghost use Rattle.lol_base.specs.LocalNames.{Name, same_local_name};
+ghost use Rattle.lol_names.specs.NameMaps.{StandsInMap, IsTaken};
 ghost use Rattle.lol_stack.specs.Levels.{without_last};
 ghost use Rattle.lol_stack.specs.Places.{places_listed};
 ghost use Rattle.lol_stack.specs.OpenPlaces.{places_of};
 
 use lol_base::LocalName;
-use lol_names::NameMap;
+use lol_names::{NameMap, NamePlace};
 use std::alloc::{AllocError, Global};
 use std::slice;
 
@@ -104,13 +105,54 @@ impl OpenNames {
         }
     }
 
+    /// Where a name stands, if it has places.
+    pub(crate) fn find(&self, name: &LocalName<'_>) -> Option<NamePlace>
+        ensures { MatchOption result (places_of self.now name.now ≡ []) (StandsInMap self.now.map name.now) }
+    {
+        self.map.search(name).ok()
+    }
+
+    /// The places of the name that stands there.
+    pub(crate) fn places_at(&self, at: NamePlace) -> &[usize]
+        ensures { (name : Name) → StandsInMap self.now.map name at → result.now ≡ places_of self.now name }
+    {
+        match self.map.value_at(at) {
+            Some(places) => places.as_slice(),
+            None => &[],
+        }
+    }
+
     /// Takes the last place of a name off.
     pub(crate) fn remove(&mut self, name: &LocalName<'static>)
         ensures { (q : Name) → places_of self.new q ≡ (if same_local_name name.now q then without_last (places_of self.old q) else places_of self.old q) }
     {
-        let Ok(at) = self.map.search(name) else {
-            return;
-        };
+        if let Ok(at) = self.map.search(name) {
+            self.remove_at(at);
+        }
+    }
+
+    /// Takes the last place of a name off, without a look-up where it is the one that was found at `at`.
+    pub(crate) fn remove_found(
+        &mut self,
+        name: &LocalName<'static>,
+        found: &LocalName<'_>,
+        at: NamePlace,
+    )
+        requires { StandsInMap self.old.map found.now at }
+        ensures { (q : Name) → places_of self.new q ≡ (if same_local_name name.now q then without_last (places_of self.old q) else places_of self.old q) }
+    {
+        if name == found {
+            self.remove_at(at);
+        } else {
+            self.remove(name);
+        }
+    }
+
+    /// Takes the last place of the name that stands there off.
+    fn remove_at(&mut self, at: NamePlace)
+        requires { IsTaken self.old.map at }
+        ensures { (name q : Name) → StandsInMap self.old.map name at → places_of self.new q ≡ (if same_local_name name q then without_last (places_of self.old q) else places_of self.old q) }
+    {
         let mut places = self.map.replace(at, Places::One(0));
         if places.pop() {
             self.map.replace(at, places);

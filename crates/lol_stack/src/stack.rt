@@ -4,6 +4,7 @@ ghost use Rattle.std.specs.Prelude.{◌≡◌, ◌*◌, ◌<◌, ◌≤◌, ◌-
 ghost use Rattle.std.specs.Option.{option_copied, option_copied_mut, option_map};
 ghost use Rattle.std.specs.Borrow.{sem};
 ghost use Rattle.lol_base.specs.LocalNames.{Name, local_name};
+ghost use Rattle.lol_names.specs.NameMaps.{StandsInMap};
 ghost use Rattle.lol_memory.specs.Limiter.{charged};
 ghost use Rattle.lol_memory.specs.LimitedVec.{with_items, grown_slots, IsLimited};
 ghost use Rattle.lol_program.specs.Counters.{full_count};
@@ -20,6 +21,7 @@ use crate::open_names::OpenNames;
 use crate::stack_item::{StackDirective, StackItem, StackItemOf};
 use lol_base::{LocalName, Namespace};
 use lol_memory::{LimitedVec, PushError, SharedMemoryLimiter};
+use lol_names::NamePlace;
 use lol_program::{AddressRange, ChildCounter, SelectorState};
 use std::alloc::{AllocError, Global};
 
@@ -35,7 +37,7 @@ pub struct StackOf<N, M, E> {
 #[derive(Drop)]
 pub struct StackNames {
     typed_child_counters: Option<TypedChildCounterMap>,
-    open: OpenNames,
+    open_names: OpenNames,
     alloc: Global,
 }
 
@@ -186,26 +188,28 @@ impl<E> StackOf<LocalName<'static>, StackNames, E> {
         if let Err(error) = self.active_hereditary_jumps.activate(ranges, place) {
             return Err(PushError::Memory(error));
         }
-        if let Err(error) = self.names.open.add(&name, place) {
+        if let Err(error) = self.names.open_names.add(&name, place) {
             self.active_hereditary_jumps.truncate(active);
             return Err(PushError::Memory(error));
         }
         if let Err(error) = self.items.push(item, limiter) {
-            self.names.open.remove(&name);
+            self.names.open_names.remove(&name);
             self.active_hereditary_jumps.truncate(active);
             return Err(error);
         }
         Ok(())
     }
 
-    /// The place of the last open element of a name.
-    fn place_to_close(&self, name: &LocalName<'_>) -> Option<usize>
-        ensures value { result ≡ place_to_close self.now name.now }
-        ensures within { IfSome result (λ place. place < length (items_in self.now)) }
+    /// The last open element of a name: where its name stands among the open names, and its place.
+    fn element_to_close(&self, name: &LocalName<'_>) -> Option<(NamePlace, usize)>
+        ensures value { option_map (λ found. found.1) result ≡ place_to_close self.now name.now }
+        ensures stands { IfSome result (λ found. StandsInMap self.now.names.open_names.map name.now found.0) }
+        ensures within { IfSome result (λ found. found.1 < length (items_in self.now)) }
     {
-        let (place, _) = self.names.open.places(name).split_last()?;
+        let at = self.names.open_names.find(name)?;
+        let (place, _) = self.names.open_names.places_at(at).split_last()?;
         if *place < self.items.len() {
-            Some(*place)
+            Some((at, *place))
         } else {
             None
         }
@@ -222,10 +226,11 @@ impl<E> StackOf<LocalName<'static>, StackNames, E> {
         ensures slots { KeepsSlots self.old self.new }
         ensures called { IsCalledAtEach F.step handler.old (element_data_of (closed_from (place_to_close self.old local_name.entry) (items_in self.old))) handler.new }
     {
-        let Some(place) = self.place_to_close(&local_name) else {
+        let Some((at, place)) = self.element_to_close(&local_name) else {
             return;
         };
-        self.names.close(&self.items.as_slice()[place..], place);
+        let closed = &self.items.as_slice()[place..];
+        self.names.close(closed, place, &local_name, at);
         self.active_hereditary_jumps.cut(place);
         hand_out(&mut self.items, place, handler);
     }
@@ -261,7 +266,7 @@ impl<E> StackOf<LocalName<'static>, StackNames, E> {
     pub fn open_places<'s, 'i: 's>(&'s self, name: &LocalName<'i>) -> &'s [usize]
         ensures { result.now ≡ places_in self.now name.now }
     {
-        self.names.open.places(name)
+        self.names.open_names.places(name)
     }
 }
 
@@ -270,10 +275,11 @@ impl StackNames {
     ghost use Rattle.lol_stack.specs.TypedCounts.{counted_by_type, cut_to};
     ghost use Rattle.lol_stack.specs.Stacks.{count_by_type};
     ghost use Rattle.lol_stack.specs.OpenPlaces.{places_of};
+    ghost use Rattle.lol_names.specs.NameMaps.{StandsInMap};
 
     fn new(alloc: Global, enable_nth_of_type: bool) -> Self
         ensures typed { result.typed_child_counters ≡ (if enable_nth_of_type then Some [] else None) }
-        ensures places { (q : Name) → places_of result.open q ≡ [] }
+        ensures places { (q : Name) → places_of result.open_names q ≡ [] }
     {
         let typed_child_counters = if enable_nth_of_type {
             Some(TypedChildCounterMap::new(alloc))
@@ -282,7 +288,7 @@ impl StackNames {
         };
         StackNames {
             typed_child_counters,
-            open: OpenNames::new(alloc),
+            open_names: OpenNames::new(alloc),
             alloc,
         }
     }
@@ -299,15 +305,28 @@ impl StackNames {
         }
     }
 
-    /// Takes the places of closed elements off, and drops the counters by type of the levels above `place`.
-    fn close<E>(&mut self, closed: &[StackItem<'static, E>], place: usize)
+    /// Takes the places of closed elements off, and drops the counters by type of the levels above `place`. The name that closed them
+    /// stands at `at`; it is the outermost one's, which so needs no look-up.
+    fn close<E>(
+        &mut self,
+        closed: &[StackItem<'static, E>],
+        place: usize,
+        name: &LocalName<'_>,
+        at: NamePlace,
+    )
+        requires { StandsInMap self.old.open_names.map name.now at }
         ensures typed { self.new.typed_child_counters ≡ option_map (cut_to place) self.old.typed_child_counters }
-        ensures places { (q : Name) → places_of self.new.open q ≡ without_places closed.now q (places_of self.old.open q) }
+        ensures places { (q : Name) → places_of self.new.open_names q ≡ without_places closed.now q (places_of self.old.open_names q) }
     {
         if let Some(counters) = &mut self.typed_child_counters {
             counters.pop_to(place);
         }
-        remove_names(&mut self.open, closed);
+        let Some((outermost, inside)) = closed.split_first() else {
+            return;
+        };
+        self.open_names
+            .remove_found(&outermost.local_name, name, at);
+        remove_names(&mut self.open_names, inside);
     }
 
     fn typed_counter<'s, 'i: 's>(

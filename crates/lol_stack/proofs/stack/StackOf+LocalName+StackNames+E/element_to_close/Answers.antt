@@ -2,18 +2,18 @@ use Rattle.std.proofs.Common.{◌≡◌, ◌∙◌, sym, ap, length, true, false
 use Rattle.std.proofs.lemmas.Bool.Decides.{nat_tests}
 use Rattle.lol_stack.specs.Stacks.{items_in, last_below}
 use Rattle.lol_stack.proofs.StackLists.{last_below-push}
-use Rattle.lol_stack.proofs.stack.StackOf+LocalName+StackNames+E.place_to_close.Goals as goal
+use Rattle.lol_stack.proofs.stack.StackOf+LocalName+StackNames+E.element_to_close.Goals as goal
 
 pub returns-then-place-len-clause-value : goal.returns-then-place-len-clause-value
 returns-then-place-len-clause-value g c =
     let n = length (items_in c.args.self.now) in
     let below : nat_lt c.in_ok-place.place.now n ≡ true = grind (arith, nat_tests) in
-    let last = ap (last_below n) (sym c.places.ensures ∙ c.in_ok-place.ensures.cases.0) ∙ last_below-push n c.in_ok-place.field-0-1.now c.in_ok-place.place.now in
+    let last = ap (last_below n) (sym (c.places_at.ensures c.args.name.now c.in_ok-at.ensures) ∙ c.in_ok-place.ensures.cases.0) ∙ last_below-push n c.in_ok-place.field-0-1.now c.in_ok-place.place.now in
     sym (rw below at last)
 
 pub returns-else-place-len-clause-value : goal.returns-else-place-len-clause-value
 returns-else-place-len-clause-value g c =
     let n = length (items_in c.args.self.now) in
     let above : nat_lt c.in_ok-place.place.now n ≡ false = grind (arith, nat_tests) in
-    let last = ap (last_below n) (sym c.places.ensures ∙ c.in_ok-place.ensures.cases.0) ∙ last_below-push n c.in_ok-place.field-0-1.now c.in_ok-place.place.now in
+    let last = ap (last_below n) (sym (c.places_at.ensures c.args.name.now c.in_ok-at.ensures) ∙ c.in_ok-place.ensures.cases.0) ∙ last_below-push n c.in_ok-place.field-0-1.now c.in_ok-place.place.now in
     sym (rw above at last)
