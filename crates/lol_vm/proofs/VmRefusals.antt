@@ -1,6 +1,6 @@
 -- What survives a refusal, and what end tags do.
 use Rattle.std.proofs.Common.{◌≡◌, ◌-◌, Result, Ok, Err, ℕ, ◌<◌, ◌≤◌, Bool, true, false, List, [], ◌∷◌, ◌++◌, length, take, drop, Option, Some, None, refl, sym, ap, ◌∙◌, subst, arith}
-use Rattle.std.specs.Result.{OnErr, IsOk}
+use Rattle.std.specs.Result.{OnOk, OnErr, IsOk}
 use Rattle.std.specs.Prelude.{slice_get, max, nat_lt, if◌then◌else◌}
 use Rattle.std.specs.List.{take-map, drop-map}
 use Rattle.std.proofs.lemmas.Bool.Decides.{nat_tests}
@@ -29,7 +29,11 @@ use Rattle.lol_vm.specs.StackMachines.{KeepsMachine, IsNew}
 use Rattle.lol_stack.specs.Stacks.{items_in, list_in, slots_in, places_in, last_count, counted_in, counted_if, counted_item, with_typed, closed_from, element_data_of, place_to_close, last_below, IsSame, IsEnded, IsEndedAt}
 use Rattle.lol_vm.specs.Standing.{Machine, new_machine, AreCounted, StandsOn, IsOrdered, counted, ended}
 use Rattle.lol_vm.specs.Views.{selectors}
-use Rattle.lol_vm.specs.Vms.{Vm, Shows, Stands, HasOpen, IsReported, IsFailedAs, IsRequested, IsNameOf, open_after, data_in}
+use Rattle.lol_memory.specs.declared.limited_vec.PushError.{PushError}
+use Rattle.lol_memory.specs.declared.limited_vec.PushError.TheVariants as pushes
+use Rattle.lol_vm.specs.VmErrors.{push_error}
+use Rattle.lol_vm.specs.declared.error.AuxStartTagInfoRequest.{AuxStartTagInfoRequest}
+use Rattle.lol_vm.specs.Vms.{Vm, Shows, Stands, HasOpen, IsReported, IsFailedAs, IsRefusal, IsRequested, IsNameOf, IsSilent, has_failed, open_after, data_in}
 use Rattle.lol_vm.specs.declared.error.VmError.{VmError}
 use Rattle.lol_vm.specs.declared.error.VmError.TheVariants.{InfoRequest, MemoryLimitExceeded, Memory, CounterFull, Failed}
 use Rattle.lol_stack.specs.declared.execution_ctx.ExecutionCtx.{ExecutionCtx}
@@ -252,6 +256,62 @@ requested_keeps ctx point old new (Err (MemoryLimitExceeded error)) h = absurd h
 requested_keeps ctx point old new (Err (Memory error)) h = record { stack = ap (λ (v : Vm _). v.stack) h; program = ap (λ (v : Vm _). v.program) h; switch = ap (λ (v : Vm _). v.enable_esi_tags) h }
 requested_keeps ctx point old new (Err CounterFull) h = absurd h
 requested_keeps ctx point old new (Err Failed) h = absurd h
+
+-- what a request answers
+module _ {E : Type 0} (ctx : ExecutionCtx E) (point : RecoveryPoint) (old new : Vm E) where
+  pub requested_ok : (P : Type 0) (result : Result (Unit {0}) (VmError E)) → IsRequested ctx point old new result → OnOk result P
+  requested_ok P (Ok done) h = absurd h
+  requested_ok P (Err error) h = tt
+
+  pub requested_as : (result : Result (Unit {0}) (VmError E)) (error : VmError E) → IsRequested ctx point old new result → result ≡ Err error → IsRequested ctx point old new (Err error)
+  requested_as result error h is = subst (IsRequested ctx point old new) is h
+
+  failed_after : (error : VmError E) → IsRequested ctx point old new (Err error) → IsRefusal error → has_failed new ≡ true
+  failed_after (InfoRequest request) h refusal = absurd refusal
+  failed_after (MemoryLimitExceeded error) h refusal = absurd h
+  failed_after (Memory error) h refusal = ap (λ (v : Vm _). v.failed) h
+  failed_after CounterFull h refusal = absurd h
+  failed_after Failed h refusal = absurd h
+
+  pub requested_refused : (result : Result (Unit {0}) (VmError E)) → IsRequested ctx point old new result → (error : VmError E) → result ≡ Err error → IsRefusal error → has_failed new ≡ true
+  requested_refused result h error is refusal = failed_after error (requested_as result error h is) refusal
+
+-- what an element that wasn't opened answers
+module _ {E : Type 0} (pushed : PushError) (error : VmError E) (is : error ≡ push_error pushed) where
+  pub push_isnt_failed : error ≡ Failed → ⊥
+  push_isnt_failed at = by_push pushed (sym is ∙ at)
+    where
+      by_push : (p : PushError) → push_error {E = E} p ≡ Failed → ⊥
+      by_push (pushes.Limit e) at = cc
+      by_push (pushes.Memory e) at = cc
+
+  pub push_isnt_full : error ≡ CounterFull → ⊥
+  push_isnt_full at = by_push pushed (sym is ∙ at)
+    where
+      by_push : (p : PushError) → push_error {E = E} p ≡ CounterFull → ⊥
+      by_push (pushes.Limit e) at = cc
+      by_push (pushes.Memory e) at = cc
+
+  pub push_isnt_silent : IsSilent error → ⊥
+  push_isnt_silent silent = by_push pushed (subst IsSilent is silent)
+    where
+      by_push : (p : PushError) → IsSilent {E = E} (push_error p) → ⊥
+      by_push (pushes.Limit e) silent = silent
+      by_push (pushes.Memory e) silent = silent
+
+  pub push_isnt_asked : (request : AuxStartTagInfoRequest E) → error ≡ InfoRequest request → ⊥
+  push_isnt_asked request at = by_push pushed (sym is ∙ at)
+    where
+      by_push : (p : PushError) → push_error {E = E} p ≡ InfoRequest request → ⊥
+      by_push (pushes.Limit e) at = cc
+      by_push (pushes.Memory e) at = cc
+
+  pub push_is_limit : error ≡ MemoryLimitExceeded (record {}) → pushed ≡ pushes.Limit (record {})
+  push_is_limit at = by_push pushed (sym is ∙ at)
+    where
+      by_push : (p : PushError) → push_error {E = E} p ≡ MemoryLimitExceeded (record {}) → p ≡ pushes.Limit (record {})
+      by_push (pushes.Limit e) at = refl
+      by_push (pushes.Memory e) at = cc
 
 module _ {E : Type 0} (vm : Vm E) (name : Name) (stack : StackOf Name StackNames E) (ok : stack ≡ counted_in vm.stack name) (room : last_count vm.stack < full_count) where
   pub data_after : (new : Vm E) → new.stack ≡ stack → data_in new ≡ data_in vm

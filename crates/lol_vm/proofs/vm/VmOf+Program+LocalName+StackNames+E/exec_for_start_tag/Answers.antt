@@ -1,4 +1,4 @@
-use Rattle.std.proofs.Common.{◌≡◌, inr, true, false, true, Ok, refl, sym, ap, ◌∙◌, subst}
+use Rattle.std.proofs.Common.{◌≡◌, inl, inr, true, false, true, Ok, refl, sym, ap, ◌∙◌, subst}
 use Rattle.std.specs.Result.{IfOk}
 use Rattle.std.specs.Option.{IfSome, IsNone, IsSome}
 use denote.Enum.Bare.{sameb}
@@ -12,7 +12,7 @@ use Rattle.lol_stack.specs.declared.stack.StackOf.{StackOf}
 use Rattle.lol_stack.specs.declared.stack.StackNames.{StackNames}
 use Rattle.lol_stack.specs.Stacks.{list_in, active_in, element_data_of, IsSame}
 use Rattle.lol_vm.specs.TagRuns.{AreTried, IsPointIn, jumps_in, ranges_to_run_in, sight_in, stop_found}
-use Rattle.lol_vm.specs.Vms.{Vm}
+use Rattle.lol_vm.specs.Vms.{Vm, IsSilent}
 use Rattle.lol_stack.specs.contracts.stack_item.StackDirective.{the_type}
 use Rattle.lol_stack.specs.declared.execution_ctx.ExecutionCtx.{ExecutionCtx}
 use Rattle.lol_stack.specs.declared.stack_item.StackItemOf.{StackItemOf}
@@ -21,7 +21,7 @@ use Rattle.lol_vm.proofs.Directives.{foreign_if, html_if, content_is}
 use Rattle.lol_stack.specs.declared.stack.AddChildError.TheVariants.{CounterFull}
 use Rattle.lol_vm.proofs.FreeTags.{asked_only, full_only, has_none_typed, has_small, never_pushed, void_unspelled}
 use Rattle.lol_vm.proofs.VmStarts.{none_tried, tried_at_most, has_reported, has_content_still, answered, pending_at_once, pending_point, can_run, requested_is}
-use Rattle.lol_vm.proofs.VmRefusals.{reported_with, limited_counted, not_false, err_is_not_ok, data_after, has_open_failed, has_open_same, on_err, open_counted, requested_keeps, same_stack}
+use Rattle.lol_vm.proofs.VmRefusals.{push_isnt_asked, push_isnt_silent, requested_as, requested_ok, requested_refused, reported_with, limited_counted, not_false, err_is_not_ok, data_after, has_open_failed, has_open_same, on_err, open_counted, requested_keeps, same_stack}
 use Rattle.lol_vm.proofs.vm.VmOf+Program+LocalName+StackNames+E.exec_for_start_tag.Goals as goal
 
 pub returns-then-eq-clause-asked : goal.returns-then-eq-clause-asked
@@ -277,3 +277,74 @@ returns-in-Err-clause-tried g c = λ s esi events tag stands named. none_tried s
 
 pub returns-then-eq-clause-tried : goal.returns-then-eq-clause-tried
 returns-then-eq-clause-tried g c = λ s esi events tag stands named. none_tried s esi events tag c.new-self.result c.request.new.self.tries c.request.ensures.tries c.new-self.ensures.names c.new-self.ensures.attributes
+
+pub returns-then-eq-clause-answered : goal.returns-then-eq-clause-answered
+returns-then-eq-clause-answered g c = requested_ok _ _ _ c.request.new.self _ c.request.result c.request.ensures.requested
+
+pub returns-then-eq-clause-charged : goal.returns-then-eq-clause-charged
+returns-then-eq-clause-charged g c = requested_ok _ _ _ c.request.new.self _ c.request.result c.request.ensures.requested
+
+pub returns-then-eq-clause-grows : goal.returns-then-eq-clause-grows
+returns-then-eq-clause-grows g c = requested_ok _ _ _ c.request.new.self _ c.request.result c.request.ensures.requested
+
+pub returns-then-eq-clause-unlimited : goal.returns-then-eq-clause-unlimited
+returns-then-eq-clause-unlimited g c = requested_ok _ _ _ c.request.new.self _ c.request.result c.request.ensures.requested
+
+pub returns-then-eq-clause-uncharged : goal.returns-then-eq-clause-uncharged
+returns-then-eq-clause-uncharged g c = on_err c.request.result refl
+
+pub returns-then-eq-clause-refused : goal.returns-then-eq-clause-refused
+returns-then-eq-clause-refused g c = requested_refused _ _ _ c.request.new.self c.request.result c.request.ensures.requested
+
+pub returns-then-eq-clause-limited : goal.returns-then-eq-clause-limited
+returns-then-eq-clause-limited g c = λ limit. absurd (requested_as _ _ _ c.request.new.self c.request.result _ c.request.ensures.requested limit)
+
+pub returns-then-eq-clause-limit_reported : goal.returns-then-eq-clause-limit_reported
+returns-then-eq-clause-limit_reported g c = λ limit. absurd (requested_as _ _ _ c.request.new.self c.request.result _ c.request.ensures.requested limit)
+
+pub returns-then-eq-clause-all_or_none : goal.returns-then-eq-clause-all_or_none
+returns-then-eq-clause-all_or_none g c = λ error is. inl refl
+
+pub returns-then-eq-clause-silent : goal.returns-then-eq-clause-silent
+returns-then-eq-clause-silent g c = λ error is silent. refl
+
+pub returns-in-Some-clause-answered : goal.returns-in-Some-clause-answered
+returns-in-Some-clause-answered g c = requested_ok _ _ _ c.request-in-Some.new.self _ c.request-in-Some.result c.request-in-Some.ensures.requested
+
+pub returns-in-Some-clause-charged : goal.returns-in-Some-clause-charged
+returns-in-Some-clause-charged g c = requested_ok _ _ _ c.request-in-Some.new.self _ c.request-in-Some.result c.request-in-Some.ensures.requested
+
+pub returns-in-Some-clause-grows : goal.returns-in-Some-clause-grows
+returns-in-Some-clause-grows g c = requested_ok _ _ _ c.request-in-Some.new.self _ c.request-in-Some.result c.request-in-Some.ensures.requested
+
+pub returns-in-Some-clause-unlimited : goal.returns-in-Some-clause-unlimited
+returns-in-Some-clause-unlimited g c = requested_ok _ _ _ c.request-in-Some.new.self _ c.request-in-Some.result c.request-in-Some.ensures.requested
+
+pub returns-in-Some-clause-uncharged : goal.returns-in-Some-clause-uncharged
+returns-in-Some-clause-uncharged g c = on_err c.request-in-Some.result refl
+
+pub returns-in-Some-clause-refused : goal.returns-in-Some-clause-refused
+returns-in-Some-clause-refused g c = requested_refused _ _ _ c.request-in-Some.new.self c.request-in-Some.result c.request-in-Some.ensures.requested
+
+pub returns-in-Some-clause-limited : goal.returns-in-Some-clause-limited
+returns-in-Some-clause-limited g c = λ limit. absurd (requested_as _ _ _ c.request-in-Some.new.self c.request-in-Some.result _ c.request-in-Some.ensures.requested limit)
+
+pub returns-in-Some-clause-limit_reported : goal.returns-in-Some-clause-limit_reported
+returns-in-Some-clause-limit_reported g c = λ limit. absurd (requested_as _ _ _ c.request-in-Some.new.self c.request-in-Some.result _ c.request-in-Some.ensures.requested limit)
+
+pub returns-in-Some-clause-all_or_none : goal.returns-in-Some-clause-all_or_none
+returns-in-Some-clause-all_or_none g c = λ error is. inl refl
+
+pub returns-in-Some-clause-silent : goal.returns-in-Some-clause-silent
+returns-in-Some-clause-silent g c = λ error is silent. refl
+
+pub returns-in-Err-answer-clause-silent : goal.returns-in-Err-answer-clause-silent
+returns-in-Err-answer-clause-silent g c = λ error is silent.
+    let same : c.from-in-Err-answer.result ≡ error = cc in
+    absurd (push_isnt_silent c.in-Err-answer.error c.from-in-Err-answer.result c.from-in-Err-answer.ensures (subst IsSilent (sym same) silent))
+
+pub returns-in-Err-answer-clause-asked : goal.returns-in-Err-answer-clause-asked
+returns-in-Err-answer-clause-asked g c = λ request is. absurd (push_isnt_asked c.in-Err-answer.error c.from-in-Err-answer.result c.from-in-Err-answer.ensures request cc)
+
+pub returns-in-Err-answer-clause-refused : goal.returns-in-Err-answer-clause-refused
+returns-in-Err-answer-clause-refused g c = λ error is refusal. ap (λ (v : Vm _). v.failed) c.in-Err-answer.ensures.err.1
