@@ -31,7 +31,9 @@ use Rattle.lol_vm.specs.Standing.{Machine, new_machine, AreCounted, StandsOn, Is
 use Rattle.lol_vm.specs.Views.{selectors}
 use Rattle.lol_memory.specs.declared.limited_vec.PushError.{PushError}
 use Rattle.lol_memory.specs.declared.limited_vec.PushError.TheVariants as pushes
-use Rattle.lol_vm.specs.VmErrors.{push_error}
+use Rattle.lol_vm.specs.VmErrors.{child_error, push_error}
+use Rattle.lol_stack.specs.declared.stack.AddChildError.{AddChildError}
+use Rattle.lol_stack.specs.declared.stack.AddChildError.TheVariants as children
 use Rattle.lol_vm.specs.declared.error.AuxStartTagInfoRequest.{AuxStartTagInfoRequest}
 use Rattle.lol_vm.specs.Vms.{Vm, Shows, Stands, HasOpen, IsReported, IsFailedAs, IsRefusal, IsRequested, IsNameOf, IsSilent, has_failed, open_after, data_in}
 use Rattle.lol_vm.specs.declared.error.VmError.{VmError}
@@ -312,6 +314,29 @@ module _ {E : Type 0} (pushed : PushError) (error : VmError E) (is : error ≡ p
       by_push : (p : PushError) → push_error {E = E} p ≡ MemoryLimitExceeded (record {}) → p ≡ pushes.Limit (record {})
       by_push (pushes.Limit e) at = refl
       by_push (pushes.Memory e) at = cc
+
+-- what a child that wasn't counted answers
+module _ {E : Type 0} (child : AddChildError) (error : VmError E) (is : error ≡ child_error child) where
+  pub child_isnt_failed : error ≡ Failed → ⊥
+  child_isnt_failed at = by_child child (sym is ∙ at)
+    where
+      by_child : (c : AddChildError) → child_error {E = E} c ≡ Failed → ⊥
+      by_child children.CounterFull at = cc
+      by_child (children.Memory e) at = cc
+
+  pub child_isnt_limit : error ≡ MemoryLimitExceeded (record {}) → ⊥
+  child_isnt_limit at = by_child child (sym is ∙ at)
+    where
+      by_child : (c : AddChildError) → child_error {E = E} c ≡ MemoryLimitExceeded (record {}) → ⊥
+      by_child children.CounterFull at = cc
+      by_child (children.Memory e) at = cc
+
+  pub child_isnt_asked : (request : AuxStartTagInfoRequest E) → error ≡ InfoRequest request → ⊥
+  child_isnt_asked request at = by_child child (sym is ∙ at)
+    where
+      by_child : (c : AddChildError) → child_error {E = E} c ≡ InfoRequest request → ⊥
+      by_child children.CounterFull at = cc
+      by_child (children.Memory e) at = cc
 
 module _ {E : Type 0} (vm : Vm E) (name : Name) (stack : StackOf Name StackNames E) (ok : stack ≡ counted_in vm.stack name) (room : last_count vm.stack < full_count) where
   pub data_after : (new : Vm E) → new.stack ≡ stack → data_in new ≡ data_in vm

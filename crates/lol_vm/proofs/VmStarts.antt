@@ -3,6 +3,7 @@ use Rattle.std.proofs.Common.{◌≡◌, ℕ, Result, Err, suc, zero, ◌+◌, �
 use Rattle.std.specs.Prelude.{◌||◌, ◌&&◌, if◌then◌else◌, slice_get, slice_set}
 use Rattle.std.specs.List.{list_any}
 use Rattle.std.specs.Option.{IsSome}
+use Rattle.std.specs.Result.{IfOk}
 use Rattle.std.proofs.lemmas.List.{map-append}
 use Rattle.lol_base.specs.LocalNames.{Name, local_name}
 use Rattle.lol_base.specs.MemberLaws.{map-map}
@@ -32,7 +33,7 @@ use Rattle.lol_stack.specs.SoundStacks.{IsSound}
 use Rattle.lol_vm.specs.StackMachines.{KeepsMachine, IsItemOf}
 use Rattle.lol_stack.specs.Stacks.{items_in, active_in, last_count, typed_count, counted_in, counted_item, counted_if, with_typed, element_data_of}
 use Rattle.lol_vm.specs.Standing.{Machine, StandsFor, AnswersStart, counted, opened, started, ranges_of_machine}
-use Rattle.lol_vm.specs.TagRuns.{AreTried, AreWithin, IsPointIn, jumps_in, ranges_to_run_in, sight_in, stop_at, ranges_left, tried_at}
+use Rattle.lol_vm.specs.TagRuns.{stop_found, AreTried, AreWithin, IsPointIn, jumps_in, ranges_to_run_in, sight_in, stop_at, ranges_left, tried_at}
 use Rattle.lol_vm.specs.Vms.{IsRequested, Vm, Shows, Stands, IsTagOf, IsAnswered, IsReported, IsTriedAtMost, IsPending, IsEntered, AreOpened, GoesOnAt, content_of, info_of, data_in}
 use Rattle.lol_vm.specs.declared.error.AuxStartTagInfoRequest.{AuxStartTagInfoRequest}
 use Rattle.lol_vm.specs.declared.error.VmError.{VmError}
@@ -181,6 +182,17 @@ module _ {E : Type 0} (ids : E → Ids) (with_ids : E → Ids → E) (lends : (w
       let run = run_count s st.paths (counted m tag.name) d.open_elements st.closed st.standing.program st.standing.items st.standing.active stack vm.program keeps st.shows.program e in
       let most = within (can_run before no_names no_attributes size) in
       record { names = omega (arith, most.names, no_names, run, ap names_counted kept); attributes = omega (arith, same, no_attributes, ap attributes_counted kept) }
+
+  -- what was run for its own name was run for the tag's
+  pub tried_as : {R : Type 0} (ctx new_ctx : ExecutionCtx E) (before after : Tries) → names_counted before ≡ 0 → attributes_counted before ≡ 0 → length vm.program.instructions.items < 2 ^ 63 → (own : Name) → own ≡ name
+      → (result found : Result (Option RecoveryPoint) R) → result ≡ found
+      → (AreRunnable vm.program.instructions.items (ranges_to_run_in vm.program stack) before
+      → IfOk result (λ point. AreTried ids with_ids (sight_in stack own) vm.program.instructions.items (ranges_to_run_in vm.program stack) ctx new_ctx before after (stop_found vm.program.entry_points (jumps_in stack) point)))
+      → IfOk found (λ point. AreTried ids with_ids (sight_in stack name) vm.program.instructions.items (ranges_to_run_in vm.program stack) ctx new_ctx before after (stop_found vm.program.entry_points (jumps_in stack) point))
+  tried_as ctx new_ctx before after no_names no_attributes size own is result found at tried =
+      let runnable = can_run before no_names no_attributes size in
+      subst (λ r. IfOk r (λ point. AreTried ids with_ids (sight_in stack name) vm.program.instructions.items (ranges_to_run_in vm.program stack) ctx new_ctx before after (stop_found vm.program.entry_points (jumps_in stack) point))) at
+      (subst (λ n. IfOk result (λ point. AreTried ids with_ids (sight_in stack n) vm.program.instructions.items (ranges_to_run_in vm.program stack) ctx new_ctx before after (stop_found vm.program.entry_points (jumps_in stack) point))) is (tried runnable))
 
   -- 4. A request at once
 

@@ -1,27 +1,25 @@
-use Rattle.std.proofs.Common.{◌≡◌, inl, inr, true, false, true, Ok, refl, sym, ap, ◌∙◌, subst}
+use Rattle.std.proofs.Common.{◌≡◌, arith, inl, inr, true, false, true, Ok, refl, sym, ap, ◌∙◌, subst}
 use Rattle.std.specs.Result.{IfOk}
 use Rattle.std.specs.Option.{IfSome, IsNone, IsSome}
 use denote.Enum.Bare.{sameb}
 use Rattle.lol_program.specs.Tests.{is_html}
-use Rattle.lol_stack.specs.Directives.{directive_in}
-use Rattle.lol_vm.specs.Events.{has_content}
 use Rattle.lol_vm.specs.InstructionRuns.{ranges_in}
 use Rattle.lol_base.specs.LocalNames.{Name, local_name}
 use Rattle.lol_memory.specs.LimitedVec.{LimitedVec, IsLimited}
 use Rattle.lol_stack.specs.declared.stack.StackOf.{StackOf}
 use Rattle.lol_stack.specs.declared.stack.StackNames.{StackNames}
 use Rattle.lol_stack.specs.Stacks.{list_in, active_in, element_data_of, IsSame}
-use Rattle.lol_vm.specs.TagRuns.{AreTried, IsPointIn, jumps_in, ranges_to_run_in, sight_in, stop_found}
+use Rattle.lol_vm.specs.TagRuns.{IsPointIn, jumps_in, stop_found}
 use Rattle.lol_vm.specs.Vms.{Vm, IsSilent}
 use Rattle.lol_stack.specs.contracts.stack_item.StackDirective.{the_type}
 use Rattle.lol_stack.specs.declared.execution_ctx.ExecutionCtx.{ExecutionCtx}
 use Rattle.lol_stack.specs.declared.stack_item.StackItemOf.{StackItemOf}
-use Rattle.lol_stack.specs.declared.stack_item.StackDirective.TheVariants.{Push, PushIfNotSelfClosing}
-use Rattle.lol_vm.proofs.Directives.{foreign_if, html_if, content_is}
+use Rattle.lol_stack.specs.declared.stack_item.StackDirective.TheVariants.{PushIfNotSelfClosing}
+use Rattle.lol_vm.proofs.Directives.{foreign_if, html_tag}
 use Rattle.lol_stack.specs.declared.stack.AddChildError.TheVariants.{CounterFull}
 use Rattle.lol_vm.proofs.FreeTags.{asked_only, full_only, has_none_typed, has_small, never_pushed, void_unspelled}
-use Rattle.lol_vm.proofs.VmStarts.{none_tried, tried_at_most, has_reported, has_content_still, answered, pending_at_once, pending_point, can_run, requested_is}
-use Rattle.lol_vm.proofs.VmRefusals.{push_isnt_asked, push_isnt_silent, requested_as, requested_ok, requested_refused, reported_with, limited_counted, not_false, err_is_not_ok, data_after, has_open_failed, has_open_same, on_err, open_counted, requested_keeps, same_stack}
+use Rattle.lol_vm.proofs.VmStarts.{tried_as, none_tried, tried_at_most, has_reported, has_content_still, answered, pending_at_once, pending_point, can_run, requested_is}
+use Rattle.lol_vm.proofs.VmRefusals.{child_isnt_asked, child_isnt_failed, child_isnt_limit, push_isnt_failed, push_isnt_full, push_isnt_asked, push_isnt_silent, requested_as, requested_ok, requested_refused, reported_with, limited_counted, not_false, err_is_not_ok, data_after, has_open_failed, has_open_same, on_err, open_counted, requested_keeps, same_stack}
 use Rattle.lol_vm.proofs.vm.VmOf+Program+LocalName+StackNames+E.exec_for_start_tag.Goals as goal
 
 pub returns-then-eq-clause-asked : goal.returns-then-eq-clause-asked
@@ -47,20 +45,13 @@ returns-in-Ok-answer-clause-answered g c = λ s esi events tag stands named.
     let new = c.new-ctx.ensures.item in
     let tries = c.new-self.result in
     let after = c.try_tag-tried.new.tries in
-    let directive = c.get_stack_directive-directive.ensures tag.name (new.name ∙ named.0) in
-    let html : is_html tag.namespace ≡ true =
-    ap is_html named.1 ∙ html_if c.args.ns vm.enable_esi_tags tag.name (ap (λ x. sameb the_type x PushIfNotSelfClosing) (sym directive) ∙ (sym c.eq.ensures ∙ c.if-eq.false)) in
-    let content : c.eq-2.result ≡ has_content vm.enable_esi_tags tag =
-    c.eq-2.ensures ∙ (ap (λ x. sameb the_type x Push) (directive ∙ ap (λ ns. directive_in ns vm.enable_esi_tags tag.name) (sym named.1)) ∙ content_is tag vm.enable_esi_tags html) in
-    let switch : vm.enable_esi_tags ≡ esi = sym stands.shows.switch ∙ stands.standing.switch in
+    let page = html_tag c.args.ns vm.enable_esi_tags esi tag c.get_stack_directive-directive.result c.eq.result c.eq-2.result named.1 (c.get_stack_directive-directive.ensures tag.name (new.name ∙ named.0)) c.eq.ensures c.if-eq.false c.eq-2.ensures
+    (sym stands.shows.switch ∙ stands.standing.switch) in
     let ctx : ExecutionCtx _ = record c.new-ctx.result { with_content = c.eq-2.result } in
-    let runnable = can_run ids with_ids lends vm name c.args.ns s esi events tag stands named stack ok room tries c.new-self.ensures.names c.new-self.ensures.attributes c.try_tag-tried.ensures.size in
-    let of_name = subst (λ n. IfOk c.try_tag-tried.result (λ point. AreTried ids with_ids (sight_in stack n) vm.program.instructions.items (ranges_to_run_in vm.program stack) ctx c.try_tag-tried.new.ctx tries after (stop_found vm.program.entry_points (jumps_in stack) point))) new.name in
     let no_tries = c.try_tag-tried.ensures.attributes ∙ c.new-self.ensures.attributes in
-    let holds = content ∙ ap (λ b. has_content b tag) switch in
-    let tried = subst (λ r. IfOk r (λ point. AreTried ids with_ids (sight_in stack name) vm.program.instructions.items (ranges_to_run_in vm.program stack) ctx c.try_tag-tried.new.ctx tries after (stop_found vm.program.entry_points (jumps_in stack) point)))
-    (c.in-Ok.is ∙ ap Ok c.in_default-stopped.is) (of_name (c.try_tag-tried.ensures.tried runnable)) in
-    answered ids with_ids lends vm name c.args.ns s esi events tag stands named stack ok room ctx c.try_tag-tried.new.ctx tries after new holds c.new-ctx.ensures.ns html c.new-self.ensures.names no_tries tried _
+    let tried = tried_as ids with_ids lends vm name c.args.ns s esi events tag stands named stack ok room ctx c.try_tag-tried.new.ctx tries after c.new-self.ensures.names c.new-self.ensures.attributes c.try_tag-tried.ensures.size
+    c.new-ctx.result.stack_item.local_name new.name c.try_tag-tried.result _ (c.in-Ok.is ∙ ap Ok c.in_default-stopped.is) c.try_tag-tried.ensures.tried in
+    answered ids with_ids lends vm name c.args.ns s esi events tag stands named stack ok room ctx c.try_tag-tried.new.ctx tries after new page.1 c.new-ctx.ensures.ns page.0 c.new-self.ensures.names no_tries tried _
     c.args.match_handler.now c.answer.new.match_handler c.answer.new.self c.in-Ok-answer.ensures.reported c.in-Ok-answer.ensures.ok
 
 pub returns-in-Some-clause-asked : goal.returns-in-Some-clause-asked
@@ -76,25 +67,20 @@ returns-in-Some-clause-asked g c = λ request is s esi events tag stands named.
     let new = c.new-ctx.ensures.item in
     let tries = c.new-self.result in
     let after = c.try_tag-tried.new.tries in
-    let directive = c.get_stack_directive-directive.ensures tag.name (new.name ∙ named.0) in
-    let html : is_html tag.namespace ≡ true =
-    ap is_html named.1 ∙ html_if c.args.ns vm.enable_esi_tags tag.name (ap (λ x. sameb the_type x PushIfNotSelfClosing) (sym directive) ∙ (sym c.eq.ensures ∙ c.if-eq.false)) in
-    let content : c.eq-2.result ≡ has_content vm.enable_esi_tags tag =
-    c.eq-2.ensures ∙ (ap (λ x. sameb the_type x Push) (directive ∙ ap (λ ns. directive_in ns vm.enable_esi_tags tag.name) (sym named.1)) ∙ content_is tag vm.enable_esi_tags html) in
-    let switch : vm.enable_esi_tags ≡ esi = sym stands.shows.switch ∙ stands.standing.switch in
+    let page = html_tag c.args.ns vm.enable_esi_tags esi tag c.get_stack_directive-directive.result c.eq.result c.eq-2.result named.1 (c.get_stack_directive-directive.ensures tag.name (new.name ∙ named.0)) c.eq.ensures c.if-eq.false c.eq-2.ensures
+    (sym stands.shows.switch ∙ stands.standing.switch) in
     let ctx : ExecutionCtx _ = record c.new-ctx.result { with_content = c.eq-2.result } in
-    let runnable = can_run ids with_ids lends vm name c.args.ns s esi events tag stands named stack ok room tries c.new-self.ensures.names c.new-self.ensures.attributes c.try_tag-tried.ensures.size in
-    let of_name = subst (λ n. IfOk c.try_tag-tried.result (λ point. AreTried ids with_ids (sight_in stack n) vm.program.instructions.items (ranges_to_run_in vm.program stack) ctx c.try_tag-tried.new.ctx tries after (stop_found vm.program.entry_points (jumps_in stack) point))) new.name in
     let no_tries = c.try_tag-tried.ensures.attributes ∙ c.new-self.ensures.attributes in
-    let holds = content ∙ ap (λ b. has_content b tag) switch in
+    let runnable = can_run ids with_ids lends vm name c.args.ns s esi events tag stands named stack ok room tries c.new-self.ensures.names c.new-self.ensures.attributes c.try_tag-tried.ensures.size in
     let entry = vm.program.entry_points in
     let jumps = jumps_in stack in
     let at = c.in-Ok.is ∙ ap Ok c.in-Some.is in
     let point = c.in-Some.point in
-    let tried = subst (λ r. IfOk r (λ point. AreTried ids with_ids (sight_in stack name) vm.program.instructions.items (ranges_to_run_in vm.program stack) ctx c.try_tag-tried.new.ctx tries after (stop_found entry jumps point))) at (of_name (c.try_tag-tried.ensures.tried runnable)) in
+    let tried = tried_as ids with_ids lends vm name c.args.ns s esi events tag stands named stack ok room ctx c.try_tag-tried.new.ctx tries after c.new-self.ensures.names c.new-self.ensures.attributes c.try_tag-tried.ensures.size
+    c.new-ctx.result.stack_item.local_name new.name c.try_tag-tried.result _ at c.try_tag-tried.ensures.tried in
     let inside = subst (λ r. IfOk r (λ point. IfSome point (IsPointIn vm.program.instructions.items entry jumps (ranges_in (active_in stack))))) at (c.try_tag-tried.ensures.point runnable) in
     let some = subst (λ r. IfOk r (λ point. IsSome point → IsSome (stop_found entry jumps point))) at c.try_tag-tried.ensures.stop refl in
-    let pending = pending_point ids with_ids lends vm name c.args.ns s esi events tag stands named stack ok room ctx c.try_tag-tried.new.ctx tries after new holds c.new-ctx.ensures.ns html c.new-self.ensures.names no_tries point some inside tried in
+    let pending = pending_point ids with_ids lends vm name c.args.ns s esi events tag stands named stack ok room ctx c.try_tag-tried.new.ctx tries after new page.1 c.new-ctx.ensures.ns page.0 c.new-self.ensures.names no_tries point some inside tried in
     requested_is ids s esi events tag c.try_tag-tried.new.ctx point _ c.request-in-Some.new.self request c.request-in-Some.result is c.request-in-Some.ensures.requested pending
 
 pub returns-in-Err-clause-still_open : goal.returns-in-Err-clause-still_open
@@ -154,20 +140,13 @@ returns-in-Ok-answer-clause-unlimited g c = λ s esi events tag stands named ope
     let new = c.new-ctx.ensures.item in
     let tries = c.new-self.result in
     let after = c.try_tag-tried.new.tries in
-    let directive = c.get_stack_directive-directive.ensures tag.name (new.name ∙ named.0) in
-    let html : is_html tag.namespace ≡ true =
-    ap is_html named.1 ∙ html_if c.args.ns vm.enable_esi_tags tag.name (ap (λ x. sameb the_type x PushIfNotSelfClosing) (sym directive) ∙ (sym c.eq.ensures ∙ c.if-eq.false)) in
-    let content : c.eq-2.result ≡ has_content vm.enable_esi_tags tag =
-    c.eq-2.ensures ∙ (ap (λ x. sameb the_type x Push) (directive ∙ ap (λ ns. directive_in ns vm.enable_esi_tags tag.name) (sym named.1)) ∙ content_is tag vm.enable_esi_tags html) in
-    let switch : vm.enable_esi_tags ≡ esi = sym stands.shows.switch ∙ stands.standing.switch in
+    let page = html_tag c.args.ns vm.enable_esi_tags esi tag c.get_stack_directive-directive.result c.eq.result c.eq-2.result named.1 (c.get_stack_directive-directive.ensures tag.name (new.name ∙ named.0)) c.eq.ensures c.if-eq.false c.eq-2.ensures
+    (sym stands.shows.switch ∙ stands.standing.switch) in
     let ctx : ExecutionCtx _ = record c.new-ctx.result { with_content = c.eq-2.result } in
-    let runnable = can_run ids with_ids lends vm name c.args.ns s esi events tag stands named stack ok room tries c.new-self.ensures.names c.new-self.ensures.attributes c.try_tag-tried.ensures.size in
-    let of_name = subst (λ n. IfOk c.try_tag-tried.result (λ point. AreTried ids with_ids (sight_in stack n) vm.program.instructions.items (ranges_to_run_in vm.program stack) ctx c.try_tag-tried.new.ctx tries after (stop_found vm.program.entry_points (jumps_in stack) point))) new.name in
     let no_tries = c.try_tag-tried.ensures.attributes ∙ c.new-self.ensures.attributes in
-    let holds = content ∙ ap (λ b. has_content b tag) switch in
-    let tried = subst (λ r. IfOk r (λ point. AreTried ids with_ids (sight_in stack name) vm.program.instructions.items (ranges_to_run_in vm.program stack) ctx c.try_tag-tried.new.ctx tries after (stop_found vm.program.entry_points (jumps_in stack) point)))
-    (c.in-Ok.is ∙ ap Ok c.in_default-stopped.is) (of_name (c.try_tag-tried.ensures.tried runnable)) in
-    let still = has_content_still ids with_ids lends vm name c.args.ns s esi events tag stands named stack ok room ctx c.try_tag-tried.new.ctx tries after new holds c.new-ctx.ensures.ns html c.new-self.ensures.names no_tries tried in
+    let tried = tried_as ids with_ids lends vm name c.args.ns s esi events tag stands named stack ok room ctx c.try_tag-tried.new.ctx tries after c.new-self.ensures.names c.new-self.ensures.attributes c.try_tag-tried.ensures.size
+    c.new-ctx.result.stack_item.local_name new.name c.try_tag-tried.result _ (c.in-Ok.is ∙ ap Ok c.in_default-stopped.is) c.try_tag-tried.ensures.tried in
+    let still = has_content_still ids with_ids lends vm name c.args.ns s esi events tag stands named stack ok room ctx c.try_tag-tried.new.ctx tries after new page.1 c.new-ctx.ensures.ns page.0 c.new-self.ensures.names no_tries tried in
     c.in-Ok-answer.ensures.unlimited (still ∙ opens) (subst (λ (x : StackOf Name StackNames _). IsLimited (list_in x) c.args.limiter.now) (sym ok) (limited_counted vm.stack name c.args.limiter.now limited))
 
 pub returns-in-Err-answer-clause-limit_reported : goal.returns-in-Err-answer-clause-limit_reported
@@ -183,22 +162,15 @@ returns-in-Err-answer-clause-limit_reported g c = λ limit s esi events tag stan
     let new = c.new-ctx.ensures.item in
     let tries = c.new-self.result in
     let after = c.try_tag-tried.new.tries in
-    let directive = c.get_stack_directive-directive.ensures tag.name (new.name ∙ named.0) in
-    let html : is_html tag.namespace ≡ true =
-    ap is_html named.1 ∙ html_if c.args.ns vm.enable_esi_tags tag.name (ap (λ x. sameb the_type x PushIfNotSelfClosing) (sym directive) ∙ (sym c.eq.ensures ∙ c.if-eq.false)) in
-    let content : c.eq-2.result ≡ has_content vm.enable_esi_tags tag =
-    c.eq-2.ensures ∙ (ap (λ x. sameb the_type x Push) (directive ∙ ap (λ ns. directive_in ns vm.enable_esi_tags tag.name) (sym named.1)) ∙ content_is tag vm.enable_esi_tags html) in
-    let switch : vm.enable_esi_tags ≡ esi = sym stands.shows.switch ∙ stands.standing.switch in
+    let page = html_tag c.args.ns vm.enable_esi_tags esi tag c.get_stack_directive-directive.result c.eq.result c.eq-2.result named.1 (c.get_stack_directive-directive.ensures tag.name (new.name ∙ named.0)) c.eq.ensures c.if-eq.false c.eq-2.ensures
+    (sym stands.shows.switch ∙ stands.standing.switch) in
     let ctx : ExecutionCtx _ = record c.new-ctx.result { with_content = c.eq-2.result } in
-    let runnable = can_run ids with_ids lends vm name c.args.ns s esi events tag stands named stack ok room tries c.new-self.ensures.names c.new-self.ensures.attributes c.try_tag-tried.ensures.size in
-    let of_name = subst (λ n. IfOk c.try_tag-tried.result (λ point. AreTried ids with_ids (sight_in stack n) vm.program.instructions.items (ranges_to_run_in vm.program stack) ctx c.try_tag-tried.new.ctx tries after (stop_found vm.program.entry_points (jumps_in stack) point))) new.name in
     let no_tries = c.try_tag-tried.ensures.attributes ∙ c.new-self.ensures.attributes in
-    let holds = content ∙ ap (λ b. has_content b tag) switch in
-    let tried = subst (λ r. IfOk r (λ point. AreTried ids with_ids (sight_in stack name) vm.program.instructions.items (ranges_to_run_in vm.program stack) ctx c.try_tag-tried.new.ctx tries after (stop_found vm.program.entry_points (jumps_in stack) point)))
-    (c.in-Ok.is ∙ ap Ok c.in_default-stopped.is) (of_name (c.try_tag-tried.ensures.tried runnable)) in
-    let still = has_content_still ids with_ids lends vm name c.args.ns s esi events tag stands named stack ok room ctx c.try_tag-tried.new.ctx tries after new holds c.new-ctx.ensures.ns html c.new-self.ensures.names no_tries tried in
+    let tried = tried_as ids with_ids lends vm name c.args.ns s esi events tag stands named stack ok room ctx c.try_tag-tried.new.ctx tries after c.new-self.ensures.names c.new-self.ensures.attributes c.try_tag-tried.ensures.size
+    c.new-ctx.result.stack_item.local_name new.name c.try_tag-tried.result _ (c.in-Ok.is ∙ ap Ok c.in_default-stopped.is) c.try_tag-tried.ensures.tried in
+    let still = has_content_still ids with_ids lends vm name c.args.ns s esi events tag stands named stack ok room ctx c.try_tag-tried.new.ctx tries after new page.1 c.new-ctx.ensures.ns page.0 c.new-self.ensures.names no_tries tried in
     let opens = not_false c.try_tag-tried.new.ctx.with_content (λ closed. err_is_not_ok c.answer.result c.in-Err-answer.error c.in-Err-answer.is (c.answer.ensures.closed closed)) in
-    (sym still ∙ opens, reported_with _ s esi events tag false c.args.match_handler.now c.answer.new.match_handler after c.answer.new.self.tries (ap (λ (v : Vm _). v.tries) c.in-Err-answer.ensures.err.1) (has_reported ids with_ids lends vm name c.args.ns s esi events tag stands named stack ok room ctx c.try_tag-tried.new.ctx tries after new holds c.new-ctx.ensures.ns html c.new-self.ensures.names no_tries tried _ c.args.match_handler.now c.answer.new.match_handler c.in-Err-answer.ensures.reported))
+    (sym still ∙ opens, reported_with _ s esi events tag false c.args.match_handler.now c.answer.new.match_handler after c.answer.new.self.tries (ap (λ (v : Vm _). v.tries) c.in-Err-answer.ensures.err.1) (has_reported ids with_ids lends vm name c.args.ns s esi events tag stands named stack ok room ctx c.try_tag-tried.new.ctx tries after new page.1 c.new-ctx.ensures.ns page.0 c.new-self.ensures.names no_tries tried _ c.args.match_handler.now c.answer.new.match_handler c.in-Err-answer.ensures.reported))
 
 pub returns-in-Err-clause-free : goal.returns-in-Err-clause-free
 returns-in-Err-clause-free g c = λ error is s esi events tag stands named takes.
@@ -233,20 +205,13 @@ returns-in-Err-answer-clause-all_or_none g c = λ error is. inr (λ s esi events
     let new = c.new-ctx.ensures.item in
     let tries = c.new-self.result in
     let after = c.try_tag-tried.new.tries in
-    let directive = c.get_stack_directive-directive.ensures tag.name (new.name ∙ named.0) in
-    let html : is_html tag.namespace ≡ true =
-    ap is_html named.1 ∙ html_if c.args.ns vm.enable_esi_tags tag.name (ap (λ x. sameb the_type x PushIfNotSelfClosing) (sym directive) ∙ (sym c.eq.ensures ∙ c.if-eq.false)) in
-    let content : c.eq-2.result ≡ has_content vm.enable_esi_tags tag =
-    c.eq-2.ensures ∙ (ap (λ x. sameb the_type x Push) (directive ∙ ap (λ ns. directive_in ns vm.enable_esi_tags tag.name) (sym named.1)) ∙ content_is tag vm.enable_esi_tags html) in
-    let switch : vm.enable_esi_tags ≡ esi = sym stands.shows.switch ∙ stands.standing.switch in
+    let page = html_tag c.args.ns vm.enable_esi_tags esi tag c.get_stack_directive-directive.result c.eq.result c.eq-2.result named.1 (c.get_stack_directive-directive.ensures tag.name (new.name ∙ named.0)) c.eq.ensures c.if-eq.false c.eq-2.ensures
+    (sym stands.shows.switch ∙ stands.standing.switch) in
     let ctx : ExecutionCtx _ = record c.new-ctx.result { with_content = c.eq-2.result } in
-    let runnable = can_run ids with_ids lends vm name c.args.ns s esi events tag stands named stack ok room tries c.new-self.ensures.names c.new-self.ensures.attributes c.try_tag-tried.ensures.size in
-    let of_name = subst (λ n. IfOk c.try_tag-tried.result (λ point. AreTried ids with_ids (sight_in stack n) vm.program.instructions.items (ranges_to_run_in vm.program stack) ctx c.try_tag-tried.new.ctx tries after (stop_found vm.program.entry_points (jumps_in stack) point))) new.name in
     let no_tries = c.try_tag-tried.ensures.attributes ∙ c.new-self.ensures.attributes in
-    let holds = content ∙ ap (λ b. has_content b tag) switch in
-    let tried = subst (λ r. IfOk r (λ point. AreTried ids with_ids (sight_in stack name) vm.program.instructions.items (ranges_to_run_in vm.program stack) ctx c.try_tag-tried.new.ctx tries after (stop_found vm.program.entry_points (jumps_in stack) point)))
-    (c.in-Ok.is ∙ ap Ok c.in_default-stopped.is) (of_name (c.try_tag-tried.ensures.tried runnable)) in
-    reported_with _ s esi events tag false c.args.match_handler.now c.answer.new.match_handler after c.answer.new.self.tries (ap (λ (v : Vm _). v.tries) c.in-Err-answer.ensures.err.1) (has_reported ids with_ids lends vm name c.args.ns s esi events tag stands named stack ok room ctx c.try_tag-tried.new.ctx tries after new holds c.new-ctx.ensures.ns html c.new-self.ensures.names no_tries tried _ c.args.match_handler.now c.answer.new.match_handler c.in-Err-answer.ensures.reported))
+    let tried = tried_as ids with_ids lends vm name c.args.ns s esi events tag stands named stack ok room ctx c.try_tag-tried.new.ctx tries after c.new-self.ensures.names c.new-self.ensures.attributes c.try_tag-tried.ensures.size
+    c.new-ctx.result.stack_item.local_name new.name c.try_tag-tried.result _ (c.in-Ok.is ∙ ap Ok c.in_default-stopped.is) c.try_tag-tried.ensures.tried in
+    reported_with _ s esi events tag false c.args.match_handler.now c.answer.new.match_handler after c.answer.new.self.tries (ap (λ (v : Vm _). v.tries) c.in-Err-answer.ensures.err.1) (has_reported ids with_ids lends vm name c.args.ns s esi events tag stands named stack ok room ctx c.try_tag-tried.new.ctx tries after new page.1 c.new-ctx.ensures.ns page.0 c.new-self.ensures.names no_tries tried _ c.args.match_handler.now c.answer.new.match_handler c.in-Err-answer.ensures.reported))
 
 pub returns-in-Err-tried-clause-tried : goal.returns-in-Err-tried-clause-tried
 returns-in-Err-tried-clause-tried g c = λ s esi events tag stands named.
@@ -348,3 +313,60 @@ returns-in-Err-answer-clause-asked g c = λ request is. absurd (push_isnt_asked 
 
 pub returns-in-Err-answer-clause-refused : goal.returns-in-Err-answer-clause-refused
 returns-in-Err-answer-clause-refused g c = λ error is refusal. ap (λ (v : Vm _). v.failed) c.in-Err-answer.ensures.err.1
+
+pub returns-then-eq-clause-failed : goal.returns-then-eq-clause-failed
+returns-then-eq-clause-failed g c = (λ is. absurd (requested_as _ _ _ c.request.new.self c.request.result _ c.request.ensures.requested is), λ failed. cc)
+
+pub returns-then-eq-clause-full : goal.returns-then-eq-clause-full
+returns-then-eq-clause-full g c = (λ is. absurd (requested_as _ _ _ c.request.new.self c.request.result _ c.request.ensures.requested is), λ full. absurd (omega (arith, c.in_default.ensures.room, full.1)))
+
+pub returns-then-eq-clause-stuck : goal.returns-then-eq-clause-stuck
+returns-then-eq-clause-stuck g c = λ failed. cc
+
+pub returns-in-Some-clause-failed : goal.returns-in-Some-clause-failed
+returns-in-Some-clause-failed g c = (λ is. absurd (requested_as _ _ _ c.request-in-Some.new.self c.request-in-Some.result _ c.request-in-Some.ensures.requested is), λ failed. cc)
+
+pub returns-in-Some-clause-full : goal.returns-in-Some-clause-full
+returns-in-Some-clause-full g c = (λ is. absurd (requested_as _ _ _ c.request-in-Some.new.self c.request-in-Some.result _ c.request-in-Some.ensures.requested is), λ full. absurd (omega (arith, c.in_default.ensures.room, full.1)))
+
+pub returns-in-Some-clause-stuck : goal.returns-in-Some-clause-stuck
+returns-in-Some-clause-stuck g c = λ failed. cc
+
+pub returns-in-Err-tried-clause-stuck : goal.returns-in-Err-tried-clause-stuck
+returns-in-Err-tried-clause-stuck g c = λ failed. cc
+
+pub returns-in-Err-answer-clause-stuck : goal.returns-in-Err-answer-clause-stuck
+returns-in-Err-answer-clause-stuck g c = λ failed. cc
+
+pub returns-in-Ok-answer-clause-stuck : goal.returns-in-Ok-answer-clause-stuck
+returns-in-Ok-answer-clause-stuck g c = λ failed. cc
+
+pub returns-in-Err-clause-stuck : goal.returns-in-Err-clause-stuck
+returns-in-Err-clause-stuck g c = λ failed. cc
+
+pub returns-in-Err-clause-asked : goal.returns-in-Err-clause-asked
+returns-in-Err-clause-asked g c = λ request is. absurd (child_isnt_asked c.in-Err.error c.from.result c.from.ensures request cc)
+
+pub returns-in-Err-clause-failed : goal.returns-in-Err-clause-failed
+returns-in-Err-clause-failed g c = (λ is. absurd (child_isnt_failed c.in-Err.error c.from.result c.from.ensures cc), λ failed. cc)
+
+pub returns-in-Err-clause-limited : goal.returns-in-Err-clause-limited
+returns-in-Err-clause-limited g c = λ limit. absurd (child_isnt_limit c.in-Err.error c.from.result c.from.ensures cc)
+
+pub returns-in-Err-clause-limit_reported : goal.returns-in-Err-clause-limit_reported
+returns-in-Err-clause-limit_reported g c = λ limit. absurd (child_isnt_limit c.in-Err.error c.from.result c.from.ensures cc)
+
+pub returns-in-Err-clause-refused : goal.returns-in-Err-clause-refused
+returns-in-Err-clause-refused g c = λ error is refusal. refl
+
+pub returns-in-Err-clause-silent : goal.returns-in-Err-clause-silent
+returns-in-Err-clause-silent g c = λ error is silent. refl
+
+pub returns-in-Err-clause-all_or_none : goal.returns-in-Err-clause-all_or_none
+returns-in-Err-clause-all_or_none g c = λ error is. inl refl
+
+pub returns-in-Err-answer-clause-failed : goal.returns-in-Err-answer-clause-failed
+returns-in-Err-answer-clause-failed g c = (λ is. absurd (push_isnt_failed c.in-Err-answer.error c.from-in-Err-answer.result c.from-in-Err-answer.ensures cc), λ failed. cc)
+
+pub returns-in-Err-answer-clause-full : goal.returns-in-Err-answer-clause-full
+returns-in-Err-answer-clause-full g c = (λ is. absurd (push_isnt_full c.in-Err-answer.error c.from-in-Err-answer.result c.from-in-Err-answer.ensures cc), λ full. absurd (omega (arith, c.in_default.ensures.room, full.1)))
