@@ -4,8 +4,6 @@
 
 mod page;
 mod reading;
-#[cfg(test)]
-mod tests;
 mod whole;
 
 pub use page::{LinkElement, PageTag, Refused, end_tag, ids_on_page, start_tag};

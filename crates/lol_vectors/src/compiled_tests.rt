@@ -1,6 +1,7 @@
 //! Compiled tests, of selectors and by hand.
 
 use crate::attributes::Attributes;
+use crate::nodes::none_of;
 use crate::programs::instruction;
 use crate::tag_words::TagWord;
 use lol_program::{
@@ -89,36 +90,64 @@ fn passes(
     Ok(!enable_nth_of_type && is_passed(&compiled, attributes))
 }
 
+/// Whether attributes pass the test of a name and what is compared.
+fn is_passed_by(
+    alloc: Global,
+    name: &str,
+    compared: Option<(AttrSelectorOperator, &str)>,
+    attributes: &AttributeMatcher<'_>,
+) -> Result<bool, AllocError> {
+    let test = test_of(alloc, name, compared)?;
+    passes(alloc, test, attributes)
+}
+
 #[test]
 fn of_attributes(rt: HostRuntime) -> Result<(), Fail> {
     let attributes = Attributes::new(rt.alloc(), &[("foo", Some("bar"))])?;
     let attributes = attributes.matcher(&rt, Namespace::Html);
     for (name, compared, answer) in TESTS {
-        let test = test_of(rt.alloc(), name, compared)?;
-        let passed = passes(rt.alloc(), test, &attributes)?;
+        let passed = is_passed_by(rt.alloc(), name, compared, &attributes)?;
         assert!(rt; passed == answer, "{name}");
     }
     Ok(())
 }
 
+/// The flag that a test of the second child, of its type or of all, sets; where `negated`, that no element passes it.
+fn sets_flag(alloc: Global, of_type: bool, negated: bool) -> Result<bool, AllocError> {
+    let index = NthChild::new(2, 1);
+    let test = Test::Name(if of_type {
+        OnTagNameExpr::NthOfType(index)
+    } else {
+        OnTagNameExpr::NthChild(index)
+    });
+    let test = if negated { none_of(alloc, test)? } else { test };
+    let mut enable_nth_of_type = false;
+    test.compile(alloc, &mut enable_nth_of_type)?;
+    Ok(enable_nth_of_type)
+}
+
+/// Whether the flag stays set after a test of any name.
+fn keeps_flag(alloc: Global) -> Result<bool, AllocError> {
+    let mut enable_nth_of_type = true;
+    Test::Name(OnTagNameExpr::ExplicitAny).compile(alloc, &mut enable_nth_of_type)?;
+    Ok(enable_nth_of_type)
+}
+
+/// How many predicates a test that no element passes them compiles to, for one.
+fn compiled_predicates(alloc: Global) -> Result<usize, AllocError> {
+    let test = none_of(alloc, Test::Name(OnTagNameExpr::ExplicitAny))?;
+    match test.compile(alloc, &mut false)? {
+        CompiledTest::NoneOf(predicates) => Ok(predicates.len()),
+        _ => Ok(0),
+    }
+}
+
 #[test]
 fn flag_of_tests_by_type(rt: HostRuntime) -> Result<(), Fail> {
     let alloc = rt.alloc();
-    let mut enable_nth_of_type = false;
-    let child = Test::Name(OnTagNameExpr::NthChild(NthChild::new(2, 1)));
-    child.compile(alloc, &mut enable_nth_of_type)?;
-    assert!(rt; !enable_nth_of_type);
-    let of_type = Test::Name(OnTagNameExpr::NthOfType(NthChild::new(2, 1)));
-    let tests = vec![in alloc; of_type]?;
-    let none = Test::NoneOf(vec![in alloc; Predicate { tests }]?);
-    let compiled = none.compile(alloc, &mut enable_nth_of_type)?;
-    assert!(rt; enable_nth_of_type);
-    let CompiledTest::NoneOf(predicates) = compiled else {
-        panic!(rt; "another answer");
-    };
-    assert!(rt; predicates.len() == 1);
-    Test::Name(OnTagNameExpr::ExplicitAny).compile(alloc, &mut enable_nth_of_type)?;
-    assert!(rt; enable_nth_of_type);
+    assert!(rt; !sets_flag(alloc, false, false)? && !sets_flag(alloc, false, true)?);
+    assert!(rt; sets_flag(alloc, true, false)? && sets_flag(alloc, true, true)?);
+    assert!(rt; keeps_flag(alloc)? && compiled_predicates(alloc)? == 1);
     Ok(())
 }
 
@@ -190,15 +219,34 @@ fn check_values(
 
 #[test]
 fn values_by_names_and_with_attributes(rt: HostRuntime) -> Result<(), Fail> {
-    for (text, tag, value, passes) in ROWS {
-        check_values(&rt, rt.alloc(), text, tag, (value, passes))?;
+    for (text, tag, value, passes) in &ROWS {
+        check_values(&rt, rt.alloc(), text, tag, (*value, *passes))?;
     }
     Ok(())
 }
 
-#[test]
-fn tests_by_hand(rt: HostRuntime) -> Result<(), Fail> {
-    let alloc = rt.alloc();
+/// A test of the first child of its type alone.
+fn first_of_type(alloc: Global) -> Result<CompiledPredicate, AllocError> {
+    let first = CompiledTest::Name(CompiledLocalNameExpr {
+        test: LocalNameExprTest::NthOfType(NthChild::new(0, 1)),
+    });
+    Ok(CompiledPredicate::new(vec![in alloc; first]?))
+}
+
+/// Two tests: that an element doesn't pass `first_of_type`, and one that none passes.
+fn never(alloc: Global) -> Result<CompiledPredicate, AllocError> {
+    let none = CompiledTest::NoneOf(vec![in alloc; first_of_type(alloc)?]?);
+    let never = CompiledTest::Attribute(CompiledAttributeExpr {
+        test: AttributeExprTest::Never,
+    });
+    Ok(CompiledPredicate::new(vec![in alloc; none, never]?))
+}
+
+/// The values by names of a first child `p` with counters by type and without, and whether it passes without.
+fn of_first_child(
+    predicate: &CompiledPredicate,
+    attributes: &AttributeMatcher<'_>,
+) -> (NameValue, NameValue, bool) {
     let counter = ChildCounter::new_and_inc();
     let untyped = SelectorState {
         cumulative: &counter,
@@ -209,27 +257,25 @@ fn tests_by_hand(rt: HostRuntime) -> Result<(), Fail> {
         typed: Some(&counter),
     };
     let name = LocalName::new(b"p");
-    let attributes = Attributes::new(alloc, &[])?;
+    (
+        predicate.by_names(&typed, &name),
+        predicate.by_names(&untyped, &name),
+        predicate.eval(&untyped, &name, attributes),
+    )
+}
+
+#[test]
+fn tests_by_hand(rt: HostRuntime) -> Result<(), Fail> {
+    use NameValue::{False, Open, True};
+
+    let attributes = Attributes::new(rt.alloc(), &[])?;
     let matcher = attributes.matcher(&rt, Namespace::Html);
-    let first_of_type = CompiledTest::Name(CompiledLocalNameExpr {
-        test: LocalNameExprTest::NthOfType(NthChild::new(0, 1)),
-    });
-    let predicate = CompiledPredicate::new(vec![in alloc; first_of_type]?);
-    assert!(rt; predicate.tests().len() == 1);
-    assert!(rt; predicate.by_names(&typed, &name) == NameValue::True);
-    assert!(rt; predicate.by_names(&untyped, &name) == NameValue::False);
-    assert!(rt; !predicate.eval(&untyped, &name, &matcher));
-    let none = CompiledTest::NoneOf(vec![in alloc; predicate]?);
-    let never = CompiledTest::Attribute(CompiledAttributeExpr {
-        test: AttributeExprTest::Never,
-    });
-    let predicate = CompiledPredicate::new(vec![in alloc; none, never]?);
-    assert!(rt; predicate.by_names(&untyped, &name) == NameValue::Open);
-    assert!(rt; predicate.by_names(&typed, &name) == NameValue::False);
-    assert!(rt; !predicate.eval(&untyped, &name, &matcher));
-    assert!(rt;
-        CompiledPredicate::new(Vec::new(alloc)).by_names(&untyped, &name) == NameValue::True
-    );
+    let by_type = first_of_type(rt.alloc())?;
+    assert!(rt; by_type.tests().len() == 1);
+    assert!(rt; of_first_child(&by_type, &matcher) == (True, False, false));
+    assert!(rt; of_first_child(&never(rt.alloc())?, &matcher) == (False, Open, false));
+    let empty = CompiledPredicate::new(Vec::new(rt.alloc()));
+    assert!(rt; of_first_child(&empty, &matcher) == (True, True, true));
     Ok(())
 }
 

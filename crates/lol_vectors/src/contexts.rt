@@ -119,12 +119,16 @@ fn are_ids_and_ranges(rt: HostRuntime) -> Result<(), Fail> {
 /// The ids of a third branch too, for an element without content.
 const WITHOUT_CONTENT: [(u32, bool); 4] = [(1, false), (3, false), (7, false), (40, false)];
 
+fn without_content(alloc: Global) -> Result<ExecutionCtx<'static, Numbered>, AllocError> {
+    let mut ctx = gathered(alloc)?;
+    ctx.with_content = false;
+    add(&mut ctx, alloc, &(&[1], Some((7, 8)), Some((8, 9))))?;
+    Ok(ctx)
+}
+
 #[test]
 fn gain_no_range_without_content(rt: HostRuntime) -> Result<(), Fail> {
-    let mut ctx = gathered(rt.alloc())?;
-    ctx.with_content = false;
-    add(&mut ctx, rt.alloc(), &(&[1], Some((7, 8)), Some((8, 9))))?;
-    let mut owned = ctx.into_owned(rt.alloc())?;
+    let mut owned = without_content(rt.alloc())?.into_owned(rt.alloc())?;
     assert!(rt; !owned.with_content && has_ranges(&owned));
     let ids = ids_of(&rt, rt.alloc(), &mut owned);
     assert!(rt; ids.as_slice() == WITHOUT_CONTENT.as_slice());

@@ -56,5 +56,7 @@ mod tag_words;
 mod texts;
 #[cfg(test)]
 mod trees;
+#[cfg(test)]
+mod uses;
 
 pub use plain::{PlainAnswer, plain_answers};

@@ -15,9 +15,9 @@ fn counts(limiter: &mut SharedMemoryLimiter, bytes: usize, fits: bool, usage: us
 fn counts_up_to_the_maximum(rt: HostRuntime) {
     let mut limiter = SharedMemoryLimiter::new(10);
     assert!(rt; counts(&mut limiter, 3, true, 3) && counts(&mut limiter, 5, true, 8));
-    assert_eq!(rt; limiter.current_usage(), 8);
+    assert!(rt; limiter.current_usage() == 8);
     limiter.decrease_usage(4);
-    assert_eq!(rt; limiter.current_usage(), 4);
+    assert!(rt; limiter.current_usage() == 4);
     assert!(rt; counts(&mut limiter, 15, false, 4));
 }
 
@@ -30,10 +30,7 @@ fn refuses_a_first_push_above_the_maximum(rt: HostRuntime) {
             matches!(list.push(7u8, &mut limiter), Err(PushError::Limit(_))),
             "{item_bytes} bytes, {max} at most"
         );
-        assert_eq!(rt;
-            (list.len(), list.slots(), limiter.current_usage()),
-            (0, 0, 0)
-        );
+        assert!(rt; (list.len(), list.slots(), limiter.current_usage()) == (0, 0, 0));
         list.release(&mut limiter);
     }
 }
@@ -49,31 +46,44 @@ fn takes_the_fewest_slots_first(rt: HostRuntime) {
     }
 }
 
+/// Whether a list has so many elements and slots.
+fn has(list: &LimitedVec<usize>, len: usize, slots: usize) -> bool {
+    list.len() == len && list.slots() == slots
+}
+
+/// Takes three elements out, the last two first.
+fn take_three(rt: &impl Abort, list: &mut LimitedVec<usize>)
+    ensures { list.new.item_bytes ≡ list.old.item_bytes }
+{
+    assert!(rt; list.len() == 3);
+    for _ in list.drain(1..3) {}
+    for _ in list.drain(0..1) {}
+}
+
+/// Whether one element more passes the limit.
+fn is_refused(list: &mut LimitedVec<usize>, limiter: &mut SharedMemoryLimiter) -> bool
+    ensures { list.new.item_bytes ≡ list.old.item_bytes }
+{
+    matches!(list.push(0, limiter), Err(PushError::Limit(_)))
+}
+
 #[test]
 fn keeps_the_charge_until_it_is_released(rt: HostRuntime) {
     for (item_bytes, fewest, max) in [(1, 128, 256), (8, 16, 256), (7, 18, 252), (512, 8, 8192)] {
         let mut limiter = SharedMemoryLimiter::new(max);
         let mut list = LimitedVec::new(rt.alloc(), item_bytes);
         fill(&rt, &mut list, 1, &mut limiter);
-        assert_eq!(rt; list.slots(), fewest);
+        assert!(rt; has(&list, 1, fewest));
         fill(&rt, &mut list, 2, &mut limiter);
-        assert_eq!(rt; list.slots(), fewest);
+        assert!(rt; has(&list, 3, fewest));
         let usage = limiter.current_usage();
-
-        assert_eq!(rt; list.len(), 3);
-        for _ in list.drain(1..3) {}
-        for _ in list.drain(0..1) {}
-        assert_eq!(rt;
-            (list.len(), list.slots(), limiter.current_usage()),
-            (0, fewest, usage)
-        );
-
+        take_three(&rt, &mut list);
+        assert!(rt; has(&list, 0, fewest) && limiter.current_usage() == usage);
         fill(&rt, &mut list, 2 * fewest, &mut limiter);
-        assert_eq!(rt; limiter.current_usage(), max);
-        assert!(rt; matches!(list.push(0, &mut limiter), Err(PushError::Limit(_))));
-        assert_eq!(rt; (list.len(), limiter.current_usage()), (2 * fewest, max));
+        assert!(rt; limiter.current_usage() == max && is_refused(&mut list, &mut limiter));
+        assert!(rt; list.len() == 2 * fewest && limiter.current_usage() == max);
         release(&rt, list, item_bytes, &mut limiter);
-        assert_eq!(rt; limiter.current_usage(), 0);
+        assert!(rt; limiter.current_usage() == 0);
     }
 }
 
@@ -82,29 +92,29 @@ fn gives_what_it_takes_out_in_order(rt: HostRuntime) {
     let mut limiter = SharedMemoryLimiter::new(1000);
     let mut list = LimitedVec::new(rt.alloc(), 1);
     fill(&rt, &mut list, 6, &mut limiter);
-    assert_eq!(rt; list.len(), 6);
+    assert!(rt; list.len() == 6);
     {
         let mut taken = list.drain(1..4);
-        assert_eq!(rt; taken.next(), Some(1));
-        assert_eq!(rt; taken.next(), Some(2));
+        assert!(rt; taken.next() == Some(1));
+        assert!(rt; taken.next() == Some(2));
     }
-    assert_eq!(rt; list.as_slice(), [0, 4, 5].as_slice());
-    assert_eq!(rt; list[1], 4);
+    assert!(rt; list.as_slice() == [0, 4, 5].as_slice());
+    assert!(rt; list[1] == 4);
     if let Some(last) = list.last_mut() {
         *last = 9;
     }
     list.as_mut_slice().reverse();
-    assert_eq!(rt; list.as_slice(), [9, 4, 0].as_slice());
-    assert_eq!(rt; list.last(), Some(&0));
+    assert!(rt; list.as_slice() == [9, 4, 0].as_slice());
+    assert!(rt; list.last() == Some(&0));
     release(&rt, list, 1, &mut limiter);
 }
 
 #[test]
 fn refusals_have_their_text(rt: HostRuntime) -> Result<(), Fail> {
     let error = MemoryLimitExceededError.to_string(rt.alloc())?;
-    assert_eq!(rt; error.as_str(), "The memory limit has been exceeded.");
+    assert!(rt; error.as_str() == "The memory limit has been exceeded.");
     let error = PushError::Limit(MemoryLimitExceededError).to_string(rt.alloc())?;
-    assert_eq!(rt; error.as_str(), "The memory limit has been exceeded.");
+    assert!(rt; error.as_str() == "The memory limit has been exceeded.");
     Ok(())
 }
 

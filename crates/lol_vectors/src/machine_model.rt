@@ -166,7 +166,7 @@ fn expect_reports(
             reported = reported.saturating_add(1);
         }
     }
-    assert_eq!(rt; infos.len(), reported);
+    assert!(rt; infos.len() == reported);
 }
 
 /// A start tag told to both, and the comparison.

@@ -8,7 +8,7 @@ use crate::machine_runs::{Machine, Written, end, machine, release, start, start_
 use crate::machines::Step::{End, Start};
 use crate::machines::{are_reported, take_step};
 use crate::runs::selectors;
-use lol_vm::{Namespace, Selector, SharedMemoryLimiter};
+use lol_vm::{Ast, Namespace, Selector, SharedMemoryLimiter};
 use std::alloc::Global;
 use std::process::Abort;
 use std::test::Fail;
@@ -102,23 +102,39 @@ fn go_on_where_they_stopped(rt: HostRuntime) -> Result<(), Fail> {
     Ok(())
 }
 
+/// The tree of these selectors, and of second children under 20.
+fn with_second_children(alloc: Global, texts: &[(&str, u32)]) -> Result<Ast, Fail> {
+    let mut ast = selectors(alloc, texts)?;
+    let second_child = Selector::from_str(alloc, ":nth-child(2)")?;
+    ast.add_selector(&second_child, 20)?;
+    Ok(ast)
+}
+
+/// Drops a start tag that was asked for: the next one is the second child.
+fn drop_first_child(
+    rt: &impl Abort,
+    alloc: Global,
+    ast: Ast,
+    outer: &[(&str, u64)],
+    ns: Namespace,
+) {
+    let mut limiter = SharedMemoryLimiter::new(2048);
+    let mut vm = machine(rt, alloc, ast);
+    open_all(rt, alloc, &mut vm, &mut limiter, outer, 1);
+    let class = [("class", Some("a"))];
+    let asked_for = Written::html("p").of(ns).with(&class);
+    start_and_drop(rt, &mut vm, &mut limiter, asked_for);
+    assert!(rt; end(rt, alloc, &mut vm, "p").is_empty());
+    let (said, infos) = start(rt, alloc, &mut vm, &mut limiter, Written::html("b"));
+    assert!(rt; said == Unasked && are_reported(&infos, &[20], true));
+    release(rt, vm, &mut limiter);
+}
+
 #[test]
 fn count_what_is_dropped(rt: HostRuntime) -> Result<(), Fail> {
-    let alloc = rt.alloc();
     for (texts, outer, ns, _, _) in STOPS {
-        let mut ast = selectors(alloc, texts)?;
-        ast.add_selector(&Selector::from_str(alloc, ":nth-child(2)")?, 20)?;
-        let mut limiter = SharedMemoryLimiter::new(2048);
-        let mut vm = machine(&rt, alloc, ast);
-        open_all(&rt, alloc, &mut vm, &mut limiter, outer, 1);
-        let class = [("class", Some("a"))];
-        let asked_for = Written::html("p").of(ns).with(&class);
-        start_and_drop(&rt, &mut vm, &mut limiter, asked_for);
-        assert!(rt; end(&rt, alloc, &mut vm, "p").is_empty());
-        let (said, infos) = start(&rt, alloc, &mut vm, &mut limiter, Written::html("b"));
-        assert_eq!(rt; said, Unasked);
-        assert!(rt; are_reported(&infos, &[20], true));
-        release(&rt, vm, &mut limiter);
+        let ast = with_second_children(rt.alloc(), texts)?;
+        drop_first_child(&rt, rt.alloc(), ast, outer, ns);
     }
     Ok(())
 }

@@ -83,7 +83,7 @@ fn check(rt: &impl Abort, alloc: Global, row: Row<'_>) -> Result<(), Fail> {
         take_step(rt, alloc, &mut vm, &mut limiter, step);
     }
     release(rt, vm, &mut limiter);
-    assert_eq!(rt; limiter.current_usage(), 0);
+    assert!(rt; limiter.current_usage() == 0);
     Ok(())
 }
 
@@ -304,14 +304,14 @@ fn refuse_what_passes_the_limit(rt: HostRuntime) -> Result<(), Fail> {
     for name in ["a", "b", "c", "d", "e", "f", "g", "h"] {
         let step = Start(Written::html(name), Unasked, &[0], true, (1, 0));
         take_step(&rt, alloc, &mut vm, &mut limiter, &step);
-        assert_eq!(rt; (limiter.current_usage(), vm.charged_slots()), (512, 8));
+        assert!(rt; (limiter.current_usage(), vm.charged_slots()) == (512, 8));
     }
     for step in [
         Start(Written::html("i"), Said::OverLimit, &[0], true, (1, 0)),
         Start(Written::html("j"), Said::Failed, &[], true, (1, 0)),
     ] {
         take_step(&rt, alloc, &mut vm, &mut limiter, &step);
-        assert_eq!(rt; limiter.current_usage(), 512);
+        assert!(rt; limiter.current_usage() == 512);
     }
     let closed = end(&rt, alloc, &mut vm, "c");
     let zero: &[u32] = &[0];
@@ -334,7 +334,7 @@ fn repeat(
 {
     for _ in 0..times {
         take_step(rt, alloc, vm, limiter, step);
-        assert_eq!(rt; vm.charged_slots(), slots);
+        assert!(rt; vm.charged_slots() == slots);
     }
 }
 
@@ -343,13 +343,13 @@ fn charge_in_steps(rt: HostRuntime) -> Result<(), Fail> {
     let alloc = rt.alloc();
     let mut limiter = SharedMemoryLimiter::new(2048);
     let mut vm = machine(&rt, alloc, selectors(alloc, &[("p", 0)])?);
-    assert_eq!(rt; vm.charged_slots(), 0);
+    assert!(rt; vm.charged_slots() == 0);
     let opens = Start(Written::html("b"), Unasked, &[], true, (1, 0));
     repeat(&rt, alloc, &mut vm, &mut limiter, &opens, 8, 8);
     repeat(&rt, alloc, &mut vm, &mut limiter, &opens, 1, 16);
     let closes = End("b", &[&[]]);
     repeat(&rt, alloc, &mut vm, &mut limiter, &closes, 6, 16);
-    assert_eq!(rt; (vm.charged_slots(), limiter.current_usage()), (16, 1024));
+    assert!(rt; (vm.charged_slots(), limiter.current_usage()) == (16, 1024));
     release(&rt, vm, &mut limiter);
     Ok(())
 }
@@ -364,14 +364,14 @@ fn share_a_limiter(rt: HostRuntime) -> Result<(), Fail> {
     let mut other = machine(&rt, alloc, other);
     let step = Start(Written::html("p"), Unasked, &[0], true, (1, 0));
     take_step(&rt, alloc, &mut vm, &mut limiter, &step);
-    assert_eq!(rt; limiter.current_usage(), 512);
+    assert!(rt; limiter.current_usage() == 512);
     let step = Start(Written::html("p"), Unasked, &[1], true, (1, 0));
     take_step(&rt, alloc, &mut other, &mut limiter, &step);
-    assert_eq!(rt; limiter.current_usage(), 1024);
+    assert!(rt; limiter.current_usage() == 1024);
     release(&rt, vm, &mut limiter);
-    assert_eq!(rt; limiter.current_usage(), 512);
+    assert!(rt; limiter.current_usage() == 512);
     release(&rt, other, &mut limiter);
-    assert_eq!(rt; limiter.current_usage(), 0);
+    assert!(rt; limiter.current_usage() == 0);
     Ok(())
 }
 

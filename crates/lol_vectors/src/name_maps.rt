@@ -3,13 +3,11 @@
 use lol_base::LocalName;
 use lol_names::NameMap;
 use std::alloc::{AllocError, Global};
+use std::process::Abort;
 use std::test::Fail;
 
 /// The bytes that a code of two bytes can end with. With `a` or `c` before them they have the slots 0 to 31, with `b` or `d` 32 to 63.
 const ENDS: &[u8] = b"123456abcdefghijklmnopqrstuvwxyz";
-
-/// Names without a code, which have the slot of `bz` and `dz`.
-const WITHOUT_CODE: [&[u8]; 3] = [b"h7", b"x-y", b"abcdefghijklm"];
 
 /// Gives a name a value, whether it stands there or not.
 fn put(
@@ -73,74 +71,151 @@ fn take_all(map: &mut NameMap<usize>, letter: u8, first_value: usize) -> bool {
     had
 }
 
-#[test]
-fn keep_names_that_share_a_slot(rt: HostRuntime) -> Result<(), Fail> {
-    let alloc = rt.alloc();
+/// A step on a map, with what it has to answer.
+#[derive(Clone, Copy)]
+enum Step {
+    Put(&'static [u8], usize),
+    Get(&'static [u8], Option<usize>),
+    Take(&'static [u8], Option<usize>),
+}
+
+use Step::{Get, Put, Take};
+
+/// Takes a step, and says whether it answered what it has to.
+fn is_answered(alloc: Global, map: &mut NameMap<usize>, step: Step) -> Result<bool, AllocError> {
+    match step {
+        Put(name, value) => {
+            put(alloc, map, name, value)?;
+            Ok(true)
+        }
+        Get(name, value) => Ok(get(map, name) == value),
+        Take(name, value) => Ok(take(map, name) == value),
+    }
+}
+
+fn check(rt: &impl Abort, alloc: Global, steps: &[Step]) -> Result<(), Fail> {
     let mut map = NameMap::new(alloc);
-    assert_eq!(rt; get(&map, b"aa"), None);
-    put(alloc, &mut map, b"aa", 1)?;
-    put(alloc, &mut map, b"ca", 2)?;
-    assert_eq!(rt; (get(&map, b"AA"), get(&map, b"Ca")), (Some(1), Some(2)));
-    assert_eq!(rt; take(&mut map, b"aa"), Some(1));
-    assert_eq!(rt; (get(&map, b"aa"), get(&map, b"ca")), (None, Some(2)));
-    put(alloc, &mut map, b"ca", 3)?;
-    assert_eq!(rt; (get(&map, b"aa"), get(&map, b"ca")), (None, Some(3)));
-    put(alloc, &mut map, b"aa", 4)?;
-    assert_eq!(rt; take(&mut map, b"ca"), Some(3));
-    assert_eq!(rt; (get(&map, b"aa"), get(&map, b"ca")), (Some(4), None));
-    assert_eq!(rt; take(&mut map, b"ca"), None);
+    for (at, step) in steps.iter().enumerate() {
+        assert!(rt; is_answered(alloc, &mut map, *step)?, "step {at}");
+    }
     Ok(())
 }
 
+/// Names that share a slot.
+const IN_A_SLOT: &[Step] = &[
+    Get(b"aa", None),
+    Put(b"aa", 1),
+    Put(b"ca", 2),
+    Get(b"AA", Some(1)),
+    Get(b"Ca", Some(2)),
+    Take(b"aa", Some(1)),
+    Get(b"aa", None),
+    Get(b"ca", Some(2)),
+    Put(b"ca", 3),
+    Get(b"aa", None),
+    Get(b"ca", Some(3)),
+    Put(b"aa", 4),
+    Take(b"ca", Some(3)),
+    Get(b"aa", Some(4)),
+    Get(b"ca", None),
+    Take(b"ca", None),
+];
+
+#[test]
+fn keep_names_that_share_a_slot(rt: HostRuntime) -> Result<(), Fail> {
+    check(&rt, rt.alloc(), IN_A_SLOT)
+}
+
+/// `h7`, `x-y` and `abcdefghijklm` have no code, and the slot of `bz` and `dz`.
+const WITHOUT_CODE: &[Step] = &[
+    Put(b"h7", 0),
+    Put(b"x-y", 1),
+    Put(b"abcdefghijklm", 2),
+    Put(b"bz", 10),
+    Put(b"X-y", 11),
+    Get(b"h7", Some(0)),
+    Get(b"x-Y", Some(11)),
+    Get(b"abcdefghijklM", Some(2)),
+    Get(b"bz", Some(10)),
+    Get(b"x-z", None),
+    Get(b"dz", None),
+    Take(b"h7", Some(0)),
+    Put(b"dz", 12),
+    Take(b"bz", Some(10)),
+    Take(b"x-y", Some(11)),
+    Get(b"h7", None),
+    Get(b"dz", Some(12)),
+    Get(b"bz", None),
+    Get(b"abcdefghijklm", Some(2)),
+];
+
 #[test]
 fn keep_names_without_a_code(rt: HostRuntime) -> Result<(), Fail> {
-    let alloc = rt.alloc();
-    let mut map = NameMap::new(alloc);
-    for (value, name) in WITHOUT_CODE.iter().enumerate() {
-        put(alloc, &mut map, name, value)?;
-    }
-    put(alloc, &mut map, b"bz", 10)?;
-    put(alloc, &mut map, b"X-y", 11)?;
-    assert_eq!(rt; (get(&map, b"h7"), get(&map, b"x-Y")), (Some(0), Some(11)));
-    assert_eq!(rt;
-        (get(&map, b"abcdefghijklM"), get(&map, b"bz")),
-        (Some(2), Some(10))
-    );
-    assert_eq!(rt; (get(&map, b"x-z"), get(&map, b"dz")), (None, None));
-    assert_eq!(rt; take(&mut map, b"h7"), Some(0));
-    put(alloc, &mut map, b"dz", 12)?;
-    assert_eq!(rt;
-        (take(&mut map, b"bz"), take(&mut map, b"x-y")),
-        (Some(10), Some(11))
-    );
-    assert_eq!(rt; (get(&map, b"h7"), get(&map, b"dz")), (None, Some(12)));
-    assert_eq!(rt;
-        (get(&map, b"bz"), get(&map, b"abcdefghijklm")),
-        (None, Some(2))
-    );
-    Ok(())
+    check(&rt, rt.alloc(), WITHOUT_CODE)
 }
+
+/// A step on all the names of a first letter.
+#[derive(Clone, Copy)]
+enum Stride {
+    /// Puts them, with this first value.
+    PutAll(u8, usize),
+    /// They are there, with this first value.
+    HaveAll(u8, usize),
+    HaveNone(u8),
+    /// Takes them, with this first value.
+    TakeAll(u8, usize),
+}
+
+use Stride::{HaveAll, HaveNone, PutAll, TakeAll};
+
+/// Takes a stride, and says whether it answered what it has to.
+fn is_well(alloc: Global, map: &mut NameMap<usize>, stride: Stride) -> Result<bool, AllocError> {
+    match stride {
+        PutAll(letter, first_value) => {
+            put_all(alloc, map, letter, first_value)?;
+            Ok(true)
+        }
+        HaveAll(letter, first_value) => Ok(have_all(map, letter, first_value)),
+        HaveNone(letter) => Ok(have_none(map, letter)),
+        TakeAll(letter, first_value) => Ok(take_all(map, letter, first_value)),
+    }
+}
+
+const MORE_THAN_SLOTS: &[Stride] = &[
+    PutAll(b'a', 0),
+    PutAll(b'b', 100),
+    PutAll(b'c', 200),
+    PutAll(b'd', 300),
+    HaveAll(b'a', 0),
+    HaveAll(b'b', 100),
+    HaveAll(b'C', 200),
+    HaveAll(b'D', 300),
+    TakeAll(b'a', 0),
+    HaveNone(b'a'),
+    HaveAll(b'c', 200),
+    TakeAll(b'd', 300),
+    PutAll(b'a', 500),
+    PutAll(b'c', 600),
+    HaveAll(b'a', 500),
+    HaveAll(b'b', 100),
+    HaveAll(b'c', 600),
+    HaveNone(b'd'),
+    TakeAll(b'c', 600),
+    TakeAll(b'b', 100),
+    HaveAll(b'a', 500),
+    HaveNone(b'c'),
+    TakeAll(b'a', 500),
+    HaveNone(b'a'),
+];
 
 #[test]
 fn keep_more_names_than_slots(rt: HostRuntime) -> Result<(), Fail> {
     let alloc = rt.alloc();
     let mut map = NameMap::new(alloc);
-    for (letter, first_value) in [(b'a', 0), (b'b', 100), (b'c', 200), (b'd', 300)] {
-        put_all(alloc, &mut map, letter, first_value)?;
-    }
     put(alloc, &mut map, b"x-y", 400)?;
-    assert!(rt; have_all(&map, b'a', 0) && have_all(&map, b'b', 100));
-    assert!(rt; have_all(&map, b'C', 200) && have_all(&map, b'D', 300));
-    assert!(rt; take_all(&mut map, b'a', 0));
-    assert!(rt; have_none(&map, b'a') && have_all(&map, b'c', 200));
-    assert!(rt; take_all(&mut map, b'd', 300));
-    put_all(alloc, &mut map, b'a', 500)?;
-    put_all(alloc, &mut map, b'c', 600)?;
-    assert!(rt; have_all(&map, b'a', 500) && have_all(&map, b'b', 100));
-    assert!(rt; have_all(&map, b'c', 600) && have_none(&map, b'd'));
-    assert!(rt; take_all(&mut map, b'c', 600) && take_all(&mut map, b'b', 100));
-    assert!(rt; have_all(&map, b'a', 500) && have_none(&map, b'c'));
-    assert_eq!(rt; take(&mut map, b"x-y"), Some(400));
-    assert!(rt; take_all(&mut map, b'a', 500) && have_none(&map, b'a'));
+    for (at, stride) in MORE_THAN_SLOTS.iter().enumerate() {
+        assert!(rt; is_well(alloc, &mut map, *stride)?, "step {at}");
+    }
+    assert!(rt; take(&mut map, b"x-y") == Some(400));
     Ok(())
 }

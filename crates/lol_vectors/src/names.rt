@@ -18,7 +18,7 @@ fn have_the_codes_of_their_bytes(rt: HostRuntime) {
     for (bytes, code) in rows {
         let name = LocalName::new(bytes);
         assert_eq!(rt; name.code(), code, "{bytes:?}");
-        assert_eq!(rt; name.spelling().is_none(), code.is_some());
+        assert!(rt; name.spelling().is_none() == code.is_some());
     }
 }
 

@@ -53,9 +53,18 @@ fn part(alloc: Global, text: &str) -> Result<Test, AllocError> {
 }
 
 /// The test that no element passes this one.
-fn none_of(alloc: Global, test: Test) -> Result<Test, AllocError> {
+pub(crate) fn none_of(alloc: Global, test: Test) -> Result<Test, AllocError> {
     let tests = vec![in alloc; test]?;
     Ok(Test::NoneOf(vec![in alloc; Predicate { tests }]?))
+}
+
+/// The test that no element passes the first part, and the tests of the others.
+fn none_of_and_parts(alloc: Global, first: &str, others: &[&str]) -> Result<Vec<Test>, AllocError> {
+    let mut tests = vec![in alloc; none_of(alloc, part(alloc, first)?)?]?;
+    for text in others {
+        tests.push(part(alloc, text)?)?;
+    }
+    Ok(tests)
 }
 
 fn node<'n>(rt: &impl Abort, nodes: &'n [AstNode], place: usize) -> &'n AstNode {
@@ -100,16 +109,8 @@ fn functions_in_functions(rt: HostRuntime) -> Result<(), Fail> {
 
 #[test]
 fn parts_stand_from_right_to_left(rt: HostRuntime) -> Result<(), Fail> {
-    let alloc = rt.alloc();
-    let text = |text: &str| String::from_str(alloc, text);
-    let baz = Test::Attribute(OnAttributesExpr::AttributeExists(text("baz")?));
-    let tests = [
-        none_of(alloc, baz)?,
-        Test::Attribute(OnAttributesExpr::Id(text("bar")?)),
-        Test::Attribute(OnAttributesExpr::Class(text("foo")?)),
-        name(alloc, "div")?,
-    ];
-    assert!(rt; has_tests(&rt, alloc, "div.foo#bar:not([baz])", &tests)?);
+    let tests = none_of_and_parts(rt.alloc(), "[baz", &["#bar", ".foo", "div"])?;
+    assert!(rt; has_tests(&rt, rt.alloc(), "div.foo#bar:not([baz])", &tests)?);
     Ok(())
 }
 
@@ -246,7 +247,7 @@ fn comparisons_are_shown(rt: HostRuntime) -> Result<(), Fail> {
         let wanted = format!(in alloc;
             "AttributeExpr {{ name: \"foo\", value: \"bar\", case_sensitivity: CaseSensitive, operator: \"AttrSelectorOperator::{name}\" }}"
         )?;
-        assert_eq!(rt; shown, wanted);
+        assert!(rt; shown == wanted);
     }
     Ok(())
 }

@@ -151,37 +151,77 @@ pub(crate) fn release(
     stack.release(limiter);
 }
 
-#[test]
-fn keep_the_active_ranges(rt: HostRuntime) {
-    let alloc = rt.alloc();
+/// A step on a stack, with what has to come of it.
+#[derive(Clone, Copy)]
+enum Step<'t> {
+    /// Opens an element with these hereditary ranges; its number is its place.
+    Open(&'t str, &'t [AddressRange]),
+    /// An end tag: the numbers of the elements that it closes.
+    Close(&'t str, &'t [usize]),
+    /// The active ranges, each with the place of its element.
+    Active(&'t [(AddressRange, usize)]),
+    /// The places of the open elements of a name.
+    Places(&'t str, &'t [usize]),
+    /// How many elements are open.
+    Items(usize),
+}
+
+use Step::{Active, Close, Items, Open, Places};
+
+/// Takes a step, and says whether what has to come of it came.
+fn take_step(
+    rt: &impl Abort,
+    alloc: Global,
+    stack: &mut Stack<Numbered>,
+    limiter: &mut SharedMemoryLimiter,
+    step: Step<'_>,
+) -> bool
+    ensures { item_bytes_in stack.new ≡ item_bytes_in stack.old }
+{
+    match step {
+        Open(name, ranges) => {
+            let place = stack.items().len();
+            open(alloc, stack, name.as_bytes(), place, ranges, limiter).is_ok()
+        }
+        Close(name, numbers) => close(rt, alloc, stack, name.as_bytes()).as_slice() == numbers,
+        Active(ranges) => stack.active_hereditary_jumps() == ranges,
+        Places(name, places) => has_places(stack, name.as_bytes(), places),
+        Items(count) => stack.items().len() == count,
+    }
+}
+
+/// Takes the steps on a stack of its own.
+fn check(rt: &impl Abort, alloc: Global, steps: &[Step<'_>]) {
     let mut limiter = SharedMemoryLimiter::new(2048);
     let mut stack = Stack::new(alloc, 64, false);
-    assert!(rt; open(alloc, &mut stack, b"a", 0, &[], &mut limiter).is_ok());
-    assert!(rt; stack.active_hereditary_jumps().is_empty());
-    assert!(rt; open(alloc, &mut stack, b"b", 1, &[0..1], &mut limiter).is_ok());
-    assert_eq!(rt; stack.active_hereditary_jumps(), [(0..1, 1)].as_slice());
-    assert!(rt; open(alloc, &mut stack, b"c", 2, &[0..1, 2..4], &mut limiter).is_ok());
-    assert_eq!(rt;
-        stack.active_hereditary_jumps(),
-        [(0..1, 1), (2..4, 2)].as_slice()
+    for step in steps {
+        let came = take_step(rt, alloc, &mut stack, &mut limiter, *step);
+        assert!(rt; came);
+    }
+    release(rt, stack, 64, &mut limiter);
+    assert!(rt; limiter.current_usage() == 0);
+}
+
+#[test]
+fn keep_the_active_ranges(rt: HostRuntime) {
+    check(
+        &rt,
+        rt.alloc(),
+        &[
+            Open("a", &[]),
+            Active(&[]),
+            Open("b", &[0..1]),
+            Active(&[(0..1, 1)]),
+            Open("c", &[0..1, 2..4]),
+            Active(&[(0..1, 1), (2..4, 2)]),
+            Open("d", &[]),
+            Active(&[(0..1, 1), (2..4, 2)]),
+            Close("c", &[2, 3]),
+            Active(&[(0..1, 1)]),
+            Close("a", &[0, 1]),
+            Active(&[]),
+        ],
     );
-    assert!(rt; open(alloc, &mut stack, b"d", 3, &[], &mut limiter).is_ok());
-    assert_eq!(rt;
-        stack.active_hereditary_jumps(),
-        [(0..1, 1), (2..4, 2)].as_slice()
-    );
-    assert_eq!(rt;
-        close(&rt, alloc, &mut stack, b"c").as_slice(),
-        [2, 3].as_slice()
-    );
-    assert_eq!(rt; stack.active_hereditary_jumps(), [(0..1, 1)].as_slice());
-    assert_eq!(rt;
-        close(&rt, alloc, &mut stack, b"a").as_slice(),
-        [0, 1].as_slice()
-    );
-    assert!(rt; stack.active_hereditary_jumps().is_empty());
-    release(&rt, stack, 64, &mut limiter);
-    assert_eq!(rt; limiter.current_usage(), 0);
 }
 
 /// The ranges 0 to 1, 1 to 2 and so on, as many as this.
@@ -190,6 +230,15 @@ fn ranges_of_one(alloc: Global, count: usize) -> Result<Vec<AddressRange>, Alloc
     for start in 0..count {
         ranges.push(start..start.saturating_add(1))?;
     }
+    Ok(ranges)
+}
+
+/// The ranges of `ranges_of_one` the other way round, and one of them all, twice.
+fn turned_and_more(alloc: Global) -> Result<Vec<AddressRange>, AllocError> {
+    let mut ranges = ranges_of_one(alloc, 130)?;
+    ranges.reverse();
+    ranges.push(0..130)?;
+    ranges.push(0..130)?;
     Ok(ranges)
 }
 
@@ -204,18 +253,14 @@ fn are_of_place(active: &[(AddressRange, usize)], place: usize) -> bool {
 fn keep_many_active_ranges(rt: HostRuntime) -> Result<(), Fail> {
     let alloc = rt.alloc();
     let ranges = ranges_of_one(alloc, 130)?;
-    let mut more = ranges_of_one(alloc, 130)?;
-    more.reverse();
-    more.push(0..130)?;
-    more.push(0..130)?;
-
+    let more = turned_and_more(alloc)?;
     let mut limiter = SharedMemoryLimiter::new(2048);
     let mut stack = Stack::new(alloc, 64, false);
     assert!(rt; open(alloc, &mut stack, b"a", 0, &ranges, &mut limiter).is_ok());
-    assert_eq!(rt; stack.active_hereditary_jumps().len(), 130);
+    assert!(rt; stack.active_hereditary_jumps().len() == 130);
     assert!(rt; are_of_place(stack.active_hereditary_jumps(), 0));
     assert!(rt; open(alloc, &mut stack, b"b", 1, &more, &mut limiter).is_ok());
-    assert_eq!(rt; stack.active_hereditary_jumps().len(), 131);
+    assert!(rt; stack.active_hereditary_jumps().len() == 131);
     let active = stack.active_hereditary_jumps();
     assert!(rt;
         active
@@ -228,92 +273,79 @@ fn keep_many_active_ranges(rt: HostRuntime) -> Result<(), Fail> {
             .is_some_and(|(range, place)| *range == (0..130) && *place == 1)
     );
 
-    assert_eq!(rt;
-        close(&rt, alloc, &mut stack, b"b").as_slice(),
-        [1].as_slice()
-    );
-    assert_eq!(rt; stack.active_hereditary_jumps().len(), 130);
+    assert!(rt; close(&rt, alloc, &mut stack, b"b").as_slice() == [1].as_slice());
+    assert!(rt; stack.active_hereditary_jumps().len() == 130);
     release(&rt, stack, 64, &mut limiter);
     Ok(())
 }
 
 #[test]
 fn close_the_last_of_a_name(rt: HostRuntime) {
-    let alloc = rt.alloc();
-    let mut limiter = SharedMemoryLimiter::new(2048);
-    let mut stack = Stack::new(alloc, 64, false);
-    assert!(rt; close(&rt, alloc, &mut stack, b"div").is_empty());
-    assert!(rt; open(alloc, &mut stack, b"a", 0, &[], &mut limiter).is_ok());
-    assert!(rt; open(alloc, &mut stack, b"b", 1, &[], &mut limiter).is_ok());
-    assert!(rt; open(alloc, &mut stack, b"A", 2, &[], &mut limiter).is_ok());
-    assert!(rt; close(&rt, alloc, &mut stack, b"c").is_empty());
-    assert_eq!(rt; stack.items().len(), 3);
-    assert_eq!(rt;
-        close(&rt, alloc, &mut stack, b"a").as_slice(),
-        [2].as_slice()
+    check(
+        &rt,
+        rt.alloc(),
+        &[
+            Close("div", &[]),
+            Open("a", &[]),
+            Open("b", &[]),
+            Open("A", &[]),
+            Close("c", &[]),
+            Items(3),
+            Close("a", &[2]),
+            Close("a", &[0, 1]),
+            Close("a", &[]),
+        ],
     );
-    assert_eq!(rt;
-        close(&rt, alloc, &mut stack, b"a").as_slice(),
-        [0, 1].as_slice()
-    );
-    assert!(rt; close(&rt, alloc, &mut stack, b"a").is_empty());
-    release(&rt, stack, 64, &mut limiter);
 }
+
+/// End tags, the numbers of the elements that each closes in `html`, `body`, `div`, `div` and `span`, and how many stay.
+const CLOSED: [(&str, &[usize], usize); 5] = [
+    ("span", &[4], 4),
+    ("div", &[3, 4], 3),
+    ("body", &[1, 2, 3, 4], 1),
+    ("html", &[0, 1, 2, 3, 4], 0),
+    ("table", &[], 5),
+];
 
 #[test]
 fn close_all_inside(rt: HostRuntime) {
-    for (name, first) in [
-        ("span", 4),
-        ("div", 3),
-        ("body", 1),
-        ("html", 0),
-        ("table", 5),
-    ] {
-        let alloc = rt.alloc();
-        let mut limiter = SharedMemoryLimiter::new(2048);
-        let mut stack = Stack::new(alloc, 64, false);
-        assert!(rt; open(alloc, &mut stack, b"html", 0, &[], &mut limiter).is_ok());
-        assert!(rt; open(alloc, &mut stack, b"body", 1, &[], &mut limiter).is_ok());
-        assert!(rt; open(alloc, &mut stack, b"div", 2, &[], &mut limiter).is_ok());
-        assert!(rt; open(alloc, &mut stack, b"div", 3, &[], &mut limiter).is_ok());
-        assert!(rt; open(alloc, &mut stack, b"span", 4, &[], &mut limiter).is_ok());
-        let numbers = close(&rt, alloc, &mut stack, name.as_bytes());
-        assert_eq!(rt; numbers.as_slice(), &[0, 1, 2, 3, 4][first..]);
-        assert_eq!(rt; stack.items().len(), first);
-        release(&rt, stack, 64, &mut limiter);
+    for (name, numbers, count) in CLOSED {
+        check(
+            &rt,
+            rt.alloc(),
+            &[
+                Open("html", &[]),
+                Open("body", &[]),
+                Open("div", &[]),
+                Open("div", &[]),
+                Open("span", &[]),
+                Close(name, numbers),
+                Items(count),
+            ],
+        );
     }
 }
 
 #[test]
 fn know_the_places_of_a_name(rt: HostRuntime) {
-    let alloc = rt.alloc();
-    let mut limiter = SharedMemoryLimiter::new(2048);
-    let mut stack = Stack::new(alloc, 64, false);
-    assert!(rt; open(alloc, &mut stack, b"html", 0, &[], &mut limiter).is_ok());
-    assert!(rt; open(alloc, &mut stack, b"div", 1, &[], &mut limiter).is_ok());
-    assert!(rt; open(alloc, &mut stack, b"p", 2, &[], &mut limiter).is_ok());
-    assert!(rt; open(alloc, &mut stack, b"div", 3, &[], &mut limiter).is_ok());
-    assert!(rt; open(alloc, &mut stack, b"p", 4, &[], &mut limiter).is_ok());
-    assert!(rt; has_places(&stack, b"DIV", &[1, 3]));
-    assert!(rt; has_places(&stack, b"a", &[]));
-    assert_eq!(rt;
-        close(&rt, alloc, &mut stack, b"p").as_slice(),
-        [4].as_slice()
+    check(
+        &rt,
+        rt.alloc(),
+        &[
+            Open("html", &[]),
+            Open("div", &[]),
+            Open("p", &[]),
+            Open("div", &[]),
+            Open("p", &[]),
+            Places("DIV", &[1, 3]),
+            Places("a", &[]),
+            Close("p", &[4]),
+            Close("p", &[2, 3]),
+            Close("p", &[]),
+            Close("div", &[1]),
+            Close("html", &[0]),
+        ],
     );
-    assert_eq!(rt;
-        close(&rt, alloc, &mut stack, b"p").as_slice(),
-        [2, 3].as_slice()
-    );
-    assert!(rt; close(&rt, alloc, &mut stack, b"p").is_empty());
-    assert_eq!(rt;
-        close(&rt, alloc, &mut stack, b"div").as_slice(),
-        [1].as_slice()
-    );
-    assert_eq!(rt;
-        close(&rt, alloc, &mut stack, b"html").as_slice(),
-        [0].as_slice()
-    );
-    release(&rt, stack, 64, &mut limiter);
 }
 
 #[test]
@@ -328,7 +360,7 @@ fn count_children_up_to_the_greatest(rt: HostRuntime) {
     assert!(rt; stack.add_child(&name).is_ok());
     assert!(rt; is_full(&mut stack, &name));
     assert!(rt; is_full(&mut stack, &name));
-    assert_eq!(rt; stack.items().len(), 1);
+    assert!(rt; stack.items().len() == 1);
     let state = stack.build_state(&name);
     assert!(rt; state.cumulative.is_nth(NthChild::new(0, i32::MAX)));
     let typed = state.typed.expect(&rt, "a counter by type");
@@ -347,7 +379,7 @@ fn are_as_before_after_a_refused_push(rt: HostRuntime) {
     assert!(rt; stack.items().is_empty());
     assert!(rt; stack.active_hereditary_jumps().is_empty());
     assert!(rt; has_places(&stack, b"a", &[]));
-    assert_eq!(rt; (stack.charged_slots(), limiter.current_usage()), (0, 0));
+    assert!(rt; stack.charged_slots() == 0 && limiter.current_usage() == 0);
     release(&rt, stack, 64, &mut limiter);
 }
 
@@ -358,13 +390,10 @@ fn lend_the_data_of_the_last_element(rt: HostRuntime) {
     let mut stack = Stack::new(alloc, 64, false);
     assert!(rt; stack.current_element_data_mut().is_none());
     assert!(rt; open(alloc, &mut stack, b"a", 0, &[], &mut limiter).is_ok());
-    assert_eq!(rt; (stack.charged_slots(), limiter.current_usage()), (8, 512));
+    assert!(rt; stack.charged_slots() == 8 && limiter.current_usage() == 512);
     let data = stack.current_element_data_mut();
     data.expect(&rt, "data of an open element").number = 9;
-    assert_eq!(rt;
-        close(&rt, alloc, &mut stack, b"a").as_slice(),
-        [9].as_slice()
-    );
+    assert!(rt; close(&rt, alloc, &mut stack, b"a").as_slice() == [9].as_slice());
     release(&rt, stack, 64, &mut limiter);
 }
 
