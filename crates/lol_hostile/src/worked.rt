@@ -3,7 +3,7 @@
 use lol_script::Status;
 
 /// A script, its output, and how its run ends.
-pub(super) const ANSWERED: [(&str, &str, Status); 40] = [
+pub(super) const ANSWERED: [(&str, &str, Status); 39] = [
     (
         "tries\nselect\t0\tdiv p\nselect\t1\tdiv > p\nselect\t2\t.lead p, p.lead\nselect\t3\t:not(p, .lead) > p:first-child\nstart\thtml\tdiv\nstart\thtml\tsection\tclass=wide lead\nstart\thtml\tp\nend\tp\nstart\thtml\tp\tclass=lead\nend\tdiv\nstart\thtml\tp\tclass=lead\n",
         "start\t-\tasked\ttries 4 2\nstart\t-\tasked\ttries 7 2\nstart\t0,2\tasked\ttries 6 2\nend\t2\nstart\t0,2\tasked\ttries 6 2\nend\t0,1,4\nstart\t2\tasked\ttries 4 2\n",
@@ -139,11 +139,6 @@ pub(super) const ANSWERED: [(&str, &str, Status); 40] = [
     (
         "limit\t512\nselect\t0\t*\nstart\thtml\ta\nstart\thtml\tb\nstart\thtml\tc\nstart\thtml\td\nstart\thtml\te\nstart\thtml\tf\nstart\thtml\tg\nstart\thtml\th\nstart\thtml\ti\n",
         "start\t0\nstart\t0\nstart\t0\nstart\t0\nstart\t0\nstart\t0\nstart\t0\nstart\t0\nrefused limit\n",
-        Status::Refused,
-    ),
-    (
-        "limit\t512\nselect\t0\tdiv div\nstart\thtml\tdiv\nstart\thtml\tdiv\nstart\thtml\tdiv\nstart\thtml\tdiv\nstart\thtml\tdiv\nstart\thtml\tdiv\nstart\thtml\tdiv\nstart\thtml\tdiv\nend\tdiv\nstart\thtml\timg\nstart\thtml\tdiv\nstart\thtml\tdiv\nstart\thtml\tdiv\n",
-        "start\t-\nstart\t0\nstart\t0\nstart\t0\nstart\t0\nstart\t0\nstart\t0\nstart\t0\nend\t7\nstart\t-\nstart\t0\nrefused limit\n",
         Status::Refused,
     ),
     (
