@@ -181,11 +181,27 @@ fn is_well(alloc: Global, map: &mut NameMap<usize>, stride: Stride) -> Result<bo
     }
 }
 
-const MORE_THAN_SLOTS: &[Stride] = &[
+fn take_strides(
+    rt: &impl Abort,
+    alloc: Global,
+    map: &mut NameMap<usize>,
+    strides: &[Stride],
+) -> Result<(), AllocError> {
+    for (at, stride) in strides.iter().enumerate() {
+        assert!(rt; is_well(alloc, map, *stride)?, "step {at}");
+    }
+    Ok(())
+}
+
+/// More names than slots.
+const ALL: &[Stride] = &[
     PutAll(b'a', 0),
     PutAll(b'b', 100),
     PutAll(b'c', 200),
     PutAll(b'd', 300),
+];
+
+const AFTER_ALL: &[Stride] = &[
     HaveAll(b'a', 0),
     HaveAll(b'b', 100),
     HaveAll(b'C', 200),
@@ -212,10 +228,9 @@ const MORE_THAN_SLOTS: &[Stride] = &[
 fn keep_more_names_than_slots(rt: HostRuntime) -> Result<(), Fail> {
     let alloc = rt.alloc();
     let mut map = NameMap::new(alloc);
+    take_strides(&rt, alloc, &mut map, ALL)?;
     put(alloc, &mut map, b"x-y", 400)?;
-    for (at, stride) in MORE_THAN_SLOTS.iter().enumerate() {
-        assert!(rt; is_well(alloc, &mut map, *stride)?, "step {at}");
-    }
+    take_strides(&rt, alloc, &mut map, AFTER_ALL)?;
     assert!(rt; take(&mut map, b"x-y") == Some(400));
     Ok(())
 }

@@ -40,7 +40,7 @@ fn hold_great_ids(rt: HostRuntime) -> Result<(), Fail> {
 #[test]
 fn are_joined(rt: HostRuntime) -> Result<(), Fail> {
     let set = union_of(rt.alloc(), &[33, 70], &[1, 70, 100])?;
-    assert!(rt; set.iter().eq([1, 33, 70, 100]));
+    assert!(rt; set == set_of(rt.alloc(), &[1, 33, 70, 100])?);
     Ok(())
 }
 
@@ -110,7 +110,7 @@ fn join_many_words(rt: HostRuntime) -> Result<(), Fail> {
     let few = union_of(rt.alloc(), &[7], &[100_000, 40])?;
     let many = union_of(rt.alloc(), &[100_000, 40], &[7, 40, 100_000])?;
     assert!(rt; few == many);
-    assert!(rt; few.iter().eq([7, 40, 100_000]));
+    assert!(rt; few.iter().eq([7, 40, 100_000]) && few.try_clone()? == few);
     assert!(rt; has_rooms(&few, &[(99_999, true), (100_032, false)]));
     Ok(())
 }
