@@ -1,0 +1,5 @@
+use Rattle.std.proofs.Common.{rules}
+use Rattle.lol_css.proofs.selector.CssString.to_boxed_slice.Goals as goal
+
+pub returns : goal.returns
+returns c = search rules

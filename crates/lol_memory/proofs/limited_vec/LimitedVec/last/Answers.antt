@@ -1,0 +1,5 @@
+use Rattle.std.proofs.Common.{rules}
+use Rattle.lol_memory.proofs.limited_vec.LimitedVec.last.Goals as goal
+
+pub returns : goal.returns
+returns c = search rules

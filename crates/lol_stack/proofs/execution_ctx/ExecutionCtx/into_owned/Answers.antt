@@ -1,0 +1,5 @@
+use Rattle.std.proofs.Common.{rules}
+use Rattle.lol_stack.proofs.execution_ctx.ExecutionCtx.into_owned.Goals as goal
+
+pub returns : goal.returns
+returns c = search rules
