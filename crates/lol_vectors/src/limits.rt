@@ -1,8 +1,9 @@
 //! The limiter, and lists with charged slots.
 
-ghost use Rattle.std.specs.Prelude.{◌≡◌};
+ghost use Rattle.std.specs.Prelude.{◌≡◌, ◌<◌};
 
 use lol_memory::{LimitedVec, MemoryLimitExceededError, PushError, SharedMemoryLimiter};
+use std::alloc::Global;
 use std::process::Abort;
 use std::test::Fail;
 
@@ -67,24 +68,94 @@ fn is_refused(list: &mut LimitedVec<usize>, limiter: &mut SharedMemoryLimiter) -
     matches!(list.push(0, limiter), Err(PushError::Limit(_)))
 }
 
+/// Pushes three elements, which fit into the fewest slots, and takes them out: the slots and their charge stay.
+fn expect_fewest(
+    rt: &impl Abort,
+    list: &mut LimitedVec<usize>,
+    fewest: usize,
+    limiter: &mut SharedMemoryLimiter,
+)
+    ensures { list.new.item_bytes ≡ list.old.item_bytes }
+{
+    fill(rt, list, 1, limiter);
+    assert!(rt; has(list, 1, fewest));
+    fill(rt, list, 2, limiter);
+    assert!(rt; has(list, 3, fewest));
+    let usage = limiter.current_usage();
+    take_three(rt, list);
+    assert!(rt; has(list, 0, fewest) && limiter.current_usage() == usage);
+}
+
+/// Pushes as many elements as fit, which use the limiter up, and then one more.
+fn expect_most(
+    rt: &impl Abort,
+    list: &mut LimitedVec<usize>,
+    most: usize,
+    max: usize,
+    limiter: &mut SharedMemoryLimiter,
+)
+    ensures { list.new.item_bytes ≡ list.old.item_bytes }
+{
+    fill(rt, list, most, limiter);
+    assert!(rt; limiter.current_usage() == max && is_refused(list, limiter));
+    assert!(rt; list.len() == most && limiter.current_usage() == max);
+}
+
+/// Fills a list, empties it, fills it up and releases it.
+fn check_charge(rt: &impl Abort, alloc: Global, item_bytes: usize, slots: (usize, usize, usize))
+    requires { 0 < item_bytes }
+{
+    let (fewest, most, max) = slots;
+    let mut limiter = SharedMemoryLimiter::new(max);
+    let mut list = LimitedVec::new(alloc, item_bytes);
+    expect_fewest(rt, &mut list, fewest, &mut limiter);
+    expect_most(rt, &mut list, most, max, &mut limiter);
+    release(rt, list, item_bytes, &mut limiter);
+    assert!(rt; limiter.current_usage() == 0);
+}
+
+/// The bytes of an element, with the fewest slots, twice as many, and their charge.
 #[test]
 fn keeps_the_charge_until_it_is_released(rt: HostRuntime) {
-    for (item_bytes, fewest, max) in [(1, 128, 256), (8, 16, 256), (7, 18, 252), (512, 8, 8192)] {
-        let mut limiter = SharedMemoryLimiter::new(max);
-        let mut list = LimitedVec::new(rt.alloc(), item_bytes);
-        fill(&rt, &mut list, 1, &mut limiter);
-        assert!(rt; has(&list, 1, fewest));
-        fill(&rt, &mut list, 2, &mut limiter);
-        assert!(rt; has(&list, 3, fewest));
-        let usage = limiter.current_usage();
-        take_three(&rt, &mut list);
-        assert!(rt; has(&list, 0, fewest) && limiter.current_usage() == usage);
-        fill(&rt, &mut list, 2 * fewest, &mut limiter);
-        assert!(rt; limiter.current_usage() == max && is_refused(&mut list, &mut limiter));
-        assert!(rt; list.len() == 2 * fewest && limiter.current_usage() == max);
-        release(&rt, list, item_bytes, &mut limiter);
-        assert!(rt; limiter.current_usage() == 0);
+    for (item_bytes, slots) in [
+        (1, (128, 256, 256)),
+        (8, (16, 32, 256)),
+        (7, (18, 36, 252)),
+        (512, (8, 16, 8192)),
+    ] {
+        check_charge(&rt, rt.alloc(), item_bytes, slots);
     }
+}
+
+/// Drains the second to the fourth of six elements, and says whether the second and the third came first.
+fn gives_two(rt: &impl Abort, list: &mut LimitedVec<usize>) -> bool
+    ensures { list.new.item_bytes ≡ list.old.item_bytes }
+{
+    assert!(rt; list.len() == 6);
+    let mut taken = list.drain(1..4);
+    let first = taken.next();
+    let second = taken.next();
+    (first, second) == (Some(1), Some(2))
+}
+
+/// Whether what `gives_two` leaves is there.
+fn has_the_rest(list: &LimitedVec<usize>) -> bool {
+    list.as_slice() == [0, 4, 5].as_slice() && list[1] == 4
+}
+
+/// Writes over the last element, and turns the list round.
+fn change_and_turn(list: &mut LimitedVec<usize>)
+    ensures { list.new.item_bytes ≡ list.old.item_bytes }
+{
+    if let Some(last) = list.last_mut() {
+        *last = 9;
+    }
+    list.as_mut_slice().reverse();
+}
+
+/// Whether a list is what `change_and_turn` makes of the rest.
+fn is_turned(list: &LimitedVec<usize>) -> bool {
+    list.as_slice() == [9, 4, 0].as_slice() && list.last() == Some(&0)
 }
 
 #[test]
@@ -92,20 +163,9 @@ fn gives_what_it_takes_out_in_order(rt: HostRuntime) {
     let mut limiter = SharedMemoryLimiter::new(1000);
     let mut list = LimitedVec::new(rt.alloc(), 1);
     fill(&rt, &mut list, 6, &mut limiter);
-    assert!(rt; list.len() == 6);
-    {
-        let mut taken = list.drain(1..4);
-        assert!(rt; taken.next() == Some(1));
-        assert!(rt; taken.next() == Some(2));
-    }
-    assert!(rt; list.as_slice() == [0, 4, 5].as_slice());
-    assert!(rt; list[1] == 4);
-    if let Some(last) = list.last_mut() {
-        *last = 9;
-    }
-    list.as_mut_slice().reverse();
-    assert!(rt; list.as_slice() == [9, 4, 0].as_slice());
-    assert!(rt; list.last() == Some(&0));
+    assert!(rt; gives_two(&rt, &mut list) && has_the_rest(&list));
+    change_and_turn(&mut list);
+    assert!(rt; is_turned(&list));
     release(&rt, list, 1, &mut limiter);
 }
 

@@ -1,23 +1,26 @@
 //! Names of elements.
 
 use lol_base::{LocalName, Tag};
+use std::alloc::{AllocError, Global};
 use std::test::Fail;
+
+/// Names, and their codes.
+const CODES: [(&[u8], Option<u64>); 8] = [
+    (b"a", Some(6)),
+    (b"br", Some(247)),
+    (b"div", Some(9691)),
+    (b"DIV", Some(9691)),
+    (b"h1", Some(416)),
+    (b"1a", None),
+    (b"h7", None),
+    (b"abcdefghijklm", None),
+];
 
 #[test]
 fn have_the_codes_of_their_bytes(rt: HostRuntime) {
-    let rows: [(&[u8], Option<u64>); 8] = [
-        (b"a", Some(6)),
-        (b"br", Some(247)),
-        (b"div", Some(9691)),
-        (b"DIV", Some(9691)),
-        (b"h1", Some(416)),
-        (b"1a", None),
-        (b"h7", None),
-        (b"abcdefghijklm", None),
-    ];
-    for (bytes, code) in rows {
+    for (bytes, code) in &CODES {
         let name = LocalName::new(bytes);
-        assert_eq!(rt; name.code(), code, "{bytes:?}");
+        assert!(rt; name.code() == *code, "{bytes:?}");
         assert!(rt; name.spelling().is_none() == code.is_some());
     }
 }
@@ -32,14 +35,24 @@ fn are_those_of_tags(rt: HostRuntime) {
 /// Names without a code, each with another spelling of it.
 const COPIED: [(&[u8], &[u8]); 1] = [(b"Abcdefghijklm", b"aBCDEFGHIJKLM")];
 
+/// Whether a copy of a name is equal to it, and spelled as it is.
+fn is_copied(alloc: Global, spelled: &[u8]) -> Result<bool, AllocError> {
+    let name = LocalName::new(spelled);
+    let copy = name.try_clone(alloc)?;
+    Ok(are_equal(&copy, &name) && is_spelled(&copy, spelled))
+}
+
+/// Whether an owned name is equal to another spelling of it, and spelled as it was.
+fn is_owned(alloc: Global, spelled: &[u8], other: &[u8]) -> Result<bool, AllocError> {
+    let owned = LocalName::new(spelled).into_owned(alloc)?;
+    Ok(are_equal(&owned, &LocalName::new(other)) && is_spelled(&owned, spelled))
+}
+
 #[test]
 fn are_copied_as_they_are_spelled(rt: HostRuntime) -> Result<(), Fail> {
     for (spelled, other) in COPIED {
-        let name = LocalName::new(spelled);
-        let copy = name.try_clone(rt.alloc())?;
-        assert!(rt; are_equal(&copy, &name) && is_spelled(&copy, spelled));
-        let owned = name.into_owned(rt.alloc())?;
-        assert!(rt; are_equal(&owned, &LocalName::new(other)) && is_spelled(&owned, spelled));
+        assert!(rt; is_copied(rt.alloc(), spelled)?);
+        assert!(rt; is_owned(rt.alloc(), spelled, other)?);
     }
     Ok(())
 }

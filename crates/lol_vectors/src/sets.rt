@@ -44,13 +44,22 @@ fn are_joined(rt: HostRuntime) -> Result<(), Fail> {
     Ok(())
 }
 
+fn is_copied(set: &DenseHashSet) -> Result<bool, AllocError> {
+    Ok(set.try_clone()? == *set)
+}
+
+/// Whether a copy of a set isn't changed by an id that is new to the set.
+fn leaves_its_copy(set: &mut DenseHashSet, id: u32) -> Result<bool, AllocError> {
+    let copy = set.try_clone()?;
+    set.insert(id)?;
+    Ok(copy != *set)
+}
+
 #[test]
 fn are_copied(rt: HostRuntime) -> Result<(), Fail> {
     let mut set = set_of(rt.alloc(), &[1, 33, 70, 100])?;
-    let copy = set.try_clone()?;
-    assert!(rt; copy == set);
-    set.insert(2)?;
-    assert!(rt; copy != set);
+    assert!(rt; is_copied(&set)?);
+    assert!(rt; leaves_its_copy(&mut set, 2)?);
     Ok(())
 }
 
@@ -94,23 +103,36 @@ const GROWTH: [(&[u32], &[(u32, bool)]); 5] = [
     (&[3], &[(0, true), (u32::MAX, false)]),
 ];
 
+/// Whether the set takes the ids of `GROWTH`, and has room as it says.
+fn grows(set: &mut DenseHashSet) -> Result<bool, AllocError> {
+    for (ids, rooms) in &GROWTH {
+        insert_all(set, ids)?;
+        if !has_rooms(set, rooms) {
+            return Ok(false);
+        }
+    }
+    Ok(true)
+}
+
 #[test]
 fn grow_from_many_words_to_many_more(rt: HostRuntime) -> Result<(), Fail> {
     let mut set = DenseHashSet::new(rt.alloc());
-    for (ids, rooms) in GROWTH {
-        insert_all(&mut set, ids)?;
-        assert!(rt; has_rooms(&set, rooms));
-    }
+    assert!(rt; grows(&mut set)?);
     assert!(rt; set.iter().eq([3, 33, 70, 100, 100_000]));
     Ok(())
+}
+
+/// Whether a set is that of 7, 40 and 100,000, and so is its copy.
+fn is_joined(set: &DenseHashSet) -> Result<bool, AllocError> {
+    let copied = is_copied(set)?;
+    let has_room = has_rooms(set, &[(99_999, true), (100_032, false)]);
+    Ok(copied && has_room && set.iter().eq([7, 40, 100_000]))
 }
 
 #[test]
 fn join_many_words(rt: HostRuntime) -> Result<(), Fail> {
     let few = union_of(rt.alloc(), &[7], &[100_000, 40])?;
-    let many = union_of(rt.alloc(), &[100_000, 40], &[7, 40, 100_000])?;
-    assert!(rt; few == many);
-    assert!(rt; few.iter().eq([7, 40, 100_000]) && few.try_clone()? == few);
-    assert!(rt; has_rooms(&few, &[(99_999, true), (100_032, false)]));
+    assert!(rt; is_joined(&few)?);
+    assert!(rt; few == union_of(rt.alloc(), &[100_000, 40], &[7, 40, 100_000])?);
     Ok(())
 }
