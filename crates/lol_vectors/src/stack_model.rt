@@ -215,6 +215,40 @@ fn count_child(
     plain.count(kind);
 }
 
+/// Closes elements of both, and compares their numbers.
+fn close_both(
+    rt: &impl Abort,
+    alloc: Global,
+    stack: &mut Stack<Numbered>,
+    plain: &mut Plain,
+    kind: usize,
+    name: &[u8],
+)
+    ensures { item_bytes_in stack.new ≡ item_bytes_in stack.old }
+{
+    let left = plain.left_by(kind);
+    let numbers = close(rt, alloc, stack, name);
+    let wanted = plain.numbers.as_slice().get(left..).unwrap_or(&[]);
+    assert!(rt; numbers.as_slice() == wanted);
+    plain.keep(left);
+}
+
+/// Opens an element of the stack with the ranges that some of four bits stand for, and says whether there was room.
+fn opens(
+    rt: &impl Abort,
+    alloc: Global,
+    stack: &mut Stack<Numbered>,
+    limiter: &mut SharedMemoryLimiter,
+    name: &[u8],
+    number: usize,
+    bits: usize,
+) -> bool
+    ensures { item_bytes_in stack.new ≡ item_bytes_in stack.old }
+{
+    let ranges = ranges_of(alloc, bits).expect(rt, "memory");
+    open(alloc, stack, name, number, ranges.as_slice(), limiter).is_ok()
+}
+
 /// One call, the same of the lists, and the comparison.
 fn step(
     rt: &impl Abort,
@@ -230,18 +264,11 @@ fn step(
     let name = spelled(kind, random / 3 % 2 == 0);
     let bits = random / 6 % 16;
     match random / 96 % 4 {
-        0 => {
-            let left = plain.left_by(kind);
-            let numbers = close(rt, alloc, stack, name);
-            let wanted = plain.numbers.as_slice().get(left..).unwrap_or(&[]);
-            assert!(rt; numbers.as_slice() == wanted);
-            plain.keep(left);
-        }
+        0 => close_both(rt, alloc, stack, plain, kind, name),
         1 => count_child(rt, stack, plain, kind, name),
         _ => {
             count_child(rt, stack, plain, kind, name);
-            let ranges = ranges_of(alloc, bits).expect(rt, "memory");
-            let opened = open(alloc, stack, name, random, ranges.as_slice(), limiter).is_ok();
+            let opened = opens(rt, alloc, stack, limiter, name, random, bits);
             assert!(rt; opened == (plain.kinds.len() < MOST));
             if opened {
                 plain.open(kind, random, bits).expect(rt, "memory");

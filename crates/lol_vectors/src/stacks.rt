@@ -104,6 +104,19 @@ pub(crate) fn close(
     numbers
 }
 
+/// Closes elements, and says whether these are their numbers.
+fn closes(
+    rt: &impl Abort,
+    alloc: Global,
+    stack: &mut Stack<Numbered>,
+    name: &[u8],
+    numbers: &[usize],
+) -> bool
+    ensures { item_bytes_in stack.new ≡ item_bytes_in stack.old }
+{
+    close(rt, alloc, stack, name).as_slice() == numbers
+}
+
 /// The numbers of elements that were closed, and whether memory for one was refused.
 #[derive(Drop)]
 struct Closed {
@@ -183,7 +196,7 @@ fn take_step(
             let place = stack.items().len();
             open(alloc, stack, name.as_bytes(), place, ranges, limiter).is_ok()
         }
-        Close(name, numbers) => close(rt, alloc, stack, name.as_bytes()).as_slice() == numbers,
+        Close(name, numbers) => closes(rt, alloc, stack, name.as_bytes(), numbers),
         Active(ranges) => stack.active_hereditary_jumps() == ranges,
         Places(name, places) => has_places(stack, name.as_bytes(), places),
         Items(count) => stack.items().len() == count,
@@ -249,34 +262,57 @@ fn are_of_place(active: &[(AddressRange, usize)], place: usize) -> bool {
         && *of == place)
 }
 
+/// Opens `a` with 130 ranges, and says whether exactly they are active.
+fn opens_with_many(
+    rt: &impl Abort,
+    alloc: Global,
+    stack: &mut Stack<Numbered>,
+    limiter: &mut SharedMemoryLimiter,
+) -> bool
+    ensures { item_bytes_in stack.new ≡ item_bytes_in stack.old }
+{
+    let ranges = ranges_of_one(alloc, 130).expect(rt, "memory");
+    let opened = open(alloc, stack, b"a", 0, &ranges, limiter).is_ok();
+    let active = stack.active_hereditary_jumps();
+    opened && active.len() == 130 && are_of_place(active, 0)
+}
+
+/// Opens `b` with the same ranges and one more, and says whether only that one became active.
+fn opens_with_more(
+    rt: &impl Abort,
+    alloc: Global,
+    stack: &mut Stack<Numbered>,
+    limiter: &mut SharedMemoryLimiter,
+) -> bool
+    ensures { item_bytes_in stack.new ≡ item_bytes_in stack.old }
+{
+    let more = turned_and_more(alloc).expect(rt, "memory");
+    let opened = open(alloc, stack, b"b", 1, &more, limiter).is_ok();
+    opened && are_many_and_one(stack.active_hereditary_jumps())
+}
+
+/// Whether these are 130 ranges of the first place, and one of them all of the second.
+fn are_many_and_one(active: &[(AddressRange, usize)]) -> bool {
+    match active.split_last() {
+        Some(((range, place), first)) => {
+            first.len() == 130
+                && are_of_place(first, 0)
+                && (range.start, range.end, *place) == (0, 130, 1)
+        }
+        None => false,
+    }
+}
+
 #[test]
-fn keep_many_active_ranges(rt: HostRuntime) -> Result<(), Fail> {
+fn keep_many_active_ranges(rt: HostRuntime) {
     let alloc = rt.alloc();
-    let ranges = ranges_of_one(alloc, 130)?;
-    let more = turned_and_more(alloc)?;
     let mut limiter = SharedMemoryLimiter::new(2048);
     let mut stack = Stack::new(alloc, 64, false);
-    assert!(rt; open(alloc, &mut stack, b"a", 0, &ranges, &mut limiter).is_ok());
-    assert!(rt; stack.active_hereditary_jumps().len() == 130);
-    assert!(rt; are_of_place(stack.active_hereditary_jumps(), 0));
-    assert!(rt; open(alloc, &mut stack, b"b", 1, &more, &mut limiter).is_ok());
-    assert!(rt; stack.active_hereditary_jumps().len() == 131);
-    let active = stack.active_hereditary_jumps();
-    assert!(rt;
-        active
-            .get(..130)
-            .is_some_and(|first| are_of_place(first, 0))
-    );
-    assert!(rt;
-        active
-            .get(130)
-            .is_some_and(|(range, place)| *range == (0..130) && *place == 1)
-    );
-
-    assert!(rt; close(&rt, alloc, &mut stack, b"b").as_slice() == [1].as_slice());
+    assert!(rt; opens_with_many(&rt, alloc, &mut stack, &mut limiter));
+    assert!(rt; opens_with_more(&rt, alloc, &mut stack, &mut limiter));
+    assert!(rt; closes(&rt, alloc, &mut stack, b"b", &[1]));
     assert!(rt; stack.active_hereditary_jumps().len() == 130);
     release(&rt, stack, 64, &mut limiter);
-    Ok(())
 }
 
 #[test]
@@ -309,7 +345,7 @@ const CLOSED: [(&str, &[usize], usize); 5] = [
 
 #[test]
 fn close_all_inside(rt: HostRuntime) {
-    for (name, numbers, count) in CLOSED {
+    for (name, numbers, count) in &CLOSED {
         check(
             &rt,
             rt.alloc(),
@@ -320,7 +356,7 @@ fn close_all_inside(rt: HostRuntime) {
                 Open("div", &[]),
                 Open("span", &[]),
                 Close(name, numbers),
-                Items(count),
+                Items(*count),
             ],
         );
     }
@@ -348,39 +384,84 @@ fn know_the_places_of_a_name(rt: HostRuntime) {
     );
 }
 
+/// Opens an element that can have one child more.
+fn open_nearly_full(
+    rt: &impl Abort,
+    alloc: Global,
+    stack: &mut Stack<Numbered>,
+    limiter: &mut SharedMemoryLimiter,
+)
+    ensures { item_bytes_in stack.new ≡ item_bytes_in stack.old }
+{
+    let mut parent = item(alloc, b"div", 0, &[]).expect(rt, "an element");
+    parent.child_counter = ChildCounter::at(2_147_483_646);
+    assert!(rt; push(stack, parent, limiter).is_ok());
+}
+
+/// Counts a child, and says whether no other one is counted.
+fn counts_one(stack: &mut Stack<Numbered>, name: &LocalName) -> bool
+    ensures { item_bytes_in stack.new ≡ item_bytes_in stack.old }
+{
+    stack.add_child(name).is_ok() && is_full(stack, name) && is_full(stack, name)
+}
+
+/// Whether the counter of children is full, and the one of this name has counted one.
+fn is_full_of_others(stack: &Stack<Numbered>, name: &LocalName) -> bool {
+    let state = stack.build_state(name);
+    let has_one = match state.typed {
+        Some(typed) => typed.is_nth(NthChild::new(0, 1)),
+        None => false,
+    };
+    has_one && state.cumulative.is_nth(NthChild::new(0, i32::MAX))
+}
+
 #[test]
 fn count_children_up_to_the_greatest(rt: HostRuntime) {
-    let alloc = rt.alloc();
     let mut limiter = SharedMemoryLimiter::new(2048);
-    let mut stack = Stack::new(alloc, 64, true);
+    let mut stack = Stack::new(rt.alloc(), 64, true);
     let name = LocalName::new(b"p");
-    let mut parent = item(alloc, b"div", 0, &[]).expect(&rt, "an element");
-    parent.child_counter = ChildCounter::at(2_147_483_646);
-    assert!(rt; push(&mut stack, parent, &mut limiter).is_ok());
-    assert!(rt; stack.add_child(&name).is_ok());
-    assert!(rt; is_full(&mut stack, &name));
-    assert!(rt; is_full(&mut stack, &name));
-    assert!(rt; stack.items().len() == 1);
-    let state = stack.build_state(&name);
-    assert!(rt; state.cumulative.is_nth(NthChild::new(0, i32::MAX)));
-    let typed = state.typed.expect(&rt, "a counter by type");
-    assert!(rt; typed.is_nth(NthChild::new(0, 1)));
+    open_nearly_full(&rt, rt.alloc(), &mut stack, &mut limiter);
+    assert!(rt; counts_one(&mut stack, &name));
+    assert!(rt; stack.items().len() == 1 && is_full_of_others(&stack, &name));
     assert!(rt; is_uncounted(&stack, b"a"));
     release(&rt, stack, 64, &mut limiter);
 }
 
+/// Whether an element with a range passes the limit.
+fn passes_limit(
+    alloc: Global,
+    stack: &mut Stack<Numbered>,
+    limiter: &mut SharedMemoryLimiter,
+) -> bool
+    ensures { item_bytes_in stack.new ≡ item_bytes_in stack.old }
+{
+    let refused = open(alloc, stack, b"a", 0, &[0..1], limiter);
+    matches!(refused, Err(PushError::Limit(_)))
+}
+
+/// Whether a stack has no element, no range and no slots.
+fn is_untouched(stack: &Stack<Numbered>) -> bool {
+    stack.items().is_empty()
+        && stack.active_hereditary_jumps().is_empty()
+        && has_places(stack, b"a", &[])
+        && stack.charged_slots() == 0
+}
+
 #[test]
 fn are_as_before_after_a_refused_push(rt: HostRuntime) {
-    let alloc = rt.alloc();
     let mut limiter = SharedMemoryLimiter::new(511);
-    let mut stack = Stack::new(alloc, 64, false);
-    let refused = open(alloc, &mut stack, b"a", 0, &[0..1], &mut limiter);
-    assert!(rt; matches!(refused, Err(PushError::Limit(_))));
-    assert!(rt; stack.items().is_empty());
-    assert!(rt; stack.active_hereditary_jumps().is_empty());
-    assert!(rt; has_places(&stack, b"a", &[]));
-    assert!(rt; stack.charged_slots() == 0 && limiter.current_usage() == 0);
+    let mut stack = Stack::new(rt.alloc(), 64, false);
+    assert!(rt; passes_limit(rt.alloc(), &mut stack, &mut limiter));
+    assert!(rt; is_untouched(&stack) && limiter.current_usage() == 0);
     release(&rt, stack, 64, &mut limiter);
+}
+
+/// Gives the last element another number.
+fn renumber(rt: &impl Abort, stack: &mut Stack<Numbered>, number: usize)
+    ensures { item_bytes_in stack.new ≡ item_bytes_in stack.old }
+{
+    let data = stack.current_element_data_mut();
+    data.expect(rt, "data of an open element").number = number;
 }
 
 #[test]
@@ -391,44 +472,52 @@ fn lend_the_data_of_the_last_element(rt: HostRuntime) {
     assert!(rt; stack.current_element_data_mut().is_none());
     assert!(rt; open(alloc, &mut stack, b"a", 0, &[], &mut limiter).is_ok());
     assert!(rt; stack.charged_slots() == 8 && limiter.current_usage() == 512);
-    let data = stack.current_element_data_mut();
-    data.expect(&rt, "data of an open element").number = 9;
-    assert!(rt; close(&rt, alloc, &mut stack, b"a").as_slice() == [9].as_slice());
+    renumber(&rt, &mut stack, 9);
+    assert!(rt; closes(&rt, alloc, &mut stack, b"a", &[9]));
     release(&rt, stack, 64, &mut limiter);
 }
 
+/// Names, their namespace and whether ESI is on, with what becomes of their elements.
+const DIRECTIVES: [(&str, Namespace, bool, StackDirective); 7] = [
+    ("div", Namespace::Html, true, StackDirective::Push),
+    ("BR", Namespace::Html, false, StackDirective::PopImmediately),
+    (
+        "br",
+        Namespace::Svg,
+        false,
+        StackDirective::PushIfNotSelfClosing,
+    ),
+    (
+        "circle",
+        Namespace::MathML,
+        true,
+        StackDirective::PushIfNotSelfClosing,
+    ),
+    (
+        "esi:include",
+        Namespace::Html,
+        true,
+        StackDirective::PopImmediately,
+    ),
+    ("esi:include", Namespace::Html, false, StackDirective::Push),
+    ("ESI:INCLUDE", Namespace::Html, true, StackDirective::Push),
+];
+
+fn directive_of(
+    alloc: Global,
+    name: &str,
+    ns: Namespace,
+    enable_esi_tags: bool,
+) -> Result<StackDirective, AllocError> {
+    let item = item(alloc, name.as_bytes(), 0, &[])?;
+    Ok(Stack::get_stack_directive(&item, ns, enable_esi_tags))
+}
+
 #[test]
-fn know_what_becomes_of_an_element(rt: HostRuntime) {
-    let alloc = rt.alloc();
-    for (name, ns, esi, directive) in [
-        ("div", Namespace::Html, true, StackDirective::Push),
-        ("BR", Namespace::Html, false, StackDirective::PopImmediately),
-        (
-            "br",
-            Namespace::Svg,
-            false,
-            StackDirective::PushIfNotSelfClosing,
-        ),
-        (
-            "circle",
-            Namespace::MathML,
-            true,
-            StackDirective::PushIfNotSelfClosing,
-        ),
-        (
-            "esi:include",
-            Namespace::Html,
-            true,
-            StackDirective::PopImmediately,
-        ),
-        ("esi:include", Namespace::Html, false, StackDirective::Push),
-        ("ESI:INCLUDE", Namespace::Html, true, StackDirective::Push),
-    ] {
-        let item = item(alloc, name.as_bytes(), 0, &[]).expect(&rt, "an element");
-        assert_eq!(rt;
-            Stack::get_stack_directive(&item, ns, esi),
-            directive,
-            "{name}"
-        );
+fn know_what_becomes_of_an_element(rt: HostRuntime) -> Result<(), Fail> {
+    for (name, ns, esi, directive) in &DIRECTIVES {
+        let becomes = directive_of(rt.alloc(), name, *ns, *esi)?;
+        assert!(rt; becomes == *directive, "{name}");
     }
+    Ok(())
 }
