@@ -8,7 +8,7 @@ use crate::machine_runs::{
 };
 use crate::runs::selectors;
 use crate::stacks::Numbered;
-use lol_vm::{MatchInfo, SharedMemoryLimiter};
+use lol_vm::{Ast, MatchInfo, SharedMemoryLimiter};
 use std::alloc::Global;
 use std::process::Abort;
 use std::test::Fail;
@@ -22,6 +22,8 @@ pub(crate) enum Step<'t> {
     Dropped(Written<'t>),
     /// An end tag: the ids of each of the data that it hands out.
     End(&'t str, &'t [&'t [u32]]),
+    /// So many bytes and slots are charged.
+    Charged(usize, usize),
 }
 
 /// Selectors under ids, whether ESI is on, and steps.
@@ -70,14 +72,21 @@ pub(crate) fn take_step(
             let closed = end(rt, alloc, vm, name);
             assert!(rt; hold(&closed, ids), "end of {}", *name);
         }
+        Step::Charged(bytes, slots) => {
+            let charged = (limiter.current_usage(), vm.charged_slots());
+            assert!(rt; charged == (*bytes, *slots));
+        }
     }
 }
 
-/// Takes the steps of a row on a machine of its own, with ample memory.
-fn check(rt: &impl Abort, alloc: Global, row: Row<'_>) -> Result<(), Fail> {
+/// Ample memory.
+const AMPLE: usize = 1_000_000;
+
+/// Takes the steps of a row on a machine of its own, with so many bytes at most.
+fn check(rt: &impl Abort, alloc: Global, max: usize, row: Row<'_>) -> Result<(), Fail> {
     let (texts, esi, steps) = row;
     let ast = selectors(alloc, texts)?;
-    let mut limiter = SharedMemoryLimiter::new(1_000_000);
+    let mut limiter = SharedMemoryLimiter::new(max);
     let mut vm = machine_with(rt, alloc, ast, esi);
     for step in steps {
         take_step(rt, alloc, &mut vm, &mut limiter, step);
@@ -87,14 +96,15 @@ fn check(rt: &impl Abort, alloc: Global, row: Row<'_>) -> Result<(), Fail> {
     Ok(())
 }
 
-use Said::{Asked, Unasked};
-use Step::{Dropped, End, Start};
+use Said::{Asked, Failed, OverLimit, Unasked};
+use Step::{Charged, Dropped, End, Start};
 
 #[test]
 fn combine_children_and_descendants(rt: HostRuntime) -> Result<(), Fail> {
     check(
         &rt,
         rt.alloc(),
+        AMPLE,
         (
             &[("div p", 0), ("div > p", 1)],
             false,
@@ -115,6 +125,7 @@ fn find_descendants_again(rt: HostRuntime) -> Result<(), Fail> {
     check(
         &rt,
         rt.alloc(),
+        AMPLE,
         (
             &[("div div", 0)],
             false,
@@ -129,6 +140,7 @@ fn stop_at_an_entry(rt: HostRuntime) -> Result<(), Fail> {
     check(
         &rt,
         rt.alloc(),
+        AMPLE,
         (
             &[(".a p", 0), ("p", 1)],
             false,
@@ -146,6 +158,7 @@ fn stop_at_a_child(rt: HostRuntime) -> Result<(), Fail> {
     check(
         &rt,
         rt.alloc(),
+        AMPLE,
         (
             &[("div > .a", 0), ("div .b", 1), ("div > p", 2)],
             false,
@@ -163,6 +176,7 @@ fn stop_at_a_descendant(rt: HostRuntime) -> Result<(), Fail> {
     check(
         &rt,
         rt.alloc(),
+        AMPLE,
         (
             &[("div .b", 0)],
             false,
@@ -180,6 +194,7 @@ fn ask_where_attributes_decide(rt: HostRuntime) -> Result<(), Fail> {
     check(
         &rt,
         rt.alloc(),
+        AMPLE,
         (
             &[(":not(div.foo)", 0)],
             false,
@@ -197,6 +212,7 @@ fn try_each_test_of_attributes(rt: HostRuntime) -> Result<(), Fail> {
     check(
         &rt,
         rt.alloc(),
+        AMPLE,
         (
             &[("[a*=\"\"]", 0), (":not([a*=\"\"])", 1)],
             false,
@@ -211,6 +227,7 @@ fn compare_type_by_namespace(rt: HostRuntime) -> Result<(), Fail> {
     check(
         &rt,
         rt.alloc(),
+        AMPLE,
         (
             &[("[type=\"TEXT\"]", 0)],
             false,
@@ -235,6 +252,7 @@ fn know_names_of_esi(rt: HostRuntime) -> Result<(), Fail> {
     check(
         &rt,
         rt.alloc(),
+        AMPLE,
         (
             &[("*", 0)],
             true,
@@ -248,6 +266,7 @@ fn know_names_of_esi(rt: HostRuntime) -> Result<(), Fail> {
     check(
         &rt,
         rt.alloc(),
+        AMPLE,
         (
             &[("*", 0)],
             false,
@@ -264,6 +283,7 @@ fn count_dropped_elements(rt: HostRuntime) -> Result<(), Fail> {
     check(
         &rt,
         rt.alloc(),
+        AMPLE,
         (
             &[(":nth-child(2)", 0)],
             false,
@@ -282,6 +302,7 @@ fn leave_foreign_elements_that_close_themselves(rt: HostRuntime) -> Result<(), F
     check(
         &rt,
         rt.alloc(),
+        AMPLE,
         (
             &[("circle", 0)],
             false,
@@ -295,29 +316,46 @@ fn leave_foreign_elements_that_close_themselves(rt: HostRuntime) -> Result<(), F
     )
 }
 
+/// A start tag that `*` matches under 0.
+fn opens(name: &str) -> Step<'_> {
+    Start(Written::html(name), Unasked, &[0], true, (1, 0))
+}
+
 #[test]
 fn refuse_what_passes_the_limit(rt: HostRuntime) -> Result<(), Fail> {
-    let alloc = rt.alloc();
-    let ast = selectors(alloc, &[("*", 0)])?;
-    let mut limiter = SharedMemoryLimiter::new(512);
-    let mut vm = machine(&rt, alloc, ast);
-    for name in ["a", "b", "c", "d", "e", "f", "g", "h"] {
-        let step = Start(Written::html(name), Unasked, &[0], true, (1, 0));
-        take_step(&rt, alloc, &mut vm, &mut limiter, &step);
-        assert!(rt; (limiter.current_usage(), vm.charged_slots()) == (512, 8));
-    }
-    for step in [
-        Start(Written::html("i"), Said::OverLimit, &[0], true, (1, 0)),
-        Start(Written::html("j"), Said::Failed, &[], true, (1, 0)),
-    ] {
-        take_step(&rt, alloc, &mut vm, &mut limiter, &step);
-        assert!(rt; limiter.current_usage() == 512);
-    }
-    let closed = end(&rt, alloc, &mut vm, "c");
     let zero: &[u32] = &[0];
-    assert!(rt; hold(&closed, &[zero; 6]));
-    release(&rt, vm, &mut limiter);
-    Ok(())
+    check(
+        &rt,
+        rt.alloc(),
+        512,
+        (
+            &[("*", 0)],
+            false,
+            &[
+                opens("a"),
+                Charged(512, 8),
+                opens("b"),
+                Charged(512, 8),
+                opens("c"),
+                Charged(512, 8),
+                opens("d"),
+                Charged(512, 8),
+                opens("e"),
+                Charged(512, 8),
+                opens("f"),
+                Charged(512, 8),
+                opens("g"),
+                Charged(512, 8),
+                opens("h"),
+                Charged(512, 8),
+                Start(Written::html("i"), OverLimit, &[0], true, (1, 0)),
+                Charged(512, 8),
+                Start(Written::html("j"), Failed, &[], true, (1, 0)),
+                Charged(512, 8),
+                End("c", &[zero; 6]),
+            ],
+        ),
+    )
 }
 
 /// Takes a step so often, and expects so many charged slots each time.
@@ -354,25 +392,60 @@ fn charge_in_steps(rt: HostRuntime) -> Result<(), Fail> {
     Ok(())
 }
 
+/// Opens a `p` that is matched under an id: so many bytes are charged then.
+fn open_p(
+    rt: &impl Abort,
+    alloc: Global,
+    vm: &mut Machine,
+    limiter: &mut SharedMemoryLimiter,
+    match_id: u32,
+    bytes: usize,
+)
+    ensures { slot_bytes vm.new ≡ slot_bytes vm.old }
+{
+    let ids = [match_id];
+    let step = Start(Written::html("p"), Unasked, &ids, true, (1, 0));
+    take_step(rt, alloc, vm, limiter, &step);
+    assert!(rt; limiter.current_usage() == bytes);
+}
+
+/// Opens a `p` in each of two machines, which match it under 0 and 1, and releases them.
+fn open_in_both(rt: &impl Abort, alloc: Global, ast: Ast, other: Ast) {
+    let mut limiter = SharedMemoryLimiter::new(2048);
+    let mut vm = machine(rt, alloc, ast);
+    let mut other = machine(rt, alloc, other);
+    open_p(rt, alloc, &mut vm, &mut limiter, 0, 512);
+    open_p(rt, alloc, &mut other, &mut limiter, 1, 1024);
+    release(rt, vm, &mut limiter);
+    assert!(rt; limiter.current_usage() == 512);
+    release(rt, other, &mut limiter);
+    assert!(rt; limiter.current_usage() == 0);
+}
+
 #[test]
 fn share_a_limiter(rt: HostRuntime) -> Result<(), Fail> {
-    let alloc = rt.alloc();
-    let mut limiter = SharedMemoryLimiter::new(2048);
-    let ast = selectors(alloc, &[("p", 0)])?;
-    let other = selectors(alloc, &[("*", 1)])?;
-    let mut vm = machine(&rt, alloc, ast);
-    let mut other = machine(&rt, alloc, other);
-    let step = Start(Written::html("p"), Unasked, &[0], true, (1, 0));
-    take_step(&rt, alloc, &mut vm, &mut limiter, &step);
-    assert!(rt; limiter.current_usage() == 512);
-    let step = Start(Written::html("p"), Unasked, &[1], true, (1, 0));
-    take_step(&rt, alloc, &mut other, &mut limiter, &step);
-    assert!(rt; limiter.current_usage() == 1024);
-    release(&rt, vm, &mut limiter);
-    assert!(rt; limiter.current_usage() == 512);
-    release(&rt, other, &mut limiter);
-    assert!(rt; limiter.current_usage() == 0);
+    let ast = selectors(rt.alloc(), &[("p", 0)])?;
+    let other = selectors(rt.alloc(), &[("*", 1)])?;
+    open_in_both(&rt, rt.alloc(), ast, other);
     Ok(())
+}
+
+/// Gives the last open element a number, and an id more.
+fn write_into_data(rt: &impl Abort, vm: &mut Machine)
+    ensures { slot_bytes vm.new ≡ slot_bytes vm.old }
+{
+    number(rt, vm, 5);
+    let data = vm.current_element_data_mut();
+    let data = data.expect(rt, "data of an open element");
+    assert!(rt; data.ids.insert(9).is_ok());
+}
+
+/// Whether an end tag hands out the data that `write_into_data` wrote into, which had the id 0.
+fn hands_out_written(rt: &impl Abort, alloc: Global, vm: &mut Machine, name: &str) -> bool
+    ensures { slot_bytes vm.new ≡ slot_bytes vm.old }
+{
+    let closed = end(rt, alloc, vm, name);
+    hold(&closed, &[&[0, 9]]) && closed.iter().all(|data| data.number == 5)
 }
 
 #[test]
@@ -381,21 +454,16 @@ fn keep_what_is_written_into_data(rt: HostRuntime) -> Result<(), Fail> {
     let mut limiter = SharedMemoryLimiter::new(2048);
     let mut vm = machine(&rt, alloc, selectors(alloc, &[("*", 0), ("p p", 7)])?);
     assert!(rt; vm.current_element_data_mut().is_none());
-    let step = Start(Written::html("p"), Unasked, &[0], true, (2, 0));
-    take_step(&rt, alloc, &mut vm, &mut limiter, &step);
-    number(&rt, &mut vm, 5);
-    let data = vm.current_element_data_mut();
-    let data = data.expect(&rt, "data of an open element");
-    assert!(rt; data.ids.insert(9).is_ok());
-    let step = Start(Written::html("p"), Unasked, &[0, 7], true, (3, 0));
-    take_step(&rt, alloc, &mut vm, &mut limiter, &step);
-    let step = Start(Written::html("b"), Unasked, &[0], true, (3, 0));
-    take_step(&rt, alloc, &mut vm, &mut limiter, &step);
-    assert!(rt; hold(&end(&rt, alloc, &mut vm, "b"), &[&[0]]));
-    let mut closed = end(&rt, alloc, &mut vm, "p");
-    assert!(rt; hold(&closed, &[&[0, 7]]));
-    closed = end(&rt, alloc, &mut vm, "p");
-    assert!(rt; hold(&closed, &[&[0, 9]]) && closed.iter().all(|data| data.number == 5));
+    let first = Start(Written::html("p"), Unasked, &[0], true, (2, 0));
+    take_step(&rt, alloc, &mut vm, &mut limiter, &first);
+    write_into_data(&rt, &mut vm);
+    let second = Start(Written::html("p"), Unasked, &[0, 7], true, (3, 0));
+    take_step(&rt, alloc, &mut vm, &mut limiter, &second);
+    let inside = Start(Written::html("b"), Unasked, &[0], true, (3, 0));
+    take_step(&rt, alloc, &mut vm, &mut limiter, &inside);
+    take_step(&rt, alloc, &mut vm, &mut limiter, &End("b", &[&[0]]));
+    take_step(&rt, alloc, &mut vm, &mut limiter, &End("p", &[&[0, 7]]));
+    assert!(rt; hands_out_written(&rt, alloc, &mut vm, "p"));
     release(&rt, vm, &mut limiter);
     Ok(())
 }
