@@ -1,9 +1,13 @@
 //! Random tags over random selectors, told to the machine and answered plainly.
 
+ghost use Rattle.std.specs.Prelude.{All};
+ghost use Rattle.lol_vm.specs.Views.{HasRangesInside};
+
 use crate::plain::{PlainAnswer, plain_answers};
+use crate::runs::reports_of;
 use crate::stack_model::next_random;
 use crate::tag_words::{TagWord, attributes_of, events_of};
-use lol_vm::{Ast, Namespace, Selector, SharedMemoryLimiter, TagReport, match_events};
+use lol_vm::{Ast, Namespace, Selector, TagEvent, TagReport};
 use std::alloc::{AllocError, Global};
 use std::process::Abort;
 use std::test::Fail;
@@ -130,26 +134,50 @@ fn agrees(report: &TagReport, told: &PlainAnswer) -> bool {
     }
 }
 
-fn compare(rt: &impl Abort, alloc: Global, seed: u64) -> Result<(), Fail> {
-    let mut random = Random(seed);
-    let ast = random.selectors(alloc)?;
+/// Whether the machine is to know the names of ESI in the document of a seed.
+fn has_esi(seed: u64) -> bool {
+    seed % 2 == 1
+}
+
+fn expect_agreement(rt: &impl Abort, seed: u64, reports: &[TagReport], told: &[PlainAnswer]) {
+    assert!(rt; reports.len() == told.len());
+    for (place, (report, told)) in reports.iter().zip(told).enumerate() {
+        assert!(rt; agrees(report, told), "document {seed}, tag {place}");
+    }
+}
+
+fn compare_events(
+    rt: &impl Abort,
+    alloc: Global,
+    seed: u64,
+    ast: Ast,
+    events: &[TagEvent<'_>],
+) -> Result<(), Fail>
+    requires { All HasRangesInside events.now }
+{
+    let told = plain_answers(alloc, &ast, has_esi(seed), events)?;
+    let reports = reports_of(rt, alloc, ast, has_esi(seed), events, 1_000_000)?;
+    expect_agreement(rt, seed, &reports, &told);
+    Ok(())
+}
+
+fn compare_tags(
+    rt: &impl Abort,
+    alloc: Global,
+    random: &mut Random,
+    seed: u64,
+    ast: Ast,
+) -> Result<(), Fail> {
     let tags = random.tags(alloc)?;
     let attributes = attributes_of(alloc, &tags)?;
     let events = events_of(rt, alloc, &tags, &attributes)?;
-    let enable_esi_tags = seed % 2 == 1;
-    let told = plain_answers(alloc, &ast, enable_esi_tags, &events)?;
-    let mut limiter = SharedMemoryLimiter::new(1_000_000);
-    let Ok(reports) = match_events(alloc, ast, 64, enable_esi_tags, &events, &mut limiter) else {
-        return Err(Fail::from("the run was refused"));
-    };
-    assert!(rt; reports.len() == told.len());
-    for (place, report) in reports.iter().enumerate() {
-        assert!(rt;
-            agrees(report, &told[place]),
-            "document {seed}, tag {place}"
-        );
-    }
-    Ok(())
+    compare_events(rt, alloc, seed, ast, &events)
+}
+
+fn compare(rt: &impl Abort, alloc: Global, seed: u64) -> Result<(), Fail> {
+    let mut random = Random(seed);
+    let ast = random.selectors(alloc)?;
+    compare_tags(rt, alloc, &mut random, seed, ast)
 }
 
 #[test]

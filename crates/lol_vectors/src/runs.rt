@@ -1,6 +1,6 @@
 //! Selectors under ids, and whole runs.
 
-ghost use Rattle.std.specs.Prelude.{◌≡◌, []};
+ghost use Rattle.std.specs.Prelude.{◌≡◌, [], All};
 ghost use Rattle.lol_vm.specs.Views.{HasRangesInside};
 
 use lol_vm::{
@@ -46,6 +46,26 @@ fn adds_selectors(rt: HostRuntime) -> Result<(), Fail> {
     Ok(())
 }
 
+/// What a machine with so many bytes at most reports of events. Nothing stays charged.
+pub(crate) fn reports_of(
+    rt: &impl Abort,
+    alloc: Global,
+    ast: Ast,
+    enable_esi_tags: bool,
+    events: &[TagEvent<'_>],
+    max: usize,
+) -> Result<Vec<TagReport>, Fail>
+    requires { All HasRangesInside events.now }
+{
+    let mut limiter = SharedMemoryLimiter::new(max);
+    let answered = match_events(alloc, ast, 64, enable_esi_tags, events, &mut limiter);
+    assert!(rt; limiter.current_usage() == 0);
+    match answered {
+        Ok(reports) => Ok(reports),
+        Err(_) => Err(Fail::from("the run was refused")),
+    }
+}
+
 #[test]
 fn answers_tags(rt: HostRuntime) -> Result<(), Fail> {
     let alloc = rt.alloc();
@@ -57,13 +77,7 @@ fn answers_tags(rt: HostRuntime) -> Result<(), Fail> {
         start(b"p", &none),
         TagEvent::End { name: b"DIV" },
     ];
-    let mut limiter = SharedMemoryLimiter::new(512);
-    let reports = match_events(alloc, ast, 64, false, &events, &mut limiter);
-    assert!(rt; limiter.current_usage() == 0);
-
-    let Ok(reports) = reports else {
-        return Err(Fail::from("the run was refused"));
-    };
+    let reports = reports_of(&rt, alloc, ast, false, &events, 512)?;
     expect_reports(&rt, &reports);
     Ok(())
 }
@@ -98,25 +112,23 @@ fn is_started(report: &TagReport, infos: &[MatchInfo], names: u64) -> bool {
 #[test]
 fn answers_children(rt: HostRuntime) -> Result<(), Fail> {
     let alloc = rt.alloc();
-    let mut ast = Ast::new(alloc);
-    for (text, match_id) in [("div p", 0), ("div > p", 1)] {
-        ast.add_selector(&Selector::from_str(alloc, text)?, match_id)?;
-    }
+    let ast = selectors(alloc, &[("div p", 0), ("div > p", 1)])?;
     let none = AttributeBuffer::new(alloc);
     let events = [
         start(b"div", &none),
         start(b"p", &none),
         TagEvent::End { name: b"div" },
     ];
-    let mut limiter = SharedMemoryLimiter::new(1_000_000);
-    let Ok(reports) = match_events(alloc, ast, 64, false, &events, &mut limiter) else {
-        return Err(Fail::from("out of memory"));
-    };
-    // The reports: no id for `div`, the ids 0 and 1 for `p`, and the elements 0 and 1 closed.
+    let reports = reports_of(&rt, alloc, ast, false, &events, 1_000_000)?;
+    expect_children(&rt, &reports);
+    Ok(())
+}
+
+/// Expects no id for `div`, the ids 0 and 1 for `p`, and the elements 0 and 1 closed.
+fn expect_children(rt: &impl Abort, reports: &[TagReport]) {
     assert!(rt; reports.len() == 3);
     assert!(rt; has_ids(&reports[0], &[]) && has_ids(&reports[1], &[0, 1]));
     assert!(rt; closes(&reports[2], &[0, 1]));
-    Ok(())
 }
 
 /// Whether a report is of a start tag with these ids.
@@ -138,6 +150,25 @@ fn closes(report: &TagReport, elements: &[usize]) -> bool {
     }
 }
 
+/// Runs events with 512 bytes at most, and keeps each report that is handed out. Nothing stays charged.
+fn keep_each(
+    rt: &impl Abort,
+    alloc: Global,
+    ast: Ast,
+    events: &[TagEvent<'_>],
+    reports: &mut Vec<TagReport>,
+) -> Result<(), RunStop>
+    requires { All HasRangesInside events.now }
+{
+    let mut limiter = SharedMemoryLimiter::new(512);
+    let mut handler = |report: TagReport| {
+        let _ = reports.push(report);
+    };
+    let answered = match_each_event(alloc, ast, 64, false, events, &mut limiter, &mut handler);
+    assert!(rt; limiter.current_usage() == 0);
+    answered
+}
+
 #[test]
 fn hands_out_each_report(rt: HostRuntime) -> Result<(), Fail> {
     let alloc = rt.alloc();
@@ -149,16 +180,26 @@ fn hands_out_each_report(rt: HostRuntime) -> Result<(), Fail> {
         start(b"p", &none),
         TagEvent::End { name: b"DIV" },
     ];
-    let mut limiter = SharedMemoryLimiter::new(512);
     let mut reports = Vec::new(alloc);
-    let mut handler = |report: TagReport| {
-        let _ = reports.push(report);
-    };
-    let answered = match_each_event(alloc, ast, 64, false, &events, &mut limiter, &mut handler);
-    assert!(rt; answered == Ok(()));
-    assert!(rt; limiter.current_usage() == 0);
+    assert!(rt; keep_each(&rt, alloc, ast, &events, &mut reports) == Ok(()));
     expect_reports(&rt, &reports);
     Ok(())
+}
+
+/// Whether reports are of start tags with so many matches.
+fn have_counts(reports: &[TagReport], counts: &[usize]) -> bool {
+    reports.len() == counts.len()
+        && reports
+            .iter()
+            .zip(counts)
+            .all(|(report, count)| has_count(report, *count))
+}
+
+fn has_count(report: &TagReport, count: usize) -> bool {
+    match report {
+        TagReport::Started { matched, .. } => matched.len() == count,
+        TagReport::Dropped | TagReport::Ended { .. } => false,
+    }
 }
 
 /// 512 bytes are eight elements of 64: the ninth is refused.
@@ -168,21 +209,14 @@ fn hands_out_the_reports_before_a_refusal(rt: HostRuntime) -> Result<(), Fail> {
     let ast = selectors(alloc, &[("div div", 5)])?;
     let none = AttributeBuffer::new(alloc);
     let events = [start(b"div", &none); 9];
-    let mut limiter = SharedMemoryLimiter::new(512);
-    let mut counts = Vec::new(alloc);
-    let mut handler = |report: TagReport| {
-        if let TagReport::Started { matched, .. } = report {
-            let _ = counts.push(matched.len());
-        }
-    };
-    let answered = match_each_event(alloc, ast, 64, false, &events, &mut limiter, &mut handler);
+    let mut reports = Vec::new(alloc);
+    let answered = keep_each(&rt, alloc, ast, &events, &mut reports);
     let stop = RunStop {
         event: 8,
         cause: RunCause::MemoryLimitExceeded,
     };
     assert!(rt; answered == Err(stop));
-    assert!(rt; counts.as_slice() == [0, 1, 1, 1, 1, 1, 1, 1].as_slice());
-    assert!(rt; limiter.current_usage() == 0);
+    assert!(rt; have_counts(&reports, &[0, 1, 1, 1, 1, 1, 1, 1]));
     Ok(())
 }
 
@@ -212,6 +246,14 @@ fn has_numbers(report: &TagReport, numbers: Range<u32>, left_out: Option<u32>) -
     matched.iter().map(|found| found.match_id).eq(ids)
 }
 
+/// Expects the selectors of all numbers but 5 for `x` in `a5`, of all numbers for the later `x`, and none for `a5` and the last `div`.
+fn expect_numbers(rt: &impl Abort, reports: &[TagReport]) {
+    assert!(rt; reports.len() == 6);
+    assert!(rt; has_numbers(&reports[0], 0..0, None) && has_numbers(&reports[4], 0..0, None));
+    assert!(rt; has_numbers(&reports[1], 0..130, Some(5)));
+    assert!(rt; has_numbers(&reports[5], 0..130, None));
+}
+
 #[test]
 fn answers_where_many_ranges_are_active(rt: HostRuntime) -> Result<(), Fail> {
     let alloc = rt.alloc();
@@ -224,14 +266,7 @@ fn answers_where_many_ranges_are_active(rt: HostRuntime) -> Result<(), Fail> {
         start(b"div", &none),
         start(b"x", &none),
     ];
-    let mut limiter = SharedMemoryLimiter::new(512);
-    let reports = match_events(alloc, numbered(alloc)?, 64, false, &events, &mut limiter);
-    let Ok(reports) = reports else {
-        return Err(Fail::from("the run was refused"));
-    };
-    assert!(rt; reports.len() == 6);
-    assert!(rt; has_numbers(&reports[0], 0..0, None) && has_numbers(&reports[4], 0..0, None));
-    assert!(rt; has_numbers(&reports[1], 0..130, Some(5)));
-    assert!(rt; has_numbers(&reports[5], 0..130, None));
+    let reports = reports_of(&rt, alloc, numbered(alloc)?, false, &events, 512)?;
+    expect_numbers(&rt, &reports);
     Ok(())
 }
