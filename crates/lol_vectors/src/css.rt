@@ -57,10 +57,14 @@ const CAUSES: [(SelectorError, &str); 14] = [
     (SelectorError::Memory, "Out of memory."),
 ];
 
+fn prints_as(alloc: Global, cause: SelectorError, text: &str) -> Result<bool, Fail> {
+    Ok(cause.to_string(alloc)?.as_str() == text)
+}
+
 #[test]
 fn causes_print_as_in_lol_html(rt: HostRuntime) -> Result<(), Fail> {
-    for (cause, text) in CAUSES {
-        assert!(rt; cause.to_string(rt.alloc())?.as_str() == text);
+    for (cause, text) in &CAUSES {
+        assert!(rt; prints_as(rt.alloc(), *cause, text)?, "{text}");
     }
     Ok(())
 }
@@ -83,13 +87,24 @@ fn child(alloc: Global) -> Result<SelectorList, AllocError> {
     Ok(SelectorList { items })
 }
 
+/// Whether a text is read as this list.
+fn is_read_as(alloc: Global, text: &str, list: &SelectorList) -> bool {
+    match SelectorsParser::parse(alloc, text) {
+        Ok(read) => read == *list,
+        Err(_) => false,
+    }
+}
+
+/// Whether the selector of a text has this list.
+fn has_list(alloc: Global, text: &str, list: &SelectorList) -> Result<bool, Fail> {
+    Ok(*Selector::from_str(alloc, text)?.list() == *list)
+}
+
 #[test]
 fn a_selector_is_read(rt: HostRuntime) -> Result<(), Fail> {
     let expected = child(rt.alloc())?;
-    assert!(rt; SelectorsParser::parse(rt.alloc(), "a>b") == Ok(expected));
-    let expected = child(rt.alloc())?;
-    let selector = Selector::from_str(rt.alloc(), "a/**/ > b")?;
-    assert!(rt; *selector.list() == expected);
+    assert!(rt; is_read_as(rt.alloc(), "a>b", &expected));
+    assert!(rt; has_list(rt.alloc(), "a/**/ > b", &expected)?);
     Ok(())
 }
 
@@ -111,7 +126,7 @@ fn descendant_in_no_namespace(alloc: Global) -> Result<SelectorList, AllocError>
 #[test]
 fn a_bar_begins_a_compound(rt: HostRuntime) -> Result<(), Fail> {
     let expected = descendant_in_no_namespace(rt.alloc())?;
-    assert!(rt; SelectorsParser::parse(rt.alloc(), "a |b") == Ok(expected));
+    assert!(rt; is_read_as(rt.alloc(), "a |b", &expected));
     Ok(())
 }
 
@@ -135,10 +150,7 @@ fn expect_part(
     part: SimpleSelector,
 ) -> Result<(), AllocError> {
     let expected = alone(alloc, part)?;
-    assert!(rt;
-        SelectorsParser::parse(alloc, text) == Ok(expected),
-        "{text}"
-    );
+    assert!(rt; is_read_as(alloc, text, &expected), "{text}");
     Ok(())
 }
 
@@ -149,17 +161,41 @@ fn named(alloc: Global, name: &str) -> Result<SelectorList, AllocError> {
     )
 }
 
+#[derive(Clone, Copy)]
+enum Function {
+    Is,
+    Where,
+    Not,
+}
+
+/// Functions of a list of one name.
+const FUNCTIONS: [(&str, Function, &str); 5] = [
+    (":is(header)", Function::Is, "header"),
+    (":IS(a)", Function::Is, "a"),
+    (":where(p)", Function::Where, "p"),
+    (":wh\\65re( a", Function::Where, "a"),
+    (":not(a)", Function::Not, "a"),
+];
+
+fn function_of(
+    alloc: Global,
+    function: Function,
+    name: &str,
+) -> Result<SimpleSelector, AllocError> {
+    let list = named(alloc, name)?;
+    Ok(match function {
+        Function::Is => SimpleSelector::Is(list),
+        Function::Where => SimpleSelector::Where(list),
+        Function::Not => SimpleSelector::Negation(list),
+    })
+}
+
 #[test]
 fn lists_inside_a_function_are_read(rt: HostRuntime) -> Result<(), Fail> {
-    let alloc = rt.alloc();
-    for (text, name) in [(":is(header)", "header"), (":IS(a)", "a")] {
-        expect_part(&rt, alloc, text, SimpleSelector::Is(named(alloc, name)?))?;
+    for (text, function, name) in &FUNCTIONS {
+        let part = function_of(rt.alloc(), *function, name)?;
+        expect_part(&rt, rt.alloc(), text, part)?;
     }
-    for (text, name) in [(":where(p)", "p"), (":wh\\65re( a", "a")] {
-        expect_part(&rt, alloc, text, SimpleSelector::Where(named(alloc, name)?))?;
-    }
-    let none = SimpleSelector::Negation(named(alloc, "a")?);
-    expect_part(&rt, alloc, ":not(a)", none)?;
     Ok(())
 }
 
@@ -178,16 +214,23 @@ fn comparison(
     })
 }
 
+const COMPARISONS: [(&str, &str, AttrSelectorOperator, &str); 2] = [
+    ("[foo=\"bar", "foo", AttrSelectorOperator::Equal, "bar"),
+    ("[a|=b]", "a", AttrSelectorOperator::DashMatch, "b"),
+];
+
+#[test]
+fn comparisons_are_read(rt: HostRuntime) -> Result<(), Fail> {
+    for (text, name, operator, value) in &COMPARISONS {
+        let part = comparison(rt.alloc(), name, *operator, value)?;
+        expect_part(&rt, rt.alloc(), text, part)?;
+    }
+    Ok(())
+}
+
 #[test]
 fn attributes_are_read(rt: HostRuntime) -> Result<(), Fail> {
     let alloc = rt.alloc();
-    for (text, name, operator, value) in [
-        ("[foo=\"bar", "foo", AttrSelectorOperator::Equal, "bar"),
-        ("[a|=b]", "a", AttrSelectorOperator::DashMatch, "b"),
-    ] {
-        let part = comparison(alloc, name, operator, value)?;
-        expect_part(&rt, alloc, text, part)?;
-    }
     let name = CssString::new(alloc, "a")?;
     expect_part(&rt, alloc, "[|a]", SimpleSelector::AttributeExists { name })?;
     let id = SimpleSelector::ID(CssString::new(alloc, "1a")?);
@@ -205,12 +248,19 @@ fn a_progression_is_read(rt: HostRuntime) -> Result<(), Fail> {
     Ok(())
 }
 
+fn is_copied_as(alloc: Global, text: &CssString, copy: &str) -> Result<bool, Fail> {
+    Ok(text.to_boxed_slice(alloc)?.as_str() == copy)
+}
+
+fn is_printed_as(alloc: Global, text: &CssString, printed: &str) -> Result<bool, Fail> {
+    Ok(format!(in alloc; "{text:?}")?.as_str() == printed)
+}
+
 #[test]
 fn a_text_is_copied(rt: HostRuntime) -> Result<(), Fail> {
     let text = CssString::new(rt.alloc(), "div")?;
-    assert!(rt; text.to_boxed_slice(rt.alloc())?.as_str() == "div");
-    let printed = format!(in rt.alloc(); "{text:?}")?;
-    assert!(rt; printed.as_str() == "\"div\"");
+    assert!(rt; is_copied_as(rt.alloc(), &text, "div")?);
+    assert!(rt; is_printed_as(rt.alloc(), &text, "\"div\"")?);
     Ok(())
 }
 
@@ -245,38 +295,42 @@ fn letters_compare_with_and_without_case(rt: HostRuntime) -> Result<(), Fail> {
         ("", "", true, true),
     ] {
         let (a, b) = (a.as_bytes(), b.as_bytes());
-        assert!(rt; CaseSensitivity::CaseSensitive.eq(a, b) == with_case);
-        assert!(rt; CaseSensitivity::AsciiCaseInsensitive.eq(a, b) == without_case);
+        let answers = (
+            CaseSensitivity::CaseSensitive.eq(a, b),
+            CaseSensitivity::AsciiCaseInsensitive.eq(a, b),
+        );
+        assert!(rt; answers == (with_case, without_case));
     }
     Ok(())
 }
 
 /// Each of these texts is refused where a rule that takes no memory reads it.
+const REFUSED: [(&str, SelectorError); 14] = [
+    ("[a=b 1]", SelectorError::UnexpectedToken),
+    ("[a=b x]", SelectorError::UnexpectedToken),
+    ("[a=b i j]", SelectorError::UnexpectedToken),
+    ("[a~/**/=b]", SelectorError::UnexpectedTokenInAttribute),
+    ("[a=1]", SelectorError::UnexpectedTokenInAttribute),
+    ("[a=", SelectorError::UnexpectedEnd),
+    ("[=a]", SelectorError::MissingAttributeName),
+    ("[a|b]", SelectorError::NamespacedSelector),
+    (":nth-child(2147483648)", SelectorError::UnexpectedToken),
+    (":nth-child(n 1)", SelectorError::UnexpectedToken),
+    (":nth-child(+)", SelectorError::UnexpectedEnd),
+    (":hover", SelectorError::UnsupportedPseudoClassOrElement),
+    ("a]", SelectorError::UnexpectedToken),
+    ("a + b", SelectorError::UnsupportedCombinator('+')),
+];
+
+fn refusal(alloc: Global, text: &str) -> Option<SelectorError> {
+    SelectorsParser::parse(alloc, text).err()
+}
+
 #[test]
-fn refusals_are_not_for_memory(rt: HostRuntime) -> Result<(), Fail> {
-    for (text, cause) in [
-        ("[a=b 1]", SelectorError::UnexpectedToken),
-        ("[a=b x]", SelectorError::UnexpectedToken),
-        ("[a=b i j]", SelectorError::UnexpectedToken),
-        ("[a~/**/=b]", SelectorError::UnexpectedTokenInAttribute),
-        ("[a=1]", SelectorError::UnexpectedTokenInAttribute),
-        ("[a=", SelectorError::UnexpectedEnd),
-        ("[=a]", SelectorError::MissingAttributeName),
-        ("[a|b]", SelectorError::NamespacedSelector),
-        (":nth-child(2147483648)", SelectorError::UnexpectedToken),
-        (":nth-child(n 1)", SelectorError::UnexpectedToken),
-        (":nth-child(+)", SelectorError::UnexpectedEnd),
-        (":hover", SelectorError::UnsupportedPseudoClassOrElement),
-        ("a]", SelectorError::UnexpectedToken),
-        ("a + b", SelectorError::UnsupportedCombinator('+')),
-    ] {
-        assert_eq!(rt;
-            SelectorsParser::parse(rt.alloc(), text).err(),
-            Some(cause),
-            "{text}"
-        );
+fn refusals_are_not_for_memory(rt: HostRuntime) {
+    for (text, cause) in &REFUSED {
+        assert_eq!(rt; refusal(rt.alloc(), text), Some(*cause), "{text}");
     }
-    Ok(())
 }
 
 /// A text some times over, and then another.
@@ -289,28 +343,42 @@ fn repeated(alloc: Global, count: u32, text: &str, last: &str) -> Result<String,
     Ok(whole)
 }
 
+/// A text, how often it is repeated, what comes last, and why all that is refused.
+const BOUNDS: [(u32, &str, &str, Option<SelectorError>); 11] = [
+    (128, ":not(", "a", None),
+    (129, ":not(", "a", Some(SelectorError::UnsupportedSyntax)),
+    (64, ":is(:not(", "a", None),
+    (64, ":where(:is(", "a", None),
+    (
+        64,
+        ":is(:not(",
+        ":where(a",
+        Some(SelectorError::UnsupportedSyntax),
+    ),
+    (129, ":is(", "a", Some(SelectorError::UnsupportedSyntax)),
+    (1024, "a ", "", None),
+    (1024, "a ", "a", Some(SelectorError::UnsupportedSyntax)),
+    (1024, "a ", " >", Some(SelectorError::UnsupportedSyntax)),
+    (2000, "a,", "a", None),
+    (2000, ".a", "", None),
+];
+
+/// Why a text some times over, and then another, is refused.
+fn refusal_of_repeated(
+    alloc: Global,
+    count: u32,
+    text: &str,
+    last: &str,
+) -> Result<Option<SelectorError>, AllocError> {
+    let whole = repeated(alloc, count, text, last)?;
+    Ok(refusal(alloc, whole.as_str()))
+}
+
 #[test]
 fn selectors_are_bounded(rt: HostRuntime) -> Result<(), Fail> {
-    for (count, text, last, answer) in [
-        (128, ":not(", "a", None),
-        (129, ":not(", "a", Some(SelectorError::UnsupportedSyntax)),
-        (64, ":is(:not(", "a", None),
-        (64, ":where(:is(", "a", None),
-        (
-            64,
-            ":is(:not(",
-            ":where(a",
-            Some(SelectorError::UnsupportedSyntax),
-        ),
-        (129, ":is(", "a", Some(SelectorError::UnsupportedSyntax)),
-        (1024, "a ", "", None),
-        (1024, "a ", "a", Some(SelectorError::UnsupportedSyntax)),
-        (1024, "a ", " >", Some(SelectorError::UnsupportedSyntax)),
-        (2000, "a,", "a", None),
-        (2000, ".a", "", None),
-    ] {
-        let whole = repeated(rt.alloc(), count, text, last)?;
-        assert!(rt; SelectorsParser::parse(rt.alloc(), whole.as_str()).err() == answer);
+    for (count, text, last, answer) in &BOUNDS {
+        let refusal = refusal_of_repeated(rt.alloc(), *count, text, last)?;
+        assert!(rt; refusal == *answer, "{count} times {text}");
     }
     Ok(())
 }

@@ -98,12 +98,18 @@ fn has_tests(rt: &impl Abort, alloc: Global, text: &str, tests: &[Test]) -> Resu
     Ok(ast.cumulative_node_count() == 1 && node.predicate.tests.as_slice() == tests)
 }
 
+/// The tests of `div:not(:not(.foo))`, from right to left.
+fn none_of_none_and_name(alloc: Global) -> Result<Vec<Test>, AllocError> {
+    let none = none_of(alloc, part(alloc, ".foo")?)?;
+    let mut tests = vec![in alloc; none_of(alloc, none)?]?;
+    tests.push(name(alloc, "div")?)?;
+    Ok(tests)
+}
+
 #[test]
 fn functions_in_functions(rt: HostRuntime) -> Result<(), Fail> {
-    let alloc = rt.alloc();
-    let foo = Test::Attribute(OnAttributesExpr::Class(String::from_str(alloc, "foo")?));
-    let tests = [none_of(alloc, none_of(alloc, foo)?)?, name(alloc, "div")?];
-    assert!(rt; has_tests(&rt, alloc, "div:not(:not(.foo))", &tests)?);
+    let tests = none_of_none_and_name(rt.alloc())?;
+    assert!(rt; has_tests(&rt, rt.alloc(), "div:not(:not(.foo))", &tests)?);
     Ok(())
 }
 
@@ -114,21 +120,56 @@ fn parts_stand_from_right_to_left(rt: HostRuntime) -> Result<(), Fail> {
     Ok(())
 }
 
+/// The children of `#foo`, with their ids.
+const CHILDREN: [(usize, &str, u32); 4] = [
+    (0, "div", 0),
+    (1, "span", 0),
+    (2, ".c1", 1),
+    (3, ".c2", 1),
+];
+
+/// Expects `#foo` with `CHILDREN` and no descendants.
+fn expect_children(rt: &impl Abort, alloc: Global, foo: &AstNode) -> Result<(), AllocError> {
+    expect_node(rt, alloc, foo, "#foo", &[])?;
+    assert!(rt; foo.descendants.is_empty());
+    for (place, text, id) in &CHILDREN {
+        expect_node(rt, alloc, node(rt, &foo.children, *place), text, &[*id])?;
+    }
+    Ok(())
+}
+
 #[test]
 fn equal_beginnings_are_shared(rt: HostRuntime) -> Result<(), Fail> {
-    let alloc = rt.alloc();
     let texts = [
         ("#foo > div, #foo > span", 0),
         ("#foo > .c1, #foo > .c2", 1),
     ];
-    let ast = tree(alloc, &texts)?;
-    assert!(rt; ast.cumulative_node_count() == 5);
-    assert!(rt; ast.root().len() == 1);
-    let foo = node(&rt, ast.root(), 0);
-    expect_node(&rt, alloc, foo, "#foo", &[])?;
-    assert!(rt; foo.descendants.is_empty());
-    for (place, text, id) in [(0, "div", 0), (1, "span", 0), (2, ".c1", 1), (3, ".c2", 1)] {
-        expect_node(&rt, alloc, node(&rt, &foo.children, place), text, &[id])?;
+    let ast = tree(rt.alloc(), &texts)?;
+    assert!(rt; (ast.cumulative_node_count(), ast.root().len()) == (5, 1));
+    expect_children(&rt, rt.alloc(), node(&rt, ast.root(), 0))?;
+    Ok(())
+}
+
+/// Expects the ten nodes of `SELECTORS_OF_BOTH_STEPS` in their places.
+fn expect_both_steps(rt: &impl Abort, alloc: Global, root: &[AstNode]) -> Result<(), AllocError> {
+    let c1 = node(rt, root, 0);
+    let c2 = node(rt, &c1.children, 0);
+    let c3 = node(rt, &c2.descendants, 0);
+    let has_foo = node(rt, &c1.descendants, 1);
+    let rows: [(&AstNode, &str, &[u32]); 10] = [
+        (c1, ".c1", &[]),
+        (c2, ".c2", &[]),
+        (c3, ".c3", &[]),
+        (has_foo, "[foo", &[]),
+        (node(rt, &c3.descendants, 0), "#foo", &[0]),
+        (node(rt, &c2.descendants, 1), "#bar", &[1]),
+        (node(rt, &c1.children, 1), "#qux", &[2]),
+        (node(rt, &c1.descendants, 0), "#baz", &[3]),
+        (node(rt, &has_foo.descendants, 0), "[bar", &[4]),
+        (node(rt, root, 1), "#quz", &[5]),
+    ];
+    for (node, text, ids) in &rows {
+        expect_node(rt, alloc, node, text, ids)?;
     }
     Ok(())
 }
@@ -137,51 +178,49 @@ fn equal_beginnings_are_shared(rt: HostRuntime) -> Result<(), Fail> {
 fn steps_of_both_kinds(rt: HostRuntime) -> Result<(), Fail> {
     let ast = tree(rt.alloc(), &SELECTORS_OF_BOTH_STEPS)?;
     assert!(rt; ast.cumulative_node_count() == 10);
-    let c1 = node(&rt, ast.root(), 0);
-    let c2 = node(&rt, &c1.children, 0);
-    let c3 = node(&rt, &c2.descendants, 0);
-    let has_foo = node(&rt, &c1.descendants, 1);
-    let rows: [(&AstNode, &str, &[u32]); 10] = [
-        (c1, ".c1", &[]),
-        (c2, ".c2", &[]),
-        (c3, ".c3", &[]),
-        (has_foo, "[foo", &[]),
-        (node(&rt, &c3.descendants, 0), "#foo", &[0]),
-        (node(&rt, &c2.descendants, 1), "#bar", &[1]),
-        (node(&rt, &c1.children, 1), "#qux", &[2]),
-        (node(&rt, &c1.descendants, 0), "#baz", &[3]),
-        (node(&rt, &has_foo.descendants, 0), "[bar", &[4]),
-        (node(&rt, ast.root(), 1), "#quz", &[5]),
-    ];
-    for (node, text, ids) in rows {
-        expect_node(&rt, rt.alloc(), node, text, ids)?;
-    }
+    expect_both_steps(&rt, rt.alloc(), ast.root())?;
+    Ok(())
+}
+
+fn add(alloc: Global, ast: &mut Ast, text: &str) -> Result<(), Fail> {
+    ast.add_selector(&Selector::from_str(alloc, text)?, 0)?;
     Ok(())
 }
 
 #[test]
 fn tests_that_differ_are_not_shared(rt: HostRuntime) -> Result<(), Fail> {
-    let alloc = rt.alloc();
     let names = [("DIV", 0), ("div", 1), ("div", 1), ("div", 40)];
-    let mut ast = tree(alloc, &names)?;
+    let mut ast = tree(rt.alloc(), &names)?;
     assert!(rt; ast.cumulative_node_count() == 2);
     assert!(rt; has_ids(node(&rt, ast.root(), 1), &[1, 40]));
-    for text in [".a.b", ".b.a"] {
-        ast.add_selector(&Selector::from_str(alloc, text)?, 0)?;
-    }
+    add(rt.alloc(), &mut ast, ".a.b")?;
+    add(rt.alloc(), &mut ast, ".b.a")?;
     assert!(rt; ast.cumulative_node_count() == 4);
     Ok(())
 }
 
-#[test]
-fn long_selectors(rt: HostRuntime) -> Result<(), Fail> {
-    let alloc = rt.alloc();
+/// `a`, with so many steps more.
+fn long_text(alloc: Global, more: u32) -> Result<String, AllocError> {
     let mut text = String::from_str(alloc, "a")?;
-    for _step in 1..1024u32 {
+    for _step in 0..more {
         text.push_str(" a")?;
     }
-    assert!(rt; tree(alloc, &[(text.as_str(), 7)])?.cumulative_node_count() == 1024);
+    Ok(text)
+}
+
+#[test]
+fn long_selectors(rt: HostRuntime) -> Result<(), Fail> {
+    let text = long_text(rt.alloc(), 1023)?;
+    let ast = tree(rt.alloc(), &[(text.as_str(), 7)])?;
+    assert!(rt; ast.cumulative_node_count() == 1024);
     Ok(())
+}
+
+/// Whether there are two nodes, with these ids each.
+fn are_two_with(ast: &Ast, ids: &[u32]) -> bool {
+    ast.cumulative_node_count() == 2
+        && ast.root().len() == 2
+        && ast.root().iter().all(|node| has_ids(node, ids))
 }
 
 /// Ids that need words more, and one that doesn't.
@@ -189,35 +228,52 @@ fn long_selectors(rt: HostRuntime) -> Result<(), Fail> {
 fn items_take_their_id(rt: HostRuntime) -> Result<(), Fail> {
     let texts = [("a, b, a", 100), ("a, b, a", 3), ("a, b, a", 1_000)];
     let ast = tree(rt.alloc(), &texts)?;
-    assert!(rt; ast.cumulative_node_count() == 2);
-    assert!(rt; has_ids(node(&rt, ast.root(), 0), &[3, 100, 1_000]));
-    assert!(rt; has_ids(node(&rt, ast.root(), 1), &[3, 100, 1_000]));
+    assert!(rt; are_two_with(&ast, &[3, 100, 1_000]));
     Ok(())
+}
+
+/// Whether a part has this condition.
+fn has_condition(
+    alloc: Global,
+    part: &SimpleSelector,
+    wanted: &Option<Condition>,
+) -> Result<bool, AllocError> {
+    Ok(Condition::from_simple(alloc, part)? == *wanted)
 }
 
 #[test]
 fn conditions(rt: HostRuntime) -> Result<(), Fail> {
-    let alloc = rt.alloc();
     let nth = SimpleSelector::Nth {
         of_type: true,
         nth: NthChild::new(2, 1),
     };
     let of_type = Condition::OnTagName(OnTagNameExpr::NthOfType(NthChild::new(2, 1)));
-    assert!(rt; Condition::from_simple(alloc, &nth)? == Some(of_type));
+    assert!(rt; has_condition(rt.alloc(), &nth, &Some(of_type))?);
     Ok(())
+}
+
+/// Whether each item of a selector is one part without a condition.
+fn has_no_condition(alloc: Global, text: &str) -> Result<bool, Fail> {
+    let selector = Selector::from_str(alloc, text)?;
+    for item in &selector.list().items {
+        if !is_part_without_condition(alloc, &item.first.parts)? {
+            return Ok(false);
+        }
+    }
+    Ok(true)
+}
+
+fn is_part_without_condition(alloc: Global, parts: &[SimpleSelector]) -> Result<bool, AllocError> {
+    match parts {
+        [part] => has_condition(alloc, part, &None),
+        _ => Ok(false),
+    }
 }
 
 #[test]
 fn lists_have_no_condition(rt: HostRuntime) -> Result<(), Fail> {
-    let alloc = rt.alloc();
     for text in [":not(div)", ":is(div)", ":where(div)"] {
-        let selector = Selector::from_str(alloc, text)?;
-        for item in &selector.list().items {
-            assert!(rt; item.first.parts.len() == 1);
-            for part in &item.first.parts {
-                assert!(rt; Condition::from_simple(alloc, part)?.is_none());
-            }
-        }
+        assert!(rt; has_no_condition(rt.alloc(), text)?, "{text}");
     }
     Ok(())
 }
@@ -232,22 +288,25 @@ const OPERATORS: [(AttrSelectorOperator, &str); 6] = [
     (AttrSelectorOperator::Substring, "Substring"),
 ];
 
-/// `[foo="bar"]` and the like
+/// Whether `[foo="bar"]` or the like is shown with this name of its operator.
+fn is_shown(alloc: Global, operator: AttrSelectorOperator, name: &str) -> Result<bool, Fail> {
+    let expr = AttributeComparisonExpr::new(
+        String::from_str(alloc, "foo")?,
+        String::from_str(alloc, "bar")?,
+        ParsedCaseSensitivity::CaseSensitive,
+        operator,
+    );
+    let shown = format!(in alloc; "{expr:?}")?;
+    let wanted = format!(in alloc;
+        "AttributeExpr {{ name: \"foo\", value: \"bar\", case_sensitivity: CaseSensitive, operator: \"AttrSelectorOperator::{name}\" }}"
+    )?;
+    Ok(shown == wanted)
+}
+
 #[test]
 fn comparisons_are_shown(rt: HostRuntime) -> Result<(), Fail> {
-    let alloc = rt.alloc();
-    for (operator, name) in OPERATORS {
-        let expr = AttributeComparisonExpr::new(
-            String::from_str(alloc, "foo")?,
-            String::from_str(alloc, "bar")?,
-            ParsedCaseSensitivity::CaseSensitive,
-            operator,
-        );
-        let shown = format!(in alloc; "{expr:?}")?;
-        let wanted = format!(in alloc;
-            "AttributeExpr {{ name: \"foo\", value: \"bar\", case_sensitivity: CaseSensitive, operator: \"AttrSelectorOperator::{name}\" }}"
-        )?;
-        assert!(rt; shown == wanted);
+    for (operator, name) in &OPERATORS {
+        assert!(rt; is_shown(rt.alloc(), *operator, name)?, "{name}");
     }
     Ok(())
 }

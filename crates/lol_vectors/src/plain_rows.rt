@@ -100,92 +100,101 @@ fn check(
     Ok(())
 }
 
+/// Selectors under ids, tags, and the answers to them.
+type Row = (&'static [(&'static str, u32)], &'static str, &'static str);
+
+/// Selectors by names.
+const NAMES: [Row; 4] = [
+    (
+        &[("div p", 0), ("div > p", 1)],
+        "div section p /DIV",
+        "()1/0 ()3/0 (0 )2/0 /0,1,2 ",
+    ),
+    (
+        &[("div div", 0)],
+        "div div div /div div",
+        "()1/0 (0 )2/0 (0 )2/0 /2 (0 )2/0 ",
+    ),
+    (
+        &[(":not(:not(a, b))", 0)],
+        "a b c",
+        "(0 )1/0 (0 )1/0 ()1/0 ",
+    ),
+    (
+        &[(":is(h1, h2) > a", 0)],
+        "h1 a /h1 p a",
+        "()1/0 (0 )2/0 /0,1 ()1/0 ()1/0 ",
+    ),
+];
+
 #[test]
 fn answers_names(rt: HostRuntime) -> Result<(), Fail> {
     let alloc = rt.alloc();
-    let rows: [(&[(&str, u32)], &str, &str); 4] = [
-        (
-            &[("div p", 0), ("div > p", 1)],
-            "div section p /DIV",
-            "()1/0 ()3/0 (0 )2/0 /0,1,2 ",
-        ),
-        (
-            &[("div div", 0)],
-            "div div div /div div",
-            "()1/0 (0 )2/0 (0 )2/0 /2 (0 )2/0 ",
-        ),
-        (
-            &[(":not(:not(a, b))", 0)],
-            "a b c",
-            "(0 )1/0 (0 )1/0 ()1/0 ",
-        ),
-        (
-            &[(":is(h1, h2) > a", 0)],
-            "h1 a /h1 p a",
-            "()1/0 (0 )2/0 /0,1 ()1/0 ()1/0 ",
-        ),
-    ];
-    for (texts, tags, wanted) in rows {
+    for (texts, tags, wanted) in &NAMES {
         check(&rt, alloc, texts, false, tags, wanted)?;
     }
     Ok(())
 }
+
+/// Selectors by attributes.
+const ATTRIBUTES: [Row; 5] = [
+    (
+        &[(".a p", 0), ("p", 1)],
+        "div@class=a p",
+        "()?2/1 (0 1 )?3/1 ",
+    ),
+    (
+        &[(":not(div.foo)", 0)],
+        "div p div@class=foo",
+        "(0 )?1/1 (0 )1/0 ()?1/1 ",
+    ),
+    (
+        &[("[type=\"TEXT\"]", 0)],
+        "input@type=text svg:input@type=text",
+        "(0-)?1/1 ()?1/1 ",
+    ),
+    (
+        &[("[a*=\"\"]", 0), (":not([a*=\"\"])", 1)],
+        "p@a=x",
+        "(1 )?2/2 ",
+    ),
+    (&[("a[href]", 0)], "a@href a div", "(0 )?1/1 ()?1/1 ()1/0 "),
+];
 
 #[test]
 fn answers_attributes(rt: HostRuntime) -> Result<(), Fail> {
     let alloc = rt.alloc();
-    let rows: [(&[(&str, u32)], &str, &str); 5] = [
-        (
-            &[(".a p", 0), ("p", 1)],
-            "div@class=a p",
-            "()?2/1 (0 1 )?3/1 ",
-        ),
-        (
-            &[(":not(div.foo)", 0)],
-            "div p div@class=foo",
-            "(0 )?1/1 (0 )1/0 ()?1/1 ",
-        ),
-        (
-            &[("[type=\"TEXT\"]", 0)],
-            "input@type=text svg:input@type=text",
-            "(0-)?1/1 ()?1/1 ",
-        ),
-        (
-            &[("[a*=\"\"]", 0), (":not([a*=\"\"])", 1)],
-            "p@a=x",
-            "(1 )?2/2 ",
-        ),
-        (&[("a[href]", 0)], "a@href a div", "(0 )?1/1 ()?1/1 ()1/0 "),
-    ];
-    for (texts, tags, wanted) in rows {
+    for (texts, tags, wanted) in &ATTRIBUTES {
         check(&rt, alloc, texts, false, tags, wanted)?;
     }
     Ok(())
 }
 
+/// Selectors by places, and of foreign elements.
+const PLACES_AND_NAMESPACES: [Row; 5] = [
+    (
+        &[("br:first-child", 0), ("p:nth-child(2)", 1)],
+        "br p",
+        "(0-)2/0 (1 )2/0 ",
+    ),
+    (
+        &[("span:nth-of-type(2)", 0)],
+        "div span /span SPAN",
+        "()1/0 ()1/0 /1 (0 )1/0 ",
+    ),
+    (&[(":nth-child(2)", 0)], "svg:g! p /g", "dropped (0 )1/0 / "),
+    (&[("circle", 0)], "svg:circle/ /circle", "(0-)?1/0 / "),
+    (
+        &[("mi", 0)],
+        "math:mi/ math:mi /mi math:mi!",
+        "(0-)?1/0 (0 )?1/0 /1 dropped ",
+    ),
+];
+
 #[test]
 fn answers_places_and_namespaces(rt: HostRuntime) -> Result<(), Fail> {
     let alloc = rt.alloc();
-    let rows: [(&[(&str, u32)], &str, &str); 5] = [
-        (
-            &[("br:first-child", 0), ("p:nth-child(2)", 1)],
-            "br p",
-            "(0-)2/0 (1 )2/0 ",
-        ),
-        (
-            &[("span:nth-of-type(2)", 0)],
-            "div span /span SPAN",
-            "()1/0 ()1/0 /1 (0 )1/0 ",
-        ),
-        (&[(":nth-child(2)", 0)], "svg:g! p /g", "dropped (0 )1/0 / "),
-        (&[("circle", 0)], "svg:circle/ /circle", "(0-)?1/0 / "),
-        (
-            &[("mi", 0)],
-            "math:mi/ math:mi /mi math:mi!",
-            "(0-)?1/0 (0 )?1/0 /1 dropped ",
-        ),
-    ];
-    for (texts, tags, wanted) in rows {
+    for (texts, tags, wanted) in &PLACES_AND_NAMESPACES {
         check(&rt, alloc, texts, false, tags, wanted)?;
     }
     check(

@@ -470,38 +470,41 @@ fn all_answer(alloc: Global, texts: &str, cause: Option<SelectorError>) -> bool 
         .all(|text| SelectorsParser::parse(alloc, text).err() == cause)
 }
 
+/// Texts, and the cause for which each of their lines is refused.
+const ANSWERS: [(&str, Option<SelectorError>); 12] = [
+    (READ, None),
+    (DANGLING_COMBINATOR, Some(SelectorError::DanglingCombinator)),
+    (EMPTY_SELECTOR, Some(SelectorError::EmptySelector)),
+    (INVALID_CLASS_NAME, Some(SelectorError::InvalidClassName)),
+    (
+        MISSING_ATTRIBUTE_NAME,
+        Some(SelectorError::MissingAttributeName),
+    ),
+    (NAMESPACED_SELECTOR, Some(SelectorError::NamespacedSelector)),
+    (UNEXPECTED_END, Some(SelectorError::UnexpectedEnd)),
+    (UNEXPECTED_TOKEN, Some(SelectorError::UnexpectedToken)),
+    (
+        UNEXPECTED_TOKEN_IN_ATTRIBUTE,
+        Some(SelectorError::UnexpectedTokenInAttribute),
+    ),
+    (
+        SIBLING_STEPS,
+        Some(SelectorError::UnsupportedCombinator('+')),
+    ),
+    (
+        LATER_SIBLING_STEPS,
+        Some(SelectorError::UnsupportedCombinator('~')),
+    ),
+    (
+        UNSUPPORTED_PSEUDO_CLASS_OR_ELEMENT,
+        Some(SelectorError::UnsupportedPseudoClassOrElement),
+    ),
+];
+
 #[test]
 fn are_read_as_the_model_reads_them(rt: HostRuntime) -> Result<(), Fail> {
-    for (texts, cause) in [
-        (READ, None),
-        (DANGLING_COMBINATOR, Some(SelectorError::DanglingCombinator)),
-        (EMPTY_SELECTOR, Some(SelectorError::EmptySelector)),
-        (INVALID_CLASS_NAME, Some(SelectorError::InvalidClassName)),
-        (
-            MISSING_ATTRIBUTE_NAME,
-            Some(SelectorError::MissingAttributeName),
-        ),
-        (NAMESPACED_SELECTOR, Some(SelectorError::NamespacedSelector)),
-        (UNEXPECTED_END, Some(SelectorError::UnexpectedEnd)),
-        (UNEXPECTED_TOKEN, Some(SelectorError::UnexpectedToken)),
-        (
-            UNEXPECTED_TOKEN_IN_ATTRIBUTE,
-            Some(SelectorError::UnexpectedTokenInAttribute),
-        ),
-        (
-            SIBLING_STEPS,
-            Some(SelectorError::UnsupportedCombinator('+')),
-        ),
-        (
-            LATER_SIBLING_STEPS,
-            Some(SelectorError::UnsupportedCombinator('~')),
-        ),
-        (
-            UNSUPPORTED_PSEUDO_CLASS_OR_ELEMENT,
-            Some(SelectorError::UnsupportedPseudoClassOrElement),
-        ),
-    ] {
-        assert!(rt; all_answer(rt.alloc(), texts, cause), "{cause:?}");
+    for (texts, cause) in &ANSWERS {
+        assert!(rt; all_answer(rt.alloc(), texts, *cause), "{cause:?}");
     }
     Ok(())
 }

@@ -1,6 +1,8 @@
 //! Refused texts with their causes: the worked rows of the definition, read.
 
 use lol_css::{SelectorError, SelectorsParser};
+use std::alloc::Global;
+use std::process::Abort;
 
 /// Texts that are refused for a cause.
 const REFUSED: [(SelectorError, &[&str]); 12] = [
@@ -181,12 +183,16 @@ const UNSUPPORTED: [&str; 65] = [
     "::spelling-error",
 ];
 
+fn expect_refusals(rt: &impl Abort, alloc: Global, cause: SelectorError, texts: &[&str]) {
+    for text in texts {
+        let refusal = SelectorsParser::parse(alloc, text).err();
+        assert_eq!(rt; refusal, Some(cause), "{text}");
+    }
+}
+
 #[test]
 fn have_their_causes(rt: HostRuntime) {
-    for (cause, texts) in REFUSED {
-        for text in texts {
-            let refusal = SelectorsParser::parse(rt.alloc(), text).err();
-            assert_eq!(rt; refusal, Some(cause), "{text}");
-        }
+    for (cause, texts) in &REFUSED {
+        expect_refusals(&rt, rt.alloc(), *cause, texts);
     }
 }

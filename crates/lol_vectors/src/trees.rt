@@ -1,5 +1,6 @@
 //! Texts with the nodes that they make.
 
+use crate::runs::selectors;
 use lol_vm::{
     Ast, AstNode, AttrSelectorOperator, AttributeComparisonExpr, OnAttributesExpr, OnTagNameExpr,
     ParsedCaseSensitivity, Predicate, Selector, Test,
@@ -29,6 +30,16 @@ fn is_one_node(ast: &Ast, predicate: &Predicate) -> bool {
     }
 }
 
+/// Whether a text makes one node, with these tests and the id 0.
+fn makes(alloc: Global, text: &str, predicate: &Predicate) -> Result<bool, Fail> {
+    Ok(is_one_node(&tree(alloc, text)?, predicate))
+}
+
+/// Whether a text makes one node, with this test alone and the id 0.
+fn makes_test(alloc: Global, text: &str, test: Test) -> Result<bool, Fail> {
+    makes(alloc, text, &alone(alloc, test)?)
+}
+
 /// A compound of one test.
 fn alone(alloc: Global, test: Test) -> Result<Predicate, AllocError> {
     Ok(Predicate {
@@ -50,72 +61,90 @@ fn name(alloc: Global, name: &str) -> Result<Test, AllocError> {
     Ok(Test::Name(OnTagNameExpr::LocalName(name)))
 }
 
+/// Names, in so many `:not`.
+const NEGATED: [(&str, u32); 4] = [
+    ("div", 0),
+    (":not(div)", 1),
+    (":not(:not(div))", 2),
+    (":not(:not(:not(div)))", 3),
+];
+
+/// Whether a text makes the test of `div`, in so many `:not`.
+fn makes_negated(alloc: Global, text: &str, times: u32) -> Result<bool, Fail> {
+    let test = negated(alloc, name(alloc, "div")?, times)?;
+    makes_test(alloc, text, test)
+}
+
 #[test]
 fn of_names(rt: HostRuntime) -> Result<(), Fail> {
     let alloc = rt.alloc();
-    let any = alone(alloc, Test::Name(OnTagNameExpr::ExplicitAny))?;
-    assert!(rt; is_one_node(&tree(alloc, "*")?, &any));
-    for (text, times) in [
-        ("div", 0),
-        (":not(div)", 1),
-        (":not(:not(div))", 2),
-        (":not(:not(:not(div)))", 3),
-    ] {
-        let test = negated(alloc, name(alloc, "div")?, times)?;
+    assert!(rt; makes_test(alloc, "*", Test::Name(OnTagNameExpr::ExplicitAny))?);
+    for (text, times) in &NEGATED {
+        assert!(rt; makes_negated(alloc, text, *times)?, "{text}");
+    }
+    Ok(())
+}
+
+/// The compounds `a` and `b`.
+fn a_and_b(alloc: Global) -> Result<Vec<Predicate>, AllocError> {
+    let a = alone(alloc, name(alloc, "a")?)?;
+    let b = alone(alloc, name(alloc, "b")?)?;
+    Ok(vec![in alloc; a, b]?)
+}
+
+#[test]
+fn of_lists(rt: HostRuntime) -> Result<(), Fail> {
+    let alloc = rt.alloc();
+    assert!(rt; makes_test(alloc, ":not(a, b)", Test::NoneOf(a_and_b(alloc)?))?);
+    for text in [":is(a, b)", ":where(a, b)"] {
         assert!(rt;
-            is_one_node(&tree(alloc, text)?, &alone(alloc, test)?),
+            makes_test(alloc, text, Test::SomeOf(a_and_b(alloc)?))?,
             "{text}"
         );
     }
     Ok(())
 }
 
-#[test]
-fn of_lists(rt: HostRuntime) -> Result<(), Fail> {
-    let alloc = rt.alloc();
-    let a_and_b = || {
-        Ok::<_, AllocError>(vec![in alloc;
-            alone(alloc, name(alloc, "a")?)?,
-            alone(alloc, name(alloc, "b")?)?,
-        ]?)
-    };
-    let none = alone(alloc, Test::NoneOf(a_and_b()?))?;
-    assert!(rt; is_one_node(&tree(alloc, ":not(a, b)")?, &none));
-    let some = alone(alloc, Test::SomeOf(a_and_b()?))?;
-    assert!(rt; is_one_node(&tree(alloc, ":is(a, b)")?, &some));
-    assert!(rt; is_one_node(&tree(alloc, ":where(a, b)")?, &some));
-    Ok(())
+/// The compounds `a.x` and `p`: the parts inside a function stand in written order.
+fn a_x_and_p(alloc: Global) -> Result<Vec<Predicate>, AllocError> {
+    let tests = vec![in alloc; name(alloc, "a")?, class(alloc, "x")?]?;
+    let p = alone(alloc, name(alloc, "p")?)?;
+    Ok(vec![in alloc; Predicate { tests }, p]?)
 }
 
 #[test]
 fn of_parts_in_functions(rt: HostRuntime) -> Result<(), Fail> {
     let alloc = rt.alloc();
-    // The parts inside a function stand in written order.
-    let x = Test::Attribute(OnAttributesExpr::Class(String::from_str(alloc, "x")?));
-    let both = Predicate {
-        tests: vec![in alloc; name(alloc, "a")?, x]?,
-    };
-    let some = vec![in alloc; both, alone(alloc, name(alloc, "p")?)?]?;
-    let predicate = alone(alloc, Test::SomeOf(some))?;
-    assert!(rt; is_one_node(&tree(alloc, ":is(a.x, p)")?, &predicate));
+    let some = Test::SomeOf(a_x_and_p(alloc)?);
+    assert!(rt; makes_test(alloc, ":is(a.x, p)", some)?);
     Ok(())
+}
+
+fn id(alloc: Global, id: &str) -> Result<Test, AllocError> {
+    let id = String::from_str(alloc, id)?;
+    Ok(Test::Attribute(OnAttributesExpr::Id(id)))
+}
+
+fn class(alloc: Global, class: &str) -> Result<Test, AllocError> {
+    let class = String::from_str(alloc, class)?;
+    Ok(Test::Attribute(OnAttributesExpr::Class(class)))
+}
+
+fn existence(alloc: Global, name: &str) -> Result<Test, AllocError> {
+    let name = String::from_str(alloc, name)?;
+    Ok(Test::Attribute(OnAttributesExpr::AttributeExists(name)))
 }
 
 #[test]
 fn of_attributes(rt: HostRuntime) -> Result<(), Fail> {
     let alloc = rt.alloc();
-    let id = OnAttributesExpr::Id(String::from_str(alloc, "foo")?);
-    assert!(rt; is_one_node(&tree(alloc, "#foo")?, &alone(alloc, Test::Attribute(id))?));
-    let class = OnAttributesExpr::Class(String::from_str(alloc, "bar")?);
-    assert!(rt;
-        is_one_node(
-            &tree(alloc, ".bar")?,
-            &alone(alloc, Test::Attribute(class))?
-        )
-    );
+    assert!(rt; makes_test(alloc, "#foo", id(alloc, "foo")?)?);
+    assert!(rt; makes_test(alloc, ".bar", class(alloc, "bar")?)?);
     for text in ["[foo]", "[FOO]"] {
-        let name = OnAttributesExpr::AttributeExists(String::from_str(alloc, "foo")?);
-        assert!(rt; is_one_node(&tree(alloc, text)?, &alone(alloc, Test::Attribute(name))?));
+        assert!(rt;
+            makes_test(alloc, text, existence(alloc, "foo")?)?,
+            "{text}"
+        );
     }
     Ok(())
 }
@@ -195,62 +224,64 @@ const COMPARISONS: [Comparison; 9] = [
     ),
 ];
 
+/// Whether a text makes the test of a comparison.
+fn makes_comparison(alloc: Global, wanted: &Comparison) -> Result<bool, Fail> {
+    let (text, operator, value, case, times) = wanted;
+    let comparison = AttributeComparisonExpr::new(
+        String::from_str(alloc, "foo")?,
+        String::from_str(alloc, value)?,
+        *case,
+        *operator,
+    );
+    let expr = OnAttributesExpr::AttributeComparisonExpr(comparison);
+    let test = negated(alloc, Test::Attribute(expr), *times)?;
+    makes_test(alloc, text, test)
+}
+
 #[test]
 fn of_comparisons(rt: HostRuntime) -> Result<(), Fail> {
-    let alloc = rt.alloc();
-    for (text, operator, value, case, times) in COMPARISONS {
-        let comparison = AttributeComparisonExpr::new(
-            String::from_str(alloc, "foo")?,
-            String::from_str(alloc, value)?,
-            case,
-            operator,
-        );
-        let expr = OnAttributesExpr::AttributeComparisonExpr(comparison);
-        let test = negated(alloc, Test::Attribute(expr), times)?;
-        let predicate = alone(alloc, test)?;
-        assert!(rt; is_one_node(&tree(alloc, text)?, &predicate), "{text}");
+    for comparison in &COMPARISONS {
+        let (text, _, _, _, _) = comparison;
+        assert!(rt; makes_comparison(rt.alloc(), comparison)?, "{text}");
     }
     Ok(())
 }
 
 /// Texts under ids, and how many nodes they make.
+const SHARED: [(&[(&str, u32)], usize); 10] = [
+    (&[("#foo", 0), ("#foo", 1)], 1),
+    (&[("DIV", 0), ("div", 1)], 2),
+    (&[(".a.b", 0), (".b.a", 1)], 2),
+    (&[("p", 0), ("p, p", 0)], 1),
+    (&[(":is(a)", 0), (":where(a)", 1), ("a", 2)], 2),
+    (&[(":not(a, b)", 0), (":not(b, a)", 1)], 2),
+    (&[(":not(:not(div))", 0), ("div", 1)], 2),
+    (&[("div.foo#bar:not([baz])", 0)], 1),
+    (
+        &[
+            ("#foo > div, #foo > span", 0),
+            ("#foo > .c1, #foo > .c2", 1),
+        ],
+        5,
+    ),
+    (
+        &[
+            (".c1 > .c2 .c3 #foo", 0),
+            (".c1 > .c2 #bar", 1),
+            (".c1 > #qux", 2),
+            (".c1 #baz", 3),
+            (".c1 [foo] [bar]", 4),
+            ("#quz", 5),
+        ],
+        10,
+    ),
+];
+
 #[test]
 fn share_equal_beginnings(rt: HostRuntime) -> Result<(), Fail> {
-    let rows: [(&[(&str, u32)], usize); 10] = [
-        (&[("#foo", 0), ("#foo", 1)], 1),
-        (&[("DIV", 0), ("div", 1)], 2),
-        (&[(".a.b", 0), (".b.a", 1)], 2),
-        (&[("p", 0), ("p, p", 0)], 1),
-        (&[(":is(a)", 0), (":where(a)", 1), ("a", 2)], 2),
-        (&[(":not(a, b)", 0), (":not(b, a)", 1)], 2),
-        (&[(":not(:not(div))", 0), ("div", 1)], 2),
-        (&[("div.foo#bar:not([baz])", 0)], 1),
-        (
-            &[
-                ("#foo > div, #foo > span", 0),
-                ("#foo > .c1, #foo > .c2", 1),
-            ],
-            5,
-        ),
-        (
-            &[
-                (".c1 > .c2 .c3 #foo", 0),
-                (".c1 > .c2 #bar", 1),
-                (".c1 > #qux", 2),
-                (".c1 #baz", 3),
-                (".c1 [foo] [bar]", 4),
-                ("#quz", 5),
-            ],
-            10,
-        ),
-    ];
-    for (texts, count) in rows {
-        let mut ast = Ast::new(rt.alloc());
-        for (text, match_id) in texts {
-            let selector = Selector::from_str(rt.alloc(), text)?;
-            ast.add_selector(&selector, *match_id)?;
-        }
-        assert!(rt; ast.cumulative_node_count() == count);
+    for (place, (texts, count)) in SHARED.iter().enumerate() {
+        let nodes = selectors(rt.alloc(), texts)?.cumulative_node_count();
+        assert!(rt; nodes == *count, "row {place}");
     }
     Ok(())
 }
