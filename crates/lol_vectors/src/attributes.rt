@@ -248,16 +248,18 @@ fn all_hold_as_said(
     Ok(true)
 }
 
+/// Whether each comparison of a row holds where it is said to.
+fn holds_in_row(rt: &impl Abort, alloc: Global, row: &Row<'_>) -> Result<bool, AllocError> {
+    let (written, ns, case_sensitivity, comparisons) = row;
+    let tag = Attributes::new(alloc, written)?;
+    let tag = tag.matcher(rt, *ns);
+    all_hold_as_said(alloc, &tag, *case_sensitivity, comparisons)
+}
+
 #[test]
 fn are_compared(rt: HostRuntime) -> Result<(), Fail> {
-    let alloc = rt.alloc();
-    for (place, (written, ns, case_sensitivity, comparisons)) in COMPARED.iter().enumerate() {
-        let tag = Attributes::new(alloc, written)?;
-        let tag = tag.matcher(&rt, *ns);
-        assert!(rt;
-            all_hold_as_said(alloc, &tag, *case_sensitivity, comparisons)?,
-            "row {place}"
-        );
+    for (place, row) in COMPARED.iter().enumerate() {
+        assert!(rt; holds_in_row(&rt, rt.alloc(), row)?, "row {place}");
     }
     Ok(())
 }
@@ -321,14 +323,22 @@ fn has(attributes: &AttributeMatcher<'_>, sought: Sought, text: &str) -> bool {
     }
 }
 
+/// Expects what is looked for to be there where it is said to be.
+fn expect_sought(
+    rt: &impl Abort,
+    attributes: &AttributeMatcher<'_>,
+    rows: &[(Sought, &str, bool)],
+) {
+    for (sought, text, there) in rows {
+        assert!(rt; has(attributes, *sought, text) == *there, "{text}");
+    }
+}
+
 #[test]
 fn are_looked_for(rt: HostRuntime) -> Result<(), Fail> {
-    for (written, rows) in LOOKED_FOR {
+    for (written, rows) in &LOOKED_FOR {
         let tag = Attributes::new(rt.alloc(), written)?;
-        let tag = tag.matcher(&rt, Html);
-        for (sought, text, there) in rows {
-            assert!(rt; has(&tag, *sought, text) == *there, "{text}");
-        }
+        expect_sought(&rt, &tag.matcher(&rt, Html), rows);
     }
     Ok(())
 }

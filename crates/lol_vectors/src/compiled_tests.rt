@@ -4,9 +4,10 @@ use crate::attributes::Attributes;
 use crate::nodes::none_of;
 use crate::programs::instruction;
 use crate::tag_words::TagWord;
+use NameValue::{False, Open, True};
 use lol_program::{
     AttributeExprTest, Compilable, CompiledAttributeExpr, CompiledLocalNameExpr, CompiledPredicate,
-    CompiledTest, LocalNameExprTest,
+    CompiledTest, Instruction, LocalNameExprTest,
 };
 use lol_vm::{
     AttrSelectorOperator, AttributeComparisonExpr, AttributeMatcher, ChildCounter, LocalName,
@@ -101,14 +102,24 @@ fn is_passed_by(
     passes(alloc, test, attributes)
 }
 
+/// Expects attributes to pass each of `TESTS` or not, as it says.
+fn expect_answers(
+    rt: &impl Abort,
+    alloc: Global,
+    attributes: &AttributeMatcher<'_>,
+) -> Result<(), AllocError> {
+    for (name, compared, answer) in &TESTS {
+        let passed = is_passed_by(alloc, name, *compared, attributes)?;
+        assert!(rt; passed == *answer, "{name}");
+    }
+    Ok(())
+}
+
 #[test]
 fn of_attributes(rt: HostRuntime) -> Result<(), Fail> {
     let attributes = Attributes::new(rt.alloc(), &[("foo", Some("bar"))])?;
     let attributes = attributes.matcher(&rt, Namespace::Html);
-    for (name, compared, answer) in TESTS {
-        let passed = is_passed_by(rt.alloc(), name, compared, &attributes)?;
-        assert!(rt; passed == answer, "{name}");
-    }
+    expect_answers(&rt, rt.alloc(), &attributes)?;
     Ok(())
 }
 
@@ -142,12 +153,22 @@ fn compiled_predicates(alloc: Global) -> Result<usize, AllocError> {
     }
 }
 
+/// Whether a test is of its type, whether it is negated, and whether the flag is set.
+const FLAGS: [(bool, bool, bool); 4] = [
+    (false, false, false),
+    (false, true, false),
+    (true, false, true),
+    (true, true, true),
+];
+
 #[test]
 fn flag_of_tests_by_type(rt: HostRuntime) -> Result<(), Fail> {
     let alloc = rt.alloc();
-    assert!(rt; !sets_flag(alloc, false, false)? && !sets_flag(alloc, false, true)?);
-    assert!(rt; sets_flag(alloc, true, false)? && sets_flag(alloc, true, true)?);
-    assert!(rt; keeps_flag(alloc)? && compiled_predicates(alloc)? == 1);
+    for (of_type, negated, flag) in &FLAGS {
+        assert!(rt; sets_flag(alloc, *of_type, *negated)? == *flag);
+    }
+    assert!(rt; keeps_flag(alloc)?);
+    assert!(rt; compiled_predicates(alloc)? == 1);
     Ok(())
 }
 
@@ -264,18 +285,39 @@ fn of_first_child(
     )
 }
 
+/// Whether these are the values of a first child `p` without attributes.
+fn has_values(
+    rt: &impl Abort,
+    alloc: Global,
+    predicate: &CompiledPredicate,
+    wanted: (NameValue, NameValue, bool),
+) -> Result<bool, AllocError> {
+    let attributes = Attributes::new(alloc, &[])?;
+    let matcher = attributes.matcher(rt, Namespace::Html);
+    Ok(of_first_child(predicate, &matcher) == wanted)
+}
+
+/// Whether a test of the first child of its type is one test, with its values.
+fn is_by_type(rt: &impl Abort, alloc: Global) -> Result<bool, AllocError> {
+    let by_type = first_of_type(alloc)?;
+    let valued = has_values(rt, alloc, &by_type, (True, False, false))?;
+    Ok(by_type.tests().len() == 1 && valued)
+}
+
+fn is_never(rt: &impl Abort, alloc: Global) -> Result<bool, AllocError> {
+    has_values(rt, alloc, &never(alloc)?, (False, Open, false))
+}
+
+fn is_always(rt: &impl Abort, alloc: Global) -> Result<bool, AllocError> {
+    let empty = CompiledPredicate::new(Vec::new(alloc));
+    has_values(rt, alloc, &empty, (True, True, true))
+}
+
 #[test]
 fn tests_by_hand(rt: HostRuntime) -> Result<(), Fail> {
-    use NameValue::{False, Open, True};
-
-    let attributes = Attributes::new(rt.alloc(), &[])?;
-    let matcher = attributes.matcher(&rt, Namespace::Html);
-    let by_type = first_of_type(rt.alloc())?;
-    assert!(rt; by_type.tests().len() == 1);
-    assert!(rt; of_first_child(&by_type, &matcher) == (True, False, false));
-    assert!(rt; of_first_child(&never(rt.alloc())?, &matcher) == (False, Open, false));
-    let empty = CompiledPredicate::new(Vec::new(rt.alloc()));
-    assert!(rt; of_first_child(&empty, &matcher) == (True, True, true));
+    assert!(rt; is_by_type(&rt, rt.alloc())?);
+    assert!(rt; is_never(&rt, rt.alloc())?);
+    assert!(rt; is_always(&rt, rt.alloc())?);
     Ok(())
 }
 
@@ -295,23 +337,37 @@ const ATTRIBUTE_ROWS: [(&str, &[(&str, Option<&str>)], bool); 12] = [
     (":not(#a, .c)", &[("class", Some("b c"))], false),
 ];
 
-#[test]
-fn tests_of_attributes(rt: HostRuntime) -> Result<(), Fail> {
-    let alloc = rt.alloc();
+/// Whether a first child `p` passes an instruction's predicate, and whether the instruction gives it a branch.
+fn answers(instruction: &Instruction, attributes: &AttributeMatcher<'_>) -> (bool, bool) {
     let counter = ChildCounter::new_and_inc();
     let state = SelectorState {
         cumulative: &counter,
         typed: None,
     };
     let name = LocalName::new(b"p");
-    for (text, written, passes) in ATTRIBUTE_ROWS {
-        let instruction = instruction(&rt, alloc, text)?;
-        let attributes = Attributes::new(alloc, written)?;
-        let matcher = attributes.matcher(&rt, Namespace::Html);
-        assert!(rt; instruction.predicate.eval(&state, &name, &matcher) == passes);
-        let mut tries = Tries::new();
-        let branch = instruction.exec(&state, &name, &matcher, &mut tries);
-        assert!(rt; branch.is_some() == passes);
+    let passes = instruction.predicate.eval(&state, &name, attributes);
+    let mut tries = Tries::new();
+    let branch = instruction.exec(&state, &name, attributes, &mut tries);
+    (passes, branch.is_some())
+}
+
+fn answers_to(
+    rt: &impl Abort,
+    alloc: Global,
+    text: &str,
+    written: &[(&str, Option<&str>)],
+) -> Result<(bool, bool), Fail> {
+    let instruction = instruction(rt, alloc, text)?;
+    let attributes = Attributes::new(alloc, written)?;
+    let matcher = attributes.matcher(rt, Namespace::Html);
+    Ok(answers(&instruction, &matcher))
+}
+
+#[test]
+fn tests_of_attributes(rt: HostRuntime) -> Result<(), Fail> {
+    for (text, written, passes) in &ATTRIBUTE_ROWS {
+        let answers = answers_to(&rt, rt.alloc(), text, written)?;
+        assert!(rt; answers == (*passes, *passes), "{text}");
     }
     Ok(())
 }

@@ -8,35 +8,53 @@ use std::alloc::{AllocError, Global};
 use std::process::Abort;
 use std::test::Fail;
 
-fn expect_tries(rt: &impl Abort, tries: &Tries, names: u64, attributes: u64) {
-    assert!(rt; tries.names() == names);
-    assert!(rt; tries.attributes() == attributes);
+/// What an instruction answers without attributes.
+#[derive(Clone, Copy, PartialEq, Eq)]
+enum Tried {
+    Fails,
+    Asks,
+    /// Its branch.
+    Passes,
+    AnotherBranch,
 }
 
-#[test]
-fn tries_without_attributes(rt: HostRuntime) -> Result<(), Fail> {
-    let div_a = instruction(&rt, rt.alloc(), "div.a")?;
+/// Tries an instruction at a first child without attributes: what it answers, and what is tried.
+fn try_without(instruction: &Instruction, name: &[u8]) -> (Tried, (u64, u64)) {
     let counter = ChildCounter::new_and_inc();
     let state = SelectorState {
         cumulative: &counter,
         typed: None,
     };
     let mut tries = Tries::new();
-    let answer = div_a.try_exec_without_attrs(&state, &LocalName::new(b"p"), &mut tries);
-    assert!(rt; matches!(answer, TryExecResult::Fail));
-    expect_tries(&rt, &tries, 1, 0);
-    let mut tries = Tries::new();
-    let answer = div_a.try_exec_without_attrs(&state, &LocalName::new(b"div"), &mut tries);
-    assert!(rt; matches!(answer, TryExecResult::AttributesRequired));
-    expect_tries(&rt, &tries, 1, 0);
-    let div = instruction(&rt, rt.alloc(), "div")?;
-    let mut tries = Tries::new();
-    let answer = div.try_exec_without_attrs(&state, &LocalName::new(b"DIV"), &mut tries);
-    let TryExecResult::Branch(branch) = answer else {
-        panic!(rt; "another answer");
+    let name = LocalName::new(name);
+    let tried = match instruction.try_exec_without_attrs(&state, &name, &mut tries) {
+        TryExecResult::Fail => Tried::Fails,
+        TryExecResult::AttributesRequired => Tried::Asks,
+        TryExecResult::Branch(branch) => {
+            if *branch == instruction.associated_branch {
+                Tried::Passes
+            } else {
+                Tried::AnotherBranch
+            }
+        }
     };
-    assert!(rt; *branch == div.associated_branch);
-    expect_tries(&rt, &tries, 1, 0);
+    (tried, (tries.names(), tries.attributes()))
+}
+
+/// Selectors, and what they answer to names.
+const WITHOUT_ATTRIBUTES: [(&str, &str, Tried); 3] = [
+    ("div.a", "p", Tried::Fails),
+    ("div.a", "div", Tried::Asks),
+    ("div", "DIV", Tried::Passes),
+];
+
+#[test]
+fn tries_without_attributes(rt: HostRuntime) -> Result<(), Fail> {
+    for (text, name, tried) in &WITHOUT_ATTRIBUTES {
+        let instruction = instruction(&rt, rt.alloc(), text)?;
+        let answered = try_without(&instruction, name.as_bytes());
+        assert!(rt; answered == (*tried, (1, 0)), "{text} at {name}");
+    }
     Ok(())
 }
 
@@ -75,15 +93,18 @@ fn expect_exec(
     Ok(())
 }
 
+/// Tags, and what `div.a` answers to them.
+const WITH_ATTRIBUTES: [(&str, (bool, (u64, u64))); 3] = [
+    ("p@class=a", (false, (1, 0))),
+    ("div@class=b", (false, (1, 1))),
+    ("div@class=a", (true, (1, 1))),
+];
+
 #[test]
 fn tries_with_attributes(rt: HostRuntime) -> Result<(), Fail> {
     let div_a = instruction(&rt, rt.alloc(), "div.a")?;
-    for (tag, wanted) in [
-        ("p@class=a", (false, (1, 0))),
-        ("div@class=b", (false, (1, 1))),
-        ("div@class=a", (true, (1, 1))),
-    ] {
-        expect_exec(&rt, rt.alloc(), &div_a, tag, wanted)?;
+    for (tag, wanted) in &WITH_ATTRIBUTES {
+        expect_exec(&rt, rt.alloc(), &div_a, tag, *wanted)?;
     }
     Ok(())
 }
@@ -95,6 +116,25 @@ fn passes_where_nothing_is_tested(rt: HostRuntime) -> Result<(), Fail> {
     Ok(())
 }
 
+/// Completes an instruction at a tag with its attributes: whether its branch is given, and what is tried.
+fn complete(
+    instruction: &Instruction,
+    name: &LocalName<'_>,
+    attributes: &AttributeMatcher<'_>,
+) -> (bool, (u64, u64)) {
+    let counter = ChildCounter::new_and_inc();
+    let state = SelectorState {
+        cumulative: &counter,
+        typed: None,
+    };
+    let mut tries = Tries::new();
+    let passed = match instruction.complete_exec_with_attrs(&state, name, attributes, &mut tries) {
+        Some(branch) => *branch == instruction.associated_branch,
+        None => false,
+    };
+    (passed, (tries.names(), tries.attributes()))
+}
+
 /// Completes an instruction at a tag with its attributes, and expects its branch and one try.
 fn expect_completion(
     rt: &impl Abort,
@@ -104,19 +144,8 @@ fn expect_completion(
 ) -> Result<(), AllocError> {
     let attributes = tag.attributes(alloc)?;
     let matcher = attributes.matcher(rt, Namespace::Html);
-    let counter = ChildCounter::new_and_inc();
-    let state = SelectorState {
-        cumulative: &counter,
-        typed: None,
-    };
-    let mut tries = Tries::new();
     let name = LocalName::new(tag.name.as_bytes());
-    let passed = match instruction.complete_exec_with_attrs(&state, &name, &matcher, &mut tries) {
-        Some(branch) => *branch == instruction.associated_branch,
-        None => false,
-    };
-    assert!(rt; passed);
-    expect_tries(rt, &tries, 0, 1);
+    assert!(rt; complete(instruction, &name, &matcher) == (true, (0, 1)));
     Ok(())
 }
 

@@ -106,39 +106,51 @@ fn is_row(branch: &ExecutionBranch, row: &Row) -> bool {
             == *hereditary_jumps
 }
 
+/// Whether a program has this entry range and these instructions, and doesn't test by type.
+fn has_layout(program: &Program, entry_end: usize, rows: &[Row]) -> bool {
+    let mut branches = program.instructions.iter().zip(rows);
+    program.entry_points == (0..entry_end)
+        && program.instructions.len() == rows.len()
+        && !program.enable_nth_of_type
+        && branches.all(|(instruction, row)| is_row(&instruction.associated_branch, row))
+}
+
 #[test]
 fn layouts(rt: HostRuntime) -> Result<(), Fail> {
-    for (texts, entry_end, rows) in LAYOUTS {
+    for (place, (texts, entry_end, rows)) in LAYOUTS.iter().enumerate() {
         let program = program(rt.alloc(), texts)?;
-        assert!(rt; program.entry_points == (0..entry_end));
-        assert!(rt; program.instructions.len() == rows.len());
-        assert!(rt; !program.enable_nth_of_type);
-        for (instruction, row) in program.instructions.iter().zip(rows) {
-            assert!(rt; is_row(&instruction.associated_branch, row));
-        }
+        assert!(rt; has_layout(&program, *entry_end, rows), "row {place}");
     }
     Ok(())
+}
+
+fn is_single_node(rt: &impl Abort, alloc: Global, text: &str) -> Result<bool, Fail> {
+    let node = instruction(rt, alloc, text)?;
+    Ok(is_row(&node.associated_branch, &(&[0], None, None)))
 }
 
 #[test]
 fn single_nodes(rt: HostRuntime) -> Result<(), Fail> {
-    for text in SINGLE_NODES {
-        let node = instruction(&rt, rt.alloc(), text)?;
-        assert!(rt; is_row(&node.associated_branch, &(&[0], None, None)));
+    for text in &SINGLE_NODES {
+        assert!(rt; is_single_node(&rt, rt.alloc(), text)?, "{text}");
     }
     Ok(())
 }
 
+/// Selectors, and whether they test by type.
+const BY_TYPE: [(&str, bool); 5] = [
+    ("p:nth-of-type(2n)", true),
+    (":not(:is(a, p:nth-of-type(1)))", true),
+    ("div > a p:first-of-type", true),
+    ("p:nth-child(2n)", false),
+    (":not(:is(a, p))", false),
+];
+
 #[test]
 fn tests_by_type_at_any_depth(rt: HostRuntime) -> Result<(), Fail> {
-    for (text, by_type) in [
-        ("p:nth-of-type(2n)", true),
-        (":not(:is(a, p:nth-of-type(1)))", true),
-        ("div > a p:first-of-type", true),
-        ("p:nth-child(2n)", false),
-        (":not(:is(a, p))", false),
-    ] {
-        assert!(rt; program(rt.alloc(), &[(text, 0)])?.enable_nth_of_type == by_type);
+    for (text, by_type) in &BY_TYPE {
+        let enabled = program(rt.alloc(), &[(text, 0)])?.enable_nth_of_type;
+        assert!(rt; enabled == *by_type, "{text}");
     }
     Ok(())
 }
