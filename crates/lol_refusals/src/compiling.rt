@@ -3,7 +3,7 @@
 ghost use Rattle.std.specs.Prelude.{◌≡◌};
 
 use crate::element::{Element, ITEM_BYTES, release};
-use crate::outcome::{Met, Stop, TURNS, expect};
+use crate::outcome::{Met, Stop, TURNS, exactly};
 use crate::trees::two;
 use lol_program::{Compiler, Program};
 use lol_vm::{SelectorMatchingVm, SharedMemoryLimiter};
@@ -22,28 +22,43 @@ fn is_of_div_p(program: &Program) -> bool {
         && descendant.associated_branch.matched_ids.iter().eq([0])
 }
 
-pub fn compile(alloc: Global) -> Result<Met, Stop> {
+pub(crate) fn compile(alloc: Global) -> Result<Met, Stop> {
     for met in TURNS {
-        let ast = two(alloc, "div p", "div > p")?;
-        if let Ok(program) = Compiler::new(alloc).compile(ast) {
-            expect(is_of_div_p(&program))?;
+        if compiled(alloc)? {
             return Ok(met);
         }
     }
     Err(Stop::Wrong)
 }
 
-/// A machine that was made has charged nothing, and opened nothing.
-pub fn new_machine(alloc: Global) -> Result<Met, Stop> {
-    let mut limiter = SharedMemoryLimiter::new(1_000_000);
+/// Compiles two selectors: whether there was memory.
+fn compiled(alloc: Global) -> Result<bool, Stop> {
+    let ast = two(alloc, "div p", "div > p")?;
+    match Compiler::new(alloc).compile(ast) {
+        Ok(program) => exactly(is_of_div_p(&program)),
+        Err(_) => Ok(false),
+    }
+}
+
+pub(crate) fn new_machine(alloc: Global) -> Result<Met, Stop> {
     for met in TURNS {
-        let ast = two(alloc, "div p", "div > p:nth-of-type(2)")?;
-        if let Ok(vm) = SelectorMatchingVm::<Element>::new(alloc, ast, ITEM_BYTES, false) {
-            let slots = vm.charged_slots();
-            let released = release(vm, &mut limiter, 0);
-            expect(released && slots == 0)?;
+        if made(alloc)? {
             return Ok(met);
         }
     }
     Err(Stop::Wrong)
+}
+
+/// Makes a machine: whether there was memory. A machine that was made has charged nothing, and opened nothing.
+fn made(alloc: Global) -> Result<bool, Stop> {
+    let mut limiter = SharedMemoryLimiter::new(1_000_000);
+    let ast = two(alloc, "div p", "div > p:nth-of-type(2)")?;
+    match SelectorMatchingVm::<Element>::new(alloc, ast, ITEM_BYTES, false) {
+        Ok(vm) => {
+            let slots = vm.charged_slots();
+            let released = release(vm, &mut limiter, 0);
+            exactly(released && slots == 0)
+        }
+        Err(_) => Ok(false),
+    }
 }

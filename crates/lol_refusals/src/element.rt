@@ -10,12 +10,12 @@ use lol_vm::{
 use std::alloc::Global;
 
 /// How many bytes an open element is charged for: with 1, a list has 128 slots at first.
-pub const ITEM_BYTES: usize = 1;
+pub(crate) const ITEM_BYTES: usize = 1;
 
 /// The ids of an open element.
 #[derive(Drop)]
-pub struct Element {
-    pub ids: DenseHashSet,
+pub(crate) struct Element {
+    pub(crate) ids: DenseHashSet,
 }
 
 impl ElementData for Element {
@@ -40,15 +40,15 @@ impl ElementData for Element {
 
 /// The first ids that a handler was called with, and how many calls there were.
 #[derive(Drop)]
-pub struct Calls {
+pub(crate) struct Calls {
     ids: [u32; 8],
     kept: usize,
-    pub count: u32,
-    pub with_content: bool,
+    pub(crate) count: u32,
+    pub(crate) with_content: bool,
 }
 
 impl Calls {
-    pub fn none() -> Self {
+    pub(crate) fn none() -> Self {
         Calls {
             ids: [0; 8],
             kept: 0,
@@ -64,26 +64,26 @@ impl Calls {
         }
     }
 
-    pub fn keep_info(&mut self, info: MatchInfo) {
+    pub(crate) fn keep_info(&mut self, info: MatchInfo) {
         self.keep(info.match_id);
         self.with_content = info.with_content;
         self.count = self.count.saturating_add(1);
     }
 
-    pub fn keep_element(&mut self, element: Element) {
+    pub(crate) fn keep_element(&mut self, element: Element) {
         for id in element.ids.iter() {
             self.keep(id);
         }
         self.count = self.count.saturating_add(1);
     }
 
-    pub fn ids(&self) -> &[u32] {
+    pub(crate) fn ids(&self) -> &[u32] {
         &self.ids[..self.kept.min(8)]
     }
 }
 
 /// Releases a machine: whether the limiter's usage is then so much.
-pub fn release(
+pub(crate) fn release(
     vm: SelectorMatchingVm<Element>,
     limiter: &mut SharedMemoryLimiter,
     usage: usize,
@@ -104,7 +104,7 @@ pub fn release(
 }
 
 /// Releases a stack: whether the limiter's usage is then 0.
-pub fn release_stack(stack: Stack<Element>, limiter: &mut SharedMemoryLimiter) -> bool
+pub(crate) fn release_stack(stack: Stack<Element>, limiter: &mut SharedMemoryLimiter) -> bool
     requires { item_bytes_in stack ≡ 1 }
 {
     let slots = stack.charged_slots();

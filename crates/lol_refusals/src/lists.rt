@@ -7,80 +7,109 @@ use crate::outcome::{Met, Stop, TURNS, expect};
 use lol_vm::{DenseHashSet, LimitedVec, SharedMemoryLimiter};
 use std::alloc::{AllocError, Global};
 
-fn set_of(alloc: Global, ids: &[u32]) -> Result<DenseHashSet, AllocError> {
+pub(crate) fn set_of(alloc: Global, ids: &[u32]) -> Result<DenseHashSet, AllocError> {
     let mut set = DenseHashSet::new(alloc);
-    for id in ids {
-        set.insert(*id)?;
-    }
+    insert_all(&mut set, ids)?;
     Ok(set)
 }
 
+fn insert_all(set: &mut DenseHashSet, ids: &[u32]) -> Result<(), AllocError> {
+    for id in ids {
+        set.insert(*id)?;
+    }
+    Ok(())
+}
+
 /// Whether a set has exactly these ids.
-pub fn has(set: &DenseHashSet, ids: &[u32]) -> bool {
+pub(crate) fn has(set: &DenseHashSet, ids: &[u32]) -> bool {
     set.iter().eq(ids.iter().copied())
 }
 
-pub fn insert(alloc: Global) -> Result<Met, Stop> {
+pub(crate) fn insert(alloc: Global) -> Result<Met, Stop> {
     let mut set = set_of(alloc, &[33, 70])?;
+    insert_in_turn(&mut set)
+}
+
+fn insert_in_turn(set: &mut DenseHashSet) -> Result<Met, Stop> {
     for met in TURNS {
         if set.insert(1000).is_ok() {
-            expect(has(&set, &[33, 70, 1000]))?;
+            expect(has(set, &[33, 70, 1000]))?;
             return Ok(met);
         }
-        expect(has(&set, &[33, 70]))?;
+        expect(has(set, &[33, 70]))?;
     }
     Err(Stop::Wrong)
 }
 
-pub fn union(alloc: Global) -> Result<Met, Stop> {
+pub(crate) fn union(alloc: Global) -> Result<Met, Stop> {
     let mut set = set_of(alloc, &[33, 70])?;
     let other = set_of(alloc, &[1, 70, 1000])?;
+    unite_in_turn(&mut set, &other)
+}
+
+fn unite_in_turn(set: &mut DenseHashSet, other: &DenseHashSet) -> Result<Met, Stop> {
     for met in TURNS {
-        if set.union(&other).is_ok() {
-            expect(has(&set, &[1, 33, 70, 1000]))?;
+        if set.union(other).is_ok() {
+            expect(has(set, &[1, 33, 70, 1000]))?;
             return Ok(met);
         }
-        expect(has(&set, &[33, 70]) && has(&other, &[1, 70, 1000]))?;
+        expect(has(set, &[33, 70]) && has(other, &[1, 70, 1000]))?;
     }
     Err(Stop::Wrong)
 }
 
-pub fn set_try_clone(alloc: Global) -> Result<Met, Stop> {
+pub(crate) fn set_try_clone(alloc: Global) -> Result<Met, Stop> {
     let set = set_of(alloc, &[33, 70])?;
+    clone_in_turn(&set)
+}
+
+fn clone_in_turn(set: &DenseHashSet) -> Result<Met, Stop> {
     for met in TURNS {
-        if let Ok(copy) = set.try_clone() {
-            expect(copy == set && has(&copy, &[33, 70]))?;
+        if let Ok(is_equal) = equals_its_copy(set) {
+            expect(is_equal)?;
             return Ok(met);
         }
-        expect(has(&set, &[33, 70]))?;
+        expect(has(set, &[33, 70]))?;
     }
     Err(Stop::Wrong)
+}
+
+/// Whether the copy of a set equals it, and has its ids.
+fn equals_its_copy(set: &DenseHashSet) -> Result<bool, AllocError> {
+    let copy = set.try_clone()?;
+    Ok(copy == *set && has(&copy, &[33, 70]))
 }
 
 /// Ids below 32 ask for no memory: a refusal is wrong here.
-pub fn small_sets(alloc: Global) -> Result<Met, Stop> {
-    let (Ok(mut set), Ok(other)) = (set_of(alloc, &[0, 31]), set_of(alloc, &[7, 31])) else {
-        return Err(Stop::Wrong);
-    };
-    expect(set.union(&other).is_ok() && has(&set, &[0, 7, 31]))?;
-    let Ok(copy) = set.try_clone() else {
-        return Err(Stop::Wrong);
-    };
-    expect(copy == set)?;
-    Ok(Met::Nothing)
+pub(crate) fn small_sets(alloc: Global) -> Result<Met, Stop> {
+    match small_sets_are_right(alloc) {
+        Ok(true) => Ok(Met::Nothing),
+        _ => Err(Stop::Wrong),
+    }
+}
+
+fn small_sets_are_right(alloc: Global) -> Result<bool, AllocError> {
+    let mut set = set_of(alloc, &[0, 31])?;
+    unite(alloc, &mut set, &[7, 31])?;
+    let copy = set.try_clone()?;
+    Ok(has(&set, &[0, 7, 31]) && copy == set)
+}
+
+fn unite(alloc: Global, set: &mut DenseHashSet, ids: &[u32]) -> Result<(), AllocError> {
+    let other = set_of(alloc, ids)?;
+    set.union(&other)
 }
 
 /// 300 elements: 128 slots, then 256, then 512.
-pub fn push(alloc: Global) -> Result<Met, Stop> {
+pub(crate) fn push(alloc: Global) -> Result<Met, Stop> {
     let mut limiter = SharedMemoryLimiter::new(1_000_000);
     let mut list = LimitedVec::new(alloc, ITEM_BYTES);
     let met = fill(&mut list, &mut limiter);
     let (len, slots, usage) = (list.len(), list.slots(), limiter.current_usage());
     let released = release(list, &mut limiter);
     expect(released)?;
-    let met = met?;
-    expect(len == 300 && slots == 512 && usage == 512)?;
-    Ok(met)
+    expect(met.is_err() || (len == 300 && slots == 512 && usage == 512))?;
+    met
 }
 
 fn fill(list: &mut LimitedVec<usize>, limiter: &mut SharedMemoryLimiter) -> Result<Met, Stop>

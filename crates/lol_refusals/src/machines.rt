@@ -8,7 +8,7 @@ use crate::element::{Calls, Element, ITEM_BYTES, release};
 use crate::outcome::{Met, Stop, expect};
 use crate::trees::{attribute, two};
 use lol_vm::{
-    AttributeBuffer, AuxStartTagInfo, Bytes, LocalName, MatchInfo, Namespace, PushError,
+    Ast, AttributeBuffer, AuxStartTagInfo, Bytes, LocalName, MatchInfo, Namespace, PushError,
     SelectorMatchingVm, SharedMemoryLimiter, VmError,
 };
 use std::alloc::Global;
@@ -23,6 +23,17 @@ enum Said {
     OutOfMemory,
     Failed,
     Else,
+}
+
+impl Said {
+    /// Whether there was memory for a start tag that has to ask.
+    fn had_memory(self) -> Result<bool, Stop> {
+        match self {
+            Said::Asked => Ok(true),
+            Said::OutOfMemory => Ok(false),
+            _ => Err(Stop::Wrong),
+        }
+    }
 }
 
 /// The rest of a tag of HTML with the attribute `class=a`, or none.
@@ -82,15 +93,34 @@ fn end(vm: &mut Machine, name: &[u8]) -> Calls
     calls
 }
 
+/// Tells a machine of an end tag: whether it hands out so many elements, with these ids.
+fn closes(vm: &mut Machine, name: &[u8], count: u32, ids: &[u32]) -> bool
+    ensures { slot_bytes vm.new ≡ slot_bytes vm.old }
+{
+    let closed = end(vm, name);
+    closed.count == count && closed.ids() == ids
+}
+
 /// The selectors `.a p` under 0 and `p` under 1; the start tags `div` with `class=a` and `p`, each finished where it asks.
-pub fn start_tags(alloc: Global) -> Result<Met, Stop> {
+pub(crate) fn start_tags(alloc: Global) -> Result<Met, Stop> {
     let class = attribute(alloc, b"class=a", 5)?;
-    let rests = (rest(&class)?, AttributeBuffer::new(alloc));
+    let none = AttributeBuffer::new(alloc);
     let ast = two(alloc, ".a p", "p")?;
+    tell_new(alloc, ast, &class, &none)
+}
+
+/// Tells a new machine of the two start tags, over a limiter with some usage.
+fn tell_new(
+    alloc: Global,
+    ast: Ast,
+    class: &AttributeBuffer,
+    none: &AttributeBuffer,
+) -> Result<Met, Stop> {
+    let class = rest(class)?;
     let mut limiter = SharedMemoryLimiter::new(1_000_000);
     expect(limiter.increase_usage(100).is_ok())?;
     let mut vm = Machine::new(alloc, ast, ITEM_BYTES, false)?;
-    let met = tell_both(&mut vm, &mut limiter, rests.0, &rests.1);
+    let met = tell_both(&mut vm, &mut limiter, class, none);
     let released = release(vm, &mut limiter, 100);
     expect(released)?;
     met
@@ -106,22 +136,52 @@ fn tell_both(
     ensures { slot_bytes vm.new ≡ slot_bytes vm.old }
 {
     let none = rest(none)?;
-    let mut calls = Calls::none();
-    let said = start(vm, limiter, b"div", class, &mut calls);
-    expect(calls.count == 0)?;
-    if said == Said::OutOfMemory {
+    if !tell_div(vm, limiter, class)? {
         return stuck(vm, limiter, none, 0, 100);
     }
-    expect(said == Said::Asked && limiter.current_usage() == 228)?;
-    let said = start(vm, limiter, b"p", none, &mut calls);
-    if said == Said::OutOfMemory {
-        expect(calls.count == 0 || calls.ids() == [0, 1].as_slice())?;
+    expect(limiter.current_usage() == 228)?;
+    if !tell_p(vm, limiter, none)? {
         return stuck(vm, limiter, none, 1, 228);
     }
-    expect(said == Said::Asked && calls.ids() == [0, 1].as_slice())?;
-    let closed = end(vm, b"div");
-    expect(closed.count == 2 && closed.ids() == [0, 1].as_slice())?;
+    expect(closes(vm, b"div", 2, &[0, 1]))?;
     Ok(Met::Nothing)
+}
+
+/// Tells a machine of `div`, which nothing is reported of: whether there was memory.
+fn tell_div(
+    vm: &mut Machine,
+    limiter: &mut SharedMemoryLimiter,
+    class: AuxStartTagInfo<'_>,
+) -> Result<bool, Stop>
+    requires { RangesAreInside class }
+    ensures { slot_bytes vm.new ≡ slot_bytes vm.old }
+{
+    let mut calls = Calls::none();
+    let said = start(vm, limiter, b"div", class, &mut calls);
+    if calls.count == 0 {
+        said.had_memory()
+    } else {
+        Err(Stop::Wrong)
+    }
+}
+
+/// Tells a machine of `p`, which both ids are reported of: whether there was memory. If there was none, both are reported or neither.
+fn tell_p(
+    vm: &mut Machine,
+    limiter: &mut SharedMemoryLimiter,
+    none: AuxStartTagInfo<'_>,
+) -> Result<bool, Stop>
+    requires { RangesAreInside none }
+    ensures { slot_bytes vm.new ≡ slot_bytes vm.old }
+{
+    let mut calls = Calls::none();
+    let said = start(vm, limiter, b"p", none, &mut calls);
+    let is_neither = said == Said::OutOfMemory && calls.count == 0;
+    if is_neither || calls.ids() == [0, 1].as_slice() {
+        said.had_memory()
+    } else {
+        Err(Stop::Wrong)
+    }
 }
 
 /// What stands after a refusal: so many elements are open, the usage is as before, later start tags are answered `Failed`, and end tags
@@ -137,39 +197,62 @@ fn stuck(
     ensures { slot_bytes vm.new ≡ slot_bytes vm.old }
 {
     expect(limiter.current_usage() == usage)?;
-    let mut calls = Calls::none();
-    expect(start(vm, limiter, b"p", none, &mut calls) == Said::Failed)?;
-    expect(start(vm, limiter, b"br", none, &mut calls) == Said::Failed)?;
-    expect(calls.count == 0 && limiter.current_usage() == usage)?;
+    expect(fails(vm, limiter, b"p", none) && fails(vm, limiter, b"br", none))?;
+    expect(limiter.current_usage() == usage)?;
     expect(vm.current_element_data_mut().is_some() == (open_elements > 0))?;
-    expect(end(vm, b"p").count == 0)?;
-    let closed = end(vm, b"div");
-    expect(closed.count == open_elements && closed.ids().is_empty())?;
-    expect(end(vm, b"div").count == 0)?;
+    expect(closes(vm, b"p", 0, &[]) && closes(vm, b"div", open_elements, &[]))?;
+    expect(closes(vm, b"div", 0, &[]))?;
     Ok(Met::Refusal)
 }
 
+/// Whether a start tag is answered `Failed`, and nothing is reported of it.
+fn fails(
+    vm: &mut Machine,
+    limiter: &mut SharedMemoryLimiter,
+    name: &[u8],
+    none: AuxStartTagInfo<'_>,
+) -> bool
+    requires { RangesAreInside none }
+    ensures { slot_bytes vm.new ≡ slot_bytes vm.old }
+{
+    let mut calls = Calls::none();
+    let said = start(vm, limiter, name, none, &mut calls);
+    said == Said::Failed && calls.count == 0
+}
+
+/// Two selectors, the first of which a `br` meets, and what a machine of them says of it.
+const VOID: [(&str, &str, Said); 2] = [
+    ("br:first-child", "p:nth-child(2)", Said::Unasked),
+    (".a", "div > .a", Said::Asked),
+];
+
 /// A start tag `br` asks for no memory at all, nor does its finishing: a refusal is wrong here once the machine is made.
-pub fn void_tags(alloc: Global) -> Result<Met, Stop> {
+pub(crate) fn void_tags(alloc: Global) -> Result<Met, Stop> {
     let class = attribute(alloc, b"class=a", 5)?;
-    let mut limiter = SharedMemoryLimiter::new(0);
-    for (first, second, said, ids) in [
-        (
-            "br:first-child",
-            "p:nth-child(2)",
-            Said::Unasked,
-            [0].as_slice(),
-        ),
-        (".a", "div > .a", Said::Asked, [0].as_slice()),
-    ] {
+    tell_void_tags(alloc, &class)
+}
+
+fn tell_void_tags(alloc: Global, class: &AttributeBuffer) -> Result<Met, Stop> {
+    for (first, second, said) in &VOID {
         let ast = two(alloc, first, second)?;
-        let mut vm = Machine::new(alloc, ast, ITEM_BYTES, false)?;
-        let met = tell_void(&mut vm, &mut limiter, &class, said, ids);
-        let released = release(vm, &mut limiter, 0);
-        expect(released)?;
-        met?;
+        tell_new_of_void(alloc, ast, class, *said)?;
     }
     Ok(Met::Nothing)
+}
+
+/// Tells a new machine of a `br`, over a limiter that allows nothing.
+fn tell_new_of_void(
+    alloc: Global,
+    ast: Ast,
+    class: &AttributeBuffer,
+    said: Said,
+) -> Result<(), Stop> {
+    let mut limiter = SharedMemoryLimiter::new(0);
+    let mut vm = Machine::new(alloc, ast, ITEM_BYTES, false)?;
+    let told = tell_void(&mut vm, &mut limiter, class, said);
+    let released = release(vm, &mut limiter, 0);
+    expect(released)?;
+    told
 }
 
 fn tell_void(
@@ -177,13 +260,25 @@ fn tell_void(
     limiter: &mut SharedMemoryLimiter,
     class: &AttributeBuffer,
     said: Said,
-    ids: &[u32],
 ) -> Result<(), Stop>
     ensures { slot_bytes vm.new ≡ slot_bytes vm.old }
 {
     let class = rest(class)?;
+    expect(answers_void(vm, limiter, class, said))?;
+    expect(closes(vm, b"br", 0, &[]))
+}
+
+/// Whether a machine says so of a `br`, and reports the first id of it, without content.
+fn answers_void(
+    vm: &mut Machine,
+    limiter: &mut SharedMemoryLimiter,
+    class: AuxStartTagInfo<'_>,
+    wanted: Said,
+) -> bool
+    requires { RangesAreInside class }
+    ensures { slot_bytes vm.new ≡ slot_bytes vm.old }
+{
     let mut calls = Calls::none();
-    expect(start(vm, limiter, b"br", class, &mut calls) == said)?;
-    expect(calls.ids() == ids && !calls.with_content)?;
-    expect(end(vm, b"br").count == 0)
+    let said = start(vm, limiter, b"br", class, &mut calls);
+    said == wanted && calls.ids() == [0].as_slice() && !calls.with_content
 }

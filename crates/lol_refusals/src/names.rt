@@ -2,7 +2,7 @@
 
 use crate::element::{Calls, Element};
 use crate::lists::has;
-use crate::outcome::{Met, Stop, TURNS, expect};
+use crate::outcome::{Met, Stop, TURNS, exactly, expect};
 use lol_vm::{
     ChildCounter, ExecutionCtx, LocalName, MatchInfo, Namespace, NthChild, StackDirective,
     StackItem, StackItemOf,
@@ -16,60 +16,84 @@ fn is_long(name: &LocalName<'_>) -> bool {
     name.code().is_none() && name.spelling().is_some_and(|spelling| spelling == LONG)
 }
 
-pub fn name_into_owned(alloc: Global) -> Result<Met, Stop> {
+pub(crate) fn name_into_owned(alloc: Global) -> Result<Met, Stop> {
     for met in TURNS {
-        if let Ok(name) = LocalName::new(LONG).into_owned(alloc) {
-            expect(is_long(&name) && name == LocalName::new(b"aBCDEFGHIJKLM"))?;
+        if let Ok(is_owned) = owns_long(alloc) {
+            expect(is_owned)?;
             return Ok(met);
         }
     }
     Err(Stop::Wrong)
 }
 
-pub fn name_try_clone(alloc: Global) -> Result<Met, Stop> {
+fn owns_long(alloc: Global) -> Result<bool, AllocError> {
+    let name = LocalName::new(LONG).into_owned(alloc)?;
+    Ok(is_long(&name) && name == LocalName::new(b"aBCDEFGHIJKLM"))
+}
+
+pub(crate) fn name_try_clone(alloc: Global) -> Result<Met, Stop> {
     let name = LocalName::new(LONG);
+    clone_in_turn(alloc, &name)
+}
+
+fn clone_in_turn(alloc: Global, name: &LocalName<'_>) -> Result<Met, Stop> {
     for met in TURNS {
-        if let Ok(copy) = name.try_clone(alloc) {
-            expect(is_long(&copy) && copy == name)?;
+        if let Ok(is_equal) = equals_its_copy(alloc, name) {
+            expect(is_equal)?;
             return Ok(met);
         }
-        expect(is_long(&name))?;
+        expect(is_long(name))?;
     }
     Err(Stop::Wrong)
+}
+
+/// Whether the copy of the long name equals it.
+fn equals_its_copy(alloc: Global, name: &LocalName<'_>) -> Result<bool, AllocError> {
+    let copy = name.try_clone(alloc)?;
+    Ok(is_long(&copy) && copy == *name)
 }
 
 /// A name of 12 letters asks for no memory: a refusal is wrong here.
-pub fn short_names(alloc: Global) -> Result<Met, Stop> {
+pub(crate) fn short_names(alloc: Global) -> Result<Met, Stop> {
     let name = LocalName::new(b"Abcdefghijkl");
-    let (Ok(copy), Ok(owned)) = (
-        name.try_clone(alloc),
-        LocalName::new(b"abcdefghijkL").into_owned(alloc),
-    ) else {
-        return Err(Stop::Wrong);
-    };
-    expect(copy == name && owned == name && owned.spelling().is_none())?;
-    Ok(Met::Nothing)
+    match (copies(alloc, &name), owns(alloc, &name)) {
+        (Ok(true), Ok(true)) => Ok(Met::Nothing),
+        _ => Err(Stop::Wrong),
+    }
+}
+
+fn copies(alloc: Global, name: &LocalName<'_>) -> Result<bool, AllocError> {
+    let copy = name.try_clone(alloc)?;
+    Ok(copy == *name)
+}
+
+fn owns(alloc: Global, name: &LocalName<'_>) -> Result<bool, AllocError> {
+    let owned = LocalName::new(b"abcdefghijkL").into_owned(alloc)?;
+    Ok(owned == *name && owned.spelling().is_none())
 }
 
 /// A name that owns its bytes asks for no memory to own them: a refusal is wrong here.
-pub fn owned_names(alloc: Global) -> Result<Met, Stop> {
+pub(crate) fn owned_names(alloc: Global) -> Result<Met, Stop> {
     let name = LocalName::from_vec(LONG.to_vec(alloc)?);
-    let Ok(owned) = name.into_owned(alloc) else {
-        return Err(Stop::Wrong);
-    };
-    expect(is_long(&owned))?;
-    Ok(Met::Nothing)
+    match name.into_owned(alloc) {
+        Ok(owned) if is_long(&owned) => Ok(Met::Nothing),
+        _ => Err(Stop::Wrong),
+    }
 }
 
 /// An item of that name, with an id, a range of each kind, a counter and a directive of its own.
 fn item(alloc: Global) -> Result<StackItem<'static, Element>, AllocError> {
     let mut item: StackItem<Element> = StackItemOf::new(alloc, LocalName::new(LONG));
-    item.element_data.ids.insert(7)?;
-    item.jumps.push(alloc, 2..4)?;
-    item.hereditary_jumps.push(alloc, 5..6)?;
+    fill(alloc, &mut item)?;
     item.child_counter = ChildCounter::at(9);
     item.stack_directive = StackDirective::PushIfNotSelfClosing;
     Ok(item)
+}
+
+fn fill(alloc: Global, item: &mut StackItem<'static, Element>) -> Result<(), AllocError> {
+    item.element_data.ids.insert(7)?;
+    item.jumps.push(alloc, 2..4)?;
+    item.hereditary_jumps.push(alloc, 5..6)
 }
 
 fn is_item(item: &StackItem<'_, Element>) -> bool {
@@ -81,14 +105,22 @@ fn is_item(item: &StackItem<'_, Element>) -> bool {
         && item.stack_directive == StackDirective::PushIfNotSelfClosing
 }
 
-pub fn item_into_owned(alloc: Global) -> Result<Met, Stop> {
+pub(crate) fn item_into_owned(alloc: Global) -> Result<Met, Stop> {
     for met in TURNS {
-        if let Ok(owned) = item(alloc)?.into_owned(alloc) {
-            expect(is_item(&owned))?;
+        if owns_item(alloc)? {
             return Ok(met);
         }
     }
     Err(Stop::Wrong)
+}
+
+/// Makes an item own its name: whether there was memory.
+fn owns_item(alloc: Global) -> Result<bool, Stop> {
+    let item = item(alloc)?;
+    match item.into_owned(alloc) {
+        Ok(owned) => exactly(is_item(&owned)),
+        Err(_) => Ok(false),
+    }
 }
 
 fn ids_are(ctx: &mut ExecutionCtx<'_, Element>, ids: &[u32]) -> bool {
@@ -118,13 +150,20 @@ fn context(alloc: Global) -> Result<ExecutionCtx<'static, Element>, AllocError> 
     })
 }
 
-pub fn context_into_owned(alloc: Global) -> Result<Met, Stop> {
+pub(crate) fn context_into_owned(alloc: Global) -> Result<Met, Stop> {
     for met in TURNS {
-        let ctx = context(alloc)?;
-        if let Ok(mut owned) = ctx.into_owned(alloc) {
-            expect(is_context(&mut owned))?;
+        if owns_context(alloc)? {
             return Ok(met);
         }
     }
     Err(Stop::Wrong)
+}
+
+/// Makes a context own its name: whether there was memory.
+fn owns_context(alloc: Global) -> Result<bool, Stop> {
+    let ctx = context(alloc)?;
+    match ctx.into_owned(alloc) {
+        Ok(mut owned) => exactly(is_context(&mut owned)),
+        Err(_) => Ok(false),
+    }
 }

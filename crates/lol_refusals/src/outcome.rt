@@ -4,7 +4,7 @@ use std::alloc::AllocError;
 
 /// What a scenario met whose answers were all as they have to be.
 #[derive(Debug, Clone, Copy, PartialEq, Eq)]
-pub enum Met {
+pub(crate) enum Met {
     /// No request was refused.
     Nothing,
 
@@ -13,11 +13,11 @@ pub enum Met {
 }
 
 /// What a call meets that is made again after a refusal.
-pub const TURNS: [Met; 2] = [Met::Nothing, Met::Refusal];
+pub(crate) const TURNS: [Met; 2] = [Met::Nothing, Met::Refusal];
 
 /// Why a scenario stops early.
 #[derive(Debug, Clone, Copy, PartialEq, Eq)]
-pub enum Stop {
+pub(crate) enum Stop {
     /// A request of the scenario's own was refused.
     Own,
 
@@ -32,6 +32,11 @@ impl From<AllocError> for Stop {
 }
 
 /// Stops where something doesn't hold.
-pub fn expect(holds: bool) -> Result<(), Stop> {
+pub(crate) fn expect(holds: bool) -> Result<(), Stop> {
     if holds { Ok(()) } else { Err(Stop::Wrong) }
+}
+
+/// That a call was answered, where its answer is exact.
+pub(crate) fn exactly(holds: bool) -> Result<bool, Stop> {
+    if holds { Ok(true) } else { Err(Stop::Wrong) }
 }

@@ -3,19 +3,19 @@
 ghost use Rattle.std.specs.Prelude.{◌≡◌, IfOk, All};
 ghost use Rattle.lol_vm.specs.Views.{HasRangesInside};
 
-use crate::outcome::{Met, Stop, TURNS, expect};
+use crate::outcome::{Met, Stop, TURNS, exactly, expect};
 use crate::trees::two;
 use lol_script::{Counted, RunFault, Status, run};
 use lol_vm::{
-    Ast, AttributeBuffer, AuxStartTagInfo, Bytes, Namespace, RunCause, SharedMemoryLimiter,
-    TagEvent, TagReport, match_events,
+    Ast, AttributeBuffer, AuxStartTagInfo, Bytes, Namespace, RunCause, RunRefusal,
+    SharedMemoryLimiter, TagEvent, TagReport, match_events,
 };
 use std::alloc::Global;
 use std::io;
 use std::io::Write;
 
 /// A start tag of HTML.
-pub fn start<'i>(
+pub(crate) fn start<'i>(
     name: &'i [u8],
     input: &'i [u8],
     attributes: &'i AttributeBuffer,
@@ -65,7 +65,7 @@ fn begin(reports: &[TagReport], wanted: &[(&[u32], bool)]) -> bool {
 }
 
 /// Answers tags, and stops where the reports aren't those that are wanted. A refusal is the scenario's own.
-pub fn matches_in_turn(
+pub(crate) fn matches_in_turn(
     alloc: Global,
     ast: Ast,
     events: &[TagEvent],
@@ -88,10 +88,20 @@ fn answered(
     let mut limiter = SharedMemoryLimiter::new(10_000);
     expect(limiter.increase_usage(100).is_ok())?;
     let answer = match_events(alloc, ast, 64, false, events, &mut limiter);
-    expect(limiter.current_usage() == 100)?;
+    if limiter.current_usage() == 100 {
+        met_by(&answer, wanted)
+    } else {
+        Err(Stop::Wrong)
+    }
+}
+
+fn met_by(
+    answer: &Result<Vec<TagReport>, RunRefusal>,
+    wanted: &[(&[u32], bool)],
+) -> Result<Met, Stop> {
     match answer {
         Ok(reports) => {
-            expect(begin(&reports, wanted) && reports.len() == wanted.len())?;
+            expect(begin(reports, wanted) && reports.len() == wanted.len())?;
             Ok(Met::Nothing)
         }
         Err(refusal) => {
@@ -121,7 +131,7 @@ fn answered_in_turn(
 }
 
 /// Three nested `div`, an end tag, and one more.
-pub fn nested(alloc: Global) -> Result<Met, Stop> {
+pub(crate) fn nested(alloc: Global) -> Result<Met, Stop> {
     let none = AttributeBuffer::new(alloc);
     let div = start(b"div", b"", &none)?;
     let events = [div, div, div, TagEvent::End { name: b"div" }, div];
@@ -136,7 +146,7 @@ pub fn nested(alloc: Global) -> Result<Met, Stop> {
 }
 
 /// Children counted by type, and elements whose names are no hashes.
-pub fn by_type(alloc: Global) -> Result<Met, Stop> {
+pub(crate) fn by_type(alloc: Global) -> Result<Met, Stop> {
     let none = AttributeBuffer::new(alloc);
     let item = start(b"x-item", b"", &none)?;
     let end = TagEvent::End { name: b"X-Item" };
@@ -186,7 +196,7 @@ impl Write for Page {
     }
 }
 
-/// Runs a script, a second time where memory is refused first; then nothing is written.
+/// Runs a script, a second time where memory is refused first.
 fn written(
     alloc: Global,
     script: &[u8],
@@ -194,25 +204,42 @@ fn written(
     text: &[u8],
 ) -> Result<Met, Stop> {
     for met in TURNS {
-        let mut reader = Counted::new(script);
-        let mut writer = Counted::new(Page {
-            bytes: [0; 256],
-            len: 0,
-        });
-        let outcome = run(alloc, &mut reader, &mut writer);
-        expect(reader.failures() == 0 && writer.failures() == 0)?;
-        let _ = reader.into_inner();
-        let page = writer.into_inner();
-        if outcome != Err(RunFault::Memory) {
-            expect(outcome == wanted && page.text() == text)?;
+        if wrote(alloc, script, wanted, text)? {
             return Ok(met);
         }
-        expect(page.text().is_empty())?;
     }
     Err(Stop::Wrong)
 }
 
-pub fn run_tags(alloc: Global) -> Result<Met, Stop> {
+/// Runs a script: whether there was memory. If there was none, nothing is written.
+fn wrote(
+    alloc: Global,
+    script: &[u8],
+    wanted: Result<Status, RunFault>,
+    text: &[u8],
+) -> Result<bool, Stop> {
+    let (outcome, page) = run_on_page(alloc, script)?;
+    if outcome == Err(RunFault::Memory) {
+        expect(page.text().is_empty())?;
+        return Ok(false);
+    }
+    exactly(outcome == wanted && page.text() == text)
+}
+
+/// How the run of a script ended, and what it wrote, with devices that don't fail.
+fn run_on_page(alloc: Global, script: &[u8]) -> Result<(Result<Status, RunFault>, Page), Stop> {
+    let mut reader = Counted::new(script);
+    let mut writer = Counted::new(Page {
+        bytes: [0; 256],
+        len: 0,
+    });
+    let outcome = run(alloc, &mut reader, &mut writer);
+    expect(reader.failures() == 0 && writer.failures() == 0)?;
+    let _ = reader.into_inner();
+    Ok((outcome, writer.into_inner()))
+}
+
+pub(crate) fn run_tags(alloc: Global) -> Result<Met, Stop> {
     written(
         alloc,
         b"tries\nselect\t0\t.a p\nselect\t1\tp\nstart\thtml\tdiv\tclass=a\nstart\thtml\tp\n",
@@ -221,7 +248,7 @@ pub fn run_tags(alloc: Global) -> Result<Met, Stop> {
     )
 }
 
-pub fn run_of_a_bad_line(alloc: Global) -> Result<Met, Stop> {
+pub(crate) fn run_of_a_bad_line(alloc: Global) -> Result<Met, Stop> {
     written(
         alloc,
         b"select\t0\t.a p\nstart\thtml\tdiv\nselect\t1\tp\n",
@@ -230,7 +257,7 @@ pub fn run_of_a_bad_line(alloc: Global) -> Result<Met, Stop> {
     )
 }
 
-pub fn run_past_the_limit(alloc: Global) -> Result<Met, Stop> {
+pub(crate) fn run_past_the_limit(alloc: Global) -> Result<Met, Stop> {
     written(
         alloc,
         b"limit\t511\nselect\t40\t*\nstart\thtml\tbr\nstart\thtml\td\n",

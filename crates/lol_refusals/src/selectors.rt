@@ -1,10 +1,10 @@
 //! Reading selectors.
 
-use crate::outcome::{Met, Stop, TURNS, expect};
+use crate::outcome::{Met, Stop, TURNS, exactly, expect};
 use lol_vm::{
     Condition, CssString, OnTagNameExpr, Selector, SelectorError, SelectorList, SimpleSelector,
 };
-use std::alloc::Global;
+use std::alloc::{AllocError, Global};
 
 const TEXT: &str = "div.foo#bar:not([baz])";
 
@@ -40,34 +40,48 @@ fn is_of_baz(list: &SelectorList) -> bool {
     item.rest.is_empty() && name.as_str() == "baz"
 }
 
-pub fn from_str(alloc: Global) -> Result<Met, Stop> {
+pub(crate) fn from_str(alloc: Global) -> Result<Met, Stop> {
     for met in TURNS {
-        match Selector::from_str(alloc, TEXT) {
-            Ok(selector) => {
-                expect(is_of_text(selector.list()))?;
-                return Ok(met);
-            }
-            Err(error) => expect(error == SelectorError::Memory)?,
-        }
-    }
-    Err(Stop::Wrong)
-}
-
-pub fn css_string(alloc: Global) -> Result<Met, Stop> {
-    for met in TURNS {
-        if let Ok(text) = CssString::new(alloc, "div") {
-            expect(text.as_str() == "div")?;
+        if is_read(alloc)? {
             return Ok(met);
         }
     }
     Err(Stop::Wrong)
 }
 
-pub fn to_boxed_slice(alloc: Global) -> Result<Met, Stop> {
-    let text = CssString::new(alloc, "div")?;
+/// Reads the text: whether there was memory.
+fn is_read(alloc: Global) -> Result<bool, Stop> {
+    match Selector::from_str(alloc, TEXT) {
+        Ok(selector) => exactly(is_of_text(selector.list())),
+        Err(SelectorError::Memory) => Ok(false),
+        Err(_) => Err(Stop::Wrong),
+    }
+}
+
+pub(crate) fn css_string(alloc: Global) -> Result<Met, Stop> {
     for met in TURNS {
-        if let Ok(copy) = text.to_boxed_slice(alloc) {
-            expect(copy.as_str() == "div")?;
+        if let Ok(is_div) = makes_div(alloc) {
+            expect(is_div)?;
+            return Ok(met);
+        }
+    }
+    Err(Stop::Wrong)
+}
+
+fn makes_div(alloc: Global) -> Result<bool, AllocError> {
+    let text = CssString::new(alloc, "div")?;
+    Ok(text.as_str() == "div")
+}
+
+pub(crate) fn to_boxed_slice(alloc: Global) -> Result<Met, Stop> {
+    let text = CssString::new(alloc, "div")?;
+    copy_in_turn(alloc, &text)
+}
+
+fn copy_in_turn(alloc: Global, text: &CssString) -> Result<Met, Stop> {
+    for met in TURNS {
+        if let Ok(is_div) = copies_div(alloc, text) {
+            expect(is_div)?;
             return Ok(met);
         }
         expect(text.as_str() == "div")?;
@@ -75,15 +89,29 @@ pub fn to_boxed_slice(alloc: Global) -> Result<Met, Stop> {
     Err(Stop::Wrong)
 }
 
-pub fn from_simple(alloc: Global) -> Result<Met, Stop> {
+fn copies_div(alloc: Global, text: &CssString) -> Result<bool, AllocError> {
+    let copy = text.to_boxed_slice(alloc)?;
+    Ok(copy.as_str() == "div")
+}
+
+pub(crate) fn from_simple(alloc: Global) -> Result<Met, Stop> {
     let part = SimpleSelector::LocalName(CssString::new(alloc, "div")?);
+    from_simple_in_turn(alloc, &part)
+}
+
+fn from_simple_in_turn(alloc: Global, part: &SimpleSelector) -> Result<Met, Stop> {
     for met in TURNS {
-        if let Ok(condition) = Condition::from_simple(alloc, &part) {
-            expect(is_name_div(&condition))?;
+        if let Ok(is_div) = tells_name_div(alloc, part) {
+            expect(is_div)?;
             return Ok(met);
         }
     }
     Err(Stop::Wrong)
+}
+
+fn tells_name_div(alloc: Global, part: &SimpleSelector) -> Result<bool, AllocError> {
+    let condition = Condition::from_simple(alloc, part)?;
+    Ok(is_name_div(&condition))
 }
 
 fn is_name_div(condition: &Option<Condition>) -> bool {

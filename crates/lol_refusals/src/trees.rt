@@ -9,7 +9,7 @@ use lol_vm::{
 use std::alloc::Global;
 
 /// A selector that was read; its memory is the scenario's own.
-pub fn read(alloc: Global, text: &str) -> Result<Selector, Stop> {
+pub(crate) fn read(alloc: Global, text: &str) -> Result<Selector, Stop> {
     match Selector::from_str(alloc, text) {
         Ok(selector) => Ok(selector),
         Err(SelectorError::Memory) => Err(Stop::Own),
@@ -18,11 +18,24 @@ pub fn read(alloc: Global, text: &str) -> Result<Selector, Stop> {
 }
 
 /// The selectors of two texts, under 0 and 1.
-pub fn two(alloc: Global, first: &str, second: &str) -> Result<Ast, Stop> {
+pub(crate) fn two(alloc: Global, first: &str, second: &str) -> Result<Ast, Stop> {
     let mut ast = Ast::new(alloc);
-    ast.add_selector(&read(alloc, first)?, 0)?;
-    ast.add_selector(&read(alloc, second)?, 1)?;
+    add_both(alloc, &mut ast, first, second)?;
     Ok(ast)
+}
+
+fn add_both(alloc: Global, ast: &mut Ast, first: &str, second: &str) -> Result<(), Stop> {
+    add(alloc, ast, first, 0)?;
+    add(alloc, ast, second, 1)
+}
+
+/// Adds the selector of a text under an id; its memory is the scenario's own.
+fn add(alloc: Global, ast: &mut Ast, text: &str, match_id: u32) -> Result<(), Stop> {
+    let selector = read(alloc, text)?;
+    match ast.add_selector(&selector, match_id) {
+        Ok(()) => Ok(()),
+        Err(_) => Err(Stop::Own),
+    }
 }
 
 /// Whether a node has exactly this id, and nothing under it.
@@ -68,17 +81,26 @@ fn are_all_pairs(ast: &Ast) -> bool {
         && ast.cumulative_node_count() == 5
 }
 
-pub fn add_selector(alloc: Global) -> Result<Met, Stop> {
+pub(crate) fn add_selector(alloc: Global) -> Result<Met, Stop> {
     let mut ast = Ast::new(alloc);
-    ast.add_selector(&read(alloc, "#foo > div, #foo > span")?, 0)?;
+    let met = add_both_in_turn(alloc, &mut ast)?;
+    matches_children_of_foo(alloc, ast)?;
+    Ok(met)
+}
+
+fn add_both_in_turn(alloc: Global, ast: &mut Ast) -> Result<Met, Stop> {
+    add(alloc, ast, "#foo > div, #foo > span", 0)?;
     let second = read(alloc, "#foo > .c1, #foo > .c2")?;
+    add_in_turn(ast, &second)
+}
+
+fn add_in_turn(ast: &mut Ast, second: &Selector) -> Result<Met, Stop> {
     for met in TURNS {
-        if ast.add_selector(&second, 1).is_ok() {
-            expect(are_all_pairs(&ast))?;
-            matches_children_of_foo(alloc, ast)?;
+        if ast.add_selector(second, 1).is_ok() {
+            expect(are_all_pairs(ast))?;
             return Ok(met);
         }
-        expect(are_first_pairs(&ast))?;
+        expect(are_first_pairs(ast))?;
     }
     Err(Stop::Wrong)
 }
@@ -96,20 +118,20 @@ fn matches_with<'i>(
     foo: &'i AttributeBuffer,
     class: &'i AttributeBuffer,
 ) -> Result<(), Stop> {
-    let (Ok(section), Ok(div), Ok(p)) = (
-        start(b"section", b"id=foo", foo),
-        start(b"div", b"class=c1", class),
-        start(b"p", b"class=c2", class),
-    ) else {
-        return Err(Stop::Wrong);
-    };
+    let section = start(b"section", b"id=foo", foo)?;
+    let div = start(b"div", b"class=c1", class)?;
+    let p = start(b"p", b"class=c2", class)?;
     let events = [section, div, TagEvent::End { name: b"div" }, p];
     let wanted: [(&[u32], bool); 4] = [(&[], true), (&[0, 1], true), (&[1], false), (&[1], true)];
     matches_in_turn(alloc, ast, &events, &wanted)
 }
 
 /// One attribute, whose name is so long and whose value is the rest of the input.
-pub fn attribute(alloc: Global, input: &[u8], name_len: usize) -> Result<AttributeBuffer, Stop> {
+pub(crate) fn attribute(
+    alloc: Global,
+    input: &[u8],
+    name_len: usize,
+) -> Result<AttributeBuffer, Stop> {
     let name = Range {
         start: 0,
         end: name_len,
@@ -131,17 +153,31 @@ pub fn attribute(alloc: Global, input: &[u8], name_len: usize) -> Result<Attribu
 }
 
 /// `.a p` refused under 0, then `p` under 1: a start tag `p` reports 1 alone, and asks exactly if the node `.a` stands.
-pub fn add_selector_refused(alloc: Global) -> Result<Met, Stop> {
+pub(crate) fn add_selector_refused(alloc: Global) -> Result<Met, Stop> {
     let mut ast = Ast::new(alloc);
+    let met = add_in_spite(alloc, &mut ast)?;
+    reports_second(alloc, ast, met)
+}
+
+/// Adds the second selector in spite of a refusal of the first.
+fn add_in_spite(alloc: Global, ast: &mut Ast) -> Result<Met, Stop> {
     let first = read(alloc, ".a p")?;
     let second = read(alloc, "p")?;
     let met = match ast.add_selector(&first, 0) {
         Ok(()) => Met::Nothing,
         Err(_) => Met::Refusal,
     };
-    ast.add_selector(&second, 1)?;
+    match ast.add_selector(&second, 1) {
+        Ok(()) => Ok(met),
+        Err(_) => Err(Stop::Own),
+    }
+}
+
+fn reports_second(alloc: Global, ast: Ast, met: Met) -> Result<Met, Stop> {
     let stands = ast.root().len() == 2;
-    expect(stands || met == Met::Refusal)?;
+    if !stands && met == Met::Nothing {
+        return Err(Stop::Wrong);
+    }
     let none = AttributeBuffer::new(alloc);
     let events = [start(b"p", b"", &none)?];
     matches_in_turn(alloc, ast, &events, &[(&[1], stands)])?;
