@@ -138,26 +138,23 @@ fn release(rt: &impl Abort, vm: Machine, limiter: &mut SharedMemoryLimiter)
     vm.release(limiter);
 }
 
+/// Expects 131,072 slots to be charged, for 64 bytes each.
+fn expect_full(rt: &impl Abort, vm: &Machine, limiter: &SharedMemoryLimiter) {
+    assert!(rt; vm.charged_slots() == 131_072);
+    assert!(rt; limiter.current_usage() == 8_388_608);
+}
+
 #[test]
 fn a_document_may_be_deep(rt: HostRuntime) -> Result<(), Fail> {
     let mut limiter = SharedMemoryLimiter::new(8_388_608);
     let mut vm = machine(&rt, rt.alloc());
     open_all(&rt, &mut vm, &mut limiter);
-    assert_eq!(rt;
-        (vm.charged_slots(), limiter.current_usage()),
-        (131_072, 8_388_608)
-    );
+    expect_full(&rt, &vm, &limiter);
     end_in_vain(&rt, &mut vm);
-    assert_eq!(rt;
-        (vm.charged_slots(), limiter.current_usage()),
-        (131_072, 8_388_608)
-    );
+    expect_full(&rt, &vm, &limiter);
     end_from(&rt, &mut vm, b"HTML", 0, DEPTH);
     end_from(&rt, &mut vm, b"html", 0, 0);
-    assert_eq!(rt;
-        (vm.charged_slots(), limiter.current_usage()),
-        (131_072, 8_388_608)
-    );
+    expect_full(&rt, &vm, &limiter);
     release(&rt, vm, &mut limiter);
     assert_eq!(rt; limiter.current_usage(), 0);
     Ok(())

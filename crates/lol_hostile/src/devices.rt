@@ -83,13 +83,13 @@ const SCRIPT: &[u8] =
 
 const OUTPUT: &[u8] = b"start\t-\nstart\t-\nstart\t0\nend\t0,1,2\n";
 
-/// A run whose reader and writer fail after so many calls: how it ended, what was written, and how many calls of either failed.
+/// A run whose reader and writer fail after so many calls: how it ended, whether it wrote an output, and how many calls of either failed.
 fn run_with(
     alloc: Global,
-    reads: u32,
-    writes: u32,
+    (reads, writes): (u32, u32),
     failure: Failure,
-) -> (Result<Status, RunFault>, Vec<u8>, (u64, u64)) {
+    output: &[u8],
+) -> (Result<Status, RunFault>, bool, (u64, u64)) {
     let mut reader = Counted::new(Source {
         rest: SCRIPT,
         calls_before: reads,
@@ -103,7 +103,8 @@ fn run_with(
     let outcome = run(alloc, &mut reader, &mut writer);
     let failures = (reader.failures(), writer.failures());
     let _ = reader.into_inner();
-    (outcome, writer.into_inner().taken, failures)
+    let written = writer.into_inner().taken;
+    (outcome, written.as_slice() == output, failures)
 }
 
 /// 87 bytes in 22 reads, and one that finds the end.
@@ -117,9 +118,10 @@ fn each_read_fails_in_turn(rt: HostRuntime) -> Result<(), Fail> {
     assert_eq!(rt; (SCRIPT.len(), OUTPUT.len()), (87, 34));
     for failure in [Failure::Broken, Failure::Interrupted] {
         for reads in 0..READS {
-            let (outcome, written, failures) = run_with(rt.alloc(), reads, u32::MAX, failure);
+            let calls = (reads, u32::MAX);
+            let (outcome, is_output, failures) = run_with(rt.alloc(), calls, failure, b"");
             assert_eq!(rt; outcome, Err(RunFault::Read), "{failure:?} at {reads}");
-            assert!(rt; written.is_empty() && failures == (1, 0));
+            assert!(rt; is_output && failures == (1, 0));
         }
         expect_good(&rt, rt.alloc(), failure);
     }
@@ -130,11 +132,12 @@ fn each_read_fails_in_turn(rt: HostRuntime) -> Result<(), Fail> {
 fn each_write_fails_in_turn(rt: HostRuntime) -> Result<(), Fail> {
     for failure in [Failure::Broken, Failure::Interrupted, Failure::Stuck] {
         for writes in 0..WRITES {
-            let (outcome, written, failures) = run_with(rt.alloc(), READS, writes, failure);
-            assert_eq!(rt; outcome, Err(RunFault::Write), "{failure:?} at {writes}");
             let count = writes as usize * 3;
-            assert!(rt; count <= OUTPUT.len() && written.as_slice() == &OUTPUT[..count]);
-            assert_eq!(rt; failures, (0, 1));
+            assert!(rt; count <= OUTPUT.len());
+            let (calls, output) = ((READS, writes), &OUTPUT[..count]);
+            let (outcome, is_output, failures) = run_with(rt.alloc(), calls, failure, output);
+            assert_eq!(rt; outcome, Err(RunFault::Write), "{failure:?} at {writes}");
+            assert!(rt; is_output && failures == (0, 1));
         }
         expect_good(&rt, rt.alloc(), failure);
     }
@@ -143,14 +146,14 @@ fn each_write_fails_in_turn(rt: HostRuntime) -> Result<(), Fail> {
 
 /// With exactly as many calls as are wanted nothing fails.
 fn expect_good(rt: &impl Abort, alloc: Global, failure: Failure) {
-    let (outcome, written, failures) = run_with(alloc, READS, WRITES, failure);
+    let (outcome, is_output, failures) = run_with(alloc, (READS, WRITES), failure, OUTPUT);
     assert!(rt; outcome == Ok(Status::Good) && failures == (0, 0));
-    assert!(rt; written.as_slice() == OUTPUT);
+    assert!(rt; is_output);
 }
 
 /// A reader that takes no bytes is at its end: the script is what came before.
 #[test]
 fn a_read_of_no_bytes_is_the_end(rt: HostRuntime) {
-    let (outcome, written, failures) = run_with(rt.alloc(), 0, WRITES, Failure::Stuck);
-    assert!(rt; outcome == Ok(Status::Good) && written.is_empty() && failures == (0, 0));
+    let (outcome, is_output, failures) = run_with(rt.alloc(), (0, WRITES), Failure::Stuck, b"");
+    assert!(rt; outcome == Ok(Status::Good) && is_output && failures == (0, 0));
 }

@@ -3,39 +3,14 @@
 ghost use Rattle.std.specs.Prelude.{◌≡◌, []};
 ghost use Rattle.lol_vm.specs.Views.{HasRangesInside};
 
-use crate::runs::{expect_run, run_on};
+use crate::runs::{expect_lines, expect_run};
 use lol_script::Status;
 use lol_vm::{
-    Ast, AttributeBuffer, AuxStartTagInfo, Bytes, Namespace, RunCause, Selector,
-    SharedMemoryLimiter, TagEvent, match_events,
+    Ast, AttributeBuffer, AuxStartTagInfo, Bytes, Namespace, RunCause, RunRefusal, Selector,
+    SharedMemoryLimiter, TagEvent, TagReport, match_events,
 };
 use std::alloc::Global;
-use std::process::Abort;
 use std::test::Fail;
-
-/// Lines of a script, each of them some times.
-fn lines(alloc: Global, parts: &[(&str, u32)]) -> Result<String, Fail> {
-    let mut text = String::new(alloc);
-    for (line, count) in parts {
-        for _ in 0..*count {
-            text.push_str(line)?;
-        }
-    }
-    Ok(text)
-}
-
-fn expect_lines(
-    rt: &impl Abort,
-    alloc: Global,
-    script: &[(&str, u32)],
-    status: Status,
-    output: &[(&str, u32)],
-) -> Result<(), Fail> {
-    let script = lines(alloc, script)?;
-    let output = lines(alloc, output)?;
-    expect_run(rt, alloc, script.as_bytes(), status, output.as_bytes());
-    Ok(())
-}
 
 const EVERY: (&str, u32) = ("select\t0\t*\n", 1);
 
@@ -114,14 +89,15 @@ fn lines_past_their_edges_are_bad(rt: HostRuntime) {
 /// A `:not` inside another, 128 deep, is passed by an `a` and by nothing else.
 #[test]
 fn functions_nest_to_their_bound(rt: HostRuntime) -> Result<(), Fail> {
-    let tags = "a\nstart\thtml\ta\nstart\thtml\tb\n";
-    let script = lines(rt.alloc(), &[("select\t0\t", 1), (":not(", 128), (tags, 1)])?;
-    let output = b"start\t0\nstart\t-\n";
-    expect_run(&rt, rt.alloc(), script.as_bytes(), Status::Good, output);
-    let script = lines(rt.alloc(), &[("select\t0\t", 1), (":not(", 129), (tags, 1)])?;
-    let (outcome, written) = run_on(rt.alloc(), script.as_bytes());
-    assert!(rt; outcome == Ok(Status::BadLine));
-    assert!(rt; written.as_slice() == b"bad line 1: UnsupportedSyntax\n".as_slice());
+    let tags = ("a\nstart\thtml\ta\nstart\thtml\tb\n", 1);
+    let rows = [
+        (128, Status::Good, "start\t0\nstart\t-\n"),
+        (129, Status::BadLine, "bad line 1: UnsupportedSyntax\n"),
+    ];
+    for (depth, status, output) in rows {
+        let script = [("select\t0\t", 1), (":not(", depth), tags];
+        expect_lines(&rt, rt.alloc(), &script, status, &[(output, 1)])?;
+    }
     Ok(())
 }
 
@@ -140,26 +116,37 @@ fn start<'i>(name: &'i [u8], none: &'i AttributeBuffer) -> TagEvent<'i>
     }
 }
 
+/// Whether a run of one tag is as it has to be: the tag is reported, or it is refused for the limit and nothing is.
+fn is_right(answer: &Result<Vec<TagReport>, RunRefusal>, fits: bool) -> bool {
+    match answer {
+        Ok(reports) => fits && reports.len() == 1,
+        Err(refusal) => {
+            !fits
+                && refusal.cause == RunCause::MemoryLimitExceeded
+                && refusal.event == 0
+                && refusal.reports.is_empty()
+        }
+    }
+}
+
+fn runs_right(alloc: Global, limiter: &mut SharedMemoryLimiter, fits: bool) -> Result<bool, Fail> {
+    let selector = Selector::from_str(alloc, "*")?;
+    let mut ast = Ast::new(alloc);
+    ast.add_selector(&selector, 0)?;
+    let none = AttributeBuffer::new(alloc);
+    let events = [start(b"d", &none)];
+    let answer = match_events(alloc, ast, 64, false, &events, limiter);
+    Ok(is_right(&answer, fits))
+}
+
 /// One element is charged for 512 bytes; 100 are in use before.
 #[test]
 fn usage_before_a_run_counts(rt: HostRuntime) -> Result<(), Fail> {
-    let alloc = rt.alloc();
     for (maximum, fits) in [(611, false), (612, true)] {
-        let mut ast = Ast::new(alloc);
-        ast.add_selector(&Selector::from_str(alloc, "*")?, 0)?;
-        let none = AttributeBuffer::new(alloc);
-        let events = [start(b"d", &none)];
         let mut limiter = SharedMemoryLimiter::new(maximum);
         assert!(rt; limiter.increase_usage(100).is_ok());
-        let fitted = match match_events(alloc, ast, 64, false, &events, &mut limiter) {
-            Ok(reports) => reports.len() == 1,
-            Err(refusal) => {
-                assert_eq!(rt; refusal.cause, RunCause::MemoryLimitExceeded);
-                assert!(rt; refusal.event == 0 && refusal.reports.is_empty());
-                false
-            }
-        };
-        assert_eq!(rt; (fitted, limiter.current_usage()), (fits, 100));
+        assert!(rt; runs_right(rt.alloc(), &mut limiter, fits)?, "{maximum}");
+        assert_eq!(rt; limiter.current_usage(), 100);
     }
     Ok(())
 }

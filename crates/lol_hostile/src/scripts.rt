@@ -1,6 +1,6 @@
 //! Whole scripts: worked by hand, replayed, long, and with devices that fail.
 
-use crate::runs::{expect_run, run_on};
+use crate::runs::{expect_lines, expect_run, lines, run_against};
 use crate::{replayed, worked};
 use lol_script::{Counted, RunFault, Status, exit_status, run};
 use std::alloc::Global;
@@ -50,9 +50,9 @@ impl Write for Narrow {
 
 /// Runs a script with ample memory, and names it where the run isn't as it has to be.
 fn expect_output(rt: &impl Abort, alloc: Global, script: &str, output: &str, status: Status) {
-    let (outcome, written) = run_on(alloc, script.as_bytes());
+    let (outcome, is_output) = run_against(alloc, script.as_bytes(), output.as_bytes());
     assert!(rt; outcome == Ok(status), "{script:?}");
-    assert!(rt; written.as_slice() == output.as_bytes(), "{script:?}");
+    assert!(rt; is_output, "{script:?}");
 }
 
 /// Runs scripts that have an output and a status each.
@@ -96,68 +96,67 @@ fn replays_bad_lines(rt: HostRuntime) {
 
 #[test]
 fn runs_with_a_thousand_open_elements(rt: HostRuntime) -> Result<(), Fail> {
-    let mut script = String::from_str(rt.alloc(), "select\t0\tdiv > div p\n")?;
-    let mut output = String::new(rt.alloc());
-    for _ in 0..1_000u32 {
-        script.push_str("start\thtml\tdiv\n")?;
-        output.push_str("start\t-\n")?;
+    let script = [
+        ("select\t0\tdiv > div p\n", 1),
+        ("start\thtml\tdiv\n", 1_000),
+        ("start\thtml\tp\nend\tdiv\nend\tdiv\n", 1),
+    ];
+    let output = [
+        ("start\t-\n", 1_000),
+        ("start\t0\nend\t999,1000\nend\t998\n", 1),
+    ];
+    expect_lines(&rt, rt.alloc(), &script, Status::Good, &output)
+}
+
+/// The reports of pairs of a start tag and its end tag.
+fn reports_of_pairs(alloc: Global) -> Result<String, Fail> {
+    let mut output = String::new(alloc);
+    for pair in 0..5_500u32 {
+        let number = 2 * pair;
+        write!(output, "start\t7\nend\t{number}\n")?;
     }
-    script.push_str("start\thtml\tp\nend\tdiv\nend\tdiv\n")?;
-    output.push_str("start\t0\nend\t999,1000\nend\t998\n")?;
-    expect_run(
-        &rt,
-        rt.alloc(),
-        script.as_bytes(),
-        Status::Good,
-        output.as_bytes(),
-    );
-    Ok(())
+    Ok(output)
 }
 
 #[test]
 fn runs_a_long_script(rt: HostRuntime) -> Result<(), Fail> {
-    let mut script = String::from_str(rt.alloc(), "select\t7\tp\n")?;
-    let mut output = String::new(rt.alloc());
-    for pair in 0..5_500u32 {
-        script.push_str("start\thtml\tp\nend\tp\n")?;
-        let number = 2 * pair;
-        write!(output, "start\t7\nend\t{number}\n")?;
-    }
+    let script = [("select\t7\tp\n", 1), ("start\thtml\tp\nend\tp\n", 5_500)];
+    let script = lines(rt.alloc(), &script)?;
     assert!(rt; script.len() > 100_000);
-    expect_run(
-        &rt,
-        rt.alloc(),
-        script.as_bytes(),
-        Status::Good,
-        output.as_bytes(),
-    );
+    let output = reports_of_pairs(rt.alloc())?;
+    let (script, output) = (script.as_bytes(), output.as_bytes());
+    expect_run(&rt, rt.alloc(), script, Status::Good, output);
     Ok(())
 }
 
-#[test]
-fn fails_with_its_devices(rt: HostRuntime) -> Result<(), Fail> {
+/// Whether a run fails with a reader that breaks: one of its four calls failed, and nothing is written.
+fn fails_to_read(alloc: Global) -> bool {
     let mut reader = Counted::new(Broken { calls: 0 });
-    let mut writer = Counted::new(Vec::new(rt.alloc()));
-    assert_eq!(rt;
-        run(rt.alloc(), &mut reader, &mut writer),
-        Err(RunFault::Read)
-    );
-    assert_eq!(rt; reader.failures(), 1);
-    assert!(rt; writer.into_inner().is_empty());
-    assert_eq!(rt; reader.into_inner().calls, 4);
+    let mut writer = Counted::new(Vec::new(alloc));
+    let outcome = run(alloc, &mut reader, &mut writer);
+    let failures = reader.failures();
+    let is_empty = writer.into_inner().is_empty();
+    let calls = reader.into_inner().calls;
+    outcome == Err(RunFault::Read) && failures == 1 && is_empty && calls == 4
+}
 
+/// Whether a run fails with a writer that has room for four bytes: one of its calls failed, and a beginning is written.
+fn fails_to_write(alloc: Global) -> bool {
     let mut script = Counted::new(b"end\tp\n".as_slice());
     let mut narrow = Counted::new(Narrow {
-        taken: Vec::new(rt.alloc()),
+        taken: Vec::new(alloc),
         most: 4,
     });
-    assert_eq!(rt;
-        run(rt.alloc(), &mut script, &mut narrow),
-        Err(RunFault::Write)
-    );
-    assert_eq!(rt; narrow.failures(), 1);
-    assert_eq!(rt; narrow.into_inner().taken.as_slice(), b"end\t".as_slice());
-    Ok(())
+    let outcome = run(alloc, &mut script, &mut narrow);
+    let failures = narrow.failures();
+    let taken = narrow.into_inner().taken;
+    outcome == Err(RunFault::Write) && failures == 1 && taken.as_slice() == b"end\t".as_slice()
+}
+
+#[test]
+fn fails_with_its_devices(rt: HostRuntime) {
+    assert!(rt; fails_to_read(rt.alloc()));
+    assert!(rt; fails_to_write(rt.alloc()));
 }
 
 /// Keeps what it is told on standard error.
@@ -180,16 +179,26 @@ impl Eprint for Told {
 }
 
 #[test]
-fn a_bad_line_ends_with_2(rt: HostRuntime) -> Result<(), Fail> {
-    let (outcome, written) = run_on(rt.alloc(), b"select\t0\tp\nstart\thtml\tp\nstart\tp\n");
-    assert_eq!(rt; written.as_slice(), b"bad line 3: form\n".as_slice());
+fn a_bad_line_ends_with_2(rt: HostRuntime) {
+    let script = b"select\t0\tp\nstart\thtml\tp\nstart\tp\n";
+    let (outcome, is_output) = run_against(rt.alloc(), script, b"bad line 3: form\n");
+    assert!(rt; is_output);
     assert_eq!(rt; exit_status(&rt, outcome), 2);
-    Ok(())
+}
+
+/// Whether an outcome ends with a status, and tells a text.
+fn ends(alloc: Global, outcome: Result<Status, RunFault>, status: u8, text: &str) -> bool {
+    let told = Told {
+        text: RefCell::new(String::new(alloc)),
+    };
+    let is_status = exit_status(&told, outcome) == status;
+    let Told { text: kept } = told;
+    is_status && kept.into_inner().as_str() == text
 }
 
 #[test]
-fn ends_with_a_status(rt: HostRuntime) -> Result<(), Fail> {
-    let ends = [
+fn ends_with_a_status(rt: HostRuntime) {
+    let rows = [
         (Ok(Status::Good), 0, ""),
         (Ok(Status::BadLine), 2, ""),
         (Ok(Status::Refused), 3, ""),
@@ -197,13 +206,7 @@ fn ends_with_a_status(rt: HostRuntime) -> Result<(), Fail> {
         (Err(RunFault::Read), 4, "lol_match: read failed\n"),
         (Err(RunFault::Write), 4, "lol_match: write failed\n"),
     ];
-    for (outcome, status, text) in ends {
-        let told = Told {
-            text: RefCell::new(String::new(rt.alloc())),
-        };
-        assert_eq!(rt; exit_status(&told, outcome), status);
-        let Told { text: kept } = told;
-        assert_eq!(rt; kept.into_inner().as_str(), text);
+    for (outcome, status, text) in rows {
+        assert!(rt; ends(rt.alloc(), outcome, status, text), "{outcome:?}");
     }
-    Ok(())
 }

@@ -1,26 +1,29 @@
 //! Texts at the edge of the grammar.
 
+use crate::runs::lines;
 use lol_css::{
     AttrSelectorOperator, CssString, NthChild, ParsedCaseSensitivity, Selector, SelectorError,
-    SelectorsParser, SimpleSelector,
+    SelectorList, SelectorsParser, SimpleSelector,
 };
 use lol_program::Ast;
 use std::alloc::{AllocError, Global};
 use std::process::Abort;
 use std::test::Fail;
 
+/// Whether a list is one part alone.
+fn is_part(list: &SelectorList, part: &SimpleSelector) -> bool {
+    let [item] = list.items.as_slice() else {
+        return false;
+    };
+    item.rest.is_empty()
+        && item.first.parts.as_slice().len() == 1
+        && item.first.parts.first() == Some(part)
+}
+
 /// Expects a text to be one part alone.
 fn expect_part(rt: &impl Abort, alloc: Global, text: &str, part: &SimpleSelector) {
     let list = SelectorsParser::parse(alloc, text).expect(rt, "a list");
-    let [item] = list.items.as_slice() else {
-        assert!(rt; false, "{text}");
-        return;
-    };
-    assert!(rt;
-        item.rest.is_empty() && item.first.parts.as_slice().len() == 1,
-        "{text}"
-    );
-    assert!(rt; item.first.parts.first() == Some(part), "{text}");
+    assert!(rt; is_part(&list, part), "{text}");
 }
 
 fn equals(alloc: Global, value: &str) -> Result<SimpleSelector, AllocError> {
@@ -33,16 +36,27 @@ fn equals(alloc: Global, value: &str) -> Result<SimpleSelector, AllocError> {
 }
 
 #[test]
-fn escapes_and_unclosed_strings_are_read(rt: HostRuntime) -> Result<(), Fail> {
-    let alloc = rt.alloc();
-    let replaced = SimpleSelector::LocalName(CssString::new(alloc, "\u{fffd}")?);
+fn escapes_of_no_character_are_replaced(rt: HostRuntime) -> Result<(), Fail> {
+    let replaced = SimpleSelector::LocalName(CssString::new(rt.alloc(), "\u{fffd}")?);
     for text in ["\\", "\\110000", "\\0", "\\D800", "\u{0}"] {
-        expect_part(&rt, alloc, text, &replaced);
+        expect_part(&rt, rt.alloc(), text, &replaced);
     }
-    let id = SimpleSelector::ID(CssString::new(alloc, "\u{fffd}")?);
-    expect_part(&rt, alloc, "#\\0", &id);
-    expect_part(&rt, alloc, "[a=\"\\", &equals(alloc, "")?);
-    expect_part(&rt, alloc, "[a=\"x\\\ny\"]", &equals(alloc, "xy")?);
+    Ok(())
+}
+
+#[test]
+fn an_escape_of_no_character_is_replaced_in_an_id(rt: HostRuntime) -> Result<(), Fail> {
+    let id = SimpleSelector::ID(CssString::new(rt.alloc(), "\u{fffd}")?);
+    expect_part(&rt, rt.alloc(), "#\\0", &id);
+    Ok(())
+}
+
+#[test]
+fn escapes_and_unclosed_strings_are_read(rt: HostRuntime) -> Result<(), Fail> {
+    for (text, value) in [("[a=\"\\", ""), ("[a=\"x\\\ny\"]", "xy")] {
+        let part = equals(rt.alloc(), value)?;
+        expect_part(&rt, rt.alloc(), text, &part);
+    }
     Ok(())
 }
 
@@ -90,12 +104,12 @@ fn hostile_texts_have_their_causes(rt: HostRuntime) {
     }
 }
 
-/// Expects a text to be read, and to make so many nodes.
-fn expect_nodes(rt: &impl Abort, alloc: Global, text: &str, count: usize) -> Result<(), Fail> {
+/// How many nodes a text makes.
+fn node_count(alloc: Global, text: &str) -> Result<usize, Fail> {
+    let selector = Selector::from_str(alloc, text)?;
     let mut ast = Ast::new(alloc);
-    ast.add_selector(&Selector::from_str(alloc, text)?, 0)?;
-    assert_eq!(rt; ast.cumulative_node_count(), count, "{text}");
-    Ok(())
+    ast.add_selector(&selector, 0)?;
+    Ok(ast.cumulative_node_count())
 }
 
 #[test]
@@ -108,13 +122,16 @@ fn texts_make_their_nodes(rt: HostRuntime) -> Result<(), Fail> {
         (":not(a", 1),
         ("[foo", 1),
     ] {
-        expect_nodes(&rt, rt.alloc(), text, count)?;
+        assert_eq!(rt; node_count(rt.alloc(), text)?, count, "{text}");
     }
-    let mut text = String::from_str(rt.alloc(), "a")?;
-    for _ in 1..1024u32 {
-        text.push_str(" a")?;
+    Ok(())
+}
+
+#[test]
+fn a_long_text_makes_its_nodes(rt: HostRuntime) -> Result<(), Fail> {
+    for end in ["", " "] {
+        let text = lines(rt.alloc(), &[("a", 1), (" a", 1023), (end, 1)])?;
+        assert_eq!(rt; node_count(rt.alloc(), text.as_str())?, 1024);
     }
-    expect_nodes(&rt, rt.alloc(), text.as_str(), 1024)?;
-    text.push_str(" ")?;
-    expect_nodes(&rt, rt.alloc(), text.as_str(), 1024)
+    Ok(())
 }
