@@ -3,7 +3,7 @@
 ghost use Rattle.std.specs.Prelude.{◌≡◌};
 
 use crate::element::{Element, ITEM_BYTES, release};
-use crate::outcome::{Met, Stop, TURNS, exactly};
+use crate::outcome::{Stop, exactly};
 use crate::trees::two;
 use lol_program::{Compiler, Program};
 use lol_vm::{SelectorMatchingVm, SharedMemoryLimiter};
@@ -22,17 +22,8 @@ fn is_of_div_p(program: &Program) -> bool {
         && descendant.associated_branch.matched_ids.iter().eq([0])
 }
 
-pub(crate) fn compile(alloc: Global) -> Result<Met, Stop> {
-    for met in TURNS {
-        if compiled(alloc)? {
-            return Ok(met);
-        }
-    }
-    Err(Stop::Wrong)
-}
-
 /// Compiles two selectors: whether there was memory.
-fn compiled(alloc: Global) -> Result<bool, Stop> {
+pub(crate) fn compile(alloc: Global) -> Result<bool, Stop> {
     let ast = two(alloc, "div p", "div > p")?;
     match Compiler::new(alloc).compile(ast) {
         Ok(program) => exactly(is_of_div_p(&program)),
@@ -40,17 +31,8 @@ fn compiled(alloc: Global) -> Result<bool, Stop> {
     }
 }
 
-pub(crate) fn new_machine(alloc: Global) -> Result<Met, Stop> {
-    for met in TURNS {
-        if made(alloc)? {
-            return Ok(met);
-        }
-    }
-    Err(Stop::Wrong)
-}
-
 /// Makes a machine: whether there was memory. A machine that was made has charged nothing, and opened nothing.
-fn made(alloc: Global) -> Result<bool, Stop> {
+pub(crate) fn new_machine(alloc: Global) -> Result<bool, Stop> {
     let mut limiter = SharedMemoryLimiter::new(1_000_000);
     let ast = two(alloc, "div p", "div > p:nth-of-type(2)")?;
     match SelectorMatchingVm::<Element>::new(alloc, ast, ITEM_BYTES, false) {

@@ -196,13 +196,18 @@ fn stuck(
     requires { RangesAreInside none }
     ensures { slot_bytes vm.new ≡ slot_bytes vm.old }
 {
-    expect(limiter.current_usage() == usage)?;
-    expect(fails(vm, limiter, b"p", none) && fails(vm, limiter, b"br", none))?;
-    expect(limiter.current_usage() == usage)?;
-    expect(vm.current_element_data_mut().is_some() == (open_elements > 0))?;
-    expect(closes(vm, b"p", 0, &[]) && closes(vm, b"div", open_elements, &[]))?;
-    expect(closes(vm, b"div", 0, &[]))?;
+    expect(limiter.current_usage() == usage && fails(vm, limiter, b"p", none))?;
+    expect(fails(vm, limiter, b"br", none) && limiter.current_usage() == usage)?;
+    let is_open = vm.current_element_data_mut().is_some();
+    expect(is_open == (open_elements > 0) && ends_act(vm, open_elements))?;
     Ok(Met::Refusal)
+}
+
+/// Whether the end tags of `p` and `div` close the open elements, which have no ids.
+fn ends_act(vm: &mut Machine, open_elements: u32) -> bool
+    ensures { slot_bytes vm.new ≡ slot_bytes vm.old }
+{
+    closes(vm, b"p", 0, &[]) && closes(vm, b"div", open_elements, &[]) && closes(vm, b"div", 0, &[])
 }
 
 /// Whether a start tag is answered `Failed`, and nothing is reported of it.

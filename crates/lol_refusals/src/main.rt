@@ -14,7 +14,7 @@ mod selectors;
 mod stacks;
 mod trees;
 
-use crate::outcome::{Met, Stop};
+use crate::outcome::{Met, Stop, TURNS};
 use std::alloc::Global;
 use std::io::Read;
 use std::process::ExitCode;
@@ -85,21 +85,16 @@ fn told(rt: &impl Print, name: &str, outcome: Result<Met, Stop>) -> u8 {
 
 fn scenario(alloc: Global, name: &str) -> Result<Met, Stop> {
     match name {
-        "from_str" => selectors::from_str(alloc),
-        "css_string" => selectors::css_string(alloc),
         "to_boxed_slice" => selectors::to_boxed_slice(alloc),
         "from_simple" => selectors::from_simple(alloc),
         "add_selector" => trees::add_selector(alloc),
         "add_selector_refused" => trees::add_selector_refused(alloc),
-        "compile" => compiling::compile(alloc),
-        "new" => compiling::new_machine(alloc),
         "start_tags" => machines::start_tags(alloc),
         "void_tags" => machines::void_tags(alloc),
-        "match_events" => runs::nested(alloc),
-        "match_events_by_type" => runs::by_type(alloc),
-        "run" => runs::run_tags(alloc),
-        "run_of_a_bad_line" => runs::run_of_a_bad_line(alloc),
-        "run_past_the_limit" => runs::run_past_the_limit(alloc),
+        "insert" => lists::insert(alloc),
+        "union" => lists::union(alloc),
+        "set_try_clone" => lists::set_try_clone(alloc),
+        "small_sets" => lists::small_sets(alloc),
         _ => part(alloc, name),
     }
 }
@@ -107,21 +102,43 @@ fn scenario(alloc: Global, name: &str) -> Result<Met, Stop> {
 /// The scenarios of the machine's parts.
 fn part(alloc: Global, name: &str) -> Result<Met, Stop> {
     match name {
-        "insert" => lists::insert(alloc),
-        "union" => lists::union(alloc),
-        "set_try_clone" => lists::set_try_clone(alloc),
-        "small_sets" => lists::small_sets(alloc),
         "push" => lists::push(alloc),
         "push_item" => stacks::push_item(alloc),
         "stack_add_child" => stacks::stack_add_child(alloc),
         "map_add_child" => stacks::map_add_child(alloc),
         "add_execution_branch" => stacks::add_execution_branch(alloc),
-        "name_into_owned" => names::name_into_owned(alloc),
         "name_try_clone" => names::name_try_clone(alloc),
-        "item_into_owned" => names::item_into_owned(alloc),
-        "context_into_owned" => names::context_into_owned(alloc),
         "short_names" => names::short_names(alloc),
         "owned_names" => names::owned_names(alloc),
+        _ => made_in_turn(alloc, name),
+    }
+}
+
+/// A call that is made again after a refusal, with nothing left of the first.
+fn made_in_turn(alloc: Global, name: &str) -> Result<Met, Stop> {
+    for met in TURNS {
+        if made(alloc, name)? {
+            return Ok(met);
+        }
+    }
+    Err(Stop::Wrong)
+}
+
+/// Makes a call: whether there was memory.
+fn made(alloc: Global, name: &str) -> Result<bool, Stop> {
+    match name {
+        "from_str" => selectors::from_str(alloc),
+        "css_string" => selectors::css_string(alloc),
+        "compile" => compiling::compile(alloc),
+        "new" => compiling::new_machine(alloc),
+        "match_events" => runs::nested(alloc),
+        "match_events_by_type" => runs::by_type(alloc),
+        "run" => runs::run_tags(alloc),
+        "run_of_a_bad_line" => runs::run_of_a_bad_line(alloc),
+        "run_past_the_limit" => runs::run_past_the_limit(alloc),
+        "name_into_owned" => names::name_into_owned(alloc),
+        "item_into_owned" => names::item_into_owned(alloc),
+        "context_into_owned" => names::context_into_owned(alloc),
         _ => Err(Stop::Wrong),
     }
 }

@@ -16,19 +16,12 @@ fn is_long(name: &LocalName<'_>) -> bool {
     name.code().is_none() && name.spelling().is_some_and(|spelling| spelling == LONG)
 }
 
-pub(crate) fn name_into_owned(alloc: Global) -> Result<Met, Stop> {
-    for met in TURNS {
-        if let Ok(is_owned) = owns_long(alloc) {
-            expect(is_owned)?;
-            return Ok(met);
-        }
+/// Makes a name own its bytes: whether there was memory.
+pub(crate) fn name_into_owned(alloc: Global) -> Result<bool, Stop> {
+    match LocalName::new(LONG).into_owned(alloc) {
+        Ok(name) => exactly(is_long(&name) && name == LocalName::new(b"aBCDEFGHIJKLM")),
+        Err(_) => Ok(false),
     }
-    Err(Stop::Wrong)
-}
-
-fn owns_long(alloc: Global) -> Result<bool, AllocError> {
-    let name = LocalName::new(LONG).into_owned(alloc)?;
-    Ok(is_long(&name) && name == LocalName::new(b"aBCDEFGHIJKLM"))
 }
 
 pub(crate) fn name_try_clone(alloc: Global) -> Result<Met, Stop> {
@@ -105,17 +98,8 @@ fn is_item(item: &StackItem<'_, Element>) -> bool {
         && item.stack_directive == StackDirective::PushIfNotSelfClosing
 }
 
-pub(crate) fn item_into_owned(alloc: Global) -> Result<Met, Stop> {
-    for met in TURNS {
-        if owns_item(alloc)? {
-            return Ok(met);
-        }
-    }
-    Err(Stop::Wrong)
-}
-
 /// Makes an item own its name: whether there was memory.
-fn owns_item(alloc: Global) -> Result<bool, Stop> {
+pub(crate) fn item_into_owned(alloc: Global) -> Result<bool, Stop> {
     let item = item(alloc)?;
     match item.into_owned(alloc) {
         Ok(owned) => exactly(is_item(&owned)),
@@ -150,17 +134,8 @@ fn context(alloc: Global) -> Result<ExecutionCtx<'static, Element>, AllocError> 
     })
 }
 
-pub(crate) fn context_into_owned(alloc: Global) -> Result<Met, Stop> {
-    for met in TURNS {
-        if owns_context(alloc)? {
-            return Ok(met);
-        }
-    }
-    Err(Stop::Wrong)
-}
-
 /// Makes a context own its name: whether there was memory.
-fn owns_context(alloc: Global) -> Result<bool, Stop> {
+pub(crate) fn context_into_owned(alloc: Global) -> Result<bool, Stop> {
     let ctx = context(alloc)?;
     match ctx.into_owned(alloc) {
         Ok(mut owned) => exactly(is_context(&mut owned)),

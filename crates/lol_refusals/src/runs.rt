@@ -3,7 +3,7 @@
 ghost use Rattle.std.specs.Prelude.{◌≡◌, IfOk, All};
 ghost use Rattle.lol_vm.specs.Views.{HasRangesInside};
 
-use crate::outcome::{Met, Stop, TURNS, exactly, expect};
+use crate::outcome::{Met, Stop, expect};
 use crate::trees::two;
 use lol_script::{Counted, RunFault, Status, run};
 use lol_vm::{
@@ -105,33 +105,29 @@ fn met_by(
             Ok(Met::Nothing)
         }
         Err(refusal) => {
-            expect(refusal.cause == RunCause::Memory)?;
-            expect(begin(&refusal.reports, wanted) && refusal.reports.len() == refusal.event)?;
+            let is_memory = refusal.cause == RunCause::Memory;
+            let is_whole = refusal.reports.len() == refusal.event;
+            expect(is_memory && is_whole && begin(&refusal.reports, wanted))?;
             Ok(Met::Refusal)
         }
     }
 }
 
-/// Answers tags over the selectors of two texts, a second time where memory is refused first.
-fn answered_in_turn(
+/// Answers tags over the selectors of two texts: whether there was memory.
+fn answered_by_two(
     alloc: Global,
     texts: (&str, &str),
     events: &[TagEvent],
     wanted: &[(&[u32], bool)],
-) -> Result<Met, Stop>
+) -> Result<bool, Stop>
     requires { All HasRangesInside events.now }
 {
-    for met in TURNS {
-        let ast = two(alloc, texts.0, texts.1)?;
-        if answered(alloc, ast, events, wanted)? == Met::Nothing {
-            return Ok(met);
-        }
-    }
-    Err(Stop::Wrong)
+    let ast = two(alloc, texts.0, texts.1)?;
+    Ok(answered(alloc, ast, events, wanted)? == Met::Nothing)
 }
 
 /// Three nested `div`, an end tag, and one more.
-pub(crate) fn nested(alloc: Global) -> Result<Met, Stop> {
+pub(crate) fn nested(alloc: Global) -> Result<bool, Stop> {
     let none = AttributeBuffer::new(alloc);
     let div = start(b"div", b"", &none)?;
     let events = [div, div, div, TagEvent::End { name: b"div" }, div];
@@ -142,11 +138,11 @@ pub(crate) fn nested(alloc: Global) -> Result<Met, Stop> {
         (&[2], false),
         (&[0], false),
     ];
-    answered_in_turn(alloc, ("div div", "div > p"), &events, &wanted)
+    answered_by_two(alloc, ("div div", "div > p"), &events, &wanted)
 }
 
 /// Children counted by type, and elements whose names are no hashes.
-pub(crate) fn by_type(alloc: Global) -> Result<Met, Stop> {
+pub(crate) fn by_type(alloc: Global) -> Result<bool, Stop> {
     let none = AttributeBuffer::new(alloc);
     let item = start(b"x-item", b"", &none)?;
     let end = TagEvent::End { name: b"X-Item" };
@@ -159,7 +155,7 @@ pub(crate) fn by_type(alloc: Global) -> Result<Met, Stop> {
         (&[1], false),
         (&[4], false),
     ];
-    answered_in_turn(
+    answered_by_two(
         alloc,
         ("ul > X-item:nth-of-type(2)", "ul x-item"),
         &events,
@@ -196,34 +192,22 @@ impl Write for Page {
     }
 }
 
-/// Runs a script, a second time where memory is refused first.
-fn written(
-    alloc: Global,
-    script: &[u8],
-    wanted: Result<Status, RunFault>,
-    text: &[u8],
-) -> Result<Met, Stop> {
-    for met in TURNS {
-        if wrote(alloc, script, wanted, text)? {
-            return Ok(met);
-        }
-    }
-    Err(Stop::Wrong)
-}
-
 /// Runs a script: whether there was memory. If there was none, nothing is written.
-fn wrote(
+fn written(
     alloc: Global,
     script: &[u8],
     wanted: Result<Status, RunFault>,
     text: &[u8],
 ) -> Result<bool, Stop> {
     let (outcome, page) = run_on_page(alloc, script)?;
-    if outcome == Err(RunFault::Memory) {
-        expect(page.text().is_empty())?;
-        return Ok(false);
-    }
-    exactly(outcome == wanted && page.text() == text)
+    let had_memory = outcome != Err(RunFault::Memory);
+    let is_right = if had_memory {
+        outcome == wanted && page.text() == text
+    } else {
+        page.text().is_empty()
+    };
+    expect(is_right)?;
+    Ok(had_memory)
 }
 
 /// How the run of a script ended, and what it wrote, with devices that don't fail.
@@ -239,7 +223,7 @@ fn run_on_page(alloc: Global, script: &[u8]) -> Result<(Result<Status, RunFault>
     Ok((outcome, writer.into_inner()))
 }
 
-pub(crate) fn run_tags(alloc: Global) -> Result<Met, Stop> {
+pub(crate) fn run_tags(alloc: Global) -> Result<bool, Stop> {
     written(
         alloc,
         b"tries\nselect\t0\t.a p\nselect\t1\tp\nstart\thtml\tdiv\tclass=a\nstart\thtml\tp\n",
@@ -248,7 +232,7 @@ pub(crate) fn run_tags(alloc: Global) -> Result<Met, Stop> {
     )
 }
 
-pub(crate) fn run_of_a_bad_line(alloc: Global) -> Result<Met, Stop> {
+pub(crate) fn run_of_a_bad_line(alloc: Global) -> Result<bool, Stop> {
     written(
         alloc,
         b"select\t0\t.a p\nstart\thtml\tdiv\nselect\t1\tp\n",
@@ -257,7 +241,7 @@ pub(crate) fn run_of_a_bad_line(alloc: Global) -> Result<Met, Stop> {
     )
 }
 
-pub(crate) fn run_past_the_limit(alloc: Global) -> Result<Met, Stop> {
+pub(crate) fn run_past_the_limit(alloc: Global) -> Result<bool, Stop> {
     written(
         alloc,
         b"limit\t511\nselect\t40\t*\nstart\thtml\tbr\nstart\thtml\td\n",

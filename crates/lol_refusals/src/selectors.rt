@@ -40,17 +40,8 @@ fn is_of_baz(list: &SelectorList) -> bool {
     item.rest.is_empty() && name.as_str() == "baz"
 }
 
-pub(crate) fn from_str(alloc: Global) -> Result<Met, Stop> {
-    for met in TURNS {
-        if is_read(alloc)? {
-            return Ok(met);
-        }
-    }
-    Err(Stop::Wrong)
-}
-
 /// Reads the text: whether there was memory.
-fn is_read(alloc: Global) -> Result<bool, Stop> {
+pub(crate) fn from_str(alloc: Global) -> Result<bool, Stop> {
     match Selector::from_str(alloc, TEXT) {
         Ok(selector) => exactly(is_of_text(selector.list())),
         Err(SelectorError::Memory) => Ok(false),
@@ -58,19 +49,12 @@ fn is_read(alloc: Global) -> Result<bool, Stop> {
     }
 }
 
-pub(crate) fn css_string(alloc: Global) -> Result<Met, Stop> {
-    for met in TURNS {
-        if let Ok(is_div) = makes_div(alloc) {
-            expect(is_div)?;
-            return Ok(met);
-        }
+/// Makes a text: whether there was memory.
+pub(crate) fn css_string(alloc: Global) -> Result<bool, Stop> {
+    match CssString::new(alloc, "div") {
+        Ok(text) => exactly(text.as_str() == "div"),
+        Err(_) => Ok(false),
     }
-    Err(Stop::Wrong)
-}
-
-fn makes_div(alloc: Global) -> Result<bool, AllocError> {
-    let text = CssString::new(alloc, "div")?;
-    Ok(text.as_str() == "div")
 }
 
 pub(crate) fn to_boxed_slice(alloc: Global) -> Result<Met, Stop> {

@@ -81,9 +81,15 @@ fn opened(
         expect(pushed(alloc, stack, name, number, limiter)?)?;
         met = Met::Refusal;
     }
-    expect(stack.items().len().checked_sub(1) == Some(number) && active_are_of(stack, number))?;
-    expect(is_last_place(stack, name, number))?;
+    expect(is_last(stack, name, number))?;
     Ok(met)
+}
+
+/// Whether an element is the last, and its ranges and its place are the last ones.
+fn is_last(stack: &Stack<Element>, name: &[u8], number: usize) -> bool {
+    stack.items().len().checked_sub(1) == Some(number)
+        && active_are_of(stack, number)
+        && is_last_place(stack, name, number)
 }
 
 /// Pushes an element: whether there was memory. The element's own memory is the scenario's.
@@ -317,6 +323,11 @@ fn add_first_branch(alloc: Global, ctx: &mut ExecutionCtx<'_, Element>) -> Resul
     ctx.add_execution_branch(alloc, &first)
 }
 
+fn are_both(ctx: &mut ExecutionCtx<'_, Element>) -> bool {
+    gathered_are(ctx, &[3, 7, 40, 1000], 2)
+        && ctx.stack_item.jumps.as_slice() == [2..usize::MAX, 5..usize::MAX].as_slice()
+}
+
 fn add_in_turn(
     alloc: Global,
     ctx: &mut ExecutionCtx<'_, Element>,
@@ -324,8 +335,7 @@ fn add_in_turn(
 ) -> Result<Met, Stop> {
     for met in TURNS {
         if ctx.add_execution_branch(alloc, second).is_ok() {
-            expect(gathered_are(ctx, &[3, 7, 40, 1000], 2))?;
-            expect(ctx.stack_item.jumps.as_slice() == [2..usize::MAX, 5..usize::MAX].as_slice())?;
+            expect(are_both(ctx))?;
             return Ok(met);
         }
         expect(gathered_are(ctx, &[3, 40], 1))?;
