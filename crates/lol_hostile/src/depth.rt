@@ -66,15 +66,19 @@ fn open_one(
 )
     ensures { slot_bytes vm.new ≡ slot_bytes vm.old }
 {
+    let (times, tries) = wanted;
     let mut count = 0u32;
     let mut handler = |info: MatchInfo| {
         if info.match_id == 0 && info.with_content {
             count = count.saturating_add(1);
         }
     };
-    let said = vm.exec_for_start_tag(LocalName::new(name), Namespace::Html, limiter, &mut handler);
-    assert!(rt; said.is_ok());
-    assert!(rt; (count, vm.tries().names()) == wanted && vm.tries().attributes() == 0);
+    let name = LocalName::new(name);
+    let is_open = vm
+        .exec_for_start_tag(name, Namespace::Html, limiter, &mut handler)
+        .is_ok();
+    assert!(rt; is_open && count == times);
+    assert!(rt; vm.tries().names() == tries && vm.tries().attributes() == 0);
     let data = vm.current_element_data_mut();
     data.expect(rt, "data of an open element").place = place;
 }

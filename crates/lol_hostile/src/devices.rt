@@ -83,13 +83,16 @@ const SCRIPT: &[u8] =
 
 const OUTPUT: &[u8] = b"start\t-\nstart\t-\nstart\t0\nend\t0,1,2\n";
 
-/// A run whose reader and writer fail after so many calls: how it ended, whether it wrote an output, and how many calls of either failed.
-fn run_with(
-    alloc: Global,
-    (reads, writes): (u32, u32),
-    failure: Failure,
-    output: &[u8],
-) -> (Result<Status, RunFault>, bool, (u64, u64)) {
+/// How a run ends, what it writes, and how many calls of the reader and the writer fail.
+#[derive(Clone, Copy)]
+struct Ended<'o> {
+    outcome: Result<Status, RunFault>,
+    output: &'o [u8],
+    failures: (u64, u64),
+}
+
+/// Whether a run ends so whose reader and writer fail after so many calls.
+fn ends(alloc: Global, (reads, writes): (u32, u32), failure: Failure, wanted: Ended<'_>) -> bool {
     let mut reader = Counted::new(Source {
         rest: SCRIPT,
         calls_before: reads,
@@ -104,7 +107,7 @@ fn run_with(
     let failures = (reader.failures(), writer.failures());
     let _ = reader.into_inner();
     let written = writer.into_inner().taken;
-    (outcome, written.as_slice() == output, failures)
+    outcome == wanted.outcome && failures == wanted.failures && written.as_slice() == wanted.output
 }
 
 /// 87 bytes in 22 reads, and one that finds the end.
@@ -113,47 +116,63 @@ const READS: u32 = 23;
 /// 34 bytes in 12 writes.
 const WRITES: u32 = 12;
 
+/// A run of exactly as many calls as are wanted, of which none fails.
+const GOOD: Ended<'static> = Ended {
+    outcome: Ok(Status::Good),
+    output: OUTPUT,
+    failures: (0, 0),
+};
+
+fn expect_reads_fail(rt: &impl Abort, alloc: Global, failure: Failure) {
+    let wanted = Ended {
+        outcome: Err(RunFault::Read),
+        output: b"",
+        failures: (1, 0),
+    };
+    for reads in 0..READS {
+        let fails = ends(alloc, (reads, u32::MAX), failure, wanted);
+        assert!(rt; fails, "{failure:?} at {reads}");
+    }
+}
+
 #[test]
 fn each_read_fails_in_turn(rt: HostRuntime) -> Result<(), Fail> {
     assert_eq!(rt; (SCRIPT.len(), OUTPUT.len()), (87, 34));
     for failure in [Failure::Broken, Failure::Interrupted] {
-        for reads in 0..READS {
-            let calls = (reads, u32::MAX);
-            let (outcome, is_output, failures) = run_with(rt.alloc(), calls, failure, b"");
-            assert_eq!(rt; outcome, Err(RunFault::Read), "{failure:?} at {reads}");
-            assert!(rt; is_output && failures == (1, 0));
-        }
-        expect_good(&rt, rt.alloc(), failure);
+        expect_reads_fail(&rt, rt.alloc(), failure);
+        assert!(rt; ends(rt.alloc(), (READS, WRITES), failure, GOOD));
     }
     Ok(())
+}
+
+fn expect_writes_fail(rt: &impl Abort, alloc: Global, failure: Failure) {
+    for writes in 0..WRITES {
+        let count = writes as usize * 3;
+        assert!(rt; count <= OUTPUT.len());
+        let wanted = Ended {
+            outcome: Err(RunFault::Write),
+            output: &OUTPUT[..count],
+            failures: (0, 1),
+        };
+        let fails = ends(alloc, (READS, writes), failure, wanted);
+        assert!(rt; fails, "{failure:?} at {writes}");
+    }
 }
 
 #[test]
-fn each_write_fails_in_turn(rt: HostRuntime) -> Result<(), Fail> {
+fn each_write_fails_in_turn(rt: HostRuntime) {
     for failure in [Failure::Broken, Failure::Interrupted, Failure::Stuck] {
-        for writes in 0..WRITES {
-            let count = writes as usize * 3;
-            assert!(rt; count <= OUTPUT.len());
-            let (calls, output) = ((READS, writes), &OUTPUT[..count]);
-            let (outcome, is_output, failures) = run_with(rt.alloc(), calls, failure, output);
-            assert_eq!(rt; outcome, Err(RunFault::Write), "{failure:?} at {writes}");
-            assert!(rt; is_output && failures == (0, 1));
-        }
-        expect_good(&rt, rt.alloc(), failure);
+        expect_writes_fail(&rt, rt.alloc(), failure);
+        assert!(rt; ends(rt.alloc(), (READS, WRITES), failure, GOOD));
     }
-    Ok(())
-}
-
-/// With exactly as many calls as are wanted nothing fails.
-fn expect_good(rt: &impl Abort, alloc: Global, failure: Failure) {
-    let (outcome, is_output, failures) = run_with(alloc, (READS, WRITES), failure, OUTPUT);
-    assert!(rt; outcome == Ok(Status::Good) && failures == (0, 0));
-    assert!(rt; is_output);
 }
 
 /// A reader that takes no bytes is at its end: the script is what came before.
 #[test]
 fn a_read_of_no_bytes_is_the_end(rt: HostRuntime) {
-    let (outcome, is_output, failures) = run_with(rt.alloc(), (0, WRITES), Failure::Stuck, b"");
-    assert!(rt; outcome == Ok(Status::Good) && is_output && failures == (0, 0));
+    let wanted = Ended {
+        output: b"",
+        ..GOOD
+    };
+    assert!(rt; ends(rt.alloc(), (0, WRITES), Failure::Stuck, wanted));
 }

@@ -10,6 +10,7 @@ use lol_vm::{
     SharedMemoryLimiter, TagEvent, TagReport, match_events,
 };
 use std::alloc::Global;
+use std::process::Abort;
 use std::test::Fail;
 
 const EVERY: (&str, u32) = ("select\t0\t*\n", 1);
@@ -17,6 +18,16 @@ const EVERY: (&str, u32) = ("select\t0\t*\n", 1);
 const OPENED: &str = "start\thtml\td\n";
 
 const REFUSED: (&str, u32) = ("refused limit\n", 1);
+
+/// Expects a limit to allow so many open elements, and to refuse one more.
+fn expect_limit(rt: &impl Abort, alloc: Global, limit: &str, opened: u32) -> Result<(), Fail> {
+    let script = [(limit, 1), EVERY, (OPENED, opened.saturating_add(1))];
+    let output = [("start\t0\n", opened), REFUSED];
+    expect_lines(rt, alloc, &script, Status::Refused, &output)?;
+    let script = [(limit, 1), EVERY, (OPENED, opened)];
+    let output = [("start\t0\n", opened)];
+    expect_lines(rt, alloc, &script, Status::Good, &output)
+}
 
 #[test]
 fn limits_are_met_at_their_edges(rt: HostRuntime) -> Result<(), Fail> {
@@ -27,12 +38,7 @@ fn limits_are_met_at_their_edges(rt: HostRuntime) -> Result<(), Fail> {
         ("limit\t2047\n", 16),
         ("limit\t2048\n", 32),
     ] {
-        let script = [(limit, 1), EVERY, (OPENED, opened + 1)];
-        let output = [("start\t0\n", opened), REFUSED];
-        expect_lines(&rt, rt.alloc(), &script, Status::Refused, &output)?;
-        let script = [(limit, 1), EVERY, (OPENED, opened)];
-        let output = [("start\t0\n", opened)];
-        expect_lines(&rt, rt.alloc(), &script, Status::Good, &output)?;
+        expect_limit(&rt, rt.alloc(), limit, opened)?;
     }
     Ok(())
 }
@@ -139,14 +145,19 @@ fn runs_right(alloc: Global, limiter: &mut SharedMemoryLimiter, fits: bool) -> R
     Ok(is_right(&answer, fits))
 }
 
+/// Whether a run of one tag over a limiter with 100 bytes in use is as it has to be, and leaves them in use.
+fn usage_counts(alloc: Global, maximum: usize, fits: bool) -> Result<bool, Fail> {
+    let mut limiter = SharedMemoryLimiter::new(maximum);
+    let is_used = limiter.increase_usage(100).is_ok();
+    let is_right = runs_right(alloc, &mut limiter, fits)?;
+    Ok(is_used && is_right && limiter.current_usage() == 100)
+}
+
 /// One element is charged for 512 bytes; 100 are in use before.
 #[test]
 fn usage_before_a_run_counts(rt: HostRuntime) -> Result<(), Fail> {
     for (maximum, fits) in [(611, false), (612, true)] {
-        let mut limiter = SharedMemoryLimiter::new(maximum);
-        assert!(rt; limiter.increase_usage(100).is_ok());
-        assert!(rt; runs_right(rt.alloc(), &mut limiter, fits)?, "{maximum}");
-        assert_eq!(rt; limiter.current_usage(), 100);
+        assert!(rt; usage_counts(rt.alloc(), maximum, fits)?, "{maximum}");
     }
     Ok(())
 }

@@ -79,6 +79,10 @@ fn progressions_at_the_edge_are_read(rt: HostRuntime) -> Result<(), Fail> {
     Ok(())
 }
 
+fn is_refused(alloc: Global, text: &str, cause: SelectorError) -> bool {
+    SelectorsParser::parse(alloc, text).err() == Some(cause)
+}
+
 #[test]
 fn hostile_texts_have_their_causes(rt: HostRuntime) {
     for (text, cause) in [
@@ -99,8 +103,7 @@ fn hostile_texts_have_their_causes(rt: HostRuntime) {
         ("a + b c ~ d", SelectorError::UnsupportedCombinator('~')),
         ("a + .", SelectorError::UnexpectedEnd),
     ] {
-        let refusal = SelectorsParser::parse(rt.alloc(), text).err();
-        assert_eq!(rt; refusal, Some(cause), "{text}");
+        assert!(rt; is_refused(rt.alloc(), text, cause), "{text}");
     }
 }
 
