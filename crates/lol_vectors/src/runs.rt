@@ -112,14 +112,20 @@ fn is_started(report: &TagReport, infos: &[MatchInfo], names: u64) -> bool {
 #[test]
 fn answers_children(rt: HostRuntime) -> Result<(), Fail> {
     let alloc = rt.alloc();
-    let ast = selectors(alloc, &[("div p", 0), ("div > p", 1)])?;
+    let mut ast = Ast::new(alloc);
+    for (text, match_id) in [("div p", 0), ("div > p", 1)] {
+        ast.add_selector(&Selector::from_str(alloc, text)?, match_id)?;
+    }
     let none = AttributeBuffer::new(alloc);
     let events = [
         start(b"div", &none),
         start(b"p", &none),
         TagEvent::End { name: b"div" },
     ];
-    let reports = reports_of(&rt, alloc, ast, false, &events, 1_000_000)?;
+    let mut limiter = SharedMemoryLimiter::new(1_000_000);
+    let Ok(reports) = match_events(alloc, ast, 64, false, &events, &mut limiter) else {
+        return Err(Fail::from("out of memory"));
+    };
     expect_children(&rt, &reports);
     Ok(())
 }
