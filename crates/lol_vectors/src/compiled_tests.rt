@@ -1,8 +1,7 @@
 //! Compiled tests, of selectors and by hand.
 
 use crate::attributes::Attributes;
-use crate::nodes::none_of;
-use crate::programs::instruction;
+use crate::instructions::instruction;
 use crate::tag_words::TagWord;
 use NameValue::{False, Open, True};
 use lol_program::{
@@ -121,6 +120,12 @@ fn of_attributes(rt: HostRuntime) -> Result<(), Fail> {
     let attributes = attributes.matcher(&rt, Namespace::Html);
     expect_answers(&rt, rt.alloc(), &attributes)?;
     Ok(())
+}
+
+/// The test that no element passes this one.
+fn none_of(alloc: Global, test: Test) -> Result<Test, AllocError> {
+    let tests = vec![in alloc; test]?;
+    Ok(Test::NoneOf(vec![in alloc; Predicate { tests }]?))
 }
 
 /// The flag that a test of the second child, of its type or of all, sets; where `negated`, that no element passes it.

@@ -1,12 +1,19 @@
 //! The three ways to run an instruction, and what they count.
 
-use crate::programs::instruction;
+use crate::runs::selectors;
 use crate::tag_words::TagWord;
-use lol_program::{Instruction, TryExecResult};
+use lol_program::{Compiler, Instruction, TryExecResult};
 use lol_vm::{AttributeMatcher, ChildCounter, LocalName, Namespace, SelectorState, Tries};
 use std::alloc::{AllocError, Global};
 use std::process::Abort;
 use std::test::Fail;
+
+/// The instruction of a selector of one compound.
+pub(crate) fn instruction(rt: &impl Abort, alloc: Global, text: &str) -> Result<Instruction, Fail> {
+    let mut program = Compiler::new(alloc).compile(selectors(alloc, &[(text, 0)])?)?;
+    assert!(rt; program.instructions.len() == 1);
+    Ok(program.instructions.pop().expect(rt, "an instruction"))
+}
 
 /// What an instruction answers without attributes.
 #[derive(Clone, Copy, PartialEq, Eq)]

@@ -11,11 +11,7 @@ mod contexts;
 #[cfg(test)]
 mod counters;
 #[cfg(test)]
-mod css;
-#[cfg(test)]
 mod instructions;
-#[cfg(test)]
-mod limits;
 #[cfg(test)]
 mod machine_model;
 #[cfg(test)]
@@ -24,12 +20,6 @@ mod machine_runs;
 mod machine_stops;
 #[cfg(test)]
 mod machines;
-#[cfg(test)]
-mod name_maps;
-#[cfg(test)]
-mod names;
-#[cfg(test)]
-mod nodes;
 mod plain;
 mod plain_document;
 mod plain_element;
@@ -39,23 +29,13 @@ mod plain_nodes;
 #[cfg(test)]
 mod plain_rows;
 #[cfg(test)]
-mod programs;
-#[cfg(test)]
-mod readings;
-#[cfg(test)]
 mod runs;
-#[cfg(test)]
-mod sets;
 #[cfg(test)]
 mod stack_model;
 #[cfg(test)]
 mod stacks;
 #[cfg(test)]
 mod tag_words;
-#[cfg(test)]
-mod texts;
-#[cfg(test)]
-mod trees;
 #[cfg(test)]
 mod uses;
 

@@ -1,8 +1,7 @@
 //! Where instructions stand, and what they give.
 
-use crate::nodes::{SELECTORS_OF_BOTH_STEPS, tree};
-use lol_program::{Compiler, Instruction, Program};
-use lol_vm::ExecutionBranch;
+use crate::nodes::{SELECTORS_OF_BOTH_STEPS, selectors};
+use lol_program::{Compiler, ExecutionBranch, Instruction, Program};
 use std::alloc::Global;
 use std::process::Abort;
 use std::test::Fail;
@@ -85,11 +84,11 @@ const SINGLE_NODES: [&str; 13] = [
 
 /// The program of selectors, each under an id.
 fn program(alloc: Global, texts: &[(&str, u32)]) -> Result<Program, Fail> {
-    Ok(Compiler::new(alloc).compile(tree(alloc, texts)?)?)
+    Ok(Compiler::new(alloc).compile(selectors(alloc, texts)?)?)
 }
 
 /// The instruction of a selector of one compound.
-pub(crate) fn instruction(rt: &impl Abort, alloc: Global, text: &str) -> Result<Instruction, Fail> {
+fn instruction(rt: &impl Abort, alloc: Global, text: &str) -> Result<Instruction, Fail> {
     let mut program = program(alloc, &[(text, 0)])?;
     assert!(rt; program.instructions.len() == 1);
     Ok(program.instructions.pop().expect(rt, "an instruction"))

@@ -1,8 +1,8 @@
 //! The trees that selectors make.
 
-use lol_vm::{
-    Ast, AstNode, AttrSelectorOperator, AttributeComparisonExpr, Condition, NthChild,
-    OnAttributesExpr, OnTagNameExpr, ParsedCaseSensitivity, Predicate, Selector, SimpleSelector,
+use lol_css::{AttrSelectorOperator, NthChild, ParsedCaseSensitivity, Selector, SimpleSelector};
+use lol_program::{
+    Ast, AstNode, AttributeComparisonExpr, Condition, OnAttributesExpr, OnTagNameExpr, Predicate,
     Test,
 };
 use std::alloc::{AllocError, Global};
@@ -20,7 +20,7 @@ pub(crate) const SELECTORS_OF_BOTH_STEPS: [(&str, u32); 6] = [
 ];
 
 /// The tree of texts, each under an id.
-pub(crate) fn tree(alloc: Global, texts: &[(&str, u32)]) -> Result<Ast, Fail> {
+pub(crate) fn selectors(alloc: Global, texts: &[(&str, u32)]) -> Result<Ast, Fail> {
     let mut ast = Ast::new(alloc);
     for (text, match_id) in texts {
         let selector = Selector::from_str(alloc, text)?;
@@ -53,7 +53,7 @@ fn part(alloc: Global, text: &str) -> Result<Test, AllocError> {
 }
 
 /// The test that no element passes this one.
-pub(crate) fn none_of(alloc: Global, test: Test) -> Result<Test, AllocError> {
+fn none_of(alloc: Global, test: Test) -> Result<Test, AllocError> {
     let tests = vec![in alloc; test]?;
     Ok(Test::NoneOf(vec![in alloc; Predicate { tests }]?))
 }
@@ -93,7 +93,7 @@ fn expect_node(
 
 /// The tests of the one node that a text makes.
 fn has_tests(rt: &impl Abort, alloc: Global, text: &str, tests: &[Test]) -> Result<bool, Fail> {
-    let ast = tree(alloc, &[(text, 0)])?;
+    let ast = selectors(alloc, &[(text, 0)])?;
     let node = node(rt, ast.root(), 0);
     Ok(ast.cumulative_node_count() == 1 && node.predicate.tests.as_slice() == tests)
 }
@@ -144,7 +144,7 @@ fn equal_beginnings_are_shared(rt: HostRuntime) -> Result<(), Fail> {
         ("#foo > div, #foo > span", 0),
         ("#foo > .c1, #foo > .c2", 1),
     ];
-    let ast = tree(rt.alloc(), &texts)?;
+    let ast = selectors(rt.alloc(), &texts)?;
     assert!(rt; (ast.cumulative_node_count(), ast.root().len()) == (5, 1));
     expect_children(&rt, rt.alloc(), node(&rt, ast.root(), 0))?;
     Ok(())
@@ -176,7 +176,7 @@ fn expect_both_steps(rt: &impl Abort, alloc: Global, root: &[AstNode]) -> Result
 
 #[test]
 fn steps_of_both_kinds(rt: HostRuntime) -> Result<(), Fail> {
-    let ast = tree(rt.alloc(), &SELECTORS_OF_BOTH_STEPS)?;
+    let ast = selectors(rt.alloc(), &SELECTORS_OF_BOTH_STEPS)?;
     assert!(rt; ast.cumulative_node_count() == 10);
     expect_both_steps(&rt, rt.alloc(), ast.root())?;
     Ok(())
@@ -190,7 +190,7 @@ fn add(alloc: Global, ast: &mut Ast, text: &str) -> Result<(), Fail> {
 #[test]
 fn tests_that_differ_are_not_shared(rt: HostRuntime) -> Result<(), Fail> {
     let names = [("DIV", 0), ("div", 1), ("div", 1), ("div", 40)];
-    let mut ast = tree(rt.alloc(), &names)?;
+    let mut ast = selectors(rt.alloc(), &names)?;
     assert!(rt; ast.cumulative_node_count() == 2);
     assert!(rt; has_ids(node(&rt, ast.root(), 1), &[1, 40]));
     add(rt.alloc(), &mut ast, ".a.b")?;
@@ -211,7 +211,7 @@ fn long_text(alloc: Global, more: u32) -> Result<String, AllocError> {
 #[test]
 fn long_selectors(rt: HostRuntime) -> Result<(), Fail> {
     let text = long_text(rt.alloc(), 1023)?;
-    let ast = tree(rt.alloc(), &[(text.as_str(), 7)])?;
+    let ast = selectors(rt.alloc(), &[(text.as_str(), 7)])?;
     assert!(rt; ast.cumulative_node_count() == 1024);
     Ok(())
 }
@@ -227,7 +227,7 @@ fn are_two_with(ast: &Ast, ids: &[u32]) -> bool {
 #[test]
 fn items_take_their_id(rt: HostRuntime) -> Result<(), Fail> {
     let texts = [("a, b, a", 100), ("a, b, a", 3), ("a, b, a", 1_000)];
-    let ast = tree(rt.alloc(), &texts)?;
+    let ast = selectors(rt.alloc(), &texts)?;
     assert!(rt; are_two_with(&ast, &[3, 100, 1_000]));
     Ok(())
 }

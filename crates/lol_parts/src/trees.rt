@@ -1,9 +1,9 @@
 //! Texts with the nodes that they make.
 
-use crate::runs::selectors;
-use lol_vm::{
-    Ast, AstNode, AttrSelectorOperator, AttributeComparisonExpr, OnAttributesExpr, OnTagNameExpr,
-    ParsedCaseSensitivity, Predicate, Selector, Test,
+use crate::nodes::selectors;
+use lol_css::{AttrSelectorOperator, ParsedCaseSensitivity, Selector};
+use lol_program::{
+    Ast, AstNode, AttributeComparisonExpr, OnAttributesExpr, OnTagNameExpr, Predicate, Test,
 };
 use std::alloc::{AllocError, Global};
 use std::test::Fail;

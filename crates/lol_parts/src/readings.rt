@@ -4,7 +4,7 @@
 //! (it draws signs, names and brackets at random). lol_html answers them alike wherever it has the same rules; it doesn't know `:is` and
 //! `:where`. `SelectorsParser::parse` read each of them once, again with the same answers.
 
-use lol_vm::{SelectorError, SelectorsParser};
+use lol_css::{SelectorError, SelectorsParser};
 use std::alloc::Global;
 use std::test::Fail;
 
