@@ -3,7 +3,7 @@ use Rattle.lol_css.specs.declared.selector.SimpleSelector.TheViews.{out-ComplexS
 use Rattle.std.proofs.Common.{ℕ, inl, inr, ⊎_elim, List, [], ◌∷◌, Option, Result, Ok, Err, OnOk, OnErr}
 use Rattle.std.specs.Prelude.{Contains}
 use Rattle.lol_css.specs.declared.selector.Combinator.{Combinator}
-use Rattle.lol_program.specs.Compounds.{Compound}
+use Rattle.lol_instructions.specs.Compounds.{Compound}
 use Rattle.lol_program.specs.Paths.{First, extended, beginnings}
 use Rattle.lol_program.specs.Forest.{Forest, nodes_in, pairs_in}
 use Rattle.lol_program.specs.Growth.{Adds, AddsFirst}

@@ -3,7 +3,7 @@ use Rattle.std.proofs.Common.{◌≡◌, Bool, true, false, ◌||◌, ◌++◌, 
 use Rattle.std.specs.List.{list_any}
 use Rattle.std.proofs.lemmas.List.Folds.{list_any-append}
 use Rattle.lol_css.specs.declared.selector.Combinator.TheVariants.{Child, Descendant}
-use Rattle.lol_program.specs.Compounds.{Compound, has_test_by_type}
+use Rattle.lol_instructions.specs.Compounds.{Compound, has_test_by_type}
 use Rattle.lol_program.specs.Paths.{Path, Then, last_compound}
 use Rattle.lol_program.specs.Forest.{Forest, none, more, tops, below, nodes_in}
 use Rattle.lol_program.specs.Layouts.{any_by_type}

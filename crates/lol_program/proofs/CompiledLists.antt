@@ -3,15 +3,15 @@ use Rattle.std.proofs.Common.{◌≡◌, Bool, true, false, not, ◌||◌, ◌&&
 use Rattle.std.proofs.lemmas.List.{append-nil}
 use Rattle.std.specs.Global.{Vec}
 use Rattle.lol_base.specs.BoolLaws.{or-right_true}
-use Rattle.lol_program.specs.Compounds as compounds
-use Rattle.lol_program.specs.Compounds.{Compound, both, either, all_of, any_of}
-use Rattle.lol_program.specs.Attributes.{tag_attributes}
-use Rattle.lol_program.specs.Compiled.{sight_of, tests_in}
+use Rattle.lol_instructions.specs.Compounds as compounds
+use Rattle.lol_instructions.specs.Compounds.{Compound, both, either, all_of, any_of}
+use Rattle.lol_instructions.specs.Attributes.{tag_attributes}
+use Rattle.lol_instructions.specs.Compiled.{sight_of, tests_in}
 use Rattle.lol_program.specs.Compiling.{IsCompiledTest, AreCompiledTests, AreCompiledPredicates}
-use Rattle.lol_program.specs.declared.compiled_predicate.CompiledTest.{CompiledTest}
-use Rattle.lol_program.specs.declared.compiled_predicate.CompiledTest.TheVariants.{NoneOf, SomeOf}
-use Rattle.lol_program.specs.declared.compiled_predicate.CompiledPredicate.{CompiledPredicate}
-use Rattle.lol_program.proofs.CompiledRows.{test_value-NoneOf, test_value-SomeOf, test_holds-NoneOf, test_holds-SomeOf}
+use Rattle.lol_instructions.specs.declared.compiled_predicate.CompiledTest.{CompiledTest}
+use Rattle.lol_instructions.specs.declared.compiled_predicate.CompiledTest.TheVariants.{NoneOf, SomeOf}
+use Rattle.lol_instructions.specs.declared.compiled_predicate.CompiledPredicate.{CompiledPredicate}
+use Rattle.lol_instructions.specs.CompiledRowLaws.{test_value-NoneOf, test_value-SomeOf, test_holds-NoneOf, test_holds-SomeOf}
 
 -- 1. One for one
 

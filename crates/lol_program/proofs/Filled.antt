@@ -2,7 +2,7 @@
 use Rattle.std.proofs.Common.{◌≡◌, ℕ, suc, ◌+◌, List, [], ◌∷◌, ◌++◌, length, map, Some, inl, inr, refl, sym, ap, ◌∙◌, subst, arith}
 use Rattle.std.proofs.lemmas.List.{length-map}
 use Rattle.lol_css.specs.declared.selector.Combinator.TheVariants.{Child, Descendant}
-use Rattle.lol_program.specs.Compounds.{Compound}
+use Rattle.lol_instructions.specs.Compounds.{Compound}
 use Rattle.lol_program.specs.Paths.{Path, First, Then}
 use Rattle.lol_program.specs.Forest.{Forest, none, more, size}
 use Rattle.lol_program.specs.Programs.{Instruction, IsAt}

@@ -3,7 +3,7 @@ use Rattle.std.proofs.Common.{ℕ, zero, suc, arith, ◌≡◌, ◌↔◌, ◌�
 use Rattle.std.specs.Prelude.{Contains}
 use Rattle.lol_css.specs.declared.selector.Combinator.{Combinator}
 use Rattle.lol_css.specs.declared.selector.Combinator.TheVariants.{Child, Descendant}
-use Rattle.lol_program.specs.Compounds.{Compound}
+use Rattle.lol_instructions.specs.Compounds.{Compound}
 use Rattle.lol_program.specs.Paths.{Path, Then}
 use Rattle.lol_program.specs.Forest.{Forest, none, more, Node, link, SiblingsDiffer, HasTop}
 use Rattle.lol_program.specs.Growth.{fresh, AtRoot, Takes, Under, Adds, AddsFirst}

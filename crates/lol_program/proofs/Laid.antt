@@ -5,7 +5,7 @@ use Rattle.std.proofs.lemmas.List.{map-append, length-append, length-map}
 use Rattle.std.proofs.lemmas.Option.{none-some}
 use Rattle.lol_css.specs.declared.selector.Combinator.{Combinator}
 use Rattle.lol_css.specs.declared.selector.Combinator.TheVariants.{Child, Descendant}
-use Rattle.lol_program.specs.Compounds.{Compound, has_test_by_type}
+use Rattle.lol_instructions.specs.Compounds.{Compound, has_test_by_type}
 use Rattle.lol_program.specs.Paths.{Path, First, Then, last_compound}
 use Rattle.lol_program.specs.Forest.{Forest, none, more, size, tops, below, nodes_in, SiblingsDiffer}
 use Rattle.lol_program.specs.NodeMemberLaws.{HasPair}

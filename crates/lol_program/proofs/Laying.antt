@@ -5,17 +5,17 @@ use Rattle.std.specs.Option.{option_map}
 use Rattle.std.specs.declared.ops.Range as std
 use Rattle.std.proofs.lemmas.List.{length-set}
 use Rattle.lol_memory.specs.Ids.{ascending}
-use Rattle.lol_program.specs.Compounds.{Compound, has_test_by_type}
+use Rattle.lol_instructions.specs.Compounds.{Compound, has_test_by_type}
 use Rattle.lol_program.specs.Forest.{Node, Forest, none, more, link, size}
 use Rattle.lol_program.specs.Views.{forest_of}
-use Rattle.lol_program.specs.Compiled.{tests_in}
+use Rattle.lol_instructions.specs.Compiled.{tests_in}
 use Rattle.lol_program.specs.Compiling.{Serves, AreCompiledTests}
 use Rattle.lol_program.specs.Programs.{Instruction}
 use Rattle.lol_program.specs.Layouts.{width, range_of, instruction_of, any_by_type}
 use Rattle.lol_program.specs.ProgramViews.{range_shown, instruction_shown, code_of}
 use Rattle.lol_program.specs.Laying.{under, Laid, AreLaid, SameOutside, SameElsewhere}
 use Rattle.lol_program.specs.declared.ast_node.AstNode.{AstNode}
-use Rattle.lol_program.specs.declared.instruction.Instruction as code
+use Rattle.lol_instructions.specs.declared.instruction.Instruction as code
 use Rattle.lol_base.specs.BoolLaws.{or-false, or-right_true}
 use Rattle.lol_program.proofs.ListPlaces.{get_map}
 

@@ -9,15 +9,7 @@ pub mod Reserved
 pub mod PathLists
 pub mod Selectors
 pub mod TestRows
-mod AttributeValues
-mod MarkLemmas
-mod MatcherLemmas
-pub mod PredicateMarkLemmas
-mod WordPlaces
-pub mod CompiledRows
-pub mod CompiledValues
 pub mod CompiledLists
-pub mod CompiledDecides
 pub mod ListPlaces
 pub mod Apart
 pub mod ByType

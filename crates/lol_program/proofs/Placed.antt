@@ -4,7 +4,7 @@ use Rattle.std.specs.Prelude.{slice_set}
 use Rattle.std.proofs.lemmas.List.{get_or-map, map-set, length-map, length-append}
 use Rattle.std.proofs.Math.Seq.{set-append_seam, get_or-append_seam}
 use Rattle.lol_css.specs.declared.selector.Combinator.{Combinator}
-use Rattle.lol_program.specs.Compounds.{Compound}
+use Rattle.lol_instructions.specs.Compounds.{Compound}
 use Rattle.lol_program.specs.Forest.{Node, Forest, none, link, size, SiblingsDiffer}
 use Rattle.lol_css.specs.declared.selector.Compound as css
 use Rattle.lol_program.proofs.Grown.{added_differ, first_differ}

@@ -5,7 +5,7 @@ use Rattle.std.proofs.lemmas.List.{get_or-map}
 use Rattle.lol_memory.specs.Ids.{Ids, ascending}
 use Rattle.lol_css.specs.declared.selector.Combinator.{Combinator}
 use Rattle.lol_css.specs.declared.selector.Combinator.TheVariants.{Child, Descendant}
-use Rattle.lol_program.specs.Compounds.{Compound}
+use Rattle.lol_instructions.specs.Compounds.{Compound}
 use Rattle.lol_program.specs.Forest.{Node, Forest, none, more}
 use Rattle.lol_program.specs.Growth.{fresh, AtRoot, Takes, Under, grown_under, Adds, AddsFirst, AtTop, StandsWith, StandsUnder, IsWith}
 use Rattle.lol_program.specs.Places.{IsPlace, HasPlace, IsNowhere}

@@ -1,13 +1,13 @@
 -- Lists of predicates beside lists of items.
 use Rattle.std.proofs.Common.{◌≡◌, ◌↔◌, Bool, IsTrue, List, map, sym, ap, ◌∙◌}
 use Rattle.std.specs.Global.{Vec}
-use Rattle.lol_program.specs.Compounds as compounds
+use Rattle.lol_instructions.specs.Compounds as compounds
 use Rattle.lol_css.specs.Trees.{NoItems}
 use Rattle.lol_css.specs.TreeViews.{list_of, with_item_list}
 use Rattle.lol_css.specs.declared.selector.ComplexSelector.{ComplexSelector}
 use Rattle.lol_css.specs.declared.selector.SelectorList.{SelectorList}
 use Rattle.lol_css.specs.declared.selector.SimpleSelector.TheViews.{out-SelectorList}
-use Rattle.lol_program.specs.Compounds.{AndTest, Compounds, OrCompound, all_of, any_of}
+use Rattle.lol_instructions.specs.Compounds.{AndTest, Compounds, OrCompound, all_of, any_of}
 use Rattle.lol_program.specs.Conditions.{items_compounds}
 use Rattle.lol_program.proofs.Tests.{items_compounds-list}
 use Rattle.lol_program.specs.Predicates.{tests_of}

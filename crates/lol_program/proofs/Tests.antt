@@ -9,7 +9,7 @@ use Rattle.lol_css.specs.declared.selector.Combinator.{Combinator}
 use Rattle.lol_css.specs.declared.selector.SelectorList.{SelectorList}
 use Rattle.lol_css.specs.declared.selector.SimpleSelector.TheViews.{out-SelectorList, out-ComplexSelector}
 use Rattle.lol_css.specs.TreeViews.{part_of, item_of, list_of, compound_of, with_part_list, with_item_list, with_compound_list}
-use Rattle.lol_program.specs.Compounds.{Test, Compound, AndTest, Compounds, OrCompound, all_of, any_of, with_test, compounds_with}
+use Rattle.lol_instructions.specs.Compounds.{Test, Compound, AndTest, Compounds, OrCompound, all_of, any_of, with_test, compounds_with}
 use Rattle.lol_program.specs.Conditions.{part_test, items_compounds, item_compound, written_tests, compound_tests}
 use Rattle.lol_css.specs.TreeLaws.{list_of-out, item_of-out}
 

@@ -3,7 +3,7 @@ use Rattle.std.proofs.Common.{◌≡◌, ℕ, ◌⊎◌, inl, inr, refl, sym, su
 use Rattle.std.specs.Prelude.{flat_map}
 use Rattle.lol_css.specs.declared.selector.Combinator.{Combinator}
 use Rattle.lol_css.specs.declared.selector.Combinator.TheVariants.{Child, Descendant}
-use Rattle.lol_program.specs.Compounds.{Compound}
+use Rattle.lol_instructions.specs.Compounds.{Compound}
 use Rattle.lol_program.specs.Paths.{Path, First, Then, beginnings, all_beginnings}
 use Rattle.lol_program.specs.Forest.{Forest, none, more}
 use Rattle.lol_program.specs.Asts.{trees_of, nodes_of}

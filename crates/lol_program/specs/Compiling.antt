@@ -2,14 +2,14 @@
 -- type has to be counted where a test by type is among them.
 use Rattle.std.specs.Prelude.{◌≡◌, Bool, true, List}
 use Rattle.std.specs.List.{list_any, list_all}
-use Rattle.lol_program.specs.Tests.{Element, NameTest, AttributeTest, name_holds, attribute_holds}
-use Rattle.lol_program.specs.Compounds.{Test, Compound, Compounds, holds, all_hold, some_hold, test_by_names, by_names, some_by_names, is_by_type, test_has_type, has_test_by_type, some_has_type}
-use Rattle.lol_program.specs.Attributes.{tag_attributes}
-use Rattle.lol_program.specs.Compiled.{sight_of, name_expr_holds, attribute_expr_holds, test_value, test_holds, predicate_value, predicate_holds, all_values, some_values}
-use Rattle.lol_program.specs.declared.compiled_expr.LocalNameExprTest.{LocalNameExprTest}
-use Rattle.lol_program.specs.declared.compiled_expr.AttributeExprTest.{AttributeExprTest}
-use Rattle.lol_program.specs.declared.compiled_predicate.CompiledTest.{CompiledTest}
-use Rattle.lol_program.specs.declared.compiled_predicate.CompiledPredicate.{CompiledPredicate}
+use Rattle.lol_instructions.specs.Tests.{Element, NameTest, AttributeTest, name_holds, attribute_holds}
+use Rattle.lol_instructions.specs.Compounds.{Test, Compound, Compounds, holds, all_hold, some_hold, test_by_names, by_names, some_by_names, is_by_type, test_has_type, has_test_by_type, some_has_type}
+use Rattle.lol_instructions.specs.Attributes.{tag_attributes}
+use Rattle.lol_instructions.specs.Compiled.{sight_of, name_expr_holds, attribute_expr_holds, test_value, test_holds, predicate_value, predicate_holds, all_values, some_values}
+use Rattle.lol_instructions.specs.declared.compiled_expr.LocalNameExprTest.{LocalNameExprTest}
+use Rattle.lol_instructions.specs.declared.compiled_expr.AttributeExprTest.{AttributeExprTest}
+use Rattle.lol_instructions.specs.declared.compiled_predicate.CompiledTest.{CompiledTest}
+use Rattle.lol_instructions.specs.declared.compiled_predicate.CompiledPredicate.{CompiledPredicate}
 
 -- children are counted by type where that is needed
 abbrev pub Serves : Bool → Bool → Type 0

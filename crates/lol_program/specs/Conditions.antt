@@ -2,8 +2,8 @@
 use Rattle.std.specs.Prelude.{ℕ, if◌then◌else◌, List, [], ◌∷◌, ◌++◌, map, Option, Some, None}
 use Rattle.lol_css.specs.Trees as trees
 use Rattle.lol_css.specs.Trees.{Simple, Part, Plain, Not, Is, Where, Nothing, With, Item, Items, NoItems, And}
-use Rattle.lol_program.specs.Tests.{AnyName, NoName, HasName, IsNthChild, IsNthOfType, HasId, HasClass, HasAttribute, Compares}
-use Rattle.lol_program.specs.Compounds.{Test, OfName, OfAttributes, NoneOf, SomeOf, Compound, NoTests, AndTest, Compounds, NoCompounds, with_test, compounds_with}
+use Rattle.lol_instructions.specs.Tests.{AnyName, NoName, HasName, IsNthChild, IsNthOfType, HasId, HasClass, HasAttribute, Compares}
+use Rattle.lol_instructions.specs.Compounds.{Test, OfName, OfAttributes, NoneOf, SomeOf, Compound, NoTests, AndTest, Compounds, NoCompounds, with_test, compounds_with}
 use Rattle.lol_program.specs.Paths.{Path, First, Then}
 
 -- The test of a part without parts of its own (Selectors 4, sections 5, 6 and 13). Each element has a namespace, so no element has a

@@ -2,7 +2,7 @@
 use Rattle.std.specs.Coded.{×_prop, Unit-prop}
 use Rattle.std.specs.Prelude.{ℕ, ◌+◌, ◌≡◌, ◌⊎◌, List, [], ◌∷◌, ◌++◌, map}
 use Rattle.lol_css.specs.declared.selector.Combinator.TheVariants.{Child, Descendant}
-use Rattle.lol_program.specs.Compounds.{Compound}
+use Rattle.lol_instructions.specs.Compounds.{Compound}
 use Rattle.lol_program.specs.Paths.{Path, Then}
 
 -- the first tree, by its root, and the others; a node has its ids in ascending order, the nodes under it by a child step, and those

@@ -3,8 +3,8 @@ use Rattle.std.specs.Prelude.{ℕ, ◌≡◌, ◌≢◌, Bool, false, List, [], 
 use Rattle.lol_css.specs.Trees as trees
 use Rattle.lol_css.specs.Trees.{Part, Plain, Not, Is, Where, Nothing, With, Items, NoItems, And}
 use Rattle.lol_base.specs.StartTags.{Attribute}
-use Rattle.lol_program.specs.Tests.{Element, NoName, HasName, HasId, HasClass, HasAttribute}
-use Rattle.lol_program.specs.Compounds.{Test, OfName, OfAttributes, NoneOf, SomeOf, Compound, NoTests, AndTest, all_of, any_of, all_hold, by_names, with_rest, Decides}
+use Rattle.lol_instructions.specs.Tests.{Element, NoName, HasName, HasId, HasClass, HasAttribute}
+use Rattle.lol_instructions.specs.Compounds.{Test, OfName, OfAttributes, NoneOf, SomeOf, Compound, NoTests, AndTest, all_of, any_of, all_hold, by_names, with_rest, Decides}
 use Rattle.lol_program.specs.Same.{same_compound}
 use Rattle.lol_program.specs.Paths.{Path, Selectors, AreNodes, all_beginnings}
 use Rattle.lol_program.specs.Programs.{AreClosed}

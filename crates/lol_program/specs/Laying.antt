@@ -5,7 +5,7 @@ use Rattle.lol_program.specs.Layouts.{width, instruction_of, any_by_type}
 use Rattle.lol_program.specs.Compiling.{Serves}
 use Rattle.lol_program.specs.Programs.{Instruction}
 use Rattle.lol_program.specs.ProgramViews.{code_of}
-use Rattle.lol_program.specs.declared.instruction.Instruction as code
+use Rattle.lol_instructions.specs.declared.instruction.Instruction as code
 
 -- how many nodes there are under the roots
 abbrev pub under : Forest → ℕ

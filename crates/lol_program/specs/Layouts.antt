@@ -2,7 +2,7 @@
 use Rattle.std.specs.Prelude.{ℕ, suc, ◌+◌, ◌≡◌, ◌||◌, Bool, false, List, [], ◌∷◌, ◌++◌, map, Option, Some, None}
 use Rattle.lol_css.specs.declared.selector.Combinator.{Combinator}
 use Rattle.lol_css.specs.declared.selector.Combinator.TheVariants.{Child, Descendant}
-use Rattle.lol_program.specs.Compounds.{Compound, all_hold, by_names, has_test_by_type}
+use Rattle.lol_instructions.specs.Compounds.{Compound, all_hold, by_names, has_test_by_type}
 use Rattle.lol_program.specs.Paths.{Path, First, Then, Selectors}
 use Rattle.lol_program.specs.Forest.{Forest, none, more, size, nodes_in, pairs_in, SiblingsDiffer}
 use Rattle.lol_program.specs.Programs.{Range, Instruction, Program, IsProgramOf, IsAt, IsWithin, range_by}

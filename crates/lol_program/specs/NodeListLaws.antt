@@ -3,7 +3,7 @@ use Rattle.std.proofs.Common.{ℕ, zero, suc, length, length-append, arith, ◌�
 use Rattle.std.specs.Prelude.{Contains}
 use Rattle.lol_css.specs.declared.selector.Combinator.{Combinator}
 use Rattle.lol_css.specs.declared.selector.Combinator.TheVariants.{Child, Descendant}
-use Rattle.lol_program.specs.Compounds.{Compound}
+use Rattle.lol_instructions.specs.Compounds.{Compound}
 use Rattle.lol_program.specs.Paths.{Path, First, Then, extended, beginnings}
 use Rattle.lol_program.specs.Forest.{Forest, none, more, size, tops, below, nodes_in, pairs_in}
 use Rattle.lol_program.specs.NodeMemberLaws.{HasNode, HasPair, BringsNode, BringsPair, BringsFirst}

@@ -4,7 +4,7 @@ use Rattle.std.specs.Prelude.{AllPairs}
 use Rattle.std.proofs.lemmas.List.{get_or_default}
 use Rattle.lol_css.specs.declared.selector.Combinator.{Combinator}
 use Rattle.lol_css.specs.declared.selector.Combinator.TheVariants.{Child, Descendant}
-use Rattle.lol_program.specs.Compounds.{Compound}
+use Rattle.lol_instructions.specs.Compounds.{Compound}
 use Rattle.lol_program.specs.Paths.{Path, First, Then, beginnings}
 use Rattle.lol_program.specs.Forest.{Forest, none, more, tops, below, nodes_in, HasTop, SiblingsDiffer}
 use Rattle.lol_program.specs.NodeMemberLaws.{HasNode}

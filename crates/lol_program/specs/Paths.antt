@@ -1,7 +1,7 @@
 -- A complex selector as a path: compounds, each under the one before it (Selectors 4, "Structure and Terminology").
 use Rattle.std.specs.Prelude.{ℕ, ◌≢◌, ◌↔◌, List, [], ◌∷◌, flat_map, Contains, AllPairs}
 use Rattle.lol_css.specs.declared.selector.Combinator.{Combinator}
-use Rattle.lol_program.specs.Compounds.{Compound}
+use Rattle.lol_instructions.specs.Compounds.{Compound}
 
 -- Read from its last compound: the path before it, the step, the compound.
 pub data Path : Type 0 where

@@ -1,6 +1,6 @@
 -- Where in a list of nodes a compound stands.
 use Rattle.std.specs.Prelude.{ℕ, ◌≡◌, ◌≢◌, ◌<◌, ◌⊎◌, List, [], ◌∷◌, ◌++◌, length, get_or}
-use Rattle.lol_program.specs.Compounds.{Compound}
+use Rattle.lol_instructions.specs.Compounds.{Compound}
 use Rattle.lol_program.specs.Forest.{Node}
 use Rattle.lol_program.specs.Growth.{fresh}
 

@@ -1,8 +1,8 @@
 -- What lists of predicates stand for, by the lists of their members.
 use Rattle.std.proofs.Common.{◌≡◌, map, refl, ap, rules}
 use Rattle.std.specs.Global.{Vec}
-use Rattle.lol_program.specs.Compounds as compounds
-use Rattle.lol_program.specs.Compounds.{AndTest, Compounds, OrCompound, all_of, any_of}
+use Rattle.lol_instructions.specs.Compounds as compounds
+use Rattle.lol_instructions.specs.Compounds.{AndTest, Compounds, OrCompound, all_of, any_of}
 use Rattle.lol_program.specs.Predicates.{test_shown, row_tests, row_compounds, tests_of}
 use Rattle.lol_program.specs.declared.predicate.Test.{Row_of-Predicate, end_of-Predicate, more_of-Predicate, items-the_row-Predicate}
 use Rattle.lol_program.specs.declared.predicate.Test.TheVariants.{NoneOf, SomeOf}

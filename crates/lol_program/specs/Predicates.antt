@@ -1,8 +1,8 @@
 -- What the code's tests stand for.
 use Rattle.std.specs.Prelude.{map, string_bytes}
-use Rattle.lol_program.specs.Tests.{NameTest, AnyName, NoName, HasName, IsNthChild, IsNthOfType, AttributeTest, HasId, HasClass, HasAttribute, Compares}
-use Rattle.lol_program.specs.Compounds.{Compound, NoTests, AndTest, Compounds, NoCompounds, OrCompound, all_of, any_of}
-use Rattle.lol_program.specs.Compounds as compounds
+use Rattle.lol_instructions.specs.Tests.{NameTest, AnyName, NoName, HasName, IsNthChild, IsNthOfType, AttributeTest, HasId, HasClass, HasAttribute, Compares}
+use Rattle.lol_instructions.specs.Compounds.{Compound, NoTests, AndTest, Compounds, NoCompounds, OrCompound, all_of, any_of}
+use Rattle.lol_instructions.specs.Compounds as compounds
 use Rattle.lol_program.specs.declared.condition.OnTagNameExpr.{OnTagNameExpr}
 use Rattle.lol_program.specs.declared.condition.OnTagNameExpr.TheVariants.{ExplicitAny, Unmatchable, LocalName, NthChild, NthOfType}
 use Rattle.lol_program.specs.declared.condition.OnAttributesExpr.{OnAttributesExpr}

@@ -4,11 +4,11 @@ use Rattle.std.specs.Global.{Global}
 use Rattle.std.specs.Option.{option_map}
 use Rattle.std.specs.declared.ops.Range as std
 use Rattle.lol_memory.specs.Ids.{ascending}
-use Rattle.lol_program.specs.Attributes.{tag_attributes}
-use Rattle.lol_program.specs.Compiled.{sight_of, predicate_value, predicate_holds}
+use Rattle.lol_instructions.specs.Attributes.{tag_attributes}
+use Rattle.lol_instructions.specs.Compiled.{sight_of, predicate_value, predicate_holds}
 use Rattle.lol_program.specs.Programs.{Range, Instruction, Program}
 use Rattle.lol_program.specs.declared.compiler.Compiler.{Compiler}
-use Rattle.lol_program.specs.declared.instruction.Instruction as code
+use Rattle.lol_instructions.specs.declared.instruction.Instruction as code
 use Rattle.lol_program.specs.declared.program.Program as program
 
 abbrev pub range_shown : std.Range ℕ → Range

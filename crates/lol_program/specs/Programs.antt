@@ -3,10 +3,10 @@ use Rattle.std.specs.Prelude.{ℕ, ◌-◌, ◌<◌, ◌≤◌, ◌≡◌, ◌�
 use Rattle.std.specs.List.{range_with_len, list_any}
 use Rattle.lol_css.specs.declared.selector.Combinator.{Combinator}
 use Rattle.lol_css.specs.declared.selector.Combinator.TheVariants.{Child, Descendant}
-use Rattle.lol_program.specs.Tests.{Element}
-use Rattle.lol_program.specs.Compounds.{Compound, all_hold, by_names, has_test_by_type}
+use Rattle.lol_instructions.specs.Tests.{Element}
+use Rattle.lol_instructions.specs.Compounds.{Compound, all_hold, by_names, has_test_by_type}
 use Rattle.lol_program.specs.Paths.{Path, First, Then, Selectors, last_compound}
-use Rattle.lol_program.specs.declared.name_value.NameValue.{NameValue}
+use Rattle.lol_instructions.specs.declared.name_value.NameValue.{NameValue}
 
 -- 1. Ranges and instructions
 

@@ -12,8 +12,8 @@ use Rattle.lol_css.specs.declared.attribute.ParsedCaseSensitivity.TheVariants.{E
 use Rattle.lol_css.specs.declared.selector.Combinator.{Combinator}
 use Rattle.lol_css.specs.declared.selector.Combinator.TheVariants.{Child, Descendant}
 use Rattle.lol_css.specs.Progression.{Progression}
-use Rattle.lol_program.specs.Tests.{NameTest, AnyName, NoName, HasName, IsNthChild, IsNthOfType, AttributeTest, HasId, HasClass, HasAttribute, Compares}
-use Rattle.lol_program.specs.Compounds.{Test, OfName, OfAttributes, NoneOf, SomeOf, Compound, NoTests, AndTest, Compounds, NoCompounds, OrCompound}
+use Rattle.lol_instructions.specs.Tests.{NameTest, AnyName, NoName, HasName, IsNthChild, IsNthOfType, AttributeTest, HasId, HasClass, HasAttribute, Compares}
+use Rattle.lol_instructions.specs.Compounds.{Test, OfName, OfAttributes, NoneOf, SomeOf, Compound, NoTests, AndTest, Compounds, NoCompounds, OrCompound}
 use Rattle.lol_program.specs.Paths.{Path, First, Then}
 use Rattle.lol_program.specs.Same.{same_progression, same_name_test, same_operator, same_case, same_attribute_test, same_test, same_compound, same_compounds, same_step, same_path}
 

@@ -4,7 +4,7 @@ use Rattle.lol_memory.specs.Ids.{ascending}
 use Rattle.lol_css.specs.TreeViews.{compound_of}
 use Rattle.lol_css.specs.declared.selector.Combinator.{Combinator}
 use Rattle.lol_css.specs.declared.selector.Compound as css
-use Rattle.lol_program.specs.Compounds.{Compound}
+use Rattle.lol_instructions.specs.Compounds.{Compound}
 use Rattle.lol_program.specs.Conditions.{compound_tests}
 use Rattle.lol_program.specs.Forest.{Node, Forest, none, link}
 use Rattle.lol_program.specs.Predicates.{tests_of}

@@ -1,25 +1,24 @@
 //! From tests to compiled tests.
 
 ghost use Rattle.std.specs.Prelude.{◌≡◌, ◌||◌, IfOk, OnOk, IsTrue, map, string_bytes};
-ghost use Rattle.lol_program.specs.Compounds.{is_by_type, test_has_type, has_test_by_type, some_has_type, all_of, any_of};
-ghost use Rattle.lol_program.specs.Tests.{Compares};
+ghost use Rattle.lol_instructions.specs.Compounds.{is_by_type, test_has_type, has_test_by_type, some_has_type, all_of, any_of};
+ghost use Rattle.lol_instructions.specs.Tests.{Compares};
 ghost use Rattle.lol_program.specs.Predicates.{name_test, attribute_test, test_shown, tests_of};
 ghost use Rattle.lol_program.specs.Compiling.{IsCompiledName, IsCompiledAttribute, IsCompiledTest, AreCompiledTests, AreCompiledPredicates};
 
-use crate::attribute_matcher::AttrExprOperands;
-use crate::compiled_expr::{
-    AttributeExprTest, CompiledAttributeExpr, CompiledLocalNameExpr, LocalNameExprTest,
-};
-use crate::compiled_predicate::{CompiledPredicate, CompiledTest};
 use crate::condition::{AttributeComparisonExpr, OnAttributesExpr, OnTagNameExpr};
 use crate::predicate::{Predicate, Test};
 use lol_base::LocalName;
 use lol_css::AttrSelectorOperator;
+use lol_instructions::{
+    AttrExprOperands, AttributeExprTest, CompiledAttributeExpr, CompiledLocalNameExpr,
+    CompiledPredicate, CompiledTest, LocalNameExprTest,
+};
 use std::alloc::{AllocError, Global};
 
 /// What compiles to a test (lol_html's `Compilable`).
 pub trait Compilable {
-    ghost use Rattle.lol_program.specs.Compounds as compounds;
+    ghost use Rattle.lol_instructions.specs.Compounds as compounds;
 
     /// The test that is compiled.
     ghost test_of: { Self → compounds.Test };

@@ -5,10 +5,10 @@ ghost use Rattle.std.specs.Option.{option_map};
 ghost use Rattle.lol_program.specs.Asts.{trees_of, nodes_of};
 ghost use Rattle.lol_program.specs.Views.{node_of, forest_of};
 ghost use Rattle.lol_program.specs.Forest.{none, link, size};
-ghost use Rattle.lol_program.specs.Compounds.{has_test_by_type};
+ghost use Rattle.lol_instructions.specs.Compounds.{has_test_by_type};
 ghost use Rattle.lol_program.specs.Predicates.{tests_of};
 ghost use Rattle.lol_program.specs.Compiling.{AreCompiledTests};
-ghost use Rattle.lol_program.specs.Compiled.{tests_in};
+ghost use Rattle.lol_instructions.specs.Compiled.{tests_in};
 ghost use Rattle.lol_program.specs.Programs.{IsProgramOf};
 ghost use Rattle.lol_program.specs.Layouts.{width, range_of, any_by_type, selectors_in};
 ghost use Rattle.lol_program.specs.ProgramViews.{range_shown, program_shown, allocator_of};
@@ -17,11 +17,9 @@ ghost use Rattle.lol_program.specs.Laying.{AreLaid, SameOutside, SameElsewhere};
 use crate::ast::Ast;
 use crate::ast_node::AstNode;
 use crate::compilable::compile_tests;
-use crate::compiled_predicate::CompiledPredicate;
-use crate::execution_branch::{AddressRange, ExecutionBranch};
-use crate::instruction::Instruction;
 use crate::predicate::Predicate;
 use crate::program::Program;
+use lol_instructions::{AddressRange, CompiledPredicate, ExecutionBranch, Instruction};
 use std::alloc::{AllocError, Global};
 
 /// What makes programs of trees of selectors (lol_html's `Compiler`).

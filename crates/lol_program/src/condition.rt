@@ -3,7 +3,7 @@
 ghost use Rattle.std.specs.Prelude.{◌≡◌, ◌↔◌, IfOk, IsTrue, string_bytes};
 ghost use Rattle.std.specs.Option.{option_map};
 ghost use Rattle.lol_css.specs.TreeViews.{part_of};
-ghost use Rattle.lol_program.specs.Compounds.{OfName, OfAttributes};
+ghost use Rattle.lol_instructions.specs.Compounds.{OfName, OfAttributes};
 ghost use Rattle.lol_program.specs.Conditions.{plain_test, part_test};
 ghost use Rattle.lol_program.specs.Predicates.{name_test, attribute_test, condition_test};
 

@@ -3,7 +3,7 @@
 ghost use Rattle.std.specs.Prelude.{◌≡◌, IfOk, IsTrue, ◌↔◌, map};
 ghost use Rattle.lol_css.specs.TreeViews.{part_of, item_of, list_of, compound_of, with_part_list, with_item_list};
 ghost use Rattle.lol_css.specs.Trees.{Nothing, NoItems};
-ghost use Rattle.lol_program.specs.Compounds.{all_of, any_of};
+ghost use Rattle.lol_instructions.specs.Compounds.{all_of, any_of};
 ghost use Rattle.lol_program.specs.Conditions.{part_test, item_compound, items_compounds, written_tests, compound_tests};
 ghost use Rattle.lol_program.specs.Predicates.{condition_test, test_shown, tests_of};
 

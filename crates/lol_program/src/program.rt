@@ -1,7 +1,6 @@
 //! Programs of selectors.
 
-use crate::execution_branch::AddressRange;
-use crate::instruction::Instruction;
+use lol_instructions::{AddressRange, Instruction};
 
 /// The instructions of the selectors that are looked for, one for each node (lol_html's `Program`).
 #[derive(Drop)]

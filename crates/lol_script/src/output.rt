@@ -2,7 +2,7 @@
 
 ghost use Rattle.std.specs.Prelude.{◌≡◌, ◌∷◌, [], ◌++◌, IfOk, OnOk, map, decimal, Bool, true, false};
 ghost use Rattle.lol_vm.specs.Views.{match_of, answer_of};
-ghost use Rattle.lol_program.specs.Tries.{names_counted, attributes_counted};
+ghost use Rattle.lol_instructions.specs.Tries.{names_counted, attributes_counted};
 ghost use Rattle.lol_script.specs.Output.{comma_list, shown_match, tries_field, shown_answer};
 ghost use Rattle.lol_script.specs.Adding.{AddsLine};
 

@@ -7,7 +7,7 @@ use Rattle.std.specs.Cmp.{unsigned_Decides}
 use Rattle.std.proofs.lemmas.Bool.Decides.{nat_tests}
 use Rattle.std.proofs.lemmas.Slice.Eq.{bytes_eq-Decides}
 use Rattle.lol_base.specs.LocalNames.{Name, same_local_name}
-use Rattle.lol_program.specs.Counters.{full_count}
+use Rattle.lol_instructions.specs.Counters.{full_count}
 use Rattle.lol_stack.specs.Levels.{is_at_level, one_more, count_if_at}
 use Rattle.lol_stack.specs.TypedCounts.{TypedCount, is_of, level_of, levels_of, last_counted, all_above, cut_to}
 use Rattle.lol_stack.specs.TypedLaws.{contributes, typed_of, IsAscending, IsRising, CountsAtTheirLevel, CountingAddsOne, CuttingDropsAbove}

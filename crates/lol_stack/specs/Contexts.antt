@@ -1,7 +1,7 @@
 -- What a start tag gathers.
 use Rattle.std.specs.Prelude.{◌≡◌, if◌then◌else◌, []}
 use Rattle.lol_memory.specs.Ids.{Ids, no_ids, union}
-use Rattle.lol_program.specs.declared.execution_branch.ExecutionBranch.{ExecutionBranch}
+use Rattle.lol_instructions.specs.declared.execution_branch.ExecutionBranch.{ExecutionBranch}
 use Rattle.lol_stack.specs.WithRange.{with_range}
 use Rattle.lol_stack.specs.declared.stack_item.StackItemOf.{StackItemOf}
 use Rattle.lol_stack.specs.declared.stack_item.StackDirective.TheVariants.{Push}

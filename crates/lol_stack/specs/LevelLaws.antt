@@ -2,7 +2,7 @@
 use Rattle.std.proofs.Common.{◌≡◌, ◌≢◌, ap, refl, ℕ, true, false, nat_eq, Some, None, List, [], ◌∷◌, ◌++◌, arith, ◌+◌, ◌<◌}
 use Rattle.std.proofs.lemmas.Bool.Decides.{nat_tests}
 use Rattle.std.specs.Bool.{if◌then◌else◌}
-use Rattle.lol_program.specs.Counters.{full_count}
+use Rattle.lol_instructions.specs.Counters.{full_count}
 use Rattle.lol_stack.specs.Levels.{one_more, is_at_level, counted_at_last, count_if_at}
 
 pub is_at-append : (index : ℕ) (xs : List (ℕ × ℕ)) (x : ℕ × ℕ) → is_at_level index (xs ++ x ∷ []) ≡ nat_eq x.0 index

@@ -1,6 +1,6 @@
 -- Levels, and what was counted at each.
 use Rattle.std.specs.Prelude.{ℕ, ◌+◌, ◌-◌, Bool, false, ◌==◌, nat_lt, if◌then◌else◌, List, [], ◌∷◌, take, length, Option, Some, None}
-use Rattle.lol_program.specs.Counters.{full_count}
+use Rattle.lol_instructions.specs.Counters.{full_count}
 
 -- a full counter counts no more
 abbrev pub one_more : ℕ → ℕ

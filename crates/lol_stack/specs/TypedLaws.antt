@@ -2,7 +2,7 @@
 use Rattle.std.specs.Prelude.{ℕ, ◌+◌, ◌≤◌, ◌<◌, ◌≡◌, ◌&&◌, ◌==◌, nat_le, if◌then◌else◌, List, [], ◌∷◌, unwrap_or}
 use Rattle.std.specs.Str.{bytes_eq}
 use Rattle.lol_base.specs.LocalNames.{Name}
-use Rattle.lol_program.specs.Counters.{full_count}
+use Rattle.lol_instructions.specs.Counters.{full_count}
 use Rattle.lol_stack.specs.TypedCounts.{TypedCount, counted_by_type, cut_to, count_at, levels_of}
 
 abbrev pub contributes : ℕ → List ℕ → TypedCount → ℕ

@@ -7,7 +7,7 @@ ghost use Rattle.lol_base.specs.LocalNames.{Name, local_name};
 ghost use Rattle.lol_names.specs.NameMaps.{StandsInMap};
 ghost use Rattle.lol_memory.specs.Limiter.{charged};
 ghost use Rattle.lol_memory.specs.LimitedVec.{with_items, grown_slots, IsLimited};
-ghost use Rattle.lol_program.specs.Counters.{full_count};
+ghost use Rattle.lol_instructions.specs.Counters.{full_count};
 ghost use Rattle.lol_stack.specs.Calls.{IsCalledAtEach};
 ghost use Rattle.lol_stack.specs.StackLending.{lends_current};
 ghost use Rattle.lol_stack.specs.Directives.{directive_in};

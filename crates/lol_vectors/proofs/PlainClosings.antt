@@ -6,7 +6,7 @@ use Rattle.std.proofs.lemmas.List.{length-map, take-map, drop-map}
 use Rattle.lol_base.specs.ListLaws.{reverse-map}
 use Rattle.lol_base.specs.MemberLaws.{map-map}
 use Rattle.lol_base.specs.Names.{same_name}
-use Rattle.lol_program.specs.Tests.{Element}
+use Rattle.lol_instructions.specs.Tests.{Element}
 use Rattle.lol_vm.specs.Documents.{closed, after_end, place_of, inner_part, outer_part}
 use Rattle.lol_vectors.specs.PlainElements.{element_shown}
 use Rattle.lol_vectors.specs.Plain.{child_shown, document_shown}

@@ -8,7 +8,7 @@ use Rattle.lol_memory.specs.Ids.{Ids, has, union, ascending}
 use Rattle.lol_memory.specs.SetLaws.{has-union}
 use Rattle.lol_memory.specs.AscendingLaws.{ascending_rises}
 use Rattle.lol_program.specs.IdSetLaws.{listed_if_held, held}
-use Rattle.lol_program.specs.Tests.{Element}
+use Rattle.lol_instructions.specs.Tests.{Element}
 use Rattle.lol_program.specs.Paths.{Path}
 use Rattle.lol_vm.specs.Matching.{matches}
 use Rattle.lol_vm.specs.Answers.{matching_ids}

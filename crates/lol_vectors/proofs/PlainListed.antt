@@ -7,7 +7,7 @@ use Rattle.std.proofs.lemmas.Grind.{flat_map-append}
 use Rattle.lol_base.specs.ListLaws.{mapped_more}
 use Rattle.lol_css.specs.declared.selector.Combinator.TheVariants.{Child, Descendant}
 use Rattle.lol_memory.specs.Ids.{ascending}
-use Rattle.lol_program.specs.Compounds.{Compound}
+use Rattle.lol_instructions.specs.Compounds.{Compound}
 use Rattle.lol_program.specs.Paths.{Path, Then}
 use Rattle.lol_program.specs.Predicates.{tests_of}
 use Rattle.lol_program.specs.Forest.{Node}

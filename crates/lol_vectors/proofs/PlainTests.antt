@@ -1,11 +1,11 @@
 -- What an element passes, test by test.
 use Rattle.std.proofs.Common.{◌≡◌, Bool, ◌&&◌, ◌||◌, List, [], ◌∷◌, ◌++◌, map, refl, sym, ap, ◌∙◌}
 use Rattle.std.specs.List.{list_all, list_any}
-use Rattle.lol_program.specs.Tests.{Element}
-use Rattle.lol_program.specs.Compounds as compounds
-use Rattle.lol_program.specs.Compounds.{all_of, any_of, holds, all_hold, some_hold, both, either, test_by_names, by_names, some_by_names}
-use Rattle.lol_program.specs.declared.name_value.NameValue.{NameValue}
-use Rattle.lol_program.specs.declared.name_value.NameValue.TheVariants.{True, False, Open}
+use Rattle.lol_instructions.specs.Tests.{Element}
+use Rattle.lol_instructions.specs.Compounds as compounds
+use Rattle.lol_instructions.specs.Compounds.{all_of, any_of, holds, all_hold, some_hold, both, either, test_by_names, by_names, some_by_names}
+use Rattle.lol_instructions.specs.declared.name_value.NameValue.{NameValue}
+use Rattle.lol_instructions.specs.declared.name_value.NameValue.TheVariants.{True, False, Open}
 use Rattle.lol_program.specs.Predicates.{test_shown, tests_of}
 use Rattle.lol_program.specs.declared.predicate.Test.{Test}
 use Rattle.lol_program.specs.declared.predicate.Predicate.{Predicate}

@@ -1,6 +1,6 @@
 -- What the plain matcher's document and answers stand for.
 use Rattle.std.specs.Prelude.{ℕ, ◌+◌, Bool, not, ◌&&◌, if◌then◌else◌, List, ◌∷◌, map}
-use Rattle.lol_program.specs.Tests.{Element}
+use Rattle.lol_instructions.specs.Tests.{Element}
 use Rattle.lol_program.specs.Paths.{Selectors}
 use Rattle.lol_vm.specs.Events.{has_content}
 use Rattle.lol_vm.specs.Documents.{Child, Document, parent_of}

@@ -1,6 +1,6 @@
 -- What the plain matcher's elements stand for.
 use Rattle.lol_base.specs.StartTags.{StartTag}
-use Rattle.lol_program.specs.Tests.{Element}
+use Rattle.lol_instructions.specs.Tests.{Element}
 use Rattle.lol_vectors.specs.declared.plain_element.PlainElement.{PlainElement}
 
 abbrev pub tag_shown : PlainElement → StartTag

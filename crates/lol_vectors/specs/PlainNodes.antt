@@ -3,7 +3,7 @@ use Rattle.std.specs.Prelude.{ℕ, List, [], ◌∷◌, ◌++◌, map, flat_map}
 use Rattle.lol_css.specs.declared.selector.Combinator.{Combinator}
 use Rattle.lol_css.specs.declared.selector.Combinator.TheVariants.{Child, Descendant}
 use Rattle.lol_memory.specs.Ids.{ascending}
-use Rattle.lol_program.specs.Compounds.{Compound, NoTests}
+use Rattle.lol_instructions.specs.Compounds.{Compound, NoTests}
 use Rattle.lol_program.specs.Paths.{Path, First, Then, Selectors}
 use Rattle.lol_program.specs.Predicates.{tests_of}
 use Rattle.lol_program.specs.Forest.{Forest, none, more}

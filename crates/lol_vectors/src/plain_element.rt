@@ -2,10 +2,10 @@
 
 ghost use Rattle.std.specs.Prelude.{◌≡◌, ◌&&◌, IfOk, map, string_bytes};
 ghost use Rattle.lol_base.specs.Names.{same_name, lowercased};
-ghost use Rattle.lol_program.specs.Tests.{Element, Compares, name_holds, attribute_holds, needs_operand, is_empty_text};
-ghost use Rattle.lol_program.specs.Attributes.{tag_attributes, operands_hold};
-ghost use Rattle.lol_program.specs.Compounds.{holds, all_hold, some_hold, any_of};
-ghost use Rattle.lol_program.specs.Compounds as compounds;
+ghost use Rattle.lol_instructions.specs.Tests.{Element, Compares, name_holds, attribute_holds, needs_operand, is_empty_text};
+ghost use Rattle.lol_instructions.specs.Attributes.{tag_attributes, operands_hold};
+ghost use Rattle.lol_instructions.specs.Compounds.{holds, all_hold, some_hold, any_of};
+ghost use Rattle.lol_instructions.specs.Compounds as compounds;
 ghost use Rattle.lol_program.specs.Predicates.{name_test, attribute_test, test_shown, tests_of};
 ghost use Rattle.lol_vectors.specs.PlainElements.{element_shown};
 

@@ -1,7 +1,7 @@
 -- What a machine that stands for events answers.
 use Rattle.std.proofs.Common.{◌≡◌, ℕ, true, List, ◌↔◌, sym, ap, subst, Contains}
 use Rattle.std.specs.Prelude.{◌||◌, not}
-use Rattle.lol_program.specs.Tests.{Element, is_html}
+use Rattle.lol_instructions.specs.Tests.{Element, is_html}
 use Rattle.lol_program.specs.Paths.{Selectors}
 use Rattle.lol_vm.specs.Documents.{element_of}
 use Rattle.lol_vm.specs.Answers.{document, ascending_once, matching_ids}

@@ -5,7 +5,7 @@ use Rattle.std.specs.Prelude.{nat_lt}
 use Rattle.std.proofs.lemmas.List.{reverse-append, map-append, take_at, drop_at, length-append, append_assoc}
 use Rattle.std.proofs.lemmas.Bool.Decides.{nat_tests}
 use Rattle.lol_base.specs.Names.{same_name}
-use Rattle.lol_program.specs.Tests.{Element}
+use Rattle.lol_instructions.specs.Tests.{Element}
 use Rattle.lol_base.specs.MemberLaws.{Among}
 use Rattle.lol_vm.specs.Documents.{place_of, inner_part, outer_part}
 use Rattle.lol_vm.specs.Answers.{Ended}

@@ -3,7 +3,7 @@ use Rattle.std.proofs.Common.{◌≡◌, ℕ, Bool, true, List, length, sym, ap,
 use Rattle.std.specs.Prelude.{count_by}
 use Rattle.std.specs.List.{list_any}
 use Rattle.std.proofs.lemmas.List.Concat.{length-flat_map}
-use Rattle.lol_program.specs.Tests.{Element}
+use Rattle.lol_instructions.specs.Tests.{Element}
 use Rattle.lol_program.specs.Paths.{Path, Selectors}
 use Rattle.lol_base.specs.MemberLaws.{Among, same_count}
 use Rattle.lol_vm.specs.Matching.{left_matches}
@@ -11,7 +11,7 @@ use Rattle.lol_vm.specs.Answers.{name_tries, attribute_tries, needs_attributes}
 use Rattle.lol_base.specs.BoolLaws.{and_parts, same_bool}
 use Rattle.lol_base.specs.PlaceLaws.{at_among, at_within}
 use Rattle.lol_vm.proofs.Bools.{and_true}
-use Rattle.lol_program.specs.Compounds.{is_open}
+use Rattle.lol_instructions.specs.Compounds.{is_open}
 use Rattle.lol_program.specs.Programs.{Range, Program, IsAt, IsProgramOf, AreClosed, places, all_places}
 use Rattle.lol_vm.specs.Machines.{HoldOnce, LeftMatches}
 use Rattle.lol_vm.specs.PlaceRuns.{instruction_value, is_open_at}

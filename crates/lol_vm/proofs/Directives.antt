@@ -6,7 +6,7 @@ use Rattle.lol_base.specs.Names.{is_void, is_esi}
 use Rattle.lol_base.specs.StartTags.{StartTag}
 use Rattle.lol_base.specs.declared.namespace.Namespace.{Namespace}
 use Rattle.lol_base.specs.declared.namespace.Namespace.TheVariants.{Html, Svg, MathML}
-use Rattle.lol_program.specs.Tests.{is_html}
+use Rattle.lol_instructions.specs.Tests.{is_html}
 use Rattle.lol_stack.specs.Directives.{directive_in}
 use Rattle.lol_vm.specs.Events.{has_content, has_content_in}
 use Rattle.lol_stack.specs.contracts.stack_item.StackDirective.{the_type}

@@ -13,14 +13,14 @@ use Rattle.lol_base.specs.Names.{is_void, is_esi, lowercased, same_name, void_na
 use Rattle.lol_base.specs.StartTags.{StartTag}
 use Rattle.lol_base.specs.declared.namespace.Namespace.{Namespace}
 use Rattle.lol_base.specs.declared.namespace.Namespace.TheVariants.{Html}
-use Rattle.lol_program.specs.Compounds.{has_test_by_type}
+use Rattle.lol_instructions.specs.Compounds.{has_test_by_type}
 use Rattle.lol_program.specs.IdSetLaws.{listed_if_held}
 use Rattle.lol_program.specs.Paths.{Path, Selectors, last_compound}
 use Rattle.lol_program.specs.Programs.{IsProgramOf}
 use Rattle.lol_program.specs.Programs as programs
 use Rattle.lol_program.specs.ProgramViews.{instruction_shown, program_shown}
-use Rattle.lol_program.specs.Tests.{is_html}
-use Rattle.lol_program.specs.declared.instruction.Instruction.{Instruction}
+use Rattle.lol_instructions.specs.Tests.{is_html}
+use Rattle.lol_instructions.specs.declared.instruction.Instruction.{Instruction}
 use Rattle.lol_program.specs.declared.program.Program.{Program}
 use denote.Enum.Bare.{sameb}
 use Rattle.lol_stack.specs.Directives.{directive_in}

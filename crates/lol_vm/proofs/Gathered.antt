@@ -3,8 +3,8 @@ use Rattle.std.proofs.Common.{◌≡◌, ℕ, Bool, true, false, cond, List, [],
 use Rattle.std.specs.Prelude.{slice_get, option_to_list}
 use Rattle.lol_css.specs.declared.selector.Combinator.{Combinator}
 use Rattle.lol_css.specs.declared.selector.Combinator.TheVariants.{Child, Descendant}
-use Rattle.lol_program.specs.Tests.{Element}
-use Rattle.lol_program.specs.Compounds.{all_hold}
+use Rattle.lol_instructions.specs.Tests.{Element}
+use Rattle.lol_instructions.specs.Compounds.{all_hold}
 use Rattle.lol_program.specs.Paths.{Path, Selectors, last_compound}
 use Rattle.lol_base.specs.MemberLaws.{Among, Distinct}
 use Rattle.lol_vm.specs.Matching.{left_matches, matches}

@@ -12,7 +12,7 @@ use Rattle.lol_memory.specs.Ids as sets
 use Rattle.lol_memory.specs.SetLaws.{has-no_ids, has-union}
 use Rattle.lol_memory.specs.AscendingLaws.{ascending_rises}
 use Rattle.lol_program.specs.ProgramViews.{range_shown, instruction_shown}
-use Rattle.lol_program.specs.declared.instruction.Instruction as code
+use Rattle.lol_instructions.specs.declared.instruction.Instruction as code
 use Rattle.lol_program.specs.IdSetLaws.{listed_if_held, held}
 use Rattle.lol_vm.specs.Answers.{ascending_once}
 use Rattle.lol_vm.specs.ReportLaws.{ascending_is_determined, ascending_ascends, pairs_from_ascends, among_ascending, ascending_among}

@@ -8,16 +8,16 @@ use Rattle.std.proofs.lemmas.Grind.{flat_map-append}
 use Rattle.std.proofs.lemmas.List.Elements.{All-get_or}
 use Rattle.std.proofs.lemmas.List.Sums.{sum_by-append, count_by-le-length}
 use Rattle.std.proofs.lemmas.List.Folds.{length-flat_map-take}
-use Rattle.lol_program.specs.Tries.{names_counted, attributes_counted}
-use Rattle.lol_program.specs.declared.tries.Tries.{Tries}
+use Rattle.lol_instructions.specs.Tries.{names_counted, attributes_counted}
+use Rattle.lol_instructions.specs.declared.tries.Tries.{Tries}
 use Rattle.lol_memory.specs.Ids.{Ids}
-use Rattle.lol_program.specs.Attributes.{TagAttributes}
-use Rattle.lol_program.specs.Compiled.{Sight}
-use Rattle.lol_program.specs.Compounds.{is_open}
-use Rattle.lol_program.specs.Running.{tries_of_attributes}
-use Rattle.lol_program.specs.declared.name_value.NameValue.{NameValue}
-use Rattle.lol_program.specs.declared.name_value.NameValue.TheVariants.{True, False, Open}
-use Rattle.lol_program.specs.declared.instruction.Instruction.{Instruction}
+use Rattle.lol_instructions.specs.Attributes.{TagAttributes}
+use Rattle.lol_instructions.specs.Compiled.{Sight}
+use Rattle.lol_instructions.specs.Compounds.{is_open}
+use Rattle.lol_instructions.specs.Running.{tries_of_attributes}
+use Rattle.lol_instructions.specs.declared.name_value.NameValue.{NameValue}
+use Rattle.lol_instructions.specs.declared.name_value.NameValue.TheVariants.{True, False, Open}
+use Rattle.lol_instructions.specs.declared.instruction.Instruction.{Instruction}
 use Rattle.lol_vm.specs.InstructionRuns.{HaveSmallIds, value_seen, holds_seen, is_true, with_branch_if, open_among, first_open_from, gathered_by_names, gathered_with_attributes, instructions_at, all_at, AreRunnable, IsInsideOf, HasTriesLeft, ranges_in, ranges_from, IsStopIn}
 use Rattle.lol_stack.specs.WithRange.{no_range}
 use Rattle.lol_vm.specs.declared.instruction_runs.Stop.{Stop}

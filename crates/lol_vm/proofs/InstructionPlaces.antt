@@ -7,15 +7,15 @@ use Rattle.std.specs.declared.ops.Range as std
 use Rattle.std.proofs.lemmas.List.{map-append, length-map}
 use Rattle.lol_base.specs.MemberLaws.{Among, contains_from_among, count_by-cons}
 use Rattle.lol_memory.specs.Ids.{Ids}
-use Rattle.lol_program.specs.Attributes.{tag_attributes}
-use Rattle.lol_program.specs.Compiled.{sight_of}
-use Rattle.lol_program.specs.Compounds.{is_open}
+use Rattle.lol_instructions.specs.Attributes.{tag_attributes}
+use Rattle.lol_instructions.specs.Compiled.{sight_of}
+use Rattle.lol_instructions.specs.Compounds.{is_open}
 use Rattle.lol_program.specs.Programs.{Instruction, Program, places, all_places}
 use Rattle.lol_program.specs.ProgramViews.{range_shown, instruction_shown, code_of}
-use Rattle.lol_program.specs.Tests.{Element}
-use Rattle.lol_program.specs.declared.instruction.Instruction as code
-use Rattle.lol_program.specs.declared.name_value.NameValue.{NameValue}
-use Rattle.lol_program.specs.declared.name_value.NameValue.TheVariants.{True, False, Open}
+use Rattle.lol_instructions.specs.Tests.{Element}
+use Rattle.lol_instructions.specs.declared.instruction.Instruction as code
+use Rattle.lol_instructions.specs.declared.name_value.NameValue.{NameValue}
+use Rattle.lol_instructions.specs.declared.name_value.NameValue.TheVariants.{True, False, Open}
 use Rattle.lol_vm.specs.Gathering.{Gathers}
 use Rattle.lol_vm.specs.InstructionLaws.{InstructionsAreAsOpen, InstructionsGather}
 use Rattle.lol_vm.specs.InstructionRuns.{IsInsideOf, instructions_at, all_at, value_seen, is_true, holds_seen, open_among, first_open_from, with_branch_if, gathered_by_names, gathered_with_attributes}

@@ -4,7 +4,7 @@ use Rattle.std.specs.Prelude.{◌==◌, ◌&&◌, not}
 use Rattle.std.specs.List.{list_any}
 use Rattle.std.proofs.lemmas.Bool.Decides.{Decides-eqb}
 use Rattle.lol_base.specs.StartTags.{StartTag}
-use Rattle.lol_program.specs.Tests.{Element}
+use Rattle.lol_instructions.specs.Tests.{Element}
 use Rattle.lol_program.specs.Paths.{Selectors}
 use Rattle.lol_base.specs.MemberLaws.{Among}
 use Rattle.lol_vm.specs.Events.{Event, Start, End, has_content}

@@ -8,9 +8,9 @@ use Rattle.lol_base.specs.StartTags.{StartTag}
 use Rattle.lol_memory.specs.LimitedVec.{IsLimited}
 use Rattle.lol_memory.specs.Limiter.{Limiter, charged}
 use Rattle.lol_memory.specs.Slots.{slots}
-use Rattle.lol_program.specs.Counters.{full_count}
+use Rattle.lol_instructions.specs.Counters.{full_count}
 use Rattle.lol_program.specs.Paths.{Selectors}
-use Rattle.lol_program.specs.Tests.{Element}
+use Rattle.lol_instructions.specs.Tests.{Element}
 use Rattle.lol_vm.specs.Answers.{after, document}
 use Rattle.lol_vm.specs.Documents.{Document, empty, element_of, children_of, closed, same_parent, parent_of, place_of, inner_part, after_start, after_end}
 use Rattle.lol_vm.specs.Events.{Event, Start, End}

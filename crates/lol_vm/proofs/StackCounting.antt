@@ -9,8 +9,8 @@ use Rattle.lol_base.specs.MemberLaws.{count_by-cons}
 use Rattle.lol_base.specs.Names.{same_name, lowercased}
 use Rattle.lol_base.specs.LocalNames.{Name, local_name, same_local_name}
 use Rattle.lol_base.specs.StartTags.{StartTag}
-use Rattle.lol_program.specs.Counters.{full_count}
-use Rattle.lol_program.specs.Tests.{Element}
+use Rattle.lol_instructions.specs.Counters.{full_count}
+use Rattle.lol_instructions.specs.Tests.{Element}
 use Rattle.lol_vm.specs.Documents.{Child, Document, element_of, same_parent, children_of, typed_children_of}
 use Rattle.lol_vm.specs.Standing.{Machine, AreTyped, AreCounted, counted, counted_root, counted_last, counted_typed, or_root}
 use Rattle.lol_vm.specs.Standing as standing

@@ -13,20 +13,20 @@ use Rattle.std.specs.declared.ops.Range as std
 use Rattle.lol_base.specs.LocalNames.{Name}
 use Rattle.lol_base.specs.MemberLaws.{Among}
 use Rattle.lol_memory.specs.Ids.{Ids}
-use Rattle.lol_program.specs.Attributes.{TagAttributes}
-use Rattle.lol_program.specs.Compiled.{Sight, sight_of}
-use Rattle.lol_program.specs.Compounds.{is_open}
+use Rattle.lol_instructions.specs.Attributes.{TagAttributes}
+use Rattle.lol_instructions.specs.Compiled.{Sight, sight_of}
+use Rattle.lol_instructions.specs.Compounds.{is_open}
 use Rattle.lol_program.specs.Paths.{Path, Selectors}
 use Rattle.lol_program.specs.Programs.{Range, AreClosed, IsProgramOf, places, all_places}
 use Rattle.lol_program.specs.Programs as programs
 use Rattle.lol_program.specs.ProgramViews.{range_shown, instruction_shown, code_of, program_shown}
-use Rattle.lol_program.specs.Tests.{Element}
-use Rattle.lol_program.specs.Tries.{names_counted, attributes_counted}
-use Rattle.lol_program.specs.declared.instruction.Instruction.{Instruction}
-use Rattle.lol_program.specs.declared.name_value.NameValue.{NameValue}
-use Rattle.lol_program.specs.declared.name_value.NameValue.TheVariants.{True, False, Open}
+use Rattle.lol_instructions.specs.Tests.{Element}
+use Rattle.lol_instructions.specs.Tries.{names_counted, attributes_counted}
+use Rattle.lol_instructions.specs.declared.instruction.Instruction.{Instruction}
+use Rattle.lol_instructions.specs.declared.name_value.NameValue.{NameValue}
+use Rattle.lol_instructions.specs.declared.name_value.NameValue.TheVariants.{True, False, Open}
 use Rattle.lol_program.specs.declared.program.Program.{Program}
-use Rattle.lol_program.specs.declared.tries.Tries.{Tries}
+use Rattle.lol_instructions.specs.declared.tries.Tries.{Tries}
 use Rattle.lol_vm.specs.Answers.{name_tries, attribute_tries}
 use Rattle.lol_stack.specs.Contexts.{with_branch}
 use Rattle.lol_vm.specs.Gathering.{Gathers}

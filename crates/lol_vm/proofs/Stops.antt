@@ -10,16 +10,16 @@ use Rattle.std.proofs.lemmas.List.Concat.{length-flat_map}
 use Rattle.std.proofs.lemmas.List.FromFn.{length-range_with_len, get_or-range_with_len}
 use Rattle.std.specs.Option.{option_map}
 use Rattle.lol_base.specs.StartTags.{Attribute}
-use Rattle.lol_program.specs.Tests.{Element, is_html}
+use Rattle.lol_instructions.specs.Tests.{Element, is_html}
 use Rattle.lol_program.specs.Paths.{Path, Selectors, last_compound}
 use Rattle.lol_base.specs.MemberLaws.{count_by-cons, Among, among_from_contains, contains_from_among}
 use Rattle.lol_vm.specs.Matching.{left_matches}
 use Rattle.lol_vm.specs.Answers.{needs_attributes, asks}
 use Rattle.lol_base.specs.BoolLaws.{or_of}
-use Rattle.lol_program.specs.Compounds.{is_open, Decides, by_names, with_rest}
+use Rattle.lol_instructions.specs.Compounds.{is_open, Decides, by_names, with_rest}
 use Rattle.lol_program.specs.Programs.{Range, Instruction, Program, IsAt, IsProgramOf, places, all_places}
-use Rattle.lol_program.specs.declared.name_value.NameValue.{NameValue}
-use Rattle.lol_program.specs.declared.name_value.NameValue.TheVariants.{True, False, Open}
+use Rattle.lol_instructions.specs.declared.name_value.NameValue.{NameValue}
+use Rattle.lol_instructions.specs.declared.name_value.NameValue.TheVariants.{True, False, Open}
 use Rattle.lol_program.specs.ValueLaws.{values_decide, values_are_by_names}
 use Rattle.lol_vm.specs.PlaceRuns.{Context, no_context, Stop, given_by, gathered_from_places, context_of, branch, step_with_attributes, step_by_names, run, run_by_names, instruction_value, value_at, is_open_at, stop_in, stop_or, first_open, ids_list, jumps_list, hereditary_jumps_list}
 use Rattle.lol_vm.proofs.Held.{path_at}

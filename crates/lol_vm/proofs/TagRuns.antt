@@ -6,13 +6,13 @@ use Rattle.std.proofs.Math.Seq.{take-append-add, drop-append-add}
 use Rattle.std.proofs.lemmas.Grind.{flat_map-append}
 use Rattle.std.proofs.lemmas.List.{take-append-le, drop-append-le, get_or_append_left, get_or-append-add, length-append}
 use Rattle.std.proofs.lemmas.List.Sums.{count_by-le-length}
-use Rattle.lol_program.specs.Compounds.{is_open}
+use Rattle.lol_instructions.specs.Compounds.{is_open}
 use Rattle.lol_memory.specs.Ids.{Ids}
-use Rattle.lol_program.specs.Attributes.{TagAttributes}
-use Rattle.lol_program.specs.Compiled.{Sight}
-use Rattle.lol_program.specs.Tries.{names_counted, attributes_counted}
-use Rattle.lol_program.specs.declared.instruction.Instruction.{Instruction}
-use Rattle.lol_program.specs.declared.tries.Tries.{Tries}
+use Rattle.lol_instructions.specs.Attributes.{TagAttributes}
+use Rattle.lol_instructions.specs.Compiled.{Sight}
+use Rattle.lol_instructions.specs.Tries.{names_counted, attributes_counted}
+use Rattle.lol_instructions.specs.declared.instruction.Instruction.{Instruction}
+use Rattle.lol_instructions.specs.declared.tries.Tries.{Tries}
 use Rattle.lol_vm.specs.InstructionRuns.{AreRunnable, IsInsideOf, value_seen, all_at, place_in, IsStopIn, ranges_from, open_among, instructions_at, first_open_from, tried_until, gathered_by_names, gathered_with_attributes}
 use Rattle.lol_stack.specs.WithRange.{no_range}
 use Rattle.lol_vm.specs.TagRuns.{later_stop, IsStopOf, AreTried, AreExecuted, AreWithin}

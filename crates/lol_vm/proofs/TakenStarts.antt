@@ -11,10 +11,10 @@ use Rattle.lol_memory.specs.LimitedVec.{IsLimited}
 use Rattle.lol_memory.specs.Limiter.{Limiter, Passes, charged}
 use Rattle.lol_memory.specs.Slots.{minimum_slots}
 use Rattle.lol_memory.specs.declared.match_info.MatchInfo.{MatchInfo}
-use Rattle.lol_program.specs.Counters.{full_count}
+use Rattle.lol_instructions.specs.Counters.{full_count}
 use Rattle.lol_program.specs.Paths.{Selectors}
-use Rattle.lol_program.specs.Tests.{Element}
-use Rattle.lol_program.specs.Tries.{names_counted, attributes_counted}
+use Rattle.lol_instructions.specs.Tests.{Element}
+use Rattle.lol_instructions.specs.Tries.{names_counted, attributes_counted}
 use Rattle.lol_vm.specs.Answers as answers
 use Rattle.lol_vm.specs.Answers.{Answer, Match, answer, asks, attribute_tries, document, is_dropped, name_tries, report}
 use Rattle.lol_stack.specs.Calls.{IsCalledAtEach}

@@ -6,7 +6,7 @@ use Rattle.std.proofs.lemmas.Bool.Decides.{Decides-eqb}
 use Rattle.std.proofs.lemmas.List.{map-append}
 use Rattle.lol_base.specs.LocalNames.{Name, same_local_name}
 use Rattle.lol_base.specs.MemberLaws.{map-map}
-use Rattle.lol_program.specs.Counters.{full_count}
+use Rattle.lol_instructions.specs.Counters.{full_count}
 use Rattle.lol_stack.specs.Levels.{one_more, is_at_level, count_if_at, counted_at_last}
 use Rattle.lol_stack.specs.TypedCounts.{TypedCount, key_of, is_of, level_of, levels_of, last_counted, counted_by_type, all_above, cut_to}
 use Rattle.lol_vm.specs.StackMachines.{levels_in, first_or, Climb, typed_shown}

@@ -8,12 +8,12 @@ use Rattle.lol_base.specs.StartTags.{Attribute, StartTag}
 use Rattle.lol_base.specs.declared.namespace.Namespace.{Namespace}
 use Rattle.lol_base.specs.declared.namespace.Namespace.TheVariants.{Html, Svg, MathML}
 use Rattle.lol_css.specs.declared.selector.Combinator.TheVariants.{Child, Descendant}
-use Rattle.lol_program.specs.Tests.{Element, is_html}
-use Rattle.lol_program.specs.Compounds.{by_names, all_hold, is_open, Decides}
+use Rattle.lol_instructions.specs.Tests.{Element, is_html}
+use Rattle.lol_instructions.specs.Compounds.{by_names, all_hold, is_open, Decides}
 use Rattle.lol_program.specs.Paths.{Path, First, Then, Selectors, last_compound}
 use Rattle.lol_program.specs.Programs.{AreClosed}
-use Rattle.lol_program.specs.declared.name_value.NameValue.{NameValue}
-use Rattle.lol_program.specs.declared.name_value.NameValue.TheVariants.{True, False, Open}
+use Rattle.lol_instructions.specs.declared.name_value.NameValue.{NameValue}
+use Rattle.lol_instructions.specs.declared.name_value.NameValue.TheVariants.{True, False, Open}
 use Rattle.lol_base.specs.MemberLaws.{Among}
 use Rattle.lol_program.specs.ValueLaws.{values_decide, values_are_by_names}
 use Rattle.lol_vm.specs.Events.{Event, Start, End, has_content, has_content_in}

@@ -15,8 +15,8 @@ use Rattle.lol_vm.specs.StackMachines.{KeepsMachine, item_shown}
 use Rattle.lol_stack.specs.Stacks.{items_in, active_in, count_or, typed_in, count_by_type}
 use Rattle.lol_program.specs.Programs.{all_places}
 use Rattle.lol_program.specs.ProgramViews.{range_shown}
-use Rattle.lol_program.specs.Tests.{is_html}
-use Rattle.lol_program.specs.Tries.{names_counted}
+use Rattle.lol_instructions.specs.Tests.{is_html}
+use Rattle.lol_instructions.specs.Tries.{names_counted}
 use Rattle.lol_vm.specs.Events.{has_content}
 use Rattle.lol_vm.specs.InstructionRuns.{ranges_in}
 use Rattle.lol_vm.specs.Standing.{Machine, ranges_of_machine}

@@ -13,14 +13,14 @@ use Rattle.lol_memory.specs.LimitedVec.{LimitedVec, IsLimited}
 use Rattle.lol_memory.specs.Limiter.{Limiter}
 use Rattle.lol_program.specs.Asts.{nodes_of}
 use Rattle.lol_program.specs.ClosedLaws.{trees_are_closed}
-use Rattle.lol_program.specs.Counters.{full_count}
+use Rattle.lol_instructions.specs.Counters.{full_count}
 use Rattle.lol_program.specs.Programs.{IsProgramOf}
 use Rattle.lol_program.specs.declared.ast.Ast.{Ast}
 use Rattle.lol_program.specs.declared.program.Program.{Program}
 use Rattle.lol_program.specs.Paths.{Path, Selectors}
 use Rattle.lol_program.specs.ProgramViews.{program_shown}
-use Rattle.lol_program.specs.Tests.{Element}
-use Rattle.lol_program.specs.declared.tries.Tries.{Tries}
+use Rattle.lol_instructions.specs.Tests.{Element}
+use Rattle.lol_instructions.specs.declared.tries.Tries.{Tries}
 use Rattle.lol_vm.specs.Answers.{document}
 use Rattle.lol_vm.specs.Documents.{Document, after_start, after_end}
 use Rattle.lol_vm.specs.Events.{Event, End}

@@ -12,14 +12,14 @@ use Rattle.lol_base.specs.declared.namespace.Namespace.{Namespace}
 use Rattle.lol_memory.specs.Ids.{Ids, ascending}
 use Rattle.lol_memory.specs.LimitedVec.{LimitedVec}
 use Rattle.lol_memory.specs.declared.match_info.MatchInfo.{MatchInfo}
-use Rattle.lol_program.specs.Compiled.{sight_of}
-use Rattle.lol_program.specs.Counters.{full_count}
+use Rattle.lol_instructions.specs.Compiled.{sight_of}
+use Rattle.lol_instructions.specs.Counters.{full_count}
 use Rattle.lol_program.specs.Paths.{Selectors}
 use Rattle.lol_program.specs.Programs.{Range, Once, all_places}
 use Rattle.lol_program.specs.ProgramViews.{range_shown}
-use Rattle.lol_program.specs.Tests.{Element, is_html}
-use Rattle.lol_program.specs.Tries.{names_counted, attributes_counted}
-use Rattle.lol_program.specs.declared.tries.Tries.{Tries}
+use Rattle.lol_instructions.specs.Tests.{Element, is_html}
+use Rattle.lol_instructions.specs.Tries.{names_counted, attributes_counted}
+use Rattle.lol_instructions.specs.declared.tries.Tries.{Tries}
 use Rattle.lol_vm.specs.Answers.{Match, needs_attributes, Started, Dropped, answer, asks, is_dropped, document, ascending_once, matching_ids, name_tries, attribute_tries, report}
 use Rattle.lol_stack.specs.Calls.{IsCalledAtEach, reports}
 use Rattle.lol_stack.specs.Contexts.{IsNewItem}

@@ -1,7 +1,7 @@
 -- Selectors whose pairs give the same ids, that ask for the same and have as many nodes of each kind answer alike.
 use Rattle.std.proofs.Common.{◌≡◌, ℕ, Bool, ◌&&◌, not, cond, List, [], ◌∷◌, map, refl, ap, ◌∙◌}
 use Rattle.std.specs.Prelude.{count_by}
-use Rattle.lol_program.specs.Tests.{Element}
+use Rattle.lol_instructions.specs.Tests.{Element}
 use Rattle.lol_program.specs.Paths.{Path, Selectors}
 use Rattle.lol_vm.specs.Events.{Event, Start, End, has_content}
 use Rattle.lol_vm.specs.Documents.{Document, element_of, after_start}

@@ -1,8 +1,8 @@
 -- What the machine answers to a list of events.
 use Rattle.std.specs.Prelude.{ℕ, Bool, not, ◌&&◌, ◌||◌, if◌then◌else◌, ◌==◌, nat_lt, List, [], ◌∷◌, map, filter, count_by}
 use Rattle.std.specs.List.{list_any}
-use Rattle.lol_program.specs.Tests.{Element, is_html}
-use Rattle.lol_program.specs.Compounds.{by_names, is_open}
+use Rattle.lol_instructions.specs.Tests.{Element, is_html}
+use Rattle.lol_instructions.specs.Compounds.{by_names, is_open}
 use Rattle.lol_program.specs.Paths.{Path, Selectors, last_compound}
 use Rattle.lol_vm.specs.Events.{Event, Start, End, has_content}
 use Rattle.lol_vm.specs.Documents.{Document, empty, element_of, closed, after_start, after_end}

@@ -6,7 +6,7 @@ use Rattle.lol_memory.specs.Ids.{Ids}
 use Rattle.lol_memory.specs.LimitedVec.{IsLimited}
 use Rattle.lol_memory.specs.Limiter.{Limiter}
 use Rattle.lol_memory.specs.declared.match_info.MatchInfo.{MatchInfo}
-use Rattle.lol_program.specs.Counters.{full_count}
+use Rattle.lol_instructions.specs.Counters.{full_count}
 use Rattle.lol_program.specs.Paths.{Selectors}
 use Rattle.lol_vm.specs.Answers.{document, answer, is_dropped}
 use Rattle.lol_vm.specs.Documents.{element_of, children_of}

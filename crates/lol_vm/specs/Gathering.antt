@@ -3,7 +3,7 @@ use Rattle.std.specs.Prelude.{ℕ, ◌≡◌, ◌↔◌, Bool, true, map, Contai
 use Rattle.lol_memory.specs.Ids.{Ids, has}
 use Rattle.lol_memory.specs.Ids as sets
 use Rattle.lol_program.specs.ProgramViews.{range_shown, instruction_shown}
-use Rattle.lol_program.specs.declared.instruction.Instruction as code
+use Rattle.lol_instructions.specs.declared.instruction.Instruction as code
 use Rattle.lol_vm.specs.Answers.{ascending_once}
 use Rattle.lol_stack.specs.Contexts.{IsNewItem, with_branch}
 use Rattle.lol_vm.specs.PlaceRuns.{Context, no_context, branch}

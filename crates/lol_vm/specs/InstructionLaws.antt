@@ -2,12 +2,12 @@
 use Rattle.std.specs.Prelude.{ℕ, ◌≡◌, Bool, List, map, length, All, count_by}
 use Rattle.std.specs.declared.ops.Range as std
 use Rattle.lol_memory.specs.Ids.{Ids}
-use Rattle.lol_program.specs.Attributes.{tag_attributes}
-use Rattle.lol_program.specs.Compiled.{sight_of}
+use Rattle.lol_instructions.specs.Attributes.{tag_attributes}
+use Rattle.lol_instructions.specs.Compiled.{sight_of}
 use Rattle.lol_program.specs.Programs.{Program, all_places}
 use Rattle.lol_program.specs.ProgramViews.{range_shown, code_of}
-use Rattle.lol_program.specs.Tests.{Element}
-use Rattle.lol_program.specs.declared.instruction.Instruction as code
+use Rattle.lol_instructions.specs.Tests.{Element}
+use Rattle.lol_instructions.specs.declared.instruction.Instruction as code
 use Rattle.lol_vm.specs.Gathering.{Gathers}
 use Rattle.lol_vm.specs.InstructionRuns.{IsInsideOf, all_at, open_among, first_open_from, gathered_by_names, gathered_with_attributes}
 use Rattle.lol_vm.specs.PlaceRuns.{Context, is_open_at, first_open, run, run_by_names}

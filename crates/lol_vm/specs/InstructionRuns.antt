@@ -3,14 +3,14 @@ use Rattle.std.specs.Prelude.{ℕ, ◌+◌, Bool, true, false, if◌then◌else�
 use Rattle.std.specs.List.{slice_range}
 use Rattle.std.specs.declared.ops.Range.{Range}
 use Rattle.lol_memory.specs.Ids.{Ids, AllSmall}
-use Rattle.lol_program.specs.Attributes.{TagAttributes}
-use Rattle.lol_program.specs.Compiled.{Sight, predicate_value, predicate_holds}
-use Rattle.lol_program.specs.Compounds.{is_open}
-use Rattle.lol_program.specs.Tries.{names_counted, attributes_counted}
-use Rattle.lol_program.specs.declared.tries.Tries.{Tries}
-use Rattle.lol_program.specs.declared.instruction.Instruction.{Instruction}
-use Rattle.lol_program.specs.declared.name_value.NameValue.{NameValue}
-use Rattle.lol_program.specs.declared.name_value.NameValue.TheVariants.{True, False, Open}
+use Rattle.lol_instructions.specs.Attributes.{TagAttributes}
+use Rattle.lol_instructions.specs.Compiled.{Sight, predicate_value, predicate_holds}
+use Rattle.lol_instructions.specs.Compounds.{is_open}
+use Rattle.lol_instructions.specs.Tries.{names_counted, attributes_counted}
+use Rattle.lol_instructions.specs.declared.tries.Tries.{Tries}
+use Rattle.lol_instructions.specs.declared.instruction.Instruction.{Instruction}
+use Rattle.lol_instructions.specs.declared.name_value.NameValue.{NameValue}
+use Rattle.lol_instructions.specs.declared.name_value.NameValue.TheVariants.{True, False, Open}
 use Rattle.lol_vm.specs.declared.instruction_runs.Stop.{Stop}
 use Rattle.lol_stack.specs.Contexts.{with_branch}
 use Rattle.lol_stack.specs.WithRange.{no_range}

@@ -1,7 +1,7 @@
 -- Laws over the definitions, which later layers stand on.
 use Rattle.lol_program.specs.Sets.{SameMembers}
 use Rattle.std.specs.Prelude.{ℕ, ◌≡◌, ◌≢◌, ◌<◌, ◌↔◌, true, Bool, List, [], map, None, Contains, AllPairs}
-use Rattle.lol_program.specs.Tests.{Element}
+use Rattle.lol_instructions.specs.Tests.{Element}
 use Rattle.lol_program.specs.Paths.{Path, Selectors}
 use Rattle.lol_program.specs.Asts.{pairs_of, nodes_of}
 use Rattle.lol_program.specs.declared.ast.Ast.{Ast}

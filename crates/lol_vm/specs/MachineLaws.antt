@@ -2,8 +2,8 @@
 use Rattle.std.specs.Prelude.{ℕ, ◌+◌, ◌<◌, ◌≤◌, ◌≡◌, ◌↔◌, ◌||◌, not, Bool, true, false, List, [], ◌∷◌, ◌++◌, length, drop, count_by, Option, Some, None, Contains}
 use Rattle.std.specs.List.{list_any, sum_by}
 use Rattle.lol_base.specs.StartTags.{Attribute}
-use Rattle.lol_program.specs.Tests.{Element, is_html}
-use Rattle.lol_program.specs.Compounds.{Decides, with_rest}
+use Rattle.lol_instructions.specs.Tests.{Element, is_html}
+use Rattle.lol_instructions.specs.Compounds.{Decides, with_rest}
 use Rattle.lol_program.specs.Paths.{Path, Selectors}
 use Rattle.lol_program.specs.Programs.{Range, Program, Instruction, AreClosed, IsProgramOf, IsAt, places, all_places}
 use Rattle.lol_vm.specs.Answers.{name_tries, attribute_tries, needs_attributes, matching_ids}

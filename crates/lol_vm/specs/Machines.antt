@@ -2,7 +2,7 @@
 use Rattle.std.specs.Prelude.{ℕ, ◌≡◌, ◌↔◌, ◌&&◌, ◌==◌, not, Bool, true, List, [], ◌∷◌, ◌++◌, map, filter, length, reverse, Option, Some, Contains}
 use Rattle.std.specs.List.{list_any}
 use Rattle.lol_base.specs.Names.{same_name}
-use Rattle.lol_program.specs.Tests.{Element}
+use Rattle.lol_instructions.specs.Tests.{Element}
 use Rattle.lol_program.specs.Paths.{Path}
 use Rattle.lol_vm.specs.Matching.{matches, left_matches}
 use Rattle.lol_program.specs.Programs.{Range, Instruction, Program, IsAt, Once, all_places}

@@ -2,7 +2,7 @@
 use Rattle.std.proofs.Common.{◌≡◌, ℕ, Bool, true, false, ◌||◌, not, cond, List, [], ◌∷◌, length, inl, inr, refl, ap, ◌∙◌}
 use Rattle.std.specs.Prelude.{max, nat_lt, Some, None, count_by}
 use Rattle.std.specs.List.{list_any}
-use Rattle.lol_program.specs.Tests.{Element, is_html}
+use Rattle.lol_instructions.specs.Tests.{Element, is_html}
 use Rattle.lol_program.specs.Paths.{Path, Selectors}
 use Rattle.lol_base.specs.BoolLaws.{or-right_true, same_bool}
 use Rattle.lol_base.specs.MemberLaws.{Among, among_from_contains, contains_from_among, distinct_from_pairs, same_count}

@@ -1,11 +1,11 @@
 -- What the places of a program give, run for a start tag.
 use Rattle.std.specs.Prelude.{ℕ, Bool, if◌then◌else◌, List, [], ◌∷◌, ◌++◌, flat_map, drop, slice_get, Option, Some, None, option_to_list, suc}
 use Rattle.std.specs.Option.{option_map}
-use Rattle.lol_program.specs.Tests.{Element}
-use Rattle.lol_program.specs.Compounds.{is_open}
+use Rattle.lol_instructions.specs.Tests.{Element}
+use Rattle.lol_instructions.specs.Compounds.{is_open}
 use Rattle.lol_program.specs.Programs.{Range, Instruction, Program, places, all_places}
-use Rattle.lol_program.specs.declared.name_value.NameValue.{NameValue}
-use Rattle.lol_program.specs.declared.name_value.NameValue.TheVariants.{True, False}
+use Rattle.lol_instructions.specs.declared.name_value.NameValue.{NameValue}
+use Rattle.lol_instructions.specs.declared.name_value.NameValue.TheVariants.{True, False}
 
 -- 1. What all places give
 

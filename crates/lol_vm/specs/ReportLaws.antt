@@ -5,7 +5,7 @@ use Rattle.std.specs.List.{AllByRecursion}
 use Rattle.std.proofs.lemmas.Bool.Decides.{Decides-ltb, Decides-eqb}
 use Rattle.std.proofs.lemmas.List.Elements.{All-from_recursion}
 use Rattle.std.proofs.lemmas.List.Kept.{AllPairs-cons}
-use Rattle.lol_program.specs.Tests.{Element}
+use Rattle.lol_instructions.specs.Tests.{Element}
 use Rattle.lol_program.specs.Paths.{Path, Selectors}
 use Rattle.lol_base.specs.MemberLaws.{Among, among_from_contains, contains_from_among}
 use Rattle.lol_vm.specs.Matching.{matches}

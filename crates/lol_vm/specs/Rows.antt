@@ -7,11 +7,11 @@ use Rattle.lol_css.specs.declared.attribute.AttrSelectorOperator.{AttrSelectorOp
 use Rattle.lol_css.specs.declared.attribute.AttrSelectorOperator.TheVariants.{Equal, Includes, DashMatch, Prefix, Substring, Suffix}
 use Rattle.lol_css.specs.declared.attribute.ParsedCaseSensitivity.TheVariants.{CaseSensitive, AsciiCaseInsensitiveIfInHtmlElementInHtmlDocument}
 use Rattle.lol_css.specs.declared.selector.Combinator.TheVariants.{Child, Descendant}
-use Rattle.lol_program.specs.Tests.{Element, AnyName, NoName, HasName, IsNthChild, IsNthOfType, HasId, HasClass, HasAttribute, Compares, attribute_holds}
-use Rattle.lol_program.specs.Compounds.{Test, OfName, OfAttributes, NoneOf, SomeOf, Compound, all_of, any_of, by_names}
+use Rattle.lol_instructions.specs.Tests.{Element, AnyName, NoName, HasName, IsNthChild, IsNthOfType, HasId, HasClass, HasAttribute, Compares, attribute_holds}
+use Rattle.lol_instructions.specs.Compounds.{Test, OfName, OfAttributes, NoneOf, SomeOf, Compound, all_of, any_of, by_names}
 use Rattle.lol_program.specs.Paths.{Path, First, Then}
-use Rattle.lol_program.specs.declared.name_value.NameValue.{NameValue}
-use Rattle.lol_program.specs.declared.name_value.NameValue.TheVariants.{True, False, Open}
+use Rattle.lol_instructions.specs.declared.name_value.NameValue.{NameValue}
+use Rattle.lol_instructions.specs.declared.name_value.NameValue.TheVariants.{True, False, Open}
 use Rattle.lol_program.specs.Nodes.{selectors_of}
 use Rattle.lol_vm.specs.Events.{Event, Start, End}
 use Rattle.lol_vm.specs.Answers.{Answer, Started, Dropped, Ended, Match, answers}

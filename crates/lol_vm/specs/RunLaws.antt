@@ -4,7 +4,7 @@ use Rattle.std.specs.List.{list_any}
 use Rattle.lol_base.specs.Names.{same_name, is_void, is_esi}
 use Rattle.lol_base.specs.StartTags.{Attribute, StartTag}
 use Rattle.lol_base.specs.declared.namespace.Namespace.TheVariants.{Html}
-use Rattle.lol_program.specs.Tests.{Element}
+use Rattle.lol_instructions.specs.Tests.{Element}
 use Rattle.lol_program.specs.Paths.{Path, Selectors}
 use Rattle.lol_program.specs.Programs.{AreClosed}
 use Rattle.lol_vm.specs.Events.{Event, Start, End}

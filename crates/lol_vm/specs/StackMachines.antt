@@ -5,11 +5,11 @@ use Rattle.std.specs.declared.ops.Range as std
 use Rattle.lol_base.specs.Names.{lowercased}
 use Rattle.lol_base.specs.StartTags.{StartTag}
 use Rattle.lol_base.specs.LocalNames.{Name, local_name}
-use Rattle.lol_program.specs.Compiled.{sight, sight_of}
-use Rattle.lol_program.specs.Counters.{full_count}
+use Rattle.lol_instructions.specs.Compiled.{sight, sight_of}
+use Rattle.lol_instructions.specs.Counters.{full_count}
 use Rattle.lol_program.specs.Programs.{Range, Program, Once}
 use Rattle.lol_program.specs.ProgramViews.{range_shown}
-use Rattle.lol_program.specs.declared.selector_state.SelectorState.{SelectorState}
+use Rattle.lol_instructions.specs.declared.selector_state.SelectorState.{SelectorState}
 use Rattle.lol_vm.specs.Documents.{Document, element_of}
 use Rattle.lol_vm.specs.Machines.{OpenItem, active_of}
 use Rattle.lol_vm.specs.PlaceRuns.{Context}

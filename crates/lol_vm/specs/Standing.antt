@@ -3,7 +3,7 @@ use Rattle.std.specs.Prelude.{ℕ, suc, ◌+◌, ◌≡◌, ◌≤◌, ◌<◌, 
 use Rattle.lol_base.specs.Names.{same_name}
 use Rattle.lol_base.specs.StartTags.{StartTag}
 use Rattle.lol_memory.specs.Slots.{slots, minimum_slots}
-use Rattle.lol_program.specs.Tests.{Element, is_html}
+use Rattle.lol_instructions.specs.Tests.{Element, is_html}
 use Rattle.lol_program.specs.Paths.{Path, Selectors}
 use Rattle.lol_vm.specs.Events.{Event, Start, End, has_content}
 use Rattle.lol_vm.specs.Documents.{Document, Child, empty, element_of, children_of, typed_children_of, after_end, closed}

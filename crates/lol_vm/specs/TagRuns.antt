@@ -3,12 +3,12 @@ use Rattle.std.specs.Prelude.{ℕ, ◌+◌, ◌-◌, ◌≡◌, ◌≤◌, slice
 use Rattle.std.specs.declared.ops.Range.{Range}
 use Rattle.lol_base.specs.LocalNames.{Name}
 use Rattle.lol_memory.specs.Ids.{Ids}
-use Rattle.lol_program.specs.Attributes.{TagAttributes}
-use Rattle.lol_program.specs.Compiled.{Sight}
-use Rattle.lol_program.specs.Tries.{names_counted, attributes_counted}
-use Rattle.lol_program.specs.declared.instruction.Instruction.{Instruction}
+use Rattle.lol_instructions.specs.Attributes.{TagAttributes}
+use Rattle.lol_instructions.specs.Compiled.{Sight}
+use Rattle.lol_instructions.specs.Tries.{names_counted, attributes_counted}
+use Rattle.lol_instructions.specs.declared.instruction.Instruction.{Instruction}
 use Rattle.lol_program.specs.declared.program.Program.{Program}
-use Rattle.lol_program.specs.declared.tries.Tries.{Tries}
+use Rattle.lol_instructions.specs.declared.tries.Tries.{Tries}
 use Rattle.lol_vm.specs.InstructionRuns.{all_at, place_in, IsStopIn, ranges_from, open_among, first_open_from, tried_until, ranges_in, gathered_by_names, gathered_with_attributes}
 use Rattle.lol_stack.specs.Stacks.{items_in, active_in, last_count, typed_count}
 use Rattle.lol_stack.specs.declared.execution_ctx.ExecutionCtx.{ExecutionCtx}

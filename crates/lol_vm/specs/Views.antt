@@ -6,7 +6,7 @@ use Rattle.lol_base.specs.declared.start_tag.AuxStartTagInfo.{AuxStartTagInfo}
 use Rattle.lol_memory.specs.declared.match_info.MatchInfo.{MatchInfo}
 use Rattle.lol_program.specs.Paths.{Selectors}
 use Rattle.lol_program.specs.Asts.{pairs_of, nodes_of}
-use Rattle.lol_program.specs.Tries.{names_counted, attributes_counted}
+use Rattle.lol_instructions.specs.Tries.{names_counted, attributes_counted}
 use Rattle.lol_program.specs.declared.ast.Ast.{Ast}
 use Rattle.lol_vm.specs.Events as events
 use Rattle.lol_vm.specs.Answers as answers

@@ -4,7 +4,7 @@ use Rattle.lol_base.specs.StartTags.{StartTag}
 use Rattle.lol_memory.specs.Ids.{Ids}
 use Rattle.lol_memory.specs.Slots.{slots}
 use Rattle.lol_program.specs.Paths.{Selectors}
-use Rattle.lol_program.specs.Tests.{Element}
+use Rattle.lol_instructions.specs.Tests.{Element}
 use Rattle.lol_vm.specs.Answers.{document}
 use Rattle.lol_vm.specs.Events.{Event, Start}
 use Rattle.lol_vm.specs.Refusals.{longest}

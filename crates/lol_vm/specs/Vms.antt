@@ -7,15 +7,15 @@ use Rattle.lol_base.specs.declared.namespace.Namespace.{Namespace}
 use Rattle.lol_base.specs.declared.start_tag.AuxStartTagInfo.{AuxStartTagInfo}
 use Rattle.lol_memory.specs.Ids.{Ids, ascending}
 use Rattle.lol_memory.specs.declared.match_info.MatchInfo.{MatchInfo}
-use Rattle.lol_program.specs.Compiled.{sight_of}
+use Rattle.lol_instructions.specs.Compiled.{sight_of}
 use Rattle.lol_program.specs.Paths.{Path, Selectors}
 use Rattle.lol_program.specs.Programs.{AreClosed, all_places}
 use Rattle.lol_program.specs.ProgramViews.{range_shown, program_shown}
-use Rattle.lol_program.specs.Tests.{Element, is_html}
-use Rattle.lol_program.specs.Tries.{names_counted, attributes_counted}
+use Rattle.lol_instructions.specs.Tests.{Element, is_html}
+use Rattle.lol_instructions.specs.Tries.{names_counted, attributes_counted}
 use Rattle.lol_program.specs.declared.program.Program.{Program}
-use Rattle.lol_program.specs.declared.tries.Tries.{Tries}
-use Rattle.lol_program.specs.declared.instruction.Instruction.{Instruction}
+use Rattle.lol_instructions.specs.declared.tries.Tries.{Tries}
+use Rattle.lol_instructions.specs.declared.instruction.Instruction.{Instruction}
 use Rattle.lol_vm.specs.Answers.{report, name_tries, attribute_tries, Match, Started, answer, asks, document}
 use Rattle.lol_stack.specs.Calls.{IsCalledAtEach}
 use Rattle.lol_vm.specs.Documents.{Document, element_of, place_of, outer_part}

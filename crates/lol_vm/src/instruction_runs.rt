@@ -1,8 +1,8 @@
 //! Running instructions for a start tag, one after the other.
 
 ghost use Rattle.std.specs.Prelude.{◌≡◌, ◌+◌, ◌-◌, ◌≤◌, IfOk, IsOk, Ok, Some, false, length};
-ghost use Rattle.lol_program.specs.Compiled.{sight};
-ghost use Rattle.lol_program.specs.Tries.{names_counted, attributes_counted};
+ghost use Rattle.lol_instructions.specs.Compiled.{sight};
+ghost use Rattle.lol_instructions.specs.Tries.{names_counted, attributes_counted};
 ghost use Rattle.lol_vm.specs.InstructionRuns.{AreRunnable, HaveSmallIds, all_at, place_in, IsStopIn, HasTriesLeft, IsInsideOf, ranges_in, ranges_from, instructions_at, open_among, first_open_from, tried_until, gathered_by_names, gathered_with_attributes};
 
 use lol_program::{

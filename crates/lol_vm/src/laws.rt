@@ -1,7 +1,7 @@
 //! Laws over the definitions, each the contract of an empty function.
 
 ghost use Rattle.std.specs.Prelude.{Bool, List};
-ghost use Rattle.lol_program.specs.Tests.{Element};
+ghost use Rattle.lol_instructions.specs.Tests.{Element};
 ghost use Rattle.lol_program.specs.Paths.{Selectors};
 ghost use Rattle.lol_vm.specs.Laws.{IsReport, AscendingIsDetermined, OrderChangesNothing, TreesAnswerAlike, StrayEndChangesNothing};
 

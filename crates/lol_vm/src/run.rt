@@ -4,7 +4,7 @@ ghost use Rattle.std.specs.Prelude.{◌≡◌, ◌≤◌, ◌<◌, ◌-◌, ◌*
 ghost use Rattle.lol_base.specs.StartTags.{StartTag, RangesAreInside};
 ghost use Rattle.lol_memory.specs.LimitedVec.{IsLimited};
 ghost use Rattle.lol_memory.specs.Limiter.{Limiter, charged};
-ghost use Rattle.lol_program.specs.Counters.{full_count};
+ghost use Rattle.lol_instructions.specs.Counters.{full_count};
 ghost use Rattle.lol_program.specs.Paths.{Selectors};
 ghost use Rattle.lol_vm.specs.Answers.{answers};
 ghost use Rattle.lol_vm.specs.Collecting.{Collects};

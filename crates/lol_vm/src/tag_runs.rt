@@ -1,8 +1,8 @@
 //! Running what a start tag is run through: the entry points, the last open element's jumps, and the active hereditary jumps.
 
 ghost use Rattle.std.specs.Prelude.{◌≡◌, ◌<◌, ◌^◌, length, IfOk, IfSome, IsOk, IsSome, false};
-ghost use Rattle.lol_program.specs.Compiled.{sight};
-ghost use Rattle.lol_program.specs.Tries.{attributes_counted};
+ghost use Rattle.lol_instructions.specs.Compiled.{sight};
+ghost use Rattle.lol_instructions.specs.Tries.{attributes_counted};
 ghost use Rattle.lol_vm.specs.InstructionRuns.{AreRunnable, HaveSmallIds, ranges_in};
 ghost use Rattle.lol_stack.specs.Stacks.{active_in};
 ghost use Rattle.lol_vm.specs.TagRuns.{ranges_of, stop_of, stop_if, left_of, tried_at, IsPointOf, IsPointIn, AreTried, AreExecuted, AreWithin, jumps_in, ranges_to_run_in, sight_in, stop_at, stop_found, ranges_left};

@@ -1,6 +1,6 @@
 use Rattle.std.proofs.Common.{◌≡◌, ◌||◌, map, [], sym, ap, ◌∙◌}
 use Rattle.std.specs.Vec.Iter.{into_iter_items}
-use Rattle.lol_program.specs.Compounds.{test_has_type, any_of}
+use Rattle.lol_instructions.specs.Compounds.{test_has_type, any_of}
 use Rattle.lol_program.specs.Predicates.{test_shown, tests_of}
 use Rattle.lol_program.specs.Compiling.{IsCompiledTest}
 use Rattle.lol_program.proofs.ListPlaces.{empty_from}

@@ -1,6 +1,6 @@
 use Rattle.std.proofs.Common.{◌≡◌, ◌||◌, map, IsTrue}
 use Rattle.std.specs.Vec.Iter.{into_iter_items}
-use Rattle.lol_program.specs.Compounds.{has_test_by_type, some_has_type, all_of, any_of}
+use Rattle.lol_instructions.specs.Compounds.{has_test_by_type, some_has_type, all_of, any_of}
 use Rattle.lol_program.specs.Predicates.{test_shown, tests_of}
 use Rattle.lol_program.specs.Compiling.{IsCompiledTest}
 use Rattle.lol_program.proofs.CompiledLists.{Completes, IsCompiledPredicate}

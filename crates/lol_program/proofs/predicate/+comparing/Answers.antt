@@ -6,8 +6,8 @@ use Rattle.lol_css.specs.declared.selector.Compound.{Compound}
 use Rattle.lol_css.specs.Trees.{Nothing}
 use Rattle.lol_css.specs.TreeViews.{part_of, item_of, compound_of, with_part_list}
 use Rattle.lol_css.specs.declared.selector.SimpleSelector.{SimpleSelector}
-use Rattle.lol_program.specs.Compounds as compounds
-use Rattle.lol_program.specs.Compounds.{all_of, any_of}
+use Rattle.lol_instructions.specs.Compounds as compounds
+use Rattle.lol_instructions.specs.Compounds.{all_of, any_of}
 use Rattle.lol_program.specs.declared.predicate.Test.{Test}
 use Rattle.lol_program.specs.Conditions.{part_test, item_compound, written_tests}
 use Rattle.lol_program.specs.Predicates.{test_shown, tests_of}

@@ -6,7 +6,7 @@ use Rattle.lol_css.specs.declared.selector.Combinator.{Combinator}
 use Rattle.lol_css.specs.declared.selector.Compound.{Compound}
 use Rattle.lol_css.specs.TreeViews.{part_of, compound_of}
 use Rattle.lol_css.specs.declared.selector.SimpleSelector.{SimpleSelector}
-use Rattle.lol_program.specs.Compounds.{NoneOf, SomeOf, all_of, any_of}
+use Rattle.lol_instructions.specs.Compounds.{NoneOf, SomeOf, all_of, any_of}
 use Rattle.lol_program.specs.Conditions.{part_test, written_tests}
 use Rattle.lol_program.specs.Predicates.{test_shown, tests_of}
 use Rattle.lol_program.specs.PredicateListLaws.{test_shown-NoneOf, test_shown-SomeOf}

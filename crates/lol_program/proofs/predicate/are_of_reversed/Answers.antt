@@ -2,7 +2,7 @@ use Rattle.lol_base.specs.ListLaws.{agreed, agreed_more, at_place, same_length, 
 use Rattle.std.proofs.Common.{◌≡◌, ℕ, ◌-◌, ◌<◌, List, true≢false, refl, arith, length, get_or, reverse, ap, sym, ◌∙◌}
 use Rattle.lol_css.specs.declared.selector.SimpleSelector.{SimpleSelector}
 use Rattle.std.proofs.lemmas.List.{length-reverse, get_or-reverse}
-use Rattle.lol_program.specs.Compounds.{all_of}
+use Rattle.lol_instructions.specs.Compounds.{all_of}
 use Rattle.lol_program.specs.Predicates.{test_shown}
 use Rattle.lol_program.proofs.Tests.{test_in, all_of-equal, compound_tests-parts}
 use Rattle.lol_program.proofs.predicate.are_of_reversed.Goals as goal

@@ -2,7 +2,7 @@ use Rattle.lol_base.specs.ListLaws.{passes_more, passes_not, fails_more, passes_
 use Rattle.lol_base.specs.ListLaws as lists
 use Rattle.std.proofs.lemmas.Result.{IfOk-weaker}
 use Rattle.std.proofs.Common.{map, not, List, sym, ap, ◌∙◌}
-use Rattle.lol_program.specs.Compounds.{holds, all_hold, some_hold, all_of, any_of}
+use Rattle.lol_instructions.specs.Compounds.{holds, all_hold, some_hold, all_of, any_of}
 use Rattle.lol_program.specs.Predicates.{test_shown, tests_of}
 use Rattle.lol_program.specs.declared.predicate.Test.{Test}
 use Rattle.lol_program.specs.declared.predicate.Predicate.{Predicate}

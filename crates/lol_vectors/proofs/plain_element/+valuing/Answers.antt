@@ -1,7 +1,7 @@
 use Rattle.std.proofs.Common.{map, List, sym, ap, ◌∙◌, take}
 use Rattle.lol_base.specs.ListLaws.{mapped_more}
-use Rattle.lol_program.specs.Compounds.{both, either, opposite, by_names, some_by_names, all_of, any_of}
-use Rattle.lol_program.specs.Compounds as compounds
+use Rattle.lol_instructions.specs.Compounds.{both, either, opposite, by_names, some_by_names, all_of, any_of}
+use Rattle.lol_instructions.specs.Compounds as compounds
 use Rattle.lol_program.specs.Predicates.{test_shown, tests_of}
 use Rattle.lol_program.specs.declared.predicate.Predicate.{Predicate}
 use Rattle.lol_program.specs.PredicateListLaws.{test_shown-NoneOf, test_shown-SomeOf}

@@ -1,5 +1,5 @@
 use Rattle.std.proofs.Common.{◌≡◌, take, map}
-use Rattle.lol_program.specs.Compounds.{all_of, any_of, by_names, some_by_names}
+use Rattle.lol_instructions.specs.Compounds.{all_of, any_of, by_names, some_by_names}
 use Rattle.lol_program.specs.Predicates.{test_shown, tests_of}
 use Rattle.lol_vectors.specs.PlainElements.{element_shown}
 use Rattle.lol_vectors.proofs.plain_element.+valuing.Given as goal

@@ -1,7 +1,7 @@
 use Rattle.std.proofs.Common.{ap, sym, ◌∙◌, ◌&&◌, List, ℕ}
 use Rattle.std.specs.Prelude.{string_bytes}
-use Rattle.lol_program.specs.Tests.{needs_operand, is_empty_text}
-use Rattle.lol_program.specs.AttributeLaws.{holds-Compares, never-Compares}
+use Rattle.lol_instructions.specs.Tests.{needs_operand, is_empty_text}
+use Rattle.lol_instructions.specs.AttributeLaws.{holds-Compares, never-Compares}
 use Rattle.lol_vectors.proofs.plain_element.comparison_passes.Goals as goal
 
 pub returns : goal.returns

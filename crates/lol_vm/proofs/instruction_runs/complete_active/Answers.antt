@@ -1,8 +1,8 @@
 use Rattle.std.proofs.Common.{◌≤◌, ◌≡◌, ◌+◌, length, drop, arith, ap, subst}
 use Rattle.std.specs.Result.{IfOk}
 use Rattle.std.proofs.lemmas.Result.{IfOk-weaker}
-use Rattle.lol_program.specs.Compiled.{sight}
-use Rattle.lol_program.specs.Tries.{names_counted, attributes_counted}
+use Rattle.lol_instructions.specs.Compiled.{sight}
+use Rattle.lol_instructions.specs.Tries.{names_counted, attributes_counted}
 use Rattle.lol_vm.specs.InstructionRuns.{ranges_in, AreRunnable, all_at, ranges_from, open_among, gathered_with_attributes}
 use Rattle.lol_vm.proofs.InstructionLists.{open_at_most, active_sliced, active_at, is_left, others_run, length_from, length_part, open_from, gathered_from}
 use Rattle.lol_vm.proofs.instruction_runs.complete_active.Goals as goal

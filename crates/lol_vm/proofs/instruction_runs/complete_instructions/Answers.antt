@@ -1,8 +1,8 @@
 use Rattle.std.proofs.Common.{◌≡◌, ◌+◌, ◌∷◌, ◌∙◌, arith, ap, rules, subst}
 use Rattle.std.proofs.lemmas.Grind.{common_steps}
 use Rattle.std.proofs.lemmas.Result.{IfOk-weaker}
-use Rattle.lol_program.specs.Compiled.{sight}
-use Rattle.lol_program.specs.Tries.{attributes_counted}
+use Rattle.lol_instructions.specs.Compiled.{sight}
+use Rattle.lol_instructions.specs.Tries.{attributes_counted}
 use Rattle.lol_vm.specs.InstructionRuns.{HaveSmallIds, open_among}
 use Rattle.lol_vm.proofs.InstructionLists.{open_split, small_rest}
 use Rattle.lol_vm.proofs.instruction_runs.complete_instructions.Goals as goal

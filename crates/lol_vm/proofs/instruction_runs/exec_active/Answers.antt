@@ -1,7 +1,7 @@
 use Rattle.std.specs.declared.ops.Range.{Range}
 use Rattle.std.proofs.lemmas.List.{length-map}
 use Rattle.std.proofs.Common.{ℕ, ◌-◌, ◌≡◌, ◌<◌, length, get_or, arith, ap, ◌∙◌}
-use Rattle.lol_program.specs.Compiled.{sight}
+use Rattle.lol_instructions.specs.Compiled.{sight}
 use Rattle.lol_vm.specs.InstructionRuns.{AreRunnable, IsInsideOf, HasTriesLeft, ranges_in, instructions_at, all_at, gathered_with_attributes}
 use Rattle.lol_stack.specs.WithRange.{no_range}
 use Rattle.lol_vm.proofs.InstructionLists.{length_bound, open_bound, active_at, is_lent, open_within, length_next, open_next, attributes_next}

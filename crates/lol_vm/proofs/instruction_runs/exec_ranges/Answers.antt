@@ -1,5 +1,5 @@
 use Rattle.std.proofs.Common.{◌≡◌, ◌<◌, length, get_or, arith, ap, ◌∙◌}
-use Rattle.lol_program.specs.Compiled.{sight}
+use Rattle.lol_instructions.specs.Compiled.{sight}
 use Rattle.lol_vm.specs.InstructionRuns.{AreRunnable, instructions_at, all_at, gathered_with_attributes}
 use Rattle.lol_stack.specs.WithRange.{no_range}
 use Rattle.lol_vm.proofs.InstructionLists.{length_bound, open_bound, is_lent, open_within, length_next, open_next, attributes_next}

@@ -1,6 +1,6 @@
 use Rattle.std.proofs.Common.{◌≡◌, ◌+◌, drop, take, length}
-use Rattle.lol_program.specs.Compiled.{sight}
-use Rattle.lol_program.specs.Tries.{names_counted, attributes_counted}
+use Rattle.lol_instructions.specs.Compiled.{sight}
+use Rattle.lol_instructions.specs.Tries.{names_counted, attributes_counted}
 use Rattle.lol_vm.specs.InstructionRuns.{AreRunnable, all_at, open_among, gathered_with_attributes}
 use Rattle.lol_vm.proofs.instruction_runs.exec_ranges.Given as goal
 

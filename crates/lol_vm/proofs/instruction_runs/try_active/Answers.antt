@@ -3,8 +3,8 @@ use Rattle.lol_vm.specs.declared.instruction_runs.Stop.{Stop}
 use Rattle.std.specs.declared.ops.Range.{Range}
 use Rattle.std.proofs.lemmas.List.{length-map}
 use Rattle.std.proofs.Common.{ℕ, subst, ◌-◌, ◌≡◌, ◌+◌, ◌<◌, length, get_or, arith, sym, ap, Some, None, ◌∙◌}
-use Rattle.lol_program.specs.Compiled.{sight}
-use Rattle.lol_program.specs.Tries.{names_counted}
+use Rattle.lol_instructions.specs.Compiled.{sight}
+use Rattle.lol_instructions.specs.Tries.{names_counted}
 use Rattle.lol_vm.specs.InstructionRuns.{IsStopIn, AreRunnable, IsInsideOf, HasTriesLeft, ranges_in, instructions_at, tried_until, first_open_from, all_at}
 use Rattle.lol_stack.specs.WithRange.{no_range}
 use Rattle.lol_vm.proofs.InstructionLists.{length_bound, active_at, is_lent, length_next, stop_next, stop_here, names_next, names_here}

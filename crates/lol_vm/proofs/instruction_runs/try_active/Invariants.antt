@@ -1,6 +1,6 @@
 use Rattle.std.proofs.Common.{◌≡◌, ◌+◌, drop, take, length}
-use Rattle.lol_program.specs.Compiled.{sight}
-use Rattle.lol_program.specs.Tries.{names_counted, attributes_counted}
+use Rattle.lol_instructions.specs.Compiled.{sight}
+use Rattle.lol_instructions.specs.Tries.{names_counted, attributes_counted}
 use Rattle.lol_vm.specs.InstructionRuns.{AreRunnable, ranges_in, all_at, first_open_from, gathered_by_names}
 use Rattle.lol_vm.proofs.instruction_runs.try_active.Given as goal
 

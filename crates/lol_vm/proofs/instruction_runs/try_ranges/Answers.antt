@@ -1,6 +1,6 @@
 use Rattle.std.proofs.Common.{◌≡◌, ◌+◌, ◌<◌, length, get_or, arith, sym, ap, Some, None, ◌∙◌}
-use Rattle.lol_program.specs.Compiled.{sight}
-use Rattle.lol_program.specs.Tries.{names_counted}
+use Rattle.lol_instructions.specs.Compiled.{sight}
+use Rattle.lol_instructions.specs.Tries.{names_counted}
 use Rattle.lol_vm.specs.InstructionRuns.{AreRunnable, instructions_at, tried_until, first_open_from, all_at}
 use Rattle.lol_stack.specs.WithRange.{no_range}
 use Rattle.lol_vm.proofs.InstructionLists.{length_bound, is_lent, length_next, stop_next, stop_here, names_next, names_here}

@@ -2,7 +2,7 @@ use Rattle.std.proofs.Common.{arith, refl, ◌≡◌, ◌∷◌, ◌++◌, [], L
 use Rattle.std.specs.Result.{IfOk}
 use Rattle.std.proofs.lemmas.Result.{IfOk-weaker}
 use Rattle.std.specs.declared.ops.Range.{Range}
-use Rattle.lol_program.specs.Compiled.{sight}
+use Rattle.lol_instructions.specs.Compiled.{sight}
 use Rattle.lol_vm.specs.InstructionRuns.{AreRunnable, IsStopIn, ranges_in, ranges_from}
 use Rattle.lol_vm.specs.TagRuns.{AreExecuted, AreWithin, IsPointOf, left_of, stop_of, tried_at, later_stop}
 use Rattle.lol_vm.specs.declared.tag_runs.RecoveryPoint.{RecoveryPoint}

@@ -1,8 +1,8 @@
 use Rattle.std.proofs.Common.{◌≡◌, List, ℕ, subst}
 use Rattle.std.specs.Result.{IfOk}
 use Rattle.std.specs.declared.ops.Range.{Range}
-use Rattle.lol_program.specs.Compiled.{Sight, sight}
-use Rattle.lol_program.specs.declared.instruction.Instruction.{Instruction}
+use Rattle.lol_instructions.specs.Compiled.{Sight, sight}
+use Rattle.lol_instructions.specs.declared.instruction.Instruction.{Instruction}
 use Rattle.lol_vm.specs.InstructionRuns.{AreRunnable, ranges_in}
 use Rattle.lol_stack.specs.Stacks.{active_in}
 use Rattle.lol_vm.specs.TagRuns.{AreExecuted, AreWithin, IsPointIn, jumps_in, ranges_left, sight_in, stop_at, tag_ranges, tried_at}

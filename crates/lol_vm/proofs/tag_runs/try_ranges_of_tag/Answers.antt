@@ -1,6 +1,6 @@
 use Rattle.std.proofs.Common.{refl, ◌≡◌, ◌∷◌, ◌++◌, [], List, ℕ, arith, sym, ap, ◌∙◌, subst, Some, None, Ok}
 use Rattle.std.specs.declared.ops.Range.{Range}
-use Rattle.lol_program.specs.Compiled.{sight}
+use Rattle.lol_instructions.specs.Compiled.{sight}
 use Rattle.lol_vm.specs.InstructionRuns.{AreRunnable, ranges_in}
 use Rattle.lol_vm.proofs.TagRuns.{runs_on, within_after, within_from, within_front, tried_from, tried_before, tried_after, front_runnable, back_runnable}
 use Rattle.lol_vm.proofs.tag_runs.try_ranges_of_tag.Goals as goal

@@ -4,20 +4,20 @@ use Rattle.std.specs.Vec.Iter.{into_iter_items}
 use Rattle.std.specs.Global.{Vec}
 use Rattle.std.specs.Option.{option_map}
 use Rattle.lol_memory.specs.Ids.{ascending}
-use Rattle.lol_program.specs.Compounds.{has_test_by_type}
+use Rattle.lol_instructions.specs.Compounds.{has_test_by_type}
 use Rattle.lol_program.specs.Predicates.{tests_of}
-use Rattle.lol_program.specs.Compiled.{tests_in}
+use Rattle.lol_instructions.specs.Compiled.{tests_in}
 use Rattle.lol_program.specs.Compiling.{AreCompiledTests}
 use Rattle.lol_program.specs.ProgramViews.{range_shown}
-use Rattle.lol_program.specs.declared.execution_branch.ExecutionBranch.{ExecutionBranch}
-use Rattle.lol_program.specs.declared.compiled_predicate.CompiledPredicate.{CompiledPredicate}
+use Rattle.lol_instructions.specs.declared.execution_branch.ExecutionBranch.{ExecutionBranch}
+use Rattle.lol_instructions.specs.declared.compiled_predicate.CompiledPredicate.{CompiledPredicate}
 use Rattle.lol_program.specs.Views.{node_of, forest_of}
 use Rattle.lol_program.specs.Forest.{Node, none, link}
 use Rattle.lol_program.specs.Layouts.{width, any_by_type}
 use Rattle.lol_program.specs.Laying.{AreLaid}
 use Rattle.lol_program.specs.declared.ast_node.AstNode.{AstNode}
 use Rattle.lol_program.specs.declared.ast_node.AstNode.TheViews.{out-AstNode}
-use Rattle.lol_program.specs.declared.instruction.Instruction as code
+use Rattle.lol_instructions.specs.declared.instruction.Instruction as code
 use Rattle.lol_base.specs.BoolLaws.{or-false}
 use Rattle.lol_program.proofs.CompiledLists.{flag_more}
 use Rattle.lol_program.proofs.ListPlaces.{empty_from}

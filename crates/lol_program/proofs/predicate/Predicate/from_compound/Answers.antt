@@ -4,7 +4,7 @@ use Rattle.std.proofs.lemmas.List.{map-append}
 use Rattle.std.proofs.lemmas.Iterator.Adapters.{YieldsList-from_rev_slice}
 use Rattle.std.proofs.lemmas.Iterator.Consumers.{YieldsList-end}
 use Rattle.lol_css.specs.declared.selector.SimpleSelector.{SimpleSelector}
-use Rattle.lol_program.specs.Compounds.{all_of}
+use Rattle.lol_instructions.specs.Compounds.{all_of}
 use Rattle.lol_program.specs.Predicates.{test_shown}
 use Rattle.lol_program.proofs.Tests.{test_in, compound_tests-parts}
 use Rattle.lol_program.proofs.predicate.Predicate.from_compound.Goals as goal

@@ -1,5 +1,5 @@
 use Rattle.std.proofs.Common.{◌≡◌, ◌≢◌, ◌<◌, ◌∙◌, refl, sym, true≢false, arith, map}
-use Rattle.lol_program.specs.Counters.{full_count}
+use Rattle.lol_instructions.specs.Counters.{full_count}
 use Rattle.lol_stack.specs.CounterLists.{item_level}
 use Rattle.lol_stack.specs.LevelLaws.{is_at-append, counted_last-append, other_level, same_level, one_more-free, one_more-full}
 use Rattle.lol_stack.proofs.counters.CounterList.count.Goals as goal

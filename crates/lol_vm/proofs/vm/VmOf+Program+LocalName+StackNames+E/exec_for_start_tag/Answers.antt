@@ -2,7 +2,7 @@ use Rattle.std.proofs.Common.{◌≡◌, arith, inl, inr, true, false, true, Ok,
 use Rattle.std.specs.Result.{IfOk}
 use Rattle.std.specs.Option.{IfSome, IsNone, IsSome}
 use denote.Enum.Bare.{sameb}
-use Rattle.lol_program.specs.Tests.{is_html}
+use Rattle.lol_instructions.specs.Tests.{is_html}
 use Rattle.lol_vm.specs.InstructionRuns.{ranges_in}
 use Rattle.lol_base.specs.LocalNames.{Name, local_name}
 use Rattle.lol_memory.specs.LimitedVec.{LimitedVec, IsLimited}

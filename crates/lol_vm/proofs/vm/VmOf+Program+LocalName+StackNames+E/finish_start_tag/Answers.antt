@@ -1,7 +1,7 @@
 use Rattle.std.proofs.Common.{inr, true, refl, ap, sym, ◌∙◌, subst}
 use Rattle.std.specs.Result.{IfOk, OnErr}
 use Rattle.std.proofs.lemmas.Result.{on_ok_weaker, on_err_weaker}
-use Rattle.lol_program.specs.Attributes.{tag_attributes}
+use Rattle.lol_instructions.specs.Attributes.{tag_attributes}
 use Rattle.lol_vm.specs.TagRuns.{AreExecuted, jumps_in, ranges_left, ranges_to_run_in, sight_in, stop_at, tried_at}
 use Rattle.lol_stack.specs.declared.execution_ctx.ExecutionCtx.{ExecutionCtx}
 use Rattle.lol_vm.specs.Vms.{IsFailedAs, IsTriedAtMost, Vm}

@@ -1,0 +1,15 @@
+pub mod Tests
+pub mod Compounds
+pub mod Tries
+pub mod Counters
+pub mod Attributes
+pub mod Matchers
+pub mod Substrings
+pub mod Marks
+pub mod Words
+pub mod AttributeLaws
+pub mod Compiled
+pub mod CompiledRowLaws
+pub mod DecisionLaws
+pub mod Running
+pub mod PredicateMarks

@@ -1,0 +1,247 @@
+//! Marks of predicates, which most tries look at alone.
+
+ghost use Rattle.std.specs.Prelude.{◌≡◌, ◌∷◌, [], ◌++◌, ℕ, Option, Some, None, List, false};
+ghost use Rattle.std.specs.Option.{option_copied};
+ghost use Rattle.lol_instructions.specs.Compounds.{value_of_bool};
+ghost use Rattle.lol_instructions.specs.Compiled.{Sight, sight, name_expr_holds, attribute_expr_holds, predicate_value, some_values};
+ghost use Rattle.lol_instructions.specs.Marks.{is_marked};
+ghost use Rattle.lol_instructions.specs.PredicateMarks.{AreBoth, shape_value, head_holds, marks_value, AreNeeded, AreMarksOf};
+ghost use Rattle.lol_instructions.specs.declared.compiled_predicate.CompiledTest.{CompiledTest};
+
+use crate::compiled_expr::{AttributeExprTest, LocalNameExprTest};
+use crate::compiled_predicate::{CompiledPredicate, CompiledTest};
+use crate::marks::Marks;
+use crate::name_value::NameValue;
+use crate::selector_state::SelectorState;
+use lol_base::LocalName;
+use lol_css::NthChild;
+
+/// What places say of an element that has the name.
+#[derive(Clone, Copy)]
+pub(crate) enum Shape {
+    /// This at every place.
+    Anywhere(NameValue),
+    /// This at such a place among its parent's children. At others it fails.
+    NthChild(NthChild, NameValue),
+    /// This at such a place among those of its name. At others it fails.
+    NthOfType(NthChild, NameValue),
+    /// What the tests say.
+    Mixed,
+}
+
+impl Shape {
+    #[inline(always)]
+    fn value(&self, state: &SelectorState<'_>) -> Option<NameValue>
+        ensures { result ≡ shape_value self.now state.now.cumulative.now (option_copied state.now.typed) }
+    {
+        match self {
+            Shape::Anywhere(value) => Some(*value),
+            Shape::NthChild(nth, value) => { Some(value.only_if(state.cumulative.is_nth(*nth))) }
+            Shape::NthOfType(nth, value) => Some(match state.typed {
+                Some(counter) => value.only_if(counter.is_nth(*nth)),
+                None => NameValue::False,
+            }),
+            Shape::Mixed => None,
+        }
+    }
+
+    /// What two shapes say together. Of two places none is kept.
+    fn and(&self, other: &Shape) -> Self
+        ensures { (position : ℕ) (typed : Option ℕ) (v : NameValue) → shape_value result position typed ≡ Some v → AreBoth (shape_value self.now position typed) (shape_value other.now position typed) v }
+    {
+        match (self, other) {
+            (Shape::Anywhere(a), Shape::Anywhere(b)) => Shape::Anywhere(a.and(*b)),
+            (Shape::Anywhere(a), Shape::NthChild(nth, b))
+            | (Shape::NthChild(nth, b), Shape::Anywhere(a)) => Shape::NthChild(*nth, a.and(*b)),
+            (Shape::Anywhere(a), Shape::NthOfType(nth, b))
+            | (Shape::NthOfType(nth, b), Shape::Anywhere(a)) => Shape::NthOfType(*nth, a.and(*b)),
+            _ => Shape::Mixed,
+        }
+    }
+}
+
+/// What is known of a predicate without a look at its tests.
+#[derive(Clone, Copy)]
+pub(crate) struct PredicateMarks {
+    // The code of the name without which an element fails, where there is one.
+    head: Option<u64>,
+    shape: Shape,
+    // Marks of attributes, without one of which an element fails.
+    needs: Marks,
+}
+
+impl PredicateMarks {
+    /// The marks of some tests.
+    #[cycle(marking)]
+    pub(crate) fn of(tests: &[CompiledTest]) -> Self
+        ensures { AreMarksOf result tests.now }
+    {
+        let mut marks = PredicateMarks::of_shape(Shape::Anywhere(NameValue::True));
+        for test in tests {
+            marks = marks.and(PredicateMarks::of_test(test));
+        }
+        marks
+    }
+
+    /// What they say of an element with this name and these counters, where they say something.
+    #[inline(always)]
+    pub(crate) fn by_names(
+        &self,
+        state: &SelectorState<'_>,
+        local_name: &LocalName<'_>,
+    ) -> Option<NameValue>
+        ensures { result ≡ marks_value self.now (sight state.now local_name.now) }
+    {
+        if self.head_holds(local_name) {
+            self.shape.value(state)
+        } else {
+            Some(NameValue::False)
+        }
+    }
+
+    /// The marks of attributes without one of which an element fails.
+    #[inline(always)]
+    pub(crate) fn needs(&self) -> Marks
+        ensures { result ≡ self.now.needs }
+    {
+        self.needs
+    }
+
+    #[inline(always)]
+    fn head_holds(&self, local_name: &LocalName<'_>) -> bool
+        ensures { result ≡ head_holds self.now.head local_name.now.lowercased }
+    {
+        match self.head {
+            None => true,
+            Some(code) => match local_name.code() {
+                None => false,
+                Some(other) => other == code,
+            },
+        }
+    }
+
+    #[cycle(marking)]
+    fn of_test(test: &CompiledTest) -> Self
+        ensures { AreMarksOf result (test.now ∷ []) }
+    {
+        match test {
+            CompiledTest::Name(expr) => PredicateMarks::of_name(&expr.test),
+            CompiledTest::Attribute(expr) => PredicateMarks {
+                head: None,
+                shape: Shape::Anywhere(NameValue::Open),
+                needs: needs_of(&expr.test),
+            },
+            CompiledTest::NoneOf(predicates) => match value_of_some(predicates) {
+                Some(value) => PredicateMarks::of_shape(Shape::Anywhere(value.opposite())),
+                None => PredicateMarks::of_shape(Shape::Mixed),
+            },
+            CompiledTest::SomeOf(predicates) => match value_of_some(predicates) {
+                Some(value) => PredicateMarks::of_shape(Shape::Anywhere(value)),
+                None => PredicateMarks::of_shape(Shape::Mixed),
+            },
+        }
+    }
+
+    /// What they say of every element, if that is one value.
+    fn value_of_all(&self) -> Option<NameValue>
+        ensures { (v : NameValue) → result ≡ Some v → (s : Sight) → marks_value self.now s ≡ Some v }
+    {
+        if self.head.is_some() {
+            return None;
+        }
+        match &self.shape {
+            Shape::Anywhere(value) => Some(*value),
+            Shape::NthChild(..) | Shape::NthOfType(..) | Shape::Mixed => None,
+        }
+    }
+
+    fn of_name(test: &LocalNameExprTest) -> Self
+        ensures value { (s : Sight) (v : NameValue) → marks_value result s ≡ Some v → value_of_bool (name_expr_holds test.now s) ≡ v }
+        ensures needs { (bit : ℕ) → is_marked result.needs bit ≡ false }
+    {
+        match test {
+            LocalNameExprTest::Any => PredicateMarks::of_shape(Shape::Anywhere(NameValue::True)),
+            LocalNameExprTest::Never => PredicateMarks::of_shape(Shape::Anywhere(NameValue::False)),
+            LocalNameExprTest::LocalName(name) => match name.code() {
+                Some(code) => PredicateMarks {
+                    head: Some(code),
+                    shape: Shape::Anywhere(NameValue::True),
+                    needs: Marks::none(),
+                },
+                None => PredicateMarks::of_shape(Shape::Mixed),
+            },
+            LocalNameExprTest::NthChild(nth) => {
+                PredicateMarks::of_shape(Shape::NthChild(*nth, NameValue::True))
+            }
+            LocalNameExprTest::NthOfType(nth) => {
+                PredicateMarks::of_shape(Shape::NthOfType(*nth, NameValue::True))
+            }
+        }
+    }
+
+    fn of_shape(shape: Shape) -> Self
+        ensures head { result.head ≡ None }
+        ensures shape { result.shape ≡ shape }
+        ensures needs { (bit : ℕ) → is_marked result.needs bit ≡ false }
+    {
+        PredicateMarks {
+            head: None,
+            shape,
+            needs: Marks::none(),
+        }
+    }
+
+    /// The marks of some tests and others. Of two names the first is kept.
+    fn and(self, others: PredicateMarks) -> Self
+        ensures { (tests more : List CompiledTest) → AreMarksOf self tests → AreMarksOf others more → AreMarksOf result (tests ++ more) }
+    {
+        let head = self.head.or(others.head);
+        let needs = self.needs.with(others.needs);
+        if self.head.is_some() && others.head.is_some() {
+            PredicateMarks {
+                head,
+                shape: Shape::Mixed,
+                needs,
+            }
+        } else {
+            PredicateMarks {
+                head,
+                shape: self.shape.and(&others.shape),
+                needs,
+            }
+        }
+    }
+}
+
+/// What names and places say of whether elements pass some of these, if that is one value.
+#[cycle(marking)]
+fn value_of_some(predicates: &[CompiledPredicate]) -> Option<NameValue>
+    ensures { (v : NameValue) → result ≡ Some v → (s : Sight) → some_values (λ predicate. predicate_value predicate s) predicates.now ≡ v }
+{
+    let mut value = NameValue::False;
+    for predicate in predicates {
+        match PredicateMarks::of(&predicate.tests).value_of_all() {
+            Some(other) => value = value.or(other),
+            None => return None,
+        }
+    }
+    Some(value)
+}
+
+/// The marks of what has to be there for a test of attributes to pass.
+fn needs_of(test: &AttributeExprTest) -> Marks
+    ensures { AreNeeded result (λ s seen. attribute_expr_holds test.now seen) }
+{
+    match test {
+        AttributeExprTest::Never => Marks::none(),
+        AttributeExprTest::Id(id) => Marks::of_id(id),
+        AttributeExprTest::Class(name) => Marks::of_class(name),
+        AttributeExprTest::Exists(name) => Marks::of_name(name),
+        AttributeExprTest::Equal(operands)
+        | AttributeExprTest::Includes(operands)
+        | AttributeExprTest::DashMatch(operands)
+        | AttributeExprTest::Prefix(operands)
+        | AttributeExprTest::Suffix(operands)
+        | AttributeExprTest::Substring(operands) => Marks::of_name(&operands.name),
+    }
+}

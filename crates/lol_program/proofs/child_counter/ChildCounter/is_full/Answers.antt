@@ -1,5 +1,0 @@
-use Rattle.std.proofs.Common.{rules}
-use Rattle.lol_program.proofs.child_counter.ChildCounter.is_full.Goals as goal
-
-pub returns-clause-full : goal.returns-clause-full
-returns-clause-full c = search rules

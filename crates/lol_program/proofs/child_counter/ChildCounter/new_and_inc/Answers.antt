@@ -1,5 +1,0 @@
-use Rattle.std.proofs.Common.{rules}
-use Rattle.lol_program.proofs.child_counter.ChildCounter.new_and_inc.Goals as goal
-
-pub returns : goal.returns
-returns c = search rules

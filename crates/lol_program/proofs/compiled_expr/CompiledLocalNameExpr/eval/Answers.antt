@@ -1,5 +1,0 @@
-use Rattle.std.proofs.Common.{rules}
-use Rattle.lol_program.proofs.compiled_expr.CompiledLocalNameExpr.eval.Goals as goal
-
-pub returns-in-None : goal.returns-in-None
-returns-in-None c = search rules
