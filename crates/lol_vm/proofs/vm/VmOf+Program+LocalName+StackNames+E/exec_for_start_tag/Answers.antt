@@ -370,3 +370,238 @@ returns-in-Err-answer-clause-failed g c = (λ is. absurd (push_isnt_failed c.in-
 
 pub returns-in-Err-answer-clause-full : goal.returns-in-Err-answer-clause-full
 returns-in-Err-answer-clause-full g c = (λ is. absurd (push_isnt_full c.in-Err-answer.error c.from-in-Err-answer.result c.from-in-Err-answer.ensures cc), λ full. absurd (omega (arith, c.in_default.ensures.room, full.1)))
+
+pub returns-then-self-clause-again : goal.returns-then-self-clause-again
+returns-then-self-clause-again g c = c.requires
+
+pub returns-then-self-clause-answered : goal.returns-then-self-clause-answered
+returns-then-self-clause-answered g c = tt
+
+pub returns-then-self-clause-asked : goal.returns-then-self-clause-asked
+returns-then-self-clause-asked g c = λ request is. cc
+
+pub returns-then-self-clause-charged : goal.returns-then-self-clause-charged
+returns-then-self-clause-charged g c = tt
+
+pub returns-then-self-clause-grows : goal.returns-then-self-clause-grows
+returns-then-self-clause-grows g c = tt
+
+pub returns-then-self-clause-uncharged : goal.returns-then-self-clause-uncharged
+returns-then-self-clause-uncharged g c = refl
+
+pub returns-then-self-clause-slots : goal.returns-then-self-clause-slots
+returns-then-self-clause-slots g c = refl
+
+pub returns-then-self-clause-bytes : goal.returns-then-self-clause-bytes
+returns-then-self-clause-bytes g c = refl
+
+pub returns-then-self-clause-unchanged : goal.returns-then-self-clause-unchanged
+returns-then-self-clause-unchanged g c = refl
+
+pub returns-then-self-clause-still_open : goal.returns-then-self-clause-still_open
+returns-then-self-clause-still_open g c = λ bytes elements named h. h
+
+pub returns-then-self-clause-failed : goal.returns-then-self-clause-failed
+returns-then-self-clause-failed g c = (λ is. cc, λ failed. refl)
+
+pub returns-then-self-clause-stuck : goal.returns-then-self-clause-stuck
+returns-then-self-clause-stuck g c = λ failed. refl
+
+pub returns-then-self-clause-full : goal.returns-then-self-clause-full
+returns-then-self-clause-full g c = (λ is. cc, λ full. cc)
+
+pub returns-then-self-clause-refused : goal.returns-then-self-clause-refused
+returns-then-self-clause-refused g c = λ error is refusal. cc
+
+pub returns-then-self-clause-silent : goal.returns-then-self-clause-silent
+returns-then-self-clause-silent g c = λ error is silent. refl
+
+pub returns-then-self-clause-limited : goal.returns-then-self-clause-limited
+returns-then-self-clause-limited g c = λ limit. cc
+
+pub returns-then-self-clause-limit_reported : goal.returns-then-self-clause-limit_reported
+returns-then-self-clause-limit_reported g c = λ limit. cc
+
+pub returns-then-self-clause-unlimited : goal.returns-then-self-clause-unlimited
+returns-then-self-clause-unlimited g c = tt
+
+pub returns-then-self-clause-free : goal.returns-then-self-clause-free
+returns-then-self-clause-free g c = λ error is s esi events tag stands named takes. cc
+
+pub returns-then-self-clause-tried : goal.returns-then-self-clause-tried
+returns-then-self-clause-tried g c = λ s esi events tag stands named. cc
+
+pub returns-then-self-clause-all_or_none : goal.returns-then-self-clause-all_or_none
+returns-then-self-clause-all_or_none g c = λ error is. inl refl
+
+pub returns-in-Err-clause-again : goal.returns-in-Err-clause-again
+returns-in-Err-clause-again g c = c.requires
+
+pub returns-in-Err-clause-answered : goal.returns-in-Err-clause-answered
+returns-in-Err-clause-answered g c = tt
+
+pub returns-in-Err-clause-charged : goal.returns-in-Err-clause-charged
+returns-in-Err-clause-charged g c = tt
+
+pub returns-in-Err-clause-grows : goal.returns-in-Err-clause-grows
+returns-in-Err-clause-grows g c = tt
+
+pub returns-in-Err-clause-uncharged : goal.returns-in-Err-clause-uncharged
+returns-in-Err-clause-uncharged g c = refl
+
+pub returns-in-Err-clause-slots : goal.returns-in-Err-clause-slots
+returns-in-Err-clause-slots g c = c.add_child.ensures.slots.0
+
+pub returns-in-Err-clause-bytes : goal.returns-in-Err-clause-bytes
+returns-in-Err-clause-bytes g c = c.add_child.ensures.slots.1
+
+pub returns-in-Err-clause-unchanged : goal.returns-in-Err-clause-unchanged
+returns-in-Err-clause-unchanged g c = ap (λ (x : StackOf Name StackNames _). element_data_of (list_in x).items) c.in-Err.ensures.err
+
+pub returns-in-Err-clause-unlimited : goal.returns-in-Err-clause-unlimited
+returns-in-Err-clause-unlimited g c = tt
+
+pub returns-then-eq-clause-again : goal.returns-then-eq-clause-again
+returns-then-eq-clause-again g c = c.requires
+
+pub returns-then-eq-clause-slots : goal.returns-then-eq-clause-slots
+returns-then-eq-clause-slots g c =
+    let rest = requested_keeps _ _ _ c.request.new.self c.request.result c.request.ensures.requested in
+    on_err c.request.result (ap (λ (x : StackOf Name StackNames _). (list_in x).slots) rest.stack ∙ c.add_child.ensures.slots.0)
+
+pub returns-then-eq-clause-bytes : goal.returns-then-eq-clause-bytes
+returns-then-eq-clause-bytes g c =
+    let rest = requested_keeps _ _ _ c.request.new.self c.request.result c.request.ensures.requested in
+    ap (λ (x : StackOf Name StackNames _). (list_in x).item_bytes) rest.stack ∙ c.add_child.ensures.slots.1
+
+pub returns-then-eq-clause-free : goal.returns-then-eq-clause-free
+returns-then-eq-clause-free g c = λ error is s esi events tag stands named takes.
+    asked_only c.new-ctx.result _ _ c.request.new.self c.request.result error c.request.ensures.requested
+    (c.request.ensures.free (subst (λ (n : Name). IsNone n.spelling) (sym (c.new-ctx.ensures.item.name ∙ named.0)) (void_unspelled tag.name takes.2))) (sym stands.shows.refused ∙ stands.standing.never_refused) is
+
+pub returns-in-Err-tried-clause-again : goal.returns-in-Err-tried-clause-again
+returns-in-Err-tried-clause-again g c = c.requires
+
+pub returns-in-Err-tried-clause-answered : goal.returns-in-Err-tried-clause-answered
+returns-in-Err-tried-clause-answered g c = tt
+
+pub returns-in-Err-tried-clause-asked : goal.returns-in-Err-tried-clause-asked
+returns-in-Err-tried-clause-asked g c = λ request is. cc
+
+pub returns-in-Err-tried-clause-charged : goal.returns-in-Err-tried-clause-charged
+returns-in-Err-tried-clause-charged g c = tt
+
+pub returns-in-Err-tried-clause-grows : goal.returns-in-Err-tried-clause-grows
+returns-in-Err-tried-clause-grows g c = tt
+
+pub returns-in-Err-tried-clause-uncharged : goal.returns-in-Err-tried-clause-uncharged
+returns-in-Err-tried-clause-uncharged g c = refl
+
+pub returns-in-Err-tried-clause-slots : goal.returns-in-Err-tried-clause-slots
+returns-in-Err-tried-clause-slots g c = c.add_child.ensures.slots.0
+
+pub returns-in-Err-tried-clause-bytes : goal.returns-in-Err-tried-clause-bytes
+returns-in-Err-tried-clause-bytes g c = c.add_child.ensures.slots.1
+
+pub returns-in-Err-tried-clause-failed : goal.returns-in-Err-tried-clause-failed
+returns-in-Err-tried-clause-failed g c = (λ is. cc, λ failed. cc)
+
+pub returns-in-Err-tried-clause-full : goal.returns-in-Err-tried-clause-full
+returns-in-Err-tried-clause-full g c = (λ is. cc, λ full. absurd (omega (arith, c.in_default.ensures.room, full.1)))
+
+pub returns-in-Err-tried-clause-refused : goal.returns-in-Err-tried-clause-refused
+returns-in-Err-tried-clause-refused g c = λ error is refusal. refl
+
+pub returns-in-Err-tried-clause-silent : goal.returns-in-Err-tried-clause-silent
+returns-in-Err-tried-clause-silent g c = λ error is silent. refl
+
+pub returns-in-Err-tried-clause-limited : goal.returns-in-Err-tried-clause-limited
+returns-in-Err-tried-clause-limited g c = λ limit. cc
+
+pub returns-in-Err-tried-clause-limit_reported : goal.returns-in-Err-tried-clause-limit_reported
+returns-in-Err-tried-clause-limit_reported g c = λ limit. cc
+
+pub returns-in-Err-tried-clause-unlimited : goal.returns-in-Err-tried-clause-unlimited
+returns-in-Err-tried-clause-unlimited g c = tt
+
+pub returns-in-Err-tried-clause-all_or_none : goal.returns-in-Err-tried-clause-all_or_none
+returns-in-Err-tried-clause-all_or_none g c = λ error is. inl refl
+
+pub returns-in-Some-clause-again : goal.returns-in-Some-clause-again
+returns-in-Some-clause-again g c = c.requires
+
+pub returns-in-Some-clause-slots : goal.returns-in-Some-clause-slots
+returns-in-Some-clause-slots g c =
+    let rest = requested_keeps _ _ _ c.request-in-Some.new.self c.request-in-Some.result c.request-in-Some.ensures.requested in
+    on_err c.request-in-Some.result (ap (λ (x : StackOf Name StackNames _). (list_in x).slots) rest.stack ∙ c.add_child.ensures.slots.0)
+
+pub returns-in-Some-clause-bytes : goal.returns-in-Some-clause-bytes
+returns-in-Some-clause-bytes g c =
+    let rest = requested_keeps _ _ _ c.request-in-Some.new.self c.request-in-Some.result c.request-in-Some.ensures.requested in
+    ap (λ (x : StackOf Name StackNames _). (list_in x).item_bytes) rest.stack ∙ c.add_child.ensures.slots.1
+
+pub returns-in-Ok-answer-clause-again : goal.returns-in-Ok-answer-clause-again
+returns-in-Ok-answer-clause-again g c = c.answer.ensures.again
+
+pub returns-in-Ok-answer-clause-asked : goal.returns-in-Ok-answer-clause-asked
+returns-in-Ok-answer-clause-asked g c = λ request is. cc
+
+pub returns-in-Ok-answer-clause-uncharged : goal.returns-in-Ok-answer-clause-uncharged
+returns-in-Ok-answer-clause-uncharged g c = tt
+
+pub returns-in-Ok-answer-clause-slots : goal.returns-in-Ok-answer-clause-slots
+returns-in-Ok-answer-clause-slots g c = tt
+
+pub returns-in-Ok-answer-clause-unchanged : goal.returns-in-Ok-answer-clause-unchanged
+returns-in-Ok-answer-clause-unchanged g c = tt
+
+pub returns-in-Ok-answer-clause-still_open : goal.returns-in-Ok-answer-clause-still_open
+returns-in-Ok-answer-clause-still_open g c = tt
+
+pub returns-in-Ok-answer-clause-failed : goal.returns-in-Ok-answer-clause-failed
+returns-in-Ok-answer-clause-failed g c = (λ is. cc, λ failed. cc)
+
+pub returns-in-Ok-answer-clause-full : goal.returns-in-Ok-answer-clause-full
+returns-in-Ok-answer-clause-full g c = (λ is. cc, λ full. absurd (omega (arith, c.in_default.ensures.room, full.1)))
+
+pub returns-in-Ok-answer-clause-refused : goal.returns-in-Ok-answer-clause-refused
+returns-in-Ok-answer-clause-refused g c = λ error is refusal. cc
+
+pub returns-in-Ok-answer-clause-silent : goal.returns-in-Ok-answer-clause-silent
+returns-in-Ok-answer-clause-silent g c = λ error is silent. cc
+
+pub returns-in-Ok-answer-clause-limited : goal.returns-in-Ok-answer-clause-limited
+returns-in-Ok-answer-clause-limited g c = λ limit. cc
+
+pub returns-in-Ok-answer-clause-limit_reported : goal.returns-in-Ok-answer-clause-limit_reported
+returns-in-Ok-answer-clause-limit_reported g c = λ limit. cc
+
+pub returns-in-Ok-answer-clause-free : goal.returns-in-Ok-answer-clause-free
+returns-in-Ok-answer-clause-free g c = λ error is s esi events tag stands named takes. cc
+
+pub returns-in-Ok-answer-clause-all_or_none : goal.returns-in-Ok-answer-clause-all_or_none
+returns-in-Ok-answer-clause-all_or_none g c = λ error is. cc
+
+pub returns-in-Err-answer-clause-again : goal.returns-in-Err-answer-clause-again
+returns-in-Err-answer-clause-again g c = c.answer.ensures.again
+
+pub returns-in-Err-answer-clause-answered : goal.returns-in-Err-answer-clause-answered
+returns-in-Err-answer-clause-answered g c = tt
+
+pub returns-in-Err-answer-clause-charged : goal.returns-in-Err-answer-clause-charged
+returns-in-Err-answer-clause-charged g c = tt
+
+pub returns-in-Err-answer-clause-grows : goal.returns-in-Err-answer-clause-grows
+returns-in-Err-answer-clause-grows g c = tt
+
+pub returns-in-Err-answer-clause-uncharged : goal.returns-in-Err-answer-clause-uncharged
+returns-in-Err-answer-clause-uncharged g c = c.in-Err-answer.ensures.err_limiter
+
+pub returns-in-Err-answer-clause-slots : goal.returns-in-Err-answer-clause-slots
+returns-in-Err-answer-clause-slots g c = ap (λ (v : LimitedVec (StackItemOf Name _)). v.slots) c.in-Err-answer.ensures.err.0.items ∙ c.add_child.ensures.slots.0
+
+pub returns-in-Err-answer-clause-bytes : goal.returns-in-Err-answer-clause-bytes
+returns-in-Err-answer-clause-bytes g c = ap (λ (v : LimitedVec (StackItemOf Name _)). v.item_bytes) c.in-Err-answer.ensures.err.0.items ∙ c.add_child.ensures.slots.1
+
+pub returns-in-Err-answer-clause-unlimited : goal.returns-in-Err-answer-clause-unlimited
+returns-in-Err-answer-clause-unlimited g c = tt
