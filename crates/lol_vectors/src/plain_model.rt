@@ -4,10 +4,9 @@ ghost use Rattle.std.specs.Prelude.{All};
 ghost use Rattle.lol_vm.specs.Views.{HasRangesInside};
 
 use crate::plain::{PlainAnswer, plain_answers};
-use crate::runs::reports_of;
-use crate::stack_model::next_random;
-use crate::tag_words::{TagWord, attributes_of, events_of};
-use lol_vm::{Ast, Namespace, Selector, TagEvent, TagReport};
+use crate::tag_words::events_of;
+use lol_samples::{TagWord, attributes_of, next_random};
+use lol_vm::{Ast, Namespace, Selector, SharedMemoryLimiter, TagEvent, TagReport, match_events};
 use std::alloc::{AllocError, Global};
 use std::process::Abort;
 use std::test::Fail;
@@ -156,7 +155,11 @@ fn compare_events(
     requires { All HasRangesInside events.now }
 {
     let told = plain_answers(alloc, &ast, has_esi(seed), events)?;
-    let reports = reports_of(rt, alloc, ast, has_esi(seed), events, 1_000_000)?;
+    let mut limiter = SharedMemoryLimiter::new(1_000_000);
+    let Ok(reports) = match_events(alloc, ast, 64, has_esi(seed), events, &mut limiter) else {
+        return Err(Fail::from("the run was refused"));
+    };
+    assert!(rt; limiter.current_usage() == 0);
     expect_agreement(rt, seed, &reports, &told);
     Ok(())
 }

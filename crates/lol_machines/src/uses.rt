@@ -1,0 +1,119 @@
+//! Callers of the crates, each on a small page each of whose elements has `rel=me`.
+
+ghost use Rattle.std.specs.Prelude.{All};
+ghost use Rattle.lol_uses.specs.Pages.{HasAttributesInside};
+ghost use Rattle.lol_vm.specs.Views.{HasRangesInside};
+
+use lol_samples::{Attributes, WrittenAttributes};
+use lol_uses::{PageTag, add_text, ids_of_run, ids_on_page, refusal_of};
+use lol_vm::{Ast, Namespace, SelectorError, SharedMemoryLimiter, TagEvent};
+use std::alloc::Global;
+use std::test::Fail;
+
+fn links(alloc: Global) -> Result<Ast, Fail> {
+    let mut ast = Ast::new(alloc);
+    add_text(alloc, &mut ast, "nav a, a:not([rel])", 7)?;
+    add_text(alloc, &mut ast, "[rel=me]", 3)?;
+    Ok(ast)
+}
+
+const REL_ME: WrittenAttributes<'static> = &[("rel", Some("me"))];
+
+/// Whether exactly these ids are reported on a page, and nothing stays charged.
+fn page_has_ids(alloc: Global, page: &[PageTag<'_>], wanted: &[u32]) -> Result<bool, Fail>
+    requires { All HasAttributesInside page.now }
+{
+    let mut limiter = SharedMemoryLimiter::new(512);
+    let found = ids_on_page(alloc, links(alloc)?, page, &mut limiter);
+    let as_wanted = matches!(&found, Ok(ids) if ids.as_slice() == wanted);
+    Ok(as_wanted && limiter.current_usage() == 0)
+}
+
+#[test]
+fn goes_tag_by_tag(rt: HostRuntime) -> Result<(), Fail> {
+    let alloc = rt.alloc();
+    let attributes = Attributes::new(alloc, REL_ME)?;
+    let (aux_info, ns) = (attributes.info(&rt, false), Namespace::Html);
+    let page = [
+        PageTag::Start {
+            name: b"nav",
+            ns,
+            aux_info,
+        },
+        PageTag::Start {
+            name: b"a",
+            ns,
+            aux_info,
+        },
+        PageTag::End { name: b"A" },
+        PageTag::End { name: b"nav" },
+        PageTag::Start {
+            name: b"a",
+            ns,
+            aux_info,
+        },
+        PageTag::Start {
+            name: b"img",
+            ns,
+            aux_info,
+        },
+    ];
+    assert!(rt; page_has_ids(alloc, &page, &[3, 3, 7, 3, 3])?);
+    Ok(())
+}
+
+/// Whether exactly these ids are reported in a run.
+fn run_has_ids(alloc: Global, events: &[TagEvent<'_>], wanted: &[u32]) -> Result<bool, Fail>
+    requires { All HasRangesInside events.now }
+{
+    let mut limiter = SharedMemoryLimiter::new(512);
+    let found = ids_of_run(alloc, links(alloc)?, events, &mut limiter);
+    Ok(matches!(&found, Ok(ids) if ids.as_slice() == wanted))
+}
+
+#[test]
+fn runs_a_list(rt: HostRuntime) -> Result<(), Fail> {
+    let alloc = rt.alloc();
+    let attributes = Attributes::new(alloc, REL_ME)?;
+    let (aux_info, ns) = (attributes.info(&rt, false), Namespace::Html);
+    let events = [
+        TagEvent::Start {
+            name: b"nav",
+            ns,
+            aux_info,
+            finish: true,
+        },
+        TagEvent::Start {
+            name: b"a",
+            ns,
+            aux_info,
+            finish: true,
+        },
+        TagEvent::End { name: b"nav" },
+        TagEvent::Start {
+            name: b"a",
+            ns,
+            aux_info,
+            finish: false,
+        },
+    ];
+    assert!(rt; run_has_ids(alloc, &events, &[3, 3, 7])?);
+    Ok(())
+}
+
+/// Whether a text is refused for an empty selector, and adds nothing.
+fn adds_nothing(alloc: Global, text: &str) -> Result<bool, Fail> {
+    let mut ast = links(alloc)?;
+    let refused = add_text(alloc, &mut ast, text, 1) == Err(SelectorError::EmptySelector);
+    Ok(refused && ast == links(alloc)?)
+}
+
+#[test]
+fn tells_why_a_text_is_refused(rt: HostRuntime) -> Result<(), Fail> {
+    let alloc = rt.alloc();
+    assert!(rt; refusal_of(alloc, "nav > a") == None);
+    let sibling = SelectorError::UnsupportedCombinator('+');
+    assert!(rt; refusal_of(alloc, "nav + a") == Some(sibling));
+    assert!(rt; adds_nothing(alloc, "a, ,")?);
+    Ok(())
+}

@@ -1,0 +1,15 @@
+//! What tests are written with: selectors under ids, attributes, tags as words, data of an element, and numbers that look random. Nothing is
+//! claimed of them but that each attribute lies inside its input.
+#![tactic(auto)]
+
+mod attributes;
+mod numbered;
+mod random;
+mod tag_words;
+mod trees;
+
+pub use attributes::{Attributes, WrittenAttributes};
+pub use numbered::Numbered;
+pub use random::next_random;
+pub use tag_words::{TagWord, attributes_of, words_of};
+pub use trees::selectors;
