@@ -137,7 +137,8 @@ pub(crate) fn start(
         Ok(()) => Said::Unasked,
         Err(VmError::InfoRequest(request)) => {
             let written = Attributes::new(alloc, tag.attributes).expect(rt, "memory");
-            let info = written.info(rt, tag.self_closing);
+            let info = written.info(tag.self_closing);
+            assert!(rt; info.ranges_inside());
             let finished = vm.finish_start_tag(request, info, limiter, &mut handler);
             assert!(rt; finished.is_ok());
             Said::Asked

@@ -33,7 +33,8 @@ fn page_has_ids(alloc: Global, page: &[PageTag<'_>], wanted: &[u32]) -> Result<b
 fn goes_tag_by_tag(rt: HostRuntime) -> Result<(), Fail> {
     let alloc = rt.alloc();
     let attributes = Attributes::new(alloc, REL_ME)?;
-    let (aux_info, ns) = (attributes.info(&rt, false), Namespace::Html);
+    let (aux_info, ns) = (attributes.info(false), Namespace::Html);
+    assert!(rt; aux_info.ranges_inside());
     let page = [
         PageTag::Start {
             name: b"nav",
@@ -75,7 +76,8 @@ fn run_has_ids(alloc: Global, events: &[TagEvent<'_>], wanted: &[u32]) -> Result
 fn runs_a_list(rt: HostRuntime) -> Result<(), Fail> {
     let alloc = rt.alloc();
     let attributes = Attributes::new(alloc, REL_ME)?;
-    let (aux_info, ns) = (attributes.info(&rt, false), Namespace::Html);
+    let (aux_info, ns) = (attributes.info(false), Namespace::Html);
+    assert!(rt; aux_info.ranges_inside());
     let events = [
         TagEvent::Start {
             name: b"nav",

@@ -1,11 +1,7 @@
 //! Attributes of a tag.
 
-ghost use Rattle.lol_base.specs.StartTags.{RangesAreInside};
-
-use lol_base::{AttributeBuffer, AttributeOutline, AuxStartTagInfo, Bytes, Namespace, Range};
-use lol_instructions::AttributeMatcher;
+use lol_base::{AttributeBuffer, AttributeOutline, AuxStartTagInfo, Bytes, Range};
 use std::alloc::{AllocError, Global};
-use std::process::Abort;
 
 /// Attributes as they are written: their names and values.
 pub type WrittenAttributes<'t> = &'t [(&'t str, Option<&'t str>)];
@@ -31,23 +27,13 @@ impl Attributes {
         Ok(Attributes { input, outlines })
     }
 
-    /// What is known of a tag with these attributes. Each of them lies inside the input.
-    pub fn info(&self, rt: &impl Abort, self_closing: bool) -> AuxStartTagInfo<'_>
-        ensures { RangesAreInside result }
-    {
-        let tag = AuxStartTagInfo {
+    /// What is known of a tag with these attributes. That each of them lies inside the input is left to `ranges_inside`.
+    pub fn info(&self, self_closing: bool) -> AuxStartTagInfo<'_> {
+        AuxStartTagInfo {
             input: Bytes::new(&self.input),
             attr_buffer: &self.outlines,
             self_closing,
-        };
-        assert!(rt; tag.ranges_inside());
-        tag
-    }
-
-    /// What is asked of these attributes, at an element of this namespace.
-    pub fn matcher(&self, rt: &impl Abort, ns: Namespace) -> AttributeMatcher<'_> {
-        let tag = self.info(rt, false);
-        AttributeMatcher::new(tag.input, tag.attr_buffer, ns)
+        }
     }
 }
 

@@ -1,5 +1,5 @@
 //! What tests are written with: selectors under ids, attributes, tags as words, data of an element, and numbers that look random. Nothing is
-//! claimed of them but that each attribute lies inside its input.
+//! claimed of them.
 #![tactic(auto)]
 
 mod attributes;

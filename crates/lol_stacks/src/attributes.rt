@@ -181,11 +181,22 @@ fn all_hold_as_said(
     Ok(true)
 }
 
+/// What is asked of these attributes, at an element of this namespace.
+pub(crate) fn matcher<'a>(
+    rt: &impl Abort,
+    attributes: &'a Attributes,
+    ns: Namespace,
+) -> AttributeMatcher<'a> {
+    let tag = attributes.info(false);
+    assert!(rt; tag.ranges_inside());
+    AttributeMatcher::new(tag.input, tag.attr_buffer, ns)
+}
+
 /// Whether each comparison of a row holds where it is said to.
 fn holds_in_row(rt: &impl Abort, alloc: Global, row: &Row<'_>) -> Result<bool, AllocError> {
     let (written, ns, case_sensitivity, comparisons) = row;
     let tag = Attributes::new(alloc, written)?;
-    let tag = tag.matcher(rt, *ns);
+    let tag = matcher(rt, &tag, *ns);
     all_hold_as_said(alloc, &tag, *case_sensitivity, comparisons)
 }
 
@@ -271,7 +282,7 @@ fn expect_sought(
 fn are_looked_for(rt: HostRuntime) -> Result<(), Fail> {
     for (written, rows) in &LOOKED_FOR {
         let tag = Attributes::new(rt.alloc(), written)?;
-        expect_sought(&rt, &tag.matcher(&rt, Html), rows);
+        expect_sought(&rt, &matcher(&rt, &tag, Html), rows);
     }
     Ok(())
 }

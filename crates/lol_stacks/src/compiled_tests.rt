@@ -1,5 +1,6 @@
 //! Compiled tests, of selectors and by hand.
 
+use crate::attributes::matcher;
 use crate::instructions::instruction;
 use NameValue::{False, Open, True};
 use lol_base::{LocalName, Namespace};
@@ -117,7 +118,7 @@ fn expect_answers(
 #[test]
 fn of_attributes(rt: HostRuntime) -> Result<(), Fail> {
     let attributes = Attributes::new(rt.alloc(), &[("foo", Some("bar"))])?;
-    let attributes = attributes.matcher(&rt, Namespace::Html);
+    let attributes = matcher(&rt, &attributes, Namespace::Html);
     expect_answers(&rt, rt.alloc(), &attributes)?;
     Ok(())
 }
@@ -234,7 +235,7 @@ fn check_values(
     let instruction = instruction(rt, alloc, text)?;
     let tag = TagWord::of(tag);
     let attributes = tag.attributes(alloc)?;
-    let matcher = attributes.matcher(rt, Namespace::Html);
+    let matcher = matcher(rt, &attributes, Namespace::Html);
     let name = LocalName::new(tag.name.as_bytes());
     assert!(rt;
         values(&instruction.predicate, &name, &matcher) == wanted,
@@ -298,7 +299,7 @@ fn has_values(
     wanted: (NameValue, NameValue, bool),
 ) -> Result<bool, AllocError> {
     let attributes = Attributes::new(alloc, &[])?;
-    let matcher = attributes.matcher(rt, Namespace::Html);
+    let matcher = matcher(rt, &attributes, Namespace::Html);
     Ok(of_first_child(predicate, &matcher) == wanted)
 }
 
@@ -364,7 +365,7 @@ fn answers_to(
 ) -> Result<(bool, bool), Fail> {
     let instruction = instruction(rt, alloc, text)?;
     let attributes = Attributes::new(alloc, written)?;
-    let matcher = attributes.matcher(rt, Namespace::Html);
+    let matcher = matcher(rt, &attributes, Namespace::Html);
     Ok(answers(&instruction, &matcher))
 }
 

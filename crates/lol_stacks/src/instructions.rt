@@ -1,5 +1,6 @@
 //! The three ways to run an instruction, and what they count.
 
+use crate::attributes::matcher;
 use lol_base::{LocalName, Namespace};
 use lol_instructions::{
     AttributeMatcher, ChildCounter, Instruction, SelectorState, Tries, TryExecResult,
@@ -96,7 +97,7 @@ fn expect_exec(
 ) -> Result<(), AllocError> {
     let tag = TagWord::of(tag);
     let attributes = tag.attributes(alloc)?;
-    let matcher = attributes.matcher(rt, Namespace::Html);
+    let matcher = matcher(rt, &attributes, Namespace::Html);
     let name = LocalName::new(tag.name.as_bytes());
     assert!(rt; run(instruction, &name, &matcher) == wanted);
     Ok(())
@@ -152,7 +153,7 @@ fn expect_completion(
     tag: &TagWord<'_>,
 ) -> Result<(), AllocError> {
     let attributes = tag.attributes(alloc)?;
-    let matcher = attributes.matcher(rt, Namespace::Html);
+    let matcher = matcher(rt, &attributes, Namespace::Html);
     let name = LocalName::new(tag.name.as_bytes());
     assert!(rt; complete(instruction, &name, &matcher) == (true, (0, 1)));
     Ok(())

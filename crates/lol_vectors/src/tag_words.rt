@@ -15,10 +15,12 @@ fn event<'e>(rt: &impl Abort, tag: &TagWord<'e>, attributes: &'e Attributes) -> 
     if tag.ends {
         return TagEvent::End { name };
     }
+    let aux_info = attributes.info(tag.self_closing);
+    assert!(rt; aux_info.ranges_inside());
     TagEvent::Start {
         name,
         ns: tag.ns,
-        aux_info: attributes.info(rt, tag.self_closing),
+        aux_info,
         finish: tag.finish,
     }
 }
