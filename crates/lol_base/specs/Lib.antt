@@ -1,3 +1,6 @@
+pub mod CodePoints
+pub mod SameText
+pub mod Progression
 pub mod Names
 pub mod LocalNames
 pub mod NameLaws

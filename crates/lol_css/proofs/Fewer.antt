@@ -1,6 +1,7 @@
 -- A text has no more tokens than code points.
 use Rattle.std.proofs.Common.{◌≡◌, ℕ, zero, suc, ◌+◌, ◌≤◌, Bool, true, false, cond, eqb, ◌&&◌, List, [], ◌∷◌, length, Option, Some, None, refl, arith, length-append}
-use Rattle.lol_css.specs.Points.{line_feed, carriage_return, took, at_most, preprocessed_after, clean_point, clean_points_after, preprocessed}
+use Rattle.lol_base.specs.CodePoints.{line_feed, carriage_return}
+use Rattle.lol_css.specs.Points.{took, at_most, preprocessed_after, clean_point, clean_points_after, preprocessed}
 use Rattle.lol_css.specs.Tokens.{Token, next, somes, with_first, tokens_of, tokens}
 use Rattle.lol_css.proofs.Many.{Shrinks}
 use Rattle.lol_css.proofs.Streams.{next-shrinks}

@@ -7,5 +7,4 @@ pub mod TreeRows
 pub mod Shorter
 pub mod Fusing
 pub mod Accepts
-pub mod Steps
 pub mod Fewer

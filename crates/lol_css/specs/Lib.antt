@@ -7,8 +7,6 @@ pub mod Trees
 pub mod Drafts
 pub mod Reading
 pub mod Accepting
-pub mod SameText
-pub mod Progression
 pub mod Judging
 pub mod Views
 pub mod TreeViews

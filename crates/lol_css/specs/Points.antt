@@ -2,6 +2,7 @@
 use Rattle.std.specs.Prelude.{ℕ, zero, suc, ◌+◌, ◌-◌, ◌*◌, Bool, false, not, ◌&&◌, ◌||◌, ◌==◌, nat_le, if◌then◌else◌, List, [], ◌∷◌, ◌++◌, map, length, drop, Option, Some, None}
 use Rattle.std.specs.Char.{digit_value, is_digit}
 use Rattle.std.specs.Str.{all_scalars, byte}
+use Rattle.lol_base.specs.CodePoints.{tab, line_feed, form_feed, carriage_return}
 
 -- ---- lists
 
@@ -44,18 +45,6 @@ None or other = other
 (Some x) or other = Some x
 
 -- ---- code points (section 4.2)
-
-abbrev pub tab : ℕ
-tab = 9
-
-abbrev pub line_feed : ℕ
-line_feed = 10
-
-abbrev pub form_feed : ℕ
-form_feed = 12
-
-abbrev pub carriage_return : ℕ
-carriage_return = 13
 
 abbrev pub is_newline : ℕ → Bool
 is_newline c = c == line_feed

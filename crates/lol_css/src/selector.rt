@@ -5,8 +5,7 @@ ghost use Rattle.std.specs.Cmp.Lexicographic.{pointwise};
 ghost use Rattle.std.specs.Cmp.{partial_equiv_from_equiv};
 ghost use Rattle.std.proofs.lemmas.Cmp.{nat_list_eq_equiv};
 
-use crate::attribute::{AttrSelectorOperator, ParsedCaseSensitivity};
-use crate::nth::NthChild;
+use lol_base::{AttrSelectorOperator, NthChild, ParsedCaseSensitivity};
 use std::alloc::{AllocError, Global};
 use std::fmt;
 use std::marker::Model;

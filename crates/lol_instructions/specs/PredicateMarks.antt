@@ -2,7 +2,7 @@
 use Rattle.std.specs.Prelude.{◌≡◌, ℕ, pos, Bool, true, false, ◌==◌, if◌then◌else◌, List, Option, Some, None}
 use Rattle.std.specs.List.{list_all}
 use Rattle.lol_base.specs.LocalNames.{name_code}
-use Rattle.lol_css.specs.Progression.{has_index}
+use Rattle.lol_base.specs.Progression.{has_index}
 use Rattle.lol_instructions.specs.Attributes.{TagAttributes}
 use Rattle.lol_instructions.specs.Compounds.{both}
 use Rattle.lol_instructions.specs.Compiled.{Sight, is_at, test_value, test_holds, all_values}

@@ -7,7 +7,7 @@ ghost use Rattle.std.specs.Str.{bytes_eq};
 ghost use Rattle.std.specs.Bool.{OnTrue};
 ghost use Rattle.lol_base.specs.Names.{lowercased};
 ghost use Rattle.lol_base.specs.StartTags.{bytes_of, attribute_of, OutlineIsInside};
-ghost use Rattle.lol_css.specs.declared.attribute.AttrSelectorOperator.TheVariants.{Equal, Includes, DashMatch, Prefix, Substring, Suffix};
+ghost use Rattle.lol_base.specs.declared.attribute.AttrSelectorOperator.TheVariants.{Equal, Includes, DashMatch, Prefix, Substring, Suffix};
 ghost use Rattle.lol_instructions.specs.Tests.{has_value, ignores_case, operator_holds};
 ghost use Rattle.lol_instructions.specs.Attributes.{value_among, value_in, ignores, operands_hold};
 ghost use Rattle.lol_instructions.specs.Marks.{LacksOne};
@@ -16,8 +16,9 @@ use crate::attribute_value::{
     has_dash_match, has_prefix, has_substring, has_suffix, has_word, is_equal,
 };
 use crate::marks::Marks;
-use lol_base::{AttributeBuffer, AttributeOutline, Bytes, Namespace};
-use lol_css::{CaseSensitivity, ParsedCaseSensitivity};
+use lol_base::{
+    AttributeBuffer, AttributeOutline, Bytes, CaseSensitivity, Namespace, ParsedCaseSensitivity,
+};
 use std::marker::Model;
 
 /// What the value of an attribute is compared with, as lol_html's `AttrExprOperands`.

@@ -3,14 +3,14 @@
 ghost use Rattle.std.specs.Prelude.{◌≡◌, ◌↔◌, ◌<◌, ◌≤◌, ◌∷◌, false, length, IsTrue, MatchOption};
 ghost use Rattle.std.specs.List.{list_any};
 ghost use Rattle.std.specs.Option.{option_copied};
-ghost use Rattle.lol_css.specs.declared.attribute.AttrSelectorOperator.TheVariants.{Equal, Includes, DashMatch, Prefix, Substring, Suffix};
+ghost use Rattle.lol_base.specs.declared.attribute.AttrSelectorOperator.TheVariants.{Equal, Includes, DashMatch, Prefix, Substring, Suffix};
 ghost use Rattle.lol_instructions.specs.Tests.{is_white};
 ghost use Rattle.lol_instructions.specs.Attributes.{value_holds};
 ghost use Rattle.memchr.specs.Find.{IsFirstByte};
 ghost use Rattle.lol_instructions.specs.Words.{is_letter_of, NoLetter, IsLetterEnd, IsWordBefore};
 ghost use Rattle.lol_instructions.specs.Substrings.{stands_in_caseless, IsAfterLetter};
 
-use lol_css::CaseSensitivity;
+use lol_base::CaseSensitivity;
 use memchr::{memchr, memchr2, memmem};
 
 /// The longest value whose words are looked at one by one.

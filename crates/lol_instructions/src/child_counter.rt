@@ -1,10 +1,10 @@
 //! Counts of children.
 
 ghost use Rattle.std.specs.Prelude.{◌≡◌, ◌<◌, ◌≤◌, ◌+◌, ◌↔◌, IsTrue, pos, ◌≤ℤ◌};
-ghost use Rattle.lol_css.specs.Progression.{Has, has_index};
+ghost use Rattle.lol_base.specs.Progression.{Has, has_index};
 ghost use Rattle.lol_instructions.specs.Counters.{full_count};
 
-use lol_css::NthChild;
+use lol_base::NthChild;
 use std::marker::Model;
 
 /// How many start tags were counted, from 0 to `i32::MAX` (lol_html's `ChildCounter`).

@@ -5,8 +5,7 @@ ghost use Rattle.lol_instructions.specs.Compiled.{sight, name_expr_holds, attrib
 
 use crate::attribute_matcher::{AttrExprOperands, AttributeMatcher};
 use crate::selector_state::SelectorState;
-use lol_base::LocalName;
-use lol_css::NthChild;
+use lol_base::{LocalName, NthChild};
 
 /// What a compiled test asks of a name or a place.
 #[derive(Drop)]

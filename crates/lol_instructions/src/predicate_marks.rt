@@ -13,8 +13,7 @@ use crate::compiled_predicate::{CompiledPredicate, CompiledTest};
 use crate::marks::Marks;
 use crate::name_value::NameValue;
 use crate::selector_state::SelectorState;
-use lol_base::LocalName;
-use lol_css::NthChild;
+use lol_base::{LocalName, NthChild};
 
 /// What places say of an element that has the name.
 #[derive(Clone, Copy)]

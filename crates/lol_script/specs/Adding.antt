@@ -1,6 +1,6 @@
 -- Lines that are added as reports come.
 use Rattle.std.specs.Prelude.{◌≡◌, Bool, false, [], ◌∷◌, ◌++◌}
-use Rattle.lol_css.specs.Points.{line_feed}
+use Rattle.lol_base.specs.CodePoints.{line_feed}
 use Rattle.lol_vm.specs.Views.{answer_of}
 use Rattle.lol_vm.specs.declared.events.TagReport.{TagReport}
 use Rattle.lol_script.specs.Output.{shown_answer}

@@ -3,7 +3,7 @@ use Rattle.std.specs.Prelude.{ℕ, Bool, map, if◌then◌else◌, List, [], ◌
 use Rattle.std.specs.Char.{encode_utf8}
 use Rattle.std.specs.List.{join_with_byte, flat_map}
 use Rattle.std.specs.Str.{byte}
-use Rattle.lol_css.specs.Points.{tab, line_feed}
+use Rattle.lol_base.specs.CodePoints.{tab, line_feed}
 use Rattle.lol_css.specs.declared.error.SelectorError.{SelectorError}
 use Rattle.lol_css.specs.declared.error.SelectorError.TheVariants.{UnexpectedToken, UnexpectedEnd, MissingAttributeName, EmptySelector, DanglingCombinator, UnexpectedTokenInAttribute, UnsupportedPseudoClassOrElement, NestedNegation, NamespacedSelector, InvalidClassName, EmptyNegation, UnsupportedCombinator, UnsupportedSyntax, Memory}
 use Rattle.lol_vm.specs.Answers.{Match, Answer, Started, Dropped, Ended}

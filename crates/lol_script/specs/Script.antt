@@ -2,7 +2,7 @@
 use Rattle.std.specs.Prelude.{ℕ, ◌+◌, ◌-◌, ◌*◌, Bool, true, false, ◌&&◌, if◌then◌else◌, ◌==◌, nat_le, List, [], ◌∷◌, map, fold, Option, Some, None, option_map, codes}
 use Rattle.std.specs.Str.{bytes_eq, byte, is_utf8}
 use Rattle.std.specs.List.{list_all, list_any, slice_split, join_with_byte, before_first, after_first}
-use Rattle.lol_css.specs.Points.{tab}
+use Rattle.lol_base.specs.CodePoints.{tab}
 use Rattle.lol_base.specs.StartTags.{Attribute, StartTag}
 use Rattle.lol_base.specs.declared.namespace.Namespace.{Namespace}
 use Rattle.lol_base.specs.declared.namespace.Namespace.TheVariants.{Html, Svg, MathML}

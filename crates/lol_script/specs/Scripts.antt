@@ -2,7 +2,7 @@
 use Rattle.std.specs.Prelude.{ℕ, ◌+◌, Bool, false, true, ◌==◌, List, [], ◌∷◌, ◌++◌, map, take, Option, Some, None, Result, Ok, Err, codes}
 use Rattle.std.specs.List.{slice_split}
 use Rattle.lol_css.specs.Accepting.{accept}
-use Rattle.lol_css.specs.Points.{line_feed}
+use Rattle.lol_base.specs.CodePoints.{line_feed}
 use Rattle.lol_css.specs.Trees.{Items}
 use Rattle.lol_css.specs.declared.error.SelectorError.{SelectorError}
 use Rattle.lol_program.specs.Paths.{Path, Selectors}

@@ -4,7 +4,7 @@ ghost use Rattle.std.specs.Prelude.{◌≡◌, ℕ, ◌+◌, ◌≤◌, length, 
 ghost use Rattle.lol_stack.specs.Active.{activated, is_range_active};
 ghost use Rattle.lol_stack.specs.Spans.{HasSpans};
 
-use lol_program::AddressRange;
+use lol_instructions::AddressRange;
 use std::alloc::{AllocError, Global};
 use std::collections::BTreeSet;
 use std::marker::Model;

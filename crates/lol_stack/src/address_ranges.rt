@@ -4,7 +4,7 @@ ghost use Rattle.std.specs.Prelude.{◌≡◌, ℕ, List, ◌++◌, ◌∷◌, [
 ghost use Rattle.std.specs.declared.ops.Range.{Range};
 ghost use Rattle.lol_stack.specs.WithRange.{with_range};
 
-use lol_program::AddressRange;
+use lol_instructions::AddressRange;
 use std::alloc::{AllocError, Global};
 use std::marker::Model;
 use std::{mem, slice};

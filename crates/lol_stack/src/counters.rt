@@ -9,8 +9,8 @@ ghost use Rattle.lol_stack.specs.CounterMaps.{counters_of};
 ghost use Rattle.lol_stack.specs.TypedCounts.{counted_by_type, cut_to, key_of, count_at, PopsAbove};
 
 use lol_base::LocalName;
+use lol_instructions::ChildCounter;
 use lol_names::NameMap;
-use lol_program::ChildCounter;
 use std::alloc::{AllocError, Global};
 use std::marker::Model;
 

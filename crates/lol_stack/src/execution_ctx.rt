@@ -8,8 +8,8 @@ ghost use Rattle.lol_stack.specs.Contexts.{with_branch, IsNewItem};
 use crate::element_data::ElementData;
 use crate::stack_item::{StackItem, StackItemOf};
 use lol_base::{LocalName, Namespace};
+use lol_instructions::ExecutionBranch;
 use lol_memory::{DenseHashSet, MatchInfo};
-use lol_program::ExecutionBranch;
 use std::alloc::{AllocError, Global};
 
 /// What is known of a start tag, and what has been gathered for its element so far (lol_html's `ExecutionCtx`).

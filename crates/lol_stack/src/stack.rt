@@ -20,9 +20,9 @@ use crate::directive::directive_of;
 use crate::open_names::OpenNames;
 use crate::stack_item::{StackDirective, StackItem, StackItemOf};
 use lol_base::{LocalName, Namespace};
+use lol_instructions::{AddressRange, ChildCounter, SelectorState};
 use lol_memory::{LimitedVec, PushError, SharedMemoryLimiter};
 use lol_names::NamePlace;
-use lol_program::{AddressRange, ChildCounter, SelectorState};
 use std::alloc::{AllocError, Global};
 
 /// The open elements: see `Stack`.

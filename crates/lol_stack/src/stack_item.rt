@@ -9,8 +9,8 @@ ghost use Rattle.lol_stack.specs.declared.stack_item.StackItemOf.{StackItemOf};
 use crate::address_ranges::AddressRanges;
 use crate::element_data::ElementData;
 use lol_base::LocalName;
+use lol_instructions::{ChildCounter, ExecutionBranch};
 use lol_memory::DenseHashSet;
-use lol_program::{ChildCounter, ExecutionBranch};
 use std::alloc::{AllocError, Global};
 
 /// What becomes of the element of a start tag (lol_html's `StackDirective`).

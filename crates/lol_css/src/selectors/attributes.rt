@@ -12,7 +12,6 @@ ghost use Rattle.lol_css.specs.declared.error.SelectorError.TheVariants.{Unexpec
 ghost use Rattle.lol_css.specs.Views.{Reads, ReadsUnlessMemory, points_of, judgement};
 ghost use Rattle.lol_css.specs.TreeViews.{part_of};
 
-use crate::attribute::{AttrSelectorOperator, ParsedCaseSensitivity};
 use crate::error::SelectorError;
 use crate::selector::{CssString, SimpleSelector};
 use crate::selectors::judged::Judged;
@@ -20,6 +19,7 @@ use crate::selectors::parser::Parser;
 use crate::syntax::reader::{Nesting, Reader};
 use crate::syntax::texts::Name;
 use crate::syntax::tokens::{MatchOperator, Token};
+use lol_base::{AttrSelectorOperator, ParsedCaseSensitivity};
 
 /// The name after a bar, and whether `*` stands before the bar.
 fn name_after_bar<'a>(

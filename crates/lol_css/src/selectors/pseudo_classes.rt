@@ -8,12 +8,12 @@ ghost use Rattle.lol_css.specs.Views.{Reads, points_of, judgement, reader_answer
 ghost use Rattle.lol_css.specs.TreeViews.{part_of};
 
 use crate::error::SelectorError;
-use crate::nth::NthChild;
 use crate::selector::SimpleSelector;
 use crate::selectors::judged::Judged;
 use crate::syntax::an_plus_b::an_plus_b;
 use crate::syntax::reader::Reader;
 use crate::syntax::texts::Name;
+use lol_base::NthChild;
 
 fn is_late_word(name: Name<'_>) -> bool
     ensures { result ≡ is_one_of late_words (points_of name.entry) }

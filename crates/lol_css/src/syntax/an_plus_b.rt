@@ -10,10 +10,10 @@ ghost use Rattle.lol_css.specs.AnPlusB.{integer, an_plus_b, an_plus_b_of, rest_o
 ghost use Rattle.lol_css.specs.Views.{Reads, numeral_of, token_of, points_of};
 
 use crate::error::SelectorError;
-use crate::nth::NthChild;
 use crate::syntax::reader::{Nesting, Reader};
 use crate::syntax::texts::Name;
 use crate::syntax::tokens::{Numeral, Sign, Token};
+use lol_base::NthChild;
 
 /// One more than the magnitude of the least `i32`.
 const TOO_LARGE: u64 = 2_147_483_649;

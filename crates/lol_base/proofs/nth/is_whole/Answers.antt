@@ -1,5 +1,5 @@
-use Rattle.lol_css.proofs.Steps.{whole-test}
-use Rattle.lol_css.proofs.nth.is_whole.Goals as goal
+use Rattle.lol_base.proofs.Steps.{whole-test}
+use Rattle.lol_base.proofs.nth.is_whole.Goals as goal
 
 pub returns : goal.returns
 returns c =

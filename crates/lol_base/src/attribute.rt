@@ -1,7 +1,7 @@
 //! How an attribute's value is compared.
 
 ghost use Rattle.std.specs.Prelude.{◌↔◌, IsTrue};
-ghost use Rattle.lol_css.specs.SameText.{SameText};
+ghost use Rattle.lol_base.specs.SameText.{SameText};
 
 /// An operator that compares an attribute's value with an operand (Selectors 4, sections 6.1 and 6.2), as in `selectors::attr`.
 #[derive(Debug, Clone, Copy, PartialEq, Eq)]

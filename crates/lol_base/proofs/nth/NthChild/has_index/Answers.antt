@@ -1,8 +1,8 @@
 use Rattle.std.proofs.Common.{◌≡◌, ◌-ℤ◌, ap, arith, rules, w32, w64, to_z, of_z, SFits}
 use Rattle.std.proofs.lemmas.Int.{ints}
-use Rattle.lol_css.specs.Progression.{Progression}
-use Rattle.lol_css.proofs.Steps.{has-from_whole, whole-from_has, has_index-same}
-use Rattle.lol_css.proofs.nth.NthChild.has_index.Goals as goal
+use Rattle.lol_base.specs.Progression.{Progression}
+use Rattle.lol_base.proofs.Steps.{has-from_whole, whole-from_has, has_index-same}
+use Rattle.lol_base.proofs.nth.NthChild.has_index.Goals as goal
 
 pub returns-clause-member : goal.returns-clause-member
 returns-clause-member c =

@@ -1,7 +1,7 @@
 //! An+B: which of an element's siblings it may be.
 
 ghost use Rattle.std.specs.Prelude.{◌≡◌, ◌↔◌, IsTrue};
-ghost use Rattle.lol_css.specs.Progression.{Has, IsWhole, has_index};
+ghost use Rattle.lol_base.specs.Progression.{Has, IsWhole, has_index};
 
 use std::marker::Model;
 
@@ -13,7 +13,7 @@ pub struct NthChild {
 }
 
 impl Model for NthChild {
-    ghost use Rattle.lol_css.specs.Progression.{Progression};
+    ghost use Rattle.lol_base.specs.Progression.{Progression};
 
     ghost Value = { Progression };
 

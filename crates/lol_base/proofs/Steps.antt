@@ -8,7 +8,7 @@ use Rattle.std.specs.Int.Signed.{lt_z}
 use Rattle.std.proofs.Math.Bool.{beq}
 use Rattle.std.proofs.lemmas.Bool.{eqb-true, eq-eqb}
 use Rattle.std.specs.Cmp.Derive.{one_truth}
-use Rattle.lol_css.specs.Progression.{Progression, Has, SameSign, LiesOn, IsWhole, is_whole, has_index}
+use Rattle.lol_base.specs.Progression.{Progression, Has, SameSign, LiesOn, IsWhole, is_whole, has_index}
 
 pos_same : (a b : ℕ) → pos a ≡ pos b → a ≡ b
 pos_same a b e = cc

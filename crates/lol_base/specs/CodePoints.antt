@@ -1,0 +1,14 @@
+-- Code points that have a name (CSS Syntax 3, section 4.2: "newline" and "whitespace").
+use Rattle.std.specs.Prelude.{ℕ}
+
+abbrev pub tab : ℕ
+tab = 9
+
+abbrev pub line_feed : ℕ
+line_feed = 10
+
+abbrev pub form_feed : ℕ
+form_feed = 12
+
+abbrev pub carriage_return : ℕ
+carriage_return = 13

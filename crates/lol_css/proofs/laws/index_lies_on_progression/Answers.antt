@@ -1,5 +1,0 @@
-use Rattle.lol_css.proofs.Steps.{has-is_on}
-use Rattle.lol_css.proofs.laws.index_lies_on_progression.Goals as goal
-
-pub returns : goal.returns
-returns c = has-is_on
