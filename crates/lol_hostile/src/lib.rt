@@ -15,8 +15,6 @@ mod runs;
 #[cfg(test)]
 mod scripts;
 #[cfg(test)]
-mod selectors;
-#[cfg(test)]
 mod sizes;
 #[cfg(test)]
 mod worked;

@@ -1,8 +1,9 @@
 //! Great sizes with ample memory: out of memory is never answered.
 
 use crate::runs::{expect_run, lines};
-use lol_css::SelectorsParser;
+use lol_css::{Selector, SelectorsParser};
 use lol_memory::DenseHashSet;
+use lol_program::Ast;
 use lol_script::Status;
 use std::alloc::{AllocError, Global};
 use std::fmt::Write as _;
@@ -145,5 +146,22 @@ fn a_run_takes_many_names_of_children(rt: HostRuntime) -> Result<(), Fail> {
     let output = lines(rt.alloc(), &output)?;
     let (script, output) = (script.as_bytes(), output.as_bytes());
     expect_run(&rt, rt.alloc(), script, Status::Good, output);
+    Ok(())
+}
+
+/// How many nodes a text makes.
+fn node_count(alloc: Global, text: &str) -> Result<usize, Fail> {
+    let selector = Selector::from_str(alloc, text)?;
+    let mut ast = Ast::new(alloc);
+    ast.add_selector(&selector, 0)?;
+    Ok(ast.cumulative_node_count())
+}
+
+#[test]
+fn a_long_text_makes_its_nodes(rt: HostRuntime) -> Result<(), Fail> {
+    for end in ["", " "] {
+        let text = lines(rt.alloc(), &[("a", 1), (" a", 1023), (end, 1)])?;
+        assert_eq!(rt; node_count(rt.alloc(), text.as_str())?, 1024);
+    }
     Ok(())
 }

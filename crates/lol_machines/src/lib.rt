@@ -1,7 +1,9 @@
-//! Tests of the machine, of whole runs and of callers: rows whose answers come from outside, a long run beside selectors that are matched by
-//! hand, and each call that can refuse once with ample memory.
+//! Tests of what a start tag gathers, of the machine, of whole runs and of callers: rows whose answers come from outside, a long run beside
+//! selectors that are matched by hand, and each call that can refuse once with ample memory.
 #![tactic(auto)]
 
+#[cfg(test)]
+mod contexts;
 #[cfg(test)]
 mod machine_model;
 #[cfg(test)]

@@ -310,3 +310,26 @@ fn comparisons_are_shown(rt: HostRuntime) -> Result<(), Fail> {
     }
     Ok(())
 }
+
+/// How many nodes a text makes.
+fn node_count(alloc: Global, text: &str) -> Result<usize, Fail> {
+    let selector = Selector::from_str(alloc, text)?;
+    let mut ast = Ast::new(alloc);
+    ast.add_selector(&selector, 0)?;
+    Ok(ast.cumulative_node_count())
+}
+
+#[test]
+fn texts_make_their_nodes(rt: HostRuntime) -> Result<(), Fail> {
+    for (text, count) in [
+        ("a-->b", 2),
+        ("a/* b", 1),
+        ("\\D800 a", 1),
+        ("a\u{0}b", 1),
+        (":not(a", 1),
+        ("[foo", 1),
+    ] {
+        assert_eq!(rt; node_count(rt.alloc(), text)?, count, "{text}");
+    }
+    Ok(())
+}

@@ -7,8 +7,6 @@ mod attributes;
 #[cfg(test)]
 mod compiled_tests;
 #[cfg(test)]
-mod contexts;
-#[cfg(test)]
 mod counters;
 #[cfg(test)]
 mod instructions;

@@ -214,9 +214,11 @@ fn comparison(
     })
 }
 
-const COMPARISONS: [(&str, &str, AttrSelectorOperator, &str); 2] = [
+const COMPARISONS: [(&str, &str, AttrSelectorOperator, &str); 4] = [
     ("[foo=\"bar", "foo", AttrSelectorOperator::Equal, "bar"),
     ("[a|=b]", "a", AttrSelectorOperator::DashMatch, "b"),
+    ("[a=\"\\", "a", AttrSelectorOperator::Equal, ""),
+    ("[a=\"x\\\ny\"]", "a", AttrSelectorOperator::Equal, "xy"),
 ];
 
 #[test]
@@ -239,12 +241,36 @@ fn attributes_are_read(rt: HostRuntime) -> Result<(), Fail> {
 }
 
 #[test]
-fn a_progression_is_read(rt: HostRuntime) -> Result<(), Fail> {
-    let nth = SimpleSelector::Nth {
-        of_type: false,
-        nth: NthChild::new(-2, 7),
-    };
-    expect_part(&rt, rt.alloc(), ":NTH-CHILD( -2N + 7 )", nth)?;
+fn escapes_of_no_character_are_replaced(rt: HostRuntime) -> Result<(), Fail> {
+    for text in ["\\", "\\110000", "\\0", "\\D800", "\u{0}"] {
+        let name = SimpleSelector::LocalName(CssString::new(rt.alloc(), "\u{fffd}")?);
+        expect_part(&rt, rt.alloc(), text, name)?;
+    }
+    let id = SimpleSelector::ID(CssString::new(rt.alloc(), "\u{fffd}")?);
+    expect_part(&rt, rt.alloc(), "#\\0", id)?;
+    Ok(())
+}
+
+/// Texts, with the step and the offset that they name.
+const PROGRESSIONS: [(&str, i32, i32); 6] = [
+    (":NTH-CHILD( -2N + 7 )", -2, 7),
+    (":nth-child(-2147483648n-2147483648)", i32::MIN, i32::MIN),
+    (":nth-child(2147483647n+2147483647)", i32::MAX, i32::MAX),
+    (":nth-child(+n)", 1, 0),
+    (":nth-child(-n-1)", -1, -1),
+    (":nth-child(EVEN)", 2, 0),
+];
+
+#[test]
+fn progressions_are_read(rt: HostRuntime) -> Result<(), Fail> {
+    for (text, step, offset) in &PROGRESSIONS {
+        let nth = NthChild::new(*step, *offset);
+        let part = SimpleSelector::Nth {
+            of_type: false,
+            nth,
+        };
+        expect_part(&rt, rt.alloc(), text, part)?;
+    }
     Ok(())
 }
 
