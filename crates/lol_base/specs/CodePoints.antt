@@ -1,4 +1,4 @@
--- Code points that have a name (CSS Syntax 3, section 4.2: "newline" and "whitespace").
+-- Code points that have a name (CSS Syntax 3, sections 3.3 and 4.2).
 use Rattle.std.specs.Prelude.{ℕ}
 
 abbrev pub tab : ℕ

@@ -311,14 +311,6 @@ fn comparisons_are_shown(rt: HostRuntime) -> Result<(), Fail> {
     Ok(())
 }
 
-/// How many nodes a text makes.
-fn node_count(alloc: Global, text: &str) -> Result<usize, Fail> {
-    let selector = Selector::from_str(alloc, text)?;
-    let mut ast = Ast::new(alloc);
-    ast.add_selector(&selector, 0)?;
-    Ok(ast.cumulative_node_count())
-}
-
 #[test]
 fn texts_make_their_nodes(rt: HostRuntime) -> Result<(), Fail> {
     for (text, count) in [
@@ -329,7 +321,8 @@ fn texts_make_their_nodes(rt: HostRuntime) -> Result<(), Fail> {
         (":not(a", 1),
         ("[foo", 1),
     ] {
-        assert_eq!(rt; node_count(rt.alloc(), text)?, count, "{text}");
+        let nodes = selectors(rt.alloc(), &[(text, 0)])?.cumulative_node_count();
+        assert!(rt; nodes == count, "{text}");
     }
     Ok(())
 }
