@@ -1,8 +1,8 @@
 //! Worked rows that are answered plainly.
 
-use crate::plain::{PlainAnswer, plain_answers};
 use crate::tag_words::events_of;
 use lol_samples::{attributes_of, selectors, words_of};
+use lol_vectors::{PlainAnswer, plain_answers};
 use lol_vm::{Ast, MatchInfo};
 use std::alloc::{AllocError, Global};
 use std::process::Abort;

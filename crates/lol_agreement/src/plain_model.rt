@@ -3,9 +3,9 @@
 ghost use Rattle.std.specs.Prelude.{All};
 ghost use Rattle.lol_vm.specs.Views.{HasRangesInside};
 
-use crate::plain::{PlainAnswer, plain_answers};
 use crate::tag_words::events_of;
 use lol_samples::{TagWord, attributes_of, next_random};
+use lol_vectors::{PlainAnswer, plain_answers};
 use lol_vm::{Ast, Namespace, Selector, SharedMemoryLimiter, TagEvent, TagReport, match_events};
 use std::alloc::{AllocError, Global};
 use std::process::Abort;
