@@ -1,6 +1,7 @@
 mod TagRuns
 mod Starts
 mod VmStarts
+mod TriedStarts
 mod Directives
 mod VmFinishes
 mod VmRefusals

@@ -9,6 +9,7 @@ pub mod Rows
 pub mod Views
 pub mod VmErrors
 pub mod Vms
+pub mod TriedStarts
 pub mod VmLending
 pub mod Collecting
 pub mod Follows

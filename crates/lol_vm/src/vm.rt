@@ -14,10 +14,11 @@ ghost use Rattle.lol_instructions.specs.Tries.{names_counted, attributes_counted
 ghost use Rattle.lol_stack.specs.Calls.{IsCalledAtEach, reports};
 ghost use Rattle.lol_vm.specs.Events.{Event, End, has_content};
 ghost use Rattle.lol_vm.specs.FreeTags.{TakesNoMemory, IsAskedOrFull};
+ghost use Rattle.lol_vm.specs.TriedStarts.{IsTried};
 ghost use Rattle.lol_vm.specs.VmLending.{lends_current_of_vm};
 ghost use Rattle.lol_stack.specs.Stacks.{items_in, slots_in, list_in, last_count};
 ghost use Rattle.lol_vm.specs.Views.{selectors};
-ghost use Rattle.lol_vm.specs.Vms.{Stands, HasOpen, IsNameOf, IsTagOf, IsRestOf, IsAnswered, IsReported, IsTriedAtMost, IsPending, IsRefusal, IsSilent, content_at, open_after, stack_in, tries_in, has_failed, data_in, slots_charged, slot_bytes, IsRequested, IsEntered, IsFailedAs};
+ghost use Rattle.lol_vm.specs.Vms.{Stands, HasOpen, IsNameOf, IsTagOf, IsRestOf, IsAnswered, IsReported, IsTriedAtMost, IsPending, IsRefusal, IsSilent, content_at, open_after, stack_in, tries_in, has_failed, data_in, slots_charged, slot_bytes, IsRequested, IsEntered, IsFailedAs, with_failure};
 
 use crate::error::{AuxStartTagInfoRequest, VmError};
 use crate::tag_runs::{RecoveryPoint, complete_tag, try_tag};
@@ -164,24 +165,10 @@ impl<E: ElementData> VmOf<Program, LocalName<'static>, StackNames, E> {
             return Err(VmError::from(error));
         }
         let mut ctx = ExecutionCtx::new(self.alloc, local_name, ns, self.enable_esi_tags);
-        let directive = Stack::get_stack_directive(&ctx.stack_item, ns, self.enable_esi_tags);
-        if directive == StackDirective::PushIfNotSelfClosing {
-            return self.request(ctx, RecoveryPoint::AtOnce);
-        }
-        ctx.with_content = directive == StackDirective::Push;
-        let tried = try_tag(
-            &self.program,
-            &self.stack,
-            self.alloc,
-            &mut ctx,
-            &mut self.tries,
-        );
+        let tried = self.try_start(&mut ctx);
         let stopped = match tried {
             Ok(stopped) => stopped,
-            Err(error) => {
-                self.failed = true;
-                return Err(VmError::Memory(error));
-            }
+            Err(error) => return Err(VmError::Memory(error)),
         };
         if let Some(point) = stopped {
             return self.request(ctx, point);
@@ -189,6 +176,32 @@ impl<E: ElementData> VmOf<Program, LocalName<'static>, StackNames, E> {
         match self.answer(ctx, limiter, match_handler) {
             Ok(()) => Ok(()),
             Err(error) => Err(VmError::from(error)),
+        }
+    }
+
+    /// Tries a start tag by its name, up to the first test that needs its attributes: one that isn't of HTML needs them at once.
+    #[inline(always)]
+    fn try_start(
+        &mut self,
+        ctx: &mut ExecutionCtx<'_, E>,
+    ) -> Result<Option<RecoveryPoint>, AllocError>
+        ensures tried { (tag : StartTag) → IsTagOf ctx.old.stack_item.local_name ctx.old.ns tag → IsTried E.ids E.with_ids self.old self.new ctx.old ctx.new result tag }
+        ensures name { ctx.new.stack_item.local_name ≡ ctx.old.stack_item.local_name }
+        ensures ok { OnOk result (self.new ≡ record self.old { tries = self.new.tries }) }
+        ensures err { OnErr result (self.new ≡ with_failure (record self.old { tries = self.new.tries })) }
+    {
+        let directive = Stack::get_stack_directive(&ctx.stack_item, ctx.ns, self.enable_esi_tags);
+        if directive == StackDirective::PushIfNotSelfClosing {
+            return Ok(Some(RecoveryPoint::AtOnce));
+        }
+        ctx.with_content = directive == StackDirective::Push;
+        let tried = try_tag(&self.program, &self.stack, self.alloc, ctx, &mut self.tries);
+        match tried {
+            Ok(stopped) => Ok(stopped),
+            Err(error) => {
+                self.failed = true;
+                Err(error)
+            }
         }
     }
 

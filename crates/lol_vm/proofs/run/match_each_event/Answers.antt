@@ -33,6 +33,25 @@ returns-clause-ok g c =
     c.in-Ok.ensures.stands c.in-Ok.ensures.bytes c.in-Ok.ensures.empty in
     on_ok_weaker c.answer_events-answered.result (λ ok. ok (selectors c.args.ast) c.args.enable_esi_tags c.args.item_bytes c.args.limiter.now f) c.answer_events-answered.ensures.ok
 
+pub returns-clause-fits : goal.returns-clause-fits
+returns-clause-fits g c =
+    let within = c.current_usage-usage.ensures.within in
+    let value = c.current_usage-usage.ensures.value in
+    let f = starts (selectors c.args.ast) c.args.enable_esi_tags c.args.item_bytes c.args.limiter.now c.in-Ok.vm c.requires.item_bytes c.current_usage-usage.ensures.word (omega (arith, within, value))
+    c.in-Ok.ensures.stands c.in-Ok.ensures.bytes c.in-Ok.ensures.empty in
+    on_ok_weaker c.answer_events-answered.result (λ fits. fits (selectors c.args.ast) c.args.enable_esi_tags c.args.item_bytes c.args.limiter.now f) c.answer_events-answered.ensures.fits
+
+pub returns-clause-cause : goal.returns-clause-cause
+returns-clause-cause g c =
+    let within = c.current_usage-usage.ensures.within in
+    let value = c.current_usage-usage.ensures.value in
+    let f = starts (selectors c.args.ast) c.args.enable_esi_tags c.args.item_bytes c.args.limiter.now c.in-Ok.vm c.requires.item_bytes c.current_usage-usage.ensures.word (omega (arith, within, value))
+    c.in-Ok.ensures.stands c.in-Ok.ensures.bytes c.in-Ok.ensures.empty in
+    IfErr-weaker c.answer_events-answered.result _ _ (λ stop told. told (selectors c.args.ast) c.args.enable_esi_tags c.args.item_bytes c.args.limiter.now f) c.answer_events-answered.ensures.cause
+
+pub returns-clause-event : goal.returns-clause-event
+returns-clause-event g c = c.answer_events-answered.ensures.event
+
 pub returns-clause-refused : goal.returns-clause-refused
 returns-clause-refused g c =
     let within = c.current_usage-usage.ensures.within in

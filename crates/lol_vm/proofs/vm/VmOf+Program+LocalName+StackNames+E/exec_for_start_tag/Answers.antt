@@ -1,176 +1,77 @@
-use Rattle.std.proofs.Common.{◌≡◌, arith, inl, inr, true, false, true, Ok, refl, sym, ap, ◌∙◌, subst}
-use Rattle.std.specs.Result.{IfOk}
-use Rattle.std.specs.Option.{IfSome, IsNone, IsSome}
-use denote.Enum.Bare.{sameb}
+use Rattle.std.proofs.Common.{◌≡◌, ◌-◌, ◌*◌, ◌≤◌, arith, false, inl, inr, Ok, refl, sym, ap, ◌∙◌, subst}
+use Rattle.std.specs.Option.{IsNone}
 use Rattle.lol_instructions.specs.Tests.{is_html}
-use Rattle.lol_vm.specs.InstructionRuns.{ranges_in}
 use Rattle.lol_base.specs.LocalNames.{Name, local_name}
 use Rattle.lol_memory.specs.LimitedVec.{LimitedVec, IsLimited}
+use Rattle.lol_memory.specs.Limiter.{charged}
 use Rattle.lol_stack.specs.declared.stack.StackOf.{StackOf}
 use Rattle.lol_stack.specs.declared.stack.StackNames.{StackNames}
-use Rattle.lol_stack.specs.Stacks.{list_in, active_in, element_data_of, IsSame}
-use Rattle.lol_vm.specs.TagRuns.{IsPointIn, jumps_in, stop_found}
-use Rattle.lol_vm.specs.Vms.{Vm, IsSilent}
-use Rattle.lol_stack.specs.contracts.stack_item.StackDirective.{the_type}
-use Rattle.lol_stack.specs.declared.execution_ctx.ExecutionCtx.{ExecutionCtx}
 use Rattle.lol_stack.specs.declared.stack_item.StackItemOf.{StackItemOf}
-use Rattle.lol_stack.specs.declared.stack_item.StackDirective.TheVariants.{PushIfNotSelfClosing}
-use Rattle.lol_vm.proofs.Directives.{foreign_if, html_tag}
+use Rattle.lol_stack.specs.Stacks.{list_in, element_data_of, IsSame}
+use Rattle.lol_vm.specs.Vms.{Vm, IsSilent, slots_charged, slot_bytes}
 use Rattle.lol_stack.specs.declared.stack.AddChildError.TheVariants.{CounterFull}
-use Rattle.lol_vm.proofs.FreeTags.{asked_only, full_only, has_none_typed, has_small, never_pushed, void_unspelled}
-use Rattle.lol_vm.proofs.VmStarts.{tried_as, none_tried, tried_at_most, has_reported, has_content_still, answered, pending_at_once, pending_point, can_run, requested_is}
+use Rattle.lol_vm.proofs.FreeTags.{asked_only, full_only, has_none_typed, has_small, void_is_closed, void_unspelled}
+use Rattle.lol_vm.proofs.TriedStarts.{ended_answered, ended_content, ended_reported, most_tried, never_refused, stopped_pending}
+use Rattle.lol_vm.proofs.VmStarts.{none_tried, requested_is}
 use Rattle.lol_vm.proofs.VmRefusals.{child_isnt_asked, child_isnt_failed, child_isnt_limit, push_isnt_failed, push_isnt_full, push_isnt_asked, push_isnt_silent, requested_as, requested_ok, requested_refused, reported_with, limited_counted, not_false, err_is_not_ok, data_after, has_open_failed, has_open_same, on_err, open_counted, requested_keeps, same_stack}
 use Rattle.lol_vm.proofs.vm.VmOf+Program+LocalName+StackNames+E.exec_for_start_tag.Goals as goal
 
-pub returns-then-eq-clause-asked : goal.returns-then-eq-clause-asked
-returns-then-eq-clause-asked g c = λ request is s esi events tag stands named.
-    let vm = c.args.self.now in
-    let new = c.new-ctx.ensures.item in
-    let directive = c.get_stack_directive-directive.ensures tag.name (new.name ∙ named.0) in
-    let foreign = foreign_if c.args.ns vm.enable_esi_tags tag.name (ap (λ x. sameb the_type x PushIfNotSelfClosing) (sym directive) ∙ (sym c.eq.ensures ∙ c.if-eq.true)) in
-    let pending = pending_at_once g.E.ElementData.ids g.E.ElementData.with_ids g.met.E.ElementData.ids_of_changed vm c.args.local_name c.args.ns s esi events tag stands named c.add_child.new.self c.in_default.ensures.ok c.in_default.ensures.room
-    (ap is_html named.1 ∙ foreign) c.new-ctx.result c.new-self.result new c.new-ctx.ensures.ns c.new-ctx.ensures.with_content c.new-self.ensures.names c.new-self.ensures.attributes in
-    requested_is g.E.ElementData.ids s esi events tag c.new-ctx.result _ _ c.request.new.self request c.request.result is c.request.ensures.requested pending
-
 pub returns-in-Ok-answer-clause-answered : goal.returns-in-Ok-answer-clause-answered
 returns-in-Ok-answer-clause-answered g c = λ s esi events tag stands named.
-    let vm = c.args.self.now in
-    let ids = g.E.ElementData.ids in
-    let with_ids = g.E.ElementData.with_ids in
-    let lends = g.met.E.ElementData.ids_of_changed in
-    let name = c.args.local_name in
-    let stack = c.add_child.new.self in
-    let ok = c.in_default.ensures.ok in
-    let room = c.in_default.ensures.room in
-    let new = c.new-ctx.ensures.item in
-    let tries = c.new-self.result in
-    let after = c.try_tag-tried.new.tries in
-    let page = html_tag c.args.ns vm.enable_esi_tags esi tag c.get_stack_directive-directive.result c.eq.result c.eq-2.result named.1 (c.get_stack_directive-directive.ensures tag.name (new.name ∙ named.0)) c.eq.ensures c.if-eq.false c.eq-2.ensures
-    (sym stands.shows.switch ∙ stands.standing.switch) in
-    let ctx : ExecutionCtx _ = record c.new-ctx.result { with_content = c.eq-2.result } in
-    let no_tries = c.try_tag-tried.ensures.attributes ∙ c.new-self.ensures.attributes in
-    let tried = tried_as ids with_ids lends vm name c.args.ns s esi events tag stands named stack ok room ctx c.try_tag-tried.new.ctx tries after c.new-self.ensures.names c.new-self.ensures.attributes c.try_tag-tried.ensures.size
-    c.new-ctx.result.stack_item.local_name new.name c.try_tag-tried.result _ (c.in-Ok.is ∙ ap Ok c.in_default-stopped.is) c.try_tag-tried.ensures.tried in
-    answered ids with_ids lends vm name c.args.ns s esi events tag stands named stack ok room ctx c.try_tag-tried.new.ctx tries after new page.1 c.new-ctx.ensures.ns page.0 c.new-self.ensures.names no_tries tried _
-    c.args.match_handler.now c.answer.new.match_handler c.answer.new.self c.in-Ok-answer.ensures.reported c.in-Ok-answer.ensures.ok
+    ended_answered g.E.ElementData.ids g.E.ElementData.with_ids g.met.E.ElementData.ids_of_changed c.args.self.now c.args.local_name c.args.ns s esi events tag stands named c.add_child.new.self c.in_default.ensures.ok c.in_default.ensures.room
+    c.new-ctx.result c.try_start-tried.new.ctx c.new-self.result c.try_start-tried.new.self c.try_start-tried.result c.new-ctx.ensures.item c.new-ctx.ensures.ns c.new-ctx.ensures.with_content c.new-self.ensures.names c.new-self.ensures.attributes (c.try_start-tried.ensures.tried tag) (c.in-Ok.is ∙ ap Ok c.in_default-stopped.is) c.in-Ok.ensures.ok
+    _ c.args.match_handler.now c.answer.new.match_handler c.answer.new.self c.in-Ok-answer.ensures.reported c.in-Ok-answer.ensures.ok
 
 pub returns-in-Some-clause-asked : goal.returns-in-Some-clause-asked
 returns-in-Some-clause-asked g c = λ request is s esi events tag stands named.
-    let vm = c.args.self.now in
-    let ids = g.E.ElementData.ids in
-    let with_ids = g.E.ElementData.with_ids in
-    let lends = g.met.E.ElementData.ids_of_changed in
-    let name = c.args.local_name in
-    let stack = c.add_child.new.self in
-    let ok = c.in_default.ensures.ok in
-    let room = c.in_default.ensures.room in
-    let new = c.new-ctx.ensures.item in
-    let tries = c.new-self.result in
-    let after = c.try_tag-tried.new.tries in
-    let page = html_tag c.args.ns vm.enable_esi_tags esi tag c.get_stack_directive-directive.result c.eq.result c.eq-2.result named.1 (c.get_stack_directive-directive.ensures tag.name (new.name ∙ named.0)) c.eq.ensures c.if-eq.false c.eq-2.ensures
-    (sym stands.shows.switch ∙ stands.standing.switch) in
-    let ctx : ExecutionCtx _ = record c.new-ctx.result { with_content = c.eq-2.result } in
-    let no_tries = c.try_tag-tried.ensures.attributes ∙ c.new-self.ensures.attributes in
-    let runnable = can_run ids with_ids lends vm name c.args.ns s esi events tag stands named stack ok room tries c.new-self.ensures.names c.new-self.ensures.attributes c.try_tag-tried.ensures.size in
-    let entry = vm.program.entry_points in
-    let jumps = jumps_in stack in
-    let at = c.in-Ok.is ∙ ap Ok c.in-Some.is in
-    let point = c.in-Some.point in
-    let tried = tried_as ids with_ids lends vm name c.args.ns s esi events tag stands named stack ok room ctx c.try_tag-tried.new.ctx tries after c.new-self.ensures.names c.new-self.ensures.attributes c.try_tag-tried.ensures.size
-    c.new-ctx.result.stack_item.local_name new.name c.try_tag-tried.result _ at c.try_tag-tried.ensures.tried in
-    let inside = subst (λ r. IfOk r (λ point. IfSome point (IsPointIn vm.program.instructions.items entry jumps (ranges_in (active_in stack))))) at (c.try_tag-tried.ensures.point runnable) in
-    let some = subst (λ r. IfOk r (λ point. IsSome point → IsSome (stop_found entry jumps point))) at c.try_tag-tried.ensures.stop refl in
-    let pending = pending_point ids with_ids lends vm name c.args.ns s esi events tag stands named stack ok room ctx c.try_tag-tried.new.ctx tries after new page.1 c.new-ctx.ensures.ns page.0 c.new-self.ensures.names no_tries point some inside tried in
-    requested_is ids s esi events tag c.try_tag-tried.new.ctx point _ c.request-in-Some.new.self request c.request-in-Some.result is c.request-in-Some.ensures.requested pending
+    let pending = stopped_pending g.E.ElementData.ids g.E.ElementData.with_ids g.met.E.ElementData.ids_of_changed c.args.self.now c.args.local_name c.args.ns s esi events tag stands named c.add_child.new.self c.in_default.ensures.ok c.in_default.ensures.room
+    c.new-ctx.result c.try_start-tried.new.ctx c.new-self.result c.try_start-tried.new.self c.try_start-tried.result c.new-ctx.ensures.item c.new-ctx.ensures.ns c.new-ctx.ensures.with_content c.new-self.ensures.names c.new-self.ensures.attributes (c.try_start-tried.ensures.tried tag) c.in-Some.point (c.in-Ok.is ∙ ap Ok c.in-Some.is) c.in-Ok.ensures.ok in
+    requested_is g.E.ElementData.ids s esi events tag c.try_start-tried.new.ctx c.in-Some.point c.try_start-tried.new.self c.request.new.self request c.request.result is c.request.ensures.requested pending
 
 pub returns-in-Err-clause-still_open : goal.returns-in-Err-clause-still_open
 returns-in-Err-clause-still_open g c = λ bytes elements named h.
     has_open_same c.args.self.now _ elements (subst (IsSame c.args.self.now.stack) (sym c.in-Err.ensures.err) (same_stack c.args.self.now.stack)) refl refl h
 
-pub returns-then-eq-clause-unchanged : goal.returns-then-eq-clause-unchanged
-returns-then-eq-clause-unchanged g c =
-    let rest = requested_keeps _ _ _ c.request.new.self c.request.result c.request.ensures.requested in
-    on_err c.request.result (data_after c.args.self.now c.args.local_name c.add_child.new.self c.in_default.ensures.ok c.in_default.ensures.room c.request.new.self rest.stack)
-
-pub returns-then-eq-clause-still_open : goal.returns-then-eq-clause-still_open
-returns-then-eq-clause-still_open g c =
-    let rest = requested_keeps _ _ _ c.request.new.self c.request.result c.request.ensures.requested in
-    on_err c.request.result (open_counted c.args.self.now c.args.local_name c.add_child.new.self c.in_default.ensures.ok c.in_default.ensures.room c.request.new.self rest.stack rest.program rest.switch)
-
 pub returns-in-Err-tried-clause-unchanged : goal.returns-in-Err-tried-clause-unchanged
-returns-in-Err-tried-clause-unchanged g c =
-    data_after c.args.self.now c.args.local_name c.add_child.new.self c.in_default.ensures.ok c.in_default.ensures.room
-    (record c.args.self.now { stack = c.add_child.new.self; tries = c.try_tag-tried.new.tries; failed = true }) refl
+returns-in-Err-tried-clause-unchanged g c = data_after c.args.self.now c.args.local_name c.add_child.new.self c.in_default.ensures.ok c.in_default.ensures.room c.try_start-tried.new.self (ap (λ (v : Vm _). v.stack) c.in-Err-tried.ensures.err)
 
 pub returns-in-Err-tried-clause-still_open : goal.returns-in-Err-tried-clause-still_open
-returns-in-Err-tried-clause-still_open g c = open_counted c.args.self.now c.args.local_name c.add_child.new.self c.in_default.ensures.ok c.in_default.ensures.room _ refl refl refl
+returns-in-Err-tried-clause-still_open g c =
+    open_counted c.args.self.now c.args.local_name c.add_child.new.self c.in_default.ensures.ok c.in_default.ensures.room c.try_start-tried.new.self (ap (λ (v : Vm _). v.stack) c.in-Err-tried.ensures.err) (ap (λ (v : Vm _). v.program) c.in-Err-tried.ensures.err) (ap (λ (v : Vm _). v.enable_esi_tags) c.in-Err-tried.ensures.err)
 
 pub returns-in-Some-clause-unchanged : goal.returns-in-Some-clause-unchanged
 returns-in-Some-clause-unchanged g c =
-    let rest = requested_keeps _ _ _ c.request-in-Some.new.self c.request-in-Some.result c.request-in-Some.ensures.requested in
-    on_err c.request-in-Some.result (data_after c.args.self.now c.args.local_name c.add_child.new.self c.in_default.ensures.ok c.in_default.ensures.room c.request-in-Some.new.self rest.stack)
+    let rest = requested_keeps _ _ _ c.request.new.self c.request.result c.request.ensures.requested in
+    on_err c.request.result (data_after c.args.self.now c.args.local_name c.add_child.new.self c.in_default.ensures.ok c.in_default.ensures.room c.request.new.self (rest.stack ∙ ap (λ (v : Vm _). v.stack) c.in-Ok.ensures.ok))
 
 pub returns-in-Some-clause-still_open : goal.returns-in-Some-clause-still_open
 returns-in-Some-clause-still_open g c =
-    let rest = requested_keeps _ _ _ c.request-in-Some.new.self c.request-in-Some.result c.request-in-Some.ensures.requested in
-    on_err c.request-in-Some.result (open_counted c.args.self.now c.args.local_name c.add_child.new.self c.in_default.ensures.ok c.in_default.ensures.room c.request-in-Some.new.self rest.stack rest.program rest.switch)
+    let rest = requested_keeps _ _ _ c.request.new.self c.request.result c.request.ensures.requested in
+    on_err c.request.result (open_counted c.args.self.now c.args.local_name c.add_child.new.self c.in_default.ensures.ok c.in_default.ensures.room c.request.new.self (rest.stack ∙ ap (λ (v : Vm _). v.stack) c.in-Ok.ensures.ok) (rest.program ∙ ap (λ (v : Vm _). v.program) c.in-Ok.ensures.ok) (rest.switch ∙ ap (λ (v : Vm _). v.enable_esi_tags) c.in-Ok.ensures.ok))
 
 pub returns-in-Err-answer-clause-unchanged : goal.returns-in-Err-answer-clause-unchanged
 returns-in-Err-answer-clause-unchanged g c =
-    let mid : Vm _ = record c.args.self.now { stack = c.add_child.new.self; tries = c.try_tag-tried.new.tries } in
-    ap (λ (v : LimitedVec (StackItemOf Name _)). element_data_of v.items) c.in-Err-answer.ensures.err.0.items
-    ∙ data_after c.args.self.now c.args.local_name c.add_child.new.self c.in_default.ensures.ok c.in_default.ensures.room mid refl
+    ap (λ (v : LimitedVec (StackItemOf Name _)). element_data_of v.items) c.in-Err-answer.ensures.err.0.items ∙ data_after c.args.self.now c.args.local_name c.add_child.new.self c.in_default.ensures.ok c.in_default.ensures.room c.try_start-tried.new.self (ap (λ (v : Vm _). v.stack) c.in-Ok.ensures.ok)
 
 pub returns-in-Err-answer-clause-still_open : goal.returns-in-Err-answer-clause-still_open
 returns-in-Err-answer-clause-still_open g c = λ bytes elements named h.
-    let mid : Vm _ = record c.args.self.now { stack = c.add_child.new.self; tries = c.try_tag-tried.new.tries } in
-    has_open_failed mid mid c.answer.new.self elements refl refl refl c.in-Err-answer.ensures.err
-    (open_counted c.args.self.now c.args.local_name c.add_child.new.self c.in_default.ensures.ok c.in_default.ensures.room mid refl refl refl bytes elements named h)
+    let counted = open_counted c.args.self.now c.args.local_name c.add_child.new.self c.in_default.ensures.ok c.in_default.ensures.room c.try_start-tried.new.self (ap (λ (v : Vm _). v.stack) c.in-Ok.ensures.ok) (ap (λ (v : Vm _). v.program) c.in-Ok.ensures.ok) (ap (λ (v : Vm _). v.enable_esi_tags) c.in-Ok.ensures.ok) bytes elements named h in
+    has_open_failed c.try_start-tried.new.self c.try_start-tried.new.self c.answer.new.self elements refl refl refl c.in-Err-answer.ensures.err counted
 
 pub returns-in-Ok-answer-clause-unlimited : goal.returns-in-Ok-answer-clause-unlimited
 returns-in-Ok-answer-clause-unlimited g c = λ s esi events tag stands named opens limited.
-    let vm = c.args.self.now in
-    let ids = g.E.ElementData.ids in
-    let with_ids = g.E.ElementData.with_ids in
-    let lends = g.met.E.ElementData.ids_of_changed in
-    let name = c.args.local_name in
-    let stack = c.add_child.new.self in
-    let ok = c.in_default.ensures.ok in
-    let room = c.in_default.ensures.room in
-    let new = c.new-ctx.ensures.item in
-    let tries = c.new-self.result in
-    let after = c.try_tag-tried.new.tries in
-    let page = html_tag c.args.ns vm.enable_esi_tags esi tag c.get_stack_directive-directive.result c.eq.result c.eq-2.result named.1 (c.get_stack_directive-directive.ensures tag.name (new.name ∙ named.0)) c.eq.ensures c.if-eq.false c.eq-2.ensures
-    (sym stands.shows.switch ∙ stands.standing.switch) in
-    let ctx : ExecutionCtx _ = record c.new-ctx.result { with_content = c.eq-2.result } in
-    let no_tries = c.try_tag-tried.ensures.attributes ∙ c.new-self.ensures.attributes in
-    let tried = tried_as ids with_ids lends vm name c.args.ns s esi events tag stands named stack ok room ctx c.try_tag-tried.new.ctx tries after c.new-self.ensures.names c.new-self.ensures.attributes c.try_tag-tried.ensures.size
-    c.new-ctx.result.stack_item.local_name new.name c.try_tag-tried.result _ (c.in-Ok.is ∙ ap Ok c.in_default-stopped.is) c.try_tag-tried.ensures.tried in
-    let still = has_content_still ids with_ids lends vm name c.args.ns s esi events tag stands named stack ok room ctx c.try_tag-tried.new.ctx tries after new page.1 c.new-ctx.ensures.ns page.0 c.new-self.ensures.names no_tries tried in
-    c.in-Ok-answer.ensures.unlimited (still ∙ opens) (subst (λ (x : StackOf Name StackNames _). IsLimited (list_in x) c.args.limiter.now) (sym ok) (limited_counted vm.stack name c.args.limiter.now limited))
+    let still = ended_content g.E.ElementData.ids g.E.ElementData.with_ids g.met.E.ElementData.ids_of_changed c.args.self.now c.args.local_name c.args.ns s esi events tag stands named c.add_child.new.self c.in_default.ensures.ok c.in_default.ensures.room
+    c.new-ctx.result c.try_start-tried.new.ctx c.new-self.result c.try_start-tried.new.self c.try_start-tried.result c.new-ctx.ensures.item c.new-ctx.ensures.ns c.new-ctx.ensures.with_content c.new-self.ensures.names c.new-self.ensures.attributes (c.try_start-tried.ensures.tried tag) (c.in-Ok.is ∙ ap Ok c.in_default-stopped.is) in
+    c.in-Ok-answer.ensures.unlimited (still ∙ opens) (subst (λ (x : StackOf Name StackNames _). IsLimited (list_in x) c.args.limiter.now) (sym (ap (λ (v : Vm _). v.stack) c.in-Ok.ensures.ok ∙ c.in_default.ensures.ok)) (limited_counted c.args.self.now.stack c.args.local_name c.args.limiter.now limited))
 
 pub returns-in-Err-answer-clause-limit_reported : goal.returns-in-Err-answer-clause-limit_reported
 returns-in-Err-answer-clause-limit_reported g c = λ limit s esi events tag stands named.
-    let vm = c.args.self.now in
-    let ids = g.E.ElementData.ids in
-    let with_ids = g.E.ElementData.with_ids in
-    let lends = g.met.E.ElementData.ids_of_changed in
-    let name = c.args.local_name in
-    let stack = c.add_child.new.self in
-    let ok = c.in_default.ensures.ok in
-    let room = c.in_default.ensures.room in
-    let new = c.new-ctx.ensures.item in
-    let tries = c.new-self.result in
-    let after = c.try_tag-tried.new.tries in
-    let page = html_tag c.args.ns vm.enable_esi_tags esi tag c.get_stack_directive-directive.result c.eq.result c.eq-2.result named.1 (c.get_stack_directive-directive.ensures tag.name (new.name ∙ named.0)) c.eq.ensures c.if-eq.false c.eq-2.ensures
-    (sym stands.shows.switch ∙ stands.standing.switch) in
-    let ctx : ExecutionCtx _ = record c.new-ctx.result { with_content = c.eq-2.result } in
-    let no_tries = c.try_tag-tried.ensures.attributes ∙ c.new-self.ensures.attributes in
-    let tried = tried_as ids with_ids lends vm name c.args.ns s esi events tag stands named stack ok room ctx c.try_tag-tried.new.ctx tries after c.new-self.ensures.names c.new-self.ensures.attributes c.try_tag-tried.ensures.size
-    c.new-ctx.result.stack_item.local_name new.name c.try_tag-tried.result _ (c.in-Ok.is ∙ ap Ok c.in_default-stopped.is) c.try_tag-tried.ensures.tried in
-    let still = has_content_still ids with_ids lends vm name c.args.ns s esi events tag stands named stack ok room ctx c.try_tag-tried.new.ctx tries after new page.1 c.new-ctx.ensures.ns page.0 c.new-self.ensures.names no_tries tried in
-    let opens = not_false c.try_tag-tried.new.ctx.with_content (λ closed. err_is_not_ok c.answer.result c.in-Err-answer.error c.in-Err-answer.is (c.answer.ensures.closed closed)) in
-    (sym still ∙ opens, reported_with _ s esi events tag false c.args.match_handler.now c.answer.new.match_handler after c.answer.new.self.tries (ap (λ (v : Vm _). v.tries) c.in-Err-answer.ensures.err.1) (has_reported ids with_ids lends vm name c.args.ns s esi events tag stands named stack ok room ctx c.try_tag-tried.new.ctx tries after new page.1 c.new-ctx.ensures.ns page.0 c.new-self.ensures.names no_tries tried _ c.args.match_handler.now c.answer.new.match_handler c.in-Err-answer.ensures.reported))
+    let still = ended_content g.E.ElementData.ids g.E.ElementData.with_ids g.met.E.ElementData.ids_of_changed c.args.self.now c.args.local_name c.args.ns s esi events tag stands named c.add_child.new.self c.in_default.ensures.ok c.in_default.ensures.room
+    c.new-ctx.result c.try_start-tried.new.ctx c.new-self.result c.try_start-tried.new.self c.try_start-tried.result c.new-ctx.ensures.item c.new-ctx.ensures.ns c.new-ctx.ensures.with_content c.new-self.ensures.names c.new-self.ensures.attributes (c.try_start-tried.ensures.tried tag) (c.in-Ok.is ∙ ap Ok c.in_default-stopped.is) in
+    let opens = not_false c.try_start-tried.new.ctx.with_content (λ closed. err_is_not_ok c.answer.result c.in-Err-answer.error c.in-Err-answer.is (c.answer.ensures.closed closed)) in
+    let reported = ended_reported g.E.ElementData.ids g.E.ElementData.with_ids g.met.E.ElementData.ids_of_changed c.args.self.now c.args.local_name c.args.ns s esi events tag stands named c.add_child.new.self c.in_default.ensures.ok c.in_default.ensures.room
+    c.new-ctx.result c.try_start-tried.new.ctx c.new-self.result c.try_start-tried.new.self c.try_start-tried.result c.new-ctx.ensures.item c.new-ctx.ensures.ns c.new-ctx.ensures.with_content c.new-self.ensures.names c.new-self.ensures.attributes (c.try_start-tried.ensures.tried tag) (c.in-Ok.is ∙ ap Ok c.in_default-stopped.is) _ c.args.match_handler.now c.answer.new.match_handler c.in-Err-answer.ensures.reported in
+    (sym still ∙ opens, reported_with _ s esi events tag false c.args.match_handler.now c.answer.new.match_handler c.try_start-tried.new.self.tries c.answer.new.self.tries (ap (λ (v : Vm _). v.tries) c.in-Err-answer.ensures.err.1) reported)
 
 pub returns-in-Err-clause-free : goal.returns-in-Err-clause-free
 returns-in-Err-clause-free g c = λ error is s esi events tag stands named takes.
@@ -182,120 +83,68 @@ returns-in-Err-clause-free g c = λ error is s esi events tag stands named takes
 pub returns-in-Err-tried-clause-free : goal.returns-in-Err-tried-clause-free
 returns-in-Err-tried-clause-free g c = λ error is s esi events tag stands named takes.
     let small = has_small s stands.paths c.args.self.now stands.machine stands.shows stands.standing.program takes.0 in
-    let directive = c.get_stack_directive-directive.ensures tag.name (c.new-ctx.ensures.item.name ∙ named.0) in
-    absurd (err_is_not_ok c.try_tag-tried.result c.in-Err-tried.error c.in-Err-tried.is
-    (c.try_tag-tried.ensures.free (never_pushed c.args.ns c.args.self.now.enable_esi_tags tag.name (sym named.1 ∙ takes.1) takes.2 c.get_stack_directive-directive.result c.eq-2.result directive c.eq-2.ensures) small))
+    let ok = never_refused g.E.ElementData.ids g.E.ElementData.with_ids g.met.E.ElementData.ids_of_changed c.args.self.now c.args.local_name c.args.ns s esi events tag stands named c.add_child.new.self c.in_default.ensures.ok c.in_default.ensures.room
+    c.new-ctx.result c.try_start-tried.new.ctx c.new-self.result c.try_start-tried.new.self c.try_start-tried.result c.new-ctx.ensures.item c.new-ctx.ensures.ns c.new-ctx.ensures.with_content c.new-self.ensures.names c.new-self.ensures.attributes (c.try_start-tried.ensures.tried tag) (ap is_html takes.1) (void_is_closed esi tag takes.1 takes.2) small in
+    absurd (err_is_not_ok c.try_start-tried.result c.in-Err-tried.error c.in-Err-tried.is ok)
 
 pub returns-in-Some-clause-free : goal.returns-in-Some-clause-free
 returns-in-Some-clause-free g c = λ error is s esi events tag stands named takes.
-    let name : c.try_tag-tried.new.ctx.stack_item.local_name ≡ local_name tag.name = c.try_tag-tried.ensures.name ∙ (c.new-ctx.ensures.item.name ∙ named.0) in
-    asked_only c.try_tag-tried.new.ctx c.in-Some.point _ c.request-in-Some.new.self c.request-in-Some.result error c.request-in-Some.ensures.requested
-    (c.request-in-Some.ensures.free (subst (λ (n : Name). IsNone n.spelling) (sym name) (void_unspelled tag.name takes.2))) (sym stands.shows.refused ∙ stands.standing.never_refused) is
+    let name : c.try_start-tried.new.ctx.stack_item.local_name ≡ local_name tag.name = c.try_start-tried.ensures.name ∙ (c.new-ctx.ensures.item.name ∙ named.0) in
+    asked_only c.try_start-tried.new.ctx c.in-Some.point c.try_start-tried.new.self c.request.new.self c.request.result error c.request.ensures.requested
+    (c.request.ensures.free (subst (λ (n : Name). IsNone n.spelling) (sym name) (void_unspelled tag.name takes.2))) (ap (λ (v : Vm _). v.failed) c.in-Ok.ensures.ok ∙ (sym stands.shows.refused ∙ stands.standing.never_refused)) is
 
 pub returns-in-Err-answer-clause-all_or_none : goal.returns-in-Err-answer-clause-all_or_none
 returns-in-Err-answer-clause-all_or_none g c = λ error is. inr (λ s esi events tag stands named.
-    let vm = c.args.self.now in
-    let ids = g.E.ElementData.ids in
-    let with_ids = g.E.ElementData.with_ids in
-    let lends = g.met.E.ElementData.ids_of_changed in
-    let name = c.args.local_name in
-    let stack = c.add_child.new.self in
-    let ok = c.in_default.ensures.ok in
-    let room = c.in_default.ensures.room in
-    let new = c.new-ctx.ensures.item in
-    let tries = c.new-self.result in
-    let after = c.try_tag-tried.new.tries in
-    let page = html_tag c.args.ns vm.enable_esi_tags esi tag c.get_stack_directive-directive.result c.eq.result c.eq-2.result named.1 (c.get_stack_directive-directive.ensures tag.name (new.name ∙ named.0)) c.eq.ensures c.if-eq.false c.eq-2.ensures
-    (sym stands.shows.switch ∙ stands.standing.switch) in
-    let ctx : ExecutionCtx _ = record c.new-ctx.result { with_content = c.eq-2.result } in
-    let no_tries = c.try_tag-tried.ensures.attributes ∙ c.new-self.ensures.attributes in
-    let tried = tried_as ids with_ids lends vm name c.args.ns s esi events tag stands named stack ok room ctx c.try_tag-tried.new.ctx tries after c.new-self.ensures.names c.new-self.ensures.attributes c.try_tag-tried.ensures.size
-    c.new-ctx.result.stack_item.local_name new.name c.try_tag-tried.result _ (c.in-Ok.is ∙ ap Ok c.in_default-stopped.is) c.try_tag-tried.ensures.tried in
-    reported_with _ s esi events tag false c.args.match_handler.now c.answer.new.match_handler after c.answer.new.self.tries (ap (λ (v : Vm _). v.tries) c.in-Err-answer.ensures.err.1) (has_reported ids with_ids lends vm name c.args.ns s esi events tag stands named stack ok room ctx c.try_tag-tried.new.ctx tries after new page.1 c.new-ctx.ensures.ns page.0 c.new-self.ensures.names no_tries tried _ c.args.match_handler.now c.answer.new.match_handler c.in-Err-answer.ensures.reported))
+    let reported = ended_reported g.E.ElementData.ids g.E.ElementData.with_ids g.met.E.ElementData.ids_of_changed c.args.self.now c.args.local_name c.args.ns s esi events tag stands named c.add_child.new.self c.in_default.ensures.ok c.in_default.ensures.room
+    c.new-ctx.result c.try_start-tried.new.ctx c.new-self.result c.try_start-tried.new.self c.try_start-tried.result c.new-ctx.ensures.item c.new-ctx.ensures.ns c.new-ctx.ensures.with_content c.new-self.ensures.names c.new-self.ensures.attributes (c.try_start-tried.ensures.tried tag) (c.in-Ok.is ∙ ap Ok c.in_default-stopped.is) _ c.args.match_handler.now c.answer.new.match_handler c.in-Err-answer.ensures.reported in
+    reported_with _ s esi events tag false c.args.match_handler.now c.answer.new.match_handler c.try_start-tried.new.self.tries c.answer.new.self.tries (ap (λ (v : Vm _). v.tries) c.in-Err-answer.ensures.err.1) reported)
 
 pub returns-in-Err-tried-clause-tried : goal.returns-in-Err-tried-clause-tried
 returns-in-Err-tried-clause-tried g c = λ s esi events tag stands named.
-    tried_at_most g.E.ElementData.ids g.E.ElementData.with_ids g.met.E.ElementData.ids_of_changed c.args.self.now c.args.local_name c.args.ns s esi events tag stands named c.add_child.new.self c.in_default.ensures.ok c.in_default.ensures.room
-    c.new-self.result c.try_tag-tried.new.tries c.try_tag-tried.new.tries c.new-self.ensures.names c.new-self.ensures.attributes c.try_tag-tried.ensures.attributes refl c.try_tag-tried.ensures.size
-    c.new-ctx.result.stack_item.local_name c.new-ctx.ensures.item.name c.try_tag-tried.ensures.within
+    most_tried g.E.ElementData.ids g.E.ElementData.with_ids g.met.E.ElementData.ids_of_changed c.args.self.now c.args.local_name c.args.ns s esi events tag stands named c.add_child.new.self c.in_default.ensures.ok c.in_default.ensures.room
+    c.new-ctx.result c.try_start-tried.new.ctx c.new-self.result c.try_start-tried.new.self c.try_start-tried.result c.new-ctx.ensures.item c.new-ctx.ensures.ns c.new-ctx.ensures.with_content c.new-self.ensures.names c.new-self.ensures.attributes (c.try_start-tried.ensures.tried tag) c.try_start-tried.new.self.tries refl
 
 pub returns-in-Some-clause-tried : goal.returns-in-Some-clause-tried
 returns-in-Some-clause-tried g c = λ s esi events tag stands named.
-    tried_at_most g.E.ElementData.ids g.E.ElementData.with_ids g.met.E.ElementData.ids_of_changed c.args.self.now c.args.local_name c.args.ns s esi events tag stands named c.add_child.new.self c.in_default.ensures.ok c.in_default.ensures.room
-    c.new-self.result c.try_tag-tried.new.tries c.request-in-Some.new.self.tries c.new-self.ensures.names c.new-self.ensures.attributes c.try_tag-tried.ensures.attributes c.request-in-Some.ensures.tries c.try_tag-tried.ensures.size
-    c.new-ctx.result.stack_item.local_name c.new-ctx.ensures.item.name c.try_tag-tried.ensures.within
+    most_tried g.E.ElementData.ids g.E.ElementData.with_ids g.met.E.ElementData.ids_of_changed c.args.self.now c.args.local_name c.args.ns s esi events tag stands named c.add_child.new.self c.in_default.ensures.ok c.in_default.ensures.room
+    c.new-ctx.result c.try_start-tried.new.ctx c.new-self.result c.try_start-tried.new.self c.try_start-tried.result c.new-ctx.ensures.item c.new-ctx.ensures.ns c.new-ctx.ensures.with_content c.new-self.ensures.names c.new-self.ensures.attributes (c.try_start-tried.ensures.tried tag) c.request.new.self.tries c.request.ensures.tries
 
 pub returns-in-Ok-answer-clause-tried : goal.returns-in-Ok-answer-clause-tried
 returns-in-Ok-answer-clause-tried g c = λ s esi events tag stands named.
-    tried_at_most g.E.ElementData.ids g.E.ElementData.with_ids g.met.E.ElementData.ids_of_changed c.args.self.now c.args.local_name c.args.ns s esi events tag stands named c.add_child.new.self c.in_default.ensures.ok c.in_default.ensures.room
-    c.new-self.result c.try_tag-tried.new.tries c.answer.new.self.tries c.new-self.ensures.names c.new-self.ensures.attributes c.try_tag-tried.ensures.attributes c.answer.ensures.tries c.try_tag-tried.ensures.size
-    c.new-ctx.result.stack_item.local_name c.new-ctx.ensures.item.name c.try_tag-tried.ensures.within
+    most_tried g.E.ElementData.ids g.E.ElementData.with_ids g.met.E.ElementData.ids_of_changed c.args.self.now c.args.local_name c.args.ns s esi events tag stands named c.add_child.new.self c.in_default.ensures.ok c.in_default.ensures.room
+    c.new-ctx.result c.try_start-tried.new.ctx c.new-self.result c.try_start-tried.new.self c.try_start-tried.result c.new-ctx.ensures.item c.new-ctx.ensures.ns c.new-ctx.ensures.with_content c.new-self.ensures.names c.new-self.ensures.attributes (c.try_start-tried.ensures.tried tag) c.answer.new.self.tries c.answer.ensures.tries
 
 pub returns-in-Err-answer-clause-tried : goal.returns-in-Err-answer-clause-tried
 returns-in-Err-answer-clause-tried g c = λ s esi events tag stands named.
-    tried_at_most g.E.ElementData.ids g.E.ElementData.with_ids g.met.E.ElementData.ids_of_changed c.args.self.now c.args.local_name c.args.ns s esi events tag stands named c.add_child.new.self c.in_default.ensures.ok c.in_default.ensures.room
-    c.new-self.result c.try_tag-tried.new.tries c.answer.new.self.tries c.new-self.ensures.names c.new-self.ensures.attributes c.try_tag-tried.ensures.attributes c.answer.ensures.tries c.try_tag-tried.ensures.size
-    c.new-ctx.result.stack_item.local_name c.new-ctx.ensures.item.name c.try_tag-tried.ensures.within
+    most_tried g.E.ElementData.ids g.E.ElementData.with_ids g.met.E.ElementData.ids_of_changed c.args.self.now c.args.local_name c.args.ns s esi events tag stands named c.add_child.new.self c.in_default.ensures.ok c.in_default.ensures.room
+    c.new-ctx.result c.try_start-tried.new.ctx c.new-self.result c.try_start-tried.new.self c.try_start-tried.result c.new-ctx.ensures.item c.new-ctx.ensures.ns c.new-ctx.ensures.with_content c.new-self.ensures.names c.new-self.ensures.attributes (c.try_start-tried.ensures.tried tag) c.answer.new.self.tries c.answer.ensures.tries
 
 pub returns-in-Err-clause-tried : goal.returns-in-Err-clause-tried
 returns-in-Err-clause-tried g c = λ s esi events tag stands named. none_tried s esi events tag c.new-self.result c.new-self.result refl c.new-self.ensures.names c.new-self.ensures.attributes
 
-pub returns-then-eq-clause-tried : goal.returns-then-eq-clause-tried
-returns-then-eq-clause-tried g c = λ s esi events tag stands named. none_tried s esi events tag c.new-self.result c.request.new.self.tries c.request.ensures.tries c.new-self.ensures.names c.new-self.ensures.attributes
-
-pub returns-then-eq-clause-answered : goal.returns-then-eq-clause-answered
-returns-then-eq-clause-answered g c = requested_ok _ _ _ c.request.new.self _ c.request.result c.request.ensures.requested
-
-pub returns-then-eq-clause-charged : goal.returns-then-eq-clause-charged
-returns-then-eq-clause-charged g c = requested_ok _ _ _ c.request.new.self _ c.request.result c.request.ensures.requested
-
-pub returns-then-eq-clause-grows : goal.returns-then-eq-clause-grows
-returns-then-eq-clause-grows g c = requested_ok _ _ _ c.request.new.self _ c.request.result c.request.ensures.requested
-
-pub returns-then-eq-clause-unlimited : goal.returns-then-eq-clause-unlimited
-returns-then-eq-clause-unlimited g c = requested_ok _ _ _ c.request.new.self _ c.request.result c.request.ensures.requested
-
-pub returns-then-eq-clause-uncharged : goal.returns-then-eq-clause-uncharged
-returns-then-eq-clause-uncharged g c = on_err c.request.result refl
-
-pub returns-then-eq-clause-refused : goal.returns-then-eq-clause-refused
-returns-then-eq-clause-refused g c = requested_refused _ _ _ c.request.new.self c.request.result c.request.ensures.requested
-
-pub returns-then-eq-clause-limited : goal.returns-then-eq-clause-limited
-returns-then-eq-clause-limited g c = λ limit. absurd (requested_as _ _ _ c.request.new.self c.request.result _ c.request.ensures.requested limit)
-
-pub returns-then-eq-clause-limit_reported : goal.returns-then-eq-clause-limit_reported
-returns-then-eq-clause-limit_reported g c = λ limit. absurd (requested_as _ _ _ c.request.new.self c.request.result _ c.request.ensures.requested limit)
-
-pub returns-then-eq-clause-all_or_none : goal.returns-then-eq-clause-all_or_none
-returns-then-eq-clause-all_or_none g c = λ error is. inl refl
-
-pub returns-then-eq-clause-silent : goal.returns-then-eq-clause-silent
-returns-then-eq-clause-silent g c = λ error is silent. refl
-
 pub returns-in-Some-clause-answered : goal.returns-in-Some-clause-answered
-returns-in-Some-clause-answered g c = requested_ok _ _ _ c.request-in-Some.new.self _ c.request-in-Some.result c.request-in-Some.ensures.requested
+returns-in-Some-clause-answered g c = requested_ok _ _ _ c.request.new.self _ c.request.result c.request.ensures.requested
 
 pub returns-in-Some-clause-charged : goal.returns-in-Some-clause-charged
-returns-in-Some-clause-charged g c = requested_ok _ _ _ c.request-in-Some.new.self _ c.request-in-Some.result c.request-in-Some.ensures.requested
+returns-in-Some-clause-charged g c = requested_ok _ _ _ c.request.new.self _ c.request.result c.request.ensures.requested
 
 pub returns-in-Some-clause-grows : goal.returns-in-Some-clause-grows
-returns-in-Some-clause-grows g c = requested_ok _ _ _ c.request-in-Some.new.self _ c.request-in-Some.result c.request-in-Some.ensures.requested
+returns-in-Some-clause-grows g c = requested_ok _ _ _ c.request.new.self _ c.request.result c.request.ensures.requested
 
 pub returns-in-Some-clause-unlimited : goal.returns-in-Some-clause-unlimited
-returns-in-Some-clause-unlimited g c = requested_ok _ _ _ c.request-in-Some.new.self _ c.request-in-Some.result c.request-in-Some.ensures.requested
+returns-in-Some-clause-unlimited g c = requested_ok _ _ _ c.request.new.self _ c.request.result c.request.ensures.requested
 
 pub returns-in-Some-clause-uncharged : goal.returns-in-Some-clause-uncharged
-returns-in-Some-clause-uncharged g c = on_err c.request-in-Some.result refl
+returns-in-Some-clause-uncharged g c = on_err c.request.result refl
 
 pub returns-in-Some-clause-refused : goal.returns-in-Some-clause-refused
-returns-in-Some-clause-refused g c = requested_refused _ _ _ c.request-in-Some.new.self c.request-in-Some.result c.request-in-Some.ensures.requested
+returns-in-Some-clause-refused g c = requested_refused _ _ _ c.request.new.self c.request.result c.request.ensures.requested
 
 pub returns-in-Some-clause-limited : goal.returns-in-Some-clause-limited
-returns-in-Some-clause-limited g c = λ limit. absurd (requested_as _ _ _ c.request-in-Some.new.self c.request-in-Some.result _ c.request-in-Some.ensures.requested limit)
+returns-in-Some-clause-limited g c = λ limit. absurd (requested_as _ _ _ c.request.new.self c.request.result _ c.request.ensures.requested limit)
 
 pub returns-in-Some-clause-limit_reported : goal.returns-in-Some-clause-limit_reported
-returns-in-Some-clause-limit_reported g c = λ limit. absurd (requested_as _ _ _ c.request-in-Some.new.self c.request-in-Some.result _ c.request-in-Some.ensures.requested limit)
+returns-in-Some-clause-limit_reported g c = λ limit. absurd (requested_as _ _ _ c.request.new.self c.request.result _ c.request.ensures.requested limit)
 
 pub returns-in-Some-clause-all_or_none : goal.returns-in-Some-clause-all_or_none
 returns-in-Some-clause-all_or_none g c = λ error is. inl refl
@@ -314,20 +163,11 @@ returns-in-Err-answer-clause-asked g c = λ request is. absurd (push_isnt_asked 
 pub returns-in-Err-answer-clause-refused : goal.returns-in-Err-answer-clause-refused
 returns-in-Err-answer-clause-refused g c = λ error is refusal. ap (λ (v : Vm _). v.failed) c.in-Err-answer.ensures.err.1
 
-pub returns-then-eq-clause-failed : goal.returns-then-eq-clause-failed
-returns-then-eq-clause-failed g c = (λ is. absurd (requested_as _ _ _ c.request.new.self c.request.result _ c.request.ensures.requested is), λ failed. cc)
-
-pub returns-then-eq-clause-full : goal.returns-then-eq-clause-full
-returns-then-eq-clause-full g c = (λ is. absurd (requested_as _ _ _ c.request.new.self c.request.result _ c.request.ensures.requested is), λ full. absurd (omega (arith, c.in_default.ensures.room, full.1)))
-
-pub returns-then-eq-clause-stuck : goal.returns-then-eq-clause-stuck
-returns-then-eq-clause-stuck g c = λ failed. cc
-
 pub returns-in-Some-clause-failed : goal.returns-in-Some-clause-failed
-returns-in-Some-clause-failed g c = (λ is. absurd (requested_as _ _ _ c.request-in-Some.new.self c.request-in-Some.result _ c.request-in-Some.ensures.requested is), λ failed. cc)
+returns-in-Some-clause-failed g c = (λ is. absurd (requested_as _ _ _ c.request.new.self c.request.result _ c.request.ensures.requested is), λ failed. cc)
 
 pub returns-in-Some-clause-full : goal.returns-in-Some-clause-full
-returns-in-Some-clause-full g c = (λ is. absurd (requested_as _ _ _ c.request-in-Some.new.self c.request-in-Some.result _ c.request-in-Some.ensures.requested is), λ full. absurd (omega (arith, c.in_default.ensures.room, full.1)))
+returns-in-Some-clause-full g c = (λ is. absurd (requested_as _ _ _ c.request.new.self c.request.result _ c.request.ensures.requested is), λ full. absurd (omega (arith, c.in_default.ensures.room, full.1)))
 
 pub returns-in-Some-clause-stuck : goal.returns-in-Some-clause-stuck
 returns-in-Some-clause-stuck g c = λ failed. cc
@@ -461,24 +301,6 @@ returns-in-Err-clause-unchanged g c = ap (λ (x : StackOf Name StackNames _). el
 pub returns-in-Err-clause-unlimited : goal.returns-in-Err-clause-unlimited
 returns-in-Err-clause-unlimited g c = tt
 
-pub returns-then-eq-clause-again : goal.returns-then-eq-clause-again
-returns-then-eq-clause-again g c = c.requires
-
-pub returns-then-eq-clause-slots : goal.returns-then-eq-clause-slots
-returns-then-eq-clause-slots g c =
-    let rest = requested_keeps _ _ _ c.request.new.self c.request.result c.request.ensures.requested in
-    on_err c.request.result (ap (λ (x : StackOf Name StackNames _). (list_in x).slots) rest.stack ∙ c.add_child.ensures.slots.0)
-
-pub returns-then-eq-clause-bytes : goal.returns-then-eq-clause-bytes
-returns-then-eq-clause-bytes g c =
-    let rest = requested_keeps _ _ _ c.request.new.self c.request.result c.request.ensures.requested in
-    ap (λ (x : StackOf Name StackNames _). (list_in x).item_bytes) rest.stack ∙ c.add_child.ensures.slots.1
-
-pub returns-then-eq-clause-free : goal.returns-then-eq-clause-free
-returns-then-eq-clause-free g c = λ error is s esi events tag stands named takes.
-    asked_only c.new-ctx.result _ _ c.request.new.self c.request.result error c.request.ensures.requested
-    (c.request.ensures.free (subst (λ (n : Name). IsNone n.spelling) (sym (c.new-ctx.ensures.item.name ∙ named.0)) (void_unspelled tag.name takes.2))) (sym stands.shows.refused ∙ stands.standing.never_refused) is
-
 pub returns-in-Err-tried-clause-again : goal.returns-in-Err-tried-clause-again
 returns-in-Err-tried-clause-again g c = c.requires
 
@@ -498,10 +320,10 @@ pub returns-in-Err-tried-clause-uncharged : goal.returns-in-Err-tried-clause-unc
 returns-in-Err-tried-clause-uncharged g c = refl
 
 pub returns-in-Err-tried-clause-slots : goal.returns-in-Err-tried-clause-slots
-returns-in-Err-tried-clause-slots g c = c.add_child.ensures.slots.0
+returns-in-Err-tried-clause-slots g c = ap (λ (v : Vm _). slots_charged v) c.in-Err-tried.ensures.err ∙ c.add_child.ensures.slots.0
 
 pub returns-in-Err-tried-clause-bytes : goal.returns-in-Err-tried-clause-bytes
-returns-in-Err-tried-clause-bytes g c = c.add_child.ensures.slots.1
+returns-in-Err-tried-clause-bytes g c = ap (λ (v : Vm _). slot_bytes v) c.in-Err-tried.ensures.err ∙ c.add_child.ensures.slots.1
 
 pub returns-in-Err-tried-clause-failed : goal.returns-in-Err-tried-clause-failed
 returns-in-Err-tried-clause-failed g c = (λ is. cc, λ failed. cc)
@@ -510,7 +332,7 @@ pub returns-in-Err-tried-clause-full : goal.returns-in-Err-tried-clause-full
 returns-in-Err-tried-clause-full g c = (λ is. cc, λ full. absurd (omega (arith, c.in_default.ensures.room, full.1)))
 
 pub returns-in-Err-tried-clause-refused : goal.returns-in-Err-tried-clause-refused
-returns-in-Err-tried-clause-refused g c = λ error is refusal. refl
+returns-in-Err-tried-clause-refused g c = λ error is refusal. ap (λ (v : Vm _). v.failed) c.in-Err-tried.ensures.err
 
 pub returns-in-Err-tried-clause-silent : goal.returns-in-Err-tried-clause-silent
 returns-in-Err-tried-clause-silent g c = λ error is silent. refl
@@ -532,13 +354,13 @@ returns-in-Some-clause-again g c = c.requires
 
 pub returns-in-Some-clause-slots : goal.returns-in-Some-clause-slots
 returns-in-Some-clause-slots g c =
-    let rest = requested_keeps _ _ _ c.request-in-Some.new.self c.request-in-Some.result c.request-in-Some.ensures.requested in
-    on_err c.request-in-Some.result (ap (λ (x : StackOf Name StackNames _). (list_in x).slots) rest.stack ∙ c.add_child.ensures.slots.0)
+    let rest = requested_keeps _ _ _ c.request.new.self c.request.result c.request.ensures.requested in
+    on_err c.request.result (ap (λ (x : StackOf Name StackNames _). (list_in x).slots) rest.stack ∙ (ap (λ (v : Vm _). slots_charged v) c.in-Ok.ensures.ok ∙ c.add_child.ensures.slots.0))
 
 pub returns-in-Some-clause-bytes : goal.returns-in-Some-clause-bytes
 returns-in-Some-clause-bytes g c =
-    let rest = requested_keeps _ _ _ c.request-in-Some.new.self c.request-in-Some.result c.request-in-Some.ensures.requested in
-    ap (λ (x : StackOf Name StackNames _). (list_in x).item_bytes) rest.stack ∙ c.add_child.ensures.slots.1
+    let rest = requested_keeps _ _ _ c.request.new.self c.request.result c.request.ensures.requested in
+    ap (λ (x : StackOf Name StackNames _). (list_in x).item_bytes) rest.stack ∙ (ap (λ (v : Vm _). slot_bytes v) c.in-Ok.ensures.ok ∙ c.add_child.ensures.slots.1)
 
 pub returns-in-Ok-answer-clause-again : goal.returns-in-Ok-answer-clause-again
 returns-in-Ok-answer-clause-again g c = c.answer.ensures.again
@@ -598,10 +420,27 @@ pub returns-in-Err-answer-clause-uncharged : goal.returns-in-Err-answer-clause-u
 returns-in-Err-answer-clause-uncharged g c = c.in-Err-answer.ensures.err_limiter
 
 pub returns-in-Err-answer-clause-slots : goal.returns-in-Err-answer-clause-slots
-returns-in-Err-answer-clause-slots g c = ap (λ (v : LimitedVec (StackItemOf Name _)). v.slots) c.in-Err-answer.ensures.err.0.items ∙ c.add_child.ensures.slots.0
+returns-in-Err-answer-clause-slots g c = ap (λ (v : LimitedVec (StackItemOf Name _)). v.slots) c.in-Err-answer.ensures.err.0.items ∙ (ap (λ (v : Vm _). slots_charged v) c.in-Ok.ensures.ok ∙ c.add_child.ensures.slots.0)
 
 pub returns-in-Err-answer-clause-bytes : goal.returns-in-Err-answer-clause-bytes
-returns-in-Err-answer-clause-bytes g c = ap (λ (v : LimitedVec (StackItemOf Name _)). v.item_bytes) c.in-Err-answer.ensures.err.0.items ∙ c.add_child.ensures.slots.1
+returns-in-Err-answer-clause-bytes g c = ap (λ (v : LimitedVec (StackItemOf Name _)). v.item_bytes) c.in-Err-answer.ensures.err.0.items ∙ (ap (λ (v : Vm _). slot_bytes v) c.in-Ok.ensures.ok ∙ c.add_child.ensures.slots.1)
 
 pub returns-in-Err-answer-clause-unlimited : goal.returns-in-Err-answer-clause-unlimited
 returns-in-Err-answer-clause-unlimited g c = tt
+
+pub returns-in-Ok-answer-clause-charged : goal.returns-in-Ok-answer-clause-charged
+returns-in-Ok-answer-clause-charged g c =
+    let slots : slots_charged c.try_start-tried.new.self ≡ slots_charged c.args.self.now = ap (λ (v : Vm _). slots_charged v) c.in-Ok.ensures.ok ∙ c.add_child.ensures.slots.0 in
+    let bytes : slot_bytes c.try_start-tried.new.self ≡ slot_bytes c.args.self.now = ap (λ (v : Vm _). slot_bytes v) c.in-Ok.ensures.ok ∙ c.add_child.ensures.slots.1 in
+    c.in-Ok-answer.ensures.charged ∙ (λ i. charged c.args.limiter.now ((slots_charged c.answer.new.self - slots i) * bytes i))
+
+pub returns-in-Ok-answer-clause-grows : goal.returns-in-Ok-answer-clause-grows
+returns-in-Ok-answer-clause-grows g c =
+    let slots : slots_charged c.try_start-tried.new.self ≡ slots_charged c.args.self.now = ap (λ (v : Vm _). slots_charged v) c.in-Ok.ensures.ok ∙ c.add_child.ensures.slots.0 in
+    subst (λ n. n ≤ slots_charged c.answer.new.self) slots c.in-Ok-answer.ensures.grows
+
+pub returns-in-Err-answer-clause-free : goal.returns-in-Err-answer-clause-free
+returns-in-Err-answer-clause-free g c = λ error is s esi events tag stands named takes.
+    let still = ended_content g.E.ElementData.ids g.E.ElementData.with_ids g.met.E.ElementData.ids_of_changed c.args.self.now c.args.local_name c.args.ns s esi events tag stands named c.add_child.new.self c.in_default.ensures.ok c.in_default.ensures.room
+    c.new-ctx.result c.try_start-tried.new.ctx c.new-self.result c.try_start-tried.new.self c.try_start-tried.result c.new-ctx.ensures.item c.new-ctx.ensures.ns c.new-ctx.ensures.with_content c.new-self.ensures.names c.new-self.ensures.attributes (c.try_start-tried.ensures.tried tag) (c.in-Ok.is ∙ ap Ok c.in_default-stopped.is) in
+    absurd (err_is_not_ok c.answer.result c.in-Err-answer.error c.in-Err-answer.is (c.answer.ensures.closed (still ∙ void_is_closed esi tag takes.1 takes.2)))

@@ -1,0 +1,36 @@
+-- How far a start tag is tried before its attributes are handed over.
+use Rattle.std.specs.Prelude.{◌≡◌, ◌<◌, ◌^◌, Bool, true, false, length, Option, Some, Result, Ok, IfOk, IfSome, IsOk, IsSome}
+use Rattle.lol_base.specs.StartTags.{StartTag}
+use Rattle.lol_memory.specs.Ids.{Ids}
+use Rattle.lol_instructions.specs.Tests.{is_html}
+use Rattle.lol_instructions.specs.Tries.{attributes_counted}
+use Rattle.lol_stack.specs.Stacks.{active_in}
+use Rattle.lol_stack.specs.declared.execution_ctx.ExecutionCtx.{ExecutionCtx}
+use Rattle.lol_vm.specs.Events.{has_content}
+use Rattle.lol_vm.specs.InstructionRuns.{AreRunnable, HaveSmallIds, ranges_in}
+use Rattle.lol_vm.specs.TagRuns.{AreTried, AreWithin, IsPointIn, jumps_in, sight_in, stop_found}
+use Rattle.lol_vm.specs.Vms.{Vm, instructions_in, ranges_to_try}
+use Rattle.lol_vm.specs.declared.tag_runs.RecoveryPoint.{RecoveryPoint}
+use Rattle.lol_vm.specs.declared.tag_runs.RecoveryPoint.TheVariants.{AtOnce}
+
+module _ {E R : Type 0} (ids : E → Ids) (with_ids : E → Ids → E) (old new : Vm E) (ctx next : ExecutionCtx E) (result : Result (Option RecoveryPoint) R) where
+  -- A tag of HTML was run by its name, up to the first instruction that needs its attributes.
+  pub record IsTriedByName (content : Bool) : Type 0 where
+    pub size : length (instructions_in old) < 2 ^ 63
+    pub tried : AreRunnable (instructions_in old) (ranges_to_try old) old.tries
+        → IfOk result (λ point. AreTried ids with_ids (sight_in old.stack ctx.stack_item.local_name) (instructions_in old) (ranges_to_try old) (record ctx { with_content = content }) next old.tries new.tries (stop_found old.program.entry_points (jumps_in old.stack) point))
+    pub point : AreRunnable (instructions_in old) (ranges_to_try old) old.tries
+        → IfOk result (λ point. IfSome point (IsPointIn (instructions_in old) old.program.entry_points (jumps_in old.stack) (ranges_in (active_in old.stack))))
+    pub stop : IfOk result (λ point. IsSome point → IsSome (stop_found old.program.entry_points (jumps_in old.stack) point))
+    pub attributes : attributes_counted new.tries ≡ attributes_counted old.tries
+    pub within : AreRunnable (instructions_in old) (ranges_to_try old) old.tries
+        → AreWithin (sight_in old.stack ctx.stack_item.local_name) (instructions_in old) (ranges_to_try old) old.tries new.tries 0
+    pub free : content ≡ false → HaveSmallIds (instructions_in old) → IsOk result
+
+  -- a tag that isn't of HTML needs its attributes at once
+  abbrev pub IsTriedAs : Bool → Bool → Type 0
+  IsTriedAs true content = IsTriedByName content
+  IsTriedAs false content = (result ≡ Ok (Some AtOnce)) × (next ≡ ctx) × (new ≡ old)
+
+  abbrev pub IsTried : StartTag → Type 0
+  IsTried tag = IsTriedAs (is_html tag.namespace) (has_content old.enable_esi_tags tag)
