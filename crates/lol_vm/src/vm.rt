@@ -251,9 +251,7 @@ impl<E: ElementData> VmOf<Program, LocalName<'static>, StackNames, E> {
             Ok(item) => self.stack.push_item(item, limiter),
             Err(error) => Err(PushError::Memory(error)),
         };
-        if pushed.is_err() {
-            self.failed = true;
-        }
+        self.failed |= pushed.is_err();
         pushed
     }
 
