@@ -1,3 +1,4 @@
+use Rattle.std.proofs.Common.{rules}
 use Rattle.std.proofs.Common.{Bool, sym, ap, ◌∙◌}
 use Rattle.lol_instructions.specs.Compiled.{sight}
 use Rattle.lol_instructions.specs.Running.{branch_if}
@@ -13,3 +14,6 @@ pub returns-in-False-clause-answer : goal.returns-in-False-clause-answer
 returns-in-False-clause-answer c =
     sym (ap (λ (b : Bool). branch_if b c.args.self.now.associated_branch)
     (fails_if_false (sight c.args.state.now c.args.local_name.now) c.args.matcher.now c.args.self.now.predicate (sym c.by_names.ensures ∙ c.in-False.is)))
+
+pub returns-in-False-clause-attributes : goal.returns-in-False-clause-attributes
+returns-in-False-clause-attributes c = search rules
