@@ -1,6 +1,8 @@
 pub mod Limiter
 pub mod Slots
+pub mod SlotLaws
 pub mod LimitedVec
+pub mod Steps
 pub mod Lends
 pub mod Drain
 pub mod Ids

@@ -1,5 +1,5 @@
 -- How many slots are charged for a list that grows.
-use Rattle.std.specs.Prelude.{ℕ, zero, suc, ◌*◌, ◌/◌, max, if◌then◌else◌, nat_le}
+use Rattle.std.specs.Prelude.{ℕ, zero, suc, ◌+◌, ◌*◌, ◌/◌, max, if◌then◌else◌, nat_lt, nat_le}
 
 -- the fewest slots that are charged, for items of a size
 abbrev pub minimum_slots : ℕ → ℕ
@@ -15,3 +15,7 @@ doubled_to n size (suc times) = if nat_le n size then size else doubled_to n (2 
 abbrev pub slots : ℕ → ℕ → ℕ
 slots item_bytes zero = 0
 slots item_bytes (suc n) = doubled_to (suc n) (minimum_slots item_bytes) (suc n)
+
+-- the slots after one more push, of so many that are charged for so many elements
+abbrev pub slots_after : ℕ → ℕ → ℕ → ℕ
+slots_after item_bytes n elements = if nat_lt elements n then n else n + max n (minimum_slots item_bytes)

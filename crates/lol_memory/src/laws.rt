@@ -1,7 +1,8 @@
-//! What holds of all sets of ids: each function takes and gives nothing, and its contract is the law.
+//! What holds of all sets of ids and of all charged lists: each function takes and gives nothing, and its contract is the law.
 
 ghost use Rattle.std.specs.Prelude.{◌≡◌, ◌↔◌, ◌⊎◌, ℕ, IsTrue, false, Contains};
 ghost use Rattle.std.specs.List.Sorted.{IsStrictlyIncreasing};
+ghost use Rattle.lol_memory.specs.Steps.{SlotsAreOfGreatestLength};
 ghost use Rattle.lol_memory.specs.Ids.{Ids, no_ids, has, with_id, union, ascending, same_ids};
 
 /// Sets are equal exactly if their ascending lists are. Such a list rises strictly.
@@ -18,4 +19,11 @@ pub fn sets_are_known_by_their_ids()
     ensures none { (q : ℕ) → has no_ids q ≡ false }
     ensures one_more { (s : Ids) (id q : ℕ) → (IsTrue (has (with_id s id) q) ↔ (q ≡ id) ⊎ IsTrue (has s q)) }
     ensures joined { (s t : Ids) (q : ℕ) → (IsTrue (has (union s t) q) ↔ IsTrue (has s q) ⊎ IsTrue (has t q)) }
+{}
+
+/// A list that began empty is charged for the slots of the greatest length that it has had, whatever was pushed and drained since. Each
+/// step is what its call says: a push that isn't refused adds its element, and slots where the list is full (`push`, `ok`); a drain takes
+/// elements out and keeps the slots (`drain`, `left`).
+pub fn slots_are_of_the_greatest_length<T>()
+    ensures { SlotsAreOfGreatestLength T }
 {}

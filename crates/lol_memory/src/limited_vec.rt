@@ -1,6 +1,6 @@
 //! A list whose slots are charged to a limiter before they are taken.
 
-ghost use Rattle.std.specs.Prelude.{◌≡◌, ◌⊎◌, ◌^◌, ◌≤◌, ◌<◌, ◌-◌, ◌+◌, ◌*◌, ◌++◌, ◌↔◌, [], length, reverse, option_to_list, IfSome, IsNone, IsSome, OnOk, OnErr, IsOk, IsErrOf, slice_get, slice_range, slice_index_or, option_copied};
+ghost use Rattle.std.specs.Prelude.{◌≡◌, ◌⊎◌, ◌^◌, ◌≤◌, ◌<◌, ◌-◌, ◌+◌, ◌*◌, ◌++◌, ◌↔◌, [], length, reverse, option_to_list, IfSome, IsNone, IsSome, OnOk, OnErr, IsOk, IsErrOf, IsTrue, slice_get, slice_range, slice_index_or, option_copied};
 ghost use Rattle.std.specs.Option.{option_copied_mut};
 ghost use Rattle.std.specs.Borrow.{sem};
 ghost use Rattle.std.specs.Iterator.{at_most};
@@ -125,6 +125,19 @@ impl<T> LimitedVec<T> {
         self.make_room(limiter)?;
         self.vec.push_reserved(element);
         Ok(())
+    }
+
+    /// Whether the next push, with this limiter, is refused with `Limit`. It takes no memory.
+    pub fn is_limited(&self, limiter: &SharedMemoryLimiter) -> bool
+        ensures { IsTrue result ↔ IsLimited self.now limiter.now }
+    {
+        if self.vec.len() < self.vec.capacity() {
+            return false;
+        }
+        match self.growth() {
+            Some((_, charge)) => limiter.would_pass(charge),
+            None => true,
+        }
     }
 
     /// Charges and makes the slots that the next push needs.

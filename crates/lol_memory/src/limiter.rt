@@ -1,6 +1,6 @@
 //! A count of bytes against a maximum.
 
-ghost use Rattle.std.specs.Prelude.{◌≡◌, ◌≤◌, ◌<◌, ◌-◌, ◌^◌, ◌↔◌, OnOk, OnErr, IsErr};
+ghost use Rattle.std.specs.Prelude.{◌≡◌, ◌≤◌, ◌<◌, ◌-◌, ◌^◌, ◌↔◌, OnOk, OnErr, IsErr, IsTrue};
 ghost use Rattle.lol_memory.specs.Limiter.{charged, Passes};
 
 use std::marker::Model;
@@ -63,6 +63,16 @@ impl SharedMemoryLimiter {
                 Ok(())
             }
             _ => Err(MemoryLimitExceededError),
+        }
+    }
+
+    /// Whether `byte_count` bytes more would pass the maximum, so that counting them is refused.
+    pub fn would_pass(&self, byte_count: usize) -> bool
+        ensures { IsTrue result ↔ Passes self.now byte_count }
+    {
+        match self.current_usage.checked_add(byte_count) {
+            Some(usage) => usage > self.max,
+            None => true,
         }
     }
 
