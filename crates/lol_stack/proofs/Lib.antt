@@ -4,3 +4,4 @@ pub mod Refusals
 pub mod StackLists
 pub mod EsiNames
 pub mod TypedFunctions
+pub mod StackLevels

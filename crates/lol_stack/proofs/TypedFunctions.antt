@@ -1,7 +1,7 @@
 -- Counts by type as a function of level and name, as children are counted and levels are cut.
-use Rattle.std.proofs.Common.{◌≡◌, ◌∙◌, sym, ap, refl, true≢false, ℕ, ◌+◌, ◌<◌, ◌≤◌, true, false, ◌&&◌, ◌||◌, nat_eq, nat_lt, nat_le, List, [], ◌∷◌, ◌++◌, Some, None, unwrap_or, arith}
+use Rattle.std.proofs.Common.{◌≡◌, ◌∙◌, sym, ap, refl, true≢false, ℕ, ◌+◌, ◌<◌, ◌≤◌, Bool, true, false, ◌&&◌, ◌||◌, nat_eq, nat_le, List, [], ◌∷◌, ◌++◌, Some, None, unwrap_or, arith}
 use Rattle.std.specs.Bool.{if◌then◌else◌}
-use Rattle.std.specs.List.{list_any}
+use Rattle.std.specs.List.{list_any, filter}
 use Rattle.std.specs.Str.{bytes_eq}
 use Rattle.std.specs.Cmp.{unsigned_Decides}
 use Rattle.std.proofs.lemmas.Bool.Decides.{nat_tests}
@@ -9,8 +9,9 @@ use Rattle.std.proofs.lemmas.Slice.Eq.{bytes_eq-Decides}
 use Rattle.lol_base.specs.LocalNames.{Name, same_local_name}
 use Rattle.lol_instructions.specs.Counters.{full_count}
 use Rattle.lol_stack.specs.Levels.{is_at_level, one_more, count_if_at}
-use Rattle.lol_stack.specs.TypedCounts.{TypedCount, is_of, level_of, levels_of, last_counted, all_above, cut_to}
-use Rattle.lol_stack.specs.TypedLaws.{contributes, typed_of, IsAscending, IsRising, CountsAtTheirLevel, CountingAddsOne, CuttingDropsAbove}
+use Rattle.lol_stack.specs.TypedCounts.{TypedCount, is_of, level_of, levels_of, last_counted}
+use Rattle.lol_stack.specs.TypedLaws.{contributes, typed_of, IsRising, CountsAtTheirLevel, CountingAddsOne, CuttingDropsAbove}
+use Rattle.lol_stack.specs.ClimbLaws.{cutting_filters}
 use Rattle.lol_stack.specs.LevelLaws.{one_more-free}
 use Rattle.lol_stack.specs.TypedListLaws.{levels_of-cons, levels_of-none}
 
@@ -100,52 +101,25 @@ counting_adds_one ts level name free l q =
 
 -- ---- levels that are cut
 
-typed_of-below : (ts : List TypedCount) (from : ℕ) → IsAscending from ts → (l : ℕ) (q : List ℕ) → l < from → typed_of ts l q ≡ 0
-typed_of-below [] from ascends l q below = refl
-typed_of-below (t ∷ ts) from ascends l q below =
-    let from_here : from ≤ t.level = ascends.0 in
-    let apart : nat_eq t.level l ≡ false = grind (arith, nat_tests) in
-    let rest = typed_of-below ts t.level ascends.1 l q (omega arith) in
-    let none : contributes l q t ≡ 0 = ap (λ b. if b && bytes_eq t.name.lowercased q then t.count else 0) apart in
-    omega (arith, rest, none)
+typed_of-within : (ts : List TypedCount) (level l : ℕ) (q : List ℕ)
+    → typed_of (filter (λ t. nat_le t.level level) ts) l q ≡ (if nat_le l level then typed_of ts l q else 0)
+typed_of-within [] level l q = elim (nat_le l level) as (λ b. typed_of [] l q ≡ (if b then typed_of [] l q else 0)) [ true ↦ refl | false ↦ refl ]
+typed_of-within (t ∷ ts) level l q = by_test (nat_le t.level level) refl (nat_le l level) refl (typed_of-within ts level l q)
+  where
+    apart : nat_eq t.level l ≡ false → contributes l q t ≡ 0
+    apart other = ap (λ b. if b && bytes_eq t.name.lowercased q then t.count else 0) other
 
-all_are_above : (ts : List TypedCount) (level from : ℕ) → IsAscending from ts → level < from → all_above level ts ≡ true
-all_are_above [] level from ascends above = refl
-all_are_above (t ∷ ts) level from ascends above =
-    let from_here : from ≤ t.level = ascends.0 in
-    let is : nat_lt level t.level ≡ true = grind (arith, nat_tests) in
-    ap (λ b. b && all_above level ts) is ∙ all_are_above ts level t.level ascends.1 (omega arith)
+    by_test : (own : Bool) → nat_le t.level level ≡ own → (low : Bool) → nat_le l level ≡ low
+        → typed_of (filter (λ (t : TypedCount). nat_le t.level level) ts) l q ≡ (if low then typed_of ts l q else 0)
+        → typed_of (if own then t ∷ filter (λ (t : TypedCount). nat_le t.level level) ts else filter (λ (t : TypedCount). nat_le t.level level) ts) l q
+        ≡ (if low then contributes l q t + typed_of ts l q else 0)
+    by_test true le true low rest = ap (λ n. contributes l q t + n) rest
+    by_test true le false high rest = omega (arith, rest, apart (grind (arith, nat_tests, le, high)))
+    by_test false gt true low rest = omega (arith, rest, apart (grind (arith, nat_tests, gt, low)))
+    by_test false gt false high rest = rest
 
 pub cutting_drops_above : CuttingDropsAbove
-cutting_drops_above [] level from ascends l q =
-    elim (nat_le l level) as (λ b. typed_of [] l q ≡ (if b then typed_of [] l q else 0)) [ true ↦ refl | false ↦ refl ]
-cutting_drops_above (t ∷ ts) level from ascends l q =
-    elim (nat_lt level t.level) as
-    (λ above. nat_lt level t.level ≡ above
-    → typed_of (if above && all_above level ts then [] else t ∷ cut_to level ts) l q ≡ (if nat_le l level then contributes l q t + typed_of ts l q else 0)) [
-      | true ↦ λ above.
-          let higher : level < t.level = grind (arith, nat_tests) in
-          ap (λ b. typed_of (if b then [] else t ∷ cut_to level ts) l q) (all_are_above ts level t.level ascends.1 higher)
-          ∙ elim (nat_le l level) as (λ b. nat_le l level ≡ b → typed_of [] l q ≡ (if b then contributes l q t + typed_of ts l q else 0)) [
-            | true ↦ λ le.
-                let low : l ≤ level = grind (arith, nat_tests) in
-                let here : t.level ≤ t.level = omega arith in
-                sym (typed_of-below (t ∷ ts) t.level (here, ascends.1) l q (omega arith))
-            | false ↦ λ gt. refl
-          ] refl
-      | false ↦ λ within.
-          let low : t.level ≤ level = grind (arith, nat_tests) in
-          let rest = cutting_drops_above ts level t.level ascends.1 l q in
-          ap (λ n. contributes l q t + n) rest
-          ∙ elim (nat_le l level) as (λ b. nat_le l level ≡ b → contributes l q t + (if b then typed_of ts l q else 0) ≡ (if b then contributes l q t + typed_of ts l q else 0)) [
-            | true ↦ λ le. refl
-            | false ↦ λ gt.
-                let high : level < l = grind (arith, nat_tests) in
-                let apart : nat_eq t.level l ≡ false = grind (arith, nat_tests) in
-                let none : contributes l q t ≡ 0 = ap (λ b. if b && bytes_eq t.name.lowercased q then t.count else 0) apart in
-                omega (arith, none)
-          ] refl
-    ] refl
+cutting_drops_above ts level top climb l q = ap (λ left. typed_of left l q) (cutting_filters ts top level climb) ∙ typed_of-within ts level l q
 
 first_within : (level : ℕ) (x : ℕ × ℕ) (xs : List (ℕ × ℕ)) → IsRising level (x ∷ xs) → x.0 ≤ level
 first_within level x [] rises = rises

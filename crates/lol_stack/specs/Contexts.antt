@@ -1,6 +1,6 @@
 -- What a start tag gathers.
-use Rattle.std.specs.Prelude.{◌≡◌, if◌then◌else◌, []}
-use Rattle.lol_memory.specs.Ids.{Ids, no_ids, union}
+use Rattle.std.specs.Prelude.{◌≡◌, Bool, true, if◌then◌else◌, [], IsNone}
+use Rattle.lol_memory.specs.Ids.{Ids, AllSmall, no_ids, union}
 use Rattle.lol_instructions.specs.declared.execution_branch.ExecutionBranch.{ExecutionBranch}
 use Rattle.lol_stack.specs.WithRange.{with_range}
 use Rattle.lol_stack.specs.declared.stack_item.StackItemOf.{StackItemOf}
@@ -29,3 +29,7 @@ with_more_ids ids with_ids item more = record item { element_data = with_ids ite
 abbrev pub with_branch : {E : Type 0} → (E → Ids) → (E → Ids → E) → ExecutionCtx E → ExecutionBranch → ExecutionCtx E
 with_branch ids with_ids ctx branch =
     record ctx { stack_item = with_more_ids ids with_ids (if ctx.with_content then with_ranges ctx.stack_item branch else ctx.stack_item) branch.matched_ids }
+
+-- What an instruction gives needs no memory: its ids are below 32, and there is no content, or neither of its ranges is there.
+abbrev pub NeedsNoMemory : Bool → ExecutionBranch → Type 0
+NeedsNoMemory content branch = AllSmall branch.matched_ids × (content ≡ true → IsNone branch.jumps × IsNone branch.hereditary_jumps)

@@ -19,6 +19,8 @@ pub mod SoundStacks
 pub mod TypedLaws
 pub mod LevelLaws
 pub mod TypedListLaws
+pub mod ClimbLaws
+pub mod LevelledStacks
 pub mod SoundPlaceLaws
 pub mod SoundRangeLaws
 pub mod SoundLaws

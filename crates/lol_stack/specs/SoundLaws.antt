@@ -4,12 +4,17 @@ use Rattle.std.specs.Bool.{if◌then◌else◌}
 use Rattle.std.proofs.lemmas.List.{map-append, length-map, append-nil, take-append-drop}
 use Rattle.lol_base.specs.LocalNames.{Name, same_local_name}
 use Rattle.lol_base.specs.PlaceLaws.{head_is, tail_is}
+use Rattle.lol_memory.specs.LimitedVec.{with_items}
 use Rattle.lol_stack.specs.Active.{active_ranges_of, activated}
 use Rattle.std.specs.Option.{option_map}
 use Rattle.lol_stack.specs.TypedCounts.{counted_by_type}
 use Rattle.lol_stack.specs.Stacks.{items_in, places_in, typed_in, with_typed, counted_if, counted_item, without_places, last_below}
-use Rattle.lol_stack.specs.SoundStacks.{hereditary_jumps_in, name_places_from, IsSound, NewIsSound, CountingKeepsSound, OpeningKeepsSound, ClosingKeepsSound, SameIsSound, EndsAtLast}
+use Rattle.lol_stack.specs.Lending.{with_data}
+use Rattle.lol_stack.specs.StackLending.{with_data_if}
+use Rattle.lol_stack.specs.SoundStacks.{hereditary_jumps_in, name_places_from, IsSound, NewIsSound, CountingKeepsSound, OpeningKeepsSound, ClosingKeepsSound, SameIsSound, DataKeepSound, EndsAtLast}
 use Rattle.lol_stack.specs.declared.stack_item.StackItemOf.{StackItemOf}
+use Rattle.lol_stack.specs.declared.stack.StackOf.{StackOf}
+use Rattle.lol_stack.specs.declared.stack.StackNames.{StackNames}
 use Rattle.lol_stack.specs.SoundPlaceLaws.{places_from-append, without_places-closed, last_below-places}
 use Rattle.lol_stack.specs.SoundRangeLaws.{active_after-append, before, before-active_after, kept-active_after}
 
@@ -19,7 +24,7 @@ length_front (suc n) [] within = absurd (omega arith)
 length_front (suc n) (x ∷ xs) within = ap suc (length_front n xs (omega arith))
 
 -- an element that f doesn't tell from the one before it
-set_keeps : {A B : Type 0} (f : A → B) (xs : List A) (n : ℕ) (x y : A) → slice_get xs n ≡ Some x → f y ≡ f x → map f (slice_set xs n y) ≡ map f xs
+pub set_keeps : {A B : Type 0} (f : A → B) (xs : List A) (n : ℕ) (x y : A) → slice_get xs n ≡ Some x → f y ≡ f x → map f (slice_set xs n y) ≡ map f xs
 set_keeps f [] n x y there same = refl
 set_keeps f (z ∷ xs) zero x y there same = ap (λ first. first ∷ map f xs) (same ∙ ap f (let e : z ≡ x = cc in sym e))
 set_keeps f (z ∷ xs) (suc n) x y there same = ap (λ rest. f z ∷ rest) (set_keeps f xs n x y there same)
@@ -106,22 +111,41 @@ module _ {E : Type 0} where
       ap (λ (n : Name). if same_local_name n name then place ∷ name_places_from (place + 1) xs name else name_places_from (place + 1) xs name) first
       ∙ ap (λ more. if same_local_name y.local_name name then place ∷ more else more) rest
 
-  pub counting_keeps_sound : CountingKeepsSound E
+  -- another last element, with the same name and ranges
+  other_last : (s : StackOf Name StackNames E) (item other : StackItemOf Name E) → slice_get (items_in s) (length (items_in s) - 1) ≡ Some item
+      → other.hereditary_jumps ≡ item.hereditary_jumps → other.local_name ≡ item.local_name → IsSound s
+      → IsSound (record s { items = with_items s.items (slice_set (items_in s) (length (items_in s) - 1) other) })
   unfolding names_of
+  other_last s item other there same_jumps same_name sound =
+      let items = items_in s in
+      let n = length items - 1 in
+      record {
+        active =
+            sound.active
+            ∙ sym (ap active_ranges_of (set_keeps (λ (i : StackItemOf Name E). i.hereditary_jumps) items n item other there same_jumps));
+        places = λ q.
+            sound.places q
+            ∙ sym (places_from-names 0 (slice_set items n other) items q
+            (set_keeps (λ (i : StackItemOf Name E). i.local_name) items n item other there same_name));
+      }
+
+  pub counting_keeps_sound : CountingKeepsSound E
   counting_keeps_sound s name sound =
+      let items = items_in s in
+      let typed = with_typed s (option_map (λ ts. counted_by_type ts (length items) name) (typed_in s)) in
+      let sound_typed : IsSound typed = record { active = sound.active; places = sound.places } in
+      elim (slice_get items (length items - 1)) as
+      (λ (found : Option (StackItemOf Name E)). slice_get items (length items - 1) ≡ found → IsSound (counted_if typed found)) [
+        | None ↦ λ none. record { active = sound.active; places = sound.places }
+        | Some item ↦ λ there. other_last typed item (counted_item item) there refl refl sound_typed
+      ] refl
+
+  pub data_keep_sound : DataKeepSound E
+  data_keep_sound s w sound =
       let items = items_in s in
       let n = length items - 1 in
       elim (slice_get items n) as
-      (λ (found : Option (StackItemOf Name E)). slice_get items n ≡ found
-      → IsSound (counted_if (with_typed s (option_map (λ ts. counted_by_type ts (length items) name) (typed_in s))) found)) [
+      (λ (found : Option (StackItemOf Name E)). slice_get items n ≡ found → IsSound (record s { items = with_items s.items (with_data_if items n w found) })) [
         | None ↦ λ none. record { active = sound.active; places = sound.places }
-        | Some item ↦ λ there. record {
-          active =
-              sound.active
-              ∙ sym (ap active_ranges_of (set_keeps (λ (i : StackItemOf Name E). i.hereditary_jumps) items n item (counted_item item) there refl));
-          places = λ q.
-              sound.places q
-              ∙ sym (places_from-names 0 (slice_set items n (counted_item item)) items q
-              (set_keeps (λ (i : StackItemOf Name E). i.local_name) items n item (counted_item item) there refl));
-        }
+        | Some item ↦ λ there. other_last s item (with_data item w) there refl refl sound
       ] refl

@@ -4,6 +4,7 @@ use Rattle.std.specs.Option.{option_or}
 use Rattle.std.specs.declared.ops.Range.{Range}
 use Rattle.lol_base.specs.LocalNames.{Name, same_local_name}
 use Rattle.lol_stack.specs.Active.{active_ranges_of}
+use Rattle.lol_stack.specs.StackLending.{with_current}
 use Rattle.lol_stack.specs.Stacks.{items_in, active_in, places_in, counted_in, place_to_close, IsSame, IsPushed, IsClosed}
 use Rattle.lol_stack.specs.declared.stack_item.StackItemOf.{StackItemOf}
 use Rattle.lol_stack.specs.declared.stack.StackOf.{StackOf}
@@ -51,6 +52,10 @@ ClosingKeepsSound E = (place : ℕ) (old new : StackOf Name StackNames E) → pl
 
 abbrev pub SameIsSound : Type 0 → Type 0
 SameIsSound E = (old new : StackOf Name StackNames E) → IsSound old → IsSame old new → IsSound new
+
+-- Other data of the last element.
+abbrev pub DataKeepSound : Type 0 → Type 0
+DataKeepSound E = (s : StackOf Name StackNames E) (w : E) → IsSound s → IsSound (with_current s w)
 
 -- An end tag closes the last open element of its name.
 abbrev pub EndsAtLast : Type 0 → Type 0

@@ -1,6 +1,6 @@
 //! Lists of ranges of instructions.
 
-ghost use Rattle.std.specs.Prelude.{◌≡◌, ℕ, List, ◌++◌, ◌∷◌, [], OnOk, OnErr, IsOk, IsSome, ◌↔◌, ◌<◌, length, option_to_list};
+ghost use Rattle.std.specs.Prelude.{◌≡◌, ℕ, List, ◌++◌, ◌∷◌, [], OnOk, OnErr, IsOk, IsSome, IsNone, ◌↔◌, ◌<◌, length, option_to_list};
 ghost use Rattle.std.specs.declared.ops.Range.{Range};
 ghost use Rattle.lol_stack.specs.WithRange.{with_range};
 
@@ -84,6 +84,7 @@ impl AddressRanges {
         range: &Option<AddressRange>,
     ) -> Result<(), AllocError>
         ensures ok { OnOk result (self.new ≡ with_range self.old range.now) }
+        ensures free { IsNone range.now → IsOk result }
         ensures err { OnErr result (self.new ≡ self.old) }
     {
         match range {

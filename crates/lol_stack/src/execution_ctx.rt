@@ -1,9 +1,9 @@
 //! What a start tag gathers.
 
-ghost use Rattle.std.specs.Prelude.{◌≡◌, OnOk, OnErr, IfOk, IsOk, IsNone, true, false};
-ghost use Rattle.lol_memory.specs.Ids.{AllSmall, ascending};
+ghost use Rattle.std.specs.Prelude.{◌≡◌, OnOk, OnErr, IfOk, IsOk, IsNone, true};
+ghost use Rattle.lol_memory.specs.Ids.{ascending};
 ghost use Rattle.lol_stack.specs.Calls.{IsCalledAtEach, reports};
-ghost use Rattle.lol_stack.specs.Contexts.{with_branch, IsNewItem};
+ghost use Rattle.lol_stack.specs.Contexts.{with_branch, IsNewItem, NeedsNoMemory};
 
 use crate::element_data::ElementData;
 use crate::stack_item::{StackItem, StackItemOf};
@@ -44,7 +44,7 @@ impl<'i, E: ElementData> ExecutionCtx<'i, E> {
     }
 
     /// Adds what an instruction gives: its ids and, where the element has content, those of its two ranges that are there. It is
-    /// refused only where memory is out, and then nothing has changed. Without content, ids below 32 take no memory.
+    /// refused only where memory is out, and then nothing has changed. Ids below 32 take no memory where there is no content, or no range.
     pub fn add_execution_branch(
         &mut self,
         alloc: Global,
@@ -52,7 +52,7 @@ impl<'i, E: ElementData> ExecutionCtx<'i, E> {
     ) -> Result<(), AllocError>
         ensures ok { OnOk result (self.new ≡ with_branch E.ids E.with_ids self.old branch.now) }
         ensures content { self.new.with_content ≡ self.old.with_content }
-        ensures free { self.old.with_content ≡ false → AllSmall branch.now.matched_ids → IsOk result }
+        ensures free { NeedsNoMemory self.old.with_content branch.now → IsOk result }
         ensures err { OnErr result (self.new ≡ self.old) }
     {
         if self.with_content {

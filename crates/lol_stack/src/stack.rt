@@ -1,6 +1,6 @@
 //! The open elements.
 
-ghost use Rattle.std.specs.Prelude.{◌≡◌, ◌*◌, ◌<◌, ◌≤◌, ◌-◌, ◌↔◌, length, OnOk, OnErr, IsOk, IsSome, IsNone, IfSome, IsErrOf, slice_get, Ok, Err, Some, None, List, [], ℕ, drop, take, map, if◌then◌else◌};
+ghost use Rattle.std.specs.Prelude.{◌≡◌, ◌*◌, ◌<◌, ◌≤◌, ◌-◌, ◌↔◌, length, OnOk, OnErr, IsOk, IsSome, IsNone, IsTrue, IfSome, IsErrOf, slice_get, Ok, Err, Some, None, List, [], ℕ, drop, take, map, if◌then◌else◌};
 ghost use Rattle.std.specs.Option.{option_copied, option_copied_mut, option_map};
 ghost use Rattle.std.specs.Borrow.{sem};
 ghost use Rattle.lol_base.specs.LocalNames.{Name, local_name};
@@ -21,7 +21,7 @@ use crate::open_names::OpenNames;
 use crate::stack_item::{StackDirective, StackItem, StackItemOf};
 use lol_base::{LocalName, Namespace};
 use lol_instructions::{AddressRange, ChildCounter, SelectorState};
-use lol_memory::{LimitedVec, PushError, SharedMemoryLimiter};
+use lol_memory::{LimitedVec, MemoryLimitExceededError, PushError, SharedMemoryLimiter};
 use lol_names::NamePlace;
 use std::alloc::{AllocError, Global};
 
@@ -87,6 +87,13 @@ impl<N, M, E> StackOf<N, M, E> {
         ensures { result ≡ slots_in self.now }
     {
         self.items.slots()
+    }
+
+    /// Whether the next element that is opened, with this limiter, is refused with `Limit`. It takes no memory. (Not in lol_html.)
+    pub fn is_limited(&self, limiter: &SharedMemoryLimiter) -> bool
+        ensures { IsTrue result ↔ IsLimited (list_in self.now) limiter.now }
+    {
+        self.items.is_limited(limiter)
     }
 
     /// The counter of the last open element, or of the root.
@@ -162,8 +169,9 @@ impl<E> StackOf<LocalName<'static>, StackNames, E> {
         }
     }
 
-    /// Opens an element: it comes last, and the slots that are wanted are charged. It is refused with `Limit` only where these can't be
-    /// charged, and with `Memory` only where memory isn't there. Refused, stack and limiter are as before, and the element is dropped.
+    /// Opens an element: it comes last, and the slots that are wanted are charged. It is refused with `Limit` exactly if these can't be
+    /// charged, which is judged before any memory is taken, and with `Memory` only where memory isn't there. Refused, stack and limiter
+    /// are as before, and the element is dropped.
     pub fn push_item(
         &mut self,
         item: StackItem<'static, E>,
@@ -173,11 +181,14 @@ impl<E> StackOf<LocalName<'static>, StackNames, E> {
         E: Drop,
         ensures ok { OnOk result (IsPushed self.old item.entry self.new) }
         ensures charged { OnOk result (limiter.new ≡ charged limiter.old (grown_slots (list_in self.old) * item_bytes_in self.old)) }
-        ensures limited { IsErrOf result (PushError.Limit (record {})) → IsLimited (list_in self.old) limiter.old }
+        ensures limited { IsErrOf result (PushError.Limit (record {})) ↔ IsLimited (list_in self.old) limiter.old }
         ensures unlimited { OnOk result (IsLimited (list_in self.old) limiter.old → ⊥) }
         ensures err { OnErr result (IsSame self.old self.new) }
         ensures err_limiter { OnErr result (limiter.new ≡ limiter.old) }
     {
+        if self.items.is_limited(limiter) {
+            return Err(PushError::Limit(MemoryLimitExceededError));
+        }
         let place = self.items.len();
         let active = self.active_hereditary_jumps.len();
         let name = match item.local_name.try_clone(self.names.alloc) {

@@ -88,6 +88,7 @@ impl<N, E> StackItemOf<N, E> {
         branch: &ExecutionBranch,
     ) -> Result<(), AllocError>
         ensures ok { OnOk result (self.new ≡ with_ranges self.old branch.now) }
+        ensures free { IsNone branch.now.jumps → IsNone branch.now.hereditary_jumps → IsOk result }
         ensures err { OnErr result (self.new ≡ self.old) }
     {
         self.jumps.extend(alloc, &branch.jumps)?;
