@@ -57,7 +57,7 @@ trees_are_closed ast =
 
 -- 2. Beginnings
 
-among_flat_map : {A B : Type 0} (f : A → List B) (xs : List A) (y : B) → Among (flat_map f xs) y → (x : A) × Among xs x × Among (f x) y
+pub among_flat_map : {A B : Type 0} (f : A → List B) (xs : List A) (y : B) → Among (flat_map f xs) y → (x : A) × Among xs x × Among (f x) y
 among_flat_map f [] y h = absurd h
 among_flat_map f (x ∷ xs) y h = elim (among_either (f x) (flat_map f xs) y h) [
   | inl here ↦ (x, inl refl, here)

@@ -2,7 +2,7 @@
 use Rattle.std.proofs.Common.{◌≡◌, ℕ, suc, zero, ◌<◌, Bool, true, false, cond, true≢false, List, [], ◌∷◌, length, map, Option, Some, None, Result, Err, refl, sym, ap, ◌∙◌, subst, arith, inl, inr, get_or, Contains}
 use Rattle.std.specs.Prelude.{◌||◌, slice_get, not, ◌&&◌}
 use Rattle.std.specs.List.{list_any, list_all}
-use Rattle.std.specs.Option.{IsNone}
+use Rattle.std.specs.Option.{IsNone, option_map}
 use Rattle.std.proofs.lemmas.List.{length-map}
 use Rattle.std.proofs.lemmas.Slice.Eq.{bytes_eq-Decides}
 use Rattle.std.specs.declared.ops.Range as std
@@ -18,7 +18,7 @@ use Rattle.lol_program.specs.IdSetLaws.{listed_if_held}
 use Rattle.lol_program.specs.Paths.{Path, Selectors, last_compound}
 use Rattle.lol_program.specs.Programs.{IsProgramOf}
 use Rattle.lol_program.specs.Programs as programs
-use Rattle.lol_program.specs.ProgramViews.{instruction_shown, program_shown}
+use Rattle.lol_program.specs.ProgramViews.{instruction_shown, program_shown, range_shown}
 use Rattle.lol_instructions.specs.Tests.{is_html}
 use Rattle.lol_instructions.specs.declared.instruction.Instruction.{Instruction}
 use Rattle.lol_program.specs.declared.program.Program.{Program}
@@ -28,13 +28,18 @@ use Rattle.lol_stack.specs.contracts.stack_item.StackDirective.{the_type}
 use Rattle.lol_stack.specs.declared.stack_item.StackDirective.{StackDirective}
 use Rattle.lol_stack.specs.declared.stack_item.StackDirective.TheVariants.{Push, PopImmediately}
 use Rattle.lol_vm.specs.Events.{has_content, has_content_in}
-use Rattle.lol_vm.specs.FreeTags.{AreSmall, IsAskedOrFull}
-use Rattle.lol_vm.specs.InstructionRuns.{HaveSmallIds}
+use Rattle.lol_memory.specs.Ids.{AllSmall}
+use Rattle.lol_css.specs.declared.selector.Combinator.{Combinator}
+use Rattle.lol_css.specs.declared.selector.Combinator.TheVariants.{Child, Descendant}
+use Rattle.lol_vm.specs.FreeTags.{AreSmall}
+use Rattle.lol_vm.specs.InstructionRuns.{NeedNoMemory}
 use Rattle.lol_vm.specs.StackMachines.{KeepsTyped}
 use Rattle.lol_stack.specs.TypedCounts.{TypedCount}
 use Rattle.lol_stack.specs.Stacks.{typed_in}
 use Rattle.lol_vm.specs.Standing.{Machine}
-use Rattle.lol_vm.specs.VmErrors.{child_error}
+use Rattle.lol_vm.specs.VmErrors.{IsAskedOrFull, IsNotForMemory, child_error, push_error}
+use Rattle.lol_memory.specs.declared.limited_vec.PushError.{PushError}
+use Rattle.lol_memory.specs.declared.limited_vec.PushError.TheVariants as pushes
 use Rattle.lol_vm.specs.PlaceRuns.{Context}
 use Rattle.lol_vm.specs.TagRuns.{stop_at}
 use Rattle.lol_vm.specs.Vms.{Vm, Shows, IsRequested, GoesOnAt, content_at}
@@ -45,12 +50,13 @@ use Rattle.lol_vm.specs.declared.error.VmError.TheVariants.{InfoRequest, MemoryL
 use Rattle.lol_stack.specs.declared.execution_ctx.ExecutionCtx.{ExecutionCtx}
 use Rattle.lol_vm.specs.declared.tag_runs.RecoveryPoint.{RecoveryPoint}
 use Rattle.lol_vm.specs.declared.tag_runs.RecoveryPoint.TheVariants.{AtOnce, EntryPoints, Jumps, HereditaryJumps}
-use Rattle.lol_base.specs.PlaceLaws.{within_at}
+use Rattle.lol_base.specs.PlaceLaws.{at_among, within_at}
+use Rattle.std.specs.declared.alloc.AllocError.{AllocError}
 use Rattle.lol_vm.proofs.Lists.{among_any, to_contains}
 
 -- 1. Void names
 
-all_parts : {A : Type 0} (p : A → Bool) (xs : List A) → list_all p xs ≡ true → (x : A) → Among xs x → p x ≡ true
+pub all_parts : {A : Type 0} (p : A → Bool) (xs : List A) → list_all p xs ≡ true → (x : A) → Among xs x → p x ≡ true
 all_parts p [] all x a = absurd a
 all_parts p (y ∷ xs) all x (inl is) = ap p (sym is) ∙ (and_parts (p y) (list_all p xs) all).0
 all_parts p (y ∷ xs) all x (inr a) = all_parts p xs (and_parts (p y) (list_all p xs) all).1 x a
@@ -96,14 +102,46 @@ module _ (s : Selectors) (paths : List Path) (prog : Program) (small : AreSmall 
   shown_at (i ∷ is) zero d within = refl
   shown_at (i ∷ is) (suc k) d within = shown_at is k d (omega (arith, within))
 
-  -- so are the ids of its instructions
-  pub instructions_small : HaveSmallIds all
-  instructions_small = λ k d within.
-      let count = program.count in
-      let many = length-map all (instruction_shown prog.enable_nth_of_type) in
-      let path = within_at paths k (omega (arith, count, many, within)) in
-      let means = program.each k path.0 (instruction_shown prog.enable_nth_of_type (get_or all k d)) path.1 (shown_at all k d within) in
-      λ q held. small.ids path.0 q ((means.ids q).0 (listed_if_held (get_or all k d).associated_branch.matched_ids q held))
+  module _ (k : ℕ) (d : Instruction) (within : k < length all) where
+    abbrev instruction : programs.Instruction
+    instruction = instruction_shown prog.enable_nth_of_type (get_or all k d)
+
+    -- the path whose place it has, and what it means
+    path_at : (path : Path) × (slice_get paths k ≡ Some path)
+    path_at =
+        let count = program.count in
+        let many = length-map all (instruction_shown prog.enable_nth_of_type) in
+        within_at paths k (omega (arith, count, many, within))
+
+    means : programs.IsInstruction s paths path_at.0 instruction
+    means = program.each k path_at.0 instruction path_at.1 (shown_at all k d within)
+
+    ids_small : AllSmall (get_or all k d).associated_branch.matched_ids
+    ids_small = λ q held. small.ids path_at.0 q ((means.ids q).0 (listed_if_held (get_or all k d).associated_branch.matched_ids q held))
+
+  -- without content its instructions need no memory
+  pub closed_free : (content : Bool) → content ≡ false → NeedNoMemory content all
+  closed_free content closed = λ k d within. (ids_small k d within, λ opens. absurd (true≢false (sym opens ∙ closed)))
+
+  none_under : (range : Option (std.Range ℕ)) (under : Path × Combinator) → programs.IsRangeOf paths (option_map range_shown range) (Some under) → ((node : Path) → Contains s.nodes node → programs.above node ≡ None) → IsNone range
+  none_under None under is alone = refl
+  none_under (Some r) under is alone =
+      let found = (is.0.members r.start).0 (omega arith, is.1) in
+      let none = alone found.0 ((program.same found.0).0 (to_contains paths found.0 (at_among paths r.start found.0 found.1))) in
+      absurd (none_isnt_some (programs.above found.0) under none found.2)
+    where
+      none_isnt_some : (o : Option (Path × Combinator)) (x : Path × Combinator) → o ≡ None → o ≡ Some x → ⊥
+      none_isnt_some o x none some = cc
+
+  -- nor do they where no node stands under another
+  pub alone_free : ((node : Path) → Contains s.nodes node → programs.above node ≡ None) → (content : Bool) → NeedNoMemory content all
+  alone_free alone content = λ k d within. (
+    ids_small k d within,
+    λ opens. (
+      none_under (get_or all k d).associated_branch.jumps ((path_at k d within).0, Child) (means k d within).jumps alone,
+      none_under (get_or all k d).associated_branch.hereditary_jumps ((path_at k d within).0, Descendant) (means k d within).hereditary_jumps alone,
+    ),
+  )
 
   none_by_type : (ps : List Path) → ((path : Path) → Among ps path → Contains paths path) → list_any (λ path. has_test_by_type (last_compound path)) ps ≡ false
   none_by_type [] each = refl
@@ -122,8 +160,11 @@ module _ {E : Type 0} (s : Selectors) (paths : List Path) (vm : Vm E) (m : Machi
   shown_program : IsProgramOf s paths (program_shown vm.program)
   shown_program = subst (IsProgramOf s paths) shown.program program
 
-  pub has_small : HaveSmallIds vm.program.instructions.items
-  has_small = instructions_small s paths vm.program small shown_program
+  pub is_closed_free : (content : Bool) → content ≡ false → NeedNoMemory content vm.program.instructions.items
+  is_closed_free = closed_free s paths vm.program small shown_program
+
+  pub is_alone_free : ((node : Path) → Contains s.nodes node → programs.above node ≡ None) → (content : Bool) → NeedNoMemory content vm.program.instructions.items
+  is_alone_free = alone_free s paths vm.program small shown_program
 
   pub has_none_typed : IsNone (typed_in vm.stack)
   has_none_typed =
@@ -145,3 +186,19 @@ asked_only ctx point old new result (Memory error) requested same unfailed is =
     absurd (true≢false (sym (ap (λ (v : Vm _). v.failed) failed) ∙ (ap (λ (v : Vm _). v.failed) same ∙ unfailed)))
 asked_only ctx point old new result CounterFull requested same unfailed is = tt
 asked_only ctx point old new result Failed requested same unfailed is = absurd (subst (IsRequested ctx point old new) is requested)
+
+pub not_for_memory : {E : Type 0} (error : VmError E) → IsAskedOrFull error → IsNotForMemory error
+not_for_memory (InfoRequest request) asked = tt
+not_for_memory (MemoryLimitExceeded error) asked = tt
+not_for_memory (Memory error) asked = asked
+not_for_memory CounterFull asked = tt
+not_for_memory Failed asked = tt
+
+-- an element that wasn't opened, since it can't be charged
+pub limit_only : {E : Type 0} (result : Result (Unit {0}) PushError) (pushed : PushError) (error : VmError E) → result ≡ Err pushed → result ≡ Err (pushes.Limit (record {})) → error ≡ push_error pushed → IsNotForMemory error
+limit_only result pushed error is limit from =
+    let same : pushed ≡ pushes.Limit (record {}) = cc in
+    subst (λ e. IsNotForMemory e) (sym (from ∙ ap push_error same)) tt
+
+pub memory_instead : (result : Result (Unit {0}) PushError) (error : AllocError) → result ≡ Err (pushes.Memory error) → result ≡ Err (pushes.Limit (record {})) → ⊥
+memory_instead result error memory limit = cc

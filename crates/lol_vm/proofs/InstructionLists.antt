@@ -18,7 +18,7 @@ use Rattle.lol_instructions.specs.Running.{tries_of_attributes}
 use Rattle.lol_instructions.specs.declared.name_value.NameValue.{NameValue}
 use Rattle.lol_instructions.specs.declared.name_value.NameValue.TheVariants.{True, False, Open}
 use Rattle.lol_instructions.specs.declared.instruction.Instruction.{Instruction}
-use Rattle.lol_vm.specs.InstructionRuns.{HaveSmallIds, value_seen, holds_seen, is_true, with_branch_if, open_among, first_open_from, gathered_by_names, gathered_with_attributes, instructions_at, all_at, AreRunnable, IsInsideOf, HasTriesLeft, ranges_in, ranges_from, IsStopIn}
+use Rattle.lol_vm.specs.InstructionRuns.{NeedNoMemory, value_seen, holds_seen, is_true, with_branch_if, open_among, first_open_from, gathered_by_names, gathered_with_attributes, instructions_at, all_at, AreRunnable, IsInsideOf, HasTriesLeft, ranges_in, ranges_from, IsStopIn}
 use Rattle.lol_stack.specs.WithRange.{no_range}
 use Rattle.lol_vm.specs.declared.instruction_runs.Stop.{Stop}
 use Rattle.lol_stack.specs.declared.execution_ctx.ExecutionCtx.{ExecutionCtx}
@@ -114,8 +114,8 @@ open_split s all i others is = ap (open_among s) is ∙ open_first s i others
 pub open_at_most : (s : Sight) (instructions : List Instruction) → open_among s instructions ≤ length instructions
 open_at_most s instructions = count_by-le-length (λ i. is_open (value_seen s i)) instructions
 
-pub small_rest : (i : Instruction) (others : List Instruction) → HaveSmallIds (i ∷ others) → HaveSmallIds others
-small_rest i others small = λ k d within. small (suc k) d (omega (arith, within))
+pub free_rest : (content : Bool) (i : Instruction) (others : List Instruction) → NeedNoMemory content (i ∷ others) → NeedNoMemory content others
+free_rest content i others free = λ k d within. free (suc k) d (omega (arith, within))
 
 module _ (instructions : List Instruction) (ranges : List (Range ℕ)) (at : ℕ) (within : at < length ranges) where
   -- the range at the place

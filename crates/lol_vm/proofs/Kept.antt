@@ -1,5 +1,5 @@
 -- A machine that stands for events, one event on.
-use Rattle.std.proofs.Common.{◌≡◌, ℕ, zero, suc, ◌+◌, ◌*◌, ◌<◌, ◌≤◌, Bool, true, false, cond, not, List, [], ◌∷◌, ◌++◌, length, map, filter, drop, take, reverse, position, Option, Some, None, ◌⊎◌, inl, inr, refl, sym, ap, ◌∙◌, subst, arith}
+use Rattle.std.proofs.Common.{◌≡◌, ℕ, zero, suc, ◌+◌, ◌<◌, ◌≤◌, Bool, true, false, cond, not, List, [], ◌∷◌, ◌++◌, length, map, filter, drop, take, reverse, position, Option, Some, None, refl, sym, ap, ◌∙◌, subst, arith}
 use Rattle.std.specs.Prelude.{nat_lt, nat_le, max, ◌&&◌, ◌==◌, if◌then◌else◌}
 use Rattle.std.proofs.lemmas.Bool.Decides.{Decides-eqb, Decides-ltb, nat_tests}
 use Rattle.std.proofs.lemmas.List.{append-nil, length-drop, drop-map, take-map}
@@ -8,7 +8,8 @@ use Rattle.std.proofs.lemmas.Slice.Eq.{bytes_eq-Decides}
 use Rattle.std.specs.Str.{bytes_eq}
 use Rattle.lol_base.specs.Names.{same_name, lowercased}
 use Rattle.lol_base.specs.StartTags.{StartTag}
-use Rattle.lol_memory.specs.Slots.{slots, minimum_slots, doubled_to}
+use Rattle.lol_memory.specs.Slots.{slots, slots_after}
+use Rattle.lol_memory.specs.SlotLaws.{slots_grow}
 use Rattle.lol_instructions.specs.Tests.{Element}
 use Rattle.lol_program.specs.Paths.{Path, Selectors}
 use Rattle.lol_base.specs.MemberLaws.{count_by-cons}
@@ -21,76 +22,12 @@ use Rattle.lol_base.specs.BoolLaws.{and-false, not_true}
 use Rattle.lol_program.specs.Programs.{Range, Program, AreClosed, all_places}
 use Rattle.lol_vm.specs.Machines.{OpenItem, AreItems, HasRanges, Matches, HoldOnce, LeftMatches, active_of, newly_active, is_active, ranges_to_run, jumps_of, hereditary_jumps_of}
 use Rattle.lol_vm.specs.PlaceRuns.{Context, context_of, run}
-use Rattle.lol_vm.specs.Standing.{Machine, AreTyped, TypedStand, AreCounted, StandsOn, StandsFor, counted_root, counted_last, counted_typed, counted, slots_after, opened, cut, closed_count, ended, started, machine_after, Descend, IsOrdered, DocumentsAreOrdered, SlotsGrow, NewStands, StandingIsKept, EndsKeepItems, unfinished, finished, RequestsStand, FinishingIsKept, EndsHandOut, CountersArePlaces, or_root}
+use Rattle.lol_vm.specs.Standing.{Machine, AreTyped, TypedStand, AreCounted, StandsOn, StandsFor, counted_root, counted_last, counted_typed, counted, opened, cut, closed_count, ended, started, machine_after, Descend, IsOrdered, DocumentsAreOrdered, NewStands, StandingIsKept, EndsKeepItems, unfinished, finished, RequestsStand, FinishingIsKept, EndsHandOut, CountersArePlaces, or_root}
 use Rattle.lol_vm.proofs.Held.{ranges_hold_left_matches}
 use Rattle.lol_vm.proofs.Gathered.{runs_give_reports}
 use Rattle.lol_vm.proofs.Stops.{requests_finish, asks_by_names}
 
--- 1. Slots
-
-abbrev doubles : ℕ → ℕ → ℕ
-doubles n d = cond (nat_le (suc n) d) d (2 * d)
-
-enough_doubled : (n size times : ℕ) → 1 ≤ size → n ≤ size + times → n ≤ doubled_to n size times
-enough_doubled n size zero some h = omega (arith, h)
-enough_doubled n size (suc times) some h = by_test (enough_doubled n (2 * size) times (omega (arith, some)) (omega (arith, some, h)))
-  where
-    by_test : n ≤ doubled_to n (2 * size) times → n ≤ cond (nat_le n size) size (doubled_to n (2 * size) times)
-    by_test later = grind (arith, nat_tests)
-
-doubled_more : (n size times : ℕ) → 1 ≤ size → n ≤ size + times → doubled_to (suc n) size (suc times) ≡ doubles n (doubled_to n size times)
-doubled_more n size zero some h = refl
-doubled_more n size (suc times) some h = by_test (doubled_more n (2 * size) times (omega (arith, some)) (omega (arith, some, h)))
-  where
-    by_test : doubled_to (suc n) (2 * size) (suc times) ≡ doubles n (doubled_to n (2 * size) times)
-        → doubled_to (suc n) size (suc (suc times)) ≡ doubles n (cond (nat_le n size) size (doubled_to n (2 * size) times))
-    by_test later = grind (arith, nat_tests)
-
-some_minimum : (item_bytes : ℕ) → 1 ≤ minimum_slots item_bytes
-some_minimum item_bytes = omega arith
-
-slots_enough : (item_bytes n : ℕ) → n ≤ slots item_bytes n
-slots_enough item_bytes zero = omega arith
-slots_enough item_bytes (suc n) = enough_doubled (suc n) (minimum_slots item_bytes) (suc n) (some_minimum item_bytes) (omega arith)
-
-minimum_kept : (n size times : ℕ) → 1 ≤ size → size ≤ doubled_to n size times
-minimum_kept n size zero some = omega arith
-minimum_kept n size (suc times) some = by_test (minimum_kept n (2 * size) times (omega (arith, some)))
-  where
-    by_test : 2 * size ≤ doubled_to n (2 * size) times → size ≤ cond (nat_le n size) size (doubled_to n (2 * size) times)
-    by_test later = grind (arith, nat_tests)
-
-grown : (item_bytes most : ℕ) → slots_after item_bytes (slots item_bytes most) most ≡ slots item_bytes (most + 1)
-grown item_bytes zero = first (minimum_slots item_bytes) (some_minimum item_bytes)
-  where
-    first : (m : ℕ) → 1 ≤ m → cond (nat_lt 0 0) 0 (0 + max 0 m) ≡ cond (nat_le 1 m) m (2 * m)
-    first m some = grind (arith, nat_tests)
-grown item_bytes (suc n) =
-    let d = doubled_to (suc n) (minimum_slots item_bytes) (suc n) in
-    let m = minimum_slots item_bytes in
-    let sizes : suc (suc n) ≡ suc n + 1 = omega arith in
-    by_size d m (enough_doubled (suc n) m (suc n) (some_minimum item_bytes) (omega arith)) (minimum_kept (suc n) m (suc n) (some_minimum item_bytes))
-    ∙ (sym (doubled_more (suc n) m (suc n) (some_minimum item_bytes) (omega arith)) ∙ ap (slots item_bytes) sizes)
-  where
-    by_size : (d m : ℕ) → suc n ≤ d → m ≤ d → cond (nat_lt (suc n) d) d (d + max d m) ≡ doubles (suc n) d
-    by_size d m enough least = grind (arith, nat_tests)
-
-pub slots_grow : SlotsGrow
-slots_grow item_bytes items most within = by_cases (split items most within)
-  where
-    split : (a b : ℕ) → a ≤ b → (a ≡ b) ⊎ (a < b)
-    split a b h = grind arith
-
-    kept : (a b : ℕ) → a < b → (s m : ℕ) → b ≤ s → cond (nat_lt a s) s (s + m) ≡ s
-    kept a b below s m enough = grind (arith, nat_tests)
-
-    by_cases : (items ≡ most) ⊎ (items < most) → slots_after item_bytes (slots item_bytes most) items ≡ slots item_bytes (max most (items + 1))
-    by_cases (inl is) = let sizes : most + 1 ≡ max most (items + 1) = omega (arith, is) in ap (slots_after item_bytes (slots item_bytes most)) is ∙ (grown item_bytes most ∙ ap (slots item_bytes) sizes)
-    by_cases (inr below) =
-        let sizes : most ≡ max most (items + 1) = omega (arith, below) in
-        kept items most below (slots item_bytes most) (max (slots item_bytes most) (minimum_slots item_bytes)) (slots_enough item_bytes most) ∙ ap (slots item_bytes) sizes
-
--- 2. Numbers and parents
+-- 1. Numbers and parents
 
 same_number : (n : ℕ) → (n == n) ≡ true
 same_number n = (Decides-eqb n n).1 refl
@@ -133,7 +70,7 @@ own_typed parent outer name n cs h =
     by_test true k = omega arith
     by_test false k = omega arith
 
--- 3. Documents
+-- 2. Documents
 
 descend_lower : (a b : ℕ) (outer : List Element) → a ≤ b → Descend a outer → Descend b outer
 descend_lower a b [] h d = tt
@@ -192,7 +129,7 @@ module _ (s : Selectors) (esi : Bool) where
 pub documents_are_ordered : DocumentsAreOrdered
 documents_are_ordered s esi events = ordered_from s esi empty events (record { numbers = tt; fresh = λ n above. (refl, λ name. refl); enough = omega arith })
 
--- 4. Items
+-- 3. Items
 
 module _ (paths : List Path) (p : Program) where
   pub items_length : (items : List OpenItem) (elements : List Element) → AreItems paths p items elements → length items ≡ length elements
@@ -227,7 +164,7 @@ ends_keep_items paths m d name h =
     (ap (λ o. drop (closed_count o) d.open_elements) (same_place paths m.program name m.items d.open_elements h) ∙ sym (outer_is (place_of name d.open_elements) d.open_elements))
     (items_drop paths m.program (closed_count place) m.items d.open_elements h)
 
--- 5. Active ranges of fewer items
+-- 4. Active ranges of fewer items
 
 abbrev kept_active : ℕ → List (Range × ℕ) → List (Range × ℕ)
 kept_active n active = filter (λ (a : Range × ℕ). nat_lt a.1 n) active
@@ -264,7 +201,7 @@ active_drop (suc n) (item ∷ items) =
     ∙ ((λ i. active_drop n items i ++ none_kept m (length items) (filter (λ r. not (is_active (active_of items) r)) item.hereditary_jumps) (drop_shorter n items) i)
     ∙ append-nil (active_of (drop n items)))
 
--- 6. Counters
+-- 5. Counters
 
 abbrev counts : List Child → List Element → List ℕ
 counts cs outer = map (λ (e : Element). children_of (Some e.number) cs) outer
@@ -318,7 +255,7 @@ typed_same : (typed typed' : ℕ → List ℕ → ℕ) (cs : List Child) (outer 
 typed_same typed typed' cs [] same h = λ n. same 0 n (omega arith) ∙ h n
 typed_same typed typed' cs (e ∷ outer) same h = (λ n. same (suc (length outer)) n (omega arith) ∙ h.0 n, typed_same typed typed' cs outer (λ l n within. same l n (omega (arith, within))) h.1)
 
--- 7. One event
+-- 6. One event
 
 -- A machine that has counted an element opens it.
 module _ (s : Selectors) (esi : Bool) (paths : List Path) (d : Document) (longest_so_far : ℕ) (ordered : IsOrdered d longest_so_far) where
@@ -474,7 +411,7 @@ standing_is_kept s esi paths m events event closed stands =
     (subst (λ d'. StandsOn s esi paths m' d' (max (longest s esi events) (length (after s esi d event).open_elements))) (sym (document_push s esi empty events event))
     (one_more s esi paths m d (longest s esi events) (documents_are_ordered s esi events) stands closed event))
 
--- 8. Counters as places
+-- 7. Counters as places
 
 position_counted : (name : List ℕ) (cs : List Child) (outer : List Element) → or_root (counted_last (counts cs outer)) (counted_root (counts cs outer) (children_of None cs)) ≡ children_of (parent_of outer) cs + 1
 position_counted name cs [] = refl
@@ -493,7 +430,7 @@ counters_are_places m d tag are as_many = (
       ∙ ap (λ n. n + 1) (typed_here m.typed d.children d.open_elements tag.name (are.typed by_type).levels)),
 )
 
--- 9. Requests
+-- 8. Requests
 
 module _ (s : Selectors) (esi : Bool) (events : List Event) (tag : StartTag) where
   abbrev before : Document

@@ -7,6 +7,7 @@ mod VmFinishes
 mod VmRefusals
 mod VmData
 mod FreeTags
+mod SmallSelectors
 pub mod Trees
 pub mod Runs
 pub mod RefusedRuns

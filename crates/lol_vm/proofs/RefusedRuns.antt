@@ -1,6 +1,6 @@
 -- Which event of a run is refused, as events come.
 use Rattle.std.proofs.Common.{◌≡◌, ℕ, ◌+◌, ◌-◌, ◌*◌, ◌≤◌, ◌<◌, ◌^◌, inl, inr, Bool, true, false, List, [], ◌∷◌, ◌++◌, length, Option, Some, None, refl, sym, ap, ◌∙◌, subst, arith}
-use Rattle.std.specs.Prelude.{max, nat_lt, if◌then◌else◌}
+use Rattle.std.specs.Prelude.{max, nat_lt, if◌then◌else◌, ◌⊎◌}
 use Rattle.std.proofs.lemmas.Bool.Decides.{nat_tests}
 use Rattle.lol_memory.specs.LimitedVec.{LimitedVec, IsLimited, more_slots}
 use Rattle.lol_memory.specs.Limiter.{Limiter}
@@ -8,14 +8,27 @@ use Rattle.lol_memory.specs.Slots.{slots, minimum_slots}
 use Rattle.lol_program.specs.Paths.{Selectors}
 use Rattle.lol_vm.specs.Answers.{after, document, document_from}
 use Rattle.lol_vm.specs.Documents.{Document, empty}
-use Rattle.lol_vm.specs.Events.{Event}
-use Rattle.lol_vm.specs.Refusals.{Allowance, Cause, Limit, Counter, longest, longest_from, or_later, refusal, refused, refused_from}
-use Rattle.lol_vm.specs.Follows.{Stops, refusal_after}
-use Rattle.lol_vm.specs.RunRefusals.{StopsFor, allowance_of}
+use Rattle.lol_base.specs.PlaceLaws.{head_is, some_is, tail_is}
+use Rattle.lol_base.specs.StartTags.{StartTag}
+use Rattle.lol_vm.specs.Events.{Event, Start, End}
+use Rattle.lol_vm.specs.FreeTags.{RunsWithoutMemory}
+use Rattle.lol_vm.specs.Refusals.{Allowance, Cause, Limit, Counter, exceeds, longest, longest_from, or_later, refusal, refused, refused_from}
+use Rattle.lol_vm.specs.Follows.{IsRunWithoutMemory, Stops}
+use Rattle.lol_vm.specs.RunRefusals.{IsUntil, StopsBeforeLimit, StopsFor, allowance_of}
 use Rattle.lol_vm.specs.declared.events.RunCause.{RunCause}
 use Rattle.lol_vm.specs.declared.events.RunCause.TheVariants.{MemoryLimitExceeded, CounterFull, Memory}
-use Rattle.lol_vm.proofs.Kept.{slots_grow}
+use Rattle.lol_memory.specs.SlotLaws.{slots_grow}
 use Rattle.lol_vm.proofs.Runs.{events_after, events-document}
+
+-- lists that are parted after as many
+parted : {A : Type 0} (xs ys us vs : List A) (x y : A) → length xs ≡ length ys → xs ++ x ∷ us ≡ ys ++ y ∷ vs → (xs ≡ ys) × (x ≡ y)
+parted [] [] us vs x y many is = (refl, head_is x y us vs is)
+parted [] (b ∷ ys) us vs x y many is = absurd (omega (arith, many))
+parted (a ∷ xs) [] us vs x y many is = absurd (omega (arith, many))
+parted (a ∷ xs) (b ∷ ys) us vs x y many is =
+    let first = head_is a b (xs ++ x ∷ us) (ys ++ y ∷ vs) is in
+    let rest = parted xs ys us vs x y (omega (arith, many)) (tail_is a b (xs ++ x ∷ us) (ys ++ y ∷ vs) is) in
+    ((λ i. first i ∷ rest.0 i), rest.1)
 
 -- 1. The first event that is refused
 
@@ -78,11 +91,53 @@ module _ (s : Selectors) (esi : Bool) (a : Allowance) where
         let rest = refused_from s esi a next (max (longest s esi before) (length next.open_elements)) later in
         refused_on (event ∷ later) ∙ (ap (λ r. or_later (document s esi before).events r rest) some ∙ ap (λ n. Some (n, cause)) number)
 
-    pub not_before : (later : List Event) (n : ℕ) (cause : Cause) → refused s esi a (before ++ later) ≡ Some (n, cause) → length before ≤ n
-    not_before later n cause is =
-        let first = not_earlier (document s esi before) (longest s esi before) later n cause (sym (refused_on later) ∙ is) in
-        let at = number in
-        omega (arith, first, at)
+    abbrev own : Event → Option Cause
+    own event = refusal s esi a (document s esi before) (longest s esi before) event
+
+    -- it is the next one, for its own cause, or a later one
+    pub first_is : (event : Event) (later : List Event) (n : ℕ) (cause : Cause) → refused s esi a (before ++ event ∷ later) ≡ Some (n, cause)
+        → ((own event ≡ Some cause) × (n ≡ length before)) ⊎ (length before < n)
+    first_is event later n cause is =
+        let next = after s esi (document s esi before) event in
+        by_refusal (own event) refl (λ rest. not_earlier next (max (longest s esi before) (length next.open_elements)) later n cause rest) (sym (refused_on (event ∷ later)) ∙ is)
+      where
+        by_refusal : {rest : Option (ℕ × Cause)} (r : Option Cause) → own event ≡ r → (rest ≡ Some (n, cause) → (after s esi (document s esi before) event).events ≤ n)
+            → or_later (document s esi before).events r rest ≡ Some (n, cause) → ((own event ≡ Some cause) × (n ≡ length before)) ⊎ (length before < n)
+        by_refusal (Some c) at above is =
+            let same = some_is is in
+            inl (at ∙ ap (λ (x : ℕ × Cause). Some x.1) same, sym (ap (λ (x : ℕ × Cause). x.0) same) ∙ number)
+        by_refusal None at above is =
+            let least = above is in
+            let one = events_after s esi (document s esi before) event in
+            let counts = number in
+            inr (omega (arith, least, one, counts))
+
+-- the first event of all isn't refused for its counter
+counter_comes_later : (s : Selectors) (esi : Bool) (a : Allowance) (events : List Event) (n : ℕ) → refused s esi a events ≡ Some (n, Counter) → 0 < n
+counter_comes_later s esi a [] n is = cc
+counter_comes_later s esi a (event ∷ later) n is = elim (first_is s esi a [] refl event later n Counter is) [
+  | inl at ↦ absurd (never event at.0)
+  | inr less ↦ less
+]
+  where
+    either : (over : Bool) → (if over then Some Limit else None) ≡ Some Counter → ⊥
+    either true is = cc
+    either false is = cc
+
+    never : (event : Event) → refusal s esi a empty 0 event ≡ Some Counter → ⊥
+    never (Start tag) is = either (exceeds a (max 0 (length (after s esi empty (Start tag)).open_elements))) is
+    never (End name) is = cc
+
+-- memory that was refused before the first event
+pub stops_at_once : (s : Selectors) (esi : Bool) (a : Allowance) (events : List Event) → StopsFor Memory 0 (refused s esi a events)
+stops_at_once s esi a events = λ n cause first. by_cause n cause first
+  where
+    by_cause : (n : ℕ) (cause : Cause) → refused s esi a events ≡ Some (n, cause) → IsUntil cause n 0
+    by_cause n Limit first = omega arith
+    by_cause n Counter first = counter_comes_later s esi a events n first
+
+pub limits_not_at_once : (s : Selectors) (esi : Bool) (a : Allowance) (events : List Event) → StopsBeforeLimit s esi events Memory 0 (refused s esi a events)
+limits_not_at_once s esi a events = λ before later tag split runs first. inr refl
 
 -- 2. Charges
 
@@ -152,7 +207,27 @@ module _ (s : Selectors) (esi : Bool) (item_bytes : ℕ) (limiter : Limiter) (be
   abbrev allowance : Allowance
   allowance = allowance_of item_bytes limiter
 
-  pub stops_for : (cause : RunCause) → Stops cause (refusal_after s esi item_bytes limiter before event) → StopsFor cause (length before) (refused s esi allowance (before ++ event ∷ later))
+  pub stops_for : (cause : RunCause) → Stops cause s esi item_bytes limiter before event → StopsFor cause (length before) (refused s esi allowance (before ++ event ∷ later))
   stops_for MemoryLimitExceeded is = stops_at s esi allowance before fits event later Limit is
   stops_for CounterFull is = stops_at s esi allowance before fits event later Counter is
-  stops_for Memory is = λ n cause first. not_before s esi allowance before fits (event ∷ later) n cause first
+  stops_for Memory is = λ n cause first. by_first n cause (first_is s esi allowance before fits event later n cause first)
+    where
+      by_first : (n : ℕ) (cause : Cause) → ((own s esi allowance before fits event ≡ Some cause) × (n ≡ length before)) ⊎ (length before < n) → IsUntil cause n (length before)
+      by_first n Limit (inl at) = let same = at.1 in omega (arith, same)
+      by_first n Limit (inr less) = omega (arith, less)
+      by_first n Counter (inl at) = absurd (is.0 at.0)
+      by_first n Counter (inr less) = less
+
+  pub stops_before_limit : (cause : RunCause) → Stops cause s esi item_bytes limiter before event
+      → StopsBeforeLimit s esi (before ++ event ∷ later) cause (length before) (refused s esi allowance (before ++ event ∷ later))
+  stops_before_limit MemoryLimitExceeded is = tt
+  stops_before_limit CounterFull is = tt
+  stops_before_limit Memory is = λ front back tag split runs first. by_first front back tag split runs (first_is s esi allowance before fits event later (length front) Limit first)
+    where
+      by_first : (front back : List Event) (tag : StartTag) → before ++ event ∷ later ≡ front ++ Start tag ∷ back → RunsWithoutMemory s esi front tag
+          → ((own s esi allowance before fits event ≡ Some Limit) × (length front ≡ length before)) ⊎ (length before < length front)
+          → (length before < length front) ⊎ (length before ≡ 0)
+      by_first front back tag split runs (inl at) =
+          let same = parted before front later back event (Start tag) (sym at.1) split in
+          absurd (is.1 (subst (IsRunWithoutMemory s esi before) (sym same.1) (subst (λ es. RunsWithoutMemory s esi es tag) (sym same.0) runs)) at.0)
+      by_first front back tag split runs (inr less) = inl less

@@ -131,7 +131,7 @@ module _ (s : Selectors) (esi : Bool) (item_bytes : ℕ) (before : Limiter) (vm 
       let fits = stays (opens s esi events tag) tag unlimited in
       tests tag false false (grind (arith, nat_tests, position)) (grind (arith, nat_tests, fits))
 
-  pub refused_for : (cause : RunCause) (tag : StartTag) → IsRefusedFor cause s esi events tag vm now → Stops cause (refusal_after s esi item_bytes before events (Start tag))
+  pub refused_for : (cause : RunCause) (tag : StartTag) → IsRefusedFor cause s esi events tag vm now → Stops cause s esi item_bytes before events (Start tag)
   refused_for MemoryLimitExceeded tag h =
       let position = countable h.2 tag in
       let over = subst (λ b. before.maximum < before.usage + slots item_bytes (max most (length (after_start d tag b).open_elements)) * item_bytes) (sym h.0) (passes tag h.1) in
@@ -140,7 +140,24 @@ module _ (s : Selectors) (esi : Bool) (item_bytes : ℕ) (before : Limiter) (vm 
       let position = position_is s esi vm events f.stands tag in
       let full : greatest_count < (element_of d tag).position = omega (arith, position, h) in
       tests tag true _ (grind (arith, nat_tests, full)) refl
-  refused_for Memory tag h = tt
+  refused_for Memory tag h =
+      let position = countable h.0 tag in (
+        λ full. not_full (exceeds (allowance_of item_bytes before) (max most (length (after_start d tag (opens s esi events tag)).open_elements)))
+            (sym (tests tag false _ (grind (arith, nat_tests, position)) refl) ∙ full),
+        λ free over. not_over (tests tag false false (grind (arith, nat_tests, position))
+            (let fits = stays (opens s esi events tag) tag (h.1 free) in grind (arith, nat_tests, fits))) over,
+      )
+    where
+      not_full : (over : Bool) → refusal_by false over ≡ Some Counter → ⊥
+      not_full true is = cc
+      not_full false is = cc
+
+      not_over : {o : Option Cause} → o ≡ None → o ≡ Some Limit → ⊥
+      not_over none over = cc
+
+  -- where memory alone was refused, after a tag was answered
+  pub stops_answered : (event : Event) → refusal_after s esi item_bytes before events event ≡ None → Stops Memory s esi item_bytes before events event
+  stops_answered event none = (λ full. cc, λ free over. cc)
 
   -- after an event that isn't refused
   module _ (event : Event) (none : refusal_after s esi item_bytes before events event ≡ None) where

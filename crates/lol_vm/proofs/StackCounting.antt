@@ -24,7 +24,8 @@ use Rattle.lol_stack.specs.declared.stack.StackNames.{StackNames}
 use Rattle.lol_base.specs.BoolLaws.{same_bool}
 use Rattle.lol_vm.proofs.Kept.{counters_are_places}
 use Rattle.lol_vm.proofs.StackMachines.{shown_push, items_counted}
-use Rattle.lol_vm.proofs.TypedCounting.{climb_counted, shown_at_top, shown_counted, shown_elsewhere}
+use Rattle.lol_stack.specs.ClimbLaws.{climb_counted}
+use Rattle.lol_vm.proofs.TypedCounting.{shown_at_top, shown_counted, shown_elsewhere}
 
 -- 1. The last of a list
 

@@ -1,6 +1,6 @@
 -- Stacks that keep what a machine keeps.
 use Rattle.std.proofs.Common.{◌≡◌, ℕ, suc, ◌+◌, ◌-◌, ◌<◌, ◌≤◌, Bool, true, false, cond, not, List, [], ◌∷◌, ◌++◌, length, map, filter, reverse, take, drop, position, Option, Some, None, inl, inr, refl, sym, ap, ◌∙◌, subst, arith, append_assoc}
-use Rattle.std.specs.Prelude.{nat_lt, nat_le, max, if◌then◌else◌, ◌||◌}
+use Rattle.std.specs.Prelude.{nat_lt, nat_le, if◌then◌else◌, ◌||◌}
 use Rattle.std.specs.List.{drop-map, take-map}
 use Rattle.std.specs.Option.{option_map}
 use Rattle.std.proofs.lemmas.Bool.Decides.{nat_tests}
@@ -11,24 +11,27 @@ use Rattle.lol_base.specs.BoolLaws.{not_true, or-false}
 use Rattle.lol_base.specs.MemberLaws.{Among, Distinct}
 use Rattle.lol_base.specs.Names.{same_name}
 use Rattle.lol_base.specs.LocalNames.{Name, local_name}
-use Rattle.lol_memory.specs.LimitedVec.{LimitedVec, pushed}
-use Rattle.lol_memory.specs.Slots.{minimum_slots}
+use Rattle.lol_memory.specs.LimitedVec.{LimitedVec}
+use Rattle.lol_memory.specs.Slots.{slots_after}
+use Rattle.lol_memory.specs.SlotLaws.{slots_pushed}
 use Rattle.lol_program.specs.Programs.{Range}
 use Rattle.lol_program.specs.ProgramViews.{range_shown}
 use Rattle.lol_stack.specs.Active as active
 use Rattle.lol_stack.specs.Active.{activated}
 use Rattle.lol_vm.specs.Machines.{OpenItem, active_of, is_active, same_range, newly_active}
 use Rattle.lol_stack.specs.TypedCounts.{TypedCount, cut_to}
-use Rattle.lol_vm.specs.Standing.{Machine, slots_after, cut, closed_count, ended}
+use Rattle.lol_vm.specs.Standing.{Machine, cut, closed_count, ended}
+use Rattle.lol_stack.specs.TypedLaws.{levels_in}
+use Rattle.lol_stack.specs.ClimbLaws.{climb_lower, climb_cut}
 use Rattle.lol_stack.specs.Stacks.{items_in, active_in, typed_in, IsSame, IsClosed, IsEndedAt}
-use Rattle.lol_vm.specs.StackMachines.{item_shown, items_shown, children_shown, active_shown, in_lower_case, Climb, levels_in, KeepsTyped, KeepsMachine, NewStackKeeps, SameStackKeeps, OpeningStackKeeps}
+use Rattle.lol_vm.specs.StackMachines.{item_shown, items_shown, children_shown, active_shown, in_lower_case, KeepsTyped, KeepsMachine, NewStackKeeps, SameStackKeeps, OpeningStackKeeps}
 use Rattle.lol_stack.specs.declared.stack_item.StackItemOf.{StackItemOf}
 use Rattle.lol_stack.specs.declared.stack.StackOf.{StackOf}
 use Rattle.lol_stack.specs.declared.stack.StackNames.{StackNames}
 use Rattle.lol_vm.proofs.Held.{range_is}
 use Rattle.lol_vm.proofs.Kept.{active_drop}
 use Rattle.lol_vm.proofs.Runs.{drop-reverse}
-use Rattle.lol_vm.proofs.TypedLevels.{cut_to-all, climb_cut, shown_cut as typed_cut}
+use Rattle.lol_vm.proofs.TypedLevels.{cut_to-all, shown_cut as typed_cut}
 use Rattle.lol_vm.proofs.Lists.{to_distinct}
 
 -- 1. Lists, the last element first
@@ -96,11 +99,6 @@ activated_shown xs place (r ∷ rs) d =
 
 -- 3. Counters by type
 
-climb_lower : (a b : ℕ) (levels : List ℕ) → a ≤ b → Climb a levels → Climb b levels
-climb_lower a b [] h c = tt
-climb_lower a b (level ∷ []) h c = (omega (arith, c.0, h), tt)
-climb_lower a b (level ∷ next ∷ levels) h c = (c.0, climb_lower a b (next ∷ levels) h c.1)
-
 keeps_typed_above : (typed : Option (List TypedCount)) (by_type : Bool) (a b : ℕ) (counts : ℕ → List ℕ → ℕ) → a ≤ b → KeepsTyped typed by_type a counts → KeepsTyped typed by_type b counts
 keeps_typed_above None by_type a b counts h keeps = keeps
 keeps_typed_above (Some ts) by_type a b counts h keeps = (keeps.0, climb_lower a b (levels_in ts) h keeps.1, keeps.2)
@@ -137,13 +135,6 @@ module _ {E : Type 0} where
     slots = keeps.slots ∙ sym (ap (λ (v : LimitedVec (StackItemOf Name E)). v.slots) same.items);
   }
 
-  grown_slots_are : (v : LimitedVec (StackItemOf Name E)) (item : StackItemOf Name E) → slots_after v.item_bytes v.slots (length v.items) ≡ (pushed v item).slots
-  grown_slots_are v item = by_test (nat_lt (length v.items) v.slots)
-    where
-      by_test : (b : Bool) → cond b v.slots (v.slots + max v.slots (minimum_slots v.item_bytes)) ≡ v.slots + cond b 0 (max v.slots (minimum_slots v.item_bytes))
-      by_test true = omega arith
-      by_test false = refl
-
   pub opening_stack_keeps : OpeningStackKeeps E
   opening_stack_keeps old new m item name context keeps push is =
       let items : items_in new ≡ items_in old ++ item ∷ [] = ap (λ (v : LimitedVec (StackItemOf Name E)). v.items) push.items in
@@ -159,7 +150,7 @@ module _ {E : Type 0} where
             ∙ (sym (shown_push (λ (x : StackItemOf Name E). x.child_counter) (items_in old) item) ∙ sym (ap children_shown items));
         typed = subst (λ typed. KeepsTyped typed m.program.by_type (suc (length m.items)) m.typed) (sym push.typed) (keeps_typed_above (typed_in old) m.program.by_type (length m.items) (suc (length m.items)) m.typed (omega arith) keeps.typed);
         item_bytes = keeps.item_bytes ∙ sym (ap (λ (v : LimitedVec (StackItemOf Name E)). v.item_bytes) push.items);
-        slots = (λ i. slots_after (keeps.item_bytes i) (keeps.slots i) (count i)) ∙ (grown_slots_are old.items item ∙ sym (ap (λ (v : LimitedVec (StackItemOf Name E)). v.slots) push.items));
+        slots = (λ i. slots_after (keeps.item_bytes i) (keeps.slots i) (count i)) ∙ (sym (slots_pushed old.items item) ∙ sym (ap (λ (v : LimitedVec (StackItemOf Name E)). v.slots) push.items));
       }
 
 -- 5. Closing

@@ -19,7 +19,7 @@ use Rattle.lol_stack.specs.declared.execution_ctx.ExecutionCtx.{ExecutionCtx}
 use Rattle.lol_stack.specs.declared.stack.StackNames.{StackNames}
 use Rattle.lol_stack.specs.declared.stack.StackOf.{StackOf}
 use Rattle.lol_vm.specs.Events.{Event, has_content}
-use Rattle.lol_vm.specs.InstructionRuns.{HaveSmallIds, ranges_in}
+use Rattle.lol_vm.specs.InstructionRuns.{NeedNoMemory, ranges_in}
 use Rattle.lol_vm.specs.TagRuns.{AreTried, IsPointIn, jumps_in, ranges_to_run_in, sight_in, stop_found}
 use Rattle.lol_vm.specs.TriedStarts.{IsTried, IsTriedAs, IsTriedByName}
 use Rattle.lol_vm.specs.Vms.{Vm, Stands, IsTagOf, IsAnswered, IsReported, IsTriedAtMost, IsPending, IsEntered}
@@ -143,6 +143,10 @@ module _ {E R : Type 0} (ids : E → Ids) (with_ids : E → Ids → E) (lends : 
           ctx.stack_item.local_name item.name t.within
       by_namespace false h = none_tried s esi events tag before last (same ∙ ap (λ (v : Vm E). v.tries) h.2) no_names no_attributes
 
-  -- where it takes no memory it isn't refused
-  pub never_refused : is_html tag.namespace ≡ true → has_content esi tag ≡ false → HaveSmallIds vm.program.instructions.items → IsOk result
-  never_refused html closed small = (of_html html).free (opens_is ∙ closed) small
+  -- where it needs no memory it isn't refused
+  pub never_refused : NeedNoMemory (has_content esi tag) vm.program.instructions.items → IsOk result
+  never_refused free = by_namespace (is_html tag.namespace) is_tried
+    where
+      by_namespace : (html : Bool) → IsTriedAs ids with_ids start new ctx next result html opens → IsOk result
+      by_namespace true t = t.free (subst (λ b. NeedNoMemory b vm.program.instructions.items) (sym opens_is) free)
+      by_namespace false t = subst (λ r. IsOk r) (sym t.0) refl

@@ -1,18 +1,18 @@
 -- One more child counted by type.
-use Rattle.std.proofs.Common.{◌≡◌, ℕ, ◌+◌, ◌<◌, ◌≤◌, Bool, true, false, cond, List, [], ◌∷◌, ◌++◌, map, Some, None, ◌⊎◌, inl, inr, refl, sym, ap, ◌∙◌, subst, arith}
+use Rattle.std.proofs.Common.{◌≡◌, ℕ, ◌+◌, ◌<◌, Bool, true, false, cond, List, [], ◌∷◌, ◌++◌, map, Some, None, ◌⊎◌, inl, inr, refl, sym, ap, ◌∙◌, subst, arith}
 use Rattle.std.specs.Prelude.{nat_lt, ◌&&◌, ◌||◌, unwrap_or, if◌then◌else◌}
 use Rattle.std.specs.List.{list_any, list_all, filter}
 use Rattle.std.proofs.lemmas.Bool.Decides.{Decides-eqb}
-use Rattle.std.proofs.lemmas.List.{map-append}
 use Rattle.lol_base.specs.LocalNames.{Name, same_local_name}
-use Rattle.lol_base.specs.MemberLaws.{map-map}
 use Rattle.lol_instructions.specs.Counters.{full_count}
 use Rattle.lol_stack.specs.Levels.{one_more, is_at_level, count_if_at, counted_at_last}
-use Rattle.lol_stack.specs.TypedCounts.{TypedCount, key_of, is_of, level_of, levels_of, last_counted, counted_by_type, all_above, cut_to}
-use Rattle.lol_vm.specs.StackMachines.{levels_in, first_or, Climb, typed_shown}
+use Rattle.lol_stack.specs.TypedCounts.{TypedCount, is_of, level_of, levels_of, last_counted, counted_by_type, all_above, cut_to}
+use Rattle.lol_stack.specs.TypedLaws.{levels_in, Climb}
+use Rattle.lol_stack.specs.ClimbLaws.{started, levels_again, levels_first, same_levels, climb_above, climb_counted}
+use Rattle.lol_vm.specs.StackMachines.{typed_shown}
 use Rattle.lol_stack.specs.LevelLaws.{count_if_at-append, same_level, one_more-free}
-use Rattle.lol_stack.specs.TypedListLaws.{levels_of-same, keys-last_counted, levels-last_counted, levels-started, cut_to-above}
-use Rattle.lol_vm.proofs.TypedLevels.{climb_above, cut_to-all, shown_above}
+use Rattle.lol_stack.specs.TypedListLaws.{levels_of-same, cut_to-above}
+use Rattle.lol_vm.proofs.TypedLevels.{cut_to-all, shown_above}
 
 -- 1. The levels of one name
 
@@ -31,42 +31,7 @@ counted_again level (x ∷ y ∷ xs) h = past x y xs ∙ counted_again level (y 
     past x y [] = refl
     past x y (z ∷ xs) = refl
 
-abbrev started : ℕ → Name → TypedCount
-started level name = record { level = level; name = name; count = 1 }
-
--- the levels of each name after one more is counted
-levels_again : (ts : List TypedCount) (name q : Name) → levels_of q (last_counted ts name) ≡ (if same_local_name name q then counted_at_last (levels_of q ts) else levels_of q ts)
-levels_again ts name q =
-    sym (levels-last_counted ts name (λ r. levels_of r ts) (λ r. if same_local_name name r then counted_at_last (levels_of r ts) else levels_of r ts) (λ r. refl) (λ r. refl) q)
-
-levels_first : (ts : List TypedCount) (level : ℕ) (name q : Name) → levels_of q (ts ++ started level name ∷ []) ≡ (if same_local_name name q then levels_of q ts ++ (level, 1) ∷ [] else levels_of q ts)
-levels_first ts level name q =
-    sym (levels-started ts (started level name) (λ r. levels_of r ts) (λ r. if same_local_name name r then levels_of r ts ++ (level, 1) ∷ [] else levels_of r ts) (λ r. refl) (λ r. refl) q)
-
--- 2. Levels stay in order
-
-levels_by_keys : (ts : List TypedCount) → map (λ (k : ℕ × Name). k.0) (map key_of ts) ≡ levels_in ts
-levels_by_keys ts = map-map (λ (k : ℕ × Name). k.0) key_of ts
-
-same_levels : (ts : List TypedCount) (name : Name) → levels_in (last_counted ts name) ≡ levels_in ts
-same_levels ts name = sym (levels_by_keys (last_counted ts name)) ∙ (ap (map (λ (k : ℕ × Name). k.0)) (keys-last_counted ts name) ∙ levels_by_keys ts)
-
-first_push : (top : ℕ) (levels : List ℕ) → first_or top (levels ++ top ∷ []) ≡ first_or top levels
-first_push top [] = refl
-first_push top (level ∷ levels) = refl
-
-climb_push : (top : ℕ) (levels : List ℕ) → Climb top levels → Climb top (levels ++ top ∷ [])
-climb_push top [] c = (omega arith, tt)
-climb_push top (level ∷ levels) c = (subst (λ n. level ≤ n) (sym (first_push top levels)) c.0, climb_push top levels c.1)
-
-pub climb_counted : (top : ℕ) (ts : List TypedCount) (name : Name) → Climb top (levels_in ts) → Climb top (levels_in (counted_by_type ts top name))
-climb_counted top ts name c = by_test (is_at_level top (levels_of name ts))
-  where
-    by_test : (b : Bool) → Climb top (levels_in (if b then last_counted ts name else ts ++ started top name ∷ []))
-    by_test true = subst (Climb top) (sym (same_levels ts name)) c
-    by_test false = subst (Climb top) (sym (map-append (λ (t : TypedCount). t.level) ts (started top name ∷ []))) (climb_push top (levels_in ts) c)
-
--- 3. Levels below
+-- 2. Levels below
 
 above_by_levels : (level : ℕ) (ts : List TypedCount) → all_above level ts ≡ list_all (λ n. nat_lt level n) (levels_in ts)
 above_by_levels level [] = refl
@@ -140,7 +105,7 @@ cut_counted top level ts name c below = by_test (is_at_level top (levels_of name
     by_test true at = cut_again top level ts name c below at
     by_test false at = cut_to-above level ts (started top name) below
 
--- 4. The level of the child
+-- 3. The level of the child
 
 abbrev count_in : List TypedCount → ℕ → Name → ℕ
 count_in ts level q = unwrap_or (count_if_at level (levels_of q ts)) 0

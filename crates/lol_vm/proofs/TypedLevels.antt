@@ -6,33 +6,18 @@ use Rattle.lol_base.specs.LocalNames.{Name}
 use Rattle.lol_base.specs.MemberLaws.{Among}
 use Rattle.lol_stack.specs.Levels.{count_if_at}
 use Rattle.lol_stack.specs.TypedCounts.{TypedCount, is_of, level_of, levels_of, count_at, all_above, cut_to}
-use Rattle.lol_vm.specs.StackMachines.{levels_in, first_or, Climb, typed_shown}
+use Rattle.lol_stack.specs.TypedLaws.{levels_in, Climb}
+use Rattle.lol_stack.specs.ClimbLaws.{climb_top, is_above, not_above, climb_cut}
+use Rattle.lol_vm.specs.StackMachines.{typed_shown}
 use Rattle.lol_stack.specs.LevelLaws.{other_level}
 use Rattle.lol_vm.proofs.Lists.{among_map, among_filter}
 
 -- 1. Levels that don't fall
 
-climb_top : (top level : ℕ) (levels : List ℕ) → Climb top (level ∷ levels) → level ≤ top
-climb_top top level [] c = c.0
-climb_top top level (next ∷ levels) c = let below = climb_top top next levels c.1 in omega (arith, c.0, below)
-
 climb_member : (top : ℕ) (ts : List TypedCount) (t : TypedCount) → Climb top (levels_in ts) → Among ts t → t.level ≤ top
 climb_member top [] t c a = absurd a
 climb_member top (u ∷ ts) t c (inl is) = let own = climb_top top u.level (levels_in ts) c in omega (arith, own, ap (λ (x : TypedCount). x.level) is)
 climb_member top (u ∷ ts) t c (inr a) = climb_member top ts t c.1 a
-
-is_above : (level n : ℕ) → level < n → nat_lt level n ≡ true
-is_above level n h = (Decides-ltb level n).1 h
-
-not_above : (level n : ℕ) → n ≤ level → nat_lt level n ≡ false
-not_above level n h = grind (arith, nat_tests)
-
--- above a level from one counter on
-pub climb_above : (top level : ℕ) (t : TypedCount) (ts : List TypedCount) → Climb top (levels_in (t ∷ ts)) → level < t.level → all_above level (t ∷ ts) ≡ true
-climb_above top level t [] c h = ap (λ b. b && true) (is_above level t.level h)
-climb_above top level t (u ∷ ts) c h =
-    let next = c.0 in
-    (λ i. is_above level t.level h i && climb_above top level u ts c.1 (omega (arith, next, h)) i)
 
 -- 2. Counters that are dropped
 
@@ -66,25 +51,6 @@ cut_to-cut level place (t ∷ ts) h = by_test (all_above place (t ∷ ts)) refl 
     by_test : (b : Bool) → all_above place (t ∷ ts) ≡ b → cut_to level (cut_to place ts) ≡ cut_to level ts → cut_to level (if b then [] else t ∷ cut_to place ts) ≡ cut_to level (t ∷ ts)
     by_test true is later = sym (ap (λ b. if b then [] else t ∷ cut_to level ts) (above_lower level place (t ∷ ts) h is))
     by_test false is later = λ i. if (nat_lt level t.level && above_cut level place ts h i) then [] else t ∷ later i
-
-first_cut : (top place low : ℕ) (ts : List TypedCount) → low ≤ place → low ≤ first_or top (levels_in ts) → low ≤ first_or place (levels_in (cut_to place ts))
-first_cut top place low [] h first = h
-first_cut top place low (t ∷ ts) h first = by_test (all_above place (t ∷ ts))
-  where
-    by_test : (b : Bool) → low ≤ first_or place (levels_in (if b then [] else t ∷ cut_to place ts))
-    by_test true = h
-    by_test false = first
-
-pub climb_cut : (top place : ℕ) (ts : List TypedCount) → Climb top (levels_in ts) → Climb place (levels_in (cut_to place ts))
-climb_cut top place [] c = tt
-climb_cut top place (t ∷ ts) c = by_test (all_above place (t ∷ ts)) refl (climb_cut top place ts c.1) (nat_lt place t.level) refl
-  where
-    by_test : (b : Bool) → all_above place (t ∷ ts) ≡ b → Climb place (levels_in (cut_to place ts)) → (above : Bool) → nat_lt place t.level ≡ above → Climb place (levels_in (if b then [] else t ∷ cut_to place ts))
-    by_test true is later above at = tt
-    by_test false is later true at = let all = climb_above top place t ts c ((Decides-ltb place t.level).0 at) in cc
-    by_test false is later false at =
-        let within : t.level ≤ place = grind (arith, nat_tests) in
-        (first_cut top place t.level ts within c.0, later)
 
 -- 3. What is counted at a level above
 

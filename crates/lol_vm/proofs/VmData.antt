@@ -1,14 +1,13 @@
 -- Machines with other data of their last element.
 use Rattle.std.proofs.Common.{◌≡◌, ℕ, suc, zero, ◌+◌, ◌-◌, List, [], ◌∷◌, ◌++◌, length, map, Option, Some, None, refl, sym, ap, subst, ◌∙◌, arith}
-use Rattle.std.specs.Prelude.{reverse, slice_get, slice_set, if◌then◌else◌}
+use Rattle.std.specs.Prelude.{reverse, slice_get, slice_set}
 use Rattle.std.specs.Option.{option_map}
 use Rattle.std.proofs.lemmas.List.{length-append, length-map}
-use Rattle.lol_base.specs.LocalNames.{Name, same_local_name}
+use Rattle.lol_base.specs.LocalNames.{Name}
 use Rattle.lol_memory.specs.Slots.{slots}
 use Rattle.lol_vm.specs.Refusals.{longest}
-use Rattle.lol_stack.specs.Active.{active_ranges_of}
 use Rattle.lol_stack.specs.Lending.{with_data}
-use Rattle.lol_stack.specs.SoundStacks.{IsSound, name_places_from}
+use Rattle.lol_stack.specs.SoundLaws.{set_keeps, data_keep_sound}
 use Rattle.lol_stack.specs.StackLending.{with_current, with_data_at, with_data_if}
 use Rattle.lol_vm.specs.VmLending.{with_current_in}
 use Rattle.lol_vm.specs.StackMachines.{KeepsMachine, item_shown}
@@ -31,20 +30,6 @@ module _ {E : Type 0} (w : E) where
   same_item : (x : StackItemOf Name E) (xs : List (StackItemOf Name E)) (k : ℕ) (item : StackItemOf Name E) → slice_get (x ∷ xs) zero ≡ Some item → x ≡ item
   same_item x xs k item at = cc
 
-  -- what doesn't look at the data stays
-  map_set : {B : Type 0} (f : StackItemOf Name E → B) → ((item : StackItemOf Name E) → f (with_data item w) ≡ f item)
-      → (xs : List (StackItemOf Name E)) (k : ℕ) (item : StackItemOf Name E) → slice_get xs k ≡ Some item → map f (slice_set xs k (with_data item w)) ≡ map f xs
-  map_set f same [] k item at = refl
-  map_set f same (x ∷ xs) zero item at = ap (λ y. y ∷ map f xs) (same item ∙ ap f (sym (same_item x xs zero item at)))
-  map_set f same (x ∷ xs) (suc k) item at = ap (λ ys. f x ∷ ys) (map_set f same xs k item at)
-
-  places_set : (place : ℕ) (xs : List (StackItemOf Name E)) (k : ℕ) (item : StackItemOf Name E) (name : Name) → slice_get xs k ≡ Some item → name_places_from place (slice_set xs k (with_data item w)) name ≡ name_places_from place xs name
-  places_set place [] k item name at = refl
-  places_set place (x ∷ xs) zero item name at =
-      ap (λ (y : StackItemOf Name E). if same_local_name y.local_name name then place ∷ name_places_from (place + 1) xs name else name_places_from (place + 1) xs name) (sym (same_item x xs zero item at))
-  places_set place (x ∷ xs) (suc k) item name at =
-      ap (λ ps. if same_local_name x.local_name name then place ∷ ps else ps) (places_set (place + 1) xs k item name at)
-
   module _ (s : StackOf Name StackNames E) where
     abbrev changed : Option (StackItemOf Name E) → List (StackItemOf Name E)
     changed o = with_data_if (items_in s) (length (items_in s) - 1) w o
@@ -52,13 +37,10 @@ module _ {E : Type 0} (w : E) where
     abbrev At : Option (StackItemOf Name E) → Type 0
     At o = slice_get (items_in s) (length (items_in s) - 1) ≡ o
 
+    -- what doesn't look at the data stays
     same_map : {B : Type 0} (f : StackItemOf Name E → B) → ((item : StackItemOf Name E) → f (with_data item w) ≡ f item) → (o : Option (StackItemOf Name E)) → At o → map f (changed o) ≡ map f (items_in s)
     same_map f same None at = refl
-    same_map f same (Some item) at = map_set f same (items_in s) (length (items_in s) - 1) item at
-
-    same_places : (name : Name) (o : Option (StackItemOf Name E)) → At o → name_places_from 0 (changed o) name ≡ name_places_from 0 (items_in s) name
-    same_places name None at = refl
-    same_places name (Some item) at = places_set 0 (items_in s) (length (items_in s) - 1) item name at
+    same_map f same (Some item) at = set_keeps f (items_in s) (length (items_in s) - 1) item (with_data item w) at (same item)
 
     abbrev last : Option (StackItemOf Name E)
     last = slice_get (items_in s) (length (items_in s) - 1)
@@ -72,12 +54,6 @@ module _ {E : Type 0} (w : E) where
       typed = k.typed;
       item_bytes = k.item_bytes;
       slots = k.slots;
-    }
-
-    sound_data : IsSound s → IsSound (with_current s w)
-    sound_data h = record {
-      active = h.active ∙ sym (ap active_ranges_of (same_map (λ (x : StackItemOf Name E). x.hereditary_jumps) (λ item. refl) last refl));
-      places = λ name. h.places name ∙ sym (same_places name last refl);
     }
 
   -- what looks at one element, and not at its data
@@ -115,7 +91,7 @@ module _ {E : Type 0} (w : E) where
     }
 
   shows_data : (vm : Vm E) (m : Machine) → Shows vm m → Shows (with_current_in vm w) m
-  shows_data vm m h = record { stack = keeps_data vm.stack m h.stack; sound = sound_data vm.stack h.sound; program = h.program; switch = h.switch; refused = h.refused }
+  shows_data vm m h = record { stack = keeps_data vm.stack m h.stack; sound = data_keep_sound vm.stack w h.sound; program = h.program; switch = h.switch; refused = h.refused }
 
 pub data_change_nothing : {E : Type 0} → DataChangeNothing E
 data_change_nothing s esi vm events w h = record { paths = h.paths; machine = h.machine; closed = h.closed; shows = shows_data w vm h.machine h.shows; standing = h.standing }

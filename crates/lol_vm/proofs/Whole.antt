@@ -1,14 +1,22 @@
 -- Machines over all events.
-use Rattle.std.proofs.Common.{Bool, List, [], ◌∷◌, ◌++◌, reverse, sym, ap, ◌∙◌, subst, append_assoc}
+use Rattle.std.proofs.Common.{◌≡◌, ◌+◌, ◌≤◌, Bool, true, false, cond, List, [], ◌∷◌, ◌++◌, reverse, sym, ap, ◌∙◌, subst, append_assoc, arith}
+use Rattle.std.specs.Prelude.{◌&&◌, count_by}
+use Rattle.std.proofs.lemmas.List.Sums.{count_by-le-length}
+use Rattle.lol_base.specs.MemberLaws.{count_by-cons}
+use Rattle.lol_instructions.specs.Compounds.{by_names, is_open}
 use Rattle.std.proofs.lemmas.List.{append-nil, reverse-append, length-reverse}
-use Rattle.lol_program.specs.Paths.{Path, Selectors}
-use Rattle.lol_program.specs.Programs.{AreClosed}
+use Rattle.lol_program.specs.Paths.{Path, Selectors, last_compound}
+use Rattle.lol_program.specs.Programs.{AreClosed, IsProgramOf}
 use Rattle.lol_vm.specs.Events.{Event}
 use Rattle.lol_vm.specs.Documents.{empty}
 use Rattle.lol_vm.specs.Answers.{document}
-use Rattle.lol_vm.specs.Machines.{active_of, newly_active, PushedItemsAreActive}
+use Rattle.lol_vm.specs.Matching.{left_matches}
+use Rattle.lol_vm.specs.Machines.{HoldOnce, LeftMatches, active_of, newly_active, ranges_to_run, PushedItemsAreActive}
 use Rattle.lol_vm.specs.Standing.{Machine, StandsFor, new_machine, machine_after, machine_from, MachinesStand}
 use Rattle.lol_vm.proofs.Runs.{document_push}
+use Rattle.lol_vm.specs.VmLaws.{RangesHoldOnce, TriesAreFew}
+use Rattle.lol_vm.proofs.Held.{ranges_hold_left_matches}
+use Rattle.lol_vm.proofs.Starts.{ranges_shown}
 use Rattle.lol_vm.proofs.Kept.{new_stands, standing_is_kept}
 
 module _ (s : Selectors) (esi : Bool) (paths : List Path) (closed : AreClosed s) where
@@ -28,3 +36,32 @@ pub pushed_items_are_active : PushedItemsAreActive
 pushed_items_are_active items item =
     ap active_of (reverse-append items (item ∷ []))
     ∙ ap (λ place. active_of (reverse items) ++ newly_active (active_of (reverse items)) place item.hereditary_jumps) (length-reverse items)
+
+-- what the code's machine is about to run
+pub ranges_hold_once : {E : Type 0} → RangesHoldOnce E
+ranges_hold_once s esi vm events h =
+    let m = h.machine in
+    let outer = (document s esi events).open_elements in
+    let held = ranges_hold_left_matches s h.paths m.program m.items outer h.closed h.standing.program h.standing.items in
+    let now = subst (λ active. HoldOnce h.paths (ranges_to_run m.program m.items active) (LeftMatches outer)) (sym h.standing.active) held in
+    record {
+      paths = h.paths;
+      program = subst (IsProgramOf s h.paths) h.shows.program h.standing.program;
+      held = subst (λ ranges. HoldOnce h.paths ranges (LeftMatches outer)) (sym (ranges_shown vm.stack m vm.program h.shows.stack h.shows.program)) now;
+    }
+
+fewer : {A : Type 0} (p q : A → Bool) (xs : List A) → count_by (λ x. p x && q x) xs ≤ count_by p xs
+fewer p q [] = omega arith
+fewer p q (x ∷ xs) = by_tests (p x) (q x) (fewer p q xs) (count_by-cons (λ x. p x && q x) x xs) (count_by-cons p x xs)
+  where
+    by_tests : (a b : Bool) → count_by (λ x. p x && q x) xs ≤ count_by p xs → count_by (λ x. p x && q x) (x ∷ xs) ≡ cond (a && b) 1 0 + count_by (λ x. p x && q x) xs → count_by p (x ∷ xs) ≡ cond a 1 0 + count_by p xs
+        → count_by (λ x. p x && q x) (x ∷ xs) ≤ count_by p (x ∷ xs)
+    by_tests true true rest both one = omega (arith, both, one, rest)
+    by_tests true false rest both one = omega (arith, both, one, rest)
+    by_tests false b rest both one = omega (arith, both, one, rest)
+
+pub tries_are_few : TriesAreFew
+tries_are_few s e outer = (
+  fewer (λ node. left_matches node outer) (λ node. is_open (by_names (last_compound node) e)) s.nodes,
+  count_by-le-length (λ node. left_matches node outer) s.nodes,
+)

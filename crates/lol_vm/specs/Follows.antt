@@ -10,7 +10,8 @@ use Rattle.lol_instructions.specs.Counters.{full_count}
 use Rattle.lol_program.specs.Paths.{Selectors}
 use Rattle.lol_vm.specs.Answers.{document, answer, is_dropped}
 use Rattle.lol_vm.specs.Documents.{element_of, children_of}
-use Rattle.lol_vm.specs.Events.{Event, Start, has_content}
+use Rattle.lol_vm.specs.Events.{Event, Start, End, has_content}
+use Rattle.lol_vm.specs.FreeTags.{RunsWithoutMemory}
 use Rattle.lol_vm.specs.Refusals.{Cause, Limit, Counter, refusal, refused, longest, greatest_count}
 use Rattle.lol_vm.specs.RunRefusals.{allowance_of}
 use Rattle.lol_stack.specs.Stacks.{list_in, last_count}
@@ -52,7 +53,8 @@ module _ {E : Type 0} where
   IsRefusedFor MemoryLimitExceeded s esi events tag vm now =
       (opens s esi events tag ≡ true) × IsLimited (list_in (stack_in vm)) now × (last_count (stack_in vm) ≡ full_count → ⊥)
   IsRefusedFor CounterFull s esi events tag vm now = last_count (stack_in vm) ≡ full_count
-  IsRefusedFor Memory s esi events tag vm now = Unit {0}
+  IsRefusedFor Memory s esi events tag vm now =
+      (last_count (stack_in vm) ≡ full_count → ⊥) × (RunsWithoutMemory s esi events tag → opens s esi events tag ≡ true → IsLimited (list_in (stack_in vm)) now → ⊥)
 
 -- 2. A run
 
@@ -81,8 +83,17 @@ pub record Goes (s : Selectors) (esi : Bool) (item_bytes : ℕ) (before : Limite
 abbrev pub refusal_after : Selectors → Bool → ℕ → Limiter → List Event → Event → Option Cause
 refusal_after s esi item_bytes before events event = refusal s esi (allowance_of item_bytes before) (document s esi events) (longest s esi events) event
 
--- why an event stops a run
-abbrev pub Stops : RunCause → Option Cause → Type 0
-Stops MemoryLimitExceeded refusal = refusal ≡ Some Limit
-Stops CounterFull refusal = refusal ≡ Some Counter
-Stops Memory refusal = Unit {0}
+-- a start tag that is run without memory
+abbrev pub IsRunWithoutMemory : Selectors → Bool → List Event → Event → Type 0
+IsRunWithoutMemory s esi events (Start tag) = RunsWithoutMemory s esi events tag
+IsRunWithoutMemory s esi events (End name) = ⊥
+
+-- Why an event stops a run, whose refusal the definition says: memory stops it at no full counter, nor at a due limit where the event is
+-- run without memory.
+abbrev pub StopsAt : RunCause → Type 0 → Option Cause → Type 0
+StopsAt MemoryLimitExceeded free refusal = refusal ≡ Some Limit
+StopsAt CounterFull free refusal = refusal ≡ Some Counter
+StopsAt Memory free refusal = (refusal ≡ Some Counter → ⊥) × (free → refusal ≡ Some Limit → ⊥)
+
+abbrev pub Stops : RunCause → Selectors → Bool → ℕ → Limiter → List Event → Event → Type 0
+Stops cause s esi item_bytes before events event = StopsAt cause (IsRunWithoutMemory s esi events event) (refusal_after s esi item_bytes before events event)

@@ -2,7 +2,7 @@
 use Rattle.std.specs.Prelude.{ℕ, ◌+◌, Bool, true, false, if◌then◌else◌, ◌≤◌, List, [], ◌∷◌, take, drop, map, get_or, length, All, flat_map, ◌<◌, ◌^◌, count_by, Option, Some, None}
 use Rattle.std.specs.List.{slice_range}
 use Rattle.std.specs.declared.ops.Range.{Range}
-use Rattle.lol_memory.specs.Ids.{Ids, AllSmall}
+use Rattle.lol_memory.specs.Ids.{Ids}
 use Rattle.lol_instructions.specs.Attributes.{TagAttributes}
 use Rattle.lol_instructions.specs.Compiled.{Sight, predicate_value, predicate_holds}
 use Rattle.lol_instructions.specs.Compounds.{is_open}
@@ -12,7 +12,7 @@ use Rattle.lol_instructions.specs.declared.instruction.Instruction.{Instruction}
 use Rattle.lol_instructions.specs.declared.name_value.NameValue.{NameValue}
 use Rattle.lol_instructions.specs.declared.name_value.NameValue.TheVariants.{True, False, Open}
 use Rattle.lol_vm.specs.declared.instruction_runs.Stop.{Stop}
-use Rattle.lol_stack.specs.Contexts.{with_branch}
+use Rattle.lol_stack.specs.Contexts.{with_branch, NeedsNoMemory}
 use Rattle.lol_stack.specs.WithRange.{no_range}
 use Rattle.lol_stack.specs.declared.execution_ctx.ExecutionCtx.{ExecutionCtx}
 
@@ -71,9 +71,9 @@ abbrev pub place_in : List Instruction → List (Range ℕ) → Option Stop → 
 place_in instructions ranges None = None
 place_in instructions ranges (Some stop) = Some (length (all_at instructions (take stop.range ranges)) + stop.offset)
 
--- each id that the instructions give is below 32
-abbrev pub HaveSmallIds : List Instruction → Type 0
-HaveSmallIds instructions = All (λ i. AllSmall i.associated_branch.matched_ids) instructions
+-- what each of the instructions gives needs no memory
+abbrev pub NeedNoMemory : Bool → List Instruction → Type 0
+NeedNoMemory content instructions = All (λ i. NeedsNoMemory content i.associated_branch) instructions
 
 -- the range and the instruction of a stop are there
 abbrev pub IsStopIn : List Instruction → List (Range ℕ) → Stop → Type 0

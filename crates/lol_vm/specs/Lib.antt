@@ -15,6 +15,7 @@ pub mod Collecting
 pub mod Follows
 pub mod Handlers
 pub mod FreeTags
+pub mod Due
 pub mod VmLaws
 pub mod InstructionRuns
 pub mod Laws

@@ -1,5 +1,5 @@
 -- When a stack keeps what a machine keeps of the open elements.
-use Rattle.std.specs.Prelude.{ℕ, ◌<◌, ◌≤◌, ◌≡◌, Bool, true, false, if◌then◌else◌, List, [], ◌∷◌, map, reverse, length, Option, Some, None, unwrap_or}
+use Rattle.std.specs.Prelude.{ℕ, ◌<◌, ◌≤◌, ◌≡◌, Bool, true, false, if◌then◌else◌, List, [], map, reverse, length, Option, Some, None, unwrap_or}
 use Rattle.std.specs.Option.{option_copied}
 use Rattle.std.specs.declared.ops.Range as std
 use Rattle.lol_base.specs.Names.{lowercased}
@@ -16,6 +16,7 @@ use Rattle.lol_vm.specs.PlaceRuns.{Context}
 use Rattle.lol_vm.specs.Standing.{Machine, AreCounted, new_machine, counted, opened, ended}
 use Rattle.lol_vm.specs.Standing as standing
 use Rattle.lol_stack.specs.TypedCounts.{TypedCount, count_at, cut_to}
+use Rattle.lol_stack.specs.TypedLaws.{levels_in, Climb}
 use Rattle.lol_stack.specs.Stacks.{items_in, slots_in, active_in, typed_in, last_count, typed_count, counted_in, root_count, item_bytes_in, list_in, IsSame, IsPushed, IsEnded}
 use Rattle.lol_stack.specs.SoundStacks.{IsSound}
 use Rattle.lol_stack.specs.declared.stack_item.StackItemOf.{StackItemOf}
@@ -45,18 +46,6 @@ abbrev pub in_lower_case : OpenItem → OpenItem
 in_lower_case item = record { name = lowercased item.name; jumps = item.jumps; hereditary_jumps = item.hereditary_jumps }
 
 -- 2. Counts by type
-
-abbrev pub levels_in : List TypedCount → List ℕ
-levels_in ts = map (λ t. t.level) ts
-
-abbrev pub first_or : ℕ → List ℕ → ℕ
-first_or top [] = top
-first_or top (level ∷ levels) = level
-
--- levels that don't fall, none above the top
-abbrev pub Climb : ℕ → List ℕ → Type 0
-Climb top [] = Unit {0}
-Climb top (level ∷ levels) = (level ≤ first_or top levels) × Climb top levels
 
 -- what was counted of a name at a level: by its last counter, once those above the level are dropped
 abbrev pub typed_shown : List TypedCount → ℕ → Name → ℕ

@@ -2,7 +2,7 @@
 use Rattle.std.specs.Prelude.{ℕ, suc, ◌+◌, ◌≡◌, ◌≤◌, ◌<◌, ◌&&◌, ◌||◌, count_by, ◌==◌, not, Bool, true, false, if◌then◌else◌, nat_lt, nat_le, max, List, [], ◌∷◌, ◌++◌, map, filter, drop, take, reverse, length, position, Option, Some, None}
 use Rattle.lol_base.specs.Names.{same_name}
 use Rattle.lol_base.specs.StartTags.{StartTag}
-use Rattle.lol_memory.specs.Slots.{slots, minimum_slots}
+use Rattle.lol_memory.specs.Slots.{slots, slots_after}
 use Rattle.lol_instructions.specs.Tests.{Element, is_html}
 use Rattle.lol_program.specs.Paths.{Path, Selectors}
 use Rattle.lol_vm.specs.Events.{Event, Start, End, has_content}
@@ -87,10 +87,6 @@ counted m name =
       children = counted_last m.children;
       typed = counted_typed m.typed (length m.items) name;
     }
-
--- the slots after one more item is pushed
-abbrev pub slots_after : ℕ → ℕ → ℕ → ℕ
-slots_after item_bytes slots items = if nat_lt items slots then slots else slots + max slots (minimum_slots item_bytes)
 
 -- an element is opened, with what it gathered
 abbrev pub opened : Machine → List ℕ → Context → Machine

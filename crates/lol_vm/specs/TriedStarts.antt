@@ -7,7 +7,7 @@ use Rattle.lol_instructions.specs.Tries.{attributes_counted}
 use Rattle.lol_stack.specs.Stacks.{active_in}
 use Rattle.lol_stack.specs.declared.execution_ctx.ExecutionCtx.{ExecutionCtx}
 use Rattle.lol_vm.specs.Events.{has_content}
-use Rattle.lol_vm.specs.InstructionRuns.{AreRunnable, HaveSmallIds, ranges_in}
+use Rattle.lol_vm.specs.InstructionRuns.{AreRunnable, NeedNoMemory, ranges_in}
 use Rattle.lol_vm.specs.TagRuns.{AreTried, AreWithin, IsPointIn, jumps_in, sight_in, stop_found}
 use Rattle.lol_vm.specs.Vms.{Vm, instructions_in, ranges_to_try}
 use Rattle.lol_vm.specs.declared.tag_runs.RecoveryPoint.{RecoveryPoint}
@@ -25,7 +25,7 @@ module _ {E R : Type 0} (ids : E → Ids) (with_ids : E → Ids → E) (old new 
     pub attributes : attributes_counted new.tries ≡ attributes_counted old.tries
     pub within : AreRunnable (instructions_in old) (ranges_to_try old) old.tries
         → AreWithin (sight_in old.stack ctx.stack_item.local_name) (instructions_in old) (ranges_to_try old) old.tries new.tries 0
-    pub free : content ≡ false → HaveSmallIds (instructions_in old) → IsOk result
+    pub free : NeedNoMemory content (instructions_in old) → IsOk result
 
   -- a tag that isn't of HTML needs its attributes at once
   abbrev pub IsTriedAs : Bool → Bool → Type 0

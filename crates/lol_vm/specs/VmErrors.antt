@@ -1,8 +1,8 @@
--- The error of a start tag whose child wasn't counted, or whose element wasn't opened.
+-- What a start tag is answered with that isn't answered with its report.
 use Rattle.lol_memory.specs.declared.limited_vec.PushError.{PushError}
 use Rattle.lol_memory.specs.declared.limited_vec.PushError.TheVariants as pushes
 use Rattle.lol_vm.specs.declared.error.VmError.{VmError}
-use Rattle.lol_vm.specs.declared.error.VmError.TheVariants.{MemoryLimitExceeded, Memory, CounterFull}
+use Rattle.lol_vm.specs.declared.error.VmError.TheVariants.{InfoRequest, MemoryLimitExceeded, Memory, CounterFull, Failed}
 use Rattle.lol_stack.specs.declared.stack.AddChildError.{AddChildError}
 use Rattle.lol_stack.specs.declared.stack.AddChildError.TheVariants as children
 
@@ -14,3 +14,19 @@ module _ {E : Type 0} where
   abbrev pub push_error : PushError → VmError E
   push_error (pushes.Limit error) = MemoryLimitExceeded error
   push_error (pushes.Memory error) = Memory error
+
+-- what a start tag is answered with where nothing is refused but by the parent's counter
+abbrev pub IsAskedOrFull : {E : Type 0} → VmError E → Type 0
+IsAskedOrFull (InfoRequest request) = Unit {0}
+IsAskedOrFull (MemoryLimitExceeded error) = ⊥
+IsAskedOrFull (Memory error) = ⊥
+IsAskedOrFull CounterFull = Unit {0}
+IsAskedOrFull Failed = ⊥
+
+-- whether an answer is another one than that memory was refused
+abbrev pub IsNotForMemory : {E : Type 0} → VmError E → Type 0
+IsNotForMemory (InfoRequest request) = Unit {0}
+IsNotForMemory (MemoryLimitExceeded error) = Unit {0}
+IsNotForMemory (Memory error) = ⊥
+IsNotForMemory CounterFull = Unit {0}
+IsNotForMemory Failed = Unit {0}

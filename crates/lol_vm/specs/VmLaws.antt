@@ -1,16 +1,19 @@
 -- What those who go tag by tag rely on.
-use Rattle.std.specs.Prelude.{◌≡◌, Bool, List, [], ◌∷◌, ◌++◌}
+use Rattle.std.specs.Prelude.{◌≡◌, ◌≤◌, Bool, List, [], ◌∷◌, ◌++◌, length, map}
 use Rattle.lol_base.specs.StartTags.{StartTag}
 use Rattle.lol_memory.specs.Ids.{Ids}
 use Rattle.lol_memory.specs.Slots.{slots}
-use Rattle.lol_program.specs.Paths.{Selectors}
+use Rattle.lol_program.specs.Paths.{Path, Selectors}
+use Rattle.lol_program.specs.Programs.{IsProgramOf}
+use Rattle.lol_program.specs.ProgramViews.{program_shown, range_shown}
 use Rattle.lol_instructions.specs.Tests.{Element}
-use Rattle.lol_vm.specs.Answers.{document}
+use Rattle.lol_vm.specs.Answers.{attribute_tries, document, name_tries}
 use Rattle.lol_vm.specs.Events.{Event, Start}
+use Rattle.lol_vm.specs.Machines.{HoldOnce, LeftMatches}
 use Rattle.lol_vm.specs.Refusals.{longest}
 use Rattle.lol_vm.specs.Standing.{unfinished}
 use Rattle.lol_vm.specs.VmLending.{with_current_in}
-use Rattle.lol_vm.specs.Vms.{Vm, Stands, HasOpen, IsPending, IsTriedAtMost, tries_in, slots_charged, slot_bytes}
+use Rattle.lol_vm.specs.Vms.{Vm, Stands, HasOpen, IsPending, IsTriedAtMost, program_in, ranges_to_try, tries_in, slots_charged, slot_bytes}
 use Rattle.lol_vm.specs.declared.error.AuxStartTagInfoRequest.{AuxStartTagInfoRequest}
 
 -- What a caller writes into the data of the last open element changes neither which events the machine stands for, and so no later
@@ -46,3 +49,19 @@ RequestsTryAtMost E =
 -- The slots that are charged are those of the greatest depth so far, and of nothing else.
 abbrev pub SlotsAreOfDepth : Type 0 → Type 0
 SlotsAreOfDepth E = (s : Selectors) (esi : Bool) (vm : Vm E) (events : List Event) → Stands s esi vm events → slots_charged vm ≡ slots (slot_bytes vm) (longest s esi events)
+
+-- What a machine is about to run for a start tag: of some paths, whose places are those of its program, the place of each whose left part
+-- matches exactly once, and no other place.
+pub record RunsEachOnce {E : Type 0} (s : Selectors) (vm : Vm E) (outer : List Element) : Type 0 where
+  pub paths : List Path
+  pub program : IsProgramOf s paths (program_shown (program_in vm))
+  pub held : HoldOnce paths (map range_shown (ranges_to_try vm)) (LeftMatches outer)
+
+abbrev pub RangesHoldOnce : Type 0 → Type 0
+RangesHoldOnce E = (s : Selectors) (esi : Bool) (vm : Vm E) (events : List Event) → Stands s esi vm events → RunsEachOnce s vm (document s esi events).open_elements
+
+-- No more nodes are tried for their attributes than by their names, and no more by their names than there are.
+abbrev pub TriesAreFew : Type 0
+TriesAreFew =
+    (s : Selectors) (e : Element) (outer : List Element)
+    → (attribute_tries s.nodes e outer ≤ name_tries s.nodes outer) × (name_tries s.nodes outer ≤ length s.nodes)

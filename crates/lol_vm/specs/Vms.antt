@@ -46,17 +46,21 @@ Vm E = VmOf Program Name StackNames E
 
 -- 1. The parts of a machine
 
-module _ {E : Type 0} where
-  abbrev pub stack_in : Vm E → StackOf Name StackNames E
+module _ {P N M E : Type 0} where
+  abbrev pub program_in : VmOf P N M E → P
+  program_in vm = vm.program
+
+  abbrev pub stack_in : VmOf P N M E → StackOf N M E
   stack_in vm = vm.stack
 
-  abbrev pub tries_in : Vm E → Tries
+  abbrev pub tries_in : VmOf P N M E → Tries
   tries_in vm = vm.tries
 
   -- whether a tag was refused
-  abbrev pub has_failed : Vm E → Bool
+  abbrev pub has_failed : VmOf P N M E → Bool
   has_failed vm = vm.failed
 
+module _ {E : Type 0} where
   -- the data of the open elements, the outermost first
   abbrev pub data_in : Vm E → List E
   data_in vm = element_data_of (items_in vm.stack)

@@ -1,9 +1,9 @@
 //! Running instructions for a start tag, one after the other.
 
-ghost use Rattle.std.specs.Prelude.{◌≡◌, ◌+◌, ◌-◌, ◌≤◌, IfOk, IsOk, Ok, Some, false, length};
+ghost use Rattle.std.specs.Prelude.{◌≡◌, ◌+◌, ◌-◌, ◌≤◌, Bool, IfOk, IsOk, Ok, Some, length};
 ghost use Rattle.lol_instructions.specs.Compiled.{sight};
 ghost use Rattle.lol_instructions.specs.Tries.{names_counted, attributes_counted};
-ghost use Rattle.lol_vm.specs.InstructionRuns.{AreRunnable, HaveSmallIds, all_at, place_in, IsStopIn, HasTriesLeft, IsInsideOf, ranges_in, ranges_from, instructions_at, open_among, first_open_from, tried_until, gathered_by_names, gathered_with_attributes};
+ghost use Rattle.lol_vm.specs.InstructionRuns.{AreRunnable, NeedNoMemory, all_at, place_in, IsStopIn, HasTriesLeft, IsInsideOf, ranges_in, ranges_from, instructions_at, open_among, first_open_from, tried_until, gathered_by_names, gathered_with_attributes};
 
 use lol_program::{
     AddressRange, AttributeMatcher, Instruction, SelectorState, Tries, TryExecResult,
@@ -30,7 +30,7 @@ pub(crate) fn try_instructions<E: ElementData>(
     ensures attributes { attributes_counted tries.new ≡ attributes_counted tries.old }
     ensures name { ctx.new.stack_item.local_name ≡ ctx.old.stack_item.local_name }
     ensures content { ctx.new.with_content ≡ ctx.old.with_content }
-    ensures free { ctx.old.with_content ≡ false → HaveSmallIds instructions.now → IsOk result }
+    ensures free { NeedNoMemory ctx.old.with_content instructions.now → IsOk result }
 {
     for (at, instruction) in instructions.iter().enumerate() {
         let name = &ctx.stack_item.local_name;
@@ -62,7 +62,7 @@ pub(crate) fn exec_instructions<E: ElementData>(
     ensures attributes_bound { attributes_counted tries.new ≤ attributes_counted tries.old + open_among (sight state.now ctx.old.stack_item.local_name) instructions.now }
     ensures name { ctx.new.stack_item.local_name ≡ ctx.old.stack_item.local_name }
     ensures content { ctx.new.with_content ≡ ctx.old.with_content }
-    ensures free { ctx.old.with_content ≡ false → HaveSmallIds instructions.now → IsOk result }
+    ensures free { NeedNoMemory ctx.old.with_content instructions.now → IsOk result }
 {
     for instruction in instructions {
         let name = &ctx.stack_item.local_name;
@@ -82,7 +82,7 @@ fn instructions_in<'p>(
 ) -> &'p [Instruction]
     ensures value { IsInsideOf instructions.now range.now → HasTriesLeft tries.now (range.now.end - range.now.start) → result.now ≡ instructions_at instructions.now range.now }
     ensures room { HasTriesLeft tries.now (length result.now) }
-    ensures small { HaveSmallIds instructions.now → HaveSmallIds result.now }
+    ensures free { (content : Bool) → NeedNoMemory content instructions.now → NeedNoMemory content result.now }
 {
     let (names, attributes) = (tries.names(), tries.attributes());
     if range.start > range.end || range.end > instructions.len() {
@@ -120,7 +120,7 @@ pub(crate) fn try_ranges<E: ElementData>(
     ensures names_bound { AreRunnable instructions.now ranges.now tries.old → names_counted tries.new ≤ names_counted tries.old + length (all_at instructions.now ranges.now) }
     ensures name { ctx.new.stack_item.local_name ≡ ctx.old.stack_item.local_name }
     ensures content { ctx.new.with_content ≡ ctx.old.with_content }
-    ensures free { ctx.old.with_content ≡ false → HaveSmallIds instructions.now → IsOk result }
+    ensures free { NeedNoMemory ctx.old.with_content instructions.now → IsOk result }
 {
     for (at, range) in ranges.iter().enumerate() {
         let part = instructions_in(instructions, range, tries);
@@ -149,7 +149,7 @@ pub(crate) fn exec_ranges<E: ElementData>(
     ensures attributes_bound { AreRunnable instructions.now ranges.now tries.old → attributes_counted tries.new ≤ attributes_counted tries.old + open_among (sight state.now ctx.old.stack_item.local_name) (all_at instructions.now ranges.now) }
     ensures name { ctx.new.stack_item.local_name ≡ ctx.old.stack_item.local_name }
     ensures content { ctx.new.with_content ≡ ctx.old.with_content }
-    ensures free { ctx.old.with_content ≡ false → HaveSmallIds instructions.now → IsOk result }
+    ensures free { NeedNoMemory ctx.old.with_content instructions.now → IsOk result }
 {
     for range in ranges {
         let part = instructions_in(instructions, range, tries);
@@ -176,7 +176,7 @@ pub(crate) fn try_active<E: ElementData>(
     ensures names_bound { AreRunnable instructions.now (ranges_in active.now) tries.old → names_counted tries.new ≤ names_counted tries.old + length (all_at instructions.now (ranges_in active.now)) }
     ensures name { ctx.new.stack_item.local_name ≡ ctx.old.stack_item.local_name }
     ensures content { ctx.new.with_content ≡ ctx.old.with_content }
-    ensures free { ctx.old.with_content ≡ false → HaveSmallIds instructions.now → IsOk result }
+    ensures free { NeedNoMemory ctx.old.with_content instructions.now → IsOk result }
 {
     for (at, active_range) in active.iter().enumerate() {
         let part = instructions_in(instructions, &active_range.0, tries);
@@ -205,7 +205,7 @@ pub(crate) fn exec_active<E: ElementData>(
     ensures attributes_bound { AreRunnable instructions.now (ranges_in active.now) tries.old → attributes_counted tries.new ≤ attributes_counted tries.old + open_among (sight state.now ctx.old.stack_item.local_name) (all_at instructions.now (ranges_in active.now)) }
     ensures name { ctx.new.stack_item.local_name ≡ ctx.old.stack_item.local_name }
     ensures content { ctx.new.with_content ≡ ctx.old.with_content }
-    ensures free { ctx.old.with_content ≡ false → HaveSmallIds instructions.now → IsOk result }
+    ensures free { NeedNoMemory ctx.old.with_content instructions.now → IsOk result }
 {
     for active_range in active {
         let part = instructions_in(instructions, &active_range.0, tries);
@@ -234,7 +234,7 @@ pub(crate) fn complete_instructions<E: ElementData>(
     ensures attributes_bound { attributes_counted tries.new ≤ attributes_counted tries.old + open_among (sight state.now ctx.old.stack_item.local_name) instructions.now }
     ensures name { ctx.new.stack_item.local_name ≡ ctx.old.stack_item.local_name }
     ensures content { ctx.new.with_content ≡ ctx.old.with_content }
-    ensures free { ctx.old.with_content ≡ false → HaveSmallIds instructions.now → IsOk result }
+    ensures free { NeedNoMemory ctx.old.with_content instructions.now → IsOk result }
 {
     let Some((first, others)) = instructions.split_first() else {
         return Ok(());
@@ -274,7 +274,7 @@ pub(crate) fn complete_ranges<E: ElementData>(
     ensures attributes_bound { IsStopIn instructions.now ranges.now stop → AreRunnable instructions.now (ranges_from ranges.now stop) tries.old → attributes_counted tries.new ≤ attributes_counted tries.old + open_among (sight state.now ctx.old.stack_item.local_name) (all_at instructions.now (ranges_from ranges.now stop)) }
     ensures name { ctx.new.stack_item.local_name ≡ ctx.old.stack_item.local_name }
     ensures content { ctx.new.with_content ≡ ctx.old.with_content }
-    ensures free { ctx.old.with_content ≡ false → HaveSmallIds instructions.now → IsOk result }
+    ensures free { NeedNoMemory ctx.old.with_content instructions.now → IsOk result }
 {
     if stop.range >= ranges.len() {
         return Ok(());
@@ -306,7 +306,7 @@ pub(crate) fn complete_active<E: ElementData>(
     ensures attributes_bound { IsStopIn instructions.now (ranges_in active.now) stop → AreRunnable instructions.now (ranges_from (ranges_in active.now) stop) tries.old → attributes_counted tries.new ≤ attributes_counted tries.old + open_among (sight state.now ctx.old.stack_item.local_name) (all_at instructions.now (ranges_from (ranges_in active.now) stop)) }
     ensures name { ctx.new.stack_item.local_name ≡ ctx.old.stack_item.local_name }
     ensures content { ctx.new.with_content ≡ ctx.old.with_content }
-    ensures free { ctx.old.with_content ≡ false → HaveSmallIds instructions.now → IsOk result }
+    ensures free { NeedNoMemory ctx.old.with_content instructions.now → IsOk result }
 {
     if stop.range >= active.len() {
         return Ok(());

@@ -29,10 +29,13 @@ pub use lol_memory::{
     DenseHashSet, DenseHashSetIter, Drain, LimitedVec, MatchId, MatchInfo,
     MemoryLimitExceededError, PushError, SharedMemoryLimiter,
 };
+pub use lol_names::{BlockPlace, NameMap, NamePlace};
 pub use lol_program::{
-    AddressRange, Ast, AstNode, AttrExprOperands, AttributeComparisonExpr, AttributeMatcher,
-    ChildCounter, Condition, ExecutionBranch, NameValue, OnAttributesExpr, OnTagNameExpr,
-    Predicate, SelectorState, Test, Tries,
+    AddressRange, Ast, AstNode, AttrExprOperands, AttributeComparisonExpr, AttributeExprTest,
+    AttributeMatcher, ChildCounter, Compilable, CompiledAttributeExpr, CompiledLocalNameExpr,
+    CompiledPredicate, CompiledTest, Compiler, Condition, ExecutionBranch, Instruction,
+    LocalNameExprTest, NameValue, OnAttributesExpr, OnTagNameExpr, Predicate, Program,
+    SelectorState, Test, Tries, TryExecResult,
 };
 pub use lol_stack::{
     AddChildError, AddressRanges, CounterItem, CounterList, ElementData, ExecutionCtx, Stack,

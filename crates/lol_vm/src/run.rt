@@ -9,10 +9,10 @@ ghost use Rattle.lol_program.specs.Paths.{Selectors};
 ghost use Rattle.lol_vm.specs.Answers.{answers};
 ghost use Rattle.lol_vm.specs.Collecting.{Collects};
 ghost use Rattle.lol_vm.specs.Events.{Event, Start, End};
-ghost use Rattle.lol_vm.specs.Follows.{Follows, Goes, IsCharged, IsHandedOver, IsTaken, IsRefusedFor, Stops, opens, refusal_after};
+ghost use Rattle.lol_vm.specs.Follows.{Follows, Goes, IsCharged, IsHandedOver, IsTaken, IsRefusedFor, Stops, opens};
 ghost use Rattle.lol_vm.specs.Handlers.{IsCalledWithAnswers};
 ghost use Rattle.lol_vm.specs.Refusals.{refused};
-ghost use Rattle.lol_vm.specs.RunRefusals.{allowance_of, IsRefusedAt, StopsFor};
+ghost use Rattle.lol_vm.specs.RunRefusals.{allowance_of, IsRefusedAt, StopsBeforeLimit, StopsFor};
 ghost use Rattle.lol_stack.specs.Stacks.{list_in, last_count};
 ghost use Rattle.lol_vm.specs.Views.{HasRangesInside, event_of, answer_of, selectors};
 ghost use Rattle.lol_vm.specs.Vms.{Stands, IsNameOf, IsTagOf, stack_in, tries_in, data_in, slots_charged, slot_bytes};
@@ -42,7 +42,8 @@ fn refused(reports: Vec<TagReport>, event: usize, cause: RunCause) -> RunRefusal
 ///
 /// # Errors
 /// `MemoryLimitExceeded` and `CounterFull` with the first tag that is to be refused so, `Memory` where memory was refused, each with the
-/// reports of the tags before.
+/// reports of the tags before. Memory is refused with no tag whose counter is full, nor with one whose charge passes the limit and that
+/// is run without memory (`RunsWithoutMemory`), nor after such a tag; what is refused before the first tag has the number 0.
 pub fn match_events(
     alloc: Global,
     ast: Ast,
@@ -58,6 +59,9 @@ pub fn match_events(
     ensures refused { IfErr result (λ refusal. map answer_of refusal.reports.items ≡ answers (selectors ast) enable_esi_tags (map event_of (take refusal.event events.now))) }
     ensures event { IfErr result (λ refusal. (refusal.event ≡ 0) ⊎ (refusal.event < length events.now)) }
     ensures cause { IfErr result (λ refusal. IsRefusedAt refusal (refused (selectors ast) enable_esi_tags (allowance_of item_bytes limiter.old) (map event_of events.now))) }
+    ensures due { IfErr result (λ refusal.
+        StopsBeforeLimit (selectors ast) enable_esi_tags (map event_of events.now) refusal.cause refusal.event
+        (refused (selectors ast) enable_esi_tags (allowance_of item_bytes limiter.old) (map event_of events.now))) }
     ensures usage { limiter.new ≡ limiter.old }
 {
     let Ok(mut collected) = Collected::with_capacity(alloc, events.len()) else {
@@ -112,6 +116,9 @@ pub fn match_each_event<F: FnMut(TagReport)>(
     ensures refused { IfErr result (λ stop. IsCalledWithAnswers F.step (selectors ast) enable_esi_tags (map event_of (take stop.event events.now)) handler.old handler.new) }
     ensures event { IfErr result (λ stop. (stop.event ≡ 0) ⊎ (stop.event < length events.now)) }
     ensures cause { IfErr result (λ stop. StopsFor stop.cause stop.event (refused (selectors ast) enable_esi_tags (allowance_of item_bytes limiter.old) (map event_of events.now))) }
+    ensures due { IfErr result (λ stop.
+        StopsBeforeLimit (selectors ast) enable_esi_tags (map event_of events.now) stop.cause stop.event
+        (refused (selectors ast) enable_esi_tags (allowance_of item_bytes limiter.old) (map event_of events.now))) }
     ensures usage { limiter.new ≡ limiter.old }
 {
     let usage = limiter.current_usage();
@@ -149,6 +156,10 @@ fn answer_events<F: FnMut(TagReport)>(
     ensures event { IfErr result (λ stop. (stop.event ≡ 0) ⊎ (stop.event < length events.now)) }
     ensures cause { IfErr result (λ stop. (s : Selectors) (esi : Bool) (item_bytes : ℕ) (before : Limiter) → Follows s esi item_bytes before vm.old [] limiter.old
         → StopsFor stop.cause stop.event (refused s esi (allowance_of item_bytes before) (map event_of events.now))) }
+    ensures due { IfErr result (λ stop. (s : Selectors) (esi : Bool) (item_bytes : ℕ) (before : Limiter)
+        → Follows s esi item_bytes before vm.old [] limiter.old
+        → StopsBeforeLimit s esi (map event_of events.now) stop.cause stop.event
+        (refused s esi (allowance_of item_bytes before) (map event_of events.now))) }
     ensures charged { (s : Selectors) (esi : Bool) (item_bytes : ℕ) (before : Limiter) → Follows s esi item_bytes before vm.old [] limiter.old → IsCharged item_bytes before vm.new limiter.new }
 {
     for (number, event) in events.iter().enumerate() {
@@ -177,7 +188,7 @@ fn answer_event(
     ensures goes { IfOk result (λ report. (s : Selectors) (esi : Bool) (item_bytes : ℕ) (before : Limiter) (events : List Event) → Follows s esi item_bytes before vm.old events limiter.old → length events ≡ number
         → Goes s esi item_bytes before vm.new events (event_of event.now) limiter.new report) }
     ensures stops { IfErr result (λ cause. (s : Selectors) (esi : Bool) (item_bytes : ℕ) (before : Limiter) (events : List Event) → Follows s esi item_bytes before vm.old events limiter.old
-        → Stops cause (refusal_after s esi item_bytes before events (event_of event.now))) }
+        → Stops cause s esi item_bytes before events (event_of event.now)) }
     ensures charged { OnErr result ((s : Selectors) (esi : Bool) (item_bytes : ℕ) (before : Limiter) (events : List Event) → Follows s esi item_bytes before vm.old events limiter.old → IsCharged item_bytes before vm.new limiter.new) }
 {
     match event {
@@ -208,7 +219,8 @@ fn answer_start(
     ensures goes { IfOk result (λ report. (s : Selectors) (esi : Bool) (item_bytes : ℕ) (before : Limiter) (events : List Event) (tag : StartTag) → Follows s esi item_bytes before vm.old events limiter.old → length events ≡ number
         → IsTagOf local_name.entry ns tag → IsHandedOver rest.entry tag → Goes s esi item_bytes before vm.new events (Start tag) limiter.new report) }
     ensures stops { IfErr result (λ cause. (s : Selectors) (esi : Bool) (item_bytes : ℕ) (before : Limiter) (events : List Event) (tag : StartTag) → Follows s esi item_bytes before vm.old events limiter.old
-        → IsTagOf local_name.entry ns tag → IsHandedOver rest.entry tag → Stops cause (refusal_after s esi item_bytes before events (Start tag))) }
+        → IsTagOf local_name.entry ns tag → IsHandedOver rest.entry tag
+        → Stops cause s esi item_bytes before events (Start tag)) }
     ensures charged { OnErr result ((s : Selectors) (esi : Bool) (item_bytes : ℕ) (before : Limiter) (events : List Event) (tag : StartTag) → Follows s esi item_bytes before vm.old events limiter.old
         → IsTagOf local_name.entry ns tag → IsHandedOver rest.entry tag → IsCharged item_bytes before vm.new limiter.new) }
 {
@@ -264,7 +276,8 @@ fn take_start<F: FnMut(MatchInfo)>(
         Err(VmError::InfoRequest(request)) => request,
         Err(VmError::MemoryLimitExceeded(_)) => return Err(RunCause::MemoryLimitExceeded),
         Err(VmError::CounterFull) => return Err(RunCause::CounterFull),
-        Err(VmError::Memory(_) | VmError::Failed) => return Err(RunCause::Memory),
+        Err(VmError::Memory(_)) => return Err(RunCause::Memory),
+        Err(VmError::Failed) => return Err(RunCause::Memory),
     };
     let Some(aux_info) = rest else {
         return Ok(None);

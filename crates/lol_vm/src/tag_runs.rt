@@ -1,9 +1,9 @@
 //! Running what a start tag is run through: the entry points, the last open element's jumps, and the active hereditary jumps.
 
-ghost use Rattle.std.specs.Prelude.{◌≡◌, ◌<◌, ◌^◌, length, IfOk, IfSome, IsOk, IsSome, false};
+ghost use Rattle.std.specs.Prelude.{◌≡◌, ◌<◌, ◌^◌, length, IfOk, IfSome, IsOk, IsSome};
 ghost use Rattle.lol_instructions.specs.Compiled.{sight};
 ghost use Rattle.lol_instructions.specs.Tries.{attributes_counted};
-ghost use Rattle.lol_vm.specs.InstructionRuns.{AreRunnable, HaveSmallIds, ranges_in};
+ghost use Rattle.lol_vm.specs.InstructionRuns.{AreRunnable, NeedNoMemory, ranges_in};
 ghost use Rattle.lol_stack.specs.Stacks.{active_in};
 ghost use Rattle.lol_vm.specs.TagRuns.{ranges_of, stop_of, stop_if, left_of, tried_at, IsPointOf, IsPointIn, AreTried, AreExecuted, AreWithin, jumps_in, ranges_to_run_in, sight_in, stop_at, stop_found, ranges_left};
 
@@ -53,7 +53,7 @@ fn try_ranges_of_tag<E: ElementData>(
     ensures within { AreRunnable instructions.now (ranges_of ranges.now) tries.old → AreWithin (sight state.now ctx.old.stack_item.local_name) instructions.now (ranges_of ranges.now) tries.old tries.new 0 }
     ensures name { ctx.new.stack_item.local_name ≡ ctx.old.stack_item.local_name }
     ensures content { ctx.new.with_content ≡ ctx.old.with_content }
-    ensures free { ctx.old.with_content ≡ false → HaveSmallIds instructions.now → IsOk result }
+    ensures free { NeedNoMemory ctx.old.with_content instructions.now → IsOk result }
 {
     let entry_points = slice::from_ref(ranges.entry_points);
     if let Some(stop) = try_ranges(instructions, entry_points, state, alloc, ctx, tries)? {
@@ -85,7 +85,7 @@ fn complete_ranges_of_tag<E: ElementData>(
     ensures within { IsPointOf instructions.now ranges.now point → AreRunnable instructions.now (left_of ranges.now point) tries.old → AreWithin (sight state.now ctx.old.stack_item.local_name) instructions.now (left_of ranges.now point) tries.old tries.new (tried_at (stop_of ranges.now point)) }
     ensures name { ctx.new.stack_item.local_name ≡ ctx.old.stack_item.local_name }
     ensures content { ctx.new.with_content ≡ ctx.old.with_content }
-    ensures free { ctx.old.with_content ≡ false → HaveSmallIds instructions.now → IsOk result }
+    ensures free { NeedNoMemory ctx.old.with_content instructions.now → IsOk result }
 {
     let entry = slice::from_ref(ranges.entry_points);
     let jumps = ranges.jumps;
@@ -148,7 +148,7 @@ pub(crate) fn try_tag<'s, 'i: 's, E: ElementData>(
     ensures within { AreRunnable program.now.instructions.items (ranges_to_run_in program.now stack.now) tries.old → AreWithin (sight_in stack.now ctx.old.stack_item.local_name) program.now.instructions.items (ranges_to_run_in program.now stack.now) tries.old tries.new 0 }
     ensures name { ctx.new.stack_item.local_name ≡ ctx.old.stack_item.local_name }
     ensures content { ctx.new.with_content ≡ ctx.old.with_content }
-    ensures free { ctx.old.with_content ≡ false → HaveSmallIds program.now.instructions.items → IsOk result }
+    ensures free { NeedNoMemory ctx.old.with_content program.now.instructions.items → IsOk result }
 {
     let state = stack.build_state(&ctx.stack_item.local_name);
     let ranges = TagRanges {
@@ -175,7 +175,7 @@ pub(crate) fn complete_tag<'s, 'i: 's, E: ElementData>(
     ensures within { IsPointIn program.now.instructions.items program.now.entry_points (jumps_in stack.now) (ranges_in (active_in stack.now)) point → AreRunnable program.now.instructions.items (ranges_left (ranges_to_run_in program.now stack.now) (stop_at program.now.entry_points (jumps_in stack.now) point)) tries.old → AreWithin (sight_in stack.now ctx.old.stack_item.local_name) program.now.instructions.items (ranges_left (ranges_to_run_in program.now stack.now) (stop_at program.now.entry_points (jumps_in stack.now) point)) tries.old tries.new (tried_at (stop_at program.now.entry_points (jumps_in stack.now) point)) }
     ensures name { ctx.new.stack_item.local_name ≡ ctx.old.stack_item.local_name }
     ensures content { ctx.new.with_content ≡ ctx.old.with_content }
-    ensures free { ctx.old.with_content ≡ false → HaveSmallIds program.now.instructions.items → IsOk result }
+    ensures free { NeedNoMemory ctx.old.with_content program.now.instructions.items → IsOk result }
 {
     let state = stack.build_state(&ctx.stack_item.local_name);
     let ranges = TagRanges {

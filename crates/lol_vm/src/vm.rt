@@ -6,26 +6,28 @@ ghost use Rattle.std.specs.Borrow.{sem};
 ghost use Rattle.lol_base.specs.StartTags.{StartTag, RangesAreInside};
 ghost use Rattle.lol_memory.specs.Ids.{ascending};
 ghost use Rattle.lol_memory.specs.Limiter.{charged};
-ghost use Rattle.lol_memory.specs.LimitedVec.{IsLimited};
+ghost use Rattle.lol_memory.specs.LimitedVec.{IsLimited, grown_slots};
 ghost use Rattle.lol_instructions.specs.Counters.{full_count};
 ghost use Rattle.lol_program.specs.Paths.{Selectors};
 ghost use Rattle.lol_instructions.specs.Tests.{Element};
 ghost use Rattle.lol_instructions.specs.Tries.{names_counted, attributes_counted};
 ghost use Rattle.lol_stack.specs.Calls.{IsCalledAtEach, reports};
 ghost use Rattle.lol_vm.specs.Events.{Event, End, has_content};
-ghost use Rattle.lol_vm.specs.FreeTags.{TakesNoMemory, IsAskedOrFull};
+ghost use Rattle.lol_vm.specs.FreeTags.{TakesNoMemory};
+ghost use Rattle.lol_vm.specs.VmErrors.{IsAskedOrFull};
+ghost use Rattle.lol_vm.specs.Due.{IsDue, IsNeverForMemory, IsAfterReport, IsNeverPending, IsAfterWholeReport};
 ghost use Rattle.lol_vm.specs.TriedStarts.{IsTried};
 ghost use Rattle.lol_vm.specs.VmLending.{lends_current_of_vm};
-ghost use Rattle.lol_stack.specs.Stacks.{items_in, slots_in, list_in, last_count};
+ghost use Rattle.lol_stack.specs.Stacks.{items_in, slots_in, item_bytes_in, list_in, last_count, IsPushed, IsSame};
 ghost use Rattle.lol_vm.specs.Views.{selectors};
 ghost use Rattle.lol_vm.specs.Vms.{Stands, HasOpen, IsNameOf, IsTagOf, IsRestOf, IsAnswered, IsReported, IsTriedAtMost, IsPending, IsRefusal, IsSilent, content_at, open_after, stack_in, tries_in, has_failed, data_in, slots_charged, slot_bytes, IsRequested, IsEntered, IsFailedAs, with_failure};
 
 use crate::error::{AuxStartTagInfoRequest, VmError};
 use crate::tag_runs::{RecoveryPoint, complete_tag, try_tag};
 use lol_base::{AuxStartTagInfo, LocalName, Namespace};
-use lol_memory::{MatchInfo, PushError, SharedMemoryLimiter};
+use lol_memory::{MatchInfo, MemoryLimitExceededError, PushError, SharedMemoryLimiter};
 use lol_program::{Ast, AttributeMatcher, Compiler, Program, Tries};
-use lol_stack::{ElementData, ExecutionCtx, Stack, StackDirective, StackNames, StackOf};
+use lol_stack::{ElementData, ExecutionCtx, Stack, StackDirective, StackItem, StackNames, StackOf};
 use std::alloc::{AllocError, Global};
 
 /// The machine: see `SelectorMatchingVm`.
@@ -65,8 +67,9 @@ impl<P, N, M, E> VmOf<P, N, M, E> {
     /// hold exactly the ids that the element is reported under. What is written there changes no later report. It takes no memory.
     pub fn current_element_data_mut(&mut self) -> Option<&mut E>
         ensures* lends { sem 𝓛 (lends_current_of_vm P.row N.row M.row E.row self.entry result) }
-        ensures value { option_copied_mut result ≡ option_map (λ item. item.element_data) (slice_get (items_in self.old.stack) (length (items_in self.old.stack) - 1)) }
-        ensures some { IsSome result ↔ (0 < length (items_in self.old.stack)) }
+        ensures value { option_copied_mut result ≡ option_map (λ item. item.element_data)
+            (slice_get (items_in (stack_in self.old)) (length (items_in (stack_in self.old)) - 1)) }
+        ensures some { IsSome result ↔ (0 < length (items_in (stack_in self.old))) }
     {
         self.stack.current_element_data_mut()
     }
@@ -74,14 +77,14 @@ impl<P, N, M, E> VmOf<P, N, M, E> {
     /// How many nodes were tried for the last start tag that wasn't answered `Failed`, its finishing included: while its request is open
     /// and after it was refused, at most those of the definition. (Not in lol_html.)
     pub fn tries(&self) -> Tries
-        ensures { result ≡ self.now.tries }
+        ensures { result ≡ tries_in self.now }
     {
         self.tries
     }
 
     /// The number of elements that there is room for, all of them charged. (Not in lol_html.)
     pub fn charged_slots(&self) -> usize
-        ensures { result ≡ slots_in self.now.stack }
+        ensures { result ≡ slots_in (stack_in self.now) }
     {
         self.stack.charged_slots()
     }
@@ -117,9 +120,10 @@ impl<E: ElementData> VmOf<Program, LocalName<'static>, StackNames, E> {
     ///
     /// # Errors
     /// `Failed` exactly after a refusal; else `CounterFull` exactly if the parent has as many children as can be counted;
-    /// `MemoryLimitExceeded` only where the element can't be charged, after its reports; `Memory` only where memory is refused, after all
-    /// reports or none; else `InfoRequest`, which refuses nothing. A void element of HTML takes no memory where ids are below 32 and no
-    /// test is by type (`TakesNoMemory`): neither it nor its finishing is ever refused for memory.
+    /// `MemoryLimitExceeded` exactly if, once its reports are given, the element is to be opened and can't be charged; `Memory` only where
+    /// memory is refused, before all reports, or after all of them where the element could be charged; else `InfoRequest`, which refuses
+    /// nothing. A void element of HTML takes no memory where ids are below 32 and no test is by type (`TakesNoMemory`): neither it nor its
+    /// finishing is ever refused for memory. Nor is a tag that is run without memory (`RunsWithoutMemory`) and can't be charged.
     pub fn exec_for_start_tag<F: FnMut(MatchInfo)>(
         &mut self,
         local_name: LocalName<'_>,
@@ -153,8 +157,12 @@ impl<E: ElementData> VmOf<Program, LocalName<'static>, StackNames, E> {
         ensures free { (error : VmError E) → result ≡ Err error → (s : Selectors) (esi : Bool) (events : List Event) (tag : StartTag) → Stands s esi self.old events → IsTagOf local_name.entry ns tag
             → TakesNoMemory s tag → IsAskedOrFull error }
         ensures tried { (s : Selectors) (esi : Bool) (events : List Event) (tag : StartTag) → Stands s esi self.old events → IsTagOf local_name.entry ns tag → IsTriedAtMost s esi events tag (tries_in self.new) }
-        ensures all_or_none { (error : AllocError) → result ≡ Err (VmError.Memory error) → (match_handler.new ≡ match_handler.old) ⊎ ((s : Selectors) (esi : Bool) (events : List Event) (tag : StartTag) → Stands s esi self.old events → IsTagOf local_name.entry ns tag
-            → IsReported F.step s esi events tag false (tries_in self.new) match_handler.old match_handler.new) }
+        ensures due { (error : VmError E) → result ≡ Err error → IsDue self.old limiter.old
+            → IsNeverForMemory self.old local_name.entry ns error }
+        ensures all_or_none { (error : AllocError) → result ≡ Err (VmError.Memory error)
+            → (match_handler.new ≡ match_handler.old)
+            ⊎ IsAfterReport F.step self.old local_name.entry ns limiter.old (tries_in self.new)
+                match_handler.old match_handler.new }
     {
         if self.failed {
             return Err(VmError::Failed);
@@ -234,7 +242,8 @@ impl<E: ElementData> VmOf<Program, LocalName<'static>, StackNames, E> {
         ensures ok { OnOk result (IsEntered ctx.entry.with_content ctx.entry.stack_item self.old self.new) }
         ensures charged { OnOk result (limiter.new ≡ charged limiter.old ((slots_charged self.new - slots_charged self.old) * slot_bytes self.old)) }
         ensures grows { OnOk result (slots_charged self.old ≤ slots_charged self.new) }
-        ensures limited { IsErrOf result (PushError.Limit (record {})) → (ctx.entry.with_content ≡ true) × IsLimited (list_in self.old.stack) limiter.old }
+        ensures limited { IsErrOf result (PushError.Limit (record {}))
+            ↔ (ctx.entry.with_content ≡ true) × IsLimited (list_in self.old.stack) limiter.old }
         ensures unlimited { OnOk result (ctx.entry.with_content ≡ true → IsLimited (list_in self.old.stack) limiter.old → ⊥) }
         ensures closed { ctx.entry.with_content ≡ false → IsOk result }
         ensures tries { self.new.tries ≡ self.old.tries }
@@ -247,10 +256,7 @@ impl<E: ElementData> VmOf<Program, LocalName<'static>, StackNames, E> {
             return Ok(());
         }
         let ExecutionCtx { stack_item, .. } = ctx;
-        let pushed = match stack_item.into_owned(self.alloc) {
-            Ok(item) => self.stack.push_item(item, limiter),
-            Err(error) => Err(PushError::Memory(error)),
-        };
+        let pushed = open_element(&mut self.stack, self.alloc, stack_item, limiter);
         self.failed |= pushed.is_err();
         pushed
     }
@@ -259,8 +265,9 @@ impl<E: ElementData> VmOf<Program, LocalName<'static>, StackNames, E> {
     /// has content, opens it. Each range of a name and of a value lies inside the input.
     ///
     /// # Errors
-    /// `Limit` only where the element can't be charged, after its reports; `Memory` only where memory is refused, after all reports or
-    /// none. A start tag that takes no memory (`TakesNoMemory`) is never refused.
+    /// `Limit` exactly if, once its reports are given, the element is to be opened and can't be charged; `Memory` only where memory is
+    /// refused, before all reports, or after all of them where the element could be charged. A start tag that takes no memory
+    /// (`TakesNoMemory`) is never refused, nor is one of flat selectors (`AreFlat`) refused for memory where it can't be charged.
     pub fn finish_start_tag<F: FnMut(MatchInfo)>(
         &mut self,
         request: AuxStartTagInfoRequest<E>,
@@ -288,8 +295,12 @@ impl<E: ElementData> VmOf<Program, LocalName<'static>, StackNames, E> {
             → has_content esi tag ≡ true → IsLimited (list_in (stack_in self.old)) limiter.old → ⊥) }
         ensures free { (s : Selectors) (esi : Bool) (events : List Event) (tag : StartTag) → IsPending E.ids s esi events tag self.old request → TakesNoMemory s tag → IsOk result }
         ensures tried { (s : Selectors) (esi : Bool) (events : List Event) (tag : StartTag) → IsPending E.ids s esi events tag self.old request → IsTriedAtMost s esi events tag (tries_in self.new) }
-        ensures all_or_none { (error : AllocError) → result ≡ Err (PushError.Memory error) → (match_handler.new ≡ match_handler.old) ⊎ ((s : Selectors) (esi : Bool) (events : List Event) (tag : StartTag) → IsPending E.ids s esi events tag self.old request → IsRestOf aux_info.entry tag
-            → IsReported F.step s esi events tag true (tries_in self.new) match_handler.old match_handler.new) }
+        ensures due { (error : AllocError) → result ≡ Err (PushError.Memory error) → IsDue self.old limiter.old
+            → IsNeverPending E.ids self.old request }
+        ensures all_or_none { (error : AllocError) → result ≡ Err (PushError.Memory error)
+            → (match_handler.new ≡ match_handler.old)
+            ⊎ IsAfterWholeReport E.ids self.old request F.step aux_info.entry limiter.old (tries_in self.new)
+                match_handler.old match_handler.new }
     {
         let AuxStartTagInfoRequest { ctx, point } = request;
         let mut ctx = ctx;
@@ -350,6 +361,31 @@ impl<E: ElementData> VmOf<Program, LocalName<'static>, StackNames, E> {
             alloc: _,
         } = self;
         stack.release(limiter);
+    }
+}
+
+/// Opens an element. Whether it can be charged is judged before any memory is taken, that for its name too.
+#[inline(always)]
+fn open_element<E: ElementData>(
+    stack: &mut Stack<E>,
+    alloc: Global,
+    item: StackItem<'_, E>,
+    limiter: &mut SharedMemoryLimiter,
+) -> Result<(), PushError>
+    ensures ok { OnOk result (IsPushed stack.old item.entry stack.new) }
+    ensures charged { OnOk result
+        (limiter.new ≡ charged limiter.old (grown_slots (list_in stack.old) * item_bytes_in stack.old)) }
+    ensures limited { IsErrOf result (PushError.Limit (record {})) ↔ IsLimited (list_in stack.old) limiter.old }
+    ensures unlimited { OnOk result (IsLimited (list_in stack.old) limiter.old → ⊥) }
+    ensures err { OnErr result (IsSame stack.old stack.new) }
+    ensures err_limiter { OnErr result (limiter.new ≡ limiter.old) }
+{
+    if stack.is_limited(limiter) {
+        return Err(PushError::Limit(MemoryLimitExceededError));
+    }
+    match item.into_owned(alloc) {
+        Ok(item) => stack.push_item(item, limiter),
+        Err(error) => Err(PushError::Memory(error)),
     }
 }
 

@@ -1,6 +1,7 @@
 //! What those who go tag by tag rely on: each function takes and gives nothing, and its contract is the law.
 
-ghost use Rattle.lol_vm.specs.VmLaws.{DataChangeNothing, DataKeepOpen, DataKeepRequests, PendingStands, RequestsTryAtMost, SlotsAreOfDepth, StandingHasOpen};
+ghost use Rattle.lol_vm.specs.FreeTags.{FlatPairs, SmallPairs};
+ghost use Rattle.lol_vm.specs.VmLaws.{DataChangeNothing, DataKeepOpen, DataKeepRequests, PendingStands, RangesHoldOnce, RequestsTryAtMost, SlotsAreOfDepth, StandingHasOpen, TriesAreFew};
 
 /// What a caller writes into the data of the last open element changes no later report, no open element, and no request.
 pub fn data_change_nothing<E>()
@@ -27,4 +28,21 @@ pub fn requests_try_at_most<E>()
 /// The slots that are charged are those of the greatest depth so far.
 pub fn slots_are_of_depth<E>()
     ensures { SlotsAreOfDepth E }
+{}
+
+/// The ranges that a machine is about to run for a start tag, whatever events it stands for, hold the place of each node whose left part
+/// matches exactly once, and no other place.
+pub fn ranges_hold_once<E>()
+    ensures { RangesHoldOnce E }
+{}
+
+/// No more nodes are tried for a start tag than there are, nor more for its attributes than by its name.
+pub fn tries_are_few()
+    ensures { TriesAreFew }
+{}
+
+/// Selectors whose ids are below 32 and which have no test by type are small; those that are single compounds besides are flat.
+pub fn few_selectors_need_no_memory()
+    ensures small { SmallPairs }
+    ensures flat { FlatPairs }
 {}

@@ -1,10 +1,10 @@
-use Rattle.std.proofs.Common.{◌≡◌, ◌+◌, ◌∷◌, ◌∙◌, arith, ap, rules, subst}
+use Rattle.std.proofs.Common.{◌≡◌, ◌+◌, ◌∷◌, ◌∙◌, arith, ap, rules, subst, sym}
 use Rattle.std.proofs.lemmas.Grind.{common_steps}
 use Rattle.std.proofs.lemmas.Result.{IfOk-weaker}
 use Rattle.lol_instructions.specs.Compiled.{sight}
 use Rattle.lol_instructions.specs.Tries.{attributes_counted}
-use Rattle.lol_vm.specs.InstructionRuns.{HaveSmallIds, open_among}
-use Rattle.lol_vm.proofs.InstructionLists.{open_split, small_rest}
+use Rattle.lol_vm.specs.InstructionRuns.{NeedNoMemory, open_among}
+use Rattle.lol_vm.proofs.InstructionLists.{open_split, free_rest}
 use Rattle.lol_vm.proofs.instruction_runs.complete_instructions.Goals as goal
 use Rattle.lol_vm.proofs.instruction_runs.complete_instructions.Goals.{in-Some-complete_exec_with_attrs+in_ok-add_execution_branch, in_default-complete_exec_with_attrs}
 
@@ -29,7 +29,7 @@ returns-clause-attributes g c =
     c.exec_instructions.ensures.attributes
 
 pub returns-clause-free : goal.returns-clause-free
-returns-clause-free g c = λ without small.
+returns-clause-free g c = λ free.
     let all = c.args.instructions.now in
     let others = c.in-Some.others.now in
     let split : all ≡ c.in-Some.first.now ∷ others = search rules in
@@ -38,7 +38,7 @@ returns-clause-free g c = λ without small.
       | in-Some-complete_exec_with_attrs+in_ok-add_execution_branch w ↦ grind (arith, common_steps, w.ctx-is, w.in_ok-add_execution_branch.ensures)
       | in_default-complete_exec_with_attrs w ↦ ap (λ x. x.with_content) w.ctx-is
     ] in
-    c.exec_instructions.ensures.free (content ∙ without) (small_rest c.in-Some.first.now others (subst HaveSmallIds split small))
+    c.exec_instructions.ensures.free (subst (λ b. NeedNoMemory b others) (sym content) (free_rest c.args.ctx.now.with_content c.in-Some.first.now others (subst (NeedNoMemory c.args.ctx.now.with_content) split free)))
 
 pub returns-clause-attributes_bound : goal.returns-clause-attributes_bound
 returns-clause-attributes_bound g c =

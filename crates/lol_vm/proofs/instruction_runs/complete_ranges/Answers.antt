@@ -4,6 +4,7 @@ use Rattle.std.proofs.lemmas.Result.{IfOk-weaker}
 use Rattle.lol_instructions.specs.Compiled.{sight}
 use Rattle.lol_instructions.specs.Tries.{names_counted, attributes_counted}
 use Rattle.lol_vm.specs.InstructionRuns.{AreRunnable, all_at, ranges_from, open_among, gathered_with_attributes}
+use Rattle.lol_vm.proofs.VmRefusals.{err_is_not_ok}
 use Rattle.lol_vm.proofs.InstructionLists.{open_at_most, rest_sliced, is_left, others_run, length_from, length_part, open_from, gathered_from}
 use Rattle.lol_vm.proofs.instruction_runs.complete_ranges.Goals as goal
 
@@ -151,3 +152,7 @@ returns-clause-attributes_bound g c = λ is_stop runnable.
     (λ rs. AreRunnable all rs mid → attributes_counted c.exec_ranges.new.tries ≤ attributes_counted mid + open_among t (all_at all rs))
     (rest_sliced ranges (stop.range + 1)) c.exec_ranges.ensures.attributes_bound in
     omega (arith, run others, told.attributes_bound, open_from all ranges stop is_stop tries runnable part is t s same)
+
+pub returns-in_err-complete_instructions-clause-free : goal.returns-in_err-complete_instructions-clause-free
+returns-in_err-complete_instructions-clause-free g c = λ free.
+    absurd (err_is_not_ok c.complete_instructions.result c.in_err-complete_instructions.field-0.0 c.in_err-complete_instructions.was (c.complete_instructions.ensures.free (c.instructions_in-part.ensures.free c.args.ctx.now.with_content free)))

@@ -1,10 +1,11 @@
 use Rattle.std.specs.declared.ops.Range.{Range}
 use Rattle.std.proofs.lemmas.List.{length-map}
-use Rattle.std.proofs.Common.{ℕ, ◌-◌, ◌≡◌, ◌<◌, length, get_or, arith, ap, ◌∙◌}
+use Rattle.std.proofs.Common.{ℕ, ◌-◌, ◌≡◌, ◌<◌, length, get_or, arith, ap, sym, subst, ◌∙◌}
 use Rattle.lol_instructions.specs.Compiled.{sight}
-use Rattle.lol_vm.specs.InstructionRuns.{AreRunnable, IsInsideOf, HasTriesLeft, ranges_in, instructions_at, all_at, gathered_with_attributes}
+use Rattle.lol_vm.specs.InstructionRuns.{NeedNoMemory, AreRunnable, IsInsideOf, HasTriesLeft, ranges_in, instructions_at, all_at, gathered_with_attributes}
 use Rattle.lol_stack.specs.WithRange.{no_range}
 use Rattle.lol_vm.proofs.InstructionLists.{length_bound, open_bound, active_at, is_lent, open_within, length_next, open_next, attributes_next}
+use Rattle.lol_vm.proofs.VmRefusals.{err_is_not_ok}
 use Rattle.lol_vm.proofs.instruction_runs.exec_active.Goals as goal
 
 pub loop-active_range-preserved : goal.loop-active_range-preserved
@@ -75,3 +76,8 @@ returns-in_err-exec_instructions-clause-attributes_bound g c = λ runnable.
     is_lent all ranges at within tries now runnable part (active_at c.args.active.now at (λ r. IsInsideOf all r → HasTriesLeft now (r.end - r.start) → part ≡ instructions_at all r) c.instructions_in-part.ensures.value) (omega (arith, so_far.names runnable))
     (open_within all ranges at within tries now runnable s (so_far.attributes runnable)) in
     omega (arith, told.attributes_bound, so_far.attributes runnable, open_bound all ranges at within part (is runnable) t s same)
+
+pub returns-in_err-exec_instructions-clause-free : goal.returns-in_err-exec_instructions-clause-free
+returns-in_err-exec_instructions-clause-free g c = λ free.
+    let ok = c.exec_instructions.ensures.free (subst (λ b. NeedNoMemory b c.instructions_in-part.result.now) (sym c.loop-active_range.invariant.content) (c.instructions_in-part.ensures.free c.args.ctx.now.with_content free)) in
+    absurd (err_is_not_ok c.exec_instructions.result c.in_err-exec_instructions.field-0.0 c.in_err-exec_instructions.was ok)

@@ -1,8 +1,9 @@
-use Rattle.std.proofs.Common.{◌≡◌, ◌<◌, length, get_or, arith, ap, ◌∙◌}
+use Rattle.std.proofs.Common.{◌≡◌, ◌<◌, length, get_or, arith, ap, sym, subst, ◌∙◌}
 use Rattle.lol_instructions.specs.Compiled.{sight}
-use Rattle.lol_vm.specs.InstructionRuns.{AreRunnable, instructions_at, all_at, gathered_with_attributes}
+use Rattle.lol_vm.specs.InstructionRuns.{AreRunnable, NeedNoMemory, instructions_at, all_at, gathered_with_attributes}
 use Rattle.lol_stack.specs.WithRange.{no_range}
 use Rattle.lol_vm.proofs.InstructionLists.{length_bound, open_bound, is_lent, open_within, length_next, open_next, attributes_next}
+use Rattle.lol_vm.proofs.VmRefusals.{err_is_not_ok}
 use Rattle.lol_vm.proofs.instruction_runs.exec_ranges.Goals as goal
 
 pub loop-range-preserved : goal.loop-range-preserved
@@ -73,3 +74,8 @@ returns-in_err-exec_instructions-clause-attributes_bound g c = λ runnable.
     is_lent all ranges at within tries now runnable part c.instructions_in-part.ensures.value (omega (arith, so_far.names runnable))
     (open_within all ranges at within tries now runnable s (so_far.attributes runnable)) in
     omega (arith, told.attributes_bound, so_far.attributes runnable, open_bound all ranges at within part (is runnable) t s same)
+
+pub returns-in_err-exec_instructions-clause-free : goal.returns-in_err-exec_instructions-clause-free
+returns-in_err-exec_instructions-clause-free g c = λ free.
+    let ok = c.exec_instructions.ensures.free (subst (λ b. NeedNoMemory b c.instructions_in-part.result.now) (sym c.loop-range.invariant.content) (c.instructions_in-part.ensures.free c.args.ctx.now.with_content free)) in
+    absurd (err_is_not_ok c.exec_instructions.result c.in_err-exec_instructions.field-0.0 c.in_err-exec_instructions.was ok)

@@ -5,9 +5,10 @@ use Rattle.std.proofs.lemmas.List.{length-map}
 use Rattle.std.proofs.Common.{ℕ, subst, ◌-◌, ◌≡◌, ◌+◌, ◌<◌, length, get_or, arith, sym, ap, Some, None, ◌∙◌}
 use Rattle.lol_instructions.specs.Compiled.{sight}
 use Rattle.lol_instructions.specs.Tries.{names_counted}
-use Rattle.lol_vm.specs.InstructionRuns.{IsStopIn, AreRunnable, IsInsideOf, HasTriesLeft, ranges_in, instructions_at, tried_until, first_open_from, all_at}
+use Rattle.lol_vm.specs.InstructionRuns.{NeedNoMemory, IsStopIn, AreRunnable, IsInsideOf, HasTriesLeft, ranges_in, instructions_at, tried_until, first_open_from, all_at}
 use Rattle.lol_stack.specs.WithRange.{no_range}
 use Rattle.lol_vm.proofs.InstructionLists.{length_bound, active_at, is_lent, length_next, stop_next, stop_here, names_next, names_here}
+use Rattle.lol_vm.proofs.VmRefusals.{err_is_not_ok}
 use Rattle.lol_vm.proofs.instruction_runs.try_active.Goals as goal
 
 pub loop-at-preserved : goal.loop-at-preserved
@@ -133,3 +134,8 @@ returns-in-Some-clause-names_bound g c = λ runnable.
     let is : AreRunnable all ranges tries → part ≡ instructions_at all (get_or ranges at no_range) =
     λ runnable. is_lent all ranges at within tries now runnable part (active_at c.args.active.now at (λ r. IsInsideOf all r → HasTriesLeft now (r.end - r.start) → part ≡ instructions_at all r) c.instructions_in-part.ensures.value) (omega (arith, so_far.names runnable)) (omega (arith, so_far.attributes)) in
     omega (arith, told.names_bound, so_far.names runnable, length_bound all ranges at within part (is runnable))
+
+pub returns-in_err-offset-clause-free : goal.returns-in_err-offset-clause-free
+returns-in_err-offset-clause-free g c = λ free.
+    let ok = c.try_instructions.ensures.free (subst (λ b. NeedNoMemory b c.instructions_in-part.result.now) (sym c.loop-at.invariant.content) (c.instructions_in-part.ensures.free c.args.ctx.now.with_content free)) in
+    absurd (err_is_not_ok c.try_instructions.result c.in_err-offset.field-0.0 c.in_err-offset.was ok)

@@ -1,5 +1,5 @@
-use Rattle.lol_vm.proofs.Kept as proved
+use Rattle.lol_memory.specs.SlotLaws.{slots_grow}
 use Rattle.lol_vm.proofs.machine_laws.slots_grow.Goals as goal
 
 pub returns : goal.returns
-returns c = proved.slots_grow
+returns c = slots_grow

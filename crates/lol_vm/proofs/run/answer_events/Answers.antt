@@ -6,10 +6,10 @@ use Rattle.lol_vm.specs.Documents.{empty}
 use Rattle.lol_vm.specs.Events.{Event}
 use Rattle.lol_vm.specs.Follows.{Follows}
 use Rattle.lol_vm.specs.Refusals.{refused}
-use Rattle.lol_vm.specs.RunRefusals.{allowance_of, StopsFor}
+use Rattle.lol_vm.specs.RunRefusals.{allowance_of, StopsBeforeLimit, StopsFor}
 use Rattle.lol_vm.specs.Views.{event_of, answer_of}
 use Rattle.lol_vm.specs.declared.events.TagEvent.{TagEvent}
-use Rattle.lol_vm.proofs.RefusedRuns.{stops_for}
+use Rattle.lol_vm.proofs.RefusedRuns.{stops_before_limit, stops_for}
 use Rattle.lol_vm.proofs.Runs.{answers_push}
 use Rattle.lol_vm.proofs.run.answer_events.Goals as goal
 
@@ -45,6 +45,20 @@ returns-in-Err-clause-cause g c = λ s esi item_bytes limiter f.
     let is = stops_for s esi item_bytes limiter (before all n event within read) (later all n event within read) (event_of event) now.fits c.in-Err.cause stops in
     subst (λ k. StopsFor c.in-Err.cause k (refused s esi a (map event_of all))) (before_counts all n event within read)
     (subst (λ es. StopsFor c.in-Err.cause (length (before all n event within read)) (refused s esi a es)) (sym (all_are all n event within read)) is)
+
+pub returns-in-Err-clause-due : goal.returns-in-Err-clause-due
+returns-in-Err-clause-due g c = λ s esi item_bytes limiter f.
+    let all = c.args.events.now in
+    let n = c.loop-number.number in
+    let event = c.index-events-number.result in
+    let within = c.loop-number-test.true in
+    let read = c.index-events-number.is in
+    let now = c.loop-number.invariant.follows s esi item_bytes limiter f in
+    let a = allowance_of item_bytes limiter in
+    let stops = c.in-Err.ensures.stops s esi item_bytes limiter (before all n event within read) now in
+    let is = stops_before_limit s esi item_bytes limiter (before all n event within read) (later all n event within read) (event_of event) now.fits c.in-Err.cause stops in
+    subst (λ k. StopsBeforeLimit s esi (map event_of all) c.in-Err.cause k (refused s esi a (map event_of all))) (before_counts all n event within read)
+    (subst (λ es. StopsBeforeLimit s esi es c.in-Err.cause (length (before all n event within read)) (refused s esi a es)) (sym (all_are all n event within read)) is)
 
 pub returns-in-Err-clause-charged : goal.returns-in-Err-clause-charged
 returns-in-Err-clause-charged g c = λ s esi item_bytes before f.

@@ -7,7 +7,7 @@ use Rattle.lol_vm.specs.Events.{Start}
 use Rattle.lol_vm.specs.Follows.{Goes}
 use Rattle.lol_vm.specs.Vms.{info_of, slots_charged, slot_bytes}
 use Rattle.lol_vm.specs.declared.events.TagReport.TheVariants.{Started}
-use Rattle.lol_vm.proofs.RunSteps.{refused_for}
+use Rattle.lol_vm.proofs.RunSteps.{not_refused, refused_for, stops_answered}
 use Rattle.lol_vm.proofs.TakenStarts.{taken_none, taken_some, taken_stands, start_charged, goes_dropped, goes_started}
 use Rattle.lol_vm.proofs.run.answer_start.Goals as goal
 
@@ -16,6 +16,11 @@ returns-in_err-taken-clause-stops c =
     let p = err_from_is_err_and c.from_residual.result c.from_residual.ensures.1 in
     rw (p.1, p.2) (λ s esi item_bytes before events tag f named handed.
     refused_for s esi item_bytes before c.args.vm.now events c.args.limiter.now f c.in_err-taken.field-0.0 tag (c.in_err-taken.ensures.refused s esi events tag f.stands named handed))
+
+pub returns-then-refused-clause-stops : goal.returns-then-refused-clause-stops
+returns-then-refused-clause-stops c = λ s esi item_bytes before events tag f named handed.
+    stops_answered s esi item_bytes before c.args.vm.now events c.args.limiter.now f (Start tag)
+    (not_refused s esi item_bytes before c.args.vm.now events c.args.limiter.now f tag (c.in_ok-taken.ensures.counted s esi events f.stands) (c.in_ok-taken.ensures.unlimited s esi events tag f.stands named handed))
 
 pub returns-then-refused-clause-charged : goal.returns-then-refused-clause-charged
 returns-then-refused-clause-charged c = λ s esi item_bytes before events tag f named handed.

@@ -1,9 +1,11 @@
-use Rattle.std.proofs.Common.{◌≡◌, Result, Err, sym, ap, ◌∙◌, subst}
+use Rattle.std.proofs.Common.{◌≡◌, Result, Err, sym, ap, ◌∙◌, subst, true≢false}
 use Rattle.lol_vm.specs.Follows.{IsHandedOver}
 use Rattle.lol_memory.specs.declared.limiter.MemoryLimitExceededError.{MemoryLimitExceededError}
 use Rattle.lol_vm.specs.declared.error.AuxStartTagInfoRequest.{AuxStartTagInfoRequest}
 use Rattle.lol_vm.specs.declared.error.VmError.{VmError}
-use Rattle.lol_vm.specs.declared.error.VmError.TheVariants.{InfoRequest, MemoryLimitExceeded, CounterFull}
+use Rattle.lol_vm.specs.declared.error.VmError.TheVariants.{InfoRequest, MemoryLimitExceeded, Memory, CounterFull}
+use Rattle.std.specs.declared.alloc.AllocError.{AllocError}
+use Rattle.lol_vm.proofs.RunSteps.{hasnt_failed}
 use Rattle.lol_vm.proofs.TakenStarts.{has_content_if, is_left, opens_unasked, opens_handed, dropped, answered_since, has_room, limited_since}
 use Rattle.lol_vm.proofs.run.take_start.Goals as goal
 
@@ -71,4 +73,32 @@ returns-in-Err-Limit-clause-refused g c = λ s esi events tag stands named hande
       limited_since c.exec_for_start_tag.new.self c.args.vm.now c.exec_for_start_tag.new.limiter c.args.limiter.now (sym c.in-Err-InfoRequest.ensures.unchanged) (sym c.in-Err-InfoRequest.ensures.slots) (sym c.exec_for_start_tag.ensures.bytes)
           (sym c.in-Err-InfoRequest.ensures.uncharged) limited,
       has_room s esi events c.args.vm.now c.exec_for_start_tag.result stands c.exec_for_start_tag.ensures.full (asked_instead c.exec_for_start_tag.result c.in-Err-InfoRequest.request is),
+    )
+
+memory_instead : {E : Type 0} (result : Result (Unit {0}) (VmError E)) (error : AllocError) → result ≡ Err (Memory error) → result ≡ Err CounterFull → ⊥
+memory_instead result error is full = cc
+
+pub returns-in-Err-Memory-clause-refused : goal.returns-in-Err-Memory-clause-refused
+returns-in-Err-Memory-clause-refused g c = λ s esi events tag stands named handed.
+    let is = c.in-Err-Memory.is ∙ ap Err c.in-Err-Memory.field-0-is in (
+      has_room s esi events c.args.vm.now c.exec_for_start_tag.result stands c.exec_for_start_tag.ensures.full (memory_instead c.exec_for_start_tag.result _ is),
+      λ runs opening limited. c.exec_for_start_tag.ensures.due _ is limited s esi events tag stands named runs,
+    )
+
+pub returns-in-Err-Failed-clause-refused : goal.returns-in-Err-Failed-clause-refused
+returns-in-Err-Failed-clause-refused g c = λ s esi events tag stands named handed.
+    absurd (true≢false (sym (c.exec_for_start_tag.ensures.failed.0 (c.in-Err-Failed.is ∙ ap Err c.in-Err-Failed.field-0-is)) ∙ hasnt_failed s esi c.args.vm.now events stands))
+
+pub returns-in-Err-Memory-finish_start_tag-clause-refused :
+    goal.returns-in-Err-Memory-finish_start_tag-clause-refused
+returns-in-Err-Memory-finish_start_tag-clause-refused g c = λ s esi events tag stands named handed.
+    let is = c.in-Err-InfoRequest.is ∙ ap Err c.in-Err-InfoRequest.field-0-is in
+    let pending = c.exec_for_start_tag.ensures.asked c.in-Err-InfoRequest.request is s esi events tag stands named in
+    let refused = c.in-Err-Memory-finish_start_tag.is ∙ ap Err c.in-Err-Memory-finish_start_tag.field-0-is in (
+      has_room s esi events c.args.vm.now c.exec_for_start_tag.result stands c.exec_for_start_tag.ensures.full (asked_instead c.exec_for_start_tag.result c.in-Err-InfoRequest.request is),
+      λ runs opening limited.
+          c.finish_start_tag.ensures.due _ refused
+          (limited_since c.args.vm.now c.exec_for_start_tag.new.self c.args.limiter.now c.exec_for_start_tag.new.limiter c.in-Err-InfoRequest.ensures.unchanged c.in-Err-InfoRequest.ensures.slots c.exec_for_start_tag.ensures.bytes
+          c.in-Err-InfoRequest.ensures.uncharged limited)
+          s esi events tag pending runs.flat,
     )

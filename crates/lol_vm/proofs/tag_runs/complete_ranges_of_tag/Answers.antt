@@ -3,7 +3,7 @@ use Rattle.std.specs.Result.{IfOk}
 use Rattle.std.proofs.lemmas.Result.{IfOk-weaker}
 use Rattle.std.specs.declared.ops.Range.{Range}
 use Rattle.lol_instructions.specs.Compiled.{sight}
-use Rattle.lol_vm.specs.InstructionRuns.{AreRunnable, IsStopIn, ranges_in, ranges_from}
+use Rattle.lol_vm.specs.InstructionRuns.{NeedNoMemory, AreRunnable, IsStopIn, ranges_in, ranges_from}
 use Rattle.lol_vm.specs.TagRuns.{AreExecuted, AreWithin, IsPointOf, left_of, stop_of, tried_at, later_stop}
 use Rattle.lol_vm.specs.declared.tag_runs.RecoveryPoint.{RecoveryPoint}
 use Rattle.lol_vm.proofs.TagRuns.{runs_on, within_after, within_from, within_front, executed_if, executed_after, runnable_after, none_tried, front_runnable, left_before, left_after}
@@ -374,3 +374,13 @@ returns-in-HereditaryJumps-clause-within g c =
     let whole = subst (λ rs. AreRunnable all rs tries) parts runnable in
     within_from s s all (ranges_from (entry ++ (jumps ++ active)) (later_stop (length (entry ++ jumps)) stop)) (ranges_from active stop) tries c.complete_active.new.tries 1 (sym parts) refl
     (c.complete_active.ensures.names_bound here whole) (c.complete_active.ensures.attributes_bound here whole))
+
+pub returns-in_ok-exec_ranges-in-AtOnce-2-clause-free : goal.returns-in_ok-exec_ranges-in-AtOnce-2-clause-free
+returns-in_ok-exec_ranges-in-AtOnce-2-clause-free g c = λ free.
+    let content = c.exec_ranges-in-AtOnce.ensures.content ∙ c.exec_ranges.ensures.content in
+    c.exec_active.ensures.free (subst (λ b. NeedNoMemory b c.args.instructions.now) (sym content) free)
+
+pub returns-in_ok-exec_ranges-in-EntryPoints-clause-free : goal.returns-in_ok-exec_ranges-in-EntryPoints-clause-free
+returns-in_ok-exec_ranges-in-EntryPoints-clause-free g c = λ free.
+    let content = c.exec_ranges-in-EntryPoints.ensures.content ∙ c.complete_ranges.ensures.content in
+    c.exec_active-in-EntryPoints.ensures.free (subst (λ b. NeedNoMemory b c.args.instructions.now) (sym content) free)

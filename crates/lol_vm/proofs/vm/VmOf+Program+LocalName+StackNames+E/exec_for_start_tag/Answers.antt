@@ -1,6 +1,5 @@
 use Rattle.std.proofs.Common.{◌≡◌, ◌-◌, ◌*◌, ◌≤◌, arith, false, inl, inr, Ok, refl, sym, ap, ◌∙◌, subst}
 use Rattle.std.specs.Option.{IsNone}
-use Rattle.lol_instructions.specs.Tests.{is_html}
 use Rattle.lol_base.specs.LocalNames.{Name, local_name}
 use Rattle.lol_memory.specs.LimitedVec.{LimitedVec, IsLimited}
 use Rattle.lol_memory.specs.Limiter.{charged}
@@ -10,7 +9,9 @@ use Rattle.lol_stack.specs.declared.stack_item.StackItemOf.{StackItemOf}
 use Rattle.lol_stack.specs.Stacks.{list_in, element_data_of, IsSame}
 use Rattle.lol_vm.specs.Vms.{Vm, IsSilent, slots_charged, slot_bytes}
 use Rattle.lol_stack.specs.declared.stack.AddChildError.TheVariants.{CounterFull}
-use Rattle.lol_vm.proofs.FreeTags.{asked_only, full_only, has_none_typed, has_small, void_is_closed, void_unspelled}
+use Rattle.lol_vm.specs.Events.{has_content}
+use Rattle.lol_vm.specs.declared.error.VmError.TheVariants.{Memory}
+use Rattle.lol_vm.proofs.FreeTags.{asked_only, full_only, has_none_typed, is_alone_free, is_closed_free, limit_only, not_for_memory, void_is_closed, void_unspelled}
 use Rattle.lol_vm.proofs.TriedStarts.{ended_answered, ended_content, ended_reported, most_tried, never_refused, stopped_pending}
 use Rattle.lol_vm.proofs.VmStarts.{none_tried, requested_is}
 use Rattle.lol_vm.proofs.VmRefusals.{child_isnt_asked, child_isnt_failed, child_isnt_limit, push_isnt_failed, push_isnt_full, push_isnt_asked, push_isnt_silent, requested_as, requested_ok, requested_refused, reported_with, limited_counted, not_false, err_is_not_ok, data_after, has_open_failed, has_open_same, on_err, open_counted, requested_keeps, same_stack}
@@ -82,9 +83,9 @@ returns-in-Err-clause-free g c = λ error is s esi events tag stands named takes
 
 pub returns-in-Err-tried-clause-free : goal.returns-in-Err-tried-clause-free
 returns-in-Err-tried-clause-free g c = λ error is s esi events tag stands named takes.
-    let small = has_small s stands.paths c.args.self.now stands.machine stands.shows stands.standing.program takes.0 in
+    let free = is_closed_free s stands.paths c.args.self.now stands.machine stands.shows stands.standing.program takes.0 (has_content esi tag) (void_is_closed esi tag takes.1 takes.2) in
     let ok = never_refused g.E.ElementData.ids g.E.ElementData.with_ids g.met.E.ElementData.ids_of_changed c.args.self.now c.args.local_name c.args.ns s esi events tag stands named c.add_child.new.self c.in_default.ensures.ok c.in_default.ensures.room
-    c.new-ctx.result c.try_start-tried.new.ctx c.new-self.result c.try_start-tried.new.self c.try_start-tried.result c.new-ctx.ensures.item c.new-ctx.ensures.ns c.new-ctx.ensures.with_content c.new-self.ensures.names c.new-self.ensures.attributes (c.try_start-tried.ensures.tried tag) (ap is_html takes.1) (void_is_closed esi tag takes.1 takes.2) small in
+    c.new-ctx.result c.try_start-tried.new.ctx c.new-self.result c.try_start-tried.new.self c.try_start-tried.result c.new-ctx.ensures.item c.new-ctx.ensures.ns c.new-ctx.ensures.with_content c.new-self.ensures.names c.new-self.ensures.attributes (c.try_start-tried.ensures.tried tag) free in
     absurd (err_is_not_ok c.try_start-tried.result c.in-Err-tried.error c.in-Err-tried.is ok)
 
 pub returns-in-Some-clause-free : goal.returns-in-Some-clause-free
@@ -94,10 +95,17 @@ returns-in-Some-clause-free g c = λ error is s esi events tag stands named take
     (c.request.ensures.free (subst (λ (n : Name). IsNone n.spelling) (sym name) (void_unspelled tag.name takes.2))) (ap (λ (v : Vm _). v.failed) c.in-Ok.ensures.ok ∙ (sym stands.shows.refused ∙ stands.standing.never_refused)) is
 
 pub returns-in-Err-answer-clause-all_or_none : goal.returns-in-Err-answer-clause-all_or_none
-returns-in-Err-answer-clause-all_or_none g c = λ error is. inr (λ s esi events tag stands named.
-    let reported = ended_reported g.E.ElementData.ids g.E.ElementData.with_ids g.met.E.ElementData.ids_of_changed c.args.self.now c.args.local_name c.args.ns s esi events tag stands named c.add_child.new.self c.in_default.ensures.ok c.in_default.ensures.room
-    c.new-ctx.result c.try_start-tried.new.ctx c.new-self.result c.try_start-tried.new.self c.try_start-tried.result c.new-ctx.ensures.item c.new-ctx.ensures.ns c.new-ctx.ensures.with_content c.new-self.ensures.names c.new-self.ensures.attributes (c.try_start-tried.ensures.tried tag) (c.in-Ok.is ∙ ap Ok c.in_default-stopped.is) _ c.args.match_handler.now c.answer.new.match_handler c.in-Err-answer.ensures.reported in
-    reported_with _ s esi events tag false c.args.match_handler.now c.answer.new.match_handler c.try_start-tried.new.self.tries c.answer.new.self.tries (ap (λ (v : Vm _). v.tries) c.in-Err-answer.ensures.err.1) reported)
+returns-in-Err-answer-clause-all_or_none g c = λ error is. inr (
+  λ s esi events tag stands named.
+      let reported = ended_reported g.E.ElementData.ids g.E.ElementData.with_ids g.met.E.ElementData.ids_of_changed c.args.self.now c.args.local_name c.args.ns s esi events tag stands named c.add_child.new.self c.in_default.ensures.ok c.in_default.ensures.room
+      c.new-ctx.result c.try_start-tried.new.ctx c.new-self.result c.try_start-tried.new.self c.try_start-tried.result c.new-ctx.ensures.item c.new-ctx.ensures.ns c.new-ctx.ensures.with_content c.new-self.ensures.names c.new-self.ensures.attributes (c.try_start-tried.ensures.tried tag) (c.in-Ok.is ∙ ap Ok c.in_default-stopped.is) _ c.args.match_handler.now c.answer.new.match_handler c.in-Err-answer.ensures.reported in
+      reported_with _ s esi events tag false c.args.match_handler.now c.answer.new.match_handler c.try_start-tried.new.self.tries c.answer.new.self.tries (ap (λ (v : Vm _). v.tries) c.in-Err-answer.ensures.err.1) reported,
+  λ due.
+      let same : Memory error ≡ c.from-in-Err-answer.result = cc in
+      let opens = not_false c.try_start-tried.new.ctx.with_content (λ closed. err_is_not_ok c.answer.result c.in-Err-answer.error c.in-Err-answer.is (c.answer.ensures.closed closed)) in
+      let still = subst (λ (x : StackOf Name StackNames _). IsLimited (list_in x) c.args.limiter.now) (sym (ap (λ (v : Vm _). v.stack) c.in-Ok.ensures.ok ∙ c.in_default.ensures.ok)) (limited_counted c.args.self.now.stack c.args.local_name c.args.limiter.now due) in
+      limit_only c.answer.result c.in-Err-answer.error (Memory error) c.in-Err-answer.is (c.answer.ensures.limited.1 (opens, still)) (same ∙ c.from-in-Err-answer.ensures),
+)
 
 pub returns-in-Err-tried-clause-tried : goal.returns-in-Err-tried-clause-tried
 returns-in-Err-tried-clause-tried g c = λ s esi events tag stands named.
@@ -444,3 +452,39 @@ returns-in-Err-answer-clause-free g c = λ error is s esi events tag stands name
     let still = ended_content g.E.ElementData.ids g.E.ElementData.with_ids g.met.E.ElementData.ids_of_changed c.args.self.now c.args.local_name c.args.ns s esi events tag stands named c.add_child.new.self c.in_default.ensures.ok c.in_default.ensures.room
     c.new-ctx.result c.try_start-tried.new.ctx c.new-self.result c.try_start-tried.new.self c.try_start-tried.result c.new-ctx.ensures.item c.new-ctx.ensures.ns c.new-ctx.ensures.with_content c.new-self.ensures.names c.new-self.ensures.attributes (c.try_start-tried.ensures.tried tag) (c.in-Ok.is ∙ ap Ok c.in_default-stopped.is) in
     absurd (err_is_not_ok c.answer.result c.in-Err-answer.error c.in-Err-answer.is (c.answer.ensures.closed (still ∙ void_is_closed esi tag takes.1 takes.2)))
+
+pub returns-then-self-clause-due : goal.returns-then-self-clause-due
+returns-then-self-clause-due g c = λ error is due s esi events tag stands named runs. cc
+
+pub returns-in-Err-clause-due : goal.returns-in-Err-clause-due
+returns-in-Err-clause-due g c = λ error is due s esi events tag stands named runs.
+    let none = has_none_typed s stands.paths c.args.self.now stands.machine stands.shows stands.standing.program runs.flat.small in
+    let full = c.in-Err.ensures.free none in
+    let child : c.in-Err.error ≡ CounterFull = cc in
+    not_for_memory error (full_only c.in-Err.error c.from.result error child c.from.ensures cc)
+
+pub returns-in-Err-tried-clause-due : goal.returns-in-Err-tried-clause-due
+returns-in-Err-tried-clause-due g c = λ error is due s esi events tag stands named runs.
+    let free = is_alone_free s stands.paths c.args.self.now stands.machine stands.shows stands.standing.program runs.flat.small runs.flat.alone (has_content esi tag) in
+    let ok = never_refused g.E.ElementData.ids g.E.ElementData.with_ids g.met.E.ElementData.ids_of_changed c.args.self.now c.args.local_name c.args.ns s esi events tag stands named c.add_child.new.self c.in_default.ensures.ok c.in_default.ensures.room
+    c.new-ctx.result c.try_start-tried.new.ctx c.new-self.result c.try_start-tried.new.self c.try_start-tried.result c.new-ctx.ensures.item c.new-ctx.ensures.ns c.new-ctx.ensures.with_content c.new-self.ensures.names c.new-self.ensures.attributes (c.try_start-tried.ensures.tried tag) free in
+    absurd (err_is_not_ok c.try_start-tried.result c.in-Err-tried.error c.in-Err-tried.is ok)
+
+pub returns-in-Some-clause-due : goal.returns-in-Some-clause-due
+returns-in-Some-clause-due g c = λ error is due s esi events tag stands named runs.
+    let pending = stopped_pending g.E.ElementData.ids g.E.ElementData.with_ids g.met.E.ElementData.ids_of_changed c.args.self.now c.args.local_name c.args.ns s esi events tag stands named c.add_child.new.self c.in_default.ensures.ok c.in_default.ensures.room
+    c.new-ctx.result c.try_start-tried.new.ctx c.new-self.result c.try_start-tried.new.self c.try_start-tried.result c.new-ctx.ensures.item c.new-ctx.ensures.ns c.new-ctx.ensures.with_content c.new-self.ensures.names c.new-self.ensures.attributes (c.try_start-tried.ensures.tried tag) c.in-Some.point (c.in-Ok.is ∙ ap Ok c.in-Some.is) c.in-Ok.ensures.ok in
+    let name : c.try_start-tried.new.ctx.stack_item.local_name ≡ local_name tag.name = c.try_start-tried.ensures.name ∙ (c.new-ctx.ensures.item.name ∙ named.0) in
+    not_for_memory error
+    (asked_only c.try_start-tried.new.ctx c.in-Some.point c.try_start-tried.new.self c.request.new.self c.request.result error c.request.ensures.requested
+    (c.request.ensures.free (subst (λ (n : Name). IsNone n.spelling) (sym name) (runs.named pending.asks))) (ap (λ (v : Vm _). v.failed) c.in-Ok.ensures.ok ∙ (sym stands.shows.refused ∙ stands.standing.never_refused)) is)
+
+pub returns-in-Err-answer-clause-due : goal.returns-in-Err-answer-clause-due
+returns-in-Err-answer-clause-due g c = λ error is due s esi events tag stands named runs.
+    let same : error ≡ c.from-in-Err-answer.result = cc in
+    let opens = not_false c.try_start-tried.new.ctx.with_content (λ closed. err_is_not_ok c.answer.result c.in-Err-answer.error c.in-Err-answer.is (c.answer.ensures.closed closed)) in
+    let still = subst (λ (x : StackOf Name StackNames _). IsLimited (list_in x) c.args.limiter.now) (sym (ap (λ (v : Vm _). v.stack) c.in-Ok.ensures.ok ∙ c.in_default.ensures.ok)) (limited_counted c.args.self.now.stack c.args.local_name c.args.limiter.now due) in
+    limit_only c.answer.result c.in-Err-answer.error error c.in-Err-answer.is (c.answer.ensures.limited.1 (opens, still)) (same ∙ c.from-in-Err-answer.ensures)
+
+pub returns-in-Ok-answer-clause-due : goal.returns-in-Ok-answer-clause-due
+returns-in-Ok-answer-clause-due g c = λ error is due s esi events tag stands named runs. cc
