@@ -1,5 +1,6 @@
 -- Limiters that are charged for a machine's slots.
-use Rattle.std.proofs.Common.{◌≡◌, ℕ, ◌+◌, ◌-◌, ◌*◌, ◌≤◌, ◌∙◌, sym, ap, subst, arith}
+use Rattle.std.proofs.Common.{◌≡◌, ℕ, ◌+◌, ◌-◌, ◌*◌, ◌≤◌, Result, Ok, Err, ◌∙◌, sym, ap, subst, arith}
+use Rattle.std.specs.Result.{OnErr, OnOk}
 use Rattle.std.proofs.Math.Nat.{add-mul}
 use Rattle.lol_memory.specs.Limiter.{Limiter, charged}
 use Rattle.lol_vm.specs.Vms.{Vm, slots_charged, slot_bytes}
@@ -36,3 +37,15 @@ pub charge_released : {E : Type 0} (vm : Vm E) (base before now : Limiter) → n
 charge_released vm base before now is h =
     let left : (base.usage + slots_charged vm * slot_bytes vm) - slots_charged vm * slot_bytes vm ≡ base.usage = omega arith in
     is ∙ (ap (λ (l : Limiter). record l { usage = l.usage - slots_charged vm * slot_bytes vm }) h ∙ (λ i. record base { usage = left i }))
+
+-- what a machine without slots was charged for since is in the usage
+pub charged_since : {T X : Type 0} (answer : Result T X) (old new bytes same_bytes : ℕ) (before now : Limiter) → old ≡ 0 → same_bytes ≡ bytes → OnOk answer (now ≡ charged before ((new - old) * bytes)) → OnErr answer (new ≡ old)
+    → new * same_bytes ≤ now.usage
+charged_since (Ok done) old new bytes same_bytes before now none same ok err =
+    let more : new ≡ new - old = omega (arith, none) in
+    let product : new * same_bytes ≡ (new - old) * bytes = λ i. more i * same i in
+    let usage = ap (λ (l : Limiter). l.usage) ok in
+    omega (arith, product, usage)
+charged_since (Err error) old new bytes same_bytes before now none same ok err =
+    let nothing : new * same_bytes ≡ 0 = ap (λ n. n * same_bytes) (err ∙ none) ∙ omega arith in
+    omega (arith, nothing)

@@ -1,3 +1,4 @@
+pub mod Added
 pub mod Charges
 pub mod Pushed
 pub mod Told
