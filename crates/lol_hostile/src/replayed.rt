@@ -2,7 +2,7 @@
 //!
 //! They were made by a slow model of the definitions, written apart from this project, which draws selectors and tags at random:
 //! first scripts of names and `*`, from a few names, then scripts of every kind. They were run through lol_html too: it answers
-//! alike wherever its rules are those of this project (docs/DECISIONS.md has the differences).
+//! alike wherever its rules are those of this project (docs/DIFFERENCES.md has the differences).
 
 use lol_script::Status;
 

@@ -13,6 +13,8 @@ mod machine_stops;
 #[cfg(test)]
 mod machines;
 #[cfg(test)]
+mod passed_on;
+#[cfg(test)]
 mod runs;
 #[cfg(test)]
 mod uses;

@@ -5,9 +5,12 @@ ghost use Rattle.lol_uses.specs.Pages.{HasAttributesInside};
 ghost use Rattle.lol_vm.specs.Views.{HasRangesInside};
 
 use lol_samples::{Attributes, WrittenAttributes};
-use lol_uses::{PageTag, add_text, ids_of_run, ids_on_page, refusal_of};
-use lol_vm::{Ast, Namespace, SelectorError, SharedMemoryLimiter, TagEvent};
+use lol_uses::{
+    PageTag, add_text, answer_past_the_limit, answer_to_break, ids_of_run, ids_on_page, refusal_of,
+};
+use lol_vm::{Ast, MatchInfo, Namespace, SelectorError, SharedMemoryLimiter, TagEvent, VmError};
 use std::alloc::Global;
+use std::process::Abort;
 use std::test::Fail;
 
 fn links(alloc: Global) -> Result<Ast, Fail> {
@@ -117,5 +120,31 @@ fn tells_why_a_text_is_refused(rt: HostRuntime) -> Result<(), Fail> {
     let sibling = SelectorError::UnsupportedCombinator('+');
     assert!(rt; refusal_of(alloc, "nav + a") == Some(sibling));
     assert!(rt; adds_nothing(alloc, "a, ,")?);
+    Ok(())
+}
+
+#[test]
+fn answers_a_line_break(rt: HostRuntime) -> Result<(), Fail> {
+    let mut limiter = SharedMemoryLimiter::new(0);
+    let mut reported = Vec::new(rt.alloc());
+    let mut handler = |info: MatchInfo| {
+        let _ = reported.push((info.match_id, info.with_content));
+    };
+    let answer = answer_to_break(rt.alloc(), &mut limiter, &mut handler);
+    assert!(rt; matches!(answer, Some(Ok(()))));
+    assert!(rt; reported.as_slice() == [(31, false)].as_slice());
+    assert!(rt; limiter.current_usage() == 0);
+    Ok(())
+}
+
+#[test]
+fn answers_a_paragraph_past_the_limit(rt: HostRuntime) -> Result<(), Fail> {
+    let mut reported = Vec::new(rt.alloc());
+    let mut handler = |info: MatchInfo| {
+        let _ = reported.push((info.match_id, info.with_content));
+    };
+    let answer = answer_past_the_limit(rt.alloc(), &mut handler);
+    assert!(rt; matches!(answer, Some(Err(VmError::MemoryLimitExceeded(_)))));
+    assert!(rt; reported.as_slice() == [(7, true)].as_slice());
     Ok(())
 }

@@ -7,9 +7,11 @@ mod numbered;
 mod random;
 mod tag_words;
 mod trees;
+mod tried;
 
 pub use attributes::{Attributes, WrittenAttributes};
 pub use numbered::Numbered;
-pub use random::next_random;
+pub use random::{Random, name_of, next_random};
 pub use tag_words::{TagWord, attributes_of, words_of};
-pub use trees::selectors;
+pub use trees::{ROOT_NODES, node_selectors, selectors, tree_of};
+pub use tried::is_tried;

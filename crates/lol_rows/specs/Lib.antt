@@ -1,0 +1,5 @@
+pub mod Runs
+pub mod VoidNames
+pub mod CaselessNames
+pub mod WorkedRuns
+pub mod WorkedTexts

@@ -1,0 +1,107 @@
+//! What the machine answers to tags as words.
+
+ghost use Rattle.std.specs.Prelude.{All, IfOk};
+ghost use Rattle.lol_vm.specs.Views.{HasRangesInside};
+
+use lol_samples::{Attributes, TagWord, attributes_of, selectors, words_of};
+use lol_vm::{RunStop, SharedMemoryLimiter, TagEvent, TagReport, match_each_event, match_events};
+use std::alloc::{AllocError, Global};
+use std::process::Abort;
+use std::test::Fail;
+
+fn event<'e, 't: 'e>(rt: &impl Abort, tag: &TagWord<'t>, attributes: &'e Attributes) -> TagEvent<'e>
+    ensures { HasRangesInside result }
+{
+    let name = tag.name.as_bytes();
+    if tag.ends {
+        return TagEvent::End { name };
+    }
+    let aux_info = attributes.info(tag.self_closing);
+    assert!(rt; aux_info.ranges_inside());
+    TagEvent::Start {
+        name,
+        ns: tag.ns,
+        aux_info,
+        finish: tag.finish,
+    }
+}
+
+fn events_of<'e, 't: 'e>(
+    rt: &impl Abort,
+    alloc: Global,
+    tags: &[TagWord<'t>],
+    attributes: &'e [Attributes],
+) -> Result<Vec<TagEvent<'e>>, AllocError>
+    ensures { IfOk result (λ events. All HasRangesInside events.items) }
+{
+    let mut events = Vec::new(alloc);
+    for (tag, attributes) in tags.iter().zip(attributes) {
+        events.push(event(rt, tag, attributes))?;
+    }
+    Ok(events)
+}
+
+/// What the machine answers to tags, with the names of ESI or without, and ample memory.
+pub(crate) fn reports(
+    rt: &impl Abort,
+    alloc: Global,
+    texts: &[(&str, u32)],
+    enable_esi_tags: bool,
+    tags: &str,
+) -> Result<Vec<TagReport>, Fail> {
+    let words = words_of(alloc, tags)?;
+    reports_of_tags(rt, alloc, texts, enable_esi_tags, &words)
+}
+
+/// The same for tags that are no words.
+pub(crate) fn reports_of_tags(
+    rt: &impl Abort,
+    alloc: Global,
+    texts: &[(&str, u32)],
+    enable_esi_tags: bool,
+    tags: &[TagWord<'_>],
+) -> Result<Vec<TagReport>, Fail> {
+    let attributes = attributes_of(alloc, tags)?;
+    let events = events_of(rt, alloc, tags, &attributes)?;
+    let ast = selectors(alloc, texts)?;
+    let mut limiter = SharedMemoryLimiter::new(1_000_000);
+    match match_events(alloc, ast, 64, enable_esi_tags, &events, &mut limiter) {
+        Ok(reports) => Ok(reports),
+        Err(_) => Err(Fail::from("the run was refused")),
+    }
+}
+
+/// Where a run of so many nested `d` under `*` stops, with items of 64 bytes, this maximum, and so many bytes in use before.
+pub(crate) fn stop_of(
+    rt: &impl Abort,
+    alloc: Global,
+    maximum: usize,
+    usage: usize,
+    depth: usize,
+) -> Result<Option<RunStop>, Fail> {
+    let words = vec![in alloc; TagWord::of("d"); depth]?;
+    let attributes = attributes_of(alloc, &words)?;
+    let events = events_of(rt, alloc, &words, &attributes)?;
+    let ast = selectors(alloc, &[("*", 0)])?;
+    let mut limiter = SharedMemoryLimiter::new(maximum);
+    assert!(rt; limiter.increase_usage(usage).is_ok());
+    let mut handler = |report: TagReport| drop(report);
+    let answered = match_each_event(alloc, ast, 64, false, &events, &mut limiter, &mut handler);
+    assert!(rt; limiter.current_usage() == usage);
+    Ok(answered.err())
+}
+
+/// Whether a report is of a start tag under these ids, with content or without, or of an end tag that closes these elements.
+pub(crate) fn tells(report: &TagReport, numbers: &[usize], content: bool) -> bool {
+    match report {
+        TagReport::Started { matched, .. } => {
+            matched.iter().all(|found| found.with_content == content)
+                && matched
+                    .iter()
+                    .map(|found| found.match_id as usize)
+                    .eq(numbers.iter().copied())
+        }
+        TagReport::Dropped => numbers.is_empty(),
+        TagReport::Ended { closed } => closed.as_slice() == numbers,
+    }
+}

@@ -1,0 +1,20 @@
+//! Calls that can refuse, each with ample memory at some thousand sizes or values, and its answer beside one that is known otherwise: names,
+//! lists, sets, texts, trees, programs and open elements.
+#![tactic(auto)]
+
+#[cfg(test)]
+mod elements;
+#[cfg(test)]
+mod lists;
+#[cfg(test)]
+mod names;
+#[cfg(test)]
+mod sets;
+#[cfg(test)]
+mod stacks;
+#[cfg(test)]
+mod tests;
+#[cfg(test)]
+mod texts;
+#[cfg(test)]
+mod trees;
