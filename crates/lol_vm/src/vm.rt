@@ -162,7 +162,7 @@ impl<E: ElementData> VmOf<Program, LocalName<'static>, StackNames, E> {
         ensures all_or_none { (error : AllocError) → result ≡ Err (VmError.Memory error)
             → (match_handler.new ≡ match_handler.old)
             ⊎ IsAfterReport F.step self.old local_name.entry ns limiter.old (tries_in self.new)
-                match_handler.old match_handler.new }
+            match_handler.old match_handler.new }
     {
         if self.failed {
             return Err(VmError::Failed);
@@ -300,7 +300,7 @@ impl<E: ElementData> VmOf<Program, LocalName<'static>, StackNames, E> {
         ensures all_or_none { (error : AllocError) → result ≡ Err (PushError.Memory error)
             → (match_handler.new ≡ match_handler.old)
             ⊎ IsAfterWholeReport E.ids self.old request F.step aux_info.entry limiter.old (tries_in self.new)
-                match_handler.old match_handler.new }
+            match_handler.old match_handler.new }
     {
         let AuxStartTagInfoRequest { ctx, point } = request;
         let mut ctx = ctx;
