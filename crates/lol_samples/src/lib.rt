@@ -1,5 +1,5 @@
-//! What tests are written with: selectors under ids, attributes, tags as words, data of an element, and numbers that look random. Nothing is
-//! claimed of them.
+//! What tests are written with: selectors under ids, attributes, tags as words, data of an element, and numbers that look random. Claimed is
+//! what a test can't see: which numbers are drawn, which sizes are tried, and how many selectors there are.
 #![tactic(auto)]
 
 mod attributes;

@@ -1,5 +1,8 @@
 //! Numbers that look random, and names made of them.
 
+ghost use Rattle.std.specs.Prelude.{◌≡◌, ◌<◌, ◌≢◌, ◌%◌};
+ghost use Rattle.lol_samples.specs.Random.{next, upper};
+
 use std::alloc::{AllocError, Global};
 
 /// The letters that are drawn.
@@ -9,7 +12,9 @@ const LETTERS: &[u8] = b"abcdefghijklmnopqrstuvwxyzABCDEFGHIJKLMNOPQRSTUVWXYZ";
 const DIGITS: &[u8] = b"abcdefghijklmnopqrstuvwxyz123456";
 
 /// The next of a row of numbers that look random.
-pub fn next_random(state: u64) -> u64 {
+pub fn next_random(state: u64) -> u64
+    ensures { result ≡ next state }
+{
     state
         .wrapping_mul(6_364_136_223_846_793_005)
         .wrapping_add(1_442_695_040_888_963_407)
@@ -17,18 +22,25 @@ pub fn next_random(state: u64) -> u64 {
 
 /// A row of numbers that look random, the same one for a seed.
 #[derive(Drop)]
-pub struct Random(u64);
+pub struct Random {
+    pub state: u64,
+}
 
 impl Random {
     /// The row of a seed.
-    pub fn new(seed: u64) -> Self {
-        Random(seed)
+    pub fn new(seed: u64) -> Self
+        ensures { result.state ≡ seed }
+    {
+        Random { state: seed }
     }
 
-    /// The next number below a bound.
-    pub fn below(&mut self, bound: u32) -> u32 {
-        self.0 = next_random(self.0);
-        ((self.0 >> 33) as u32) % bound.max(1)
+    /// The next number below a bound, or 0 for the bound 0.
+    pub fn below(&mut self, bound: u32) -> u32
+        ensures next { self.new.state ≡ next self.old.state }
+        ensures number { bound ≢ 0 → result ≡ upper (next self.old.state) % bound }
+    {
+        self.state = next_random(self.state);
+        ((self.state >> 33) as u32) % bound.max(1)
     }
 
     /// The next letter, of either case.

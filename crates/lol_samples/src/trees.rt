@@ -1,5 +1,7 @@
 //! Trees of selectors.
 
+ghost use Rattle.std.specs.Prelude.{◌≡◌, length, IfOk};
+
 use crate::random::name_of;
 use lol_css::{Selector, SelectorError};
 use lol_program::Ast;
@@ -29,7 +31,9 @@ pub fn selectors(alloc: Global, texts: &[(&str, u32)]) -> Result<Ast, SelectorEr
 ///
 /// # Errors
 /// `Memory`.
-pub fn node_selectors(alloc: Global, count: u32) -> Result<Vec<Selector>, SelectorError> {
+pub fn node_selectors(alloc: Global, count: u32) -> Result<Vec<Selector>, SelectorError>
+    ensures { IfOk result (λ selectors. length selectors.items ≡ count) }
+{
     let mut selectors = Vec::new(alloc);
     for number in 0..count {
         let text = node_text(alloc, number)?;
