@@ -1,5 +1,5 @@
-//! Tests of whole runs with the plain matcher: rows whose answers come from outside, and random tags over random selectors that the machine
-//! is told too.
+//! Tests of whole runs: the worked rows of `lol_rows` told to the machine, so that definitions and code can't be changed alike unnoticed; rows
+//! whose answers come from outside, for the plain matcher; and random tags over random selectors, for both.
 #![tactic(auto)]
 
 #[cfg(test)]
@@ -8,3 +8,13 @@ mod plain_model;
 mod plain_rows;
 #[cfg(test)]
 mod tag_words;
+#[cfg(test)]
+mod told;
+#[cfg(test)]
+mod told_caseless_names;
+#[cfg(test)]
+mod told_runs;
+#[cfg(test)]
+mod told_values;
+#[cfg(test)]
+mod told_void_names;

@@ -4,7 +4,7 @@ ghost use Rattle.std.specs.Prelude.{All};
 ghost use Rattle.lol_vm.specs.Views.{HasRangesInside};
 
 use crate::tag_words::events_of;
-use lol_samples::{TagWord, attributes_of, next_random};
+use lol_samples::{Random, TagWord, attributes_of};
 use lol_vectors::{PlainAnswer, plain_answers};
 use lol_vm::{Ast, Namespace, Selector, SharedMemoryLimiter, TagEvent, TagReport, match_events};
 use std::alloc::{AllocError, Global};
@@ -30,21 +30,22 @@ const SECOND_PARTS: &str =
     "- - - .x .y #i [h] [h=v] [h~='w'i] [h^=v] [h$='W'i] [h*='-'] [h|=v] :first-child :nth-child(2n+1) :nth-child(-n+3) \
     :nth-of-type(2) :first-of-type :not(a) :not(.x,p) :not(:nth-of-type(2n)) :is(a,.x) :where(b,[h=v]) :is(:not(.x),p)";
 
-/// A row of random numbers.
+/// Selectors and tags that are drawn.
 #[derive(Drop)]
-struct Random(u64);
+struct Drawn {
+    random: Random,
+}
 
-impl Random {
-    /// The next number below a bound.
-    fn below(&mut self, bound: usize) -> usize {
-        self.0 = next_random(self.0);
-        (self.0 >> 33) as usize % bound.max(1)
+impl Drawn {
+    fn below(&mut self, bound: u32) -> u32 {
+        self.random.below(bound)
     }
 
     /// One of the words of a text.
     fn word<'t>(&mut self, text: &'t str) -> &'t str {
-        let at = self.below(text.split_whitespace().count());
-        text.split_whitespace().nth(at).unwrap_or("")
+        let words = u32::try_from(text.split_whitespace().count()).unwrap_or(1);
+        let at = self.below(words);
+        text.split_whitespace().nth(at as usize).unwrap_or("")
     }
 
     fn push_compound(&mut self, text: &mut String) -> Result<(), AllocError> {
@@ -72,8 +73,7 @@ impl Random {
         for _selector in 0..SELECTORS {
             let text = self.selector(alloc)?;
             let selector = Selector::from_str(alloc, &text)?;
-            let match_id = u32::try_from(self.below(40)).unwrap_or(0);
-            ast.add_selector(&selector, match_id)?;
+            ast.add_selector(&selector, self.below(40))?;
         }
         Ok(ast)
     }
@@ -167,20 +167,22 @@ fn compare_events(
 fn compare_tags(
     rt: &impl Abort,
     alloc: Global,
-    random: &mut Random,
+    drawn: &mut Drawn,
     seed: u64,
     ast: Ast,
 ) -> Result<(), Fail> {
-    let tags = random.tags(alloc)?;
+    let tags = drawn.tags(alloc)?;
     let attributes = attributes_of(alloc, &tags)?;
     let events = events_of(rt, alloc, &tags, &attributes)?;
     compare_events(rt, alloc, seed, ast, &events)
 }
 
 fn compare(rt: &impl Abort, alloc: Global, seed: u64) -> Result<(), Fail> {
-    let mut random = Random(seed);
-    let ast = random.selectors(alloc)?;
-    compare_tags(rt, alloc, &mut random, seed, ast)
+    let mut drawn = Drawn {
+        random: Random::new(seed),
+    };
+    let ast = drawn.selectors(alloc)?;
+    compare_tags(rt, alloc, &mut drawn, seed, ast)
 }
 
 #[test]

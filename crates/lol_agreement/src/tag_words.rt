@@ -8,7 +8,7 @@ use lol_vm::TagEvent;
 use std::alloc::{AllocError, Global};
 use std::process::Abort;
 
-fn event<'e>(rt: &impl Abort, tag: &TagWord<'e>, attributes: &'e Attributes) -> TagEvent<'e>
+fn event<'e, 't: 'e>(rt: &impl Abort, tag: &TagWord<'t>, attributes: &'e Attributes) -> TagEvent<'e>
     ensures { HasRangesInside result }
 {
     let name = tag.name.as_bytes();
@@ -26,10 +26,10 @@ fn event<'e>(rt: &impl Abort, tag: &TagWord<'e>, attributes: &'e Attributes) -> 
 }
 
 /// The tags, with these attributes.
-pub(crate) fn events_of<'e>(
+pub(crate) fn events_of<'e, 't: 'e>(
     rt: &impl Abort,
     alloc: Global,
-    tags: &[TagWord<'e>],
+    tags: &[TagWord<'t>],
     attributes: &'e [Attributes],
 ) -> Result<Vec<TagEvent<'e>>, AllocError>
     ensures { IfOk result (λ events. All HasRangesInside events.items) }

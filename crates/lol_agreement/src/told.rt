@@ -1,45 +1,11 @@
 //! What the machine answers to tags as words.
 
-ghost use Rattle.std.specs.Prelude.{All, IfOk};
-ghost use Rattle.lol_vm.specs.Views.{HasRangesInside};
-
-use lol_samples::{Attributes, TagWord, attributes_of, selectors, words_of};
-use lol_vm::{RunStop, SharedMemoryLimiter, TagEvent, TagReport, match_each_event, match_events};
-use std::alloc::{AllocError, Global};
+use crate::tag_words::events_of;
+use lol_samples::{TagWord, attributes_of, selectors, words_of};
+use lol_vm::{RunStop, SharedMemoryLimiter, TagReport, match_each_event, match_events};
+use std::alloc::Global;
 use std::process::Abort;
 use std::test::Fail;
-
-fn event<'e, 't: 'e>(rt: &impl Abort, tag: &TagWord<'t>, attributes: &'e Attributes) -> TagEvent<'e>
-    ensures { HasRangesInside result }
-{
-    let name = tag.name.as_bytes();
-    if tag.ends {
-        return TagEvent::End { name };
-    }
-    let aux_info = attributes.info(tag.self_closing);
-    assert!(rt; aux_info.ranges_inside());
-    TagEvent::Start {
-        name,
-        ns: tag.ns,
-        aux_info,
-        finish: tag.finish,
-    }
-}
-
-fn events_of<'e, 't: 'e>(
-    rt: &impl Abort,
-    alloc: Global,
-    tags: &[TagWord<'t>],
-    attributes: &'e [Attributes],
-) -> Result<Vec<TagEvent<'e>>, AllocError>
-    ensures { IfOk result (λ events. All HasRangesInside events.items) }
-{
-    let mut events = Vec::new(alloc);
-    for (tag, attributes) in tags.iter().zip(attributes) {
-        events.push(event(rt, tag, attributes))?;
-    }
-    Ok(events)
-}
 
 /// What the machine answers to tags, with the names of ESI or without, and ample memory.
 pub(crate) fn reports(

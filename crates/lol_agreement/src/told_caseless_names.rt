@@ -6,8 +6,7 @@ use std::process::Abort;
 use std::test::Fail;
 
 /// The names (HTML Standard, "Case-sensitivity of selectors", 4.16.2).
-const CASELESS: &str =
-    "accept accept-charset align alink axis bgcolor charset checked \
+const CASELESS: &str = "accept accept-charset align alink axis bgcolor charset checked \
         clear codetype color compact declare defer dir direction \
     disabled enctype face frame hreflang http-equiv lang language link media method multiple nohref noresize \
         noshade nowrap readonly rel rev rules \
