@@ -173,7 +173,7 @@ fn compare_tags(
 ) -> Result<(), Fail> {
     let tags = drawn.tags(alloc)?;
     let attributes = attributes_of(alloc, &tags)?;
-    let events = events_of(rt, alloc, &tags, &attributes)?;
+    let events = events_of(alloc, &tags, &attributes)?;
     compare_events(rt, alloc, seed, ast, &events)
 }
 

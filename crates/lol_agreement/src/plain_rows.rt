@@ -70,7 +70,6 @@ fn write_answer(text: &mut String, answer: &PlainAnswer) -> Result<(), AllocErro
 
 /// The answers to tags, written one after the other.
 fn answers(
-    rt: &impl Abort,
     alloc: Global,
     ast: &Ast,
     enable_esi_tags: bool,
@@ -78,7 +77,7 @@ fn answers(
 ) -> Result<String, AllocError> {
     let words = words_of(alloc, tags)?;
     let attributes = attributes_of(alloc, &words)?;
-    let events = events_of(rt, alloc, &words, &attributes)?;
+    let events = events_of(alloc, &words, &attributes)?;
     let mut text = String::new(alloc);
     for answer in &plain_answers(alloc, ast, enable_esi_tags, &events)? {
         write_answer(&mut text, answer)?;
@@ -95,7 +94,7 @@ fn check(
     wanted: &str,
 ) -> Result<(), Fail> {
     let ast = selectors(alloc, texts)?;
-    let text = answers(rt, alloc, &ast, enable_esi_tags, tags)?;
+    let text = answers(alloc, &ast, enable_esi_tags, tags)?;
     assert!(rt; text.as_str() == wanted);
     Ok(())
 }

@@ -3,31 +3,29 @@
 ghost use Rattle.std.specs.Prelude.{All, IfOk};
 ghost use Rattle.lol_vm.specs.Views.{HasRangesInside};
 
-use lol_samples::{Attributes, TagWord};
+use lol_base::Attributes;
+use lol_samples::TagWord;
 use lol_vm::TagEvent;
 use std::alloc::{AllocError, Global};
 use std::process::Abort;
 
-fn event<'e, 't: 'e>(rt: &impl Abort, tag: &TagWord<'t>, attributes: &'e Attributes) -> TagEvent<'e>
+fn event<'e, 't: 'e>(tag: &TagWord<'t>, attributes: &'e Attributes) -> TagEvent<'e>
     ensures { HasRangesInside result }
 {
     let name = tag.name.as_bytes();
     if tag.ends {
         return TagEvent::End { name };
     }
-    let aux_info = attributes.info(tag.self_closing);
-    assert!(rt; aux_info.ranges_inside());
     TagEvent::Start {
         name,
         ns: tag.ns,
-        aux_info,
+        aux_info: attributes.aux_info(tag.self_closing),
         finish: tag.finish,
     }
 }
 
 /// The tags, with these attributes.
 pub(crate) fn events_of<'e, 't: 'e>(
-    rt: &impl Abort,
     alloc: Global,
     tags: &[TagWord<'t>],
     attributes: &'e [Attributes],
@@ -36,7 +34,7 @@ pub(crate) fn events_of<'e, 't: 'e>(
 {
     let mut events = Vec::new(alloc);
     for (tag, attributes) in tags.iter().zip(attributes) {
-        events.push(event(rt, tag, attributes))?;
+        events.push(event(tag, attributes))?;
     }
     Ok(events)
 }

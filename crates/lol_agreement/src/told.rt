@@ -9,26 +9,24 @@ use std::test::Fail;
 
 /// What the machine answers to tags, with the names of ESI or without, and ample memory.
 pub(crate) fn reports(
-    rt: &impl Abort,
     alloc: Global,
     texts: &[(&str, u32)],
     enable_esi_tags: bool,
     tags: &str,
 ) -> Result<Vec<TagReport>, Fail> {
     let words = words_of(alloc, tags)?;
-    reports_of_tags(rt, alloc, texts, enable_esi_tags, &words)
+    reports_of_tags(alloc, texts, enable_esi_tags, &words)
 }
 
 /// The same for tags that are no words.
 pub(crate) fn reports_of_tags(
-    rt: &impl Abort,
     alloc: Global,
     texts: &[(&str, u32)],
     enable_esi_tags: bool,
     tags: &[TagWord<'_>],
 ) -> Result<Vec<TagReport>, Fail> {
     let attributes = attributes_of(alloc, tags)?;
-    let events = events_of(rt, alloc, tags, &attributes)?;
+    let events = events_of(alloc, tags, &attributes)?;
     let ast = selectors(alloc, texts)?;
     let mut limiter = SharedMemoryLimiter::new(1_000_000);
     match match_events(alloc, ast, 64, enable_esi_tags, &events, &mut limiter) {
@@ -47,7 +45,7 @@ pub(crate) fn stop_of(
 ) -> Result<Option<RunStop>, Fail> {
     let words = vec![in alloc; TagWord::of("d"); depth]?;
     let attributes = attributes_of(alloc, &words)?;
-    let events = events_of(rt, alloc, &words, &attributes)?;
+    let events = events_of(alloc, &words, &attributes)?;
     let ast = selectors(alloc, &[("*", 0)])?;
     let mut limiter = SharedMemoryLimiter::new(maximum);
     assert!(rt; limiter.increase_usage(usage).is_ok());

@@ -40,7 +40,7 @@ fn expect_ids(
             (same.as_str(), 3),
         ];
         let tags = format!(in alloc; "a@{name}=text svg:a@{name}=text math:a@{name}=text")?;
-        let told = reports(rt, alloc, &texts, false, &tags)?;
+        let told = reports(alloc, &texts, false, &tags)?;
         assert!(rt; told.len() == 3, "{name}");
         assert!(rt; tells(&told[0], in_html, true), "{name}");
         assert!(rt;

@@ -133,7 +133,7 @@ fn expect_told(rt: &impl Abort, told: &[TagReport], tags: &str, wanted: &[&[usiz
 #[test]
 fn report_what_matches(rt: HostRuntime) -> Result<(), Fail> {
     for (texts, tags, wanted) in ROWS {
-        let told = reports(&rt, rt.alloc(), texts, false, tags)?;
+        let told = reports(rt.alloc(), texts, false, tags)?;
         expect_told(&rt, &told, tags, wanted);
     }
     Ok(())
@@ -148,7 +148,7 @@ fn was_asked(report: &TagReport) -> bool {
 fn ask_where_a_node_needs_it(rt: HostRuntime) -> Result<(), Fail> {
     let texts = [("div .b", 0), ("p", 1)];
     let tags = "p! /p div p p!";
-    let told = reports(&rt, rt.alloc(), &texts, false, tags)?;
+    let told = reports(rt.alloc(), &texts, false, tags)?;
     expect_told(&rt, &told, tags, &[&[1], &[0], &[], &[1], &[]]);
     let asked = told.iter().map(|report| was_asked(report));
     assert!(rt; asked.eq([false, false, false, true, false].iter().copied()));

@@ -44,7 +44,7 @@ fn expect_ids(
         attribute: Some((name, Some(value))),
         ..TagWord::of("a")
     };
-    let told = reports_of_tags(rt, alloc, texts, false, &[tag])?;
+    let told = reports_of_tags(alloc, texts, false, &[tag])?;
     assert!(rt;
         told.len() == 1 && tells(&told[0], wanted, true),
         "{value:?}"

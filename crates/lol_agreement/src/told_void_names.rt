@@ -35,7 +35,7 @@ fn expect_content(
 ) -> Result<(), Fail> {
     for name in names.split_whitespace() {
         let tags = format!(in alloc; "{before}{name}{after} /{name}")?;
-        let told = reports(rt, alloc, &[("*", 0)], esi, &tags)?;
+        let told = reports(alloc, &[("*", 0)], esi, &tags)?;
         let closed: &[usize] = if content { &[0] } else { &[] };
         assert!(rt; told.len() == 2, "{tags}");
         assert!(rt;

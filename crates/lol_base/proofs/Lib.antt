@@ -1,3 +1,4 @@
 pub mod Steps
 pub mod CodeLemmas
 pub mod ByteOrder
+pub mod GrownInput

@@ -8,6 +8,7 @@ pub mod Kept
 pub mod CodeLaws
 pub mod Tags
 pub mod StartTags
+pub mod BuiltAttributes
 pub mod BoolLaws
 pub mod ListLaws
 pub mod MemberLaws

@@ -3,6 +3,7 @@
 #![tactic(auto)]
 
 mod attribute;
+mod attributes;
 mod bytes;
 pub mod laws;
 mod local_name;
@@ -12,6 +13,7 @@ mod start_tag;
 mod tag;
 
 pub use attribute::{AttrSelectorOperator, CaseSensitivity, ParsedCaseSensitivity};
+pub use attributes::Attributes;
 pub use bytes::{Bytes, Range};
 pub use local_name::LocalName;
 pub use namespace::Namespace;

@@ -6,8 +6,8 @@ ghost use Rattle.lol_vm.specs.Views.{HasRangesInside};
 use crate::runs::{expect_lines, expect_run};
 use lol_script::Status;
 use lol_vm::{
-    Ast, AttributeBuffer, AuxStartTagInfo, Bytes, Namespace, RunCause, RunRefusal, Selector,
-    SharedMemoryLimiter, TagEvent, TagReport, match_events,
+    Ast, Attributes, Namespace, RunCause, RunRefusal, Selector, SharedMemoryLimiter, TagEvent,
+    TagReport, match_events,
 };
 use std::alloc::Global;
 use std::process::Abort;
@@ -107,17 +107,13 @@ fn functions_nest_to_their_bound(rt: HostRuntime) -> Result<(), Fail> {
     Ok(())
 }
 
-fn start<'i>(name: &'i [u8], none: &'i AttributeBuffer) -> TagEvent<'i>
-    ensures ranges { none.now.items ≡ [] → HasRangesInside result }
+fn start<'i>(name: &'i [u8], none: &'i Attributes) -> TagEvent<'i>
+    ensures { HasRangesInside result }
 {
     TagEvent::Start {
         name,
         ns: Namespace::Html,
-        aux_info: AuxStartTagInfo {
-            input: Bytes::new(name),
-            attr_buffer: none,
-            self_closing: false,
-        },
+        aux_info: none.aux_info(false),
         finish: true,
     }
 }
@@ -139,7 +135,7 @@ fn runs_right(alloc: Global, limiter: &mut SharedMemoryLimiter, fits: bool) -> R
     let selector = Selector::from_str(alloc, "*")?;
     let mut ast = Ast::new(alloc);
     ast.add_selector(&selector, 0)?;
-    let none = AttributeBuffer::new(alloc);
+    let none = Attributes::new(alloc);
     let events = [start(b"d", &none)];
     let answer = match_events(alloc, ast, 64, false, &events, limiter);
     Ok(is_right(&answer, fits))

@@ -3,7 +3,7 @@
 ghost use Rattle.std.specs.Prelude.{◌≡◌};
 ghost use Rattle.lol_vm.specs.Vms.{slot_bytes};
 
-use lol_samples::{Attributes, Numbered, WrittenAttributes};
+use lol_samples::{Numbered, WrittenAttributes, written_attributes};
 use lol_vm::{
     Ast, AuxStartTagInfoRequest, LocalName, MatchInfo, Namespace, SelectorMatchingVm,
     SharedMemoryLimiter, VmError,
@@ -136,9 +136,8 @@ pub(crate) fn start(
     let said = match vm.exec_for_start_tag(name, tag.ns, limiter, &mut handler) {
         Ok(()) => Said::Unasked,
         Err(VmError::InfoRequest(request)) => {
-            let written = Attributes::new(alloc, tag.attributes).expect(rt, "memory");
-            let info = written.info(tag.self_closing);
-            assert!(rt; info.ranges_inside());
+            let written = written_attributes(alloc, tag.attributes).expect(rt, "memory");
+            let info = written.aux_info(tag.self_closing);
             let finished = vm.finish_start_tag(request, info, limiter, &mut handler);
             assert!(rt; finished.is_ok());
             Said::Asked

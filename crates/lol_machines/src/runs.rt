@@ -5,25 +5,21 @@ ghost use Rattle.lol_vm.specs.Views.{HasRangesInside};
 
 use lol_samples::selectors;
 use lol_vm::{
-    Ast, AttributeBuffer, AuxStartTagInfo, Bytes, MatchInfo, Namespace, RunCause, RunStop,
-    Selector, SharedMemoryLimiter, TagEvent, TagReport, match_each_event, match_events,
+    Ast, Attributes, MatchInfo, Namespace, RunCause, RunStop, Selector, SharedMemoryLimiter,
+    TagEvent, TagReport, match_each_event, match_events,
 };
 use std::alloc::Global;
 use std::ops::Range;
 use std::process::Abort;
 use std::test::Fail;
 
-fn start<'i>(name: &'i [u8], none: &'i AttributeBuffer) -> TagEvent<'i>
-    ensures ranges { none.now.items ≡ [] → HasRangesInside result }
+fn start<'i>(name: &'i [u8], none: &'i Attributes) -> TagEvent<'i>
+    ensures { HasRangesInside result }
 {
     TagEvent::Start {
         name,
         ns: Namespace::Html,
-        aux_info: AuxStartTagInfo {
-            input: Bytes::new(name),
-            attr_buffer: none,
-            self_closing: false,
-        },
+        aux_info: none.aux_info(false),
         finish: true,
     }
 }
@@ -61,7 +57,7 @@ pub(crate) fn reports_of(
 fn answers_tags(rt: HostRuntime) -> Result<(), Fail> {
     let alloc = rt.alloc();
     let ast = selectors(alloc, &[("div p", 0), ("div > p", 1)])?;
-    let none = AttributeBuffer::new(alloc);
+    let none = Attributes::new(alloc);
     let events = [
         start(b"div", &none),
         start(b"section", &none),
@@ -107,7 +103,7 @@ fn answers_children(rt: HostRuntime) -> Result<(), Fail> {
     for (text, match_id) in [("div p", 0), ("div > p", 1)] {
         ast.add_selector(&Selector::from_str(alloc, text)?, match_id)?;
     }
-    let none = AttributeBuffer::new(alloc);
+    let none = Attributes::new(alloc);
     let events = [
         start(b"div", &none),
         start(b"p", &none),
@@ -170,7 +166,7 @@ fn keep_each(
 fn hands_out_each_report(rt: HostRuntime) -> Result<(), Fail> {
     let alloc = rt.alloc();
     let ast = selectors(alloc, &[("div p", 0), ("div > p", 1)])?;
-    let none = AttributeBuffer::new(alloc);
+    let none = Attributes::new(alloc);
     let events = [
         start(b"div", &none),
         start(b"section", &none),
@@ -204,7 +200,7 @@ fn has_count(report: &TagReport, count: usize) -> bool {
 fn hands_out_the_reports_before_a_refusal(rt: HostRuntime) -> Result<(), Fail> {
     let alloc = rt.alloc();
     let ast = selectors(alloc, &[("div div", 5)])?;
-    let none = AttributeBuffer::new(alloc);
+    let none = Attributes::new(alloc);
     let events = [start(b"div", &none); 9];
     let mut reports = Vec::new(alloc);
     let answered = keep_each(&rt, alloc, ast, &events, &mut reports);
@@ -254,7 +250,7 @@ fn expect_numbers(rt: &impl Abort, reports: &[TagReport]) {
 #[test]
 fn answers_where_many_ranges_are_active(rt: HostRuntime) -> Result<(), Fail> {
     let alloc = rt.alloc();
-    let none = AttributeBuffer::new(alloc);
+    let none = Attributes::new(alloc);
     let events = [
         start(b"a5", &none),
         start(b"x", &none),

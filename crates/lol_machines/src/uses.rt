@@ -4,7 +4,7 @@ ghost use Rattle.std.specs.Prelude.{All};
 ghost use Rattle.lol_uses.specs.Pages.{HasAttributesInside};
 ghost use Rattle.lol_vm.specs.Views.{HasRangesInside};
 
-use lol_samples::{Attributes, WrittenAttributes};
+use lol_samples::{WrittenAttributes, written_attributes};
 use lol_uses::{
     PageTag, add_text, answer_past_the_limit, answer_to_break, ids_of_run, ids_on_page, refusal_of,
 };
@@ -35,9 +35,8 @@ fn page_has_ids(alloc: Global, page: &[PageTag<'_>], wanted: &[u32]) -> Result<b
 #[test]
 fn goes_tag_by_tag(rt: HostRuntime) -> Result<(), Fail> {
     let alloc = rt.alloc();
-    let attributes = Attributes::new(alloc, REL_ME)?;
-    let (aux_info, ns) = (attributes.info(false), Namespace::Html);
-    assert!(rt; aux_info.ranges_inside());
+    let attributes = written_attributes(alloc, REL_ME)?;
+    let (aux_info, ns) = (attributes.aux_info(false), Namespace::Html);
     let page = [
         PageTag::Start {
             name: b"nav",
@@ -78,9 +77,8 @@ fn run_has_ids(alloc: Global, events: &[TagEvent<'_>], wanted: &[u32]) -> Result
 #[test]
 fn runs_a_list(rt: HostRuntime) -> Result<(), Fail> {
     let alloc = rt.alloc();
-    let attributes = Attributes::new(alloc, REL_ME)?;
-    let (aux_info, ns) = (attributes.info(false), Namespace::Html);
-    assert!(rt; aux_info.ranges_inside());
+    let attributes = written_attributes(alloc, REL_ME)?;
+    let (aux_info, ns) = (attributes.aux_info(false), Namespace::Html);
     let events = [
         TagEvent::Start {
             name: b"nav",

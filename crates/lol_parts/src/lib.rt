@@ -1,7 +1,9 @@
-//! Tests of what a machine is made of: names, limits, sets, trees of selectors and their programs. Rows whose answers come from outside, and
+//! Tests of what a machine is made of: names, attributes, limits, sets, trees of selectors and their programs. Rows whose answers come from outside, and
 //! each call that can refuse once with ample memory.
 #![tactic(auto)]
 
+#[cfg(test)]
+mod attributes;
 #[cfg(test)]
 mod limits;
 #[cfg(test)]

@@ -1,6 +1,6 @@
 //! Start tags of a machine.
 
-ghost use Rattle.std.specs.Prelude.{◌≡◌, IfOk};
+ghost use Rattle.std.specs.Prelude.{◌≡◌};
 ghost use Rattle.lol_base.specs.StartTags.{RangesAreInside};
 ghost use Rattle.lol_vm.specs.Vms.{slot_bytes};
 
@@ -8,7 +8,7 @@ use crate::element::{Calls, Element, ITEM_BYTES, release};
 use crate::outcome::{Met, Stop, expect};
 use crate::trees::{attribute, two};
 use lol_vm::{
-    Ast, AttributeBuffer, AuxStartTagInfo, Bytes, LocalName, MatchInfo, Namespace, PushError,
+    Ast, Attributes, AuxStartTagInfo, LocalName, MatchInfo, Namespace, PushError,
     SelectorMatchingVm, SharedMemoryLimiter, VmError,
 };
 use std::alloc::Global;
@@ -33,22 +33,6 @@ impl Said {
             Said::OutOfMemory => Ok(false),
             _ => Err(Stop::Wrong),
         }
-    }
-}
-
-/// The rest of a tag of HTML with the attribute `class=a`, or none.
-fn rest<'t>(attributes: &'t AttributeBuffer) -> Result<AuxStartTagInfo<'t>, Stop>
-    ensures { IfOk result (λ rest. RangesAreInside rest) }
-{
-    let rest = AuxStartTagInfo {
-        input: Bytes::new(b"class=a"),
-        attr_buffer: attributes,
-        self_closing: false,
-    };
-    if rest.ranges_inside() {
-        Ok(rest)
-    } else {
-        Err(Stop::Wrong)
     }
 }
 
@@ -103,20 +87,22 @@ fn closes(vm: &mut Machine, name: &[u8], count: u32, ids: &[u32]) -> bool
 
 /// The selectors `.a p` under 0 and `p` under 1; the start tags `div` with `class=a` and `p`, each finished where it asks.
 pub(crate) fn start_tags(alloc: Global) -> Result<Met, Stop> {
-    let class = attribute(alloc, b"class=a", 5)?;
-    let none = AttributeBuffer::new(alloc);
+    let class = attribute(alloc, b"class", b"a")?;
+    let none = Attributes::new(alloc);
     let ast = two(alloc, ".a p", "p")?;
-    tell_new(alloc, ast, &class, &none)
+    tell_new(alloc, ast, class.aux_info(false), none.aux_info(false))
 }
 
 /// Tells a new machine of the two start tags, over a limiter with some usage.
 fn tell_new(
     alloc: Global,
     ast: Ast,
-    class: &AttributeBuffer,
-    none: &AttributeBuffer,
-) -> Result<Met, Stop> {
-    let class = rest(class)?;
+    class: AuxStartTagInfo<'_>,
+    none: AuxStartTagInfo<'_>,
+) -> Result<Met, Stop>
+    requires class { RangesAreInside class }
+    requires none { RangesAreInside none }
+{
     let mut limiter = SharedMemoryLimiter::new(1_000_000);
     expect(limiter.increase_usage(100).is_ok())?;
     let mut vm = Machine::new(alloc, ast, ITEM_BYTES, false)?;
@@ -130,12 +116,12 @@ fn tell_both(
     vm: &mut Machine,
     limiter: &mut SharedMemoryLimiter,
     class: AuxStartTagInfo<'_>,
-    none: &AttributeBuffer,
+    none: AuxStartTagInfo<'_>,
 ) -> Result<Met, Stop>
-    requires { RangesAreInside class }
+    requires class { RangesAreInside class }
+    requires none { RangesAreInside none }
     ensures { slot_bytes vm.new ≡ slot_bytes vm.old }
 {
-    let none = rest(none)?;
     if !tell_div(vm, limiter, class)? {
         return stuck(vm, limiter, none, 0, 100);
     }
@@ -233,11 +219,13 @@ const VOID: [(&str, &str, Said); 2] = [
 
 /// A start tag `br` asks for no memory at all, nor does its finishing: a refusal is wrong here once the machine is made.
 pub(crate) fn void_tags(alloc: Global) -> Result<Met, Stop> {
-    let class = attribute(alloc, b"class=a", 5)?;
-    tell_void_tags(alloc, &class)
+    let class = attribute(alloc, b"class", b"a")?;
+    tell_void_tags(alloc, class.aux_info(false))
 }
 
-fn tell_void_tags(alloc: Global, class: &AttributeBuffer) -> Result<Met, Stop> {
+fn tell_void_tags(alloc: Global, class: AuxStartTagInfo<'_>) -> Result<Met, Stop>
+    requires { RangesAreInside class }
+{
     for (first, second, said) in &VOID {
         let ast = two(alloc, first, second)?;
         tell_new_of_void(alloc, ast, class, *said)?;
@@ -249,9 +237,11 @@ fn tell_void_tags(alloc: Global, class: &AttributeBuffer) -> Result<Met, Stop> {
 fn tell_new_of_void(
     alloc: Global,
     ast: Ast,
-    class: &AttributeBuffer,
+    class: AuxStartTagInfo<'_>,
     said: Said,
-) -> Result<(), Stop> {
+) -> Result<(), Stop>
+    requires { RangesAreInside class }
+{
     let mut limiter = SharedMemoryLimiter::new(0);
     let mut vm = Machine::new(alloc, ast, ITEM_BYTES, false)?;
     let told = tell_void(&mut vm, &mut limiter, class, said);
@@ -263,12 +253,12 @@ fn tell_new_of_void(
 fn tell_void(
     vm: &mut Machine,
     limiter: &mut SharedMemoryLimiter,
-    class: &AttributeBuffer,
+    class: AuxStartTagInfo<'_>,
     said: Said,
 ) -> Result<(), Stop>
+    requires { RangesAreInside class }
     ensures { slot_bytes vm.new ≡ slot_bytes vm.old }
 {
-    let class = rest(class)?;
     expect(answers_void(vm, limiter, class, said))?;
     expect(closes(vm, b"br", 0, &[]))
 }

@@ -3,6 +3,7 @@
 //! `hostile/refusals.sh` runs each of them with its first, second, and each following request for memory refused.
 #![tactic(auto)]
 
+mod attributes;
 mod compiling;
 mod element;
 mod lists;
@@ -20,7 +21,7 @@ use std::io::Read;
 use std::process::ExitCode;
 
 /// The names of the scenarios.
-const NAMES: [&str; 30] = [
+const NAMES: [&str; 31] = [
     "from_str",
     "css_string",
     "to_boxed_slice",
@@ -51,6 +52,7 @@ const NAMES: [&str; 30] = [
     "match_events_by_type",
     "run_of_a_bad_line",
     "run_past_the_limit",
+    "attributes_push",
 ];
 
 fn main(rt: HostRuntime) -> ExitCode {
@@ -102,6 +104,7 @@ fn scenario(alloc: Global, name: &str) -> Result<Met, Stop> {
 /// The scenarios of the machine's parts.
 fn part(alloc: Global, name: &str) -> Result<Met, Stop> {
     match name {
+        "attributes_push" => attributes::attributes_push(alloc),
         "push" => lists::push(alloc),
         "push_item" => stacks::push_item(alloc),
         "stack_add_child" => stacks::stack_add_child(alloc),

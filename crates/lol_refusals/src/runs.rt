@@ -1,41 +1,29 @@
 //! Whole runs.
 
-ghost use Rattle.std.specs.Prelude.{◌≡◌, IfOk, All};
+ghost use Rattle.std.specs.Prelude.{◌≡◌, All};
 ghost use Rattle.lol_vm.specs.Views.{HasRangesInside};
 
 use crate::outcome::{Met, Stop, expect};
 use crate::trees::two;
 use lol_script::{Counted, RunFault, Status, run};
 use lol_vm::{
-    Ast, AttributeBuffer, AuxStartTagInfo, Bytes, Namespace, RunCause, RunRefusal,
-    SharedMemoryLimiter, TagEvent, TagReport, match_events,
+    Ast, Attributes, Namespace, RunCause, RunRefusal, SharedMemoryLimiter, TagEvent, TagReport,
+    match_events,
 };
 use std::alloc::Global;
 use std::io;
 use std::io::Write;
 
 /// A start tag of HTML.
-pub(crate) fn start<'i>(
-    name: &'i [u8],
-    input: &'i [u8],
-    attributes: &'i AttributeBuffer,
-) -> Result<TagEvent<'i>, Stop>
-    ensures { IfOk result (λ event. HasRangesInside event) }
+pub(crate) fn start<'i>(name: &'i [u8], attributes: &'i Attributes) -> TagEvent<'i>
+    ensures { HasRangesInside result }
 {
-    let aux_info = AuxStartTagInfo {
-        input: Bytes::new(input),
-        attr_buffer: attributes,
-        self_closing: false,
-    };
-    if !aux_info.ranges_inside() {
-        return Err(Stop::Wrong);
-    }
-    Ok(TagEvent::Start {
+    TagEvent::Start {
         name,
         ns: Namespace::Html,
-        aux_info,
+        aux_info: attributes.aux_info(false),
         finish: true,
-    })
+    }
 }
 
 /// Whether a report is of these ids, asked for or not, or of these closed elements.
@@ -128,8 +116,8 @@ fn answered_by_two(
 
 /// Three nested `div`, an end tag, and one more.
 pub(crate) fn nested(alloc: Global) -> Result<bool, Stop> {
-    let none = AttributeBuffer::new(alloc);
-    let div = start(b"div", b"", &none)?;
+    let none = Attributes::new(alloc);
+    let div = start(b"div", &none);
     let events = [div, div, div, TagEvent::End { name: b"div" }, div];
     let wanted: [(&[u32], bool); 5] = [
         (&[], false),
@@ -143,10 +131,10 @@ pub(crate) fn nested(alloc: Global) -> Result<bool, Stop> {
 
 /// Children counted by type, and elements whose names are no hashes.
 pub(crate) fn by_type(alloc: Global) -> Result<bool, Stop> {
-    let none = AttributeBuffer::new(alloc);
-    let item = start(b"x-item", b"", &none)?;
+    let none = Attributes::new(alloc);
+    let item = start(b"x-item", &none);
     let end = TagEvent::End { name: b"X-Item" };
-    let events = [start(b"ul", b"", &none)?, item, end, item, item, end];
+    let events = [start(b"ul", &none), item, end, item, item, end];
     let wanted: [(&[u32], bool); 6] = [
         (&[], false),
         (&[1], false),

@@ -3,9 +3,7 @@
 use crate::lists::has;
 use crate::outcome::{Met, Stop, TURNS, expect};
 use crate::runs::{matches_in_turn, start};
-use lol_vm::{
-    Ast, AstNode, AttributeBuffer, AttributeOutline, Range, Selector, SelectorError, TagEvent,
-};
+use lol_vm::{Ast, AstNode, Attributes, Selector, SelectorError, TagEvent};
 use std::alloc::Global;
 
 /// A selector that was read; its memory is the scenario's own.
@@ -107,46 +105,31 @@ fn add_in_turn(ast: &mut Ast, second: &Selector) -> Result<Met, Stop> {
 
 /// Stops where the reports aren't those of both texts: `#foo` with a `div.c1` and a `p.c2` inside.
 fn matches_children_of_foo(alloc: Global, ast: Ast) -> Result<(), Stop> {
-    let foo = attribute(alloc, b"id=foo", 2)?;
-    let class = attribute(alloc, b"class=c1", 5)?;
-    matches_with(alloc, ast, &foo, &class)
+    let foo = attribute(alloc, b"id", b"foo")?;
+    let first = attribute(alloc, b"class", b"c1")?;
+    let second = attribute(alloc, b"class", b"c2")?;
+    matches_with(alloc, ast, &foo, &first, &second)
 }
 
 fn matches_with<'i>(
     alloc: Global,
     ast: Ast,
-    foo: &'i AttributeBuffer,
-    class: &'i AttributeBuffer,
+    foo: &'i Attributes,
+    first: &'i Attributes,
+    second: &'i Attributes,
 ) -> Result<(), Stop> {
-    let section = start(b"section", b"id=foo", foo)?;
-    let div = start(b"div", b"class=c1", class)?;
-    let p = start(b"p", b"class=c2", class)?;
+    let section = start(b"section", foo);
+    let div = start(b"div", first);
+    let p = start(b"p", second);
     let events = [section, div, TagEvent::End { name: b"div" }, p];
     let wanted: [(&[u32], bool); 4] = [(&[], true), (&[0, 1], true), (&[1], false), (&[1], true)];
     matches_in_turn(alloc, ast, &events, &wanted)
 }
 
-/// One attribute, whose name is so long and whose value is the rest of the input.
-pub(crate) fn attribute(
-    alloc: Global,
-    input: &[u8],
-    name_len: usize,
-) -> Result<AttributeBuffer, Stop> {
-    let name = Range {
-        start: 0,
-        end: name_len,
-    };
-    let value = Some(Range {
-        start: name_len.saturating_add(1),
-        end: input.len(),
-    });
-    let mut attributes = AttributeBuffer::new(alloc);
-    let outline = AttributeOutline {
-        name,
-        value,
-        raw_range: name,
-    };
-    match attributes.push(outline) {
+/// One attribute; its memory is the scenario's own.
+pub(crate) fn attribute(alloc: Global, name: &[u8], value: &[u8]) -> Result<Attributes, Stop> {
+    let mut attributes = Attributes::new(alloc);
+    match attributes.push(name, Some(value)) {
         Ok(()) => Ok(attributes),
         Err(_) => Err(Stop::Own),
     }
@@ -178,8 +161,8 @@ fn reports_second(alloc: Global, ast: Ast, met: Met) -> Result<Met, Stop> {
     if !stands && met == Met::Nothing {
         return Err(Stop::Wrong);
     }
-    let none = AttributeBuffer::new(alloc);
-    let events = [start(b"p", b"", &none)?];
+    let none = Attributes::new(alloc);
+    let events = [start(b"p", &none)];
     matches_in_turn(alloc, ast, &events, &[(&[1], stands)])?;
     Ok(met)
 }

@@ -4,7 +4,8 @@ ghost use Rattle.std.specs.Prelude.{All, IfOk};
 ghost use Rattle.lol_uses.specs.Pages.{HasAttributesInside};
 ghost use Rattle.lol_vm.specs.Views.{HasRangesInside};
 
-use lol_samples::{Attributes, is_tried, name_of};
+use lol_base::Attributes;
+use lol_samples::{is_tried, name_of, written_attributes};
 use lol_uses::PageTag;
 use lol_vm::{MatchInfo, Namespace, TagEvent};
 use std::alloc::{AllocError, Global};
@@ -172,8 +173,7 @@ impl Words {
         }
         let (name, count) = self.start(document, place);
         let attributes = self.attributes.as_slice().get(count);
-        let aux_info = attributes.expect(rt, "attributes").info(false);
-        assert!(rt; aux_info.ranges_inside());
+        let aux_info = attributes.expect(rt, "attributes").aux_info(false);
         TagEvent::Start {
             name,
             ns: Namespace::Html,
@@ -193,7 +193,7 @@ fn numbered(alloc: Global, count: usize) -> Result<Attributes, Fail> {
     for name in &names {
         written.push((name.as_str(), None))?;
     }
-    Ok(Attributes::new(alloc, &written)?)
+    Ok(written_attributes(alloc, &written)?)
 }
 
 /// The tag of a page for an event.

@@ -9,7 +9,7 @@ mod tag_words;
 mod trees;
 mod tried;
 
-pub use attributes::{Attributes, WrittenAttributes};
+pub use attributes::{WrittenAttributes, written_attributes};
 pub use numbered::Numbered;
 pub use random::{Random, name_of, next_random};
 pub use tag_words::{TagWord, attributes_of, words_of};

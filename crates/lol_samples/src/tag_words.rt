@@ -1,7 +1,7 @@
 //! Tags as words.
 
-use crate::attributes::Attributes;
-use lol_base::Namespace;
+use crate::attributes::written_attributes;
+use lol_base::{Attributes, Namespace};
 use std::alloc::{AllocError, Global};
 
 /// A tag. As a word it is its name: after `/` for an end tag, after `svg:` or `math:` in another namespace, with `@name` or `@name=value`
@@ -58,8 +58,8 @@ impl<'t> TagWord<'t> {
     /// `AllocError`, out of memory.
     pub fn attributes(&self, alloc: Global) -> Result<Attributes, AllocError> {
         match self.attribute {
-            Some(attribute) => Attributes::new(alloc, &[attribute]),
-            None => Attributes::new(alloc, &[]),
+            Some(attribute) => written_attributes(alloc, &[attribute]),
+            None => written_attributes(alloc, &[]),
         }
     }
 }

@@ -5,10 +5,10 @@ use Namespace::{Html, MathML, Svg};
 use ParsedCaseSensitivity::{
     AsciiCaseInsensitive, AsciiCaseInsensitiveIfInHtmlElementInHtmlDocument, CaseSensitive,
 };
-use lol_base::Namespace;
+use lol_base::{Attributes, Namespace};
 use lol_css::{AttrSelectorOperator, ParsedCaseSensitivity};
 use lol_instructions::{AttrExprOperands, AttributeMatcher};
-use lol_samples::{Attributes, WrittenAttributes};
+use lol_samples::{WrittenAttributes, written_attributes};
 use std::alloc::{AllocError, Global};
 use std::process::Abort;
 use std::test::Fail;
@@ -182,28 +182,23 @@ fn all_hold_as_said(
 }
 
 /// What is asked of these attributes, at an element of this namespace.
-pub(crate) fn matcher<'a>(
-    rt: &impl Abort,
-    attributes: &'a Attributes,
-    ns: Namespace,
-) -> AttributeMatcher<'a> {
-    let tag = attributes.info(false);
-    assert!(rt; tag.ranges_inside());
+pub(crate) fn matcher(attributes: &Attributes, ns: Namespace) -> AttributeMatcher<'_> {
+    let tag = attributes.aux_info(false);
     AttributeMatcher::new(tag.input, tag.attr_buffer, ns)
 }
 
 /// Whether each comparison of a row holds where it is said to.
-fn holds_in_row(rt: &impl Abort, alloc: Global, row: &Row<'_>) -> Result<bool, AllocError> {
+fn holds_in_row(alloc: Global, row: &Row<'_>) -> Result<bool, AllocError> {
     let (written, ns, case_sensitivity, comparisons) = row;
-    let tag = Attributes::new(alloc, written)?;
-    let tag = matcher(rt, &tag, *ns);
+    let tag = written_attributes(alloc, written)?;
+    let tag = matcher(&tag, *ns);
     all_hold_as_said(alloc, &tag, *case_sensitivity, comparisons)
 }
 
 #[test]
 fn are_compared(rt: HostRuntime) -> Result<(), Fail> {
     for (place, row) in COMPARED.iter().enumerate() {
-        assert!(rt; holds_in_row(&rt, rt.alloc(), row)?, "row {place}");
+        assert!(rt; holds_in_row(rt.alloc(), row)?, "row {place}");
     }
     Ok(())
 }
@@ -281,8 +276,8 @@ fn expect_sought(
 #[test]
 fn are_looked_for(rt: HostRuntime) -> Result<(), Fail> {
     for (written, rows) in &LOOKED_FOR {
-        let tag = Attributes::new(rt.alloc(), written)?;
-        expect_sought(&rt, &matcher(&rt, &tag, Html), rows);
+        let tag = written_attributes(rt.alloc(), written)?;
+        expect_sought(&rt, &matcher(&tag, Html), rows);
     }
     Ok(())
 }

@@ -13,7 +13,7 @@ use lol_instructions::{
 use lol_program::{
     AttributeComparisonExpr, Compilable, OnAttributesExpr, OnTagNameExpr, Predicate, Test,
 };
-use lol_samples::{Attributes, TagWord};
+use lol_samples::{TagWord, written_attributes};
 use std::alloc::{AllocError, Global};
 use std::process::Abort;
 use std::test::Fail;
@@ -117,8 +117,8 @@ fn expect_answers(
 
 #[test]
 fn of_attributes(rt: HostRuntime) -> Result<(), Fail> {
-    let attributes = Attributes::new(rt.alloc(), &[("foo", Some("bar"))])?;
-    let attributes = matcher(&rt, &attributes, Namespace::Html);
+    let attributes = written_attributes(rt.alloc(), &[("foo", Some("bar"))])?;
+    let attributes = matcher(&attributes, Namespace::Html);
     expect_answers(&rt, rt.alloc(), &attributes)?;
     Ok(())
 }
@@ -235,7 +235,7 @@ fn check_values(
     let instruction = instruction(rt, alloc, text)?;
     let tag = TagWord::of(tag);
     let attributes = tag.attributes(alloc)?;
-    let matcher = matcher(rt, &attributes, Namespace::Html);
+    let matcher = matcher(&attributes, Namespace::Html);
     let name = LocalName::new(tag.name.as_bytes());
     assert!(rt;
         values(&instruction.predicate, &name, &matcher) == wanted,
@@ -293,37 +293,36 @@ fn of_first_child(
 
 /// Whether these are the values of a first child `p` without attributes.
 fn has_values(
-    rt: &impl Abort,
     alloc: Global,
     predicate: &CompiledPredicate,
     wanted: (NameValue, NameValue, bool),
 ) -> Result<bool, AllocError> {
-    let attributes = Attributes::new(alloc, &[])?;
-    let matcher = matcher(rt, &attributes, Namespace::Html);
+    let attributes = written_attributes(alloc, &[])?;
+    let matcher = matcher(&attributes, Namespace::Html);
     Ok(of_first_child(predicate, &matcher) == wanted)
 }
 
 /// Whether a test of the first child of its type is one test, with its values.
-fn is_by_type(rt: &impl Abort, alloc: Global) -> Result<bool, AllocError> {
+fn is_by_type(alloc: Global) -> Result<bool, AllocError> {
     let by_type = first_of_type(alloc)?;
-    let valued = has_values(rt, alloc, &by_type, (True, False, false))?;
+    let valued = has_values(alloc, &by_type, (True, False, false))?;
     Ok(by_type.tests().len() == 1 && valued)
 }
 
-fn is_never(rt: &impl Abort, alloc: Global) -> Result<bool, AllocError> {
-    has_values(rt, alloc, &never(alloc)?, (False, Open, false))
+fn is_never(alloc: Global) -> Result<bool, AllocError> {
+    has_values(alloc, &never(alloc)?, (False, Open, false))
 }
 
-fn is_always(rt: &impl Abort, alloc: Global) -> Result<bool, AllocError> {
+fn is_always(alloc: Global) -> Result<bool, AllocError> {
     let empty = CompiledPredicate::new(Vec::new(alloc));
-    has_values(rt, alloc, &empty, (True, True, true))
+    has_values(alloc, &empty, (True, True, true))
 }
 
 #[test]
 fn tests_by_hand(rt: HostRuntime) -> Result<(), Fail> {
-    assert!(rt; is_by_type(&rt, rt.alloc())?);
-    assert!(rt; is_never(&rt, rt.alloc())?);
-    assert!(rt; is_always(&rt, rt.alloc())?);
+    assert!(rt; is_by_type(rt.alloc())?);
+    assert!(rt; is_never(rt.alloc())?);
+    assert!(rt; is_always(rt.alloc())?);
     Ok(())
 }
 
@@ -364,8 +363,8 @@ fn answers_to(
     written: &[(&str, Option<&str>)],
 ) -> Result<(bool, bool), Fail> {
     let instruction = instruction(rt, alloc, text)?;
-    let attributes = Attributes::new(alloc, written)?;
-    let matcher = matcher(rt, &attributes, Namespace::Html);
+    let attributes = written_attributes(alloc, written)?;
+    let matcher = matcher(&attributes, Namespace::Html);
     Ok(answers(&instruction, &matcher))
 }
 

@@ -97,7 +97,7 @@ fn expect_exec(
 ) -> Result<(), AllocError> {
     let tag = TagWord::of(tag);
     let attributes = tag.attributes(alloc)?;
-    let matcher = matcher(rt, &attributes, Namespace::Html);
+    let matcher = matcher(&attributes, Namespace::Html);
     let name = LocalName::new(tag.name.as_bytes());
     assert!(rt; run(instruction, &name, &matcher) == wanted);
     Ok(())
@@ -153,7 +153,7 @@ fn expect_completion(
     tag: &TagWord<'_>,
 ) -> Result<(), AllocError> {
     let attributes = tag.attributes(alloc)?;
-    let matcher = matcher(rt, &attributes, Namespace::Html);
+    let matcher = matcher(&attributes, Namespace::Html);
     let name = LocalName::new(tag.name.as_bytes());
     assert!(rt; complete(instruction, &name, &matcher) == (true, (0, 1)));
     Ok(())

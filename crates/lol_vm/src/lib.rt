@@ -18,7 +18,8 @@ pub mod vm_laws;
 pub use error::{AuxStartTagInfoRequest, VmError};
 pub use events::{RunCause, RunRefusal, RunStop, TagEvent, TagReport};
 pub use lol_base::{
-    AttributeBuffer, AttributeOutline, AuxStartTagInfo, Bytes, LocalName, Namespace, Range, Tag,
+    AttributeBuffer, AttributeOutline, Attributes, AuxStartTagInfo, Bytes, LocalName, Namespace,
+    Range, Tag,
 };
 pub use lol_css::{
     AttrSelectorOperator, CaseSensitivity, Combinator, ComplexSelector, Compound, CssString,
