@@ -28,7 +28,7 @@ pub enum PushError {
 }
 
 /// A list whose slots are charged to a limiter, each for `item_bytes` bytes (lol_html's `LimitedVec`). It can't be dropped: it is given
-/// to `release`, with the limiter that its pushes were lent.
+/// to `release`, with the limiter that its pushes were lent, or to `discard`, where that limiter ends too.
 #[derive(Debug)]
 pub struct LimitedVec<T> {
     vec: Vec<T>,
@@ -204,6 +204,17 @@ impl<T> LimitedVec<T> {
         ensures some { IsSome result ↔ (0 < length self.old.items) }
     {
         self.vec.pop()
+    }
+
+    /// Drops the elements. The usage of the limiter stays as it is: for a limiter that ends with the list. (Not in lol_html.)
+    pub fn discard(self)
+    where
+        T: Drop,
+    {
+        let LimitedVec {
+            vec: _,
+            item_bytes: _,
+        } = self;
     }
 
     /// Drops the elements, and lowers the usage by the charge of the slots.

@@ -47,6 +47,15 @@ fn takes_the_fewest_slots_first(rt: HostRuntime) {
     }
 }
 
+#[test]
+fn keeps_the_charge_of_a_discarded_list(rt: HostRuntime) {
+    let mut limiter = SharedMemoryLimiter::new(1000);
+    let mut list = LimitedVec::new(rt.alloc(), 64);
+    fill(&rt, &mut list, 3, &mut limiter);
+    list.discard();
+    assert!(rt; limiter.current_usage() == 512);
+}
+
 /// Whether a list has so many elements and slots.
 fn has(list: &LimitedVec<usize>, len: usize, slots: usize) -> bool {
     list.len() == len && list.slots() == slots

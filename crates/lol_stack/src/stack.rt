@@ -24,6 +24,7 @@ use lol_instructions::{AddressRange, ChildCounter, SelectorState};
 use lol_memory::{LimitedVec, MemoryLimitExceededError, PushError, SharedMemoryLimiter};
 use lol_names::NamePlace;
 use std::alloc::{AllocError, Global};
+use thiserror::Error;
 
 /// The open elements: see `Stack`.
 pub struct StackOf<N, M, E> {
@@ -42,15 +43,17 @@ pub struct StackNames {
 }
 
 /// The open elements, the outermost first, with the counters of their children (lol_html's `Stack`). It can't be dropped: it is given to
-/// `release`, with the limiter that its pushes were lent.
+/// `release`, with the limiter that its pushes were lent, or to `discard`, where that limiter ends too.
 pub type Stack<E> = StackOf<LocalName<'static>, StackNames, E>;
 
 /// Why a child wasn't counted. (Not in lol_html.)
-#[derive(Debug, Drop)]
+#[derive(Debug, Drop, Error)]
 pub enum AddChildError {
     /// The parent's counter is full.
+    #[error("an element has as many children as can be counted")]
     CounterFull,
     /// The memory for a counter isn't there.
+    #[error(transparent)]
     Memory(AllocError),
 }
 
@@ -244,6 +247,20 @@ impl<E> StackOf<LocalName<'static>, StackNames, E> {
         self.names.close(closed, place, &local_name, at);
         self.active_hereditary_jumps.cut(place);
         hand_out(&mut self.items, place, handler);
+    }
+
+    /// Drops the elements. The usage of the limiter stays as it is: for a limiter that ends with the stack. (Not in lol_html.)
+    pub fn discard(self)
+    where
+        E: Drop,
+    {
+        let StackOf {
+            root_child_counter: _,
+            items,
+            active_hereditary_jumps: _,
+            names: _,
+        } = self;
+        items.discard();
     }
 
     /// Drops the elements, and lowers the usage by the charge of the slots. (Not in lol_html.)

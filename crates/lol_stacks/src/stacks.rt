@@ -190,6 +190,16 @@ fn check(rt: &impl Abort, alloc: Global, steps: &[Step<'_>]) {
 }
 
 #[test]
+fn keep_the_charge_of_a_discarded_stack(rt: HostRuntime) {
+    let mut limiter = SharedMemoryLimiter::new(1000);
+    let mut stack = Stack::new(rt.alloc(), 64, false);
+    let opened = open(rt.alloc(), &mut stack, b"div", 0, &[], &mut limiter);
+    assert!(rt; opened.is_ok());
+    stack.discard();
+    assert!(rt; limiter.current_usage() == 512);
+}
+
+#[test]
 fn keep_the_active_ranges(rt: HostRuntime) {
     check(
         &rt,

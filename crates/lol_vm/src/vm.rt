@@ -41,7 +41,7 @@ pub struct VmOf<P, N, M, E> {
 }
 
 /// Matches selectors against the start tags of a document, as its tags come (lol_html's `SelectorMatchingVm`). It can't be dropped: it is
-/// given to `release`, with the limiter that its calls were lent.
+/// given to `release`, with the limiter that its calls were lent, or to `discard`, where that limiter ends too.
 pub type SelectorMatchingVm<E> = VmOf<Program, LocalName<'static>, StackNames, E>;
 
 impl<P, N, M, E> VmOf<P, N, M, E> {
@@ -345,6 +345,19 @@ impl<E: ElementData> VmOf<Program, LocalName<'static>, StackNames, E> {
         ensures { result ≡ length (data_in self.now) }
     {
         self.stack.items().len()
+    }
+
+    /// Drops the machine. The usage of the limiter stays as it is: for a limiter that ends with the machine. (Not in lol_html.)
+    pub fn discard(self) {
+        let VmOf {
+            program: _,
+            enable_esi_tags: _,
+            stack,
+            tries: _,
+            failed: _,
+            alloc: _,
+        } = self;
+        stack.discard();
     }
 
     /// Drops the machine, and lowers the usage by the charge of its slots. (Not in lol_html.)
