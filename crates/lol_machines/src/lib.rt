@@ -5,6 +5,8 @@
 #[cfg(test)]
 mod contexts;
 #[cfg(test)]
+mod errors;
+#[cfg(test)]
 mod machine_model;
 #[cfg(test)]
 mod machine_runs;

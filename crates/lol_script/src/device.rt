@@ -6,17 +6,21 @@ ghost use Rattle.lol_script.specs.Devices.{device_of, failures_of, AppendsBeginn
 
 use std::alloc::Global;
 use std::io::{Read, Write};
+use thiserror::Error;
 
 /// Why a run failed.
-#[derive(Debug, Clone, Copy, PartialEq, Eq)]
+#[derive(Debug, Clone, Copy, PartialEq, Eq, Error)]
 pub enum RunFault {
     /// Memory was refused.
+    #[error("out of memory")]
     Memory,
 
     /// A read failed.
+    #[error("read failed")]
     Read,
 
     /// A write failed, or took no bytes.
+    #[error("write failed")]
     Write,
 }
 

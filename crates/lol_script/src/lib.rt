@@ -36,17 +36,12 @@ pub fn exit_status(rt: &impl Eprint, outcome: Result<Status, RunFault>) -> u8
         Ok(Status::Good) => 0,
         Ok(Status::BadLine) => 2,
         Ok(Status::Refused) => 3,
-        Err(RunFault::Memory) => {
-            let _ = eprintln!(rt; "lol_match: out of memory");
-            3
-        }
-        Err(RunFault::Read) => {
-            let _ = eprintln!(rt; "lol_match: read failed");
-            4
-        }
-        Err(RunFault::Write) => {
-            let _ = eprintln!(rt; "lol_match: write failed");
-            4
+        Err(fault) => {
+            let _ = eprintln!(rt; "lol_match: {fault}");
+            match fault {
+                RunFault::Memory => 3,
+                RunFault::Read | RunFault::Write => 4,
+            }
         }
     }
 }

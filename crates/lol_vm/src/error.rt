@@ -4,6 +4,8 @@ use crate::tag_runs::RecoveryPoint;
 use lol_memory::{MemoryLimitExceededError, PushError};
 use lol_stack::{AddChildError, ExecutionCtx};
 use std::alloc::AllocError;
+use std::fmt;
+use thiserror::Error;
 
 /// A request for the attributes of a start tag, and for whether it closes itself (lol_html's `AuxStartTagInfoRequest`). It is handed to
 /// `finish_start_tag`, or dropped: then its element isn't opened.
@@ -14,18 +16,36 @@ pub struct AuxStartTagInfoRequest<E> {
 }
 
 /// Why a start tag wasn't answered (lol_html's `VmError`).
-#[derive(Drop)]
+#[derive(Drop, Error)]
 pub enum VmError<E> {
     /// Its attributes are asked for.
+    #[error("the start tag's attributes are asked for: it is answered by `finish_start_tag`")]
     InfoRequest(AuxStartTagInfoRequest<E>),
     /// The charge for its element would pass the limiter's maximum.
+    #[error(transparent)]
     MemoryLimitExceeded(MemoryLimitExceededError),
     /// Memory was refused.
+    #[error(transparent)]
     Memory(AllocError),
     /// Its parent has as many children as can be counted.
+    #[error("an element has as many children as can be counted")]
     CounterFull,
     /// An earlier tag was refused.
+    #[error("an earlier start tag was refused: no other is answered")]
     Failed,
+}
+
+/// The variant's name: the data of an element needn't be `Debug`.
+impl<E> fmt::Debug for VmError<E> {
+    fn fmt<W: fmt::Write>(&self, f: &mut fmt::Formatter<W>) -> fmt::Result {
+        f.write_str(match self {
+            VmError::InfoRequest(_) => "InfoRequest",
+            VmError::MemoryLimitExceeded(_) => "MemoryLimitExceeded",
+            VmError::Memory(_) => "Memory",
+            VmError::CounterFull => "CounterFull",
+            VmError::Failed => "Failed",
+        })
+    }
 }
 
 impl<E> From<AddChildError> for VmError<E> {

@@ -3,6 +3,7 @@
 use lol_base::{AuxStartTagInfo, Namespace};
 use lol_memory::MatchInfo;
 use lol_program::Tries;
+use thiserror::Error;
 
 /// A tag of a document. (Not in lol_html, whose rewriter calls the machine tag by tag.)
 #[derive(Clone, Copy)]
@@ -21,7 +22,7 @@ pub enum TagEvent<'i> {
 }
 
 /// What is answered to a tag. (Not in lol_html.)
-#[derive(Drop)]
+#[derive(Debug, Drop)]
 pub enum TagReport {
     /// A start tag: what it is reported under, ascending by id, whether its attributes were asked for, and what was tried.
     Started {
@@ -38,18 +39,22 @@ pub enum TagReport {
 }
 
 /// Why a run was refused. (Not in lol_html.)
-#[derive(Debug, Clone, Copy, PartialEq, Eq)]
+#[derive(Debug, Clone, Copy, PartialEq, Eq, Error)]
 pub enum RunCause {
     /// An element's charge would have passed the limiter's maximum.
+    #[error("the memory limit would have been passed")]
     MemoryLimitExceeded,
     /// An element has as many children as can be counted.
+    #[error("an element has as many children as can be counted")]
     CounterFull,
     /// Memory was refused.
+    #[error("out of memory")]
     Memory,
 }
 
 /// A refused run: the reports of the events before `event`, which was refused. (Not in lol_html.)
-#[derive(Drop)]
+#[derive(Debug, Drop, Error)]
+#[error("event {event} was refused: {cause}")]
 pub struct RunRefusal {
     pub reports: Vec<TagReport>,
     pub event: usize,
@@ -57,7 +62,8 @@ pub struct RunRefusal {
 }
 
 /// The event that a run stopped at, and why. (Not in lol_html.)
-#[derive(Debug, Clone, Copy, PartialEq, Eq)]
+#[derive(Debug, Clone, Copy, PartialEq, Eq, Error)]
+#[error("event {event} was refused: {cause}")]
 pub struct RunStop {
     pub event: usize,
     pub cause: RunCause,
