@@ -1,4 +1,4 @@
-use Rattle.std.proofs.Common.{◌≡◌, ◌<◌, ◌*◌, ◌≤◌, ℕ, max, [], true, false, Result, Ok, Err, inr, refl, sym, ap, subst, arith}
+use Rattle.std.proofs.Common.{◌≡◌, ◌*◌, max, [], true, false, Result, Ok, Err, inr, refl, ap, arith}
 use Rattle.std.specs.Prelude.{codes, IsErr}
 use Rattle.std.specs.Result.{OnOk}
 use Rattle.std.proofs.lemmas.Result.{on_ok_weaker}
