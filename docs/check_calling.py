@@ -12,8 +12,12 @@ from pathlib import Path
 TOP = Path(__file__).resolve().parent.parent
 BLOCK = re.compile(r"^```(\w*)\n(.*?)^```$", re.M | re.S)
 FILE = re.compile(r"`(crates/[\w/]+\.(rt|antt))`")
-OWNER = re.compile(r"(?:impl(?:<.*?>)? (?:.* for )?|pub trait )(\w+)")
-FUNCTION = re.compile(r"(?: {4})?(?:pub(?:\(crate\))? )?fn (\w+)")
+SUFFIX = {"rust": "rt", "antt": "antt"}
+ITEM = re.compile(
+    r"^(?:impl(?:<[^\n]*?>)? (?:[^\n]* for )?|pub trait )(?P<owner>\w+)|^\}"
+    r"|^(?: {4})?(?:pub(?:\(crate\))? )?fn (?P<name>\w+)(?P<rest>.*?)(?:\n *\{\}?| \{|;)$",
+    re.M | re.S,
+)
 CLAUSE = re.compile(r"^ *(?=(?:requires|ensures)\*?(?: \w+)? \{)", re.M)
 QUOTED_CLAUSE = re.compile(r"^  (?=requires|ensures|\.\.)", re.M)
 ALIAS = re.compile(r"^pub type (\w+)<.*> = (\w+)<", re.M)
@@ -23,25 +27,25 @@ def folded(text):
     return " ".join(text.split())
 
 
-def functions_in(source):
-    """Each function: the type and the name, the signature as a page has it, and the clauses by what is before their braces."""
-    owner, header = "", None
-    for line in source.splitlines():
-        if found := OWNER.match(line):
-            owner = f"{found[1]}::"
-        elif line == "}":
-            owner = ""
-        if header is None and (found := FUNCTION.match(line)):
-            name, header = owner + found[1], ""
-        if header is None or line.lstrip().startswith("//"):
-            continue
-        header += f"{line}\n"
-        if line.strip() in ("{", "{}") or line.endswith("};") or line.endswith((" {", ";")) and not CLAUSE.search(header):
-            signature, *clauses = CLAUSE.split(re.sub(r"(\{\}?|;)\s*$", "", header))
+def read_functions():
+    """The functions by name, after that of the type and after each other name of it: signature and clauses as pages have them."""
+    functions = {}
+    for path in sorted(TOP.glob("crates/*/src/*.rt")):
+        source = re.sub(r"^ *//.*\n", "", path.read_text(encoding="utf-8"), flags=re.M)
+        aliases = {owner: alias for alias, owner in ALIAS.findall(source)}
+        owners = [""]
+        for item in ITEM.finditer(source):
+            if not item["name"]:
+                owner = item["owner"]
+                owners = [f"{shown}::" for shown in (owner, aliases.get(owner)) if shown] or [""]
+                continue
+            signature, *clauses = CLAUSE.split(item["rest"])
             signature = re.sub(r"(?<=\() |,? (?=\))", "", folded(signature)).rstrip(",")
             clauses = [re.match(r"(.*?) \{(.*)\}", clause, re.S).groups() for clause in clauses]
-            yield name, re.sub(r".*?\bfn \w+", f"fn {name}", signature, count=1), [(head, folded(said)) for head, said in clauses]
-            header = None
+            for owner in owners:
+                function = (f"fn {owner}{item['name']}{signature}", [(head, folded(said)) for head, said in clauses])
+                functions.setdefault(owner + item["name"], []).append(function)
+    return functions
 
 
 def function_faults(quoted, signature, clauses):
@@ -64,47 +68,36 @@ def line_faults(quoted, source):
     return [(line, "".join(get_close_matches(line, source, 1))) for line in missing[:1]]
 
 
-def quotable_functions():
-    """All functions by name; those of a type with another name under both."""
-    functions = {}
-    for path in sorted(TOP.glob("crates/*/src/*.rt")):
-        source = path.read_text(encoding="utf-8")
-        aliases = {target: alias for alias, target in ALIAS.findall(source)}
-        for name, signature, clauses in functions_in(source):
-            owner = name.partition("::")[0]
-            for shown in {owner, aliases.get(owner, owner)}:
-                function = (signature.replace(owner, shown, 1), clauses)
-                functions.setdefault(name.replace(owner, shown, 1), []).append(function)
-    return functions
-
-
-def block_faults(kind, quoted, files, functions, crates):
+def block_faults(kind, quoted, named, functions, crates):
     """What differs in a block, each with what the source says."""
     if kind == "crates":
         return [(name, "no such crate") for name in re.findall(r"\w+\b(?!:)", quoted) if name not in crates]
-    if kind == "text":
-        quoted_functions = re.split(r"^(?=fn )", quoted, flags=re.M)[1:]
-        named = [(function, functions.get(re.match(r"fn ([\w:]+)", function)[1], [("", [])])) for function in quoted_functions]
-        return sum((min(([*function_faults(function, *other)] for other in others), key=len) for function, others in named), [])
-    if not files or not files[-1].is_file():
+    if kind != "text" and not (named and named[-1].is_file()):
         return [(f"```{kind}", "the text before it names no such file")]
-    return line_faults(quoted.splitlines(), files[-1].read_text(encoding="utf-8").splitlines())
+    if kind != "text":
+        return line_faults(quoted.splitlines(), named[-1].read_text(encoding="utf-8").splitlines())
+    faults = []
+    for function in re.split(r"^(?=fn )", quoted, flags=re.M)[1:]:
+        same_named = functions.get(re.match(r"fn ([\w:]+)", function)[1], [])
+        compared = [list(function_faults(function, *other)) for other in same_named]
+        faults += min(compared, key=len, default=[(function.splitlines()[0], "no such function")])
+    return faults
 
 
 def main():
-    functions, clauses, lines, differences = quotable_functions(), 0, 0, 0
+    functions, clauses, lines, differences = read_functions(), 0, 0, 0
     crates = set(re.findall(r"\w+", re.sub(r"#.*", "", (TOP / "crates.txt").read_text(encoding="utf-8"))))
     for page in sorted(TOP.glob("crates/*/CALLING.md")):
         text = page.read_text(encoding="utf-8")
         for block in BLOCK.finditer(text):
             kind, quoted = block.groups()
-            files = [TOP / file for file, suffix in FILE.findall(text, 0, block.start()) if suffix == {"rust": "rt"}.get(kind, kind)]
-            for said, source in block_faults(kind, quoted, files, functions, crates):
+            named = [TOP / file for file, suffix in FILE.findall(text, 0, block.start()) if suffix == SUFFIX.get(kind)]
+            for said, source in block_faults(kind, quoted, named, functions, crates):
                 line = text.count("\n", 0, max(text.find(said[:40], block.start()), block.start())) + 1
                 print(f"{page.relative_to(TOP)}:{line}: {said}\n  source: {source}")
                 differences += 1
-            clauses += len(QUOTED_CLAUSE.findall(quoted.replace("\n  ..", "")))
-            lines += len([line for line in quoted.splitlines() if line and kind in ("rust", "antt")])
+            clauses += len(re.findall(r"^  (?:requires|ensures)", quoted, re.M))
+            lines += sum(kind in SUFFIX and line != "" for line in quoted.splitlines())
     print(f"{clauses} clauses and {lines} lines were compared; {differences} differ")
     return 1 if differences else 0
 
