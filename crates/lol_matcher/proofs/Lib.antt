@@ -1,0 +1,9 @@
+pub mod Charges
+pub mod Charging
+pub mod Counting
+pub mod Refusals
+pub mod Rooms
+pub mod Running
+pub mod Telling
+pub mod Walks
+pub mod Finishing

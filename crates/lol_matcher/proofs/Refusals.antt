@@ -1,0 +1,109 @@
+-- Whether a start tag is refused, by what a machine has.
+use Rattle.std.proofs.Common.{◌≡◌, ℕ, suc, ◌+◌, ◌*◌, ◌≤◌, ◌<◌, ◌^◌, Bool, true, false, length, Option, Some, None, refl, sym, ap, ◌∙◌, subst, arith}
+use Rattle.std.specs.Prelude.{max, nat_lt, ◌&&◌, not, if◌then◌else◌}
+use Rattle.std.proofs.lemmas.Bool.Decides.{nat_tests}
+use Rattle.lol_base.specs.StartTags.{StartTag}
+use Rattle.lol_memory.specs.LimitedVec.{LimitedVec, IsLimited}
+use Rattle.lol_memory.specs.Limiter.{Limiter}
+use Rattle.lol_memory.specs.Slots.{slots}
+use Rattle.lol_program.specs.Paths.{Selectors}
+use Rattle.lol_vm.specs.Answers.{is_dropped}
+use Rattle.lol_vm.specs.Documents.{Document, element_of, after_start}
+use Rattle.lol_vm.specs.Events.{Start, has_content}
+use Rattle.lol_vm.specs.Refusals.{Allowance, Cause, Limit, Counter, exceeds, greatest_count, refusal}
+use Rattle.lol_matcher.specs.Keeping.{IsRefusal}
+use Rattle.lol_matcher.specs.Refusing.{IsRefusedFor, allowance}
+use Rattle.lol_matcher.specs.declared.error.MatcherError.{MatcherError}
+use Rattle.lol_matcher.specs.declared.error.MatcherError.TheVariants.{MemoryLimitExceeded, Memory, CounterFull, Failed, NotAsked, OutsideInput}
+use Rattle.lol_matcher.proofs.Charging.{stays_within, passes_maximum}
+
+-- what a start tag is refused for refuses all that come later
+pub is_refusal : (error : MatcherError) (free : Type 0) (refusal : Option Cause) → IsRefusedFor error free refusal → IsRefusal error
+is_refusal MemoryLimitExceeded free refusal h = tt
+is_refusal Memory free refusal h = tt
+is_refusal CounterFull free refusal h = tt
+is_refusal Failed free refusal h = h
+is_refusal NotAsked free refusal h = h
+is_refusal OutsideInput free refusal h = h
+
+-- A list has as many elements as are open, and slots for the most that were, which a limiter is charged for.
+pub record IsChargedFor {T : Type 0} (d : Document) (most : ℕ) (v : LimitedVec T) (now : Limiter) : Type 0 where
+  pub enough : length d.open_elements ≤ most
+  pub some : 1 ≤ v.item_bytes
+  pub word : now.maximum < 2 ^ 64
+  pub many : length v.items ≡ length d.open_elements
+  pub charged : v.slots ≡ slots v.item_bytes most
+  pub usage : now.usage ≡ v.slots * v.item_bytes
+  pub within : now.usage ≤ now.maximum
+
+abbrev pub refusal_by : Bool → Bool → Option Cause
+refusal_by full over = if full then Some Counter else (if over then Some Limit else None)
+
+abbrev pub opens_in : Selectors → Bool → Document → StartTag → Bool
+opens_in s esi d tag = has_content esi tag && not (is_dropped s (element_of d tag) d.open_elements)
+
+module _ {T : Type 0} (s : Selectors) (esi : Bool) (d : Document) (most : ℕ) (v : LimitedVec T) (now : Limiter) (is : IsChargedFor d most v now) where
+  abbrev a : Allowance
+  a = allowance v.item_bytes now.maximum
+
+  usage : now.usage ≡ slots v.item_bytes most * v.item_bytes
+  usage = is.usage ∙ ap (λ n. n * v.item_bytes) is.charged
+
+  within : slots v.item_bytes most * v.item_bytes ≤ now.maximum
+  within = subst (λ n. n ≤ now.maximum) usage is.within
+
+  pub fits : (b : Bool) (tag : StartTag) → (b ≡ true → IsLimited v now → ⊥) → slots v.item_bytes (max most (length (after_start d tag b).open_elements)) * v.item_bytes ≤ now.maximum
+  fits true tag unlimited =
+      let many : suc (length d.open_elements) ≡ length d.open_elements + 1 = omega arith in
+      subst (λ n. slots v.item_bytes (max most n) * v.item_bytes ≤ now.maximum) (sym many)
+      (stays_within v.item_bytes (length d.open_elements) most is.enough v now is.some is.word refl is.many is.charged usage within (unlimited refl))
+  fits false tag unlimited =
+      let e = is.enough in
+      let same : most ≡ max most (length d.open_elements) = omega (arith, e) in
+      subst (λ n. slots v.item_bytes n * v.item_bytes ≤ now.maximum) same within
+
+  passes : (tag : StartTag) → IsLimited v now → now.maximum < slots v.item_bytes (max most (length (after_start d tag true).open_elements)) * v.item_bytes
+  passes tag limited =
+      let many : suc (length d.open_elements) ≡ length d.open_elements + 1 = omega arith in
+      subst (λ n. now.maximum < slots v.item_bytes (max most n) * v.item_bytes) (sym many)
+      (passes_maximum v.item_bytes (length d.open_elements) most is.enough v now is.some is.word refl is.many is.charged usage limited)
+
+  tests : (tag : StartTag) (full over : Bool) → nat_lt greatest_count (element_of d tag).position ≡ full
+      → exceeds a (max most (length (after_start d tag (opens_in s esi d tag)).open_elements)) ≡ over
+      → refusal s esi a d most (Start tag) ≡ refusal_by full over
+  tests tag full over is_full is_over = λ i. refusal_by (is_full i) (is_over i)
+
+  pub not_refused : (tag : StartTag) → (element_of d tag).position ≤ greatest_count → (opens_in s esi d tag ≡ true → IsLimited v now → ⊥) → refusal s esi a d most (Start tag) ≡ None
+  not_refused tag position unlimited =
+      let h = fits (opens_in s esi d tag) tag unlimited in
+      tests tag false false (grind (arith, nat_tests, position)) (grind (arith, nat_tests, h))
+
+  pub refused_for_limit : (tag : StartTag) → (element_of d tag).position ≤ greatest_count → opens_in s esi d tag ≡ true → IsLimited v now → refusal s esi a d most (Start tag) ≡ Some Limit
+  refused_for_limit tag position opening limited =
+      let over = subst (λ b. now.maximum < slots v.item_bytes (max most (length (after_start d tag b).open_elements)) * v.item_bytes) (sym opening) (passes tag limited) in
+      tests tag false true (grind (arith, nat_tests, position)) (grind (arith, nat_tests, over))
+
+  pub refused_for_counter : (tag : StartTag) → greatest_count < (element_of d tag).position → refusal s esi a d most (Start tag) ≡ Some Counter
+  refused_for_counter tag full = tests tag true _ (grind (arith, nat_tests, full)) refl
+
+  pub counter_has_room : (tag : StartTag) → (element_of d tag).position ≤ greatest_count → refusal s esi a d most (Start tag) ≡ Some Counter → ⊥
+  counter_has_room tag position full =
+      not_full (exceeds a (max most (length (after_start d tag (opens_in s esi d tag)).open_elements))) (sym (tests tag false _ (grind (arith, nat_tests, position)) refl) ∙ full)
+    where
+      not_full : (over : Bool) → refusal_by false over ≡ Some Counter → ⊥
+      not_full true is = cc
+      not_full false is = cc
+
+  pub limit_isnt_due : (tag : StartTag) → (element_of d tag).position ≤ greatest_count → (opens_in s esi d tag ≡ true → IsLimited v now → ⊥) → refusal s esi a d most (Start tag) ≡ Some Limit → ⊥
+  limit_isnt_due tag position unlimited over = not_over (not_refused tag position unlimited) over
+    where
+      not_over : {o : Option Cause} → o ≡ None → o ≡ Some Limit → ⊥
+      not_over none over = cc
+
+  -- what isn't refused is within the counter and the maximum
+  pub position_of : (tag : StartTag) → refusal s esi a d most (Start tag) ≡ None → (element_of d tag).position ≤ greatest_count
+  position_of tag none = by_tests (nat_lt greatest_count (element_of d tag).position) (exceeds a (max most (length (after_start d tag (opens_in s esi d tag)).open_elements))) refl none
+    where
+      by_tests : (full over : Bool) → nat_lt greatest_count (element_of d tag).position ≡ full → refusal_by full over ≡ None → (element_of d tag).position ≤ greatest_count
+      by_tests true over is none = cc
+      by_tests false over is none = grind (arith, nat_tests, is)

@@ -1,0 +1,172 @@
+-- A machine that runs over events, one event on.
+use Rattle.std.proofs.Common.{◌≡◌, ℕ, ◌+◌, ◌*◌, ◌≤◌, ◌<◌, ◌^◌, Bool, true, false, cond, List, [], ◌∷◌, ◌++◌, length, drop, Option, Some, None, refl, sym, ap, ◌∙◌, subst, arith}
+use Rattle.std.specs.Prelude.{max, ◌&&◌, not}
+use Rattle.std.proofs.lemmas.Bool.Decides.{Decides-eqb}
+use Rattle.std.proofs.lemmas.List.{length-drop}
+use Rattle.lol_base.specs.MemberLaws.{count_by-cons}
+use Rattle.lol_base.specs.StartTags.{StartTag}
+use Rattle.lol_memory.specs.Limiter.{Limiter}
+use Rattle.lol_memory.specs.Slots.{slots}
+use Rattle.lol_program.specs.Paths.{Selectors}
+use Rattle.lol_stack.specs.Stacks.{list_in}
+use Rattle.lol_vm.specs.Answers.{after, document, document_from, is_dropped}
+use Rattle.lol_vm.specs.Documents.{Child, Document, empty, element_of, children_of, same_parent, parent_of, place_of, outer_part, after_start, after_end}
+use Rattle.lol_vm.specs.Events.{Event, Start, End, has_content}
+use Rattle.lol_vm.specs.Refusals.{greatest_count, longest, longest_from}
+use Rattle.lol_vm.specs.Standing.{DocumentsAreOrdered}
+use Rattle.lol_vm.specs.VmLaws.{SlotsAreOfDepth}
+use Rattle.lol_vm.specs.Vms.{Vm, Stands, stack_in, slots_charged, slot_bytes}
+use Rattle.lol_matcher.specs.Keeping.{Runs, IsCharged}
+use Rattle.lol_matcher.proofs.Counting.{many_open}
+use Rattle.lol_matcher.proofs.Refusals.{IsChargedFor}
+
+-- 1. Documents, one event on
+
+module _ (s : Selectors) (esi : Bool) where
+  document_push : (d : Document) (before : List Event) (event : Event) → document_from s esi d (before ++ event ∷ []) ≡ after s esi (document_from s esi d before) event
+  document_push d [] event = refl
+  document_push d (e ∷ before) event = document_push (after s esi d e) before event
+
+  longest_push : (d : Document) (events : List Event) (event : Event) → longest_from s esi d (events ++ event ∷ []) ≡ max (longest_from s esi d events) (length (after s esi (document_from s esi d events) event).open_elements)
+  longest_push d [] event = refl
+  longest_push d (e ∷ events) event = ap (max (length d.open_elements)) (longest_push (after s esi d e) events event) ∙ omega arith
+
+  pub later_document : (events : List Event) (event : Event) → document s esi (events ++ event ∷ []) ≡ after s esi (document s esi events) event
+  later_document events event = document_push empty events event
+
+  pub later_longest : (events : List Event) (event : Event) → longest s esi (events ++ event ∷ []) ≡ max (longest s esi events) (length (after s esi (document s esi events) event).open_elements)
+  later_longest events event = longest_push empty events event
+
+-- 2. Children
+
+parent_is : (a b : Option ℕ) → same_parent a b ≡ true → a ≡ b
+parent_is None None same = refl
+parent_is None (Some n) same = cc
+parent_is (Some m) None same = cc
+parent_is (Some m) (Some n) same = ap Some ((Decides-eqb m n).0 same)
+
+own_parent : (a : Option ℕ) → same_parent a a ≡ true
+own_parent None = refl
+own_parent (Some n) = (Decides-eqb n n).1 refl
+
+children-cons : (parent : Option ℕ) (c : Child) (cs : List Child) → children_of parent (c ∷ cs) ≡ cond (same_parent parent c.parent) 1 0 + children_of parent cs
+children-cons parent c cs = count_by-cons (λ (c : Child). same_parent parent c.parent) c cs
+
+module _ (d : Document) (tag : StartTag) (opening : Bool) where
+  counted : (parent : Option ℕ) → children_of parent (after_start d tag opening).children ≡ cond (same_parent parent (parent_of d.open_elements)) 1 0 + children_of parent d.children
+  counted parent = children-cons parent (record { parent = parent_of d.open_elements; name = tag.name }) d.children
+
+  -- as many children as before, or one more of the parent
+  pub countable_after : ((parent : Option ℕ) → children_of parent d.children ≤ greatest_count) → (element_of d tag).position ≤ greatest_count
+      → (parent : Option ℕ) → children_of parent (after_start d tag opening).children ≤ greatest_count
+  countable_after countable few parent = by_parent (same_parent parent (parent_of d.open_elements)) refl
+    where
+      by_parent : (b : Bool) → same_parent parent (parent_of d.open_elements) ≡ b → children_of parent (after_start d tag opening).children ≤ greatest_count
+      by_parent true same =
+          let own = ap (λ p. children_of p d.children) (parent_is parent (parent_of d.open_elements) same) in
+          let c = counted parent ∙ ap (λ b. cond b 1 0 + children_of parent d.children) same in
+          omega (arith, own, c, few)
+      by_parent false same =
+          let c = counted parent ∙ ap (λ b. cond b 1 0 + children_of parent d.children) same in
+          let before = countable parent in
+          omega (arith, c, before)
+
+  -- whose counters had room
+  pub position_before : ((parent : Option ℕ) → children_of parent (after_start d tag opening).children ≤ greatest_count) → (element_of d tag).position ≤ greatest_count
+  position_before countable =
+      let parent = parent_of d.open_elements in
+      let c = counted parent ∙ ap (λ b. cond b 1 0 + children_of parent d.children) (own_parent parent) in
+      let most = countable parent in
+      omega (arith, c, most)
+
+-- 3. A machine that runs
+
+module _ {E : Type 0} (depths : SlotsAreOfDepth E) (ordered : DocumentsAreOrdered) (s : Selectors) (esi : Bool) where
+  pub charged_for : (events : List Event) (vm : Vm E) (now : Limiter) → Runs s esi events vm now → IsChargedFor (document s esi events) (longest s esi events) (list_in (stack_in vm)) now
+  charged_for events vm now runs = record {
+    enough = (ordered s esi events).enough;
+    some = runs.some;
+    word = runs.word;
+    many = many_open s esi vm events runs.stands;
+    charged = depths s esi vm events runs.stands;
+    usage = runs.charged;
+    within = runs.within;
+  }
+
+  -- the same before a tag that was counted and not opened
+  module _ (events : List Event) (tag : StartTag) (vm : Vm E) (now : Limiter) (runs : Runs s esi (events ++ Start tag ∷ []) vm now) (dropped : is_dropped s (element_of (document s esi events) tag) (document s esi events).open_elements ≡ true) where
+    abbrev d : Document
+    d = document s esi events
+
+    opens_nothing : (content drop : Bool) → drop ≡ true → (content && not drop) ≡ false
+    opens_nothing true drop is = ap not is
+    opens_nothing false drop is = refl
+
+    with_child : document s esi (events ++ Start tag ∷ []) ≡ after_start d tag false
+    with_child = later_document s esi events (Start tag) ∙ ap (after_start d tag) (opens_nothing (has_content esi tag) _ dropped)
+
+    same_longest : longest s esi (events ++ Start tag ∷ []) ≡ longest s esi events
+    same_longest =
+        let enough = (ordered s esi events).enough in
+        let same : max (longest s esi events) (length d.open_elements) ≡ longest s esi events = omega (arith, enough) in
+        later_longest s esi events (Start tag) ∙ (ap (λ b. max (longest s esi events) (length (after_start d tag b).open_elements)) (opens_nothing (has_content esi tag) _ dropped) ∙ same)
+
+    pub charged_before : IsChargedFor d (longest s esi events) (list_in (stack_in vm)) now
+    charged_before = record {
+      enough = (ordered s esi events).enough;
+      some = runs.some;
+      word = runs.word;
+      many = many_open s esi vm (events ++ Start tag ∷ []) runs.stands ∙ ap (λ (d : Document). length d.open_elements) with_child;
+      charged = depths s esi vm (events ++ Start tag ∷ []) runs.stands ∙ ap (slots (slot_bytes vm)) same_longest;
+      usage = runs.charged;
+      within = runs.within;
+    }
+
+    countable_with : (parent : Option ℕ) → children_of parent (after_start d tag false).children ≤ greatest_count
+    countable_with parent = subst (λ (d : Document). children_of parent d.children ≤ greatest_count) with_child (runs.countable parent)
+
+    pub countable_before : (parent : Option ℕ) → children_of parent d.children ≤ greatest_count
+    countable_before parent =
+        let c = counted d tag false parent in
+        let more = countable_with parent in
+        omega (arith, c, more)
+
+    pub room_before : (element_of d tag).position ≤ greatest_count
+    room_before = position_before d tag false countable_with
+
+  -- one event on
+  module _ (events : List Event) (event : Event) (old new : Vm E) (now later : Limiter) (some : 1 ≤ slot_bytes old) (word : now.maximum < 2 ^ 64) (stands : Stands s esi new (events ++ event ∷ [])) (bytes : slot_bytes new ≡ slot_bytes old)
+      (maximum : later.maximum ≡ now.maximum) (charged : IsCharged new later)
+      (fits : slots (slot_bytes old) (max (longest s esi events) (length (after s esi (document s esi events) event).open_elements)) * slot_bytes old ≤ now.maximum)
+      (countable : (parent : Option ℕ) → children_of parent (after s esi (document s esi events) event).children ≤ greatest_count) where
+    pub runs_on : Runs s esi (events ++ event ∷ []) new later
+    runs_on =
+        let most = max (longest s esi events) (length (after s esi (document s esi events) event).open_elements) in
+        let slots_are : slots_charged new ≡ slots (slot_bytes old) most = depths s esi new (events ++ event ∷ []) stands ∙ (λ i. slots (bytes i) (later_longest s esi events event i)) in
+        let usage : later.usage ≡ slots (slot_bytes old) most * slot_bytes old = charged ∙ (λ i. slots_are i * bytes i) in
+        record {
+          stands = stands;
+          some = subst (λ n. 1 ≤ n) (sym bytes) some;
+          word = subst (λ n. n < 2 ^ 64) (sym maximum) word;
+          charged = charged;
+          within = subst (λ n. later.usage ≤ n) (sym maximum) (subst (λ n. n ≤ now.maximum) (sym usage) fits);
+          countable = λ parent. subst (λ (d : Document). children_of parent d.children ≤ greatest_count) (sym (later_document s esi events event)) (countable parent);
+        }
+
+  -- 4. End tags
+
+  outer_is_shorter : (place : Option ℕ) (d : Document) → length (outer_part place d.open_elements) ≤ length d.open_elements
+  outer_is_shorter None d = omega arith
+  outer_is_shorter (Some place) d = let shorter = length-drop (place + 1) d.open_elements in omega (arith, shorter)
+
+  pub runs_after_end : (events : List Event) (name : List ℕ) (old new : Vm E) (now : Limiter) → Runs s esi events old now → Stands s esi new (events ++ End name ∷ []) → slot_bytes new ≡ slot_bytes old → IsCharged new now
+      → Runs s esi (events ++ End name ∷ []) new now
+  runs_after_end events name old new now runs stands bytes charged =
+      let d = document s esi events in
+      let enough = (ordered s esi events).enough in
+      let shorter = outer_is_shorter (place_of name d.open_elements) d in
+      let same : longest s esi events ≡ max (longest s esi events) (length (after_end d name).open_elements) = omega (arith, enough, shorter) in
+      let usage : now.usage ≡ slots (slot_bytes old) (longest s esi events) * slot_bytes old = runs.charged ∙ ap (λ n. n * slot_bytes old) (depths s esi old events runs.stands) in
+      runs_on events (End name) old new now now runs.some runs.word stands bytes refl charged
+      (subst (λ n. slots (slot_bytes old) n * slot_bytes old ≤ now.maximum) same (subst (λ n. n ≤ now.maximum) usage runs.within))
+      (λ parent. runs.countable parent)

@@ -1,0 +1,72 @@
+use Rattle.std.proofs.Common.{rules, ◌≡◌, List, Err, true, false, refl, ap, ◌∙◌, map}
+use Rattle.std.proofs.lemmas.Fn.{chained_keeps}
+use Rattle.lol_memory.specs.Limiter.{Limiter}
+use Rattle.lol_memory.specs.declared.match_info.MatchInfo.{MatchInfo}
+use Rattle.lol_stack.specs.Stacks.{list_in}
+use Rattle.lol_vm.specs.Answers.{document}
+use Rattle.lol_vm.specs.Refusals.{longest}
+use Rattle.lol_vm.specs.Vms.{info_of, stack_in}
+use Rattle.lol_matcher.proofs.Charges.{charged_more}
+use Rattle.lol_matcher.proofs.Refusals.{counter_has_room, limit_isnt_due, refused_for_limit}
+use Rattle.lol_matcher.proofs.Running.{charged_before, countable_before, room_before}
+use Rattle.lol_matcher.proofs.Telling.{has_content_if, opens_handed, told_as}
+use Rattle.lol_matcher.proofs.tags.finish_tag.Goals as goal
+
+pub returns-else-kept-clause-charged : goal.returns-else-kept-clause-charged
+returns-else-kept-clause-charged c = charged_more c.args.vm.now c.finish_start_tag.new.self c.args.limiter.now c.finish_start_tag.new.limiter c.finish_start_tag.ensures.bytes c.in-Ok.ensures.grows c.in-Ok.ensures.charged
+
+pub returns-then-kept-clause-charged : goal.returns-then-kept-clause-charged
+returns-then-kept-clause-charged c = charged_more c.args.vm.now c.finish_start_tag.new.self c.args.limiter.now c.finish_start_tag.new.limiter c.finish_start_tag.ensures.bytes c.in-Ok.ensures.grows c.in-Ok.ensures.charged
+
+pub returns-else-kept-clause-told : goal.returns-else-kept-clause-told
+returns-else-kept-clause-told c = λ s esi events tag past pending rest.
+    let laws = c.run_laws.ensures in
+    let vm = c.args.vm.now in
+    let limiter = c.args.limiter.now in
+    let call = c.finish_start_tag in
+    let answered = c.in-Ok.ensures.answered s esi events tag pending rest in
+    let collected = chained_keeps _ (λ (xs : List MatchInfo) q. (q.0.ghost_name ≡ c.handler-1.given) × (q.0.now.refused ≡ false → q.0.now.items.items ≡ xs))
+    (λ xs q x v j k. search (rules, j, k)) _ _ _ (refl, λ _. c.clear.ensures.items) answered.reported in
+    let kept : c.kept-1.given.0.items.items ≡ map info_of answered.matched = search (rules, collected.0, collected.1, c.if-kept.false) in
+    told_as laws.depths laws.ordered s esi events tag vm call.new.self limiter call.new.limiter (charged_before laws.depths laws.ordered s esi events past.tag vm limiter past.runs past.dropped)
+    (room_before laws.depths laws.ordered s esi events past.tag vm limiter past.runs past.dropped) (countable_before laws.depths laws.ordered s esi events past.tag vm limiter past.runs past.dropped)
+    (λ opening. c.in-Ok.ensures.unlimited s esi events tag pending rest (has_content_if s esi events tag opening)) call.ensures.bytes
+    (ap (λ (l : Limiter). l.maximum) c.in-Ok.ensures.charged) (charged_more vm call.new.self limiter call.new.limiter call.ensures.bytes c.in-Ok.ensures.grows c.in-Ok.ensures.charged past.runs.charged)
+    _ _ _ true answered _ kept
+
+pub returns-then-kept-clause-refused : goal.returns-then-kept-clause-refused
+returns-then-kept-clause-refused c = λ s esi events tag past pending rest.
+    let laws = c.run_laws.ensures in
+    let vm = c.args.vm.now in
+    let limiter = c.args.limiter.now in
+    let charged = charged_before laws.depths laws.ordered s esi events past.tag vm limiter past.runs past.dropped in
+    let room = room_before laws.depths laws.ordered s esi events past.tag vm limiter past.runs past.dropped in (
+      counter_has_room s esi (document s esi events) (longest s esi events) (list_in (stack_in vm)) limiter charged tag room,
+      λ free. limit_isnt_due s esi (document s esi events) (longest s esi events) (list_in (stack_in vm)) limiter charged tag room
+          (λ opening. c.in-Ok.ensures.unlimited s esi events tag pending rest (has_content_if s esi events tag opening)),
+    )
+
+pub returns-in-Err-Limit-clause-refused : goal.returns-in-Err-Limit-clause-refused
+returns-in-Err-Limit-clause-refused c = λ s esi events tag past pending rest.
+    let laws = c.run_laws.ensures in
+    let vm = c.args.vm.now in
+    let limiter = c.args.limiter.now in
+    let call = c.finish_start_tag in
+    let is = c.in-Err-Limit.is ∙ ap Err c.in-Err-Limit.field-0-is in
+    let reported = call.ensures.limit_reported is s esi events tag pending rest in
+    refused_for_limit s esi (document s esi events) (longest s esi events) (list_in (stack_in vm)) limiter (charged_before laws.depths laws.ordered s esi events past.tag vm limiter past.runs past.dropped) tag
+    (room_before laws.depths laws.ordered s esi events past.tag vm limiter past.runs past.dropped) (opens_handed s esi events tag reported.0 rest.2) (call.ensures.limited is)
+
+pub returns-in-Err-Memory-clause-refused : goal.returns-in-Err-Memory-clause-refused
+returns-in-Err-Memory-clause-refused c = λ s esi events tag past pending rest.
+    let laws = c.run_laws.ensures in
+    let vm = c.args.vm.now in
+    let limiter = c.args.limiter.now in
+    let call = c.finish_start_tag in
+    let is = c.in-Err-Memory.is ∙ ap Err c.in-Err-Memory.field-0-is in
+    let charged = charged_before laws.depths laws.ordered s esi events past.tag vm limiter past.runs past.dropped in
+    let room = room_before laws.depths laws.ordered s esi events past.tag vm limiter past.runs past.dropped in (
+      counter_has_room s esi (document s esi events) (longest s esi events) (list_in (stack_in vm)) limiter charged tag room,
+      λ free. limit_isnt_due s esi (document s esi events) (longest s esi events) (list_in (stack_in vm)) limiter charged tag room
+          (λ opening limited. call.ensures.due _ is limited s esi events tag pending free),
+    )

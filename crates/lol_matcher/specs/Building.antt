@@ -1,0 +1,48 @@
+-- What a contract sees of a matcher that is being made.
+use Rattle.std.specs.Prelude.{ℕ, ◌≡◌, ◌⊎◌, Bool, false, [], List, None, Ok, Err}
+use Rattle.lol_css.specs.Accepting.{accept}
+use Rattle.lol_css.specs.Trees.{Items}
+use Rattle.lol_css.specs.declared.error.SelectorError.{SelectorError}
+use Rattle.lol_css.specs.declared.error.SelectorError.TheVariants.{Memory}
+use Rattle.lol_instructions.specs.declared.tries.Tries.{Tries}
+use Rattle.lol_program.specs.Asts.{pairs_of, nodes_of}
+use Rattle.lol_program.specs.Conditions.{pairs_under}
+use Rattle.lol_program.specs.Paths.{all_beginnings}
+use Rattle.lol_program.specs.Sets.{Joins, SameMembers, IsBetween}
+use Rattle.lol_program.specs.declared.ast.Ast.{Ast}
+use Rattle.lol_matcher.specs.Told.{Matching}
+
+-- The tree of the selectors so far, the most bytes that may be charged, the bytes that an element is charged for, and the ESI switch.
+pub record Building : Type 0 where
+  pub ast : Ast
+  pub max_memory : ℕ
+  pub element_bytes : ℕ
+  pub esi : Bool
+
+-- A text is accepted, and its selectors were added under an id.
+pub record Adds (id : ℕ) (text : List ℕ) (old new : Ast) : Type 0 where
+  pub items : Items
+  pub accepted : accept text ≡ Ok items
+  pub pairs : Joins (pairs_of old) (pairs_of new) (pairs_under id items)
+  pub nodes : Joins (nodes_of old) (nodes_of new) (all_beginnings (pairs_under id items))
+
+-- Memory was refused: no selector came or went, though nodes of the text's may stand in the tree.
+pub record KeepsPairs (id : ℕ) (text : List ℕ) (old new : Ast) : Type 0 where
+  pub pairs : SameMembers (pairs_of old) (pairs_of new)
+  pub nodes : (items : Items) → accept text ≡ Ok items → IsBetween (nodes_of old) (nodes_of new) (all_beginnings (pairs_under id items))
+
+-- A text wasn't added: it isn't accepted, and the tree is as it was, or memory was refused.
+abbrev pub Refuses : ℕ → List ℕ → SelectorError → Ast → Ast → Type 0
+Refuses id text cause old new = ((accept text ≡ Err cause) × (new ≡ old)) ⊎ ((cause ≡ Memory) × KeepsPairs id text old new)
+
+-- a matcher that was told of nothing yet
+abbrev pub started_with : Building → Tries → Matching
+started_with b tries =
+    record {
+      told = record { ast = b.ast; esi = b.esi; events = []; asked = None };
+      max_memory = b.max_memory;
+      element_bytes = b.element_bytes;
+      failed = false;
+      matched = [];
+      tries = tries;
+    }

@@ -1,0 +1,6 @@
+pub mod Told
+pub mod Noted
+pub mod Refusing
+pub mod Keeping
+pub mod Answering
+pub mod Building

@@ -1,0 +1,39 @@
+-- What a matcher was told of a document, and what a contract sees of it.
+use Rattle.std.specs.Prelude.{ℕ, Bool, false, List, [], ◌∷◌, ◌++◌, Option, Some, None}
+use Rattle.lol_base.specs.StartTags.{StartTag}
+use Rattle.lol_base.specs.declared.namespace.Namespace.{Namespace}
+use Rattle.lol_instructions.specs.declared.tries.Tries.{Tries}
+use Rattle.lol_memory.specs.declared.match_info.MatchInfo.{MatchInfo}
+use Rattle.lol_program.specs.declared.ast.Ast.{Ast}
+use Rattle.lol_vm.specs.Events.{Event, Start}
+
+-- The tree of the selectors, the ESI switch, the events that were answered, and the name and the namespace of the start tag that waits
+-- for its attributes, which comes after those events.
+pub record Told : Type 0 where
+  pub ast : Ast
+  pub esi : Bool
+  pub events : List Event
+  pub asked : Option (List ℕ × Namespace)
+
+-- A matcher: what it was told, the most bytes that it may charge, the bytes that an element is charged for, whether a tag was refused,
+-- what the last start tag was reported under, and how many nodes were tried for it.
+pub record Matching : Type 0 where
+  pub told : Told
+  pub max_memory : ℕ
+  pub element_bytes : ℕ
+  pub failed : Bool
+  pub matched : List MatchInfo
+  pub tries : Tries
+
+-- a start tag without attributes, which isn't finished
+abbrev pub bare_tag : List ℕ → Namespace → StartTag
+bare_tag name ns = record { name = name; namespace = ns; attributes = []; self_closing = false; finish = false }
+
+-- events, and a start tag that waits for its attributes, as dropped
+abbrev pub with_dropped : List Event → Option (List ℕ × Namespace) → List Event
+with_dropped events None = events
+with_dropped events (Some asked) = events ++ Start (bare_tag asked.0 asked.1) ∷ []
+
+-- the events so far, where a start tag that waits is dropped
+abbrev pub heard : Told → List Event
+heard told = with_dropped told.events told.asked

@@ -1,0 +1,22 @@
+//! A matcher that owns its machine: it is told of the tags of a document as they come, and may be let go at any time.
+#![tactic(auto)]
+
+mod builder;
+mod error;
+mod kept;
+mod laws;
+mod matched_ids;
+mod matcher;
+mod past;
+mod reading;
+mod tags;
+#[cfg(test)]
+mod tests;
+
+pub use builder::MatcherBuilder;
+pub use error::MatcherError;
+pub use lol_base::{AttributeBuffer, AttributeOutline, AuxStartTagInfo, Bytes, Namespace, Range};
+pub use lol_css::SelectorError;
+pub use lol_memory::{MatchId, MatchInfo};
+pub use lol_program::Tries;
+pub use matcher::{Matcher, Started};

@@ -1,0 +1,231 @@
+//! The matcher.
+
+use crate::builder::MatcherBuilder;
+use crate::error::MatcherError;
+use crate::kept::Kept;
+use crate::matched_ids::MatchedIds;
+use crate::past::{Note, Past};
+use crate::tags::{Answered, end_tag, finish_tag, start_tag};
+use lol_base::{AuxStartTagInfo, Namespace};
+use lol_memory::{MatchInfo, SharedMemoryLimiter};
+use lol_program::{Ast, Tries};
+use lol_vm::{AuxStartTagInfoRequest, SelectorMatchingVm};
+use std::alloc::{AllocError, Global};
+use std::marker::Model;
+
+/// What is answered to a start tag.
+#[derive(Debug, Clone, Copy, PartialEq, Eq)]
+pub enum Started {
+    /// It was reported: `matches` has what it was reported under.
+    Reported,
+    /// Its attributes are asked for. It is finished by `finish`; at any other call that tells of a tag it is dropped: then its element is
+    /// counted as a child, and is neither reported nor opened.
+    NeedsAttributes,
+}
+
+/// Matches selectors against the start tags of a document, as its tags come. It owns its machine, and is dropped as any value.
+pub struct Matcher {
+    vm: SelectorMatchingVm<MatchedIds>,
+    limiter: SharedMemoryLimiter,
+    request: Option<AuxStartTagInfoRequest<MatchedIds>>,
+    kept: Kept,
+    failed: bool,
+    past: Past,
+}
+
+impl Model for Matcher {
+    ghost use Rattle.std.specs.Coded.{codes};
+    ghost use Rattle.lol_program.specs.contracts.ast.Ast as tree;
+    ghost use Rattle.lol_vm.specs.Vms.{slot_bytes, tries_in};
+    ghost use Rattle.lol_matcher.specs.Told.{Matching};
+    ghost use Rattle.lol_matcher.specs.Keeping.{Keeps};
+
+    ghost Value = { Matching };
+
+    ghost coded = { Prim.hlevel (codes, tree.the_row.coded) };
+
+    ghost view = { λ m. record { told = m.past.told; max_memory = m.limiter.maximum; element_bytes = slot_bytes m.vm; failed = m.failed; matched = m.kept.items.items; tries = tries_in m.vm } };
+
+    ghost invariant = { λ m. Keeps m.past.told m.failed m.vm m.request m.limiter };
+}
+
+impl Drop for Matcher {
+    fn drop(self) {
+        let Matcher {
+            vm,
+            mut limiter,
+            request: _,
+            kept: _,
+            failed: _,
+            past: _,
+        } = self;
+        vm.release(&mut limiter);
+    }
+}
+
+impl Matcher {
+    ghost use Rattle.std.specs.Prelude.{◌≡◌, ◌≤◌, ◌↔◌, [], true, false, None, Err, IfOk, OnOk, OnErr, IfErr, IfSome, IsSome};
+    ghost use Rattle.lol_base.specs.StartTags.{RangesAreInside, StartTag};
+    ghost use Rattle.lol_program.specs.Asts.{pairs_of, nodes_of};
+    ghost use Rattle.lol_matcher.specs.Answering.{Answers, IsReported, told_after, refused_with, with_ended};
+    ghost use Rattle.lol_matcher.specs.Building.{Building, started_with};
+    ghost use Rattle.lol_matcher.specs.Keeping.{IsRefusal};
+    ghost use Rattle.lol_matcher.specs.Noted.{finished_told};
+    ghost use Rattle.lol_matcher.specs.Refusing.{Fits, RefusesStart, RefusesFinish, refusal_of};
+    ghost use Rattle.lol_matcher.specs.Told.{heard};
+    ghost use Rattle.lol_vm.specs.Views.{selectors, tag_of};
+    ghost use Rattle.lol_vm.specs.Vms.{IsTriedAtMost};
+
+    /// A builder with no selectors, no bound on memory, 64 bytes for each open element, and ESI's names as others.
+    pub fn builder(alloc: Global) -> MatcherBuilder
+        ensures pairs { pairs_of result.ast ≡ [] }
+        ensures nodes { nodes_of result.ast ≡ [] }
+        ensures memory { result.max_memory ≡ usize.MAX }
+        ensures bytes { result.element_bytes ≡ 64 }
+        ensures esi { result.esi ≡ false }
+    {
+        MatcherBuilder::new(alloc)
+    }
+
+    /// A matcher for the selectors of a tree.
+    pub(crate) fn new(
+        alloc: Global,
+        ast: Ast,
+        max_memory: usize,
+        element_bytes: usize,
+        enable_esi_tags: bool,
+    ) -> Result<Self, AllocError>
+        requires { 1 ≤ element_bytes }
+        ensures { IfOk result (λ matcher. matcher ≡ started_with (record { ast = ast; max_memory = max_memory; element_bytes = element_bytes; esi = enable_esi_tags }) matcher.tries) }
+    {
+        let past = Past::new(&ast, &enable_esi_tags);
+        let vm = SelectorMatchingVm::new(alloc, ast, element_bytes, enable_esi_tags)?;
+        Ok(Matcher {
+            vm,
+            limiter: SharedMemoryLimiter::new(max_memory),
+            request: None,
+            kept: Kept::new(alloc),
+            failed: false,
+            past,
+        })
+    }
+
+    /// What the last tag was reported under, ascending by id: nothing where it is an end tag, waits for its attributes, or was refused.
+    pub fn matches(&self) -> &[MatchInfo]
+        ensures { result.now ≡ self.now.matched }
+    {
+        &self.kept.items
+    }
+
+    /// How many nodes were tried for the last start tag that wasn't answered `Failed`, its finishing included.
+    pub fn tries(&self) -> Tries
+        ensures { result ≡ self.now.tries }
+    {
+        self.vm.tries()
+    }
+
+    /// Whether a start tag was refused, so that each that comes later is answered `Failed`.
+    pub fn has_failed(&self) -> bool
+        ensures { result ≡ self.now.failed }
+    {
+        self.failed
+    }
+
+    /// A start tag: it is reported, or its attributes are asked for. A start tag that waits for its attributes is dropped.
+    ///
+    /// # Errors
+    /// `Failed` exactly after a refusal, and then nothing changes; else why the tag is refused, and all that come later.
+    pub fn start(&mut self, name: &[u8], ns: Namespace) -> Result<Started, MatcherError>
+        ensures answers { IfOk result (λ started. Answers started self.old.told name.now ns self.new.matched self.new.tries) }
+        ensures ok { IfOk result (λ started. self.new ≡ record self.old { told = told_after started self.old.told name.now ns; matched = self.new.matched; tries = self.new.tries }) }
+        ensures fits { IfOk result (λ started. (self.old.failed ≡ false) × Fits started self.old name.now ns) }
+        ensures failed { (result ≡ Err MatcherError.Failed) ↔ (self.old.failed ≡ true) }
+        ensures stuck { self.old.failed ≡ true → self.new ≡ self.old }
+        ensures refused { IfErr result (λ error. self.old.failed ≡ false → RefusesStart error self.old name.now ns) }
+        ensures after { IfErr result (λ error. self.old.failed ≡ false → self.new ≡ refused_with self.old self.new.tries) }
+        ensures tried { self.old.failed ≡ false → (tag : StartTag) → tag.name ≡ name.now → tag.namespace ≡ ns
+            → IsTriedAtMost (selectors self.old.told.ast) self.old.told.esi (heard self.old.told) tag self.new.tries }
+    {
+        if self.failed {
+            return Err(MatcherError::Failed);
+        }
+        self.request = None;
+        match start_tag(&mut self.vm, &mut self.limiter, name, ns, &mut self.kept) {
+            Ok(Answered::Reported) => {
+                self.past = self.past.then(&Note::Started(name, ns));
+                Ok(Started::Reported)
+            }
+            Ok(Answered::Asked(request)) => {
+                self.request = Some(request);
+                self.kept.clear();
+                self.past = self.past.then(&Note::Asked(name, ns));
+                Ok(Started::NeedsAttributes)
+            }
+            Err(error) => {
+                self.failed = true;
+                self.kept.clear();
+                Err(error)
+            }
+        }
+    }
+
+    /// The attributes of the start tag that waits for them: it is reported.
+    ///
+    /// # Errors
+    /// `Failed` exactly after a refusal; else `OutsideInput` exactly where a range of a name or of a value lies outside the input; else
+    /// `NotAsked` exactly where no tag waits. Then nothing changes, and a tag that waits still does. Else why the tag is refused, and all
+    /// that come later.
+    pub fn finish(&mut self, aux_info: AuxStartTagInfo<'_>) -> Result<(), MatcherError>
+        ensures reported { OnOk result (IfSome self.old.told.asked (λ asked.
+            IsReported (selectors self.old.told.ast) self.old.told.esi self.old.told.events (tag_of asked.0 asked.1 aux_info.entry true) true self.new.matched self.new.tries)) }
+        ensures ok { OnOk result (self.new ≡ record self.old { told = finished_told self.old.told aux_info.entry; matched = self.new.matched; tries = self.new.tries }) }
+        ensures fits { OnOk result (IfSome self.old.told.asked (λ asked. refusal_of self.old self.old.told.events (tag_of asked.0 asked.1 aux_info.entry true) ≡ None)) }
+        ensures well { OnOk result ((self.old.failed ≡ false) × RangesAreInside aux_info.entry × IsSome self.old.told.asked) }
+        ensures failed { (result ≡ Err MatcherError.Failed) ↔ (self.old.failed ≡ true) }
+        ensures outside { (result ≡ Err MatcherError.OutsideInput) ↔ ((self.old.failed ≡ false) × (RangesAreInside aux_info.entry → ⊥)) }
+        ensures not_asked { (result ≡ Err MatcherError.NotAsked) ↔ ((self.old.failed ≡ false) × RangesAreInside aux_info.entry × (self.old.told.asked ≡ None)) }
+        ensures refused { IfErr result (λ error. IsRefusal error → IfSome self.old.told.asked (λ asked. RefusesFinish error self.old (tag_of asked.0 asked.1 aux_info.entry true))) }
+        ensures after { IfErr result (λ error. IsRefusal error → self.new ≡ refused_with self.old self.new.tries) }
+        ensures tried { IfErr result (λ error. IsRefusal error → IfSome self.old.told.asked (λ asked.
+            IsTriedAtMost (selectors self.old.told.ast) self.old.told.esi self.old.told.events (tag_of asked.0 asked.1 aux_info.entry true) self.new.tries)) }
+        ensures unchanged { IfErr result (λ error. (IsRefusal error → ⊥) → self.new ≡ self.old) }
+    {
+        if self.failed {
+            return Err(MatcherError::Failed);
+        }
+        if !aux_info.ranges_inside() {
+            return Err(MatcherError::OutsideInput);
+        }
+        let Some(request) = self.request.take() else {
+            return Err(MatcherError::NotAsked);
+        };
+        match finish_tag(
+            &mut self.vm,
+            &mut self.limiter,
+            request,
+            aux_info,
+            &mut self.kept,
+        ) {
+            Ok(()) => {
+                self.past = self.past.then(&Note::Finished(aux_info));
+                Ok(())
+            }
+            Err(error) => {
+                self.failed = true;
+                self.kept.clear();
+                Err(error)
+            }
+        }
+    }
+
+    /// An end tag: the last open element of its name is closed, and all inside it. Where none is open, none is closed. A start tag that
+    /// waits for its attributes is dropped.
+    pub fn end(&mut self, name: &[u8])
+        ensures { self.new ≡ with_ended self.old name.now }
+    {
+        self.request = None;
+        self.kept.clear();
+        end_tag(&mut self.vm, name);
+        self.past = self.past.then(&Note::Ended(name));
+    }
+}
