@@ -1,3 +1,5 @@
+pub mod Alike
+pub mod Calls
 pub mod Charges
 pub mod Charging
 pub mod Counting

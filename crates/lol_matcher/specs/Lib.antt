@@ -4,3 +4,4 @@ pub mod Refusing
 pub mod Keeping
 pub mod Answering
 pub mod Building
+pub mod Calls

@@ -38,6 +38,7 @@ impl Model for MatcherBuilder {
 
 impl MatcherBuilder {
     ghost use Rattle.std.specs.Prelude.{◌≡◌, [], false, IfOk, IfErr, OnOk, max};
+    ghost use Rattle.lol_instructions.specs.Tries.{names_counted, attributes_counted};
     ghost use Rattle.lol_program.specs.Asts.{pairs_of, nodes_of};
     ghost use Rattle.lol_matcher.specs.Building.{Adds, Refuses, started_with};
 
@@ -95,7 +96,8 @@ impl MatcherBuilder {
 
     /// The matcher, before the first tag. It is refused only where memory is.
     pub fn build(self) -> Result<Matcher, AllocError>
-        ensures { IfOk result (λ matcher. matcher ≡ started_with self matcher.tries) }
+        ensures told { IfOk result (λ matcher. matcher ≡ started_with self matcher.tries) }
+        ensures tries { IfOk result (λ matcher. (names_counted matcher.tries ≡ 0) × (attributes_counted matcher.tries ≡ 0)) }
     {
         let MatcherBuilder {
             alloc,

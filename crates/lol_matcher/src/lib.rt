@@ -4,7 +4,7 @@
 mod builder;
 mod error;
 mod kept;
-mod laws;
+pub mod laws;
 mod matched_ids;
 mod matcher;
 mod past;

@@ -66,6 +66,7 @@ impl Drop for Matcher {
 impl Matcher {
     ghost use Rattle.std.specs.Prelude.{◌≡◌, ◌≤◌, ◌↔◌, [], true, false, None, Err, IfOk, OnOk, OnErr, IfErr, IfSome, IsSome};
     ghost use Rattle.lol_base.specs.StartTags.{RangesAreInside, StartTag};
+    ghost use Rattle.lol_instructions.specs.Tries.{names_counted, attributes_counted};
     ghost use Rattle.lol_program.specs.Asts.{pairs_of, nodes_of};
     ghost use Rattle.lol_matcher.specs.Answering.{Answers, IsReported, told_after, refused_with, with_ended};
     ghost use Rattle.lol_matcher.specs.Building.{Building, started_with};
@@ -96,7 +97,8 @@ impl Matcher {
         enable_esi_tags: bool,
     ) -> Result<Self, AllocError>
         requires { 1 ≤ element_bytes }
-        ensures { IfOk result (λ matcher. matcher ≡ started_with (record { ast = ast; max_memory = max_memory; element_bytes = element_bytes; esi = enable_esi_tags }) matcher.tries) }
+        ensures tries { IfOk result (λ matcher. (names_counted matcher.tries ≡ 0) × (attributes_counted matcher.tries ≡ 0)) }
+        ensures told { IfOk result (λ matcher. matcher ≡ started_with (record { ast = ast; max_memory = max_memory; element_bytes = element_bytes; esi = enable_esi_tags }) matcher.tries) }
     {
         let past = Past::new(&ast, &enable_esi_tags);
         let vm = SelectorMatchingVm::new(alloc, ast, element_bytes, enable_esi_tags)?;
