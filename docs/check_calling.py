@@ -1,4 +1,4 @@
-"""Compares what the pages crates/*/CALLING.md quote with the source: python3 docs/check_calling.py
+"""Compares what README.md and the pages crates/*/CALLING.md quote with the source: python3 docs/check_calling.py
 
 A block ```text holds functions with their clauses, ```rust and ```antt hold lines of the file that the text before them names last, and
 ```crates holds lines for crates.txt. Each difference is told, and the exit status is 1 if there is one.
@@ -87,7 +87,7 @@ def block_faults(kind, quoted, named, functions, crates):
 def main():
     functions, clauses, lines, differences = read_functions(), 0, 0, 0
     crates = set(re.findall(r"\w+", re.sub(r"#.*", "", (TOP / "crates.txt").read_text(encoding="utf-8"))))
-    for page in sorted(TOP.glob("crates/*/CALLING.md")):
+    for page in [TOP / "README.md", *sorted(TOP.glob("crates/*/CALLING.md"))]:
         text = page.read_text(encoding="utf-8")
         for block in BLOCK.finditer(text):
             kind, quoted = block.groups()

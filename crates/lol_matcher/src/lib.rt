@@ -9,13 +9,17 @@ mod matched_ids;
 mod matcher;
 mod past;
 mod reading;
+#[cfg(test)]
+mod readme;
 mod tags;
 #[cfg(test)]
 mod tests;
 
 pub use builder::MatcherBuilder;
 pub use error::MatcherError;
-pub use lol_base::{AttributeBuffer, AttributeOutline, AuxStartTagInfo, Bytes, Namespace, Range};
+pub use lol_base::{
+    AttributeBuffer, AttributeOutline, Attributes, AuxStartTagInfo, Bytes, Namespace, Range,
+};
 pub use lol_css::SelectorError;
 pub use lol_memory::{MatchId, MatchInfo};
 pub use lol_program::Tries;
