@@ -48,7 +48,7 @@ def main():
         script = file.read().rstrip("\n")
     given, answered = shown(readme)
     wrong = [] if given == script else ["README shows another input than examples/div_p.txt"]
-    for command in re.findall(r"^    (.*)$", readme, re.M):
+    for command in re.findall(r"^    (.*)$", re.sub(r"^```.*?^```", "", readme, flags=re.M | re.S), re.M):
         proves = bool(PROVING.search(command))
         if proves and "--all" not in options:
             continue
