@@ -19,4 +19,6 @@ mod passed_on;
 #[cfg(test)]
 mod runs;
 #[cfg(test)]
+mod small_uses;
+#[cfg(test)]
 mod uses;
