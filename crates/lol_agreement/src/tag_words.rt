@@ -7,7 +7,6 @@ use lol_base::Attributes;
 use lol_samples::TagWord;
 use lol_vm::TagEvent;
 use std::alloc::{AllocError, Global};
-use std::process::Abort;
 
 fn event<'e, 't: 'e>(tag: &TagWord<'t>, attributes: &'e Attributes) -> TagEvent<'e>
     ensures { HasRangesInside result }

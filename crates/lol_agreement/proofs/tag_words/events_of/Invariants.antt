@@ -3,4 +3,4 @@ use Rattle.lol_vm.specs.Views.{HasRangesInside}
 use Rattle.lol_agreement.proofs.tag_words.events_of.Given as goal
 
 abbrev pub invariant-loop-tag : goal.invariant-loop-tag
-invariant-loop-tag g l = All HasRangesInside l.events.items
+invariant-loop-tag l = All HasRangesInside l.events.items
