@@ -6,26 +6,26 @@ use thiserror::Error;
 #[derive(Debug, Clone, Copy, PartialEq, Eq, Error)]
 pub enum MatcherError {
     /// The charge for the open elements would pass the memory limit.
-    #[error("The memory limit was passed: too many elements are open at a time.")]
+    #[error("the memory limit would have been passed: too many elements are open at a time")]
     MemoryLimitExceeded,
 
     /// Memory was refused.
-    #[error("Out of memory.")]
+    #[error("out of memory")]
     Memory,
 
     /// The parent has as many children as can be counted.
-    #[error("The parent of the element has more children than can be counted.")]
+    #[error("an element has as many children as can be counted")]
     CounterFull,
 
     /// An earlier tag was refused.
-    #[error("An earlier start tag was refused, and so are all that come later.")]
+    #[error("an earlier start tag was refused: no other is answered")]
     Failed,
 
     /// Attributes were handed over, and no start tag waits for them.
-    #[error("No start tag waits for its attributes.")]
+    #[error("no start tag waits for its attributes")]
     NotAsked,
 
     /// The range of a name or of a value ends before it begins, or past the input's end.
-    #[error("The range of an attribute's name or value lies outside the input.")]
+    #[error("the range of an attribute's name or value lies outside the input")]
     OutsideInput,
 }

@@ -8,6 +8,7 @@ mod compiling;
 mod element;
 mod lists;
 mod machines;
+mod matchers;
 mod names;
 mod outcome;
 mod runs;
@@ -21,7 +22,7 @@ use std::io::Read;
 use std::process::ExitCode;
 
 /// The names of the scenarios.
-const NAMES: [&str; 31] = [
+const NAMES: [&str; 32] = [
     "from_str",
     "css_string",
     "to_boxed_slice",
@@ -53,6 +54,7 @@ const NAMES: [&str; 31] = [
     "run_of_a_bad_line",
     "run_past_the_limit",
     "attributes_push",
+    "matcher",
 ];
 
 fn main(rt: HostRuntime) -> ExitCode {
@@ -105,6 +107,7 @@ fn scenario(alloc: Global, name: &str) -> Result<Met, Stop> {
 fn part(alloc: Global, name: &str) -> Result<Met, Stop> {
     match name {
         "attributes_push" => attributes::attributes_push(alloc),
+        "matcher" => matchers::matcher(alloc),
         "push" => lists::push(alloc),
         "push_item" => stacks::push_item(alloc),
         "stack_add_child" => stacks::stack_add_child(alloc),
