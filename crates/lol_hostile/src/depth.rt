@@ -1,44 +1,19 @@
 //! A document of 100,000 open elements, tag by tag.
 
-ghost use Rattle.std.specs.Prelude.{◌≡◌, refl};
+ghost use Rattle.std.specs.Prelude.{◌≡◌};
 ghost use Rattle.lol_vm.specs.Vms.{slot_bytes};
 
 use lol_base::{LocalName, Namespace};
 use lol_css::Selector;
-use lol_memory::{DenseHashSet, MatchInfo, SharedMemoryLimiter};
+use lol_memory::{MatchInfo, SharedMemoryLimiter};
 use lol_program::Ast;
-use lol_vm::{ElementData, SelectorMatchingVm};
+use lol_vm::{ElementValue, SelectorMatchingVm};
 use std::alloc::Global;
 use std::process::Abort;
 use std::test::Fail;
 
 /// An open element, with its place from 0 on.
-#[derive(Drop)]
-struct Placed {
-    ids: DenseHashSet,
-    place: usize,
-}
-
-impl ElementData for Placed {
-    ghost ids = { λ d. d.ids };
-
-    ghost with_ids = { λ d w. record d { ids = w } };
-
-    ghost ids_of_changed = { λ d w. refl };
-
-    ghost same_ids_change_nothing = { λ d. refl };
-
-    fn new(alloc: Global) -> Self {
-        Placed {
-            ids: DenseHashSet::new(alloc),
-            place: 0,
-        }
-    }
-
-    fn matched_ids_mut(&mut self) -> &mut DenseHashSet {
-        &mut self.ids
-    }
-}
+type Placed = ElementValue<usize>;
 
 type Machine = SelectorMatchingVm<Placed>;
 
@@ -80,7 +55,7 @@ fn open_one(
     assert!(rt; is_open && count == times);
     assert!(rt; vm.tries().names() == tries && vm.tries().attributes() == 0);
     let data = vm.current_element_data_mut();
-    data.expect(rt, "data of an open element").place = place;
+    data.expect(rt, "data of an open element").value = place;
 }
 
 /// Opens `html` and nested `div`.
@@ -102,7 +77,7 @@ struct HandedOut {
 
 impl HandedOut {
     fn take(&mut self, data: Placed) {
-        self.in_turn = self.in_turn && data.place == self.next;
+        self.in_turn = self.in_turn && data.value == self.next;
         self.next = self.next.saturating_add(1);
     }
 }

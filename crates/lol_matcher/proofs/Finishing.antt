@@ -1,37 +1,52 @@
 -- A start tag that waited for its attributes, with them.
-use Rattle.std.proofs.Common.{◌≡◌, refl, ap, true, List, Option, Some, None, ℕ, subst}
+use Rattle.std.proofs.Common.{◌≡◌, refl, ap, Bool, true, List, Option, Some, None, ℕ, subst}
 use Rattle.std.specs.Prelude.{◌&&◌}
 use Rattle.lol_base.specs.StartTags.{StartTag}
 use Rattle.lol_base.specs.declared.namespace.Namespace.{Namespace}
 use Rattle.lol_memory.specs.Limiter.{Limiter}
+use Rattle.lol_memory.specs.declared.match_info.MatchInfo.{MatchInfo}
+use Rattle.lol_program.specs.Paths.{Selectors}
+use Rattle.lol_vm.specs.Events.{Event, has_content}
+use Rattle.lol_vm.specs.Refusals.{Allowance}
 use Rattle.lol_vm.specs.Views.{selectors}
-use Rattle.lol_vm.specs.Vms.{Vm, IsPending}
+use Rattle.lol_vm.specs.Vms.{Vm, IsPending, data_in}
 use Rattle.lol_vm.specs.declared.error.AuxStartTagInfoRequest.{AuxStartTagInfoRequest}
-use Rattle.lol_matcher.specs.Keeping.{Waits, Runs, RunsPast, ids_of}
+use Rattle.lol_matcher.specs.Answering.{GrowsBy, Kept, KeepsOne}
+use Rattle.lol_matcher.specs.Keeping.{IsFinished, IsToldAs, IsUnreported, Waits, Runs, RunsPast, ids_of}
 use Rattle.lol_matcher.specs.Told.{Told, bare_tag, heard, with_dropped}
-use Rattle.lol_matcher.specs.declared.matched_ids.MatchedIds.{MatchedIds}
+use Rattle.lol_matcher.specs.declared.tags.Finished.{Finished}
+use Rattle.lol_matcher.specs.declared.tags.Finished.TheVariants.{Reported, Unreported}
 
 -- A tag waits, and its request with it.
-pub record IsWaiting (told : Told) (vm : Vm MatchedIds) (request : AuxStartTagInfoRequest MatchedIds) : Type 0 where
+pub record IsWaiting {T : Type 0} (told : Told) (vm : Vm (Kept T)) (request : AuxStartTagInfoRequest (Kept T)) : Type 0 where
   pub name : List ℕ
   pub namespace : Namespace
   pub asked : told.asked ≡ Some (name, namespace)
   pub pending : (tag : StartTag) → tag.name ≡ name → tag.namespace ≡ namespace → IsPending ids_of (selectors told.ast) told.esi told.events tag vm request
 
-waiting_with : (told : Told) (vm : Vm MatchedIds) (request : AuxStartTagInfoRequest MatchedIds) (asked : Option (List ℕ × Namespace)) → told.asked ≡ asked → Waits (selectors told.ast) told.esi told.events asked vm (Some request) → IsWaiting told vm request
+waiting_with : {T : Type 0} (told : Told) (vm : Vm (Kept T)) (request : AuxStartTagInfoRequest (Kept T)) (asked : Option (List ℕ × Namespace)) → told.asked ≡ asked → Waits (selectors told.ast) told.esi told.events asked vm (Some request) → IsWaiting told vm request
 waiting_with told vm request None is h = absurd h
 waiting_with told vm request (Some asked) is h = record { name = asked.0; namespace = asked.1; asked = is; pending = h }
 
-pub waiting : (told : Told) (vm : Vm MatchedIds) (request : AuxStartTagInfoRequest MatchedIds) (waits : Option (AuxStartTagInfoRequest MatchedIds)) → waits ≡ Some request
+pub waiting : {T : Type 0} (told : Told) (vm : Vm (Kept T)) (request : AuxStartTagInfoRequest (Kept T)) (waits : Option (AuxStartTagInfoRequest (Kept T))) → waits ≡ Some request
     → Waits (selectors told.ast) told.esi told.events told.asked vm waits → IsWaiting told vm request
-waiting told vm request waits is h =
-    waiting_with told vm request told.asked refl (subst (λ (w : Option (AuxStartTagInfoRequest MatchedIds)). Waits (selectors told.ast) told.esi told.events told.asked vm w) is h)
+waiting {T} told vm request waits is h =
+    waiting_with told vm request told.asked refl (subst (λ (w : Option (AuxStartTagInfoRequest (Kept T))). Waits (selectors told.ast) told.esi told.events told.asked vm w) is h)
 
 -- the machine runs past the tag that waits
-pub runs_past : (told : Told) (vm : Vm MatchedIds) (request : AuxStartTagInfoRequest MatchedIds) (limiter : Limiter) → IsWaiting told vm request → Runs (selectors told.ast) told.esi (heard told) vm limiter
+pub runs_past : {T : Type 0} (told : Told) (vm : Vm (Kept T)) (request : AuxStartTagInfoRequest (Kept T)) (limiter : Limiter) → IsWaiting told vm request → Runs (selectors told.ast) told.esi (heard told) vm limiter
     → RunsPast (selectors told.ast) told.esi told.events vm limiter
 runs_past told vm request limiter w runs = record {
   tag = bare_tag w.name w.namespace;
   dropped = ap (λ b. b && true) (w.pending (bare_tag w.name w.namespace) refl refl).asks;
   runs = subst (λ (asked : Option (List ℕ × Namespace)). Runs (selectors told.ast) told.esi (with_dropped told.events asked) vm limiter) w.asked runs;
 }
+
+-- What was answered to its attributes.
+module _ {T : Type 0} (s : Selectors) (esi : Bool) (events : List Event) (tag : StartTag) (items : List MatchInfo) (a : Allowance) (old new : Vm (Kept T)) (limiter : Limiter) (answered : Finished) where
+  pub finished_reported : (opened : Bool) → answered ≡ Reported opened → IsFinished s esi events tag answered items a old new limiter
+      → IsToldAs s esi events tag true items a new limiter × (opened ≡ has_content esi tag) × KeepsOne (has_content esi tag) items (data_in old) (data_in new)
+  finished_reported opened is h = subst (λ (f : Finished). IsFinished s esi events tag f items a old new limiter) is h
+
+  pub finished_unreported : answered ≡ Unreported → IsFinished s esi events tag answered items a old new limiter → IsUnreported s esi events tag a new limiter × GrowsBy (has_content esi tag) (data_in old) (data_in new)
+  finished_unreported is h = subst (λ (f : Finished). IsFinished s esi events tag f items a old new limiter) is h

@@ -7,5 +7,10 @@ pub mod Refusals
 pub mod Rooms
 pub mod Running
 pub mod Telling
+pub mod Opened
+pub mod Beginning
+pub mod Handing
+pub mod Leaving
+pub mod Values
 pub mod Walks
 pub mod Finishing

@@ -1,6 +1,6 @@
 -- What is kept of a start tag that was answered.
-use Rattle.std.proofs.Common.{◌≡◌, ◌+◌, ◌≤◌, ◌<◌, Bool, true, false, List, [], ◌∷◌, ◌++◌, refl, ap, sym, ◌∙◌, subst, map, arith}
-use Rattle.std.specs.Prelude.{◌&&◌, not, nat_lt}
+use Rattle.std.proofs.Common.{◌≡◌, ℕ, ◌+◌, ◌≤◌, ◌<◌, Bool, true, false, List, [], ◌∷◌, ◌++◌, length, refl, ap, sym, ◌∙◌, subst, map, arith}
+use Rattle.std.specs.Prelude.{◌&&◌, not, nat_lt, IsTrue, ◌↔◌}
 use Rattle.std.proofs.lemmas.Bool.Decides.{nat_tests}
 use Rattle.lol_base.specs.BoolLaws.{and_parts}
 use Rattle.lol_base.specs.StartTags.{StartTag}
@@ -11,18 +11,20 @@ use Rattle.lol_memory.specs.Limiter.{Limiter}
 use Rattle.lol_memory.specs.declared.match_info.MatchInfo.{MatchInfo}
 use Rattle.lol_program.specs.Paths.{Selectors}
 use Rattle.lol_stack.specs.Stacks.{list_in, last_count}
-use Rattle.lol_vm.specs.Answers.{Match, Started, asks, document}
+use Rattle.lol_vm.specs.Answers.{Match, Started, answer, asks, document}
 use Rattle.lol_vm.specs.Documents.{children_of, element_of, parent_of}
 use Rattle.lol_vm.specs.Events.{Event, Start, has_content}
 use Rattle.lol_vm.specs.Refusals.{greatest_count, longest}
 use Rattle.lol_vm.specs.Standing.{CountersArePlaces, DocumentsAreOrdered, unfinished}
 use Rattle.lol_vm.specs.Views.{match_of}
 use Rattle.lol_vm.specs.VmLaws.{PendingStands, SlotsAreOfDepth}
-use Rattle.lol_vm.specs.Vms.{Vm, Stands, IsAnswered, IsPending, info_of, tries_in, stack_in, slot_bytes}
+use Rattle.lol_vm.specs.Vms.{Vm, Stands, IsAnswered, IsPending, data_in, info_of, tries_in, stack_in, slot_bytes}
 use Rattle.lol_vm.specs.declared.error.AuxStartTagInfoRequest.{AuxStartTagInfoRequest}
-use Rattle.lol_matcher.specs.Keeping.{IsToldAs, IsAskedFor, IsCharged, Runs, allowed, ids_of}
-use Rattle.lol_matcher.specs.declared.matched_ids.MatchedIds.{MatchedIds}
+use Rattle.lol_matcher.specs.Answering.{GrowsBy, Kept, KeepsOne}
+use Rattle.lol_matcher.specs.Keeping.{ClearsOpened, IsToldAs, IsAskedFor, IsCharged, IsUnreported, KeepsRunning, Runs, allowed, ids_of}
+use Rattle.lol_matcher.proofs.Charges.{charged_alike}
 use Rattle.lol_matcher.proofs.Counting.{position_is}
+use Rattle.lol_matcher.proofs.Opened.{grows_by, is_opened, keeps_one}
 use Rattle.lol_matcher.proofs.Refusals.{IsChargedFor, fits, not_refused, opens_in}
 use Rattle.lol_matcher.proofs.Running.{charged_for, countable_after, runs_on}
 
@@ -78,7 +80,7 @@ unfinished_is tag none = λ i. record { name = tag.name; namespace = tag.namespa
 
 -- 3. A machine that runs
 
-module _ (places : CountersArePlaces) (s : Selectors) (esi : Bool) (events : List Event) (vm : Vm MatchedIds) (now : Limiter) (runs : Runs s esi events vm now) (tag : StartTag) where
+module _ {E : Type 0} (places : CountersArePlaces) (s : Selectors) (esi : Bool) (events : List Event) (vm : Vm E) (now : Limiter) (runs : Runs s esi events vm now) (tag : StartTag) where
   pub room_for : (last_count (stack_in vm) ≡ full_count → ⊥) → (element_of (document s esi events) tag).position ≤ greatest_count
   room_for room = by_test (nat_lt (last_count (stack_in vm)) full_count) refl
     where
@@ -97,7 +99,7 @@ module _ (places : CountersArePlaces) (s : Selectors) (esi : Bool) (events : Lis
       let position = position_is s esi vm events runs.stands places tag in
       omega (arith, position, full)
 
-module _ (depths : SlotsAreOfDepth MatchedIds) (ordered : DocumentsAreOrdered) (s : Selectors) (esi : Bool) (events : List Event) (tag : StartTag) (old new : Vm MatchedIds) (now later : Limiter)
+module _ {E : Type 0} (depths : SlotsAreOfDepth E) (ordered : DocumentsAreOrdered) (s : Selectors) (esi : Bool) (events : List Event) (tag : StartTag) (old new : Vm E) (now later : Limiter)
     (is : IsChargedFor (document s esi events) (longest s esi events) (list_in (stack_in old)) now) (room : (element_of (document s esi events) tag).position ≤ greatest_count)
     (countable : (parent : _) → children_of parent (document s esi events).children ≤ greatest_count) (unlimited : opens_in s esi (document s esi events) tag ≡ true → IsLimited (list_in (stack_in old)) now → ⊥)
     (bytes : slot_bytes new ≡ slot_bytes old) (maximum : later.maximum ≡ now.maximum) (charged : IsCharged new later) where
@@ -108,20 +110,29 @@ module _ (depths : SlotsAreOfDepth MatchedIds) (ordered : DocumentsAreOrdered) (
       runs_on depths ordered s esi events (Start tag) old new now later is.some is.word stands bytes maximum charged
       (fits s esi d (longest s esi events) (list_in (stack_in old)) now is opens tag unlimited) (countable_after d tag opens countable room)
 
-  -- where a list holds what the handler was called with
-  pub told_as : {F : Type 0} (step : F → MatchInfo → Unit {0} → F → Type 0) (f g : F) (asked : Bool) (a : IsAnswered ids_of step s esi events tag asked old new f g) (items : List MatchInfo) → items ≡ map info_of a.matched
-      → IsToldAs s esi events tag asked items (allowed old now) new later
-  told_as step f g asked a items same = record {
-    reported = a.answered ∙ ap (λ matched. Started matched asked (names_counted (tries_in new)) (attributes_counted (tries_in new))) (sym (ap (map match_of) same ∙ same_matches a.matched));
+  -- whatever became of its report
+  pub unreported_as : Stands s esi new (events ++ Start tag ∷ []) → IsUnreported s esi events tag (allowed old now) new later
+  unreported_as stands = record {
     fits = not_refused s esi (document s esi events) (longest s esi events) (list_in (stack_in old)) now is tag room unlimited;
-    runs = runs_after a.stands;
+    runs = runs_after stands;
   }
 
+  -- where a list holds what the handler was called with
+  pub told_as : (asked : Bool) (matched : List Match) → answer s esi (document s esi events) (Start tag) ≡ Started matched asked (names_counted (tries_in new)) (attributes_counted (tries_in new))
+      → Stands s esi new (events ++ Start tag ∷ []) → (items : List MatchInfo) → items ≡ map info_of matched → IsToldAs s esi events tag asked items (allowed old now) new later
+  told_as asked matched answered stands items same =
+      let kept = unreported_as stands in
+      record {
+        reported = answered ∙ ap (λ matched. Started matched asked (names_counted (tries_in new)) (attributes_counted (tries_in new))) (sym (ap (map match_of) same ∙ same_matches matched));
+        fits = kept.fits;
+        runs = kept.runs;
+      }
+
 -- Its attributes are asked for.
-pub asked_for : SlotsAreOfDepth MatchedIds → DocumentsAreOrdered → PendingStands MatchedIds
-    → (s : Selectors) (esi : Bool) (events : List Event) (tag : StartTag) (old new : Vm MatchedIds) (now later : Limiter) → Runs s esi events old now → (element_of (document s esi events) tag).position ≤ greatest_count
+pub asked_for : {T : Type 0} → SlotsAreOfDepth (Kept T) → DocumentsAreOrdered → PendingStands (Kept T)
+    → (s : Selectors) (esi : Bool) (events : List Event) (tag : StartTag) (old new : Vm (Kept T)) (now later : Limiter) → Runs s esi events old now → (element_of (document s esi events) tag).position ≤ greatest_count
     → slot_bytes new ≡ slot_bytes old → later.maximum ≡ now.maximum → IsCharged new later
-    → (request : AuxStartTagInfoRequest MatchedIds) → IsPending ids_of s esi events tag new request → IsAskedFor s esi events tag (allowed old now) new later request
+    → (request : AuxStartTagInfoRequest (Kept T)) → IsPending ids_of s esi events tag new request → IsAskedFor s esi events tag (allowed old now) new later request
 asked_for depths ordered dropped s esi events tag old new now later runs room bytes maximum charged request pending =
     let is = charged_for depths ordered s esi events old now runs in
     record {
@@ -130,3 +141,35 @@ asked_for depths ordered dropped s esi events tag old new now later runs room by
       runs = λ none. runs_after depths ordered s esi events tag old new now later is room runs.countable (λ opens limited. opens_nothing s esi events tag pending.asks none opens) bytes maximum charged
           (subst (λ t. Stands s esi new (events ++ Start t ∷ [])) (unfinished_is tag none) (dropped ids_of s esi events tag new request pending));
     }
+
+-- Where the machine answered it, and an element that was opened is left without a value.
+module _ {T F : Type 0} {step : F → MatchInfo → Unit {0} → F → Type 0} {f g : F} (depths : SlotsAreOfDepth (Kept T)) (ordered : DocumentsAreOrdered) (s : Selectors) (esi : Bool) (events : List Event) (tag : StartTag) (old mid new : Vm (Kept T)) (now later : Limiter)
+    (is : IsChargedFor (document s esi events) (longest s esi events) (list_in (stack_in old)) now) (room : (element_of (document s esi events) tag).position ≤ greatest_count)
+    (countable : (parent : _) → children_of parent (document s esi events).children ≤ greatest_count) (unlimited : opens_in s esi (document s esi events) tag ≡ true → IsLimited (list_in (stack_in old)) now → ⊥)
+    (bytes : slot_bytes mid ≡ slot_bytes old) (maximum : later.maximum ≡ now.maximum) (charged : IsCharged mid later)
+    (asked : Bool) (a : IsAnswered ids_of step s esi events tag asked old mid f g) (before : ℕ) (many : before ≡ length (data_in old)) (opened : Bool) (clears : ClearsOpened before opened mid new) where
+  abbrev run : KeepsRunning mid new
+  run = clears.running
+
+  stands_on : Stands s esi new (events ++ Start tag ∷ [])
+  stands_on = run.stands s esi (events ++ Start tag ∷ []) a.stands
+
+  stays_charged : IsCharged new later
+  stays_charged = charged_alike mid new later later run.slots run.bytes refl charged
+
+  pub unreported : IsUnreported s esi events tag (allowed old now) new later
+  unreported = unreported_as depths ordered s esi events tag old new now later is room countable unlimited (run.bytes ∙ bytes) maximum stays_charged stands_on
+
+  pub reported : (items : List MatchInfo) → items ≡ map info_of a.matched → IsToldAs s esi events tag asked items (allowed old now) new later
+  reported items same =
+      told_as depths ordered s esi events tag old new now later is room countable unlimited (run.bytes ∙ bytes) maximum stays_charged asked a.matched
+      (a.answered ∙ ap (λ tries. Started a.matched asked (names_counted tries) (attributes_counted tries)) (sym run.tries)) stands_on items same
+
+  is_content : opened ≡ has_content esi tag
+  is_content = is_opened (has_content esi tag) opened a.matched (data_in old) (data_in mid) a.opened (subst (λ n. IsTrue opened ↔ (n < length (data_in mid))) many clears.opened)
+
+  pub leaves : (items : List MatchInfo) → items ≡ map info_of a.matched → (opened ≡ has_content esi tag) × KeepsOne (has_content esi tag) items (data_in old) (data_in new)
+  leaves items same = (is_content, keeps_one (has_content esi tag) opened a.matched items (data_in old) (data_in mid) (data_in new) a.opened is_content clears.kept same)
+
+  pub leaves_unreported : GrowsBy (has_content esi tag) (data_in old) (data_in new)
+  leaves_unreported = grows_by (has_content esi tag) opened a.matched (data_in old) (data_in mid) (data_in new) a.opened is_content clears.kept

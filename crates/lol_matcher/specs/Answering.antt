@@ -1,17 +1,23 @@
 -- What a matcher answers.
-use Rattle.std.specs.Prelude.{ℕ, ◌≡◌, Bool, true, false, List, [], map}
+use Rattle.std.specs.Prelude.{ℕ, ◌≡◌, Bool, true, false, List, [], ◌∷◌, ◌++◌, length, map, take, Option, None, ◌⊎◌}
 use Rattle.lol_base.specs.StartTags.{StartTag}
 use Rattle.lol_base.specs.declared.namespace.Namespace.{Namespace}
 use Rattle.lol_instructions.specs.Tries.{names_counted, attributes_counted}
 use Rattle.lol_instructions.specs.declared.tries.Tries.{Tries}
+use Rattle.lol_memory.specs.Ids.{ascending}
 use Rattle.lol_memory.specs.declared.match_info.MatchInfo.{MatchInfo}
 use Rattle.lol_program.specs.Paths.{Selectors}
-use Rattle.lol_vm.specs.Answers.{answer, asks, document, Started}
+use Rattle.lol_stack.specs.declared.element_value.ElementValue.{ElementValue}
+use Rattle.lol_vm.specs.Answers.{Match, answer, asks, document, report, Started}
 use Rattle.lol_vm.specs.Documents.{element_of}
-use Rattle.lol_vm.specs.Events.{Event, Start}
+use Rattle.lol_vm.specs.Events.{Event, Start, has_content}
 use Rattle.lol_vm.specs.Views.{selectors, match_of}
-use Rattle.lol_matcher.specs.Told.{Told, Matching, heard}
+use Rattle.lol_vm.specs.Vms.{open_after}
+use Rattle.lol_matcher.specs.Calls.{told_of}
+use Rattle.lol_matcher.specs.Told.{Told, Matching, elements_of, heard}
 use Rattle.lol_matcher.specs.Noted.{started_told, asked_told, ended_told}
+use Rattle.lol_matcher.specs.declared.error.MatcherError.{MatcherError}
+use Rattle.lol_matcher.specs.declared.error.MatcherError.TheVariants.{Memory}
 use Rattle.lol_matcher.specs.declared.matcher.Started as started
 use Rattle.lol_matcher.specs.declared.matcher.Started.TheVariants.{Reported, NeedsAttributes}
 
@@ -23,6 +29,20 @@ IsReported s esi events tag asked matched tries =
 -- whether the attributes of a start tag after events are asked for
 abbrev pub asks_after : Selectors → Bool → List Event → StartTag → Bool
 asks_after s esi events tag = asks s (element_of (document s esi events) tag) (document s esi events).open_elements
+
+-- what a start tag after events is reported under, in order
+abbrev pub reported_after : Selectors → Bool → List Event → StartTag → List Match
+reported_after s esi events tag = report s esi (element_of (document s esi events) tag) (document s esi events).open_elements
+
+-- what was told, after a start tag whose attributes are handed over where they are asked for
+abbrev pub handed_told : Told → StartTag → Told
+handed_told t tag =
+    record {
+      ast = t.ast;
+      esi = t.esi;
+      events = heard t ++ told_of (selectors t.ast) (document (selectors t.ast) t.esi (heard t)) (Start tag) ∷ [];
+      asked = None;
+    }
 
 -- what was told, after a start tag
 abbrev pub told_after : started.Started → Told → List ℕ → Namespace → Told
@@ -36,10 +56,94 @@ Answers Reported t name ns matched tries =
 Answers NeedsAttributes t name ns matched tries =
     (matched ≡ []) × ((tag : StartTag) → tag.name ≡ name → tag.namespace ≡ ns → asks_after (selectors t.ast) t.esi (heard t) tag ≡ true)
 
--- a matcher after a refusal: it has failed, nothing is reported, and what it was told is as before
-abbrev pub refused_with : Matching → Tries → Matching
-refused_with m tries = record m { failed = true; matched = []; tries = tries }
+-- what is kept of an open element
+abbrev pub Kept : Type 0 → Type 0
+Kept T = ElementValue (Option T)
+
+-- these elements, where the last has another value
+abbrev pub with_value : {T : Type 0} → Option T → List (Kept T) → List (Kept T)
+with_value value [] = []
+with_value value (element ∷ []) = record element { value = value } ∷ []
+with_value value (element ∷ next ∷ elements) = element ∷ with_value value (next ∷ elements)
+
+-- the value of the last of these elements, or a given one where there is none
+abbrev pub last_value : {T : Type 0} → Option T → List (Kept T) → Option T
+last_value value [] = value
+last_value value (element ∷ []) = element.value
+last_value value (element ∷ next ∷ elements) = last_value value (next ∷ elements)
+
+-- An element with content is opened: it comes last, with exactly the ids that it is reported under, and no value yet.
+abbrev pub KeepsOne : {T : Type 0} → Bool → List MatchInfo → List (Kept T) → List (Kept T) → Type 0
+KeepsOne false matched old new = new ≡ old
+KeepsOne {T} true matched old new =
+    (element : Kept T) × (new ≡ old ++ element ∷ []) × (element.value ≡ None) × (ascending element.matched_ids ≡ map (λ info. info.match_id) matched)
+
+-- a matcher that answered a start tag, whose element has content or not: it is open exactly then
+pub record Opens {T : Type 0} (content : Bool) (old new : Matching T) : Type 0 where
+  pub opened : new.opened ≡ content
+  pub kept : KeepsOne content new.matched old.kept new.kept
+
+-- A start tag with its attributes was answered as the definition says, after what was told.
+abbrev pub IsAnsweredAfter : {T : Type 0} → Told → StartTag → Matching T → Type 0
+IsAnsweredAfter t tag new = IsReported (selectors t.ast) t.esi (heard t) tag (asks_after (selectors t.ast) t.esi (heard t) tag) new.matched new.tries
+
+-- It was told, and nothing else changed but for what is reported and what is open.
+abbrev pub IsHandedOver : {T : Type 0} → StartTag → Matching T → Matching T → Type 0
+IsHandedOver tag old new =
+    new
+    ≡ record old {
+      told = handed_told old.told tag;
+      matched = new.matched;
+      tries = new.tries;
+      opened = new.opened;
+      open_elements = elements_of (handed_told old.told tag);
+      kept = new.kept;
+    }
+
+-- A start tag of this name and namespace was reported, and its element is open exactly if it has content; or its attributes are asked for.
+abbrev pub OpensStart : {T : Type 0} → started.Started → List ℕ → Namespace → Matching T → Matching T → Type 0
+OpensStart Reported name ns old new = (tag : StartTag) → tag.name ≡ name → tag.namespace ≡ ns → Opens (has_content old.told.esi tag) old new
+OpensStart NeedsAttributes name ns old new = Opens false old new
+
+-- A matcher after a refusal: it has failed, nothing is reported, and what it was told is as before.
+abbrev pub refused_with : {T : Type 0} → Matching T → Matching T → Matching T
+refused_with m new =
+    record m {
+      failed = true;
+      matched = [];
+      tries = new.tries;
+      opened = false;
+      open_elements = new.open_elements;
+      kept = new.kept;
+    }
+
+-- One more element is kept, if it has content.
+abbrev pub GrowsBy : {T : Type 0} → Bool → List (Kept T) → List (Kept T) → Type 0
+GrowsBy false old new = new ≡ old
+GrowsBy {T} true old new = (element : Kept T) × (new ≡ old ++ element ∷ [])
+
+-- the same elements are open
+pub record SameOpen {T : Type 0} (old new : Matching T) : Type 0 where
+  pub open_elements : new.open_elements ≡ old.open_elements
+  pub kept : new.kept ≡ old.kept
+
+-- A tag's report couldn't be kept: its element is open as if it had been told.
+pub record OpensUnreported {T : Type 0} (told : Told) (content : Bool) (old new : Matching T) : Type 0 where
+  pub open_elements : new.open_elements ≡ elements_of told
+  pub kept : GrowsBy content old.kept new.kept
+
+-- what is open after a refusal: where memory is refused for the list of the report, the tag's element too
+abbrev pub LeavesOpen : {T : Type 0} → MatcherError → Told → Bool → Matching T → Matching T → Type 0
+LeavesOpen Memory told content old new = SameOpen old new ⊎ OpensUnreported told content old new
+LeavesOpen error told content old new = SameOpen old new
 
 -- a matcher after an end tag
-abbrev pub with_ended : Matching → List ℕ → Matching
-with_ended m name = record m { told = ended_told m.told name; matched = [] }
+abbrev pub with_ended : {T : Type 0} → Matching T → List ℕ → Matching T
+with_ended m name =
+    record m {
+      told = ended_told m.told name;
+      matched = [];
+      opened = false;
+      open_elements = open_after name m.open_elements;
+      kept = take (length (open_after name m.open_elements)) m.kept;
+    }

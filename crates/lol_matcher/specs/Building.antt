@@ -36,7 +36,7 @@ abbrev pub Refuses : ℕ → List ℕ → SelectorError → Ast → Ast → Type
 Refuses id text cause old new = ((accept text ≡ Err cause) × (new ≡ old)) ⊎ ((cause ≡ Memory) × KeepsPairs id text old new)
 
 -- a matcher that was told of nothing yet
-abbrev pub started_with : Building → Tries → Matching
+abbrev pub started_with : {T : Type 0} → Building → Tries → Matching T
 started_with b tries =
     record {
       told = record { ast = b.ast; esi = b.esi; events = []; asked = None };
@@ -45,4 +45,7 @@ started_with b tries =
       failed = false;
       matched = [];
       tries = tries;
+      opened = false;
+      open_elements = [];
+      kept = [];
     }

@@ -33,20 +33,24 @@ IsRefusedFor NotAsked free refusal = ⊥
 IsRefusedFor OutsideInput free refusal = ⊥
 
 -- whether a start tag is refused that comes now, or the one that waits, once its attributes come
-abbrev pub refusal_of : Matching → List Event → StartTag → Option Cause
+abbrev pub refusal_of : {T : Type 0} → Matching T → List Event → StartTag → Option Cause
 refusal_of m events tag = refusal_after (selectors m.told.ast) m.told.esi (allowance m.element_bytes m.max_memory) events tag
 
 -- A start tag of this name and namespace isn't refused: whatever its attributes are, or as long as they haven't come.
-abbrev pub Fits : Started → Matching → List ℕ → Namespace → Type 0
+abbrev pub Fits : {T : Type 0} → Started → Matching T → List ℕ → Namespace → Type 0
 Fits Reported m name ns = (tag : StartTag) → tag.name ≡ name → tag.namespace ≡ ns → refusal_of m (heard m.told) tag ≡ None
 Fits NeedsAttributes m name ns = (tag : StartTag) → tag.name ≡ name → tag.namespace ≡ ns → tag.finish ≡ false → refusal_of m (heard m.told) tag ≡ None
 
 -- It is refused for this.
-abbrev pub RefusesStart : MatcherError → Matching → List ℕ → Namespace → Type 0
+abbrev pub RefusesStart : {T : Type 0} → MatcherError → Matching T → List ℕ → Namespace → Type 0
 RefusesStart error m name ns =
     (tag : StartTag) → tag.name ≡ name → tag.namespace ≡ ns
     → IsRefusedFor error (RunsWithoutMemory (selectors m.told.ast) m.told.esi (heard m.told) tag) (refusal_of m (heard m.told) tag)
 
+-- A start tag is refused for this, whose attributes are at hand.
+abbrev pub RefusesStartWith : {T : Type 0} → MatcherError → Matching T → StartTag → Type 0
+RefusesStartWith error m tag = IsRefusedFor error (RunsWithoutMemory (selectors m.told.ast) m.told.esi (heard m.told) tag) (refusal_of m (heard m.told) tag)
+
 -- The start tag that waits is refused for this.
-abbrev pub RefusesFinish : MatcherError → Matching → StartTag → Type 0
+abbrev pub RefusesFinish : {T : Type 0} → MatcherError → Matching T → StartTag → Type 0
 RefusesFinish error m tag = IsRefusedFor error (AreFlat (selectors m.told.ast)) (refusal_of m m.told.events tag)

@@ -3,9 +3,13 @@ use Rattle.std.specs.Prelude.{ℕ, Bool, false, List, [], ◌∷◌, ◌++◌, O
 use Rattle.lol_base.specs.StartTags.{StartTag}
 use Rattle.lol_base.specs.declared.namespace.Namespace.{Namespace}
 use Rattle.lol_instructions.specs.declared.tries.Tries.{Tries}
+use Rattle.lol_instructions.specs.Tests.{Element}
 use Rattle.lol_memory.specs.declared.match_info.MatchInfo.{MatchInfo}
 use Rattle.lol_program.specs.declared.ast.Ast.{Ast}
+use Rattle.lol_stack.specs.declared.element_value.ElementValue.{ElementValue}
+use Rattle.lol_vm.specs.Answers.{document}
 use Rattle.lol_vm.specs.Events.{Event, Start}
+use Rattle.lol_vm.specs.Views.{selectors}
 
 -- The tree of the selectors, the ESI switch, the events that were answered, and the name and the namespace of the start tag that waits
 -- for its attributes, which comes after those events.
@@ -16,14 +20,18 @@ pub record Told : Type 0 where
   pub asked : Option (List ℕ × Namespace)
 
 -- A matcher: what it was told, the most bytes that it may charge, the bytes that an element is charged for, whether a tag was refused,
--- what the last start tag was reported under, and how many nodes were tried for it.
-pub record Matching : Type 0 where
+-- what the last start tag was reported under, how many nodes were tried for it, and whether the last tag opened an element; the open
+-- elements, the innermost first, and what is kept of them, the outermost first: ids, and a value of the caller's, if one was given.
+pub record Matching (T : Type 0) : Type 0 where
   pub told : Told
   pub max_memory : ℕ
   pub element_bytes : ℕ
   pub failed : Bool
   pub matched : List MatchInfo
   pub tries : Tries
+  pub opened : Bool
+  pub open_elements : List Element
+  pub kept : List (ElementValue (Option T))
 
 -- a start tag without attributes, which isn't finished
 abbrev pub bare_tag : List ℕ → Namespace → StartTag
@@ -37,3 +45,12 @@ with_dropped events (Some asked) = events ++ Start (bare_tag asked.0 asked.1) �
 -- the events so far, where a start tag that waits is dropped
 abbrev pub heard : Told → List Event
 heard told = with_dropped told.events told.asked
+
+-- the open elements of what was told, the innermost first
+abbrev pub elements_of : Told → List Element
+elements_of told = (document (selectors told.ast) told.esi (heard told)).open_elements
+
+-- What was told, and which elements are open: those of what was told, until a tag is refused.
+pub record History : Type 0 where
+  pub told : Told
+  pub open_elements : List Element

@@ -1,13 +1,14 @@
 //! Laws, each the contract of a function that takes and gives nothing.
 
 ghost use Rattle.lol_vm.specs.Standing.{CountersArePlaces, DocumentsAreOrdered};
-ghost use Rattle.lol_vm.specs.VmLaws.{PendingStands, SlotsAreOfDepth};
+ghost use Rattle.lol_vm.specs.VmLaws.{DataChangeNothing, DataKeepOpen, DataKeepRequests, LastDataAreLent, LastDataChange, PendingStands, SlotsAreOfDepth, StandingHasOpen};
 ghost use Rattle.lol_matcher.specs.Calls.{CallsAnswerAlike, ToldGoesOn};
-ghost use Rattle.lol_matcher.specs.declared.matched_ids.MatchedIds.{MatchedIds};
 
-use crate::matched_ids::MatchedIds;
 use lol_vm::machine_laws::{counters_are_places, documents_are_ordered};
-use lol_vm::vm_laws::{dropped_requests_stand, slots_are_of_depth};
+use lol_vm::vm_laws::{
+    data_change_nothing, dropped_requests_stand, last_data_are_lent, slots_are_of_depth,
+    standing_has_open,
+};
 
 /// A matcher that is told of each tag of a list, and of the attributes of a start tag where it asks for them, answers what a run over
 /// that list does (`match_events` of lol_vm), and the same tag is refused first.
@@ -17,14 +18,28 @@ pub fn calls_answer_alike()
 {}
 
 /// What a machine has of the document of the events that it stands for.
-pub(crate) fn run_laws()
-    ensures depths { SlotsAreOfDepth MatchedIds }
+pub(crate) fn run_laws<E>()
+    ensures depths { SlotsAreOfDepth E }
     ensures ordered { DocumentsAreOrdered }
     ensures places { CountersArePlaces }
-    ensures dropped { PendingStands MatchedIds }
+    ensures dropped { PendingStands E }
+    ensures has_open { StandingHasOpen E }
 {
-    slots_are_of_depth::<MatchedIds>();
+    slots_are_of_depth::<E>();
     documents_are_ordered();
     counters_are_places();
-    dropped_requests_stand::<MatchedIds>();
+    dropped_requests_stand::<E>();
+    standing_has_open::<E>();
+}
+
+/// What changes where the data of the last open element do.
+pub(crate) fn data_laws<E>()
+    ensures stands { DataChangeNothing E }
+    ensures still_open { DataKeepOpen E }
+    ensures pending { DataKeepRequests E }
+    ensures lent { LastDataAreLent E }
+    ensures changed { LastDataChange E }
+{
+    data_change_nothing::<E>();
+    last_data_are_lent::<E>();
 }

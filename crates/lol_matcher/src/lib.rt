@@ -3,10 +3,9 @@
 
 mod builder;
 mod error;
-mod kept;
 pub mod laws;
-mod matched_ids;
 mod matcher;
+mod matches;
 mod past;
 mod reading;
 #[cfg(test)]
@@ -23,4 +22,5 @@ pub use lol_base::{
 pub use lol_css::SelectorError;
 pub use lol_memory::{MatchId, MatchInfo};
 pub use lol_program::Tries;
+pub use lol_stack::ElementValue;
 pub use matcher::{Matcher, Started};

@@ -2,13 +2,14 @@
 
 use crate::builder::MatcherBuilder;
 use crate::error::MatcherError;
-use crate::kept::Kept;
-use crate::matched_ids::MatchedIds;
+use crate::laws::run_laws;
+use crate::matches::Matches;
 use crate::past::{Note, Past};
-use crate::tags::{Answered, end_tag, finish_tag, start_tag};
+use crate::tags::{Answered, Finished, Kept, end_tag, finish_tag, replace_value, start_tag};
 use lol_base::{AuxStartTagInfo, Namespace};
 use lol_memory::{MatchInfo, SharedMemoryLimiter};
 use lol_program::{Ast, Tries};
+use lol_stack::ElementValue;
 use lol_vm::{AuxStartTagInfoRequest, SelectorMatchingVm};
 use std::alloc::{AllocError, Global};
 use std::marker::Model;
@@ -23,39 +24,43 @@ pub enum Started {
     NeedsAttributes,
 }
 
-/// Matches selectors against the start tags of a document, as its tags come. It owns its machine, and is dropped as any value.
-pub struct Matcher {
-    vm: SelectorMatchingVm<MatchedIds>,
+/// Matches selectors against the start tags of a document, as its tags come. It owns its machine, and is dropped as any value. Each open
+/// element may have a value of the caller's own, of the type `T`.
+pub struct Matcher<T = ()> {
+    vm: SelectorMatchingVm<Kept<T>>,
     limiter: SharedMemoryLimiter,
-    request: Option<AuxStartTagInfoRequest<MatchedIds>>,
-    kept: Kept,
+    request: Option<AuxStartTagInfoRequest<Kept<T>>>,
+    matches: Matches,
+    opened: bool,
     failed: bool,
     past: Past,
 }
 
-impl Model for Matcher {
+impl<T> Model for Matcher<T> {
     ghost use Rattle.std.specs.Coded.{codes};
+    ghost use Rattle.lol_memory.specs.Ids.{ids_code};
     ghost use Rattle.lol_program.specs.contracts.ast.Ast as tree;
-    ghost use Rattle.lol_vm.specs.Vms.{slot_bytes, tries_in};
+    ghost use Rattle.lol_vm.specs.Vms.{data_in, slot_bytes, tries_in};
     ghost use Rattle.lol_matcher.specs.Told.{Matching};
     ghost use Rattle.lol_matcher.specs.Keeping.{Keeps};
 
-    ghost Value = { Matching };
+    ghost Value = { Matching T };
 
-    ghost coded = { Prim.hlevel (codes, tree.the_row.coded) };
+    ghost coded = { Prim.hlevel (codes, tree.the_row.coded, ids_code, T.code) };
 
-    ghost view = { λ m. record { told = m.past.told; max_memory = m.limiter.maximum; element_bytes = slot_bytes m.vm; failed = m.failed; matched = m.kept.items.items; tries = tries_in m.vm } };
+    ghost view = { λ m. record { told = m.past.history.told; max_memory = m.limiter.maximum; element_bytes = slot_bytes m.vm; failed = m.failed; matched = m.matches.items.items; tries = tries_in m.vm; opened = m.opened; open_elements = m.past.history.open_elements; kept = data_in m.vm } };
 
-    ghost invariant = { λ m. Keeps m.past.told m.failed m.vm m.request m.limiter };
+    ghost invariant = { λ m. Keeps m.past.history m.failed m.vm m.request m.limiter };
 }
 
-impl Drop for Matcher {
+impl<T: Drop> Drop for Matcher<T> {
     fn drop(self) {
         let Matcher {
             vm,
             mut limiter,
             request: _,
-            kept: _,
+            matches: _,
+            opened: _,
             failed: _,
             past: _,
         } = self;
@@ -64,18 +69,8 @@ impl Drop for Matcher {
 }
 
 impl Matcher {
-    ghost use Rattle.std.specs.Prelude.{◌≡◌, ◌≤◌, ◌↔◌, [], true, false, None, Err, IfOk, OnOk, OnErr, IfErr, IfSome, IsSome};
-    ghost use Rattle.lol_base.specs.StartTags.{RangesAreInside, StartTag};
-    ghost use Rattle.lol_instructions.specs.Tries.{names_counted, attributes_counted};
+    ghost use Rattle.std.specs.Prelude.{◌≡◌, [], false};
     ghost use Rattle.lol_program.specs.Asts.{pairs_of, nodes_of};
-    ghost use Rattle.lol_matcher.specs.Answering.{Answers, IsReported, told_after, refused_with, with_ended};
-    ghost use Rattle.lol_matcher.specs.Building.{Building, started_with};
-    ghost use Rattle.lol_matcher.specs.Keeping.{IsRefusal};
-    ghost use Rattle.lol_matcher.specs.Noted.{finished_told};
-    ghost use Rattle.lol_matcher.specs.Refusing.{Fits, RefusesStart, RefusesFinish, refusal_of};
-    ghost use Rattle.lol_matcher.specs.Told.{heard};
-    ghost use Rattle.lol_vm.specs.Views.{selectors, tag_of};
-    ghost use Rattle.lol_vm.specs.Vms.{IsTriedAtMost};
 
     /// A builder with no selectors, no bound on memory, 64 bytes for each open element, and ESI's names as others.
     pub fn builder(alloc: Global) -> MatcherBuilder
@@ -87,6 +82,22 @@ impl Matcher {
     {
         MatcherBuilder::new(alloc)
     }
+}
+
+impl<T: Drop> Matcher<T> {
+    ghost use Rattle.std.specs.Prelude.{◌≡◌, ◌≤◌, ◌↔◌, [], true, false, None, Some, Err, IfOk, OnOk, OnErr, IfErr, IfSome, IsSome, drop, length, map};
+    ghost use Rattle.lol_base.specs.StartTags.{RangesAreInside, StartTag};
+    ghost use Rattle.lol_instructions.specs.Tries.{names_counted, attributes_counted};
+    ghost use Rattle.lol_stack.specs.Calls.{IsCalledAtEach};
+    ghost use Rattle.lol_matcher.specs.Answering.{Answers, IsAnsweredAfter, IsHandedOver, IsReported, LeavesOpen, Opens, OpensStart, last_value, reported_after, told_after, refused_with, with_ended, with_value};
+    ghost use Rattle.lol_matcher.specs.Building.{Building, started_with};
+    ghost use Rattle.lol_matcher.specs.Keeping.{IsRefusal};
+    ghost use Rattle.lol_matcher.specs.Noted.{finished_told, started_told};
+    ghost use Rattle.lol_matcher.specs.Refusing.{Fits, RefusesStart, RefusesStartWith, RefusesFinish, refusal_of};
+    ghost use Rattle.lol_matcher.specs.Told.{bare_tag, elements_of, heard};
+    ghost use Rattle.lol_vm.specs.Events.{has_content};
+    ghost use Rattle.lol_vm.specs.Views.{match_of, selectors, tag_of};
+    ghost use Rattle.lol_vm.specs.Vms.{IsTriedAtMost, open_after};
 
     /// A matcher for the selectors of a tree.
     pub(crate) fn new(
@@ -100,13 +111,15 @@ impl Matcher {
         ensures tries { IfOk result (λ matcher. (names_counted matcher.tries ≡ 0) × (attributes_counted matcher.tries ≡ 0)) }
         ensures told { IfOk result (λ matcher. matcher ≡ started_with (record { ast = ast; max_memory = max_memory; element_bytes = element_bytes; esi = enable_esi_tags }) matcher.tries) }
     {
+        run_laws::<Kept<T>>();
         let past = Past::new(&ast, &enable_esi_tags);
         let vm = SelectorMatchingVm::new(alloc, ast, element_bytes, enable_esi_tags)?;
         Ok(Matcher {
             vm,
             limiter: SharedMemoryLimiter::new(max_memory),
             request: None,
-            kept: Kept::new(alloc),
+            matches: Matches::new(alloc),
+            opened: false,
             failed: false,
             past,
         })
@@ -116,7 +129,7 @@ impl Matcher {
     pub fn matches(&self) -> &[MatchInfo]
         ensures { result.now ≡ self.now.matched }
     {
-        &self.kept.items
+        &self.matches.items
     }
 
     /// How many nodes were tried for the last start tag that wasn't answered `Failed`, its finishing included.
@@ -133,39 +146,60 @@ impl Matcher {
         self.failed
     }
 
+    /// Whether the last tag was a start tag that was reported, and opened its element: it has content, so that an end tag may come.
+    pub fn has_opened(&self) -> bool
+        ensures { result ≡ self.now.opened }
+    {
+        self.opened
+    }
+
     /// A start tag: it is reported, or its attributes are asked for. A start tag that waits for its attributes is dropped.
     ///
     /// # Errors
     /// `Failed` exactly after a refusal, and then nothing changes; else why the tag is refused, and all that come later.
     pub fn start(&mut self, name: &[u8], ns: Namespace) -> Result<Started, MatcherError>
         ensures answers { IfOk result (λ started. Answers started self.old.told name.now ns self.new.matched self.new.tries) }
-        ensures ok { IfOk result (λ started. self.new ≡ record self.old { told = told_after started self.old.told name.now ns; matched = self.new.matched; tries = self.new.tries }) }
+        ensures opens { IfOk result (λ started. OpensStart started name.now ns self.old self.new) }
+        ensures ok { IfOk result (λ started. self.new ≡ record self.old { told = told_after started self.old.told name.now ns; matched = self.new.matched; tries = self.new.tries; opened = self.new.opened; open_elements = elements_of (told_after started self.old.told name.now ns); kept = self.new.kept }) }
         ensures fits { IfOk result (λ started. (self.old.failed ≡ false) × Fits started self.old name.now ns) }
         ensures failed { (result ≡ Err MatcherError.Failed) ↔ (self.old.failed ≡ true) }
         ensures stuck { self.old.failed ≡ true → self.new ≡ self.old }
         ensures refused { IfErr result (λ error. self.old.failed ≡ false → RefusesStart error self.old name.now ns) }
-        ensures after { IfErr result (λ error. self.old.failed ≡ false → self.new ≡ refused_with self.old self.new.tries) }
+        ensures after { IfErr result (λ error. self.old.failed ≡ false → self.new ≡ refused_with self.old self.new) }
+        ensures left { IfErr result (λ error. self.old.failed ≡ false
+            → LeavesOpen error (started_told self.old.told name.now ns) (has_content self.old.told.esi (bare_tag name.now ns)) self.old self.new) }
         ensures tried { self.old.failed ≡ false → (tag : StartTag) → tag.name ≡ name.now → tag.namespace ≡ ns
             → IsTriedAtMost (selectors self.old.told.ast) self.old.told.esi (heard self.old.told) tag self.new.tries }
     {
         if self.failed {
             return Err(MatcherError::Failed);
         }
+        run_laws::<Kept<T>>();
         self.request = None;
-        match start_tag(&mut self.vm, &mut self.limiter, name, ns, &mut self.kept) {
-            Ok(Answered::Reported) => {
+        match start_tag(&mut self.vm, &mut self.limiter, name, ns, &mut self.matches) {
+            Ok(Answered::Reported(opened)) => {
+                self.opened = opened;
                 self.past = self.past.then(&Note::Started(name, ns));
                 Ok(Started::Reported)
             }
             Ok(Answered::Asked(request)) => {
                 self.request = Some(request);
-                self.kept.clear();
+                self.opened = false;
+                self.matches.clear();
                 self.past = self.past.then(&Note::Asked(name, ns));
                 Ok(Started::NeedsAttributes)
             }
+            Ok(Answered::Unreported) => {
+                self.failed = true;
+                self.opened = false;
+                self.matches.clear();
+                self.past = self.past.then(&Note::StartedUnreported(name, ns));
+                Err(MatcherError::Memory)
+            }
             Err(error) => {
                 self.failed = true;
-                self.kept.clear();
+                self.opened = false;
+                self.matches.clear();
                 Err(error)
             }
         }
@@ -180,14 +214,17 @@ impl Matcher {
     pub fn finish(&mut self, aux_info: AuxStartTagInfo<'_>) -> Result<(), MatcherError>
         ensures reported { OnOk result (IfSome self.old.told.asked (λ asked.
             IsReported (selectors self.old.told.ast) self.old.told.esi self.old.told.events (tag_of asked.0 asked.1 aux_info.entry true) true self.new.matched self.new.tries)) }
-        ensures ok { OnOk result (self.new ≡ record self.old { told = finished_told self.old.told aux_info.entry; matched = self.new.matched; tries = self.new.tries }) }
+        ensures opens { OnOk result (IfSome self.old.told.asked (λ asked. Opens (has_content self.old.told.esi (tag_of asked.0 asked.1 aux_info.entry true)) self.old self.new)) }
+        ensures ok { OnOk result (self.new ≡ record self.old { told = finished_told self.old.told aux_info.entry; matched = self.new.matched; tries = self.new.tries; opened = self.new.opened; open_elements = elements_of (finished_told self.old.told aux_info.entry); kept = self.new.kept }) }
         ensures fits { OnOk result (IfSome self.old.told.asked (λ asked. refusal_of self.old self.old.told.events (tag_of asked.0 asked.1 aux_info.entry true) ≡ None)) }
         ensures well { OnOk result ((self.old.failed ≡ false) × RangesAreInside aux_info.entry × IsSome self.old.told.asked) }
         ensures failed { (result ≡ Err MatcherError.Failed) ↔ (self.old.failed ≡ true) }
         ensures outside { (result ≡ Err MatcherError.OutsideInput) ↔ ((self.old.failed ≡ false) × (RangesAreInside aux_info.entry → ⊥)) }
         ensures not_asked { (result ≡ Err MatcherError.NotAsked) ↔ ((self.old.failed ≡ false) × RangesAreInside aux_info.entry × (self.old.told.asked ≡ None)) }
         ensures refused { IfErr result (λ error. IsRefusal error → IfSome self.old.told.asked (λ asked. RefusesFinish error self.old (tag_of asked.0 asked.1 aux_info.entry true))) }
-        ensures after { IfErr result (λ error. IsRefusal error → self.new ≡ refused_with self.old self.new.tries) }
+        ensures after { IfErr result (λ error. IsRefusal error → self.new ≡ refused_with self.old self.new) }
+        ensures left { IfErr result (λ error. IsRefusal error → IfSome self.old.told.asked (λ asked.
+            LeavesOpen error (finished_told self.old.told aux_info.entry) (has_content self.old.told.esi (tag_of asked.0 asked.1 aux_info.entry true)) self.old self.new)) }
         ensures tried { IfErr result (λ error. IsRefusal error → IfSome self.old.told.asked (λ asked.
             IsTriedAtMost (selectors self.old.told.ast) self.old.told.esi self.old.told.events (tag_of asked.0 asked.1 aux_info.entry true) self.new.tries)) }
         ensures unchanged { IfErr result (λ error. (IsRefusal error → ⊥) → self.new ≡ self.old) }
@@ -201,33 +238,102 @@ impl Matcher {
         let Some(request) = self.request.take() else {
             return Err(MatcherError::NotAsked);
         };
+        run_laws::<Kept<T>>();
         match finish_tag(
             &mut self.vm,
             &mut self.limiter,
             request,
             aux_info,
-            &mut self.kept,
+            &mut self.matches,
         ) {
-            Ok(()) => {
+            Ok(Finished::Reported(opened)) => {
+                self.opened = opened;
                 self.past = self.past.then(&Note::Finished(aux_info));
                 Ok(())
             }
+            Ok(Finished::Unreported) => {
+                self.failed = true;
+                self.opened = false;
+                self.matches.clear();
+                self.past = self.past.then(&Note::FinishedUnreported(aux_info));
+                Err(MatcherError::Memory)
+            }
             Err(error) => {
                 self.failed = true;
-                self.kept.clear();
+                self.opened = false;
+                self.matches.clear();
                 Err(error)
             }
         }
     }
 
+    /// A start tag whose attributes are at hand, in one call: `start`, and `finish` where they are asked for.
+    ///
+    /// # Errors
+    /// `Failed` exactly after a refusal; else `OutsideInput` exactly where a range of a name or of a value lies outside the input. Then
+    /// nothing changes. Else why the tag is refused, and all that come later.
+    pub fn start_with(
+        &mut self,
+        name: &[u8],
+        ns: Namespace,
+        aux_info: AuxStartTagInfo<'_>,
+    ) -> Result<(), MatcherError>
+        ensures reported { OnOk result (map match_of self.new.matched
+            ≡ reported_after (selectors self.old.told.ast) self.old.told.esi (heard self.old.told) (tag_of name.now ns aux_info.entry true)) }
+        ensures tried { OnOk result (IsAnsweredAfter self.old.told (tag_of name.now ns aux_info.entry true) self.new) }
+        ensures opens { OnOk result (Opens (has_content self.old.told.esi (tag_of name.now ns aux_info.entry true)) self.old self.new) }
+        ensures ok { OnOk result (IsHandedOver (tag_of name.now ns aux_info.entry true) self.old self.new) }
+        ensures fits { OnOk result (refusal_of self.old (heard self.old.told) (tag_of name.now ns aux_info.entry true) ≡ None) }
+        ensures well { OnOk result ((self.old.failed ≡ false) × RangesAreInside aux_info.entry) }
+        ensures failed { (result ≡ Err MatcherError.Failed) ↔ (self.old.failed ≡ true) }
+        ensures outside { (result ≡ Err MatcherError.OutsideInput) ↔ ((self.old.failed ≡ false) × (RangesAreInside aux_info.entry → ⊥)) }
+        ensures asked { result ≡ Err MatcherError.NotAsked → ⊥ }
+        ensures refused { IfErr result (λ error. IsRefusal error → RefusesStartWith error self.old (tag_of name.now ns aux_info.entry true)) }
+        ensures after { IfErr result (λ error. IsRefusal error → (self.new.failed ≡ true) × (self.new.matched ≡ [])) }
+        ensures unchanged { IfErr result (λ error. (IsRefusal error → ⊥) → self.new ≡ self.old) }
+    {
+        if self.failed {
+            return Err(MatcherError::Failed);
+        }
+        if !aux_info.ranges_inside() {
+            return Err(MatcherError::OutsideInput);
+        }
+        match self.start(name, ns)? {
+            Started::Reported => Ok(()),
+            Started::NeedsAttributes => self.finish(aux_info),
+        }
+    }
+
+    /// Changes the value of the innermost open element, and answers the one that it had: none until one was given. Where no element is
+    /// open, it answers the new one. It takes no memory.
+    pub fn replace_value(&mut self, value: Option<T>) -> Option<T>
+        ensures before { result ≡ last_value value self.old.kept }
+        ensures changed { self.new ≡ record self.old { kept = with_value value self.old.kept } }
+    {
+        replace_value(&mut self.vm, value)
+    }
+
     /// An end tag: the last open element of its name is closed, and all inside it. Where none is open, none is closed. A start tag that
     /// waits for its attributes is dropped.
     pub fn end(&mut self, name: &[u8])
-        ensures { self.new ≡ with_ended self.old name.now }
+        ensures ended { self.new ≡ with_ended self.old name.now }
+        ensures open { self.old.failed ≡ false → self.new.open_elements ≡ elements_of self.new.told }
+    {
+        self.end_with(name, &mut |_element: ElementValue<Option<T>>| {});
+    }
+
+    /// The same, and the handler is called with what was kept of each closed element, the outermost first.
+    pub fn end_with<F: FnMut(ElementValue<Option<T>>)>(&mut self, name: &[u8], handler: &mut F)
+        requires { F.IsAlwaysCallable handler.old }
+        ensures again { F.IsAlwaysCallable handler.new }
+        ensures ended { self.new ≡ with_ended self.old name.now }
+        ensures called { IsCalledAtEach F.step handler.old (drop (length (open_after name.now self.old.open_elements)) self.old.kept) handler.new }
+        ensures open { self.old.failed ≡ false → self.new.open_elements ≡ elements_of self.new.told }
     {
         self.request = None;
-        self.kept.clear();
-        end_tag(&mut self.vm, name);
+        self.opened = false;
+        self.matches.clear();
+        end_tag(&mut self.vm, name, handler);
         self.past = self.past.then(&Note::Ended(name));
     }
 }

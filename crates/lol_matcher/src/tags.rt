@@ -1,63 +1,80 @@
 //! What a machine answers to one tag.
 
-ghost use Rattle.std.specs.Prelude.{◌≡◌, ◌++◌, ◌∷◌, [], List, Bool, true, OnOk, IfOk, IfErr};
+ghost use Rattle.std.specs.Prelude.{◌≡◌, ◌++◌, ◌∷◌, [], List, Bool, OnErr, IfOk, IfErr, drop, length, take};
 ghost use Rattle.lol_base.specs.StartTags.{StartTag, RangesAreInside};
+ghost use Rattle.lol_instructions.specs.Tests.{Element};
 ghost use Rattle.lol_memory.specs.Limiter.{Limiter};
 ghost use Rattle.lol_program.specs.Paths.{Selectors};
-ghost use Rattle.lol_matcher.specs.Keeping.{KeepsItem, Runs, RunsPast, IsToldAs, Tells, IsCharged, allowed, ids_of};
+ghost use Rattle.lol_stack.specs.Calls.{IsCalledAtEach};
+ghost use Rattle.lol_matcher.specs.Keeping.{ClearsOpened, KeepsItem, KeepsRunning, Leaves, Runs, RunsPast, Tells, IsFinished, IsCharged, allowed, ids_of};
+ghost use Rattle.lol_matcher.specs.Answering.{last_value, with_value};
 ghost use Rattle.lol_matcher.specs.Refusing.{IsRefusedFor, refusal_after};
-ghost use Rattle.lol_vm.specs.Events.{Event, End};
+ghost use Rattle.lol_vm.specs.Events.{Event, End, has_content};
 ghost use Rattle.lol_vm.specs.FreeTags.{AreFlat, RunsWithoutMemory};
-ghost use Rattle.lol_vm.specs.Vms.{IsPending, IsRestOf, IsTriedAtMost, slot_bytes, tries_in};
+ghost use Rattle.lol_vm.specs.Vms.{HasOpen, IsPending, IsRestOf, IsTriedAtMost, data_in, open_after, slot_bytes, tries_in};
 
 use crate::error::MatcherError;
-use crate::kept::Kept;
-use crate::laws::run_laws;
-use crate::matched_ids::MatchedIds;
+use crate::laws::{data_laws, run_laws};
+use crate::matches::Matches;
 use lol_base::{AuxStartTagInfo, LocalName, Namespace};
 use lol_memory::{MatchInfo, PushError, SharedMemoryLimiter};
+use lol_stack::ElementValue;
 use lol_vm::{AuxStartTagInfoRequest, SelectorMatchingVm, VmError};
+use std::mem;
+
+/// What is kept of an open element: the ids that it was reported under, and a value of the caller's, if one was given.
+pub(crate) type Kept<T> = ElementValue<Option<T>>;
 
 /// What is answered to a start tag.
 #[derive(Drop)]
-pub(crate) enum Answered {
-    Reported,
-    Asked(AuxStartTagInfoRequest<MatchedIds>),
+pub(crate) enum Answered<T> {
+    /// It is reported, and its element was opened or not.
+    Reported(bool),
+    /// Memory was refused for the list of its report.
+    Unreported,
+    Asked(AuxStartTagInfoRequest<ElementValue<Option<T>>>),
 }
 
 /// Tells the machine of a start tag, and keeps what it is reported under.
-pub(crate) fn start_tag(
-    vm: &mut SelectorMatchingVm<MatchedIds>,
+pub(crate) fn start_tag<T: Drop>(
+    vm: &mut SelectorMatchingVm<Kept<T>>,
     limiter: &mut SharedMemoryLimiter,
     name: &[u8],
     ns: Namespace,
-    kept: &mut Kept,
-) -> Result<Answered, MatcherError>
+    matches: &mut Matches,
+) -> Result<Answered<T>, MatcherError>
     ensures told { IfOk result (λ answered. (s : Selectors) (esi : Bool) (events : List Event) (tag : StartTag)
         → Runs s esi events vm.old limiter.old → tag.name ≡ name.now → tag.namespace ≡ ns
-        → Tells s esi events tag answered kept.new.items.items (allowed vm.old limiter.old) vm.new limiter.new) }
+        → Tells s esi events tag answered matches.new.items.items (allowed vm.old limiter.old) vm.new limiter.new) }
+    ensures leaves { IfOk result (λ answered. (s : Selectors) (esi : Bool) (events : List Event) (tag : StartTag)
+        → Runs s esi events vm.old limiter.old → tag.name ≡ name.now → tag.namespace ≡ ns
+        → Leaves (has_content esi tag) answered matches.new.items.items (data_in vm.old) (data_in vm.new)) }
     ensures refused { IfErr result (λ error. (s : Selectors) (esi : Bool) (events : List Event) (tag : StartTag)
         → Runs s esi events vm.old limiter.old → tag.name ≡ name.now → tag.namespace ≡ ns
         → IsRefusedFor error (RunsWithoutMemory s esi events tag) (refusal_after s esi (allowed vm.old limiter.old) events tag)) }
+    ensures unchanged { OnErr result (data_in vm.new ≡ data_in vm.old) }
+    ensures still_open { OnErr result ((elements : List Element) → HasOpen vm.old elements → HasOpen vm.new elements) }
     ensures tried { (s : Selectors) (esi : Bool) (events : List Event) (tag : StartTag)
         → Runs s esi events vm.old limiter.old → tag.name ≡ name.now → tag.namespace ≡ ns → IsTriedAtMost s esi events tag (tries_in vm.new) }
     ensures charged { IsCharged vm.old limiter.old → IsCharged vm.new limiter.new }
     ensures bytes { slot_bytes vm.new ≡ slot_bytes vm.old }
     ensures maximum { limiter.new.maximum ≡ limiter.old.maximum }
 {
-    run_laws();
-    kept.clear();
+    run_laws::<Kept<T>>();
+    matches.clear();
+    let open_before = vm.open_elements();
     let mut handler = |info: MatchInfo|
-        ensures { KeepsItem kept.entry.now info kept.exit.now }
+        ensures { KeepsItem matches.entry.now info matches.exit.now }
     {
-        kept.keep(info);
+        matches.keep(info);
     };
     match vm.exec_for_start_tag(LocalName::new(name), ns, limiter, &mut handler) {
         Ok(()) => {
-            if kept.refused {
-                return Err(MatcherError::Memory);
+            let opened = clear_opened(vm, open_before);
+            if matches.refused {
+                return Ok(Answered::Unreported);
             }
-            Ok(Answered::Reported)
+            Ok(Answered::Reported(opened))
         }
         Err(VmError::InfoRequest(request)) => Ok(Answered::Asked(request)),
         Err(VmError::MemoryLimitExceeded(_)) => Err(MatcherError::MemoryLimitExceeded),
@@ -67,55 +84,106 @@ pub(crate) fn start_tag(
     }
 }
 
+/// What is answered to the attributes of a start tag.
+#[derive(Drop)]
+pub(crate) enum Finished {
+    /// It is reported, and its element was opened or not.
+    Reported(bool),
+    /// Memory was refused for the list of its report.
+    Unreported,
+}
+
 /// Finishes a start tag with its attributes, and keeps what it is reported under.
-pub(crate) fn finish_tag(
-    vm: &mut SelectorMatchingVm<MatchedIds>,
+pub(crate) fn finish_tag<T: Drop>(
+    vm: &mut SelectorMatchingVm<Kept<T>>,
     limiter: &mut SharedMemoryLimiter,
-    request: AuxStartTagInfoRequest<MatchedIds>,
+    request: AuxStartTagInfoRequest<Kept<T>>,
     aux_info: AuxStartTagInfo<'_>,
-    kept: &mut Kept,
-) -> Result<(), MatcherError>
+    matches: &mut Matches,
+) -> Result<Finished, MatcherError>
     requires { RangesAreInside aux_info }
-    ensures told { OnOk result ((s : Selectors) (esi : Bool) (events : List Event) (tag : StartTag)
+    ensures told { IfOk result (λ finished. (s : Selectors) (esi : Bool) (events : List Event) (tag : StartTag)
         → RunsPast s esi events vm.old limiter.old → IsPending ids_of s esi events tag vm.old request → IsRestOf aux_info.entry tag
-        → IsToldAs s esi events tag true kept.new.items.items (allowed vm.old limiter.old) vm.new limiter.new) }
+        → IsFinished s esi events tag finished matches.new.items.items (allowed vm.old limiter.old) vm.old vm.new limiter.new) }
     ensures refused { IfErr result (λ error. (s : Selectors) (esi : Bool) (events : List Event) (tag : StartTag)
         → RunsPast s esi events vm.old limiter.old → IsPending ids_of s esi events tag vm.old request → IsRestOf aux_info.entry tag
         → IsRefusedFor error (AreFlat s) (refusal_after s esi (allowed vm.old limiter.old) events tag)) }
+    ensures unchanged { OnErr result (data_in vm.new ≡ data_in vm.old) }
+    ensures still_open { OnErr result ((elements : List Element) → HasOpen vm.old elements → HasOpen vm.new elements) }
     ensures tried { (s : Selectors) (esi : Bool) (events : List Event) (tag : StartTag)
         → IsPending ids_of s esi events tag vm.old request → IsTriedAtMost s esi events tag (tries_in vm.new) }
     ensures charged { IsCharged vm.old limiter.old → IsCharged vm.new limiter.new }
     ensures bytes { slot_bytes vm.new ≡ slot_bytes vm.old }
     ensures maximum { limiter.new.maximum ≡ limiter.old.maximum }
 {
-    run_laws();
-    kept.clear();
+    run_laws::<Kept<T>>();
+    matches.clear();
+    let open_before = vm.open_elements();
     let mut handler = |info: MatchInfo|
-        ensures { KeepsItem kept.entry.now info kept.exit.now }
+        ensures { KeepsItem matches.entry.now info matches.exit.now }
     {
-        kept.keep(info);
+        matches.keep(info);
     };
     match vm.finish_start_tag(request, aux_info, limiter, &mut handler) {
         Ok(()) => {
-            if kept.refused {
-                return Err(MatcherError::Memory);
+            let opened = clear_opened(vm, open_before);
+            if matches.refused {
+                return Ok(Finished::Unreported);
             }
-            Ok(())
+            Ok(Finished::Reported(opened))
         }
         Err(PushError::Limit(_)) => Err(MatcherError::MemoryLimitExceeded),
         Err(PushError::Memory(_)) => Err(MatcherError::Memory),
     }
 }
 
+/// Leaves the last open element without a value, if more elements are open than before: whether they are.
+fn clear_opened<T: Drop>(vm: &mut SelectorMatchingVm<Kept<T>>, open_before: usize) -> bool
+    ensures { ClearsOpened open_before result vm.old vm.new }
+{
+    if vm.open_elements() <= open_before {
+        return false;
+    }
+    let _ = replace_value(vm, None);
+    true
+}
+
+/// Changes the value of the last open element: the one that it had, or the new one where no element is open.
+pub(crate) fn replace_value<T: Drop>(
+    vm: &mut SelectorMatchingVm<Kept<T>>,
+    value: Option<T>,
+) -> Option<T>
+    ensures running { KeepsRunning vm.old vm.new }
+    ensures pending { (s : Selectors) (esi : Bool) (events : List Event) (tag : StartTag) (request : _)
+        → IsPending ids_of s esi events tag vm.old request → IsPending ids_of s esi events tag vm.new request }
+    ensures before { result ≡ last_value value (data_in vm.old) }
+    ensures changed { data_in vm.new ≡ with_value value (data_in vm.old) }
+{
+    data_laws::<Kept<T>>();
+    match vm.current_element_data_mut() {
+        Some(element) => mem::replace(&mut element.value, value),
+        None => value,
+    }
+}
+
 /// Tells the machine of an end tag.
-pub(crate) fn end_tag(vm: &mut SelectorMatchingVm<MatchedIds>, name: &[u8])
+pub(crate) fn end_tag<T: Drop, F: FnMut(ElementValue<Option<T>>)>(
+    vm: &mut SelectorMatchingVm<Kept<T>>,
+    name: &[u8],
+    handler: &mut F,
+)
+    requires { F.IsAlwaysCallable handler.old }
+    ensures again { F.IsAlwaysCallable handler.new }
     ensures runs { (s : Selectors) (esi : Bool) (events : List Event) (limiter : Limiter)
         → Runs s esi events vm.old limiter → Runs s esi (events ++ End name.now ∷ []) vm.new limiter }
+    ensures still_open { (elements : List Element) → HasOpen vm.old elements → HasOpen vm.new (open_after name.now elements) }
+    ensures kept { (elements : List Element) → HasOpen vm.old elements → data_in vm.new ≡ take (length (open_after name.now elements)) (data_in vm.old) }
+    ensures called { (elements : List Element) → HasOpen vm.old elements
+        → IsCalledAtEach F.step handler.old (drop (length (open_after name.now elements)) (data_in vm.old)) handler.new }
     ensures charged { (limiter : Limiter) → IsCharged vm.old limiter → IsCharged vm.new limiter }
     ensures bytes { slot_bytes vm.new ≡ slot_bytes vm.old }
     ensures tries { tries_in vm.new ≡ tries_in vm.old }
 {
-    run_laws();
-    let mut handler = |_closed: MatchedIds| {};
-    vm.exec_for_end_tag(LocalName::new(name), &mut handler);
+    run_laws::<Kept<T>>();
+    vm.exec_for_end_tag(LocalName::new(name), handler);
 }

@@ -1,8 +1,8 @@
 //! A matcher on small pages.
 
 use crate::{
-    AttributeBuffer, AttributeOutline, Attributes, AuxStartTagInfo, Bytes, Matcher, MatcherError,
-    Namespace, Range, SelectorError, Started,
+    AttributeBuffer, AttributeOutline, Attributes, AuxStartTagInfo, Bytes, ElementValue, Matcher,
+    MatcherError, Namespace, Range, SelectorError, Started,
 };
 use std::alloc::Global;
 use std::process::Abort;
@@ -151,6 +151,78 @@ fn knows_namespaces_and_void_names(rt: HostRuntime) -> Result<(), Fail> {
     assert!(rt; waits(&mut matcher, b"rect", Namespace::Svg));
     matcher.finish(none.aux_info(true))?;
     assert!(rt; has_ids(&matcher, &[1]) && reports(&mut matcher, b"b", &[]));
+    Ok(())
+}
+
+/// Values that were handed out, with the ids beside them: at most eight.
+#[derive(Drop)]
+struct HandedOut {
+    values: Vec<Option<u64>>,
+    ids: Vec<u32>,
+}
+
+impl HandedOut {
+    fn new(alloc: Global) -> HandedOut {
+        HandedOut {
+            values: Vec::new(alloc),
+            ids: Vec::new(alloc),
+        }
+    }
+
+    fn keep(&mut self, element: ElementValue<Option<u64>>) {
+        let ElementValue { matched_ids, value } = element;
+        let _ = self.values.push(value);
+        for id in matched_ids.iter() {
+            let _ = self.ids.push(id);
+        }
+    }
+}
+
+#[test]
+fn hands_out_values_of_closed_elements(rt: HostRuntime) -> Result<(), Fail> {
+    let alloc = rt.alloc();
+    let mut builder = Matcher::builder(alloc);
+    builder.add(3, "div")?;
+    builder.add(4, "div p, br")?;
+    let mut matcher = builder.build_with_values::<u64>()?;
+    assert!(rt; !matcher.has_opened() && matcher.replace_value(Some(1)) == Some(1));
+    assert!(rt; matcher.start(b"div", Namespace::Html) == Ok(Started::Reported));
+    assert!(rt; matcher.has_opened() && matcher.replace_value(Some(7)) == None);
+    assert!(rt; matcher.start(b"br", Namespace::Html) == Ok(Started::Reported));
+    assert!(rt; !matcher.has_opened() && matcher.matches().len() == 1);
+    assert!(rt; matcher.start(b"p", Namespace::Html) == Ok(Started::Reported));
+    assert!(rt; matcher.has_opened() && matcher.replace_value(None) == None);
+    assert!(rt; matcher.start(b"i", Namespace::Html) == Ok(Started::Reported));
+    assert!(rt;
+        matcher.replace_value(Some(8)) == None && matcher.replace_value(Some(9)) == Some(8)
+    );
+    let mut handed_out = HandedOut::new(alloc);
+    matcher.end_with(b"b", &mut |element| handed_out.keep(element));
+    assert!(rt; handed_out.values.len() == 0 && !matcher.has_opened());
+    matcher.end_with(b"div", &mut |element| handed_out.keep(element));
+    assert!(rt; handed_out.values.as_slice() == [Some(7), None, Some(9)].as_slice());
+    assert!(rt; handed_out.ids.as_slice() == [3, 4].as_slice());
+    Ok(())
+}
+
+#[test]
+fn hands_out_values_after_a_refusal(rt: HostRuntime) -> Result<(), Fail> {
+    let alloc = rt.alloc();
+    let mut builder = Matcher::builder(alloc);
+    builder.add(0, "p")?;
+    builder.max_memory(128);
+    builder.element_bytes(16);
+    let mut matcher = builder.build_with_values::<u64>()?;
+    for value in 0..8 {
+        assert!(rt; matcher.start(b"p", Namespace::Html) == Ok(Started::Reported));
+        assert!(rt; matcher.replace_value(Some(value)) == None);
+    }
+    assert!(rt; matcher.start(b"p", Namespace::Html) == Err(MatcherError::MemoryLimitExceeded));
+    assert!(rt; matcher.has_failed() && !matcher.has_opened());
+    let mut handed_out = HandedOut::new(alloc);
+    matcher.end_with(b"p", &mut |element| handed_out.keep(element));
+    matcher.end_with(b"p", &mut |element| handed_out.keep(element));
+    assert!(rt; handed_out.values.as_slice() == [Some(7), Some(6)].as_slice());
     Ok(())
 }
 

@@ -1,42 +1,16 @@
 //! Element data, reports without memory, and releases.
 
-ghost use Rattle.std.specs.Prelude.{◌≡◌, refl};
+ghost use Rattle.std.specs.Prelude.{◌≡◌};
 ghost use Rattle.lol_stack.specs.Stacks.{item_bytes_in};
 ghost use Rattle.lol_vm.specs.Vms.{slot_bytes};
 
-use lol_vm::{
-    DenseHashSet, ElementData, MatchInfo, SelectorMatchingVm, SharedMemoryLimiter, Stack,
-};
-use std::alloc::Global;
+use lol_vm::{ElementValue, MatchInfo, SelectorMatchingVm, SharedMemoryLimiter, Stack};
 
 /// How many bytes an open element is charged for: with 1, a list has 128 slots at first.
 pub(crate) const ITEM_BYTES: usize = 1;
 
 /// The ids of an open element.
-#[derive(Drop)]
-pub(crate) struct Element {
-    pub(crate) ids: DenseHashSet,
-}
-
-impl ElementData for Element {
-    ghost ids = { λ e. e.ids };
-
-    ghost with_ids = { λ e w. record e { ids = w } };
-
-    ghost ids_of_changed = { λ e w. refl };
-
-    ghost same_ids_change_nothing = { λ e. refl };
-
-    fn new(alloc: Global) -> Self {
-        Element {
-            ids: DenseHashSet::new(alloc),
-        }
-    }
-
-    fn matched_ids_mut(&mut self) -> &mut DenseHashSet {
-        &mut self.ids
-    }
-}
+pub(crate) type Element = ElementValue<()>;
 
 /// The first ids that a handler was called with, and how many calls there were.
 #[derive(Drop)]
@@ -71,7 +45,7 @@ impl Calls {
     }
 
     pub(crate) fn keep_element(&mut self, element: Element) {
-        for id in element.ids.iter() {
+        for id in element.matched_ids.iter() {
             self.keep(id);
         }
         self.count = self.count.saturating_add(1);

@@ -84,14 +84,14 @@ fn item(alloc: Global) -> Result<StackItem<'static, Element>, AllocError> {
 }
 
 fn fill(alloc: Global, item: &mut StackItem<'static, Element>) -> Result<(), AllocError> {
-    item.element_data.ids.insert(7)?;
+    item.element_data.matched_ids.insert(7)?;
     item.jumps.push(alloc, 2..4)?;
     item.hereditary_jumps.push(alloc, 5..6)
 }
 
 fn is_item(item: &StackItem<'_, Element>) -> bool {
     is_long(&item.local_name)
-        && has(&item.element_data.ids, &[7])
+        && has(&item.element_data.matched_ids, &[7])
         && item.jumps.as_slice() == [2..4].as_slice()
         && item.hereditary_jumps.as_slice() == [5..6].as_slice()
         && item.child_counter.is_nth(NthChild::new(0, 9))

@@ -3,15 +3,16 @@
 #![tactic(auto)]
 
 mod attributes;
-mod numbered;
 mod random;
 mod tag_words;
 mod trees;
 mod tried;
 
 pub use attributes::{WrittenAttributes, written_attributes};
-pub use numbered::Numbered;
 pub use random::{Random, name_of, next_random};
 pub use tag_words::{TagWord, attributes_of, words_of};
 pub use trees::{ROOT_NODES, node_selectors, selectors, tree_of};
 pub use tried::is_tried;
+
+/// Data that know their element's number.
+pub type Numbered = lol_stack::ElementValue<usize>;

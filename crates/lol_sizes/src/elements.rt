@@ -12,7 +12,7 @@ use std::test::Fail;
 /// Whether an element of a name and a start tag of it are the same where they borrow nothing.
 fn are_owned(alloc: Global, word: &[u8]) -> Result<bool, AllocError> {
     let mut item: StackItem<Numbered> = StackItemOf::new(alloc, LocalName::new(word));
-    item.element_data.number = word.len();
+    item.element_data.value = word.len();
     let item = item.into_owned(alloc)?;
     let ctx: ExecutionCtx<Numbered> = ExecutionCtx::new(
         alloc,
@@ -23,7 +23,7 @@ fn are_owned(alloc: Global, word: &[u8]) -> Result<bool, AllocError> {
     let ctx = ctx.into_owned(alloc)?;
     Ok(
         item.local_name.spelling() == Some(word)
-            && item.element_data.number == word.len()
+            && item.element_data.value == word.len()
             && ctx.stack_item.local_name.spelling() == Some(word)
             && ctx.ns == Namespace::Svg,
     )

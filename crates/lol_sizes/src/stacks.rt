@@ -24,7 +24,7 @@ fn item(
     let name = name_of(alloc, number)?;
     let item: StackItem<Numbered> = StackItemOf::new(alloc, LocalName::new(name.as_bytes()));
     let mut item = item.into_owned(alloc)?;
-    item.element_data.number = number as usize;
+    item.element_data.value = number as usize;
     for range in 0..ranges {
         let start = first.saturating_add(range);
         item.hereditary_jumps
@@ -85,7 +85,7 @@ fn closes(alloc: Global, stack: &mut Stack<Numbered>, number: u32, count: usize)
     };
     let mut next = number as usize;
     let mut handler = |data: Numbered| {
-        if data.number == next {
+        if data.value == next {
             next = next.saturating_add(1);
         }
     };

@@ -161,7 +161,7 @@ fn is_charged_and_numbered(
     limiter: &SharedMemoryLimiter,
     numbers: &[usize],
 ) -> bool {
-    let last = stack.items().last().map(|item| item.element_data.number);
+    let last = stack.items().last().map(|item| item.element_data.value);
     stack.charged_slots().checked_mul(ITEM_BYTES) == Some(limiter.current_usage())
         && last == numbers.last().copied()
 }

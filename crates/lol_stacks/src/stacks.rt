@@ -22,7 +22,7 @@ pub(crate) fn item(
 ) -> Result<StackItem<'static, Numbered>, AllocError> {
     let item: StackItem<Numbered> = StackItemOf::new(alloc, LocalName::new(name));
     let mut item = item.into_owned(alloc)?;
-    item.element_data.number = number;
+    item.element_data.value = number;
     for range in ranges {
         item.hereditary_jumps.push(alloc, range.start..range.end)?;
     }
@@ -100,7 +100,7 @@ struct Closed {
 
 impl Closed {
     fn keep(&mut self, data: Numbered) {
-        if self.numbers.push(data.number).is_err() {
+        if self.numbers.push(data.value).is_err() {
             self.refused = true;
         }
     }
@@ -445,7 +445,7 @@ fn renumber(rt: &impl Abort, stack: &mut Stack<Numbered>, number: usize)
     ensures { item_bytes_in stack.new ≡ item_bytes_in stack.old }
 {
     let data = stack.current_element_data_mut();
-    data.expect(rt, "data of an open element").number = number;
+    data.expect(rt, "data of an open element").value = number;
 }
 
 #[test]

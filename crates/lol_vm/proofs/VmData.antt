@@ -20,7 +20,7 @@ use Rattle.lol_vm.specs.Events.{has_content}
 use Rattle.lol_vm.specs.InstructionRuns.{ranges_in}
 use Rattle.lol_vm.specs.Standing.{Machine, ranges_of_machine}
 use Rattle.lol_vm.specs.TagRuns.{jumps_of_item, jumps_in, sight_in, tag_ranges, stop_at, ranges_left, IsPointIn, tried_at}
-use Rattle.lol_vm.specs.VmLaws.{DataChangeNothing, DataKeepOpen, DataKeepRequests, PendingStands, SlotsAreOfDepth}
+use Rattle.lol_vm.specs.VmLaws.{DataChangeNothing, DataKeepOpen, DataKeepRequests, LastDataAreLent, LastDataChange, PendingStands, SlotsAreOfDepth}
 use Rattle.lol_vm.specs.Vms.{Vm, Shows, GoesOnAt, instructions_in, data_in}
 use Rattle.lol_stack.specs.declared.stack_item.StackItemOf.{StackItemOf}
 use Rattle.lol_stack.specs.declared.stack.StackOf.{StackOf}
@@ -187,6 +187,25 @@ module _ {E : Type 0} where
       ap (λ k. data_of (with_data_at (x ∷ y ∷ items) k w)) place
       ∙ (ap data_of (set_at x (y ∷ items) (length (y ∷ items) - 1) w (slice_get (y ∷ items) (length (y ∷ items) - 1)))
       ∙ (λ i. heads x.element_data o (data_of (y ∷ items)) (outer ++ last ∷ []) is i ∷ last_set (y ∷ items) outer last w (tails x.element_data o (data_of (y ∷ items)) (outer ++ last ∷ []) is) i))
+
+  data_at : (items : List (StackItemOf Name E)) (k : ℕ) → option_map (λ (item : StackItemOf Name E). item.element_data) (slice_get items k) ≡ slice_get (data_of items) k
+  data_at [] k = refl
+  data_at (x ∷ items) zero = refl
+  data_at (x ∷ items) (suc k) = data_at items k
+
+  data_set : (items : List (StackItemOf Name E)) (k : ℕ) (w : E) → data_of (with_data_at items k w) ≡ slice_set (data_of items) k w
+  data_set [] k w = refl
+  data_set (x ∷ items) zero w = refl
+  data_set (x ∷ items) (suc k) w = ap data_of (set_at x items k w (slice_get items k)) ∙ ap (λ ds. x.element_data ∷ ds) (data_set items k w)
+
+  as_many : (items : List (StackItemOf Name E)) → length items ≡ length (data_of items)
+  as_many items = sym (length-map items (λ (item : StackItemOf Name E). item.element_data))
+
+  pub last_data_are_lent : LastDataAreLent E
+  last_data_are_lent vm = data_at (items_in vm.stack) _ ∙ ap (λ n. slice_get (data_in vm) (n - 1)) (as_many (items_in vm.stack))
+
+  pub last_data_change : LastDataChange E
+  last_data_change vm w = data_set (items_in vm.stack) _ w ∙ ap (λ n. slice_set (data_in vm) (n - 1) w) (as_many (items_in vm.stack))
 
   pub data_with : (vm : Vm E) (outer : List E) (last w : E) → data_in vm ≡ outer ++ last ∷ [] → data_in (with_current_in vm w) ≡ outer ++ w ∷ []
   data_with vm outer last w is = last_set (items_in vm.stack) outer last w is

@@ -1,8 +1,10 @@
 -- What those who go tag by tag rely on.
-use Rattle.std.specs.Prelude.{◌≡◌, ◌≤◌, Bool, List, [], ◌∷◌, ◌++◌, length, map}
+use Rattle.std.specs.Prelude.{◌≡◌, ◌≤◌, ◌-◌, Bool, List, [], ◌∷◌, ◌++◌, length, map, slice_get, slice_set}
+use Rattle.std.specs.Option.{option_map}
 use Rattle.lol_base.specs.StartTags.{StartTag}
 use Rattle.lol_memory.specs.Ids.{Ids}
 use Rattle.lol_memory.specs.Slots.{slots}
+use Rattle.lol_stack.specs.Stacks.{items_in}
 use Rattle.lol_program.specs.Paths.{Path, Selectors}
 use Rattle.lol_program.specs.Programs.{IsProgramOf}
 use Rattle.lol_program.specs.ProgramViews.{program_shown, range_shown}
@@ -13,7 +15,7 @@ use Rattle.lol_vm.specs.Machines.{HoldOnce, LeftMatches}
 use Rattle.lol_vm.specs.Refusals.{longest}
 use Rattle.lol_vm.specs.Standing.{unfinished}
 use Rattle.lol_vm.specs.VmLending.{with_current_in}
-use Rattle.lol_vm.specs.Vms.{Vm, Stands, HasOpen, IsPending, IsTriedAtMost, program_in, ranges_to_try, tries_in, slots_charged, slot_bytes}
+use Rattle.lol_vm.specs.Vms.{Vm, Stands, HasOpen, IsPending, IsTriedAtMost, data_in, program_in, ranges_to_try, stack_in, tries_in, slots_charged, slot_bytes}
 use Rattle.lol_vm.specs.declared.error.AuxStartTagInfoRequest.{AuxStartTagInfoRequest}
 
 -- What a caller writes into the data of the last open element changes neither which events the machine stands for, and so no later
@@ -29,6 +31,13 @@ abbrev pub DataKeepRequests : Type 0 → Type 0
 DataKeepRequests E =
     (ids_of : E → Ids) (s : Selectors) (esi : Bool) (events : List Event) (tag : StartTag) (vm : Vm E) (request : AuxStartTagInfoRequest E) (w : E)
     → IsPending ids_of s esi events tag vm request → IsPending ids_of s esi events tag (with_current_in vm w) request
+
+-- What is lent of a machine are the data of the last open element, and where they change no others do.
+abbrev pub LastDataAreLent : Type 0 → Type 0
+LastDataAreLent E = (vm : Vm E) → option_map (λ item. item.element_data) (slice_get (items_in (stack_in vm)) (length (items_in (stack_in vm)) - 1)) ≡ slice_get (data_in vm) (length (data_in vm) - 1)
+
+abbrev pub LastDataChange : Type 0 → Type 0
+LastDataChange E = (vm : Vm E) (w : E) → data_in (with_current_in vm w) ≡ slice_set (data_in vm) (length (data_in vm) - 1) w
 
 -- A machine whose request is dropped stands for the events with the tag dropped.
 abbrev pub PendingStands : Type 0 → Type 0

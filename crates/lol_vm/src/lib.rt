@@ -39,8 +39,8 @@ pub use lol_program::{
     SelectorState, Test, Tries, TryExecResult,
 };
 pub use lol_stack::{
-    AddChildError, AddressRanges, CounterItem, CounterList, ElementData, ExecutionCtx, Stack,
-    StackDirective, StackItem, StackItemOf, StackNames, StackOf, TypedChildCounterMap,
+    AddChildError, AddressRanges, CounterItem, CounterList, ElementData, ElementValue, ExecutionCtx,
+    Stack, StackDirective, StackItem, StackItemOf, StackNames, StackOf, TypedChildCounterMap,
 };
 pub use run::{match_each_event, match_events};
 pub use vm::{SelectorMatchingVm, VmOf};

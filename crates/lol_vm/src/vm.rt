@@ -340,8 +340,8 @@ impl<E: ElementData> VmOf<Program, LocalName<'static>, StackNames, E> {
         self.stack.pop_up_to(local_name, handler);
     }
 
-    /// How many elements are open.
-    pub(crate) fn open_elements(&self) -> usize
+    /// How many elements are open. (Not in lol_html.)
+    pub fn open_elements(&self) -> usize
         ensures { result ≡ length (data_in self.now) }
     {
         self.stack.items().len()

@@ -1,13 +1,19 @@
 //! What those who go tag by tag rely on: each function takes and gives nothing, and its contract is the law.
 
 ghost use Rattle.lol_vm.specs.FreeTags.{FlatPairs, SmallPairs};
-ghost use Rattle.lol_vm.specs.VmLaws.{DataChangeNothing, DataKeepOpen, DataKeepRequests, PendingStands, RangesHoldOnce, RequestsTryAtMost, SlotsAreOfDepth, StandingHasOpen, TriesAreFew};
+ghost use Rattle.lol_vm.specs.VmLaws.{DataChangeNothing, DataKeepOpen, DataKeepRequests, LastDataAreLent, LastDataChange, PendingStands, RangesHoldOnce, RequestsTryAtMost, SlotsAreOfDepth, StandingHasOpen, TriesAreFew};
 
 /// What a caller writes into the data of the last open element changes no later report, no open element, and no request.
 pub fn data_change_nothing<E>()
     ensures stands { DataChangeNothing E }
     ensures still_open { DataKeepOpen E }
     ensures pending { DataKeepRequests E }
+{}
+
+/// What `current_element_data_mut` lends are the data of the last open element, and where they change no others do.
+pub fn last_data_are_lent<E>()
+    ensures lent { LastDataAreLent E }
+    ensures changed { LastDataChange E }
 {}
 
 /// A request that is dropped leaves the machine as if its tag had been dropped.

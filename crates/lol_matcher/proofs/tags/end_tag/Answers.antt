@@ -4,7 +4,7 @@ use Rattle.lol_matcher.proofs.Running.{runs_after_end}
 use Rattle.lol_matcher.proofs.tags.end_tag.Goals as goal
 
 pub returns-clause-runs : goal.returns-clause-runs
-returns-clause-runs c = λ s esi events limiter runs.
+returns-clause-runs g c = λ s esi events limiter runs.
     let laws = c.run_laws.ensures in
     let call = c.exec_for_end_tag in
     runs_after_end laws.depths laws.ordered s esi events c.args.name.now c.args.vm.now call.new.self limiter runs

@@ -1,25 +1,33 @@
-use Rattle.std.proofs.Common.{rules, ◌≡◌, List, Err, true, false, refl, ap, ◌∙◌, map}
+use Rattle.std.proofs.Common.{rules, ◌≡◌, List, Err, true, false, refl, sym, ap, subst, ◌∙◌, map}
 use Rattle.std.proofs.lemmas.Fn.{chained_keeps}
 use Rattle.lol_memory.specs.Limiter.{Limiter}
 use Rattle.lol_memory.specs.declared.match_info.MatchInfo.{MatchInfo}
 use Rattle.lol_stack.specs.Stacks.{list_in}
 use Rattle.lol_vm.specs.Answers.{document}
 use Rattle.lol_vm.specs.Refusals.{longest}
-use Rattle.lol_vm.specs.Vms.{info_of, stack_in}
-use Rattle.lol_matcher.proofs.Charges.{charged_more}
+use Rattle.lol_vm.specs.Vms.{IsTriedAtMost, info_of, stack_in}
+use Rattle.lol_matcher.proofs.Charges.{charged_alike, charged_more}
 use Rattle.lol_matcher.proofs.Refusals.{counter_has_room, limit_isnt_due, refused_for_limit}
 use Rattle.lol_matcher.proofs.Running.{charged_before, countable_before, room_before}
-use Rattle.lol_matcher.proofs.Telling.{has_content_if, opens_handed, told_as}
+use Rattle.lol_matcher.proofs.Telling.{has_content_if, leaves, leaves_unreported, opens_handed, reported, unreported}
 use Rattle.lol_matcher.proofs.tags.finish_tag.Goals as goal
 
-pub returns-else-kept-clause-charged : goal.returns-else-kept-clause-charged
-returns-else-kept-clause-charged c = charged_more c.args.vm.now c.finish_start_tag.new.self c.args.limiter.now c.finish_start_tag.new.limiter c.finish_start_tag.ensures.bytes c.in-Ok.ensures.grows c.in-Ok.ensures.charged
+pub returns-else-matches-clause-charged : goal.returns-else-matches-clause-charged
+returns-else-matches-clause-charged g c = λ h.
+    let run = c.clear_opened-opened.ensures.running in
+    let call = c.finish_start_tag in
+    charged_alike call.new.self c.clear_opened-opened.new.vm call.new.limiter call.new.limiter run.slots run.bytes refl
+    (charged_more c.args.vm.now call.new.self c.args.limiter.now call.new.limiter call.ensures.bytes c.in-Ok.ensures.grows c.in-Ok.ensures.charged h)
 
-pub returns-then-kept-clause-charged : goal.returns-then-kept-clause-charged
-returns-then-kept-clause-charged c = charged_more c.args.vm.now c.finish_start_tag.new.self c.args.limiter.now c.finish_start_tag.new.limiter c.finish_start_tag.ensures.bytes c.in-Ok.ensures.grows c.in-Ok.ensures.charged
+pub returns-then-matches-clause-charged : goal.returns-then-matches-clause-charged
+returns-then-matches-clause-charged g c = λ h.
+    let run = c.clear_opened-opened.ensures.running in
+    let call = c.finish_start_tag in
+    charged_alike call.new.self c.clear_opened-opened.new.vm call.new.limiter call.new.limiter run.slots run.bytes refl
+    (charged_more c.args.vm.now call.new.self c.args.limiter.now call.new.limiter call.ensures.bytes c.in-Ok.ensures.grows c.in-Ok.ensures.charged h)
 
-pub returns-else-kept-clause-told : goal.returns-else-kept-clause-told
-returns-else-kept-clause-told c = λ s esi events tag past pending rest.
+pub returns-else-matches-clause-told : goal.returns-else-matches-clause-told
+returns-else-matches-clause-told g c = λ s esi events tag past pending rest.
     let laws = c.run_laws.ensures in
     let vm = c.args.vm.now in
     let limiter = c.args.limiter.now in
@@ -27,27 +35,43 @@ returns-else-kept-clause-told c = λ s esi events tag past pending rest.
     let answered = c.in-Ok.ensures.answered s esi events tag pending rest in
     let collected = chained_keeps _ (λ (xs : List MatchInfo) q. (q.0.ghost_name ≡ c.handler-1.given) × (q.0.now.refused ≡ false → q.0.now.items.items ≡ xs))
     (λ xs q x v j k. search (rules, j, k)) _ _ _ (refl, λ _. c.clear.ensures.items) answered.reported in
-    let kept : c.kept-1.given.0.items.items ≡ map info_of answered.matched = search (rules, collected.0, collected.1, c.if-kept.false) in
-    told_as laws.depths laws.ordered s esi events tag vm call.new.self limiter call.new.limiter (charged_before laws.depths laws.ordered s esi events past.tag vm limiter past.runs past.dropped)
+    let kept : c.matches-1.given.0.items.items ≡ map info_of answered.matched = search (rules, collected.0, collected.1, c.if-matches.false) in
+    let parts = leaves laws.depths laws.ordered s esi events tag vm call.new.self c.clear_opened-opened.new.vm limiter call.new.limiter (charged_before laws.depths laws.ordered s esi events past.tag vm limiter past.runs past.dropped)
     (room_before laws.depths laws.ordered s esi events past.tag vm limiter past.runs past.dropped) (countable_before laws.depths laws.ordered s esi events past.tag vm limiter past.runs past.dropped)
     (λ opening. c.in-Ok.ensures.unlimited s esi events tag pending rest (has_content_if s esi events tag opening)) call.ensures.bytes
     (ap (λ (l : Limiter). l.maximum) c.in-Ok.ensures.charged) (charged_more vm call.new.self limiter call.new.limiter call.ensures.bytes c.in-Ok.ensures.grows c.in-Ok.ensures.charged past.runs.charged)
-    _ _ _ true answered _ kept
+    true answered c.open_elements-open_before.result c.open_elements-open_before.ensures c.clear_opened-opened.result c.clear_opened-opened.ensures _ kept in (
+      reported laws.depths laws.ordered s esi events tag vm call.new.self c.clear_opened-opened.new.vm limiter call.new.limiter (charged_before laws.depths laws.ordered s esi events past.tag vm limiter past.runs past.dropped)
+      (room_before laws.depths laws.ordered s esi events past.tag vm limiter past.runs past.dropped) (countable_before laws.depths laws.ordered s esi events past.tag vm limiter past.runs past.dropped)
+      (λ opening. c.in-Ok.ensures.unlimited s esi events tag pending rest (has_content_if s esi events tag opening)) call.ensures.bytes
+      (ap (λ (l : Limiter). l.maximum) c.in-Ok.ensures.charged) (charged_more vm call.new.self limiter call.new.limiter call.ensures.bytes c.in-Ok.ensures.grows c.in-Ok.ensures.charged past.runs.charged)
+      true answered c.open_elements-open_before.result c.open_elements-open_before.ensures c.clear_opened-opened.result c.clear_opened-opened.ensures _ kept,
+      parts.0,
+      parts.1,
+    )
 
-pub returns-then-kept-clause-refused : goal.returns-then-kept-clause-refused
-returns-then-kept-clause-refused c = λ s esi events tag past pending rest.
+pub returns-then-matches-clause-told : goal.returns-then-matches-clause-told
+returns-then-matches-clause-told g c = λ s esi events tag past pending rest.
     let laws = c.run_laws.ensures in
     let vm = c.args.vm.now in
     let limiter = c.args.limiter.now in
-    let charged = charged_before laws.depths laws.ordered s esi events past.tag vm limiter past.runs past.dropped in
-    let room = room_before laws.depths laws.ordered s esi events past.tag vm limiter past.runs past.dropped in (
-      counter_has_room s esi (document s esi events) (longest s esi events) (list_in (stack_in vm)) limiter charged tag room,
-      λ free. limit_isnt_due s esi (document s esi events) (longest s esi events) (list_in (stack_in vm)) limiter charged tag room
-          (λ opening. c.in-Ok.ensures.unlimited s esi events tag pending rest (has_content_if s esi events tag opening)),
+    let call = c.finish_start_tag in
+    let answered = c.in-Ok.ensures.answered s esi events tag pending rest in
+    (
+      unreported laws.depths laws.ordered s esi events tag vm call.new.self c.clear_opened-opened.new.vm limiter call.new.limiter (charged_before laws.depths laws.ordered s esi events past.tag vm limiter past.runs past.dropped)
+      (room_before laws.depths laws.ordered s esi events past.tag vm limiter past.runs past.dropped) (countable_before laws.depths laws.ordered s esi events past.tag vm limiter past.runs past.dropped)
+      (λ opening. c.in-Ok.ensures.unlimited s esi events tag pending rest (has_content_if s esi events tag opening)) call.ensures.bytes
+      (ap (λ (l : Limiter). l.maximum) c.in-Ok.ensures.charged) (charged_more vm call.new.self limiter call.new.limiter call.ensures.bytes c.in-Ok.ensures.grows c.in-Ok.ensures.charged past.runs.charged)
+      true answered c.open_elements-open_before.result c.open_elements-open_before.ensures c.clear_opened-opened.result c.clear_opened-opened.ensures,
+      leaves_unreported laws.depths laws.ordered s esi events tag vm call.new.self c.clear_opened-opened.new.vm limiter call.new.limiter (charged_before laws.depths laws.ordered s esi events past.tag vm limiter past.runs past.dropped)
+      (room_before laws.depths laws.ordered s esi events past.tag vm limiter past.runs past.dropped) (countable_before laws.depths laws.ordered s esi events past.tag vm limiter past.runs past.dropped)
+      (λ opening. c.in-Ok.ensures.unlimited s esi events tag pending rest (has_content_if s esi events tag opening)) call.ensures.bytes
+      (ap (λ (l : Limiter). l.maximum) c.in-Ok.ensures.charged) (charged_more vm call.new.self limiter call.new.limiter call.ensures.bytes c.in-Ok.ensures.grows c.in-Ok.ensures.charged past.runs.charged)
+      true answered c.open_elements-open_before.result c.open_elements-open_before.ensures c.clear_opened-opened.result c.clear_opened-opened.ensures,
     )
 
 pub returns-in-Err-Limit-clause-refused : goal.returns-in-Err-Limit-clause-refused
-returns-in-Err-Limit-clause-refused c = λ s esi events tag past pending rest.
+returns-in-Err-Limit-clause-refused g c = λ s esi events tag past pending rest.
     let laws = c.run_laws.ensures in
     let vm = c.args.vm.now in
     let limiter = c.args.limiter.now in
@@ -58,7 +82,7 @@ returns-in-Err-Limit-clause-refused c = λ s esi events tag past pending rest.
     (room_before laws.depths laws.ordered s esi events past.tag vm limiter past.runs past.dropped) (opens_handed s esi events tag reported.0 rest.2) (call.ensures.limited is)
 
 pub returns-in-Err-Memory-clause-refused : goal.returns-in-Err-Memory-clause-refused
-returns-in-Err-Memory-clause-refused c = λ s esi events tag past pending rest.
+returns-in-Err-Memory-clause-refused g c = λ s esi events tag past pending rest.
     let laws = c.run_laws.ensures in
     let vm = c.args.vm.now in
     let limiter = c.args.limiter.now in
@@ -70,3 +94,11 @@ returns-in-Err-Memory-clause-refused c = λ s esi events tag past pending rest.
       λ free. limit_isnt_due s esi (document s esi events) (longest s esi events) (list_in (stack_in vm)) limiter charged tag room
           (λ opening limited. call.ensures.due _ is limited s esi events tag pending free),
     )
+
+pub returns-then-matches-clause-tried : goal.returns-then-matches-clause-tried
+returns-then-matches-clause-tried g c = λ s esi events tag pending.
+    subst (λ tries. IsTriedAtMost s esi events tag tries) (sym c.clear_opened-opened.ensures.running.tries) (c.finish_start_tag.ensures.tried s esi events tag pending)
+
+pub returns-else-matches-clause-tried : goal.returns-else-matches-clause-tried
+returns-else-matches-clause-tried g c = λ s esi events tag pending.
+    subst (λ tries. IsTriedAtMost s esi events tag tries) (sym c.clear_opened-opened.ensures.running.tries) (c.finish_start_tag.ensures.tried s esi events tag pending)

@@ -8,16 +8,16 @@ use std::alloc::Global;
 
 /// What a handler was called with, up to the first that memory was refused for.
 #[derive(Drop)]
-pub(crate) struct Kept {
+pub(crate) struct Matches {
     pub items: Vec<MatchInfo>,
     pub refused: bool,
 }
 
-impl Kept {
+impl Matches {
     pub(crate) fn new(alloc: Global) -> Self
         ensures items { result.items.items ≡ [] }
     {
-        Kept {
+        Matches {
             items: Vec::new(alloc),
             refused: false,
         }

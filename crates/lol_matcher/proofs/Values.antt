@@ -1,0 +1,34 @@
+-- A machine whose open elements have other values.
+use Rattle.std.proofs.Common.{◌≡◌, ℕ, ◌≤◌, Bool, List, Option, Some, None, refl, sym, subst}
+use Rattle.lol_base.specs.StartTags.{StartTag}
+use Rattle.lol_base.specs.declared.namespace.Namespace.{Namespace}
+use Rattle.lol_memory.specs.Limiter.{Limiter}
+use Rattle.lol_program.specs.Paths.{Selectors}
+use Rattle.lol_vm.specs.Events.{Event}
+use Rattle.lol_vm.specs.Vms.{Vm, IsPending}
+use Rattle.lol_vm.specs.declared.error.AuxStartTagInfoRequest.{AuxStartTagInfoRequest}
+use Rattle.lol_matcher.specs.Answering.{Kept}
+use Rattle.lol_matcher.specs.Keeping.{IsCharged, KeepsRunning, Runs, Waits, ids_of}
+use Rattle.lol_matcher.proofs.Charges.{charged_alike}
+
+pub charged_on : {E : Type 0} (old new : Vm E) (now : Limiter) → KeepsRunning old new → IsCharged old now → IsCharged new now
+charged_on old new now run charged = charged_alike old new now now run.slots run.bytes refl charged
+
+pub runs_on : {E : Type 0} (s : Selectors) (esi : Bool) (events : List Event) (old new : Vm E) (now : Limiter) → KeepsRunning old new → Runs s esi events old now → Runs s esi events new now
+runs_on s esi events old new now run runs = record {
+  stands = run.stands s esi events runs.stands;
+  some = subst (λ n. 1 ≤ n) (sym run.bytes) runs.some;
+  word = runs.word;
+  charged = charged_on old new now run runs.charged;
+  within = runs.within;
+  countable = runs.countable;
+}
+
+-- a request that waits still does
+pub waits_on : {T : Type 0} (s : Selectors) (esi : Bool) (events : List Event) (asked : Option (List ℕ × Namespace)) (old new : Vm (Kept T)) (request : Option (AuxStartTagInfoRequest (Kept T)))
+    → ((s : Selectors) (esi : Bool) (events : List Event) (tag : StartTag) (request : AuxStartTagInfoRequest (Kept T)) → IsPending ids_of s esi events tag old request → IsPending ids_of s esi events tag new request)
+    → Waits s esi events asked old request → Waits s esi events asked new request
+waits_on s esi events None old new None pending h = tt
+waits_on s esi events None old new (Some request) pending h = h
+waits_on s esi events (Some asked) old new None pending h = h
+waits_on s esi events (Some asked) old new (Some request) pending h = λ tag named spaced. pending s esi events tag request (h tag named spaced)

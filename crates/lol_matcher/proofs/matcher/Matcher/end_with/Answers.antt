@@ -1,0 +1,48 @@
+use Rattle.std.proofs.Common.{◌≡◌, false, ◌∙◌, sym, ap}
+use Rattle.lol_vm.specs.Documents.{Document}
+use Rattle.lol_vm.specs.Events.{End}
+use Rattle.lol_vm.specs.Views.{selectors}
+use Rattle.lol_vm.specs.Vms.{open_after}
+use Rattle.lol_matcher.specs.Told.{History, elements_of, heard}
+use Rattle.lol_matcher.proofs.Running.{later_document}
+use Rattle.lol_matcher.proofs.matcher.Matcher.end_with.Goals as goal
+
+pub invariant_of-self : goal.invariant_of-self
+invariant_of-self g c =
+    let h = c.self.inside.past.history in
+    let keeps = c.self.invariant in
+    rw c.then-self-inside.ensures (record {
+      charged = c.end_tag.ensures.charged c.self.inside.limiter keeps.charged;
+      has_open = c.end_tag.ensures.still_open h.open_elements keeps.has_open;
+      runs = λ ok. c.end_tag.ensures.runs (selectors h.told.ast) h.told.esi (heard h.told) c.self.inside.limiter (keeps.runs ok);
+      waits = λ ok. tt;
+      told_open = λ ok. ap (open_after c.args.name.now) (keeps.told_open ok) ∙ sym (ap (λ (d : Document). d.open_elements) (later_document (selectors h.told.ast) h.told.esi (heard h.told) (End c.args.name.now)));
+    })
+
+pub returns-clause-ended : goal.returns-clause-ended
+returns-clause-ended g c =
+    let h = c.self.inside.past.history in
+    let history = c.then-self-inside.ensures in
+    let kept = c.end_tag.ensures.kept h.open_elements c.self.invariant.has_open in
+    rw (← c.self.view_is) (λ i. record {
+      told = (history i).told;
+      max_memory = c.self.inside.limiter.maximum;
+      element_bytes = c.end_tag.ensures.bytes i;
+      failed = c.self.inside.failed;
+      matched = c.clear.ensures.items i;
+      tries = c.end_tag.ensures.tries i;
+      opened = false;
+      open_elements = (history i).open_elements;
+      kept = kept i;
+    })
+
+pub returns-clause-called : goal.returns-clause-called
+returns-clause-called g c = rw (← c.self.view_is) (c.end_tag.ensures.called c.self.inside.past.history.open_elements c.self.invariant.has_open)
+
+pub returns-clause-open : goal.returns-clause-open
+returns-clause-open g c = λ well.
+    let h = c.self.inside.past.history in
+    let ok : c.self.inside.failed ≡ false = ap (λ m. m.failed) c.self.view_is ∙ well in
+    let history = c.then-self-inside.ensures in
+    let later = ap (open_after c.args.name.now) (c.self.invariant.told_open ok) ∙ sym (ap (λ (d : Document). d.open_elements) (later_document (selectors h.told.ast) h.told.esi (heard h.told) (End c.args.name.now))) in
+    ap (λ (h : History). h.open_elements) history ∙ (later ∙ sym (ap (λ (h : History). elements_of h.told) history))
