@@ -5,7 +5,7 @@ use Rattle.lol_css.specs.Points.{preprocessed}
 use Rattle.lol_css.specs.Tokens.{Token, tokens_of}
 use Rattle.lol_css.specs.Trees as trees
 use Rattle.lol_css.specs.Drafts.{DraftItems}
-use Rattle.lol_css.specs.Rules.{Read, giving, Outside}
+use Rattle.lol_css.specs.Rules.{Read, refused, giving, Outside}
 use Rattle.lol_css.specs.Reading.{selector, list, inner_list}
 use Rattle.lol_css.specs.Accepting.{judged, accept}
 use Rattle.lol_css.specs.Judging.{Judged}
@@ -22,16 +22,16 @@ use Rattle.lol_css.proofs.Fusing.{giving-ok, giving-err, fails_cases}
 abbrev pub read_whole : List ℕ → Read (Judged trees.Items)
 read_whole text = giving (judged false) (list (inner_list 128) Outside (tokens_of (preprocessed (chars text))))
 
-accept_err : (text : List ℕ) (cause : SelectorError) → list (inner_list 128) Outside (tokens_of (preprocessed (chars text))) ≡ Err cause → accept text ≡ Err cause
+accept_err : (text : List ℕ) (cause : SelectorError) (left : List Token) → list (inner_list 128) Outside (tokens_of (preprocessed (chars text))) ≡ refused cause left → accept text ≡ Err cause
 unfolding accept selector
-accept_err text cause e = rw e refl
+accept_err text cause left e = rw e refl
 
-accept_fails_of : (text : List ℕ) (cause : SelectorError) → (cause ≡ Memory) ⊎ (read_whole text ≡ Err cause) → (cause ≡ Memory) ⊎ (accept text ≡ Err cause)
-accept_fails_of text cause (inl e) = inl e
-accept_fails_of text cause (inr e) = inr (accept_err text cause (giving-err (judged false) (list (inner_list 128) Outside (tokens_of (preprocessed (chars text)))) cause e))
+accept_fails_of : (text : List ℕ) (cause : SelectorError) (left : List Token) → (cause ≡ Memory) ⊎ (read_whole text ≡ refused cause left) → (cause ≡ Memory) ⊎ (accept text ≡ Err cause)
+accept_fails_of text cause left (inl e) = inl e
+accept_fails_of text cause left (inr e) = inr (accept_err text cause left (giving-err (judged false) (list (inner_list 128) Outside (tokens_of (preprocessed (chars text)))) cause left e))
 
-pub accept-fails : (text : List ℕ) (cause : SelectorError) → FailsUnlessMemory cause (read_whole text) → (cause ≡ Memory) ⊎ (accept text ≡ Err cause)
-accept-fails text cause h = accept_fails_of text cause (fails_cases cause (read_whole text) h)
+pub accept-fails : (text : List ℕ) (cause : SelectorError) (left : List Token) → FailsUnlessMemory cause left (read_whole text) → (cause ≡ Memory) ⊎ (accept text ≡ Err cause)
+accept-fails text cause left h = accept_fails_of text cause left (fails_cases cause left (read_whole text) h)
 
 accept_read : (text : List ℕ) (draft : DraftItems) (rest : List Token) (found : Judged trees.Items) → list (inner_list 128) Outside (tokens_of (preprocessed (chars text))) ≡ Ok (draft, rest) → judged false draft ≡ found → accept text ≡ found
 unfolding accept selector

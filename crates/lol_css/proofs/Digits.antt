@@ -1,12 +1,12 @@
 -- Numbers that are cut off at a limit.
-use Rattle.std.proofs.Common.{◌≡◌, ℕ, zero, suc, Bool, true, false, cond, nat_le, length, get_or, drop, Err, Option, Some, None, codes, ◌+◌, ◌-◌, ◌*◌, ◌≤◌, min, List, [], ◌∷◌, map, refl, sym, ap, ◌∙◌, arith, ◌<◌, ◌⊎◌, inl, inr}
+use Rattle.std.proofs.Common.{◌≡◌, ℕ, zero, suc, Bool, true, false, cond, nat_le, length, get_or, drop, Option, Some, None, codes, ◌+◌, ◌-◌, ◌*◌, ◌≤◌, min, List, [], ◌∷◌, map, refl, sym, ap, ◌∙◌, arith, ◌<◌, ◌⊎◌, inl, inr}
 use Rattle.std.proofs.lemmas.Bool.{cases_lt, lt-leb}
 use Rattle.std.proofs.lemmas.List.{drop_more}
 use Rattle.lol_css.specs.Tokens.{Token}
 use Rattle.lol_css.specs.declared.syntax.tokens.Sign.{Sign}
 use Rattle.lol_css.specs.declared.syntax.tokens.Sign.TheVariants.{Plus, Minus}
 use Rattle.lol_css.specs.AnPlusB.{bounded_integer, with_sign, is_n_and_digits, rest_of}
-use Rattle.lol_css.specs.Rules.{says}
+use Rattle.lol_css.specs.Rules.{refused, says}
 use Rattle.lol_css.specs.declared.error.SelectorError.TheVariants.{UnexpectedToken}
 use Rattle.lol_css.specs.Points.{number_after, decimal}
 
@@ -34,7 +34,7 @@ magnitude-next limit n i d r xs h e q =
     rw q (capped limit (n * 10 + (d - 48)) (map (λ c. c - 48) (drop (i + 1) xs)) ∙ sym (rw (← e) at whole))
 
 -- what is cut off is outside i32
-too_large : (sign : Sign) (n : ℕ) (rest : List Token) → 2147483649 ≤ n → bounded_integer (with_sign sign n) rest ≡ Err UnexpectedToken
+too_large : (sign : Sign) (n : ℕ) (rest : List Token) → 2147483649 ≤ n → bounded_integer (with_sign sign n) rest ≡ refused UnexpectedToken rest
 unfolding bounded_integer
 too_large Plus n rest h = let e : nat_le n 2147483647 ≡ false = lt-leb n 2147483647 (omega arith) in rw e refl
 too_large Minus zero rest h = absurd (omega arith)

@@ -5,7 +5,7 @@ use Rattle.std.specs.Str.{byte}
 use Rattle.lol_css.specs.Tokens.{Token, Delim}
 use Rattle.lol_css.specs.Trees as trees
 use Rattle.lol_css.specs.Drafts.{Step, DraftPart, Logical, DraftCompound, Nothing, With, DraftItem, First, Then, DraftItems, NoItems, And}
-use Rattle.lol_css.specs.Rules.{Read, ◌>>=◌, giving, skip_space, Nesting, InFunction, at_end}
+use Rattle.lol_css.specs.Rules.{Refusal, Read, refused, ◌>>=◌, giving, skip_space, Nesting, InFunction, at_end}
 use Rattle.lol_css.specs.Reading.{class_name, pseudo, part, parts_at_most, more_parts, type_part, is_nothing, compound, next_step, further, item, items_at_most, list, inner_list}
 use Rattle.lol_css.specs.Accepting.{judged_step, combination_part, judged_part, judged_compound, judged_item, judged}
 use Rattle.lol_css.specs.Judging.{Judged, with_part, alone, with_compound, with_item, judged_parts_at_most, judged_parts, judged_further, judged_items_at_most, is_empty}
@@ -19,32 +19,32 @@ use Rattle.lol_css.proofs.Spaces.{fails, then-fails}
 
 -- ---- causes
 
-pub fails_cases : {A : Type 0} (cause : SelectorError) (read : Result A SelectorError) → FailsUnlessMemory cause read → (cause ≡ errors.Memory) ⊎ (read ≡ Err cause)
-fails_cases errors.Memory read h = inl refl
-fails_cases errors.UnexpectedToken read h = inr h
-fails_cases errors.UnexpectedEnd read h = inr h
-fails_cases errors.MissingAttributeName read h = inr h
-fails_cases errors.EmptySelector read h = inr h
-fails_cases errors.DanglingCombinator read h = inr h
-fails_cases errors.UnexpectedTokenInAttribute read h = inr h
-fails_cases errors.UnsupportedPseudoClassOrElement read h = inr h
-fails_cases errors.NestedNegation read h = inr h
-fails_cases errors.NamespacedSelector read h = inr h
-fails_cases errors.InvalidClassName read h = inr h
-fails_cases errors.EmptyNegation read h = inr h
-fails_cases (errors.UnsupportedCombinator c) read h = inr h
-fails_cases errors.UnsupportedSyntax read h = inr h
+pub fails_cases : {A : Type 0} (cause : SelectorError) (left : List Token) (read : Read A) → FailsUnlessMemory cause left read → (cause ≡ errors.Memory) ⊎ (read ≡ refused cause left)
+fails_cases errors.Memory left read h = inl refl
+fails_cases errors.UnexpectedToken left read h = inr h
+fails_cases errors.UnexpectedEnd left read h = inr h
+fails_cases errors.MissingAttributeName left read h = inr h
+fails_cases errors.EmptySelector left read h = inr h
+fails_cases errors.DanglingCombinator left read h = inr h
+fails_cases errors.UnexpectedTokenInAttribute left read h = inr h
+fails_cases errors.UnsupportedPseudoClassOrElement left read h = inr h
+fails_cases errors.NestedNegation left read h = inr h
+fails_cases errors.NamespacedSelector left read h = inr h
+fails_cases errors.InvalidClassName left read h = inr h
+fails_cases errors.EmptyNegation left read h = inr h
+fails_cases (errors.UnsupportedCombinator c) left read h = inr h
+fails_cases errors.UnsupportedSyntax left read h = inr h
 
-memory_fails : {A : Type 0} (cause : SelectorError) (read : Result A SelectorError) → cause ≡ errors.Memory → FailsUnlessMemory cause read
-memory_fails cause read e = rw e tt
+memory_fails : {A : Type 0} (cause : SelectorError) (left : List Token) (read : Read A) → cause ≡ errors.Memory → FailsUnlessMemory cause left read
+memory_fails cause left read e = rw e tt
 
-fails_on : {A B : Type 0} (cause : SelectorError) (read : Result A SelectorError) (total : Result B SelectorError) → (read ≡ Err cause → total ≡ Err cause) → (cause ≡ errors.Memory) ⊎ (read ≡ Err cause) → FailsUnlessMemory cause total
-fails_on cause read total h (inl e) = memory_fails cause total e
-fails_on cause read total h (inr e) = fails cause total (h e)
+fails_on : {A B : Type 0} (cause : SelectorError) (left : List Token) (read : Read A) (total : Read B) → (read ≡ refused cause left → total ≡ refused cause left) → (cause ≡ errors.Memory) ⊎ (read ≡ refused cause left) → FailsUnlessMemory cause left total
+fails_on cause left read total h (inl e) = memory_fails cause left total e
+fails_on cause left read total h (inr e) = fails cause left total (h e)
 
 -- what fails where this fails
-pub fails-along : {A B : Type 0} (cause : SelectorError) (read : Result A SelectorError) (total : Result B SelectorError) → (read ≡ Err cause → total ≡ Err cause) → FailsUnlessMemory cause read → FailsUnlessMemory cause total
-fails-along cause read total h f = fails_on cause read total h (fails_cases cause read f)
+pub fails-along : {A B : Type 0} (cause : SelectorError) (left : List Token) (read : Read A) (total : Read B) → (read ≡ refused cause left → total ≡ refused cause left) → FailsUnlessMemory cause left read → FailsUnlessMemory cause left total
+fails-along cause left read total h f = fails_on cause left read total h (fails_cases cause left read f)
 
 -- ---- what is changed as it is read
 
@@ -65,19 +65,19 @@ giving-ok {A} {B} f (Ok p) y rest e =
       is = ap (λ (t : List Token). Ok (p.0, t)) second;
       gives = ap (λ (t : B × List Token). t.0) same;
     }
-giving-ok f (Err cause) y rest e = absurd cc
+giving-ok f (Err refusal) y rest e = absurd cc
 
-pub giving-err : {A B : Type 0} (f : A → B) (read : Read A) (cause : SelectorError) → giving f read ≡ Err cause → read ≡ Err cause
-giving-err f (Ok p) cause e = absurd cc
-giving-err f (Err other) cause e = let same : other ≡ cause = cc in ap (λ (c : SelectorError). Err c) same
+pub giving-err : {A B : Type 0} (f : A → B) (read : Read A) (cause : SelectorError) (left : List Token) → giving f read ≡ refused cause left → read ≡ refused cause left
+giving-err f (Ok p) cause left e = absurd cc
+giving-err f (Err other) cause left e = let same : other ≡ record { cause = cause; left = left } = cc in ap (λ (r : Refusal). Err r) same
 
 pub giving-then : {A B C : Type 0} (f : B → C) (read : Read A) (g : A × List Token → Read B) → giving f (read >>= g) ≡ (read >>= λ x. giving f (g x))
 giving-then f (Ok p) g = refl
-giving-then f (Err cause) g = refl
+giving-then f (Err refusal) g = refl
 
 then-same : {A B : Type 0} (read : Read A) (f g : A × List Token → Read B) → ((x : A) (rest : List Token) → read ≡ Ok (x, rest) → f (x, rest) ≡ g (x, rest)) → (read >>= f) ≡ (read >>= g)
 then-same (Ok p) f g h = h p.0 p.1 refl
-then-same (Err cause) f g h = refl
+then-same (Err refusal) f g h = refl
 
 option_same : {A X : Type 0} (o : Option X) (none none2 : A) (found found2 : X → A) → (o ≡ None → none ≡ none2) → ((x : X) → o ≡ Some x → found x ≡ found2 x) → (let l : A = elim o [ None ↦ none | Some x ↦ found x ] in let r : A = elim o [ None ↦ none2 | Some x ↦ found2 x ] in l ≡ r)
 option_same None none none2 found found2 p q = p refl
@@ -156,15 +156,15 @@ parts-stop inner nesting parts tokens rest e =
     let nothing = none_same f.x f.gives in
     parts_stop_of (length tokens) inner nesting parts tokens rest refl (f.is ∙ ap (λ (o : Option DraftPart). Ok (o, rest)) nothing)
 
-parts_err_of : (n : ℕ) (inner : List Token → Read DraftItems) (nesting : Nesting) (parts : Judged trees.WrittenCompound) (tokens : List Token) (cause : SelectorError) → n ≡ length tokens → part inner nesting tokens ≡ Err cause → judged_parts_at_most n inner nesting parts tokens ≡ Err cause
+parts_err_of : (n : ℕ) (inner : List Token → Read DraftItems) (nesting : Nesting) (parts : Judged trees.WrittenCompound) (tokens : List Token) (cause : SelectorError) (left : List Token) → n ≡ length tokens → part inner nesting tokens ≡ refused cause left → judged_parts_at_most n inner nesting parts tokens ≡ refused cause left
 unfolding judged_parts_at_most part
-parts_err_of zero inner nesting parts [] cause l e = absurd cc
-parts_err_of zero inner nesting parts (token ∷ tokens) cause l e = absurd (omega arith)
-parts_err_of (suc n) inner nesting parts tokens cause l e = rw e refl
+parts_err_of zero inner nesting parts [] cause left l e = absurd cc
+parts_err_of zero inner nesting parts (token ∷ tokens) cause left l e = absurd (omega arith)
+parts_err_of (suc n) inner nesting parts tokens cause left l e = rw e refl
 
-pub parts-fail : (inner : List Token → Read DraftItems) (nesting : Nesting) (parts : Judged trees.WrittenCompound) (tokens : List Token) (cause : SelectorError) → FailsUnlessMemory cause (giving (option_map judged_part) (part inner nesting tokens)) → FailsUnlessMemory cause (judged_parts inner nesting parts tokens)
-parts-fail inner nesting parts tokens cause h =
-    fails-along cause (giving (option_map judged_part) (part inner nesting tokens)) (judged_parts inner nesting parts tokens) (λ e. parts_err_of (length tokens) inner nesting parts tokens cause refl (giving-err (option_map judged_part) (part inner nesting tokens) cause e)) h
+pub parts-fail : (inner : List Token → Read DraftItems) (nesting : Nesting) (parts : Judged trees.WrittenCompound) (tokens : List Token) (cause : SelectorError) (left : List Token) → FailsUnlessMemory cause left (giving (option_map judged_part) (part inner nesting tokens)) → FailsUnlessMemory cause left (judged_parts inner nesting parts tokens)
+parts-fail inner nesting parts tokens cause left h =
+    fails-along cause left (giving (option_map judged_part) (part inner nesting tokens)) (judged_parts inner nesting parts tokens) (λ e. parts_err_of (length tokens) inner nesting parts tokens cause left refl (giving-err (option_map judged_part) (part inner nesting tokens) cause left e)) h
 
 -- ---- compounds
 
@@ -180,15 +180,15 @@ nothing_judged (With front last) = sym (nothing_judged_of (judged_compound front
 
 -- a compound that reads nothing is refused
 abbrev pub not_empty : SelectorError → Read (Judged trees.WrittenCompound) → Read (Judged trees.WrittenCompound)
-not_empty empty parts = parts >>= λ x. cond (is_empty x.0) (Err empty) (Ok x)
+not_empty empty parts = parts >>= λ x. cond (is_empty x.0) (refused empty x.1) (Ok x)
 
-empty_same : (b : Bool) (empty : SelectorError) (parts : DraftCompound) (rest : List Token) → giving judged_compound (cond b (Err empty) (Ok (parts, rest))) ≡ cond b (Err empty) (Ok (judged_compound parts, rest))
+empty_same : (b : Bool) (empty : SelectorError) (parts : DraftCompound) (rest : List Token) → giving judged_compound (cond b (refused empty rest) (Ok (parts, rest))) ≡ cond b (refused empty rest) (Ok (judged_compound parts, rest))
 empty_same true empty parts rest = refl
 empty_same false empty parts rest = refl
 
-not_empty_fused : (empty : SelectorError) (read : Read DraftCompound) → giving judged_compound (read >>= λ parts. cond (is_nothing parts.0) (Err empty) (Ok parts)) ≡ not_empty empty (giving judged_compound read)
-not_empty_fused empty (Ok p) = empty_same (is_nothing p.0) empty p.0 p.1 ∙ ap (λ (b : Bool). cond {A = Read (Judged trees.WrittenCompound)} b (Err empty) (Ok (judged_compound p.0, p.1))) (nothing_judged p.0)
-not_empty_fused empty (Err cause) = refl
+not_empty_fused : (empty : SelectorError) (read : Read DraftCompound) → giving judged_compound (read >>= λ parts. cond (is_nothing parts.0) (refused empty parts.1) (Ok parts)) ≡ not_empty empty (giving judged_compound read)
+not_empty_fused empty (Ok p) = empty_same (is_nothing p.0) empty p.0 p.1 ∙ ap (λ (b : Bool). cond {A = Read (Judged trees.WrittenCompound)} b (refused empty p.1) (Ok (judged_compound p.0, p.1))) (nothing_judged p.0)
+not_empty_fused empty (Err refusal) = refl
 
 compound_of_start : (o : Option DraftCompound) (inner : List Token → Read DraftItems) (nesting : Nesting) (empty : SelectorError) (tokens : List Token) (start : trees.WrittenCompound) (rest : List Token) → type_part nesting tokens ≡ Ok (o, rest) → option_map judged_compound o ≡ Some (Ok start) → giving judged_compound (compound inner nesting empty tokens) ≡ not_empty empty (judged_parts inner nesting (Ok start) rest)
 unfolding compound
@@ -203,32 +203,32 @@ compound-starts inner nesting empty tokens start rest e =
     let f = giving-ok (option_map judged_compound) (type_part nesting tokens) (Some (Ok start)) rest e in
     compound_of_start f.x inner nesting empty tokens start rest f.is f.gives
 
-compound_of_none : (o : Option DraftCompound) (inner : List Token → Read DraftItems) (nesting : Nesting) (empty : SelectorError) (tokens rest : List Token) → type_part nesting tokens ≡ Ok (o, rest) → option_map judged_compound o ≡ None → giving judged_compound (compound inner nesting empty tokens) ≡ Err empty
+compound_of_none : (o : Option DraftCompound) (inner : List Token → Read DraftItems) (nesting : Nesting) (empty : SelectorError) (tokens rest : List Token) → type_part nesting tokens ≡ Ok (o, rest) → option_map judged_compound o ≡ None → giving judged_compound (compound inner nesting empty tokens) ≡ refused empty rest
 unfolding compound
 compound_of_none None inner nesting empty tokens rest e g = rw e refl
 compound_of_none (Some draft) inner nesting empty tokens rest e g = absurd cc
 
 -- where a bar ends the item
-pub compound-none : (inner : List Token → Read DraftItems) (nesting : Nesting) (empty : SelectorError) (tokens rest : List Token) → giving (option_map judged_compound) (type_part nesting tokens) ≡ Ok (None, rest) → giving judged_compound (compound inner nesting empty tokens) ≡ Err empty
+pub compound-none : (inner : List Token → Read DraftItems) (nesting : Nesting) (empty : SelectorError) (tokens rest : List Token) → giving (option_map judged_compound) (type_part nesting tokens) ≡ Ok (None, rest) → giving judged_compound (compound inner nesting empty tokens) ≡ refused empty rest
 compound-none inner nesting empty tokens rest e =
     let f = giving-ok (option_map judged_compound) (type_part nesting tokens) None rest e in
     compound_of_none f.x inner nesting empty tokens rest f.is f.gives
 
-compound_err : (inner : List Token → Read DraftItems) (nesting : Nesting) (empty : SelectorError) (tokens : List Token) (cause : SelectorError) → type_part nesting tokens ≡ Err cause → giving judged_compound (compound inner nesting empty tokens) ≡ Err cause
+compound_err : (inner : List Token → Read DraftItems) (nesting : Nesting) (empty : SelectorError) (tokens : List Token) (cause : SelectorError) (left : List Token) → type_part nesting tokens ≡ refused cause left → giving judged_compound (compound inner nesting empty tokens) ≡ refused cause left
 unfolding compound
-compound_err inner nesting empty tokens cause e = rw e refl
+compound_err inner nesting empty tokens cause left e = rw e refl
 
-pub compound-fails : (inner : List Token → Read DraftItems) (nesting : Nesting) (empty : SelectorError) (tokens : List Token) (cause : SelectorError) → FailsUnlessMemory cause (giving (option_map judged_compound) (type_part nesting tokens)) → FailsUnlessMemory cause (giving judged_compound (compound inner nesting empty tokens))
-compound-fails inner nesting empty tokens cause h =
-    fails-along cause (giving (option_map judged_compound) (type_part nesting tokens)) (giving judged_compound (compound inner nesting empty tokens)) (λ e. compound_err inner nesting empty tokens cause (giving-err (option_map judged_compound) (type_part nesting tokens) cause e)) h
+pub compound-fails : (inner : List Token → Read DraftItems) (nesting : Nesting) (empty : SelectorError) (tokens : List Token) (cause : SelectorError) (left : List Token) → FailsUnlessMemory cause left (giving (option_map judged_compound) (type_part nesting tokens)) → FailsUnlessMemory cause left (giving judged_compound (compound inner nesting empty tokens))
+compound-fails inner nesting empty tokens cause left h =
+    fails-along cause left (giving (option_map judged_compound) (type_part nesting tokens)) (giving judged_compound (compound inner nesting empty tokens)) (λ e. compound_err inner nesting empty tokens cause left (giving-err (option_map judged_compound) (type_part nesting tokens) cause left e)) h
 
 -- ---- items
 
 further_fused : (room : ℕ) (inner : List Token → Read DraftItems) (nesting : Nesting) (inside : Bool) (front : DraftItem) (tokens : List Token) → giving (judged_item inside) (further room inner nesting front tokens) ≡ judged_further room inner nesting inside (judged_item inside front) tokens
 unfolding further judged_further judged_item
 further_fused zero inner nesting inside front tokens =
-    giving-then (judged_item inside) (next_step nesting tokens) (λ found. elim found.0 [ None ↦ Ok (front, found.1) | Some step ↦ Err errors.UnsupportedSyntax ])
-    ∙ then-same (next_step nesting tokens) _ _ (λ found rest e. giving-option (judged_item inside) found (Ok (front, rest)) (λ step. Err errors.UnsupportedSyntax))
+    giving-then (judged_item inside) (next_step nesting tokens) (λ found. elim found.0 [ None ↦ Ok (front, found.1) | Some step ↦ refused errors.UnsupportedSyntax found.1 ])
+    ∙ then-same (next_step nesting tokens) _ _ (λ found rest e. giving-option (judged_item inside) found (Ok (front, rest)) (λ step. refused errors.UnsupportedSyntax rest))
 further_fused (suc room) inner nesting inside front tokens =
     giving-then (judged_item inside) (next_step nesting tokens) (λ found. elim found.0 [ None ↦ Ok (front, found.1) | Some step ↦ compound inner nesting errors.DanglingCombinator found.1 >>= λ next. further room inner nesting (Then front step next.0) next.1 ])
     ∙ then-same (next_step nesting tokens) _ _ (λ found rest e.
@@ -249,13 +249,13 @@ item-starts inner nesting inside tokens first rest e =
     let f = giving-ok judged_compound (compound inner nesting errors.EmptySelector (skip_space tokens)) first rest e in
     item_starts_of inner nesting inside tokens f.x first rest f.is f.gives
 
-item_err : (inner : List Token → Read DraftItems) (nesting : Nesting) (inside : Bool) (tokens : List Token) (cause : SelectorError) → compound inner nesting errors.EmptySelector (skip_space tokens) ≡ Err cause → giving (judged_item inside) (item inner nesting tokens) ≡ Err cause
+item_err : (inner : List Token → Read DraftItems) (nesting : Nesting) (inside : Bool) (tokens : List Token) (cause : SelectorError) (left : List Token) → compound inner nesting errors.EmptySelector (skip_space tokens) ≡ refused cause left → giving (judged_item inside) (item inner nesting tokens) ≡ refused cause left
 unfolding item
-item_err inner nesting inside tokens cause e = rw e refl
+item_err inner nesting inside tokens cause left e = rw e refl
 
-pub item-fails : (inner : List Token → Read DraftItems) (nesting : Nesting) (inside : Bool) (tokens : List Token) (cause : SelectorError) → FailsUnlessMemory cause (giving judged_compound (compound inner nesting errors.EmptySelector (skip_space tokens))) → FailsUnlessMemory cause (giving (judged_item inside) (item inner nesting tokens))
-item-fails inner nesting inside tokens cause h =
-    fails-along cause (giving judged_compound (compound inner nesting errors.EmptySelector (skip_space tokens))) (giving (judged_item inside) (item inner nesting tokens)) (λ e. item_err inner nesting inside tokens cause (giving-err judged_compound (compound inner nesting errors.EmptySelector (skip_space tokens)) cause e)) h
+pub item-fails : (inner : List Token → Read DraftItems) (nesting : Nesting) (inside : Bool) (tokens : List Token) (cause : SelectorError) (left : List Token) → FailsUnlessMemory cause left (giving judged_compound (compound inner nesting errors.EmptySelector (skip_space tokens))) → FailsUnlessMemory cause left (giving (judged_item inside) (item inner nesting tokens))
+item-fails inner nesting inside tokens cause left h =
+    fails-along cause left (giving judged_compound (compound inner nesting errors.EmptySelector (skip_space tokens))) (giving (judged_item inside) (item inner nesting tokens)) (λ e. item_err inner nesting inside tokens cause left (giving-err judged_compound (compound inner nesting errors.EmptySelector (skip_space tokens)) cause left e)) h
 
 no_step : (inside : Bool) (o : Option Step) → option_map (judged_step inside) o ≡ None → o ≡ None
 no_step inside None e = refl
@@ -272,13 +272,13 @@ further-stops room inner nesting inside front tokens rest e =
     let f = giving-ok (option_map (judged_step inside)) (next_step nesting tokens) None rest e in
     further_stop_of room inner nesting inside front tokens rest (f.is ∙ ap (λ (o : Option Step). Ok (o, rest)) (no_step inside f.x f.gives))
 
-further_err : (room : ℕ) (inner : List Token → Read DraftItems) (nesting : Nesting) (inside : Bool) (front : Judged trees.Item) (tokens : List Token) (cause : SelectorError) → next_step nesting tokens ≡ Err cause → judged_further room inner nesting inside front tokens ≡ Err cause
+further_err : (room : ℕ) (inner : List Token → Read DraftItems) (nesting : Nesting) (inside : Bool) (front : Judged trees.Item) (tokens : List Token) (cause : SelectorError) (left : List Token) → next_step nesting tokens ≡ refused cause left → judged_further room inner nesting inside front tokens ≡ refused cause left
 unfolding judged_further
-further_err zero inner nesting inside front tokens cause e = rw e refl
-further_err (suc room) inner nesting inside front tokens cause e = rw e refl
+further_err zero inner nesting inside front tokens cause left e = rw e refl
+further_err (suc room) inner nesting inside front tokens cause left e = rw e refl
 
-pub further-fails : (room : ℕ) (inner : List Token → Read DraftItems) (nesting : Nesting) (inside : Bool) (front : Judged trees.Item) (tokens : List Token) (cause : SelectorError) → giving (option_map (judged_step inside)) (next_step nesting tokens) ≡ Err cause → judged_further room inner nesting inside front tokens ≡ Err cause
-further-fails room inner nesting inside front tokens cause e = further_err room inner nesting inside front tokens cause (giving-err (option_map (judged_step inside)) (next_step nesting tokens) cause e)
+pub further-fails : (room : ℕ) (inner : List Token → Read DraftItems) (nesting : Nesting) (inside : Bool) (front : Judged trees.Item) (tokens : List Token) (cause : SelectorError) (left : List Token) → giving (option_map (judged_step inside)) (next_step nesting tokens) ≡ refused cause left → judged_further room inner nesting inside front tokens ≡ refused cause left
+further-fails room inner nesting inside front tokens cause left e = further_err room inner nesting inside front tokens cause left (giving-err (option_map (judged_step inside)) (next_step nesting tokens) cause left e)
 
 -- a step was read
 pub record StepRead (nesting : Nesting) (inside : Bool) (tokens : List Token) (step : Judged Combinator) (rest : List Token) : Type 0 where
@@ -296,7 +296,7 @@ step-read nesting inside tokens step rest e =
     step_read_of f.x nesting inside tokens step rest f.is f.gives
 
 -- a step too many
-pub further-full : (inner : List Token → Read DraftItems) (nesting : Nesting) (inside : Bool) (front : Judged trees.Item) (tokens : List Token) (step : Judged Combinator) (rest : List Token) → StepRead nesting inside tokens step rest → judged_further 0 inner nesting inside front tokens ≡ Err errors.UnsupportedSyntax
+pub further-full : (inner : List Token → Read DraftItems) (nesting : Nesting) (inside : Bool) (front : Judged trees.Item) (tokens : List Token) (step : Judged Combinator) (rest : List Token) → StepRead nesting inside tokens step rest → judged_further 0 inner nesting inside front tokens ≡ refused errors.UnsupportedSyntax rest
 unfolding judged_further
 further-full inner nesting inside front tokens step rest s = rw s.is refl
 
@@ -312,14 +312,14 @@ further-goes_on (suc room) inner nesting inside front tokens step rest s next re
     let less : suc room - 1 ≡ room = omega arith in
     rw less (further_goes_on_of room inner nesting inside front tokens step rest s f.x next rest2 f.is f.gives)
 
-further_compound_err : (room : ℕ) (inner : List Token → Read DraftItems) (nesting : Nesting) (inside : Bool) (front : Judged trees.Item) (tokens : List Token) (step : Judged Combinator) (rest : List Token) → StepRead nesting inside tokens step rest → (cause : SelectorError) → compound inner nesting errors.DanglingCombinator rest ≡ Err cause → judged_further (suc room) inner nesting inside front tokens ≡ Err cause
+further_compound_err : (room : ℕ) (inner : List Token → Read DraftItems) (nesting : Nesting) (inside : Bool) (front : Judged trees.Item) (tokens : List Token) (step : Judged Combinator) (rest : List Token) → StepRead nesting inside tokens step rest → (cause : SelectorError) (left : List Token) → compound inner nesting errors.DanglingCombinator rest ≡ refused cause left → judged_further (suc room) inner nesting inside front tokens ≡ refused cause left
 unfolding judged_further
-further_compound_err room inner nesting inside front tokens step rest s cause e = rw (s.is, e) refl
+further_compound_err room inner nesting inside front tokens step rest s cause left e = rw (s.is, e) refl
 
-pub further-compound-fails : (room : ℕ) (inner : List Token → Read DraftItems) (nesting : Nesting) (inside : Bool) (front : Judged trees.Item) (tokens : List Token) (step : Judged Combinator) (rest : List Token) → StepRead nesting inside tokens step rest → (cause : SelectorError) → ¬ (room ≡ 0) → FailsUnlessMemory cause (giving judged_compound (compound inner nesting errors.DanglingCombinator rest)) → FailsUnlessMemory cause (judged_further room inner nesting inside front tokens)
-further-compound-fails zero inner nesting inside front tokens step rest s cause n h = absurd (n refl)
-further-compound-fails (suc room) inner nesting inside front tokens step rest s cause n h =
-    fails-along cause (giving judged_compound (compound inner nesting errors.DanglingCombinator rest)) (judged_further (suc room) inner nesting inside front tokens) (λ e. further_compound_err room inner nesting inside front tokens step rest s cause (giving-err judged_compound (compound inner nesting errors.DanglingCombinator rest) cause e)) h
+pub further-compound-fails : (room : ℕ) (inner : List Token → Read DraftItems) (nesting : Nesting) (inside : Bool) (front : Judged trees.Item) (tokens : List Token) (step : Judged Combinator) (rest : List Token) → StepRead nesting inside tokens step rest → (cause : SelectorError) (left : List Token) → ¬ (room ≡ 0) → FailsUnlessMemory cause left (giving judged_compound (compound inner nesting errors.DanglingCombinator rest)) → FailsUnlessMemory cause left (judged_further room inner nesting inside front tokens)
+further-compound-fails zero inner nesting inside front tokens step rest s cause left n h = absurd (n refl)
+further-compound-fails (suc room) inner nesting inside front tokens step rest s cause left n h =
+    fails-along cause left (giving judged_compound (compound inner nesting errors.DanglingCombinator rest)) (judged_further (suc room) inner nesting inside front tokens) (λ e. further_compound_err room inner nesting inside front tokens step rest s cause left (giving-err judged_compound (compound inner nesting errors.DanglingCombinator rest) cause left e)) h
 
 -- ---- lists
 
@@ -345,13 +345,13 @@ list-starts inner nesting inside tokens first rest e =
     let f = giving-ok (judged_item inside) (item inner nesting tokens) first rest e in
     list_starts_of inner nesting inside tokens f.x first rest f.is f.gives
 
-list_err : (inner : List Token → Read DraftItems) (nesting : Nesting) (inside : Bool) (tokens : List Token) (cause : SelectorError) → item inner nesting tokens ≡ Err cause → giving (judged inside) (list inner nesting tokens) ≡ Err cause
+list_err : (inner : List Token → Read DraftItems) (nesting : Nesting) (inside : Bool) (tokens : List Token) (cause : SelectorError) (left : List Token) → item inner nesting tokens ≡ refused cause left → giving (judged inside) (list inner nesting tokens) ≡ refused cause left
 unfolding list
-list_err inner nesting inside tokens cause e = rw e refl
+list_err inner nesting inside tokens cause left e = rw e refl
 
-pub list-fails : (inner : List Token → Read DraftItems) (nesting : Nesting) (inside : Bool) (tokens : List Token) (cause : SelectorError) → FailsUnlessMemory cause (giving (judged_item inside) (item inner nesting tokens)) → FailsUnlessMemory cause (giving (judged inside) (list inner nesting tokens))
-list-fails inner nesting inside tokens cause h =
-    fails-along cause (giving (judged_item inside) (item inner nesting tokens)) (giving (judged inside) (list inner nesting tokens)) (λ e. list_err inner nesting inside tokens cause (giving-err (judged_item inside) (item inner nesting tokens) cause e)) h
+pub list-fails : (inner : List Token → Read DraftItems) (nesting : Nesting) (inside : Bool) (tokens : List Token) (cause : SelectorError) (left : List Token) → FailsUnlessMemory cause left (giving (judged_item inside) (item inner nesting tokens)) → FailsUnlessMemory cause left (giving (judged inside) (list inner nesting tokens))
+list-fails inner nesting inside tokens cause left h =
+    fails-along cause left (giving (judged_item inside) (item inner nesting tokens)) (giving (judged inside) (list inner nesting tokens)) (λ e. list_err inner nesting inside tokens cause left (giving-err (judged_item inside) (item inner nesting tokens) cause left e)) h
 
 -- more rounds than tokens change nothing
 items_enough_of : (b : Bool) (items : Judged trees.Items) (rest : List Token) (l r : Read (Judged trees.Items)) → (b ≡ false → l ≡ r) → cond {A = Read (Judged trees.Items)} b (Ok (items, rest)) l ≡ cond b (Ok (items, rest)) r
@@ -401,14 +401,14 @@ item-read inner h nesting inside items tokens found rest e g =
       shorter = omega (arith, left, length-drop 1 tokens, not_at_end nesting tokens e);
     }
 
-items_err : (n : ℕ) (inner : List Token → Read DraftItems) (nesting : Nesting) (inside : Bool) (items : Judged trees.Items) (tokens : List Token) (cause : SelectorError) → at_end nesting tokens ≡ false → item inner nesting (drop 1 tokens) ≡ Err cause → judged_items_at_most (suc n) inner nesting inside items tokens ≡ Err cause
+items_err : (n : ℕ) (inner : List Token → Read DraftItems) (nesting : Nesting) (inside : Bool) (items : Judged trees.Items) (tokens : List Token) (cause : SelectorError) (left : List Token) → at_end nesting tokens ≡ false → item inner nesting (drop 1 tokens) ≡ refused cause left → judged_items_at_most (suc n) inner nesting inside items tokens ≡ refused cause left
 unfolding judged_items_at_most
-items_err n inner nesting inside items tokens cause e is = rw (e, is) refl
+items_err n inner nesting inside items tokens cause left e is = rw (e, is) refl
 
-pub items-fail : (inner : List Token → Read DraftItems) (nesting : Nesting) (inside : Bool) (items : Judged trees.Items) (tokens : List Token) (cause : SelectorError) → at_end nesting tokens ≡ false → FailsUnlessMemory cause (giving (judged_item inside) (item inner nesting (drop 1 tokens))) → FailsUnlessMemory cause (judged_items_at_most (length tokens + 1) inner nesting inside items tokens)
-items-fail inner nesting inside items tokens cause e h =
+pub items-fail : (inner : List Token → Read DraftItems) (nesting : Nesting) (inside : Bool) (items : Judged trees.Items) (tokens : List Token) (cause : SelectorError) (left : List Token) → at_end nesting tokens ≡ false → FailsUnlessMemory cause left (giving (judged_item inside) (item inner nesting (drop 1 tokens))) → FailsUnlessMemory cause left (judged_items_at_most (length tokens + 1) inner nesting inside items tokens)
+items-fail inner nesting inside items tokens cause left e h =
     let n : length tokens + 1 ≡ suc (length tokens) = omega arith in
-    rw n (fails-along cause (giving (judged_item inside) (item inner nesting (drop 1 tokens))) (judged_items_at_most (suc (length tokens)) inner nesting inside items tokens) (λ is. items_err (length tokens) inner nesting inside items tokens cause e (giving-err (judged_item inside) (item inner nesting (drop 1 tokens)) cause is)) h)
+    rw n (fails-along cause left (giving (judged_item inside) (item inner nesting (drop 1 tokens))) (judged_items_at_most (suc (length tokens)) inner nesting inside items tokens) (λ is. items_err (length tokens) inner nesting inside items tokens cause left e (giving-err (judged_item inside) (item inner nesting (drop 1 tokens)) cause left is)) h)
 
 -- ---- inside a logical combination
 
@@ -427,36 +427,36 @@ logical-read combination read found rest e =
     let f = giving-ok (judged true) read found rest e in
     rw f.is (ap (λ (j : Judged trees.Part). Ok (j, rest)) (logical_of combination f.x found f.gives))
 
-giving_err : {A B : Type 0} (f : A → B) (read : Read A) (cause : SelectorError) → read ≡ Err cause → giving f read ≡ Err cause
-giving_err f read cause e = rw e refl
+giving_err : {A B : Type 0} (f : A → B) (read : Read A) (cause : SelectorError) (left : List Token) → read ≡ refused cause left → giving f read ≡ refused cause left
+giving_err f read cause left e = rw e refl
 
-pub logical-fails : (combination : LogicalCombination) (read : Read DraftItems) (cause : SelectorError) → FailsUnlessMemory cause (giving (judged true) read) → FailsUnlessMemory cause (giving judged_part (giving (λ items. Logical combination items) read))
-logical-fails combination read cause h =
-    fails-along cause (giving (judged true) read) (giving judged_part (giving (λ items. Logical combination items) read)) (λ e. giving_err judged_part (giving (λ items. Logical combination items) read) cause (giving_err (λ items. Logical combination items) read cause (giving-err (judged true) read cause e))) h
+pub logical-fails : (combination : LogicalCombination) (read : Read DraftItems) (cause : SelectorError) (left : List Token) → FailsUnlessMemory cause left (giving (judged true) read) → FailsUnlessMemory cause left (giving judged_part (giving (λ items. Logical combination items) read))
+logical-fails combination read cause left h =
+    fails-along cause left (giving (judged true) read) (giving judged_part (giving (λ items. Logical combination items) read)) (λ e. giving_err judged_part (giving (λ items. Logical combination items) read) cause left (giving_err (λ items. Logical combination items) read cause left (giving-err (judged true) read cause left e))) h
 
 -- ---- what the code's answers cite
 
-pub not_empty-fails : (empty : SelectorError) (read : Read (Judged trees.WrittenCompound)) (cause : SelectorError) → FailsUnlessMemory cause read → FailsUnlessMemory cause (not_empty empty read)
-not_empty-fails empty read cause h = then-fails cause read (λ x. cond (is_empty x.0) (Err empty) (Ok x)) h
+pub not_empty-fails : (empty : SelectorError) (read : Read (Judged trees.WrittenCompound)) (cause : SelectorError) (left : List Token) → FailsUnlessMemory cause left read → FailsUnlessMemory cause left (not_empty empty read)
+not_empty-fails empty read cause left h = then-fails cause left read (λ x. cond (is_empty x.0) (refused empty x.1) (Ok x)) h
 
-pub not_empty-refused : (empty : SelectorError) (read : Read (Judged trees.WrittenCompound)) (parts : Judged trees.WrittenCompound) (rest : List Token) → read ≡ Ok (parts, rest) → is_empty parts ≡ true → not_empty empty read ≡ Err empty
+pub not_empty-refused : (empty : SelectorError) (read : Read (Judged trees.WrittenCompound)) (parts : Judged trees.WrittenCompound) (rest : List Token) → read ≡ Ok (parts, rest) → is_empty parts ≡ true → not_empty empty read ≡ refused empty rest
 not_empty-refused empty read parts rest e h = rw (e, h) refl
 
 pub not_empty-kept : (empty : SelectorError) (read : Read (Judged trees.WrittenCompound)) (parts : Judged trees.WrittenCompound) (rest : List Token) → read ≡ Ok (parts, rest) → is_empty parts ≡ false → not_empty empty read ≡ Ok (parts, rest)
 not_empty-kept empty read parts rest e h = rw (e, h) refl
 
-part_pseudo_err : (inner : List Token → Read DraftItems) (nesting : Nesting) (rest : List Token) (cause : SelectorError) → pseudo inner nesting rest ≡ Err cause → giving (option_map judged_part) (part inner nesting (Delim (byte ":") ∷ rest)) ≡ Err cause
+part_pseudo_err : (inner : List Token → Read DraftItems) (nesting : Nesting) (rest : List Token) (cause : SelectorError) (left : List Token) → pseudo inner nesting rest ≡ refused cause left → giving (option_map judged_part) (part inner nesting (Delim (byte ":") ∷ rest)) ≡ refused cause left
 unfolding part
-part_pseudo_err inner nesting rest cause e = rw e refl
+part_pseudo_err inner nesting rest cause left e = rw e refl
 
-pub part-pseudo-fails : (inner : List Token → Read DraftItems) (nesting : Nesting) (tokens rest : List Token) (cause : SelectorError) → tokens ≡ Delim (byte ":") ∷ rest → FailsUnlessMemory cause (giving judged_part (pseudo inner nesting rest)) → FailsUnlessMemory cause (giving (option_map judged_part) (part inner nesting tokens))
-part-pseudo-fails inner nesting tokens rest cause e h =
-    rw e (fails-along cause (giving judged_part (pseudo inner nesting rest)) (giving (option_map judged_part) (part inner nesting (Delim (byte ":") ∷ rest))) (λ is. part_pseudo_err inner nesting rest cause (giving-err judged_part (pseudo inner nesting rest) cause is)) h)
+pub part-pseudo-fails : (inner : List Token → Read DraftItems) (nesting : Nesting) (tokens rest : List Token) (cause : SelectorError) (left : List Token) → tokens ≡ Delim (byte ":") ∷ rest → FailsUnlessMemory cause left (giving judged_part (pseudo inner nesting rest)) → FailsUnlessMemory cause left (giving (option_map judged_part) (part inner nesting tokens))
+part-pseudo-fails inner nesting tokens rest cause left e h =
+    rw e (fails-along cause left (giving judged_part (pseudo inner nesting rest)) (giving (option_map judged_part) (part inner nesting (Delim (byte ":") ∷ rest))) (λ is. part_pseudo_err inner nesting rest cause left (giving-err judged_part (pseudo inner nesting rest) cause left is)) h)
 
-part_class_err : (inner : List Token → Read DraftItems) (nesting : Nesting) (rest : List Token) (cause : SelectorError) → class_name nesting rest ≡ Err cause → giving (option_map judged_part) (part inner nesting (Delim (byte ".") ∷ rest)) ≡ Err cause
+part_class_err : (inner : List Token → Read DraftItems) (nesting : Nesting) (rest : List Token) (cause : SelectorError) (left : List Token) → class_name nesting rest ≡ refused cause left → giving (option_map judged_part) (part inner nesting (Delim (byte ".") ∷ rest)) ≡ refused cause left
 unfolding part
-part_class_err inner nesting rest cause e = rw e refl
+part_class_err inner nesting rest cause left e = rw e refl
 
-pub part-class-fails : (inner : List Token → Read DraftItems) (nesting : Nesting) (tokens rest : List Token) (cause : SelectorError) → tokens ≡ Delim (byte ".") ∷ rest → FailsUnlessMemory cause (giving (λ part. trees.Plain part) (class_name nesting rest)) → FailsUnlessMemory cause (giving (option_map judged_part) (part inner nesting tokens))
-part-class-fails inner nesting tokens rest cause e h =
-    rw e (fails-along cause (giving (λ part. trees.Plain part) (class_name nesting rest)) (giving (option_map judged_part) (part inner nesting (Delim (byte ".") ∷ rest))) (λ is. part_class_err inner nesting rest cause (giving-err (λ part. trees.Plain part) (class_name nesting rest) cause is)) h)
+pub part-class-fails : (inner : List Token → Read DraftItems) (nesting : Nesting) (tokens rest : List Token) (cause : SelectorError) (left : List Token) → tokens ≡ Delim (byte ".") ∷ rest → FailsUnlessMemory cause left (giving (λ part. trees.Plain part) (class_name nesting rest)) → FailsUnlessMemory cause left (giving (option_map judged_part) (part inner nesting tokens))
+part-class-fails inner nesting tokens rest cause left e h =
+    rw e (fails-along cause left (giving (λ part. trees.Plain part) (class_name nesting rest)) (giving (option_map judged_part) (part inner nesting (Delim (byte ".") ∷ rest))) (λ is. part_class_err inner nesting rest cause left (giving-err (λ part. trees.Plain part) (class_name nesting rest) cause left is)) h)

@@ -6,9 +6,9 @@ use Rattle.lol_css.specs.Points.{first_passes, is, decimal}
 use Rattle.lol_css.specs.Tokens.{Token, Numeral, sign_of, Space, Quoted, BadString, Hash, Number, Dimension, Percentage, Cdc, Function, Ident, Match, Delim}
 use Rattle.lol_css.specs.Trees.{Simple, LocalName, AnyName, Id, Class, Exists, Compares, Nth}
 use Rattle.lol_css.specs.Drafts.{By, DraftPart, Plain, LatePseudoClass, LateNamespace, Logical, DraftCompound, Nothing, With, DraftItem, First, Then, DraftItems, NoItems, And}
-use Rattle.lol_css.specs.Rules.{Read, ◌>>=◌, giving, keeping, is_delim, is_space, skip_space, Nesting, InFunction, InBrackets, closes, at_end, at_stop, required_token, block_end, says, lowercase, ident_of}
+use Rattle.lol_css.specs.Rules.{Refusal, Read, refused, ◌>>=◌, giving, is_delim, is_space, skip_space, Nesting, InFunction, InBrackets, closes, at_end, at_stop, required_token, block_end, says, lowercase, ident_of}
 use Rattle.lol_css.specs.AnPlusB.{with_sign, integer_value, unsigned_integer, in_i32, bounded_integer, digits_of_b, after_n, is_n_and_digits, rest_of, with_step, integer, an_plus_b_of_dimension, an_plus_b_of, an_plus_b}
-use Rattle.lol_css.specs.Reading.{utf8, combination_named, name_after_bar, bar_of, attribute_name, operator_of, written_value, flag_of, default_case_sensitivity, case_sensitivity, comparison, attribute, class_name, is_one_of, function_part, ident_part, pseudo, some, part, parts_at_most, more_parts, after_bar, any_namespace, no_namespace, type_part, is_nothing, compound, step_of, step, next_step, further, item, items_at_most, list, inner_list}
+use Rattle.lol_css.specs.Reading.{utf8, combination_named, name_after_bar, bar_of, attribute_name, operator_of, written_value, flag_of, default_case_sensitivity, case_sensitivity, comparison, attribute, class_name, is_one_of, function_part, late_words, ident_part, pseudo, some, part, parts_at_most, more_parts, after_bar, any_namespace, no_namespace, type_part, is_nothing, compound, step_of, step, next_step, further, item, items_at_most, list, inner_list}
 use Rattle.lol_css.specs.declared.syntax.tokens.Sign.{Sign}
 use Rattle.lol_css.specs.declared.syntax.tokens.Sign.TheVariants.{Minus}
 use Rattle.lol_css.specs.declared.error.SelectorError.{SelectorError}
@@ -32,20 +32,16 @@ ok_leaves {A} x rest n l = record {
       rw (← s) l;
 }
 
-err_leaves : {A : Type 0} (cause : SelectorError) (n : ℕ) → Leaves {A = A} (Err cause) n
-err_leaves cause n = record { left = λ y r e. absurd cc }
+err_leaves : {A : Type 0} {refusal : Refusal} (n : ℕ) → Leaves {A = A} (Err refusal) n
+err_leaves n = record { left = λ y r e. absurd cc }
 
 then_leaves : {A B : Type 0} (read : Read A) (f : A × List Token → Read B) (m n : ℕ) → Leaves read m → ((x : A) (rest : List Token) → length rest ≤ m → Leaves (f (x, rest)) n) → Leaves (read >>= f) n
 then_leaves (Ok p) f m n l h = h p.0 p.1 (l.left p.0 p.1 refl)
-then_leaves (Err cause) f m n l h = err_leaves cause n
+then_leaves (Err refusal) f m n l h = err_leaves n
 
 giving_leaves : {A B : Type 0} (f : A → B) (read : Read A) (n : ℕ) → Leaves read n → Leaves (giving f read) n
 giving_leaves f (Ok p) n l = ok_leaves (f p.0) p.1 n (l.left p.0 p.1 refl)
-giving_leaves f (Err cause) n l = err_leaves cause n
-
-keeping_leaves : {A : Type 0} (r : Result A SelectorError) (tokens : List Token) (n : ℕ) → length tokens ≤ n → Leaves (keeping r tokens) n
-keeping_leaves (Ok x) tokens n l = ok_leaves x tokens n l
-keeping_leaves (Err cause) tokens n l = err_leaves cause n
+giving_leaves f (Err refusal) n l = err_leaves n
 
 if_leaves : {A : Type 0} (b : Bool) (l r : Read A) (n : ℕ) → Leaves l n → Leaves r n → Leaves (cond b l r) n
 if_leaves true l r n p q = p
@@ -71,10 +67,10 @@ skip_space-shorter (token ∷ tokens) = skip_space_of (is_space token) token tok
 
 required_token-leaves : {A : Type 0} (nesting : Nesting) (kind : Token → Option A) (other : SelectorError) (tokens : List Token) → Leaves (required_token nesting kind other tokens) (length tokens)
 unfolding required_token
-required_token-leaves nesting kind other [] = err_leaves errors.UnexpectedEnd 0
+required_token-leaves nesting kind other [] = err_leaves 0
 required_token-leaves {A} nesting kind other (token ∷ tokens) =
-    if_leaves (closes nesting token) (Err errors.UnexpectedEnd) (elim (kind token) [ None ↦ Err other | Some x ↦ Ok (x, tokens) ]) (length (token ∷ tokens)) (err_leaves errors.UnexpectedEnd (length (token ∷ tokens)))
-    (option_leaves (kind token) (Err other) (λ (x : A). Ok (x, tokens)) (length (token ∷ tokens)) (err_leaves other (length (token ∷ tokens))) (λ x. ok_leaves x tokens (length (token ∷ tokens)) (omega arith)))
+    if_leaves (closes nesting token) (refused errors.UnexpectedEnd (token ∷ tokens)) (elim (kind token) [ None ↦ refused other (token ∷ tokens) | Some x ↦ Ok (x, tokens) ]) (length (token ∷ tokens)) (err_leaves (length (token ∷ tokens)))
+    (option_leaves (kind token) (refused other (token ∷ tokens)) (λ (x : A). Ok (x, tokens)) (length (token ∷ tokens)) (err_leaves (length (token ∷ tokens))) (λ x. ok_leaves x tokens (length (token ∷ tokens)) (omega arith)))
 
 -- the same after white space
 required_after_space : {A : Type 0} (nesting : Nesting) (kind : Token → Option A) (other : SelectorError) (tokens : List Token) → Leaves (required_token nesting kind other (skip_space tokens)) (length tokens)
@@ -83,19 +79,19 @@ required_after_space nesting kind other tokens = weaker (required_token nesting 
 block_end-leaves : (nesting : Nesting) (tokens : List Token) → Leaves (block_end nesting tokens) (length tokens)
 unfolding block_end
 block_end-leaves nesting tokens =
-    if_leaves (at_end nesting (skip_space tokens)) (Ok (tt, drop 1 (skip_space tokens))) (Err errors.UnexpectedToken) (length tokens)
-    (ok_leaves tt (drop 1 (skip_space tokens)) (length tokens) (omega (arith, length-drop 1 (skip_space tokens), skip_space-shorter tokens))) (err_leaves errors.UnexpectedToken (length tokens))
+    if_leaves (at_end nesting (skip_space tokens)) (Ok (tt, drop 1 (skip_space tokens))) (refused errors.UnexpectedToken (skip_space tokens)) (length tokens)
+    (ok_leaves tt (drop 1 (skip_space tokens)) (length tokens) (omega (arith, length-drop 1 (skip_space tokens), skip_space-shorter tokens))) (err_leaves (length tokens))
 
 -- ---- An+B
 
 bounded_integer-leaves : (x : ℤ) (tokens : List Token) (n : ℕ) → length tokens ≤ n → Leaves (bounded_integer x tokens) n
 unfolding bounded_integer
-bounded_integer-leaves x tokens n l = if_leaves (in_i32 x) (Ok (x, tokens)) (Err errors.UnexpectedToken) n (ok_leaves x tokens n l) (err_leaves errors.UnexpectedToken n)
+bounded_integer-leaves x tokens n l = if_leaves (in_i32 x) (Ok (x, drop 1 tokens)) (refused errors.UnexpectedToken tokens) n (ok_leaves x (drop 1 tokens) n (omega (arith, l, length-drop 1 tokens))) (err_leaves n)
 
 digits_of_b-leaves : (sign : Sign) (tokens : List Token) → Leaves (digits_of_b sign tokens) (length tokens)
 unfolding digits_of_b
 digits_of_b-leaves sign tokens =
-    then_leaves (required_token InFunction unsigned_integer errors.UnexpectedToken (skip_space tokens)) (λ digits. bounded_integer (with_sign sign digits.0) digits.1) (length tokens) (length tokens) (required_after_space InFunction unsigned_integer errors.UnexpectedToken tokens) (λ x rest l. bounded_integer-leaves (with_sign sign x) rest (length tokens) l)
+    then_leaves (required_token InFunction unsigned_integer errors.UnexpectedToken (skip_space tokens)) (λ digits. bounded_integer (with_sign sign digits.0) (skip_space tokens)) (length tokens) (length tokens) (required_after_space InFunction unsigned_integer errors.UnexpectedToken tokens) (λ x rest l. bounded_integer-leaves (with_sign sign x) (skip_space tokens) (length tokens) (skip_space-shorter tokens))
 
 same_leaves : {A : Type 0} (x : A) (tokens : List Token) → Leaves {A = A} (Ok (x, tokens)) (length tokens)
 same_leaves x tokens = ok_leaves x tokens (length tokens) (omega arith)
@@ -105,11 +101,11 @@ longer read token tokens l = weaker read (length tokens) (length (token ∷ toke
 
 after_number-leaves : (n : Numeral) (tokens : List Token) (sign : Option Sign) → Leaves (elim sign [
   | None ↦ Ok (pos 0, Number n ∷ tokens)
-  | Some c ↦ elim (integer_value n) [ None ↦ Ok (pos 0, Number n ∷ tokens) | Some b ↦ bounded_integer b tokens ]
+  | Some c ↦ elim (integer_value n) [ None ↦ Ok (pos 0, Number n ∷ tokens) | Some b ↦ bounded_integer b (Number n ∷ tokens) ]
 ]) (length (Number n ∷ tokens))
 after_number-leaves n tokens None = same_leaves (pos 0) (Number n ∷ tokens)
 after_number-leaves n tokens (Some c) =
-    option_leaves (integer_value n) (Ok (pos 0, Number n ∷ tokens)) (λ b. bounded_integer b tokens) (length (Number n ∷ tokens)) (same_leaves (pos 0) (Number n ∷ tokens)) (λ b. bounded_integer-leaves b tokens (length (Number n ∷ tokens)) (omega arith))
+    option_leaves (integer_value n) (Ok (pos 0, Number n ∷ tokens)) (λ b. bounded_integer b (Number n ∷ tokens)) (length (Number n ∷ tokens)) (same_leaves (pos 0) (Number n ∷ tokens)) (λ b. bounded_integer-leaves b (Number n ∷ tokens) (length (Number n ∷ tokens)) (omega arith))
 
 after_n-leaves : (tokens : List Token) → Leaves (after_n tokens) (length tokens)
 unfolding after_n
@@ -131,54 +127,62 @@ after_n-leaves (Match c ∷ tokens) = same_leaves (pos 0) (Match c ∷ tokens)
 rest_of-leaves : (name : List ℕ) (tokens : List Token) → Leaves (rest_of name tokens) (length tokens)
 unfolding rest_of
 rest_of-leaves name tokens =
-    if_leaves (says (codes "n") name) (after_n (skip_space tokens)) (cond (says (codes "n-") name) (digits_of_b Minus tokens) (cond (is_n_and_digits name) (bounded_integer (with_sign Minus (decimal (drop 2 name))) tokens) (Err errors.UnexpectedToken))) (length tokens)
-    (weaker (after_n (skip_space tokens)) (length (skip_space tokens)) (length tokens) (after_n-leaves (skip_space tokens)) (skip_space-shorter tokens))
-    (if_leaves (says (codes "n-") name) (digits_of_b Minus tokens) (cond (is_n_and_digits name) (bounded_integer (with_sign Minus (decimal (drop 2 name))) tokens) (Err errors.UnexpectedToken)) (length tokens)
-    (digits_of_b-leaves Minus tokens)
-    (if_leaves (is_n_and_digits name) (bounded_integer (with_sign Minus (decimal (drop 2 name))) tokens) (Err errors.UnexpectedToken) (length tokens)
-    (bounded_integer-leaves (with_sign Minus (decimal (drop 2 name))) tokens (length tokens) (omega arith)) (err_leaves errors.UnexpectedToken (length tokens))))
+    let n = length tokens in
+    let digits = cond (is_n_and_digits name) (bounded_integer (with_sign Minus (decimal (drop 2 name))) tokens) (refused errors.UnexpectedToken tokens) in
+    if_leaves (says (codes "n") name) (after_n (skip_space (drop 1 tokens))) (cond (says (codes "n-") name) (digits_of_b Minus (drop 1 tokens)) digits) n
+    (weaker (after_n (skip_space (drop 1 tokens))) (length (skip_space (drop 1 tokens))) n (after_n-leaves (skip_space (drop 1 tokens))) (omega (arith, skip_space-shorter (drop 1 tokens), length-drop 1 tokens)))
+    (if_leaves (says (codes "n-") name) (digits_of_b Minus (drop 1 tokens)) digits n
+    (weaker (digits_of_b Minus (drop 1 tokens)) (length (drop 1 tokens)) n (digits_of_b-leaves Minus (drop 1 tokens)) (omega (arith, length-drop 1 tokens)))
+    (if_leaves (is_n_and_digits name) (bounded_integer (with_sign Minus (decimal (drop 2 name))) tokens) (refused errors.UnexpectedToken tokens) n
+    (bounded_integer-leaves (with_sign Minus (decimal (drop 2 name))) tokens n (omega arith)) (err_leaves n)))
 
 step-leaves : (a : ℤ) (name : List ℕ) (tokens : List Token) (n : ℕ) → length tokens ≤ n → Leaves (with_step a (rest_of name tokens)) n
 step-leaves a name tokens n l = giving_leaves (λ x. (a, x)) (rest_of name tokens) n (weaker (rest_of name tokens) (length tokens) n (rest_of-leaves name tokens) l)
 
 integer-leaves : (n : Numeral) (tokens : List Token) → Leaves (integer n tokens) (length tokens)
 unfolding integer
-integer-leaves n tokens = option_leaves (integer_value n) (Err errors.UnexpectedToken) (λ x. bounded_integer x tokens) (length tokens) (err_leaves errors.UnexpectedToken (length tokens)) (λ x. bounded_integer-leaves x tokens (length tokens) (omega arith))
+integer-leaves n tokens = option_leaves (integer_value n) (refused errors.UnexpectedToken tokens) (λ x. bounded_integer x tokens) (length tokens) (err_leaves (length tokens)) (λ x. bounded_integer-leaves x tokens (length tokens) (omega arith))
 
 an_plus_b_of_dimension-leaves : (n : Numeral) (unit : List ℕ) (tokens : List Token) → Leaves (an_plus_b_of_dimension n unit tokens) (length tokens)
 unfolding an_plus_b_of_dimension
 an_plus_b_of_dimension-leaves n unit tokens =
-    then_leaves (integer n tokens) (λ step. with_step step.0 (rest_of unit step.1)) (length tokens) (length tokens) (integer-leaves n tokens) (λ x rest l. step-leaves x unit rest (length tokens) l)
+    then_leaves (integer n tokens) (λ step. with_step step.0 (rest_of unit tokens)) (length tokens) (length tokens) (integer-leaves n tokens) (λ x rest l. step-leaves x unit tokens (length tokens) (omega arith))
 
 an_plus_b_of-leaves : (token : Token) (tokens : List Token) → Leaves (an_plus_b_of token tokens) (length tokens)
 unfolding an_plus_b_of
 an_plus_b_of-leaves (Ident name) tokens =
-    if_leaves (says (codes "even") name) (Ok ((pos 2, pos 0), tokens)) (cond (says (codes "odd") name) (Ok ((pos 2, pos 1), tokens)) (cond (first_passes (is (byte "-")) name) (with_step (with_sign Minus 1) (rest_of (drop 1 name) tokens)) (with_step (pos 1) (rest_of name tokens)))) (length tokens)
-    (same_leaves (pos 2, pos 0) tokens)
-    (if_leaves (says (codes "odd") name) (Ok ((pos 2, pos 1), tokens)) (cond (first_passes (is (byte "-")) name) (with_step (with_sign Minus 1) (rest_of (drop 1 name) tokens)) (with_step (pos 1) (rest_of name tokens))) (length tokens)
-    (same_leaves (pos 2, pos 1) tokens)
-    (if_leaves (first_passes (is (byte "-")) name) (with_step (with_sign Minus 1) (rest_of (drop 1 name) tokens)) (with_step (pos 1) (rest_of name tokens)) (length tokens)
-    (step-leaves (with_sign Minus 1) (drop 1 name) tokens (length tokens) (omega arith)) (step-leaves (pos 1) name tokens (length tokens) (omega arith))))
+    let n = length tokens in
+    let other = cond (first_passes (is (byte "-")) name) (with_step (with_sign Minus 1) (rest_of (drop 1 name) tokens)) (with_step (pos 1) (rest_of name tokens)) in
+    if_leaves (says (codes "even") name) (Ok ((pos 2, pos 0), drop 1 tokens)) (cond (says (codes "odd") name) (Ok ((pos 2, pos 1), drop 1 tokens)) other) n
+    (ok_leaves (pos 2, pos 0) (drop 1 tokens) n (omega (arith, length-drop 1 tokens)))
+    (if_leaves (says (codes "odd") name) (Ok ((pos 2, pos 1), drop 1 tokens)) other n
+    (ok_leaves (pos 2, pos 1) (drop 1 tokens) n (omega (arith, length-drop 1 tokens)))
+    (if_leaves (first_passes (is (byte "-")) name) (with_step (with_sign Minus 1) (rest_of (drop 1 name) tokens)) (with_step (pos 1) (rest_of name tokens)) n
+    (step-leaves (with_sign Minus 1) (drop 1 name) tokens n (omega arith)) (step-leaves (pos 1) name tokens n (omega arith))))
 an_plus_b_of-leaves (Number n) tokens = giving_leaves (λ x. (pos 0, x)) (integer n tokens) (length tokens) (integer-leaves n tokens)
 an_plus_b_of-leaves (Dimension n unit) tokens = an_plus_b_of_dimension-leaves n unit tokens
 an_plus_b_of-leaves (Delim c) tokens =
-    if_leaves (eqb c (byte "+")) (required_token InFunction ident_of errors.UnexpectedToken tokens >>= λ name. with_step (pos 1) (rest_of name.0 name.1)) (Err errors.UnexpectedToken) (length tokens)
-    (then_leaves (required_token InFunction ident_of errors.UnexpectedToken tokens) (λ name. with_step (pos 1) (rest_of name.0 name.1)) (length tokens) (length tokens) (required_token-leaves InFunction ident_of errors.UnexpectedToken tokens) (λ name rest l. step-leaves (pos 1) name rest (length tokens) l)) (err_leaves errors.UnexpectedToken (length tokens))
-an_plus_b_of-leaves Space tokens = err_leaves errors.UnexpectedToken (length tokens)
-an_plus_b_of-leaves (Quoted text) tokens = err_leaves errors.UnexpectedToken (length tokens)
-an_plus_b_of-leaves BadString tokens = err_leaves errors.UnexpectedToken (length tokens)
-an_plus_b_of-leaves (Hash name is_id) tokens = err_leaves errors.UnexpectedToken (length tokens)
-an_plus_b_of-leaves Percentage tokens = err_leaves errors.UnexpectedToken (length tokens)
-an_plus_b_of-leaves Cdc tokens = err_leaves errors.UnexpectedToken (length tokens)
-an_plus_b_of-leaves (Function name) tokens = err_leaves errors.UnexpectedToken (length tokens)
-an_plus_b_of-leaves (Match c) tokens = err_leaves errors.UnexpectedToken (length tokens)
+    let n = length tokens in
+    let name = required_token InFunction ident_of errors.UnexpectedToken (drop 1 tokens) in
+    if_leaves (eqb c (byte "+")) (name >>= λ x. with_step (pos 1) (rest_of x.0 (drop 1 tokens))) (refused errors.UnexpectedToken tokens) n
+    (then_leaves name (λ x. with_step (pos 1) (rest_of x.0 (drop 1 tokens))) (length (drop 1 tokens)) n (required_token-leaves InFunction ident_of errors.UnexpectedToken (drop 1 tokens)) (λ x rest l. step-leaves (pos 1) x (drop 1 tokens) n (omega (arith, length-drop 1 tokens)))) (err_leaves n)
+an_plus_b_of-leaves Space tokens = err_leaves (length tokens)
+an_plus_b_of-leaves (Quoted text) tokens = err_leaves (length tokens)
+an_plus_b_of-leaves BadString tokens = err_leaves (length tokens)
+an_plus_b_of-leaves (Hash name is_id) tokens = err_leaves (length tokens)
+an_plus_b_of-leaves Percentage tokens = err_leaves (length tokens)
+an_plus_b_of-leaves Cdc tokens = err_leaves (length tokens)
+an_plus_b_of-leaves (Function name) tokens = err_leaves (length tokens)
+an_plus_b_of-leaves (Match c) tokens = err_leaves (length tokens)
 
 an_plus_b-leaves : (tokens : List Token) → Leaves (an_plus_b tokens) (length tokens)
 unfolding an_plus_b
 an_plus_b-leaves tokens =
-    then_leaves (required_token InFunction (λ t. Some t) errors.UnexpectedToken (skip_space tokens)) (λ token. an_plus_b_of token.0 token.1 >>= λ nth. block_end InFunction nth.1 >>= λ end. Ok (nth.0, end.1)) (length tokens) (length tokens) (required_after_space InFunction (λ t. Some t) errors.UnexpectedToken tokens)
-    (λ token rest l. then_leaves (an_plus_b_of token rest) (λ nth. block_end InFunction nth.1 >>= λ end. Ok (nth.0, end.1)) (length tokens) (length tokens) (weaker (an_plus_b_of token rest) (length rest) (length tokens) (an_plus_b_of-leaves token rest) l)
-    (λ nth rest2 l2. then_leaves (block_end InFunction rest2) (λ end. Ok (nth, end.1)) (length tokens) (length tokens) (weaker (block_end InFunction rest2) (length rest2) (length tokens) (block_end-leaves InFunction rest2) l2) (λ end rest3 l3. ok_leaves nth rest3 (length tokens) l3)))
+    let n = length tokens in
+    let from = skip_space tokens in
+    then_leaves (required_token InFunction (λ t. Some t) errors.UnexpectedToken from) (λ token. an_plus_b_of token.0 from >>= λ nth. block_end InFunction nth.1 >>= λ end. Ok (nth.0, end.1)) n n (required_after_space InFunction (λ t. Some t) errors.UnexpectedToken tokens)
+    (λ token rest l. then_leaves (an_plus_b_of token from) (λ nth. block_end InFunction nth.1 >>= λ end. Ok (nth.0, end.1)) n n (weaker (an_plus_b_of token from) (length from) n (an_plus_b_of-leaves token from) (skip_space-shorter tokens))
+    (λ nth rest2 l2. then_leaves (block_end InFunction rest2) (λ end. Ok (nth, end.1)) n n (weaker (block_end InFunction rest2) (length rest2) n (block_end-leaves InFunction rest2) l2) (λ end rest3 l3. ok_leaves nth rest3 n l3)))
 
 -- ---- attributes
 
@@ -189,29 +193,29 @@ after_bar_name-leaves any tokens n l =
 
 attribute_name-leaves : (tokens : List Token) → Leaves (attribute_name tokens) (length tokens)
 unfolding attribute_name
-attribute_name-leaves [] = err_leaves errors.UnexpectedEnd 0
+attribute_name-leaves [] = err_leaves 0
 attribute_name-leaves (Ident name ∷ tokens) =
-    if_leaves (first_passes (is_delim (byte "|")) tokens) (Err errors.NamespacedSelector) (Ok ((name, false), tokens)) (length (Ident name ∷ tokens)) (err_leaves errors.NamespacedSelector (length (Ident name ∷ tokens))) (ok_leaves (name, false) tokens (length (Ident name ∷ tokens)) (omega arith))
+    if_leaves (first_passes (is_delim (byte "|")) tokens) (refused errors.NamespacedSelector tokens) (Ok ((name, false), tokens)) (length (Ident name ∷ tokens)) (err_leaves (length (Ident name ∷ tokens))) (ok_leaves (name, false) tokens (length (Ident name ∷ tokens)) (omega arith))
 attribute_name-leaves (Delim c ∷ tokens) =
     let n = length (Delim c ∷ tokens) in
     let any = required_token InBrackets bar_of errors.UnexpectedTokenInAttribute tokens >>= λ bar. name_after_bar true bar.1 in
-    if_leaves (eqb c (byte "]")) (Err errors.UnexpectedEnd) (cond (eqb c (byte "|")) (name_after_bar false tokens) (cond (eqb c (byte "*")) any (Err errors.MissingAttributeName))) n
-    (err_leaves errors.UnexpectedEnd n)
-    (if_leaves (eqb c (byte "|")) (name_after_bar false tokens) (cond (eqb c (byte "*")) any (Err errors.MissingAttributeName)) n
+    if_leaves (eqb c (byte "]")) (refused errors.UnexpectedEnd (Delim c ∷ tokens)) (cond (eqb c (byte "|")) (name_after_bar false tokens) (cond (eqb c (byte "*")) any (refused errors.MissingAttributeName (Delim c ∷ tokens)))) n
+    (err_leaves n)
+    (if_leaves (eqb c (byte "|")) (name_after_bar false tokens) (cond (eqb c (byte "*")) any (refused errors.MissingAttributeName (Delim c ∷ tokens))) n
     (after_bar_name-leaves false tokens n (omega arith))
-    (if_leaves (eqb c (byte "*")) any (Err errors.MissingAttributeName) n
+    (if_leaves (eqb c (byte "*")) any (refused errors.MissingAttributeName (Delim c ∷ tokens)) n
     (then_leaves (required_token InBrackets bar_of errors.UnexpectedTokenInAttribute tokens) (λ bar. name_after_bar true bar.1) (length tokens) n (required_token-leaves InBrackets bar_of errors.UnexpectedTokenInAttribute tokens) (λ bar rest l. after_bar_name-leaves true rest n (omega arith)))
-    (err_leaves errors.MissingAttributeName n)))
-attribute_name-leaves (Space ∷ tokens) = err_leaves errors.MissingAttributeName (length (Space ∷ tokens))
-attribute_name-leaves (Quoted text ∷ tokens) = err_leaves errors.MissingAttributeName (length (Quoted text ∷ tokens))
-attribute_name-leaves (BadString ∷ tokens) = err_leaves errors.MissingAttributeName (length (BadString ∷ tokens))
-attribute_name-leaves (Hash name is_id ∷ tokens) = err_leaves errors.MissingAttributeName (length (Hash name is_id ∷ tokens))
-attribute_name-leaves (Number n ∷ tokens) = err_leaves errors.MissingAttributeName (length (Number n ∷ tokens))
-attribute_name-leaves (Dimension n unit ∷ tokens) = err_leaves errors.MissingAttributeName (length (Dimension n unit ∷ tokens))
-attribute_name-leaves (Percentage ∷ tokens) = err_leaves errors.MissingAttributeName (length (Percentage ∷ tokens))
-attribute_name-leaves (Cdc ∷ tokens) = err_leaves errors.MissingAttributeName (length (Cdc ∷ tokens))
-attribute_name-leaves (Function name ∷ tokens) = err_leaves errors.MissingAttributeName (length (Function name ∷ tokens))
-attribute_name-leaves (Match c ∷ tokens) = err_leaves errors.MissingAttributeName (length (Match c ∷ tokens))
+    (err_leaves n)))
+attribute_name-leaves (Space ∷ tokens) = err_leaves (length (Space ∷ tokens))
+attribute_name-leaves (Quoted text ∷ tokens) = err_leaves (length (Quoted text ∷ tokens))
+attribute_name-leaves (BadString ∷ tokens) = err_leaves (length (BadString ∷ tokens))
+attribute_name-leaves (Hash name is_id ∷ tokens) = err_leaves (length (Hash name is_id ∷ tokens))
+attribute_name-leaves (Number n ∷ tokens) = err_leaves (length (Number n ∷ tokens))
+attribute_name-leaves (Dimension n unit ∷ tokens) = err_leaves (length (Dimension n unit ∷ tokens))
+attribute_name-leaves (Percentage ∷ tokens) = err_leaves (length (Percentage ∷ tokens))
+attribute_name-leaves (Cdc ∷ tokens) = err_leaves (length (Cdc ∷ tokens))
+attribute_name-leaves (Function name ∷ tokens) = err_leaves (length (Function name ∷ tokens))
+attribute_name-leaves (Match c ∷ tokens) = err_leaves (length (Match c ∷ tokens))
 
 case_sensitivity-leaves : (name : List ℕ) (tokens : List Token) → Leaves (case_sensitivity name tokens) (length tokens)
 unfolding case_sensitivity
@@ -251,59 +255,73 @@ attribute-leaves tokens =
 class_name-leaves : (nesting : Nesting) (tokens : List Token) → Leaves (class_name nesting tokens) (length tokens)
 unfolding class_name
 class_name-leaves nesting tokens =
-    if_leaves (at_stop nesting tokens) (Err errors.UnexpectedEnd) (giving (λ name. Class (utf8 name)) (required_token nesting ident_of errors.InvalidClassName tokens)) (length tokens) (err_leaves errors.UnexpectedEnd (length tokens))
+    if_leaves (at_stop nesting tokens) (refused errors.UnexpectedEnd tokens) (giving (λ name. Class (utf8 name)) (required_token nesting ident_of errors.InvalidClassName tokens)) (length tokens) (err_leaves (length tokens))
     (giving_leaves (λ name. Class (utf8 name)) (required_token nesting ident_of errors.InvalidClassName tokens) (length tokens) (required_token-leaves nesting ident_of errors.InvalidClassName tokens))
 
 function_part-leaves : (name : List ℕ) (tokens : List Token) → Leaves (function_part name tokens) (length tokens)
 unfolding function_part
 function_part-leaves name tokens =
     let n = length tokens in
-    let late = cond (is_one_of (codes "nth-last-child" ∷ codes "nth-last-of-type" ∷ []) name) (giving (λ nth. LatePseudoClass) (an_plus_b tokens)) (Err errors.UnsupportedPseudoClassOrElement) in
-    if_leaves (says (codes "nth-child") name) (giving (λ nth. Plain (Nth false nth.0 nth.1)) (an_plus_b tokens)) (cond (says (codes "nth-of-type") name) (giving (λ nth. Plain (Nth true nth.0 nth.1)) (an_plus_b tokens)) late) n
-    (giving_leaves (λ nth. Plain (Nth false nth.0 nth.1)) (an_plus_b tokens) n (an_plus_b-leaves tokens))
-    (if_leaves (says (codes "nth-of-type") name) (giving (λ nth. Plain (Nth true nth.0 nth.1)) (an_plus_b tokens)) late n
-    (giving_leaves (λ nth. Plain (Nth true nth.0 nth.1)) (an_plus_b tokens) n (an_plus_b-leaves tokens))
-    (if_leaves (is_one_of (codes "nth-last-child" ∷ codes "nth-last-of-type" ∷ []) name) (giving (λ nth. LatePseudoClass) (an_plus_b tokens)) (Err errors.UnsupportedPseudoClassOrElement) n
-    (giving_leaves (λ nth. LatePseudoClass) (an_plus_b tokens) n (an_plus_b-leaves tokens)) (err_leaves errors.UnsupportedPseudoClassOrElement n)))
+    let nth = an_plus_b (drop 1 tokens) in
+    let less : Leaves (an_plus_b (drop 1 tokens)) n = weaker (an_plus_b (drop 1 tokens)) (length (drop 1 tokens)) n (an_plus_b-leaves (drop 1 tokens)) (omega (arith, length-drop 1 tokens)) in
+    let late = cond (is_one_of (codes "nth-last-child" ∷ codes "nth-last-of-type" ∷ []) name) (giving (λ x. LatePseudoClass) nth) (refused errors.UnsupportedPseudoClassOrElement tokens) in
+    if_leaves (says (codes "nth-child") name) (giving (λ x. Plain (Nth false x.0 x.1)) nth) (cond (says (codes "nth-of-type") name) (giving (λ x. Plain (Nth true x.0 x.1)) nth) late) n
+    (giving_leaves (λ x. Plain (Nth false x.0 x.1)) nth n less)
+    (if_leaves (says (codes "nth-of-type") name) (giving (λ x. Plain (Nth true x.0 x.1)) nth) late n
+    (giving_leaves (λ x. Plain (Nth true x.0 x.1)) nth n less)
+    (if_leaves (is_one_of (codes "nth-last-child" ∷ codes "nth-last-of-type" ∷ []) name) (giving (λ x. LatePseudoClass) nth) (refused errors.UnsupportedPseudoClassOrElement tokens) n
+    (giving_leaves (λ x. LatePseudoClass) nth n less) (err_leaves n)))
+
+ident_part-leaves : (name : List ℕ) (tokens : List Token) → Leaves (ident_part name tokens) (length tokens)
+unfolding ident_part
+ident_part-leaves name tokens =
+    let n = length tokens in
+    let less : length (drop 1 tokens) ≤ n = omega (arith, length-drop 1 tokens) in
+    let late = cond (is_one_of late_words name) (Ok (LatePseudoClass, drop 1 tokens)) (refused errors.UnsupportedPseudoClassOrElement tokens) in
+    if_leaves (says (codes "first-child") name) (Ok (Plain (Nth false (pos 0) (pos 1)), drop 1 tokens)) (cond (says (codes "first-of-type") name) (Ok (Plain (Nth true (pos 0) (pos 1)), drop 1 tokens)) late) n
+    (ok_leaves (Plain (Nth false (pos 0) (pos 1))) (drop 1 tokens) n less)
+    (if_leaves (says (codes "first-of-type") name) (Ok (Plain (Nth true (pos 0) (pos 1)), drop 1 tokens)) late n
+    (ok_leaves (Plain (Nth true (pos 0) (pos 1))) (drop 1 tokens) n less)
+    (if_leaves (is_one_of late_words name) (Ok (LatePseudoClass, drop 1 tokens)) (refused errors.UnsupportedPseudoClassOrElement tokens) n (ok_leaves LatePseudoClass (drop 1 tokens) n less) (err_leaves n)))
 
 -- the list of a logical combination leaves no more than it is given
 pub record InnerLeaves (inner : List Token → Read DraftItems) : Type 0 where
   pub each : (tokens : List Token) → Leaves (inner tokens) (length tokens)
 
-refused_leaves : {A : Type 0} (b : Bool) (n : ℕ) → Leaves {A = A} (cond b (Err errors.UnexpectedEnd) (Err errors.UnsupportedPseudoClassOrElement)) n
-refused_leaves true n = err_leaves errors.UnexpectedEnd n
-refused_leaves false n = err_leaves errors.UnsupportedPseudoClassOrElement n
-
-pseudo_of-leaves : (inner : List Token → Read DraftItems) → InnerLeaves inner → (nesting : Nesting) (token : Token) (tokens : List Token) → Leaves (elim token [
-  | Ident name ↦ keeping (ident_part name) tokens
+pseudo_of-leaves : (inner : List Token → Read DraftItems) → InnerLeaves inner → (nesting : Nesting) (token : Token) (tokens : List Token) → Leaves {A = DraftPart} (elim token [
+  | Ident name ↦ ident_part name (Ident name ∷ tokens)
   | Function name ↦ elim (combination_named name) [
-    | None ↦ function_part name tokens
+    | None ↦ function_part name (Function name ∷ tokens)
     | Some combination ↦ giving (Logical combination) (inner tokens)
   ]
-  | Delim c ↦ cond (eqb c (byte ":") && at_stop nesting tokens) (Err errors.UnexpectedEnd) (Err errors.UnsupportedPseudoClassOrElement)
-  | _ ↦ Err errors.UnsupportedPseudoClassOrElement
+  | Delim c ↦ cond (eqb c (byte ":")) (cond (at_stop nesting tokens) (refused errors.UnexpectedEnd tokens) (refused errors.UnsupportedPseudoClassOrElement tokens)) (refused errors.UnsupportedPseudoClassOrElement (Delim c ∷ tokens))
+  | other ↦ refused errors.UnsupportedPseudoClassOrElement (other ∷ tokens)
 ]) (length (token ∷ tokens))
-pseudo_of-leaves inner h nesting (Ident name) tokens = keeping_leaves (ident_part name) tokens (length (Ident name ∷ tokens)) (omega arith)
+pseudo_of-leaves inner h nesting (Ident name) tokens = ident_part-leaves name (Ident name ∷ tokens)
 pseudo_of-leaves inner h nesting (Function name) tokens =
-    option_leaves (combination_named name) (function_part name tokens) (λ combination. giving (λ items. Logical combination items) (inner tokens)) (length (Function name ∷ tokens))
-    (longer (function_part name tokens) (Function name) tokens (function_part-leaves name tokens))
+    option_leaves (combination_named name) (function_part name (Function name ∷ tokens)) (λ combination. giving (λ items. Logical combination items) (inner tokens)) (length (Function name ∷ tokens))
+    (function_part-leaves name (Function name ∷ tokens))
     (λ combination. giving_leaves (λ items. Logical combination items) (inner tokens) (length (Function name ∷ tokens)) (longer (inner tokens) (Function name) tokens (h.each tokens)))
-pseudo_of-leaves inner h nesting (Delim c) tokens = refused_leaves (eqb c (byte ":") && at_stop nesting tokens) (length (Delim c ∷ tokens))
-pseudo_of-leaves inner h nesting Space tokens = err_leaves errors.UnsupportedPseudoClassOrElement (length (Space ∷ tokens))
-pseudo_of-leaves inner h nesting (Quoted text) tokens = err_leaves errors.UnsupportedPseudoClassOrElement (length (Quoted text ∷ tokens))
-pseudo_of-leaves inner h nesting BadString tokens = err_leaves errors.UnsupportedPseudoClassOrElement (length (BadString ∷ tokens))
-pseudo_of-leaves inner h nesting (Hash name is_id) tokens = err_leaves errors.UnsupportedPseudoClassOrElement (length (Hash name is_id ∷ tokens))
-pseudo_of-leaves inner h nesting (Number n) tokens = err_leaves errors.UnsupportedPseudoClassOrElement (length (Number n ∷ tokens))
-pseudo_of-leaves inner h nesting (Dimension n unit) tokens = err_leaves errors.UnsupportedPseudoClassOrElement (length (Dimension n unit ∷ tokens))
-pseudo_of-leaves inner h nesting Percentage tokens = err_leaves errors.UnsupportedPseudoClassOrElement (length (Percentage ∷ tokens))
-pseudo_of-leaves inner h nesting Cdc tokens = err_leaves errors.UnsupportedPseudoClassOrElement (length (Cdc ∷ tokens))
-pseudo_of-leaves inner h nesting (Match c) tokens = err_leaves errors.UnsupportedPseudoClassOrElement (length (Match c ∷ tokens))
+pseudo_of-leaves inner h nesting (Delim c) tokens =
+    let n = length (Delim c ∷ tokens) in
+    let element = cond (at_stop nesting tokens) (refused errors.UnexpectedEnd tokens) (refused errors.UnsupportedPseudoClassOrElement tokens) in
+    if_leaves (eqb c (byte ":")) element (refused errors.UnsupportedPseudoClassOrElement (Delim c ∷ tokens)) n
+    (if_leaves (at_stop nesting tokens) (refused errors.UnexpectedEnd tokens) (refused errors.UnsupportedPseudoClassOrElement tokens) n (err_leaves n) (err_leaves n)) (err_leaves n)
+pseudo_of-leaves inner h nesting Space tokens = err_leaves (length (Space ∷ tokens))
+pseudo_of-leaves inner h nesting (Quoted text) tokens = err_leaves (length (Quoted text ∷ tokens))
+pseudo_of-leaves inner h nesting BadString tokens = err_leaves (length (BadString ∷ tokens))
+pseudo_of-leaves inner h nesting (Hash name is_id) tokens = err_leaves (length (Hash name is_id ∷ tokens))
+pseudo_of-leaves inner h nesting (Number n) tokens = err_leaves (length (Number n ∷ tokens))
+pseudo_of-leaves inner h nesting (Dimension n unit) tokens = err_leaves (length (Dimension n unit ∷ tokens))
+pseudo_of-leaves inner h nesting Percentage tokens = err_leaves (length (Percentage ∷ tokens))
+pseudo_of-leaves inner h nesting Cdc tokens = err_leaves (length (Cdc ∷ tokens))
+pseudo_of-leaves inner h nesting (Match c) tokens = err_leaves (length (Match c ∷ tokens))
 
 pseudo-leaves : (inner : List Token → Read DraftItems) → InnerLeaves inner → (nesting : Nesting) (tokens : List Token) → Leaves (pseudo inner nesting tokens) (length tokens)
 unfolding pseudo
-pseudo-leaves inner h nesting [] = err_leaves errors.UnexpectedEnd 0
+pseudo-leaves inner h nesting [] = err_leaves 0
 pseudo-leaves inner h nesting (token ∷ tokens) =
-    if_leaves (at_stop nesting (token ∷ tokens)) (Err errors.UnexpectedEnd) _ (length (token ∷ tokens)) (err_leaves errors.UnexpectedEnd (length (token ∷ tokens))) (pseudo_of-leaves inner h nesting token tokens)
+    if_leaves (at_stop nesting (token ∷ tokens)) (refused errors.UnexpectedEnd (token ∷ tokens)) _ (length (token ∷ tokens)) (err_leaves (length (token ∷ tokens))) (pseudo_of-leaves inner h nesting token tokens)
 
 -- where a part was read, a token was
 pub record Takes (read : Read (Option DraftPart)) (n : ℕ) : Type 0 where
@@ -321,9 +339,6 @@ nothing_takes tokens = record {
       let s : nothing ≡ Some found = ap (λ (t : Option DraftPart × List Token). t.0) same in
       absurd cc;
 }
-
-err_takes : (cause : SelectorError) (n : ℕ) → Takes (Err cause) n
-err_takes cause n = record { all = λ rest e. absurd cc; taken = λ found rest e. absurd cc }
 
 -- after a token
 some_takes : {A : Type 0} (f : A → DraftPart) (read : Read A) (token : Token) (tokens : List Token) → Leaves read (length tokens) → Takes (giving (λ found. some (f found)) read) (length (token ∷ tokens))
@@ -380,24 +395,24 @@ parts-leaves (suc n) inner h nesting parts tokens =
     (λ x rest l. option_leaves x (Ok (parts, rest)) (λ found. parts_at_most n inner nesting (With parts found) rest) (length tokens) (ok_leaves parts rest (length tokens) l)
     (λ found. weaker (parts_at_most n inner nesting (With parts found) rest) (length rest) (length tokens) (parts-leaves n inner h nesting (With parts found) rest) l))
 
-after_bar_of-leaves : (token : Token) (tokens : List Token) → Leaves (elim token [
+after_bar_of-leaves : (token : Token) (tokens : List Token) → Leaves {A = Option Simple} (elim token [
   | Ident name ↦ Ok (Some (LocalName (utf8 name)), tokens)
-  | Delim c ↦ cond (eqb c (byte "*")) (Ok (Some AnyName, tokens)) (Err errors.UnexpectedToken)
-  | _ ↦ Err errors.UnexpectedToken
+  | Delim c ↦ cond (eqb c (byte "*")) (Ok (Some AnyName, tokens)) (refused errors.UnexpectedToken (Delim c ∷ tokens))
+  | other ↦ refused errors.UnexpectedToken (other ∷ tokens)
 ]) (length (token ∷ tokens))
 after_bar_of-leaves (Ident name) tokens = ok_leaves (Some (LocalName (utf8 name))) tokens (length (Ident name ∷ tokens)) (omega arith)
 after_bar_of-leaves (Delim c) tokens =
-    if_leaves (eqb c (byte "*")) (Ok (Some AnyName, tokens)) (Err errors.UnexpectedToken) (length (Delim c ∷ tokens)) (ok_leaves (Some AnyName) tokens (length (Delim c ∷ tokens)) (omega arith)) (err_leaves errors.UnexpectedToken (length (Delim c ∷ tokens)))
-after_bar_of-leaves Space tokens = err_leaves errors.UnexpectedToken (length (Space ∷ tokens))
-after_bar_of-leaves (Quoted text) tokens = err_leaves errors.UnexpectedToken (length (Quoted text ∷ tokens))
-after_bar_of-leaves BadString tokens = err_leaves errors.UnexpectedToken (length (BadString ∷ tokens))
-after_bar_of-leaves (Hash name is_id) tokens = err_leaves errors.UnexpectedToken (length (Hash name is_id ∷ tokens))
-after_bar_of-leaves (Number n) tokens = err_leaves errors.UnexpectedToken (length (Number n ∷ tokens))
-after_bar_of-leaves (Dimension n unit) tokens = err_leaves errors.UnexpectedToken (length (Dimension n unit ∷ tokens))
-after_bar_of-leaves Percentage tokens = err_leaves errors.UnexpectedToken (length (Percentage ∷ tokens))
-after_bar_of-leaves Cdc tokens = err_leaves errors.UnexpectedToken (length (Cdc ∷ tokens))
-after_bar_of-leaves (Function name) tokens = err_leaves errors.UnexpectedToken (length (Function name ∷ tokens))
-after_bar_of-leaves (Match c) tokens = err_leaves errors.UnexpectedToken (length (Match c ∷ tokens))
+    if_leaves (eqb c (byte "*")) (Ok (Some AnyName, tokens)) (refused errors.UnexpectedToken (Delim c ∷ tokens)) (length (Delim c ∷ tokens)) (ok_leaves (Some AnyName) tokens (length (Delim c ∷ tokens)) (omega arith)) (err_leaves (length (Delim c ∷ tokens)))
+after_bar_of-leaves Space tokens = err_leaves (length (Space ∷ tokens))
+after_bar_of-leaves (Quoted text) tokens = err_leaves (length (Quoted text ∷ tokens))
+after_bar_of-leaves BadString tokens = err_leaves (length (BadString ∷ tokens))
+after_bar_of-leaves (Hash name is_id) tokens = err_leaves (length (Hash name is_id ∷ tokens))
+after_bar_of-leaves (Number n) tokens = err_leaves (length (Number n ∷ tokens))
+after_bar_of-leaves (Dimension n unit) tokens = err_leaves (length (Dimension n unit ∷ tokens))
+after_bar_of-leaves Percentage tokens = err_leaves (length (Percentage ∷ tokens))
+after_bar_of-leaves Cdc tokens = err_leaves (length (Cdc ∷ tokens))
+after_bar_of-leaves (Function name) tokens = err_leaves (length (Function name ∷ tokens))
+after_bar_of-leaves (Match c) tokens = err_leaves (length (Match c ∷ tokens))
 
 after_bar-leaves : (nesting : Nesting) (tokens : List Token) → Leaves (after_bar nesting tokens) (length tokens)
 unfolding after_bar
@@ -409,7 +424,7 @@ type_part-leaves : (nesting : Nesting) (tokens : List Token) → Leaves (type_pa
 unfolding type_part
 type_part-leaves nesting [] = same_leaves (Some Nothing) []
 type_part-leaves nesting (Ident name ∷ tokens) =
-    if_leaves (first_passes (is_delim (byte "|")) tokens) (Err errors.NamespacedSelector) (Ok (Some (With Nothing (Plain (LocalName (utf8 name)))), tokens)) (length (Ident name ∷ tokens)) (err_leaves errors.NamespacedSelector (length (Ident name ∷ tokens))) (ok_leaves (Some (With Nothing (Plain (LocalName (utf8 name))))) tokens (length (Ident name ∷ tokens)) (omega arith))
+    if_leaves (first_passes (is_delim (byte "|")) tokens) (refused errors.NamespacedSelector tokens) (Ok (Some (With Nothing (Plain (LocalName (utf8 name)))), tokens)) (length (Ident name ∷ tokens)) (err_leaves (length (Ident name ∷ tokens))) (ok_leaves (Some (With Nothing (Plain (LocalName (utf8 name))))) tokens (length (Ident name ∷ tokens)) (omega arith))
 type_part-leaves nesting (Delim c ∷ tokens) =
     let n = length (Delim c ∷ tokens) in
     let any = giving (option_map any_namespace) (after_bar nesting (drop 1 tokens)) in
@@ -437,20 +452,20 @@ unfolding compound
 compound-leaves inner h nesting empty tokens =
     let n = length tokens in
     then_leaves (type_part nesting tokens) (λ type. elim type.0 [
-      | None ↦ Err empty
-      | Some start ↦ more_parts inner nesting start type.1 >>= λ parts. cond (is_nothing parts.0) (Err empty) (Ok parts)
+      | None ↦ refused empty type.1
+      | Some start ↦ more_parts inner nesting start type.1 >>= λ parts. cond (is_nothing parts.0) (refused empty parts.1) (Ok parts)
     ]) n n (type_part-leaves nesting tokens)
-    (λ type rest l. option_leaves type (Err empty) (λ start. more_parts inner nesting start rest >>= λ parts. cond (is_nothing parts.0) (Err empty) (Ok parts)) n (err_leaves empty n)
-    (λ start. then_leaves (more_parts inner nesting start rest) (λ parts. cond (is_nothing parts.0) (Err empty) (Ok parts)) n n (weaker (more_parts inner nesting start rest) (length rest) n (parts-leaves (length rest) inner h nesting start rest) l)
-    (λ parts rest2 l2. if_leaves (is_nothing parts) (Err empty) (Ok (parts, rest2)) n (err_leaves empty n) (ok_leaves parts rest2 n l2))))
+    (λ type rest l. option_leaves type (refused empty rest) (λ start. more_parts inner nesting start rest >>= λ parts. cond (is_nothing parts.0) (refused empty parts.1) (Ok parts)) n (err_leaves n)
+    (λ start. then_leaves (more_parts inner nesting start rest) (λ parts. cond (is_nothing parts.0) (refused empty parts.1) (Ok parts)) n n (weaker (more_parts inner nesting start rest) (length rest) n (parts-leaves (length rest) inner h nesting start rest) l)
+    (λ parts rest2 l2. if_leaves (is_nothing parts) (refused empty rest2) (Ok (parts, rest2)) n (err_leaves n) (ok_leaves parts rest2 n l2))))
 
 step-token-leaves : (after_space : Bool) (tokens : List Token) → Leaves (step after_space tokens) (length tokens)
 unfolding step
-step-token-leaves after_space [] = err_leaves errors.UnexpectedToken 0
+step-token-leaves after_space [] = err_leaves 0
 step-token-leaves after_space (token ∷ tokens) =
     let n = length (token ∷ tokens) in
-    option_leaves (step_of token) (cond after_space (Ok (By Descendant, token ∷ tokens)) (Err errors.UnexpectedToken)) (λ found. Ok (found, skip_space tokens)) n
-    (if_leaves after_space (Ok (By Descendant, token ∷ tokens)) (Err errors.UnexpectedToken) n (same_leaves (By Descendant) (token ∷ tokens)) (err_leaves errors.UnexpectedToken n))
+    option_leaves (step_of token) (cond after_space (Ok (By Descendant, token ∷ tokens)) (refused errors.UnexpectedToken (token ∷ tokens))) (λ found. Ok (found, skip_space tokens)) n
+    (if_leaves after_space (Ok (By Descendant, token ∷ tokens)) (refused errors.UnexpectedToken (token ∷ tokens)) n (same_leaves (By Descendant) (token ∷ tokens)) (err_leaves n))
     (λ found. ok_leaves found (skip_space tokens) n (omega (arith, skip_space-shorter tokens)))
 
 next_step-leaves : (nesting : Nesting) (tokens : List Token) → Leaves (next_step nesting tokens) (length tokens)
@@ -465,8 +480,8 @@ further-leaves : (room : ℕ) (inner : List Token → Read DraftItems) → Inner
 unfolding further
 further-leaves zero inner h nesting front tokens =
     let n = length tokens in
-    then_leaves (next_step nesting tokens) (λ found. elim found.0 [ None ↦ Ok (front, found.1) | Some step ↦ Err errors.UnsupportedSyntax ]) n n (next_step-leaves nesting tokens)
-    (λ found rest l. option_leaves found (Ok (front, rest)) (λ step. Err errors.UnsupportedSyntax) n (ok_leaves front rest n l) (λ step. err_leaves errors.UnsupportedSyntax n))
+    then_leaves (next_step nesting tokens) (λ found. elim found.0 [ None ↦ Ok (front, found.1) | Some step ↦ refused errors.UnsupportedSyntax found.1 ]) n n (next_step-leaves nesting tokens)
+    (λ found rest l. option_leaves found (Ok (front, rest)) (λ step. refused errors.UnsupportedSyntax rest) n (ok_leaves front rest n l) (λ step. err_leaves n))
 further-leaves (suc room) inner h nesting front tokens =
     let n = length tokens in
     then_leaves (next_step nesting tokens) (λ found. elim found.0 [ None ↦ Ok (front, found.1) | Some step ↦ compound inner nesting errors.DanglingCombinator found.1 >>= λ next. further room inner nesting (Then front step next.0) next.1 ]) n n (next_step-leaves nesting tokens)
@@ -502,7 +517,7 @@ list-leaves inner h nesting tokens =
 
 inner_list_leaves : (room : ℕ) (tokens : List Token) → Leaves (inner_list room tokens) (length tokens)
 unfolding inner_list
-inner_list_leaves zero tokens = err_leaves errors.UnsupportedSyntax (length tokens)
+inner_list_leaves zero tokens = err_leaves (length tokens)
 inner_list_leaves (suc room) tokens = list-leaves (inner_list room) (record { each = inner_list_leaves room }) InFunction tokens
 
 pub inner_list-leaves : (room : ℕ) → InnerLeaves (inner_list room)

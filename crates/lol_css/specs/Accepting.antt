@@ -4,7 +4,7 @@ use Rattle.std.specs.Str.{chars, byte}
 use Rattle.lol_css.specs.Tokens.{tokens}
 use Rattle.lol_css.specs.Trees as trees
 use Rattle.lol_css.specs.Drafts.{Step, By, NextSibling, SubsequentSibling, DraftPart, Plain, LatePseudoClass, LateNamespace, Logical, DraftCompound, Nothing, With, DraftItem, First, Then, DraftItems, NoItems, And}
-use Rattle.lol_css.specs.Rules.{◌>>=◌}
+use Rattle.lol_css.specs.Rules.{Refusal, ◌>>=◌}
 use Rattle.lol_css.specs.Reading.{selector}
 use Rattle.lol_css.specs.declared.selector.Combinator.{Combinator}
 use Rattle.lol_css.specs.declared.selectors.logical.LogicalCombination.{LogicalCombination}
@@ -56,6 +56,11 @@ unfoldable mutual
     last ← judged_item inside item
     Ok (trees.And items last)
 
+-- the cause of a refusal
+abbrev pub with_cause : {A : Type 0} → Result A Refusal → Result A SelectorError
+with_cause (Ok x) = Ok x
+with_cause (Err refusal) = Err refusal.cause
+
 -- what the bytes of a text stand for: a selector, or the one cause for which it is refused
 unfoldable pub accept : List ℕ → Result trees.Items SelectorError
-accept text = selector (tokens (chars text)) >>= λ read. judged false read.0
+accept text = with_cause (selector (tokens (chars text))) >>= λ read. judged false read.0

@@ -1,12 +1,12 @@
 -- An+B: the tokens between the parentheses of `:nth-child(` and its kin (CSS Syntax 3, section 6.2).
 -- Departures: A and B lie in i32, and each refusal has a cause.
-use Rattle.std.specs.Prelude.{ℕ, Bool, ◌&&◌, ◌==◌, nat_le, if◌then◌else◌, List, [], ◌∷◌, drop, take, Option, Some, None, Ok, Err, ℤ, pos, negsuc, neg_ℤ, unwrap_or, codes}
+use Rattle.std.specs.Prelude.{ℕ, Bool, ◌&&◌, ◌==◌, nat_le, if◌then◌else◌, List, [], ◌∷◌, drop, take, Option, Some, None, Ok, ℤ, pos, negsuc, neg_ℤ, unwrap_or, codes}
 use Rattle.std.specs.List.{list_all}
 use Rattle.std.specs.Option.{option_map}
 use Rattle.std.specs.Str.{byte}
 use Rattle.lol_css.specs.Points.{is, first_passes, is_decimal, decimal}
 use Rattle.lol_css.specs.Tokens.{Token, Numeral, sign_of, Number, Dimension, Ident, Delim}
-use Rattle.lol_css.specs.Rules.{Read, ◌>>=◌, giving, skip_space, InFunction, required_token, block_end, says, ident_of}
+use Rattle.lol_css.specs.Rules.{Read, refused, ◌>>=◌, giving, skip_space, InFunction, required_token, block_end, says, ident_of}
 use Rattle.lol_css.specs.declared.syntax.tokens.Sign.{Sign}
 use Rattle.lol_css.specs.declared.syntax.tokens.Sign.TheVariants.{Plus, Minus}
 use Rattle.lol_css.specs.declared.error.SelectorError.TheVariants.{UnexpectedToken}
@@ -29,15 +29,15 @@ abbrev pub in_i32 : ℤ → Bool
 in_i32 (pos n) = nat_le n 2147483647
 in_i32 (negsuc n) = nat_le n 2147483647
 
--- A or B, which was just read
+-- A or B, which the first token writes, or ends
 unfoldable pub bounded_integer : ℤ → List Token → Read ℤ
-bounded_integer x tokens = if in_i32 x then Ok (x, tokens) else Err UnexpectedToken
+bounded_integer x tokens = if in_i32 x then Ok (x, drop 1 tokens) else refused UnexpectedToken tokens
 
 -- white space and a number without a sign, of which B is made
 unfoldable pub digits_of_b : Sign → List Token → Read ℤ
 digits_of_b sign tokens = do
   digits ← required_token InFunction unsigned_integer UnexpectedToken (skip_space tokens)
-  bounded_integer (with_sign sign digits.0) digits.1
+  bounded_integer (with_sign sign digits.0) (skip_space tokens)
 
 -- B after `n` and white space: a sign and a number, a number with a sign, or nothing
 unfoldable pub after_n : List Token → Read ℤ
@@ -46,7 +46,7 @@ after_n (Delim c ∷ tokens) = elim (sign_of c) [ None ↦ Ok (pos 0, Delim c �
 after_n (Number n ∷ tokens) =
     elim n.sign [
       | None ↦ Ok (pos 0, Number n ∷ tokens)
-      | Some sign ↦ elim (integer_value n) [ None ↦ Ok (pos 0, Number n ∷ tokens) | Some b ↦ bounded_integer b tokens ]
+      | Some sign ↦ elim (integer_value n) [ None ↦ Ok (pos 0, Number n ∷ tokens) | Some b ↦ bounded_integer b (Number n ∷ tokens) ]
     ]
 after_n (token ∷ tokens) = Ok (pos 0, token ∷ tokens)
 
@@ -54,42 +54,42 @@ after_n (token ∷ tokens) = Ok (pos 0, token ∷ tokens)
 abbrev pub is_n_and_digits : List ℕ → Bool
 is_n_and_digits name = says (codes "n-") (take 2 name) && list_all is_decimal (drop 2 name)
 
--- the rest, which a name holds
+-- the rest, of which a name holds the beginning: the name ends the first token
 unfoldable pub rest_of : List ℕ → List Token → Read ℤ
 rest_of name tokens =
-    if says (codes "n") name then after_n (skip_space tokens)
-    else (if says (codes "n-") name then digits_of_b Minus tokens
+    if says (codes "n") name then after_n (skip_space (drop 1 tokens))
+    else (if says (codes "n-") name then digits_of_b Minus (drop 1 tokens)
     else (if is_n_and_digits name then bounded_integer (with_sign Minus (decimal (drop 2 name))) tokens
-    else Err UnexpectedToken))
+    else refused UnexpectedToken tokens))
 
 abbrev pub with_step : ℤ → Read ℤ → Read (ℤ × ℤ)
 with_step a b = giving (λ x. (a, x)) b
 
--- an integer, which was just read
+-- an integer, which the first token writes, or begins with
 unfoldable pub integer : Numeral → List Token → Read ℤ
-integer n tokens = elim (integer_value n) [ None ↦ Err UnexpectedToken | Some x ↦ bounded_integer x tokens ]
+integer n tokens = elim (integer_value n) [ None ↦ refused UnexpectedToken tokens | Some x ↦ bounded_integer x tokens ]
 
--- an integer and its unit, which holds the rest
+-- an integer and its unit, which holds the rest: both are the first token
 unfoldable pub an_plus_b_of_dimension : Numeral → List ℕ → List Token → Read (ℤ × ℤ)
-an_plus_b_of_dimension n unit tokens = integer n tokens >>= λ step. with_step step.0 (rest_of unit step.1)
+an_plus_b_of_dimension n unit tokens = integer n tokens >>= λ step. with_step step.0 (rest_of unit tokens)
 
--- A and B, of which this is the first token
+-- A and B from their first token on
 unfoldable pub an_plus_b_of : Token → List Token → Read (ℤ × ℤ)
 an_plus_b_of (Ident name) tokens =
-    if says (codes "even") name then Ok ((pos 2, pos 0), tokens)
-    else (if says (codes "odd") name then Ok ((pos 2, pos 1), tokens)
+    if says (codes "even") name then Ok ((pos 2, pos 0), drop 1 tokens)
+    else (if says (codes "odd") name then Ok ((pos 2, pos 1), drop 1 tokens)
     else (if first_passes (is (byte "-")) name then with_step (with_sign Minus 1) (rest_of (drop 1 name) tokens) else with_step (pos 1) (rest_of name tokens)))
 an_plus_b_of (Number n) tokens = with_step (pos 0) (integer n tokens)
 an_plus_b_of (Dimension n unit) tokens = an_plus_b_of_dimension n unit tokens
 an_plus_b_of (Delim c) tokens =
-    if c == byte "+" then (required_token InFunction ident_of UnexpectedToken tokens >>= λ name. with_step (pos 1) (rest_of name.0 name.1))
-    else Err UnexpectedToken
-an_plus_b_of _ tokens = Err UnexpectedToken
+    if c == byte "+" then (required_token InFunction ident_of UnexpectedToken (drop 1 tokens) >>= λ name. with_step (pos 1) (rest_of name.0 (drop 1 tokens)))
+    else refused UnexpectedToken tokens
+an_plus_b_of _ tokens = refused UnexpectedToken tokens
 
 -- after the parenthesis, up to the one that closes it
 unfoldable pub an_plus_b : List Token → Read (ℤ × ℤ)
 an_plus_b tokens = do
   token ← required_token InFunction (λ t. Some t) UnexpectedToken (skip_space tokens)
-  nth ← an_plus_b_of token.0 token.1
+  nth ← an_plus_b_of token.0 (skip_space tokens)
   end ← block_end InFunction nth.1
   Ok (nth.0, end.1)

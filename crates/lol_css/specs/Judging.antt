@@ -3,7 +3,7 @@ use Rattle.std.specs.Prelude.{ℕ, zero, suc, Bool, true, false, if◌then◌els
 use Rattle.lol_css.specs.Tokens.{Token}
 use Rattle.lol_css.specs.Trees.{Part, WrittenCompound, Nothing, With, Item, First, Then, Items, And}
 use Rattle.lol_css.specs.Drafts as drafts
-use Rattle.lol_css.specs.Rules.{Read, ◌>>=◌, Nesting, at_end}
+use Rattle.lol_css.specs.Rules.{Read, refused, ◌>>=◌, Nesting, at_end}
 use Rattle.lol_css.specs.Reading.{part, compound, next_step, item}
 use Rattle.lol_css.specs.Accepting.{judged_step, judged_part, judged_compound, judged_item}
 use Rattle.lol_css.specs.declared.selector.Combinator.{Combinator}
@@ -39,7 +39,7 @@ judged_parts inner nesting parts tokens = judged_parts_at_most (length tokens) i
 unfoldable pub judged_further : ℕ → (List Token → Read drafts.DraftItems) → Nesting → Bool → Judged Item → List Token → Read (Judged Item)
 judged_further zero inner nesting inside item tokens = next_step nesting tokens >>= λ found. elim found.0 [
   | None ↦ Ok (item, found.1)
-  | Some step ↦ Err UnsupportedSyntax
+  | Some step ↦ refused UnsupportedSyntax found.1
 ]
 judged_further (suc left) inner nesting inside item tokens = next_step nesting tokens >>= λ found. elim found.0 [
   | None ↦ Ok (item, found.1)

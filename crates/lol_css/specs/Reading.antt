@@ -1,5 +1,5 @@
--- The grammar (Selectors 4, sections 3, 4, 6 and 18.1): each rule from a list of tokens to what is read and the tokens left, or a cause.
-use Rattle.std.specs.Prelude.{ℕ, zero, suc, ◌+◌, Bool, true, false, ◌&&◌, ◌==◌, if◌then◌else◌, List, [], ◌∷◌, length, drop, Option, Some, None, Result, Ok, Err, pos, codes}
+-- The grammar (Selectors 4, sections 3, 4, 6 and 18.1): each rule from a list of tokens to what is read and the tokens left, or a refusal.
+use Rattle.std.specs.Prelude.{ℕ, zero, suc, ◌+◌, Bool, true, false, ◌&&◌, ◌==◌, if◌then◌else◌, List, [], ◌∷◌, length, drop, Option, Some, None, Ok, pos, codes}
 use Rattle.std.specs.List.{list_any}
 use Rattle.std.specs.Option.{option_map}
 use Rattle.std.specs.Str.{bytes_eq, byte, encode_utf8_all}
@@ -8,7 +8,7 @@ use Rattle.lol_css.specs.Tokens.{Token, Quoted, Hash, Function, Ident, Match, De
 use Rattle.lol_css.specs.CaselessAttributes.{caseless_attributes}
 use Rattle.lol_css.specs.Trees.{Simple, LocalName, AnyName, NoNamespace, Id, Class, Exists, Compares, Nth}
 use Rattle.lol_css.specs.Drafts.{Step, By, NextSibling, SubsequentSibling, DraftPart, Plain, LatePseudoClass, LateNamespace, Logical, DraftCompound, Nothing, With, DraftItem, First, Then, DraftItems, NoItems, And}
-use Rattle.lol_css.specs.Rules.{Read, ◌>>=◌, giving, keeping, is_delim, is_space, skip_space, Nesting, Outside, InFunction, InBrackets, at_end, at_stop, required_token, block_end, lowercase, says, ident_of}
+use Rattle.lol_css.specs.Rules.{Read, refused, ◌>>=◌, giving, is_delim, is_space, skip_space, Nesting, Outside, InFunction, InBrackets, at_end, at_stop, required_token, block_end, lowercase, says, ident_of}
 use Rattle.lol_css.specs.AnPlusB.{an_plus_b}
 use Rattle.lol_css.specs.declared.syntax.tokens.MatchOperator.TheVariants as operators
 use Rattle.lol_base.specs.declared.attribute.AttrSelectorOperator.{AttrSelectorOperator}
@@ -36,14 +36,14 @@ bar_of (Delim c) = if c == byte "|" then Some c else None
 bar_of _ = None
 
 unfoldable pub attribute_name : List Token → Read (List ℕ × Bool)
-attribute_name [] = Err UnexpectedEnd
-attribute_name (Ident name ∷ tokens) = if first_passes (is_delim (byte "|")) tokens then Err NamespacedSelector else Ok ((name, false), tokens)
+attribute_name [] = refused UnexpectedEnd []
+attribute_name (Ident name ∷ tokens) = if first_passes (is_delim (byte "|")) tokens then refused NamespacedSelector tokens else Ok ((name, false), tokens)
 attribute_name (Delim c ∷ tokens) =
-    if c == byte "]" then Err UnexpectedEnd
+    if c == byte "]" then refused UnexpectedEnd (Delim c ∷ tokens)
     else (if c == byte "|" then name_after_bar false tokens
     else (if c == byte "*" then (required_token InBrackets bar_of UnexpectedTokenInAttribute tokens >>= λ bar. name_after_bar true bar.1)
-    else Err MissingAttributeName))
-attribute_name _ = Err MissingAttributeName
+    else refused MissingAttributeName (Delim c ∷ tokens)))
+attribute_name (token ∷ tokens) = refused MissingAttributeName (token ∷ tokens)
 
 abbrev pub operator_of : Token → Option AttrSelectorOperator
 operator_of (Delim c) = if c == byte "=" then Some Equal else None
@@ -103,7 +103,7 @@ attribute tokens = do
 -- directly after a `.`
 unfoldable pub class_name : Nesting → List Token → Read Simple
 class_name nesting tokens =
-    if at_stop nesting tokens then Err UnexpectedEnd
+    if at_stop nesting tokens then refused UnexpectedEnd tokens
     else giving (λ name. Class (utf8 name)) (required_token nesting ident_of InvalidClassName tokens)
 
 abbrev pub is_one_of : List (List ℕ) → List ℕ → Bool
@@ -115,38 +115,41 @@ combination_named name =
     if says (codes "not") name then Some Not
     else (if says (codes "is") name then Some Is else (if says (codes "where") name then Some Where else None))
 
--- a pseudo-class with another argument, after its parenthesis
+-- a pseudo-class with another argument: the first token is its name with the parenthesis
 unfoldable pub function_part : List ℕ → List Token → Read DraftPart
 function_part name tokens =
-    if says (codes "nth-child") name then giving (λ nth. Plain (Nth false nth.0 nth.1)) (an_plus_b tokens)
-    else (if says (codes "nth-of-type") name then giving (λ nth. Plain (Nth true nth.0 nth.1)) (an_plus_b tokens)
-    else (if is_one_of (codes "nth-last-child" ∷ codes "nth-last-of-type" ∷ []) name then giving (λ nth. LatePseudoClass) (an_plus_b tokens)
-    else Err UnsupportedPseudoClassOrElement))
+    if says (codes "nth-child") name then giving (λ nth. Plain (Nth false nth.0 nth.1)) (an_plus_b (drop 1 tokens))
+    else (if says (codes "nth-of-type") name then giving (λ nth. Plain (Nth true nth.0 nth.1)) (an_plus_b (drop 1 tokens))
+    else (if is_one_of (codes "nth-last-child" ∷ codes "nth-last-of-type" ∷ []) name then giving (λ nth. LatePseudoClass) (an_plus_b (drop 1 tokens))
+    else refused UnsupportedPseudoClassOrElement tokens))
 
 -- the pseudo-classes without an argument that are refused late
 abbrev pub late_words : List (List ℕ)
 late_words = codes "last-child" ∷ codes "only-child" ∷ codes "last-of-type" ∷ codes "only-of-type" ∷ codes "root" ∷ codes "empty" ∷ codes "scope" ∷ []
 
-unfoldable pub ident_part : List ℕ → Result DraftPart SelectorError
-ident_part name =
-    if says (codes "first-child") name then Ok (Plain (Nth false (pos 0) (pos 1)))
-    else (if says (codes "first-of-type") name then Ok (Plain (Nth true (pos 0) (pos 1)))
-    else (if is_one_of late_words name then Ok LatePseudoClass
-    else Err UnsupportedPseudoClassOrElement))
+-- a pseudo-class without an argument, which is the first token
+unfoldable pub ident_part : List ℕ → List Token → Read DraftPart
+ident_part name tokens =
+    if says (codes "first-child") name then Ok (Plain (Nth false (pos 0) (pos 1)), drop 1 tokens)
+    else (if says (codes "first-of-type") name then Ok (Plain (Nth true (pos 0) (pos 1)), drop 1 tokens)
+    else (if is_one_of late_words name then Ok (LatePseudoClass, drop 1 tokens)
+    else refused UnsupportedPseudoClassOrElement tokens))
 
--- after a colon; inner reads the list of a logical combination
+-- after a colon; inner reads the list of a logical combination. After a second colon no name is known
 unfoldable pub pseudo : (List Token → Read DraftItems) → Nesting → List Token → Read DraftPart
-pseudo inner nesting [] = Err UnexpectedEnd
+pseudo inner nesting [] = refused UnexpectedEnd []
 pseudo inner nesting (token ∷ tokens) =
-    if at_stop nesting (token ∷ tokens) then Err UnexpectedEnd
+    if at_stop nesting (token ∷ tokens) then refused UnexpectedEnd (token ∷ tokens)
     else elim token [
-      | Ident name ↦ keeping (ident_part name) tokens
+      | Ident name ↦ ident_part name (Ident name ∷ tokens)
       | Function name ↦ elim (combination_named name) [
-        | None ↦ function_part name tokens
+        | None ↦ function_part name (Function name ∷ tokens)
         | Some combination ↦ giving (Logical combination) (inner tokens)
       ]
-      | Delim c ↦ if c == byte ":" && at_stop nesting tokens then Err UnexpectedEnd else Err UnsupportedPseudoClassOrElement
-      | _ ↦ Err UnsupportedPseudoClassOrElement
+      | Delim c ↦
+          if c == byte ":" then (if at_stop nesting tokens then refused UnexpectedEnd tokens else refused UnsupportedPseudoClassOrElement tokens)
+          else refused UnsupportedPseudoClassOrElement (Delim c ∷ tokens)
+      | other ↦ refused UnsupportedPseudoClassOrElement (other ∷ tokens)
     ]
 
 abbrev pub some : DraftPart → Option DraftPart
@@ -181,8 +184,8 @@ after_bar nesting (token ∷ tokens) =
     if at_stop nesting (token ∷ tokens) then Ok (None, token ∷ tokens)
     else elim token [
       | Ident name ↦ Ok (Some (LocalName (utf8 name)), tokens)
-      | Delim c ↦ if c == byte "*" then Ok (Some AnyName, tokens) else Err UnexpectedToken
-      | _ ↦ Err UnexpectedToken
+      | Delim c ↦ if c == byte "*" then Ok (Some AnyName, tokens) else refused UnexpectedToken (Delim c ∷ tokens)
+      | other ↦ refused UnexpectedToken (other ∷ tokens)
     ]
 
 -- `*|` and `|` before what stands after the bar
@@ -196,7 +199,7 @@ no_namespace name = With (With Nothing (Plain NoNamespace)) (Plain name)
 unfoldable pub type_part : Nesting → List Token → Read (Option DraftCompound)
 type_part nesting [] = Ok (Some Nothing, [])
 type_part nesting (Ident name ∷ tokens) =
-    if first_passes (is_delim (byte "|")) tokens then Err NamespacedSelector else Ok (Some (With Nothing (Plain (LocalName (utf8 name)))), tokens)
+    if first_passes (is_delim (byte "|")) tokens then refused NamespacedSelector tokens else Ok (Some (With Nothing (Plain (LocalName (utf8 name)))), tokens)
 type_part nesting (Delim c ∷ tokens) =
     if c == byte "*" then
     (if first_passes (is_delim (byte "|")) tokens then giving (option_map any_namespace) (after_bar nesting (drop 1 tokens))
@@ -214,8 +217,8 @@ unfoldable pub compound : (List Token → Read DraftItems) → Nesting → Selec
 compound inner nesting empty tokens = do
   type ← type_part nesting tokens
   elim type.0 [
-    | None ↦ Err empty
-    | Some start ↦ more_parts inner nesting start type.1 >>= λ parts. if is_nothing parts.0 then Err empty else Ok parts
+    | None ↦ refused empty type.1
+    | Some start ↦ more_parts inner nesting start type.1 >>= λ parts. if is_nothing parts.0 then refused empty parts.1 else Ok parts
   ]
 
 -- ---- items and lists
@@ -228,10 +231,10 @@ step_of _ = None
 
 -- the step, and the tokens where its compound is to be read: `>`, `+` and `~` are taken, after white space anything else is a descendant
 unfoldable pub step : Bool → List Token → Read Step
-step after_space [] = Err UnexpectedToken
+step after_space [] = refused UnexpectedToken []
 step after_space (token ∷ tokens) = elim (step_of token) [
   | Some found ↦ Ok (found, skip_space tokens)
-  | None ↦ if after_space then Ok (By Descendant, token ∷ tokens) else Err UnexpectedToken
+  | None ↦ if after_space then Ok (By Descendant, token ∷ tokens) else refused UnexpectedToken (token ∷ tokens)
 ]
 
 -- the step after a compound and white space; at Stop there is none
@@ -244,7 +247,7 @@ next_step nesting tokens =
 unfoldable pub further : ℕ → (List Token → Read DraftItems) → Nesting → DraftItem → List Token → Read DraftItem
 further zero inner nesting item tokens = next_step nesting tokens >>= λ found. elim found.0 [
   | None ↦ Ok (item, found.1)
-  | Some step ↦ Err UnsupportedSyntax
+  | Some step ↦ refused UnsupportedSyntax found.1
 ]
 further (suc left) inner nesting item tokens = next_step nesting tokens >>= λ found. elim found.0 [
   | None ↦ Ok (item, found.1)
@@ -271,7 +274,7 @@ list inner nesting tokens = do
 
 -- the list of a logical combination, after its parenthesis, where combinations may be opened so deep, this one included
 unfoldable pub inner_list : ℕ → List Token → Read DraftItems
-inner_list zero tokens = Err UnsupportedSyntax
+inner_list zero tokens = refused UnsupportedSyntax tokens
 inner_list (suc depth) tokens = list (inner_list depth) InFunction tokens
 
 -- all of the tokens; a logical combination stands inside at most 127 others

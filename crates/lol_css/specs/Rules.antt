@@ -1,4 +1,4 @@
--- What the rules of the grammar are made of: each goes from a list of tokens to what is read and the tokens left, or to a cause.
+-- What the rules of the grammar are made of: each goes from a list of tokens to what is read and the tokens left, or to a refusal.
 use Rattle.std.specs.Prelude.{ℕ, Bool, true, false, ◌||◌, ◌==◌, if◌then◌else◌, List, [], ◌∷◌, map, drop, Option, Some, None, Result, Ok, Err}
 use Rattle.std.specs.Char.{to_ascii_lowercase}
 use Rattle.std.specs.Str.{bytes_eq, byte}
@@ -7,25 +7,29 @@ use Rattle.lol_css.specs.Tokens.{Token, Space, Ident, Delim}
 use Rattle.lol_css.specs.declared.error.SelectorError.{SelectorError}
 use Rattle.lol_css.specs.declared.error.SelectorError.TheVariants.{UnexpectedToken, UnexpectedEnd}
 
--- what a rule reads from the front, with the tokens left, or why it refuses
-abbrev pub Read : Type 0 → Type 0
-Read A = Result (A × List Token) SelectorError
+-- why a rule refuses, and the tokens left from the first that it refuses: none where it refuses the text's end
+pub record Refusal : Type 0 where
+  pub cause : SelectorError
+  pub left : List Token
 
--- one after the other, up to the first cause
+-- what a rule reads from the front, with the tokens left, or its refusal
+abbrev pub Read : Type 0 → Type 0
+Read A = Result (A × List Token) Refusal
+
+-- the first of these tokens is refused
+abbrev pub refused : {A : Type 0} → SelectorError → List Token → Read A
+refused cause tokens = Err (record { cause = cause; left = tokens })
+
+-- one after the other, up to the first that refuses
 infixl 10 ◌>>=◌
-abbrev pub ◌>>=◌ : {A B : Type 0} → Result A SelectorError → (A → Result B SelectorError) → Result B SelectorError
+abbrev pub ◌>>=◌ : {A B E : Type 0} → Result A E → (A → Result B E) → Result B E
 (Ok x) >>= f = f x
-(Err cause) >>= f = Err cause
+(Err error) >>= f = Err error
 
 -- what is read, changed
 abbrev pub giving : {A B : Type 0} → (A → B) → Read A → Read B
 giving f (Ok x) = Ok (f x.0, x.1)
-giving f (Err cause) = Err cause
-
--- what was judged without taking a token
-abbrev pub keeping : {A : Type 0} → Result A SelectorError → List Token → Read A
-keeping (Ok x) tokens = Ok (x, tokens)
-keeping (Err cause) tokens = Err cause
+giving f (Err refusal) = Err refusal
 
 abbrev pub is_delim : ℕ → Token → Bool
 is_delim c (Delim d) = d == c
@@ -62,14 +66,14 @@ at_stop nesting tokens = at_end nesting tokens || first_passes (is_delim (byte "
 
 -- a token of a kind that is wanted here: End is UnexpectedEnd, another token has the cause given
 unfoldable pub required_token : {A : Type 0} → Nesting → (Token → Option A) → SelectorError → List Token → Read A
-required_token nesting kind other [] = Err UnexpectedEnd
+required_token nesting kind other [] = refused UnexpectedEnd []
 required_token nesting kind other (token ∷ tokens) =
-    if closes nesting token then Err UnexpectedEnd
-    else elim (kind token) [ None ↦ Err other | Some x ↦ Ok (x, tokens) ]
+    if closes nesting token then refused UnexpectedEnd (token ∷ tokens)
+    else elim (kind token) [ None ↦ refused other (token ∷ tokens) | Some x ↦ Ok (x, tokens) ]
 
 -- white space, and then End, which is taken
 unfoldable pub block_end : Nesting → List Token → Read (Unit {0})
-block_end nesting tokens = if at_end nesting (skip_space tokens) then Ok (tt, drop 1 (skip_space tokens)) else Err UnexpectedToken
+block_end nesting tokens = if at_end nesting (skip_space tokens) then Ok (tt, drop 1 (skip_space tokens)) else refused UnexpectedToken (skip_space tokens)
 
 -- names of pseudo-classes, flags and An+B are compared up to ASCII case
 abbrev pub lowercase : List ℕ → List ℕ

@@ -1,11 +1,11 @@
 -- What the code's values stand for.
-use Rattle.std.specs.Prelude.{◌≡◌, ℕ, Bool, true, false, List, [], ◌∷◌, Option, Some, None, Result, Ok, Err}
+use Rattle.std.specs.Prelude.{◌≡◌, ℕ, Bool, true, false, List, [], ◌∷◌, drop, Option, Some, None, Result, Ok, Err}
 use Rattle.std.specs.Option.{option_map}
 use Rattle.lol_css.specs.Points.{decimal, name}
 use Rattle.lol_css.specs.Tokens as tokens
 use Rattle.lol_css.specs.Tokens.{string_text}
 use Rattle.lol_css.specs.Rules as rules
-use Rattle.lol_css.specs.Rules.{Read, at_end}
+use Rattle.lol_css.specs.Rules.{Read, refused, at_end}
 use Rattle.lol_css.specs.declared.selector.Combinator.{Combinator}
 use Rattle.lol_css.specs.declared.error.SelectorError.{SelectorError}
 use Rattle.lol_css.specs.declared.error.SelectorError.TheVariants.{UnexpectedEnd, Memory}
@@ -61,22 +61,27 @@ IsFirst whole (Some x) rest = whole ≡ x ∷ rest
 -- what a rule answered, seen by view, with the tokens that are left, is what reading gives
 abbrev pub Reads : {X Y : Type 0} → (X → Y) → Result X SelectorError → List tokens.Token → Read Y → Type 0
 Reads view (Ok x) rest read = read ≡ Ok (view x, rest)
-Reads view (Err cause) rest read = read ≡ Err cause
+Reads view (Err cause) rest read = read ≡ refused cause rest
 
--- a cause is what reading gives, unless it is out of memory
-abbrev pub FailsUnlessMemory : {Y : Type 0} → SelectorError → Result Y SelectorError → Type 0
-FailsUnlessMemory Memory read = Unit {0}
-FailsUnlessMemory cause read = read ≡ Err cause
+-- the same of an answer about the first token, which isn't taken yet
+abbrev pub ReadsFirst : {X Y : Type 0} → (X → Y) → Result X SelectorError → List tokens.Token → Read Y → Type 0
+ReadsFirst view (Ok x) tokens read = read ≡ Ok (view x, drop 1 tokens)
+ReadsFirst view (Err cause) tokens read = read ≡ refused cause tokens
+
+-- a cause, with the tokens from the first refused on, is what reading gives, unless it is out of memory
+abbrev pub FailsUnlessMemory : {Y : Type 0} → SelectorError → List tokens.Token → Read Y → Type 0
+FailsUnlessMemory Memory left read = Unit {0}
+FailsUnlessMemory cause left read = read ≡ refused cause left
 
 -- the same as `Reads`, but that a rule that allocates may be out of memory
 abbrev pub ReadsUnlessMemory : {X Y : Type 0} → (X → Y) → Result X SelectorError → List tokens.Token → Read Y → Type 0
 ReadsUnlessMemory view (Ok x) rest read = read ≡ Ok (view x, rest)
-ReadsUnlessMemory view (Err cause) rest read = FailsUnlessMemory cause read
+ReadsUnlessMemory view (Err cause) rest read = FailsUnlessMemory cause rest read
 
--- the token that is wanted was taken from the front, unless what is open innermost ends there
-abbrev pub TakesRequired : rules.Nesting → Result Token SelectorError → List tokens.Token → List tokens.Token → Type 0
-TakesRequired nesting (Ok token) old new = (at_end nesting old ≡ false) × (old ≡ token_of token ∷ new)
-TakesRequired nesting (Err cause) old new = (at_end nesting old ≡ true) × (cause ≡ UnexpectedEnd)
+-- the token that is wanted comes next, unless what is open innermost ends there
+abbrev pub IsRequired : rules.Nesting → Result Token SelectorError → List tokens.Token → Type 0
+IsRequired nesting (Ok token) tokens = (at_end nesting tokens ≡ false) × (tokens ≡ token_of token ∷ drop 1 tokens)
+IsRequired nesting (Err cause) tokens = (at_end nesting tokens ≡ true) × (cause ≡ UnexpectedEnd)
 
 abbrev pub nesting_of : Nesting → rules.Nesting
 nesting_of Outside = rules.Outside
@@ -95,8 +100,3 @@ judgement view (Refused cause) = Err cause
 
 abbrev pub step_judgement : Judged Combinator → Result Combinator SelectorError
 step_judgement step = judgement (λ combinator. combinator) step
-
--- an answer, seen by view
-abbrev pub reader_answer : {X Y : Type 0} → (X → Y) → Result X SelectorError → Result Y SelectorError
-reader_answer view (Ok x) = Ok (view x)
-reader_answer view (Err cause) = Err cause

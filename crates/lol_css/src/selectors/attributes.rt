@@ -2,11 +2,11 @@
 
 ghost use Rattle.std.specs.Prelude.{◌≡◌};
 ghost use Rattle.std.specs.List.{list_any};
-ghost use Rattle.std.specs.Str.{bytes_eq};
+ghost use Rattle.std.specs.Str.{bytes_eq, byte};
 ghost use Rattle.lol_css.specs.CaselessAttributes.{caseless_attributes};
 ghost use Rattle.lol_css.specs.Trees as trees;
 ghost use Rattle.lol_css.specs.Rules.{required_token, giving, InBrackets};
-ghost use Rattle.lol_css.specs.Reading.{name_after_bar, attribute_name, operator_of, written_value, flag_of, flag_named, default_case_sensitivity, case_sensitivity, comparison, attribute, utf8};
+ghost use Rattle.lol_css.specs.Reading.{name_after_bar, bar_of, attribute_name, operator_of, written_value, flag_of, flag_named, default_case_sensitivity, case_sensitivity, comparison, attribute, utf8};
 ghost use Rattle.lol_css.specs.Accepting.{judged_part};
 ghost use Rattle.lol_css.specs.declared.error.SelectorError.TheVariants.{UnexpectedToken, UnexpectedTokenInAttribute};
 ghost use Rattle.lol_css.specs.Views.{Reads, ReadsUnlessMemory, points_of, judgement};
@@ -35,19 +35,42 @@ fn name_after_bar<'a>(
     Ok((name, any_namespace))
 }
 
+/// The bar after a `*`.
+#[tactic(auto, unfolding(crate::specs::Rules::required_token))]
+fn bar(reader: &mut Reader<'_>) -> Result<(), SelectorError>
+    ensures { Reads (λ _. byte "|") result reader.new (required_token InBrackets bar_of UnexpectedTokenInAttribute reader.old) }
+{
+    match reader.expect(Nesting::InBrackets)? {
+        Token::Delim('|') => {
+            reader.advance();
+            Ok(())
+        }
+        _ => Err(SelectorError::UnexpectedTokenInAttribute),
+    }
+}
+
 /// The name, and whether `*|` stands before it.
 #[tactic(auto, unfolding(crate::specs::Reading::attribute_name, crate::specs::Rules::required_token))]
 fn attribute_name<'a>(reader: &mut Reader<'a>) -> Result<(Name<'a>, bool), SelectorError>
     ensures { Reads (λ x. (points_of x.0, x.1)) result reader.new (attribute_name reader.old) }
 {
     match reader.expect(Nesting::InBrackets)? {
-        Token::Ident(_) if reader.is_at_delim('|') => Err(SelectorError::NamespacedSelector),
-        Token::Ident(name) => Ok((name, false)),
-        Token::Delim('|') => name_after_bar(false, reader),
-        Token::Delim('*') => match reader.expect(Nesting::InBrackets)? {
-            Token::Delim('|') => name_after_bar(true, reader),
-            _ => Err(SelectorError::UnexpectedTokenInAttribute),
-        },
+        Token::Ident(name) => {
+            reader.advance();
+            if reader.is_at_delim('|') {
+                return Err(SelectorError::NamespacedSelector);
+            }
+            Ok((name, false))
+        }
+        Token::Delim('|') => {
+            reader.advance();
+            name_after_bar(false, reader)
+        }
+        Token::Delim('*') => {
+            reader.advance();
+            bar(reader)?;
+            name_after_bar(true, reader)
+        }
         _ => Err(SelectorError::MissingAttributeName),
     }
 }
@@ -56,15 +79,17 @@ fn attribute_name<'a>(reader: &mut Reader<'a>) -> Result<(Name<'a>, bool), Selec
 fn operator(reader: &mut Reader<'_>) -> Result<AttrSelectorOperator, SelectorError>
     ensures { Reads (λ x. x) result reader.new (required_token InBrackets operator_of UnexpectedTokenInAttribute reader.old) }
 {
-    match reader.expect(Nesting::InBrackets)? {
-        Token::Delim('=') => Ok(AttrSelectorOperator::Equal),
-        Token::Match(MatchOperator::Include) => Ok(AttrSelectorOperator::Includes),
-        Token::Match(MatchOperator::Dash) => Ok(AttrSelectorOperator::DashMatch),
-        Token::Match(MatchOperator::Prefix) => Ok(AttrSelectorOperator::Prefix),
-        Token::Match(MatchOperator::Suffix) => Ok(AttrSelectorOperator::Suffix),
-        Token::Match(MatchOperator::Substring) => Ok(AttrSelectorOperator::Substring),
-        _ => Err(SelectorError::UnexpectedTokenInAttribute),
-    }
+    let operator = match reader.expect(Nesting::InBrackets)? {
+        Token::Delim('=') => AttrSelectorOperator::Equal,
+        Token::Match(MatchOperator::Include) => AttrSelectorOperator::Includes,
+        Token::Match(MatchOperator::Dash) => AttrSelectorOperator::DashMatch,
+        Token::Match(MatchOperator::Prefix) => AttrSelectorOperator::Prefix,
+        Token::Match(MatchOperator::Suffix) => AttrSelectorOperator::Suffix,
+        Token::Match(MatchOperator::Substring) => AttrSelectorOperator::Substring,
+        _ => return Err(SelectorError::UnexpectedTokenInAttribute),
+    };
+    reader.advance();
+    Ok(operator)
 }
 
 fn flag_named(name: Name<'_>) -> Option<ParsedCaseSensitivity>
@@ -83,10 +108,13 @@ fn flag_named(name: Name<'_>) -> Option<ParsedCaseSensitivity>
 fn flag(reader: &mut Reader<'_>) -> Result<ParsedCaseSensitivity, SelectorError>
     ensures { Reads (λ x. x) result reader.new (required_token InBrackets flag_of UnexpectedToken reader.old) }
 {
-    match reader.expect(Nesting::InBrackets)? {
-        Token::Ident(name) => flag_named(name).ok_or(SelectorError::UnexpectedToken),
-        _ => Err(SelectorError::UnexpectedToken),
-    }
+    let found = match reader.expect(Nesting::InBrackets)? {
+        Token::Ident(name) => flag_named(name),
+        _ => None,
+    };
+    let flag = found.ok_or(SelectorError::UnexpectedToken)?;
+    reader.advance();
+    Ok(flag)
 }
 
 /// The attributes whose values compare without case on HTML elements.
@@ -186,11 +214,13 @@ impl Parser<'_> {
         ensures reads { ReadsUnlessMemory (λ s. s) result self.new.reader (giving utf8 (required_token InBrackets written_value UnexpectedTokenInAttribute self.old.reader)) }
         ensures context { self.new.context ≡ self.old.context }
     {
-        match self.reader.expect(Nesting::InBrackets)? {
-            Token::Ident(name) => Ok(name.to_text(self.alloc)?),
-            Token::Quoted(quoted) => Ok(quoted.to_text(self.alloc)?),
-            _ => Err(SelectorError::UnexpectedTokenInAttribute),
-        }
+        let value = match self.reader.expect(Nesting::InBrackets)? {
+            Token::Ident(name) => name.to_text(self.alloc)?,
+            Token::Quoted(quoted) => quoted.to_text(self.alloc)?,
+            _ => return Err(SelectorError::UnexpectedTokenInAttribute),
+        };
+        self.reader.advance();
+        Ok(value)
     }
 
     /// What stands after the name.

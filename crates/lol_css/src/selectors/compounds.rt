@@ -42,13 +42,13 @@ impl Parser<'_> {
         if self.reader.is_at_stop(self.context.nesting) {
             return Ok(None);
         }
-        match self.reader.next() {
-            Some(Token::Ident(name)) => Ok(Some(SimpleSelector::LocalName(name.to_text(
-                self.alloc,
-            )?))),
-            Some(Token::Delim('*')) => Ok(Some(SimpleSelector::ExplicitUniversalType)),
-            _ => Err(SelectorError::UnexpectedToken),
-        }
+        let name = match self.reader.peek() {
+            Some(Token::Ident(name)) => SimpleSelector::LocalName(name.to_text(self.alloc)?),
+            Some(Token::Delim('*')) => SimpleSelector::ExplicitUniversalType,
+            _ => return Err(SelectorError::UnexpectedToken),
+        };
+        self.reader.advance();
+        Ok(Some(name))
     }
 
     /// A compound that begins after `*|`; nothing where the item ends.

@@ -1,10 +1,11 @@
 //! Pseudo-classes that take no list (Selectors 4, section 14).
 
-ghost use Rattle.std.specs.Prelude.{◌≡◌};
+ghost use Rattle.std.specs.Prelude.{◌≡◌, List};
+ghost use Rattle.lol_css.specs.Tokens as tokens;
 ghost use Rattle.lol_css.specs.Rules.{giving};
 ghost use Rattle.lol_css.specs.Reading.{function_part, ident_part, is_one_of, late_words};
 ghost use Rattle.lol_css.specs.Accepting.{judged_part};
-ghost use Rattle.lol_css.specs.Views.{Reads, points_of, judgement, reader_answer};
+ghost use Rattle.lol_css.specs.Views.{Reads, ReadsFirst, points_of, judgement};
 ghost use Rattle.lol_css.specs.TreeViews.{part_of};
 
 use crate::error::SelectorError;
@@ -27,10 +28,10 @@ fn is_late_word(name: Name<'_>) -> bool
         || name.is_word("scope")
 }
 
-/// A pseudo-class without an argument.
+/// A pseudo-class of this name without an argument.
 #[tactic(auto, unfolding(crate::specs::Reading::ident_part, crate::specs::Accepting::judged_part))]
 pub(crate) fn ident_part(name: Name<'_>) -> Result<Judged<SimpleSelector>, SelectorError>
-    ensures { reader_answer (judgement part_of) result ≡ reader_answer judged_part (ident_part (points_of name.entry)) }
+    ensures { (tokens : List tokens.Token) → ReadsFirst (judgement part_of) result tokens (giving judged_part (ident_part (points_of name.entry) tokens)) }
 {
     let first = NthChild::new(0, 1);
     if name.is_word("first-child") {
@@ -51,7 +52,7 @@ pub(crate) fn ident_part(name: Name<'_>) -> Result<Judged<SimpleSelector>, Selec
     Err(SelectorError::UnsupportedPseudoClassOrElement)
 }
 
-/// A pseudo-class whose argument is no list, after its parenthesis.
+/// A pseudo-class whose argument is no list; the next token is its name with the parenthesis.
 #[tactic(auto, unfolding(crate::specs::Reading::function_part, crate::specs::Accepting::judged_part))]
 pub(crate) fn function_part(
     name: Name<'_>,
@@ -60,6 +61,7 @@ pub(crate) fn function_part(
     ensures { Reads (judgement part_of) result reader.new (giving judged_part (function_part (points_of name.entry) reader.old)) }
 {
     if name.is_word("nth-child") {
+        reader.advance();
         let nth = an_plus_b(reader)?;
         return Ok(Judged::Kept(SimpleSelector::Nth {
             of_type: false,
@@ -67,10 +69,12 @@ pub(crate) fn function_part(
         }));
     }
     if name.is_word("nth-of-type") {
+        reader.advance();
         let nth = an_plus_b(reader)?;
         return Ok(Judged::Kept(SimpleSelector::Nth { of_type: true, nth }));
     }
     if name.is_word("nth-last-child") || name.is_word("nth-last-of-type") {
+        reader.advance();
         let _ = an_plus_b(reader)?;
         return Ok(Judged::Refused(SelectorError::UnsupportedPseudoClassOrElement));
     }

@@ -63,15 +63,26 @@ impl Parser<'_> {
         if self.reader.is_at_stop(self.context.nesting) {
             return Err(SelectorError::UnexpectedEnd);
         }
-        match self.reader.next() {
-            Some(Token::Ident(name)) => ident_part(name),
+        match self.reader.peek() {
+            Some(Token::Ident(name)) => {
+                let part = ident_part(name)?;
+                self.reader.advance();
+                Ok(part)
+            }
             Some(Token::Function(name)) => match LogicalCombination::from_name(name) {
-                Some(combination) => self.logical_part(combination),
+                Some(combination) => {
+                    self.reader.advance();
+                    self.logical_part(combination)
+                }
                 None => function_part(name, &mut self.reader),
             },
-            Some(Token::Delim(':')) if self.reader.is_at_stop(self.context.nesting) => Err(
-                SelectorError::UnexpectedEnd,
-            ),
+            Some(Token::Delim(':')) => {
+                self.reader.advance();
+                if self.reader.is_at_stop(self.context.nesting) {
+                    return Err(SelectorError::UnexpectedEnd);
+                }
+                Err(SelectorError::UnsupportedPseudoClassOrElement)
+            }
             _ => Err(SelectorError::UnsupportedPseudoClassOrElement),
         }
     }

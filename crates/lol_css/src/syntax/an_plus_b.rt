@@ -7,7 +7,7 @@ ghost use Rattle.lol_css.specs.Points.{decimal, is_decimal, first_passes, is};
 ghost use Rattle.lol_css.specs.Tokens as tokens;
 ghost use Rattle.lol_css.specs.Rules.{says};
 ghost use Rattle.lol_css.specs.AnPlusB.{integer, an_plus_b, an_plus_b_of, rest_of, an_plus_b_of_dimension, after_n, digits_of_b, bounded_integer, with_sign, is_n_and_digits};
-ghost use Rattle.lol_css.specs.Views.{Reads, numeral_of, token_of, points_of};
+ghost use Rattle.lol_css.specs.Views.{Reads, ReadsFirst, numeral_of, token_of, points_of};
 
 use crate::error::SelectorError;
 use crate::syntax::reader::{Nesting, Reader};
@@ -60,7 +60,7 @@ fn name_magnitude(name: Name<'_>) -> Option<u64>
 #[tactic(auto, unfolding(crate::specs::AnPlusB::bounded_integer))]
 fn bounded_integer(sign: Sign, magnitude: u64) -> Result<i32, SelectorError>
     requires { magnitude ≤ TOO_LARGE }
-    ensures { (rest : List tokens.Token) → Reads (λ x. x) result rest (bounded_integer (with_sign sign magnitude) rest) }
+    ensures { (tokens : List tokens.Token) → ReadsFirst (λ x. x) result tokens (bounded_integer (with_sign sign magnitude) tokens) }
 {
     let magnitude = magnitude as i64;
     let number = match sign {
@@ -75,7 +75,7 @@ fn bounded_integer(sign: Sign, magnitude: u64) -> Result<i32, SelectorError>
 
 /// The value of a number of these digits: `UnexpectedToken` outside `i32`.
 fn value(sign: Sign, digits: &[char]) -> Result<i32, SelectorError>
-    ensures { (rest : List tokens.Token) → Reads (λ x. x) result rest (bounded_integer (with_sign sign (decimal digits.now)) rest) }
+    ensures { (tokens : List tokens.Token) → ReadsFirst (λ x. x) result tokens (bounded_integer (with_sign sign (decimal digits.now)) tokens) }
 {
     bounded_integer(sign, magnitude(digits))
 }
@@ -92,7 +92,11 @@ fn digits_of_b(sign: Sign, reader: &mut Reader<'_>) -> Result<i32, SelectorError
                 sign: None,
                 integer: Some(digits),
             },
-        ) => value(sign, digits),
+        ) => {
+            let number = value(sign, digits)?;
+            reader.advance();
+            Ok(number)
+        }
         _ => Err(SelectorError::UnexpectedToken),
     }
 }
@@ -119,8 +123,9 @@ fn after_n(reader: &mut Reader<'_>) -> Result<i32, SelectorError>
                 },
             ),
         ) => {
+            let number = value(sign, digits)?;
             reader.advance();
-            value(sign, digits)
+            Ok(number)
         }
         _ => Ok(0),
     }
@@ -147,20 +152,26 @@ fn digits_after_n(name: Name<'_>) -> Option<u64>
     name_magnitude(after_n_minus(name)?)
 }
 
-/// B, of which the name holds the beginning: `n`, `n-`, or `n-` with digits.
+/// B, of which the name that ends the next token holds the beginning: `n`, `n-`, or `n-` with digits.
 #[tactic(auto, unfolding(crate::specs::AnPlusB::rest_of))]
 fn rest_of(name: Name<'_>, reader: &mut Reader<'_>) -> Result<i32, SelectorError>
     ensures { Reads (λ x. x) result reader.new (rest_of (points_of name.entry) reader.old) }
 {
     if name.is_word("n") {
+        reader.advance();
         reader.skip_space();
         return after_n(reader);
     }
     if name.is_word("n-") {
+        reader.advance();
         return digits_of_b(Sign::Minus, reader);
     }
     match digits_after_n(name) {
-        Some(magnitude) => bounded_integer(Sign::Minus, magnitude),
+        Some(magnitude) => {
+            let number = bounded_integer(Sign::Minus, magnitude)?;
+            reader.advance();
+            Ok(number)
+        }
         None => Err(SelectorError::UnexpectedToken),
     }
 }
@@ -175,15 +186,17 @@ fn after_minus(name: Name<'_>) -> Option<Name<'_>>
     }
 }
 
-/// A and B, of which the first token is a name.
+/// A and B, of which the next token is this name.
 #[tactic(auto, unfolding(crate::specs::AnPlusB::an_plus_b_of))]
 fn named(name: Name<'_>, reader: &mut Reader<'_>) -> Result<(i32, i32), SelectorError>
     ensures { Reads (λ x. x) result reader.new (an_plus_b_of (tokens.Ident (points_of name.entry)) reader.old) }
 {
     if name.is_word("even") {
+        reader.advance();
         return Ok((2, 0));
     }
     if name.is_word("odd") {
+        reader.advance();
         return Ok((2, 1));
     }
     match after_minus(name) {
@@ -195,7 +208,7 @@ fn named(name: Name<'_>, reader: &mut Reader<'_>) -> Result<(i32, i32), Selector
 /// The value of an integer: `UnexpectedToken` where it has a fraction or an exponent, or lies outside `i32`.
 #[tactic(auto, unfolding(crate::specs::AnPlusB::integer))]
 fn integer(number: Numeral<'_>) -> Result<i32, SelectorError>
-    ensures { (rest : List tokens.Token) → Reads (λ x. x) result rest (integer (numeral_of number.entry) rest) }
+    ensures { (tokens : List tokens.Token) → ReadsFirst (λ x. x) result tokens (integer (numeral_of number.entry) tokens) }
 {
     match number.integer {
         Some(digits) => value(number.sign.unwrap_or(Sign::Plus), digits),
@@ -203,7 +216,7 @@ fn integer(number: Numeral<'_>) -> Result<i32, SelectorError>
     }
 }
 
-/// A and B, of which the first token is a number with a unit.
+/// A and B, of which the next token is this number with its unit.
 #[tactic(auto, unfolding(crate::specs::AnPlusB::an_plus_b_of_dimension))]
 fn an_plus_b_of_dimension(
     number: Numeral<'_>,
@@ -216,18 +229,25 @@ fn an_plus_b_of_dimension(
     Ok((step, rest_of(unit, reader)?))
 }
 
-/// A and B, of which this is the first token.
-#[tactic(auto, unfolding(crate::specs::AnPlusB::an_plus_b_of))]
+/// A and B, of which this is the next token.
+#[tactic(auto, unfolding(crate::specs::AnPlusB::an_plus_b_of, crate::specs::Rules::required_token))]
 fn an_plus_b_of(token: Token<'_>, reader: &mut Reader<'_>) -> Result<(i32, i32), SelectorError>
     ensures { Reads (λ x. x) result reader.new (an_plus_b_of (token_of token.entry) reader.old) }
 {
     match token {
         Token::Ident(name) => named(name, reader),
-        Token::Number(number) => Ok((0, integer(number)?)),
+        Token::Number(number) => {
+            let offset = integer(number)?;
+            reader.advance();
+            Ok((0, offset))
+        }
         Token::Dimension(number, unit) => an_plus_b_of_dimension(number, unit, reader),
         Token::Delim('+') => {
-            let name = reader.expect_name(Nesting::InFunction, SelectorError::UnexpectedToken)?;
-            Ok((1, rest_of(name, reader)?))
+            reader.advance();
+            match reader.expect(Nesting::InFunction)? {
+                Token::Ident(name) => Ok((1, rest_of(name, reader)?)),
+                _ => Err(SelectorError::UnexpectedToken),
+            }
         }
         _ => Err(SelectorError::UnexpectedToken),
     }

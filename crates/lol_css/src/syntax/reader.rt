@@ -6,7 +6,7 @@ ghost use Rattle.lol_css.specs.Points.{first_passes};
 ghost use Rattle.lol_css.specs.Tokens as tokens;
 ghost use Rattle.lol_css.specs.Tokens.{tokens_of, with_first};
 ghost use Rattle.lol_css.specs.Rules.{skip_space, is_delim, required_token, ident_of, at_end, at_stop, block_end};
-ghost use Rattle.lol_css.specs.Views.{token_of, points_of, IsFirst, nesting_of, Reads, TakesRequired};
+ghost use Rattle.lol_css.specs.Views.{token_of, points_of, IsFirst, nesting_of, Reads, IsRequired};
 ghost use Rattle.lol_css.specs.declared.error.SelectorError.TheVariants.{UnexpectedToken};
 
 use crate::error::SelectorError;
@@ -108,18 +108,18 @@ impl<'a> Reader<'a> {
         self.is_at_end(nesting) || self.is_at_delim(',')
     }
 
-    /// The token that is wanted here: `UnexpectedEnd` where what is open ends.
+    /// The token that is wanted here, which stays: `UnexpectedEnd` where what is open ends.
     #[tactic(auto, unfolding(crate::specs::Rules::required_token))]
-    pub(crate) fn expect(&mut self, nesting: Nesting) -> Result<Token<'a>, SelectorError>
-        ensures { TakesRequired (nesting_of nesting) result self.old self.new }
+    pub(crate) fn expect(&self, nesting: Nesting) -> Result<Token<'a>, SelectorError>
+        ensures { IsRequired (nesting_of nesting) result self.now }
     {
         if self.is_at_end(nesting) {
             return Err(SelectorError::UnexpectedEnd);
         }
-        self.next().ok_or(SelectorError::UnexpectedEnd)
+        self.peek().ok_or(SelectorError::UnexpectedEnd)
     }
 
-    /// The name that is wanted here: `UnexpectedEnd` where what is open ends, `other` at another token.
+    /// The name that is wanted here, which is taken: `UnexpectedEnd` where what is open ends, `other` at another token.
     #[tactic(auto, unfolding(crate::specs::Rules::required_token))]
     pub(crate) fn expect_name(
         &mut self,
@@ -129,7 +129,10 @@ impl<'a> Reader<'a> {
         ensures { Reads points_of result self.new (required_token (nesting_of nesting) ident_of other self.old) }
     {
         match self.expect(nesting)? {
-            Token::Ident(name) => Ok(name),
+            Token::Ident(name) => {
+                self.advance();
+                Ok(name)
+            }
             _ => Err(other),
         }
     }

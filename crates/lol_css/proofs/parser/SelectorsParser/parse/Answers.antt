@@ -12,7 +12,7 @@ pub returns-in_err-list-clause-err : goal.returns-in_err-list-clause-err
 returns-in_err-list-clause-err c =
     let p = err_from_is_err_and c.from_residual-in_err-list.result c.from_residual-in_err-list.ensures.1 in
     let tokens : c.new.result ≡ tokens_of (preprocessed (chars c.args.text.now)) = c.new.ensures ∙ ap tokens_of (c.as_slice.ensures.value ∙ c.in_ok-points.ensures) in
-    rw (p.1, p.2) (accept-fails c.args.text.now c.in_err-list.field-0.0 (rw tokens at c.in_err-list.ensures.reads))
+    rw (p.1, p.2) (accept-fails c.args.text.now c.in_err-list.field-0.0 c.list.new.self.reader (rw tokens at c.in_err-list.ensures.reads))
 
 pub returns-clause-ok : goal.returns-clause-ok
 returns-clause-ok c =

@@ -18,21 +18,21 @@ use Rattle.lol_css.proofs.selectors.parser.Parser.+rules.Goals as goal
 pub compound-returns-in_err-start-clause-reads : goal.compound-returns-in_err-start-clause-reads
 compound-returns-in_err-start-clause-reads t c =
     let p = err_from_is_err_and c.from_residual.result c.from_residual.ensures.1 in
-    rw (p.1, p.2) (compound-fails (inner_list c.args.self.now.context.depth_left) (nesting_of c.args.self.now.context.nesting) c.args.empty c.args.self.now.reader c.in_err-start.field-0.0 c.in_err-start.ensures.reads)
+    rw (p.1, p.2) (compound-fails (inner_list c.args.self.now.context.depth_left) (nesting_of c.args.self.now.context.nesting) c.args.empty c.args.self.now.reader c.in_err-start.field-0.0 c.type_part.new.self.reader c.in_err-start.ensures.reads)
 
 pub compound-returns-in_default-clause-reads : goal.compound-returns-in_default-clause-reads
 compound-returns-in_default-clause-reads t c =
-    fails c.args.empty _ (compound-none (inner_list c.args.self.now.context.depth_left) (nesting_of c.args.self.now.context.nesting) c.args.empty c.args.self.now.reader c.type_part.new.self.reader (rw c.in_default.is at c.in_ok-start.ensures.reads))
+    fails c.args.empty c.type_part.new.self.reader _ (compound-none (inner_list c.args.self.now.context.depth_left) (nesting_of c.args.self.now.context.nesting) c.args.empty c.args.self.now.reader c.type_part.new.self.reader (rw c.in_default.is at c.in_ok-start.ensures.reads))
 
 pub compound-returns-in_err-parts-clause-reads : goal.compound-returns-in_err-parts-clause-reads
 compound-returns-in_err-parts-clause-reads t c =
     let p = err_from_is_err_and c.from_residual-in_err-parts.result c.from_residual-in_err-parts.ensures.1 in
-    rw (p.1, p.2, compound-starts (inner_list c.args.self.now.context.depth_left) (nesting_of c.args.self.now.context.nesting) c.args.empty c.args.self.now.reader (compound_of c.in-Some.start) c.type_part.new.self.reader (rw c.in-Some.is at c.in_ok-start.ensures.reads)) (not_empty-fails c.args.empty _ c.in_err-parts.field-0.0 (rw c.type_part.ensures.context at c.in_err-parts.ensures.reads))
+    rw (p.1, p.2, compound-starts (inner_list c.args.self.now.context.depth_left) (nesting_of c.args.self.now.context.nesting) c.args.empty c.args.self.now.reader (compound_of c.in-Some.start) c.type_part.new.self.reader (rw c.in-Some.is at c.in_ok-start.ensures.reads)) (not_empty-fails c.args.empty _ c.in_err-parts.field-0.0 c.more_parts.new.self.reader (rw c.type_part.ensures.context at c.in_err-parts.ensures.reads))
 
 pub compound-returns-then-reads_nothing-clause-reads : goal.compound-returns-then-reads_nothing-clause-reads
 compound-returns-then-reads_nothing-clause-reads t c =
     let e : is_empty (judgement compound_of c.in_ok-parts.parts) ≡ true = sym c.reads_nothing.ensures ∙ c.if-reads_nothing.true in
-    fails c.args.empty _
+    fails c.args.empty c.more_parts.new.self.reader _
     (compound-starts (inner_list c.args.self.now.context.depth_left) (nesting_of c.args.self.now.context.nesting) c.args.empty c.args.self.now.reader (compound_of c.in-Some.start) c.type_part.new.self.reader (rw c.in-Some.is at c.in_ok-start.ensures.reads)
     ∙ not_empty-refused c.args.empty _ (judgement compound_of c.in_ok-parts.parts) c.more_parts.new.self.reader (rw c.type_part.ensures.context at c.in_ok-parts.ensures.reads) e)
 
@@ -47,7 +47,7 @@ compound-returns-clause-reads t c =
 pub item-returns-in_err-first-clause-reads : goal.item-returns-in_err-first-clause-reads
 item-returns-in_err-first-clause-reads t c =
     let p = err_from_is_err_and c.from_residual.result c.from_residual.ensures.1 in
-    rw (p.1, p.2) (item-fails (inner_list c.args.self.now.context.depth_left) (nesting_of c.args.self.now.context.nesting) (is_inside c.args.self.now.context.nesting) c.args.self.now.reader c.in_err-first.field-0.0 (rw c.skip_space.ensures at c.in_err-first.ensures.reads))
+    rw (p.1, p.2) (item-fails (inner_list c.args.self.now.context.depth_left) (nesting_of c.args.self.now.context.nesting) (is_inside c.args.self.now.context.nesting) c.args.self.now.reader c.in_err-first.field-0.0 c.compound.new.self.reader (rw c.skip_space.ensures at c.in_err-first.ensures.reads))
 
 pub item-steps-init : goal.item-steps-init
 item-steps-init t c =
@@ -61,7 +61,7 @@ item-steps-init t c =
 pub item-returns-in_err-step-clause-reads : goal.item-returns-in_err-step-clause-reads
 item-returns-in_err-step-clause-reads t c =
     let p = err_from_is_err_and c.from_residual-in_err-step.result c.from_residual-in_err-step.ensures.1 in
-    rw (p.1, p.2, ← c.steps.invariant.reads) (fails c.in_err-step.field-0.0 _ (further-fails c.steps.left (inner_list c.args.self.now.context.depth_left) (nesting_of c.args.self.now.context.nesting) (is_inside c.args.self.now.context.nesting) (judgement item_of c.steps.item) c.steps.self.reader c.in_err-step.field-0.0 (rw c.steps.invariant.context at c.in_err-step.ensures.reads)))
+    rw (p.1, p.2, ← c.steps.invariant.reads) (fails c.in_err-step.field-0.0 c.next_step.new.self.reader _ (further-fails c.steps.left (inner_list c.args.self.now.context.depth_left) (nesting_of c.args.self.now.context.nesting) (is_inside c.args.self.now.context.nesting) (judgement item_of c.steps.item) c.steps.self.reader c.in_err-step.field-0.0 c.next_step.new.self.reader (rw c.steps.invariant.context at c.in_err-step.ensures.reads)))
 
 pub item-returns-then-left-eq0-clause-reads : goal.item-returns-then-left-eq0-clause-reads
 item-returns-then-left-eq0-clause-reads t c =
@@ -72,7 +72,7 @@ pub item-returns-in_err-next-clause-reads : goal.item-returns-in_err-next-clause
 item-returns-in_err-next-clause-reads t c =
     let p = err_from_is_err_and c.from_residual-in_err-next.result c.from_residual-in_err-next.ensures.1 in
     let s = step-read (nesting_of c.args.self.now.context.nesting) (is_inside c.args.self.now.context.nesting) c.steps.self.reader (step_judgement c.in-Some.step) c.next_step.new.self.reader (rw (c.steps.invariant.context, c.in-Some.is) at c.in_ok-step.ensures.reads) in
-    rw (p.1, p.2, ← c.steps.invariant.reads) (further-compound-fails c.steps.left (inner_list c.args.self.now.context.depth_left) (nesting_of c.args.self.now.context.nesting) (is_inside c.args.self.now.context.nesting) (judgement item_of c.steps.item) c.steps.self.reader (step_judgement c.in-Some.step) c.next_step.new.self.reader s c.in_err-next.field-0.0 c.if-left-eq0.false (rw (c.next_step.ensures.context, c.steps.invariant.context) at c.in_err-next.ensures.reads))
+    rw (p.1, p.2, ← c.steps.invariant.reads) (further-compound-fails c.steps.left (inner_list c.args.self.now.context.depth_left) (nesting_of c.args.self.now.context.nesting) (is_inside c.args.self.now.context.nesting) (judgement item_of c.steps.item) c.steps.self.reader (step_judgement c.in-Some.step) c.next_step.new.self.reader s c.in_err-next.field-0.0 c.compound-in-Some.new.self.reader c.if-left-eq0.false (rw (c.next_step.ensures.context, c.steps.invariant.context) at c.in_err-next.ensures.reads))
 
 pub item-steps-preserved : goal.item-steps-preserved
 item-steps-preserved t c =
@@ -93,7 +93,7 @@ item-returns-clause-reads t c =
 pub list-returns-in_err-first-clause-reads : goal.list-returns-in_err-first-clause-reads
 list-returns-in_err-first-clause-reads t c =
     let p = err_from_is_err_and c.from_residual.result c.from_residual.ensures.1 in
-    rw (p.1, p.2) (list-fails (inner_list c.args.self.now.context.depth_left) (nesting_of c.args.self.now.context.nesting) (is_inside c.args.self.now.context.nesting) c.args.self.now.reader c.in_err-first.field-0.0 c.in_err-first.ensures.reads)
+    rw (p.1, p.2) (list-fails (inner_list c.args.self.now.context.depth_left) (nesting_of c.args.self.now.context.nesting) (is_inside c.args.self.now.context.nesting) c.args.self.now.reader c.in_err-first.field-0.0 c.item.new.self.reader c.in_err-first.ensures.reads)
 
 pub list-items-init : goal.list-items-init
 list-items-init t c =
@@ -108,7 +108,7 @@ pub list-returns-in_err-next-clause-reads : goal.list-returns-in_err-next-clause
 list-returns-in_err-next-clause-reads t c =
     let p = err_from_is_err_and c.from_residual-in_err-next.result c.from_residual-in_err-next.ensures.1 in
     let e : at_end (nesting_of c.args.self.now.context.nesting) c.items.self.reader ≡ false = sym (rw c.items.invariant.context at c.is_at_end.ensures) ∙ c.items-test.true in
-    rw (p.1, p.2, ← c.items.invariant.reads) (items-fail (inner_list c.args.self.now.context.depth_left) (nesting_of c.args.self.now.context.nesting) (is_inside c.args.self.now.context.nesting) (judgement list_of c.items.list) c.items.self.reader c.in_err-next.field-0.0 e (rw (c.items.invariant.context, c.advance.ensures) at c.in_err-next.ensures.reads))
+    rw (p.1, p.2, ← c.items.invariant.reads) (items-fail (inner_list c.args.self.now.context.depth_left) (nesting_of c.args.self.now.context.nesting) (is_inside c.args.self.now.context.nesting) (judgement list_of c.items.list) c.items.self.reader c.in_err-next.field-0.0 c.item-in-items.new.self.reader e (rw (c.items.invariant.context, c.advance.ensures) at c.in_err-next.ensures.reads))
 
 pub list-items-smaller : goal.list-items-smaller
 list-items-smaller t c =
@@ -135,7 +135,7 @@ list-returns-clause-reads t c =
 pub more_parts-returns-in_err-found-clause-reads : goal.more_parts-returns-in_err-found-clause-reads
 more_parts-returns-in_err-found-clause-reads t c =
     let p = err_from_is_err_and c.from_residual.result c.from_residual.ensures.1 in
-    rw (p.1, p.2, ← c.parts.invariant.reads) (parts-fail (inner_list c.args.self.now.context.depth_left) (nesting_of c.args.self.now.context.nesting) (judgement compound_of c.parts.parts) c.parts.self.reader c.in_err-found.field-0.0 (rw c.parts.invariant.context at c.in_err-found.ensures.reads))
+    rw (p.1, p.2, ← c.parts.invariant.reads) (parts-fail (inner_list c.args.self.now.context.depth_left) (nesting_of c.args.self.now.context.nesting) (judgement compound_of c.parts.parts) c.parts.self.reader c.in_err-found.field-0.0 c.part.new.self.reader (rw c.parts.invariant.context at c.in_err-found.ensures.reads))
 
 pub more_parts-parts-smaller : goal.more_parts-parts-smaller
 more_parts-parts-smaller t c =
@@ -163,13 +163,13 @@ logical_part-returns-then-self-eq0-clause-reads t c = rw c.if-self-eq0.true refl
 pub logical_part-returns-in_err-list-clause-reads : goal.logical_part-returns-in_err-list-clause-reads
 logical_part-returns-in_err-list-clause-reads t c =
     let p = err_from_is_err_and c.from_residual.result c.from_residual.ensures.1 in
-    rw (p.1, p.2, inner_list-opens c.args.self.now.context.depth_left c.args.self.now.reader c.if-self-eq0.false) (logical-fails c.args.combination _ c.in_err-list.field-0.0 c.in_err-list.ensures.reads)
+    rw (p.1, p.2, inner_list-opens c.args.self.now.context.depth_left c.args.self.now.reader c.if-self-eq0.false) (logical-fails c.args.combination _ c.in_err-list.field-0.0 c.list-list.new.self.reader c.in_err-list.ensures.reads)
 
 pub part-returns-in_err-pseudo-in-Some-Delim-eq58-clause-reads : goal.part-returns-in_err-pseudo-in-Some-Delim-eq58-clause-reads
 part-returns-in_err-pseudo-in-Some-Delim-eq58-clause-reads t c =
     let p = err_from_is_err_and c.from_residual-in_err-pseudo-in-Some-Delim-eq58.result c.from_residual-in_err-pseudo-in-Some-Delim-eq58.ensures.1 in
     let first : c.args.self.now.reader ≡ Delim (byte ":") ∷ drop 1 c.args.self.now.reader = cc c.in-Some-Delim-eq58.ensures in
-    rw (p.1, p.2) (part-pseudo-fails (inner_list c.args.self.now.context.depth_left) (nesting_of c.args.self.now.context.nesting) c.args.self.now.reader (drop 1 c.args.self.now.reader) c.in_err-pseudo-in-Some-Delim-eq58.field-0.0 first (rw c.advance-in-Some-Delim-eq58.ensures at c.in_err-pseudo-in-Some-Delim-eq58.ensures.reads))
+    rw (p.1, p.2) (part-pseudo-fails (inner_list c.args.self.now.context.depth_left) (nesting_of c.args.self.now.context.nesting) c.args.self.now.reader (drop 1 c.args.self.now.reader) c.in_err-pseudo-in-Some-Delim-eq58.field-0.0 c.pseudo.new.self.reader first (rw c.advance-in-Some-Delim-eq58.ensures at c.in_err-pseudo-in-Some-Delim-eq58.ensures.reads))
 
 pub logical_part-returns-in-Kept-clause-reads : goal.logical_part-returns-in-Kept-clause-reads
 logical_part-returns-in-Kept-clause-reads t c =
@@ -185,4 +185,4 @@ pub part-returns-in_err-class_name-in-Some-Delim-eq46-clause-reads : goal.part-r
 part-returns-in_err-class_name-in-Some-Delim-eq46-clause-reads t c =
     let p = err_from_is_err_and c.from_residual-in_err-class_name-in-Some-Delim-eq46.result c.from_residual-in_err-class_name-in-Some-Delim-eq46.ensures.1 in
     let first : c.args.self.now.reader ≡ Delim (byte ".") ∷ drop 1 c.args.self.now.reader = cc c.in-Some-Delim-eq46.ensures in
-    rw (p.1, p.2) (part-class-fails (inner_list c.args.self.now.context.depth_left) (nesting_of c.args.self.now.context.nesting) c.args.self.now.reader (drop 1 c.args.self.now.reader) c.in_err-class_name-in-Some-Delim-eq46.field-0.0 first (rw c.advance-in-Some-Delim-eq46.ensures at c.in_err-class_name-in-Some-Delim-eq46.ensures.reads))
+    rw (p.1, p.2) (part-class-fails (inner_list c.args.self.now.context.depth_left) (nesting_of c.args.self.now.context.nesting) c.args.self.now.reader (drop 1 c.args.self.now.reader) c.in_err-class_name-in-Some-Delim-eq46.field-0.0 c.class_name.new.self.reader first (rw c.advance-in-Some-Delim-eq46.ensures at c.in_err-class_name-in-Some-Delim-eq46.ensures.reads))
