@@ -34,7 +34,9 @@ preprocessed_fewer before [] = omega arith
 preprocessed_fewer before (c ∷ cs) =
     omega (arith, length-append (clean_points_after before c) (preprocessed_after c cs), cleaned_fewer (eqb before carriage_return && eqb c line_feed) c, preprocessed_fewer c cs)
 
-pub tokens-fewer : (text : List ℕ) → length (tokens text) ≤ length text
+pub tokens_of-fewer : (points : List ℕ) → length (tokens_of points) ≤ length points
 unfolding tokens_of
-tokens-fewer text =
-    omega (arith, somes_fewer (at_most (length (preprocessed text)) next (preprocessed text)).0, fewer next next-shrinks (length (preprocessed text)) (preprocessed text), preprocessed_fewer 0 text)
+tokens_of-fewer points = omega (arith, somes_fewer (at_most (length points) next points).0, fewer next next-shrinks (length points) points)
+
+pub tokens-fewer : (text : List ℕ) → length (tokens text) ≤ length text
+tokens-fewer text = omega (arith, tokens_of-fewer (preprocessed text), preprocessed_fewer 0 text)

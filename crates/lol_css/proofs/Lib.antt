@@ -8,3 +8,5 @@ pub mod Shorter
 pub mod Fusing
 pub mod Accepts
 pub mod Fewer
+pub mod Places
+pub mod Locating

@@ -7,6 +7,7 @@ pub mod Trees
 pub mod Drafts
 pub mod Reading
 pub mod Accepting
+pub mod Locating
 pub mod Judging
 pub mod Views
 pub mod TreeViews

@@ -147,11 +147,12 @@ delim (c ∷ cs) = Some (Some (Delim c), cs)
 unfoldable pub next : Row
 next text = comment text or space text or string text or hash text or number text or cdc text or identifier text or match_sign text or delim text
 
-abbrev pub with_first : Option Token → List Token → List Token
-with_first None tokens = tokens
-with_first (Some token) tokens = token ∷ tokens
+abbrev pub with_first : {A : Type 0} → Option A → List A → List A
+with_first None all = all
+with_first (Some first) all = first ∷ all
 
-abbrev pub somes : List (Option Token) → List Token
+-- those that are there
+abbrev pub somes : {A : Type 0} → List (Option A) → List A
 somes [] = []
 somes (first ∷ all) = with_first first (somes all)
 

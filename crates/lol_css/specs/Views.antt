@@ -9,6 +9,7 @@ use Rattle.lol_css.specs.Rules.{Read, refused, at_end}
 use Rattle.lol_css.specs.declared.selector.Combinator.{Combinator}
 use Rattle.lol_css.specs.declared.error.SelectorError.{SelectorError}
 use Rattle.lol_css.specs.declared.error.SelectorError.TheVariants.{UnexpectedEnd, Memory}
+use Rattle.lol_css.specs.declared.selectors.refusals.RefusedItem.{RefusedItem}
 use Rattle.lol_css.specs.declared.selectors.judged.Judged.{Judged}
 use Rattle.lol_css.specs.declared.selectors.judged.Judged.TheVariants.{Kept, Refused}
 use Rattle.lol_css.specs.declared.syntax.reader.Nesting.{Nesting}
@@ -100,3 +101,22 @@ judgement view (Refused cause) = Err cause
 
 abbrev pub step_judgement : Judged Combinator → Result Combinator SelectorError
 step_judgement step = judgement (λ combinator. combinator) step
+
+-- what a rule reads, unless it refuses
+abbrev pub read_of : {Y : Type 0} → Read Y → Option Y
+read_of (Ok x) = Some x.0
+read_of (Err refusal) = None
+
+-- the tokens after what a rule reads, or from the first that it refuses on
+abbrev pub left_of : {Y : Type 0} → Read Y → List tokens.Token
+left_of (Ok x) = x.1
+left_of (Err refusal) = refusal.left
+
+-- an item that is refused, by its number and the token's
+abbrev pub numbers : RefusedItem → ℕ × ℕ
+numbers item = (item.number, item.token)
+
+-- the place of what is refused late
+abbrev pub late_place : {X : Type 0} → Result X SelectorError → ℕ × ℕ → Option (ℕ × ℕ)
+late_place (Ok x) place = None
+late_place (Err cause) place = Some place

@@ -1,4 +1,4 @@
-//! Why a text is no selector.
+//! Why a text is no selector, and where.
 
 ghost use Rattle.std.specs.Prelude.{◌≡◌};
 ghost use Rattle.lol_css.specs.declared.error.SelectorError.TheVariants.{Memory};
@@ -80,4 +80,13 @@ impl<T: Drop> From<AllocFailed<T>> for SelectorError {
     fn from(_error: AllocFailed<T>) -> SelectorError {
         SelectorError::Memory
     }
+}
+
+/// Where a text is refused.
+#[derive(Debug, Clone, Copy, PartialEq, Eq)]
+pub struct ErrorLocation {
+    /// The number of the item in the outermost list, from 0.
+    pub item: usize,
+    /// The byte offset in the text, as it is given: of the first token that is refused, or of the item where it is refused late.
+    pub offset: usize,
 }

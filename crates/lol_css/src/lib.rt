@@ -9,7 +9,7 @@ mod selector;
 mod selectors;
 mod syntax;
 
-pub use error::SelectorError;
+pub use error::{ErrorLocation, SelectorError};
 pub use lol_base::{AttrSelectorOperator, CaseSensitivity, NthChild, ParsedCaseSensitivity};
 pub use parser::{Selector, SelectorsParser};
 pub use selector::{

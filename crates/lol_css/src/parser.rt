@@ -1,19 +1,18 @@
-//! Reading selectors.
+//! Reading selectors, and where they are refused.
 
 ghost use Rattle.std.specs.Prelude.{◌≡◌, ◌⊎◌, Ok, Err, IfOk, IfErr};
 ghost use Rattle.lol_css.specs.Accepting.{accept};
+ghost use Rattle.lol_css.specs.Locating.{error_location};
 ghost use Rattle.lol_css.specs.TreeViews.{list_of};
 ghost use Rattle.lol_css.specs.declared.error.SelectorError.TheVariants.{Memory};
 
-use crate::error::SelectorError;
+use crate::error::{ErrorLocation, SelectorError};
 use crate::selector::SelectorList;
-use crate::selectors::parser::{Context, Parser};
+use crate::selectors::parser::Parser;
+use crate::selectors::refusals::refused_item;
+use crate::syntax::places::{point_offset, points_before};
 use crate::syntax::points::preprocessed;
-use crate::syntax::reader::{Nesting, Reader};
-use std::alloc::Global;
-
-/// How many of `:not`, `:is` and `:where` may be open at once.
-const MAX_NESTING: u32 = 128;
+use std::alloc::{AllocError, Global};
 
 /// The parser of selectors, as lol_html's `selectors_vm::SelectorsParser`.
 pub struct SelectorsParser;
@@ -29,14 +28,7 @@ impl SelectorsParser {
         ensures err { IfErr result (λ cause. (cause ≡ Memory) ⊎ (accept text.now ≡ Err cause)) }
     {
         let points = preprocessed(alloc, text)?;
-        let mut parser = Parser {
-            reader: Reader::new(points.as_slice()),
-            context: Context {
-                nesting: Nesting::Outside,
-                depth_left: MAX_NESTING,
-            },
-            alloc,
-        };
+        let mut parser = Parser::outermost(alloc, points.as_slice());
         parser.list()?.into_result()
     }
 }
@@ -72,6 +64,31 @@ impl Selector {
         Ok(Selector {
             list: SelectorsParser::parse(alloc, text)?,
         })
+    }
+
+    /// Where `from_str` refuses a text: the item of the outermost list, and the byte offset; nothing where the text is accepted.
+    ///
+    /// Where a token can't stand where it does, the offset is the token's, or the text's length at the end. Where the whole list is read
+    /// and an item of it is refused then, as `a + b`, the offset is that of the item's first token that is no white space.
+    /// Tokens are those of CSS Syntax 3, section 4.
+    ///
+    /// The text is read as by `from_str`, and walked over a few times more: call it only for a text that is refused.
+    ///
+    /// # Errors
+    ///
+    /// `AllocError` where the allocator is out of memory.
+    pub fn locate_error(alloc: Global, text: &str) -> Result<Option<ErrorLocation>, AllocError>
+        ensures located { IfOk result (λ location. location ≡ error_location text.now) }
+    {
+        let points = preprocessed(alloc, text)?;
+        let Some(refused) = refused_item(alloc, points.as_slice())? else {
+            return Ok(None);
+        };
+        let before = points_before(points.as_slice(), refused.token);
+        Ok(Some(ErrorLocation {
+            item: refused.number,
+            offset: point_offset(text, before),
+        }))
     }
 
     /// The items of the selector.

@@ -7,4 +7,5 @@ mod judged;
 mod logical;
 pub(crate) mod parser;
 mod pseudo_classes;
+pub(crate) mod refusals;
 mod rules;

@@ -144,7 +144,7 @@ impl Parser<'_> {
 
     /// An item: compounds, each a step from the one before it.
     #[cycle(rules)]
-    fn item(&mut self) -> Result<Judged<ComplexSelector>, SelectorError>
+    pub(crate) fn item(&mut self) -> Result<Judged<ComplexSelector>, SelectorError>
         ensures reads { ReadsUnlessMemory (judgement item_of) result self.new.reader (giving (judged_item (is_inside self.old.context.nesting)) (item (inner_list self.old.context.depth_left) (nesting_of self.old.context.nesting) self.old.reader)) }
         ensures context { self.new.context ≡ self.old.context }
     {

@@ -1,7 +1,8 @@
 //! Texts as code points: preprocessing, escapes, and what a place starts (CSS Syntax 3, sections 3.3 and 4.3).
 
-ghost use Rattle.std.specs.Prelude.{◌≡◌, ◌++◌, OnOk, ◌<◌, ◌≤◌, length, IfOk, IfSome};
+ghost use Rattle.std.specs.Prelude.{◌≡◌, ◌==◌, ◌&&◌, ◌++◌, OnOk, ◌<◌, ◌≤◌, length, IfOk, IfSome};
 ghost use Rattle.std.specs.Str.{chars};
+ghost use Rattle.lol_base.specs.CodePoints.{line_feed, carriage_return};
 ghost use Rattle.lol_css.specs.Points.{past, first_passes, is_decimal, digit, hexadecimal, code_point, preprocessed, clean_point, clean_points_after, is_white_space, is_name_start, is_in_name, escaped_point, name_point, begins_escape, begins_name, starts_identifier, starts_number};
 ghost use Rattle.lol_css.specs.Views.{Took};
 
@@ -20,10 +21,17 @@ pub(crate) fn preprocessed(alloc: Global, text: &str) -> Result<Vec<char>, Alloc
     Ok(points)
 }
 
+/// Whether a code point is an LF that ends a line together with the CR before it.
+pub(crate) fn ends_crlf(before: char, c: char) -> bool
+    ensures { result ≡ (before == carriage_return && c == line_feed) }
+{
+    before == '\r' && c == '\n'
+}
+
 fn push_clean(points: &mut Vec<char>, before: char, c: char) -> Result<(), AllocError>
     ensures { OnOk result (points.new.items ≡ points.old.items ++ clean_points_after before c) }
 {
-    if !(before == '\r' && c == '\n') {
+    if !ends_crlf(before, c) {
         points.push(clean_point(c))?;
     }
     Ok(())

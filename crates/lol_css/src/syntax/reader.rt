@@ -1,6 +1,6 @@
 //! A text as tokens, with one token of look-ahead.
 
-ghost use Rattle.std.specs.Prelude.{◌≡◌, List, [], drop, None, Some};
+ghost use Rattle.std.specs.Prelude.{◌≡◌, List, [], length, drop, None, Some};
 ghost use Rattle.std.specs.Option.{option_map};
 ghost use Rattle.lol_css.specs.Points.{first_passes};
 ghost use Rattle.lol_css.specs.Tokens as tokens;
@@ -11,7 +11,7 @@ ghost use Rattle.lol_css.specs.declared.error.SelectorError.TheVariants.{Unexpec
 
 use crate::error::SelectorError;
 use crate::syntax::texts::Name;
-use crate::syntax::tokens::{Token, first_token};
+use crate::syntax::tokens::{Token, count_tokens, first_token};
 use std::marker::Model;
 use std::mem;
 
@@ -44,6 +44,26 @@ impl<'a> Reader<'a> {
     {
         let (ahead, text) = first_token(text);
         Reader { ahead, text }
+    }
+
+    /// Another reader of the same tokens.
+    pub(crate) fn fork(&self) -> Reader<'a>
+        ensures { result ≡ self.now }
+    {
+        Reader {
+            ahead: self.ahead,
+            text: self.text,
+        }
+    }
+
+    /// How many tokens are left.
+    pub(crate) fn count(&self) -> usize
+        ensures { result ≡ length self.now }
+    {
+        match self.ahead {
+            Some(_) => 1 + count_tokens(self.text),
+            None => 0,
+        }
     }
 
     /// The token that comes next, which stays.

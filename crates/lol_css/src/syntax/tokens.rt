@@ -70,7 +70,7 @@ pub(crate) enum Token<'a> {
 }
 
 /// What a row gives: nothing where it doesn't fit, else its token (none for a comment) and what is left.
-type Found<'a> = Option<(Option<Token<'a>>, &'a [char])>;
+pub(crate) type Found<'a> = Option<(Option<Token<'a>>, &'a [char])>;
 
 /// A code point of a comment, and what is left; nothing at its end.
 #[tactic(auto, unfolding(crate::specs::Tokens::in_comment))]
@@ -334,7 +334,7 @@ fn delim(text: &[char]) -> Found<'_>
 
 /// What stands first: a token, or a comment, and what is left.
 #[tactic(auto, unfolding(crate::specs::Tokens::next))]
-fn next(text: &[char]) -> Found<'_>
+pub(crate) fn next(text: &[char]) -> Found<'_>
     ensures { Took (λ x. (option_map token_of x.0, x.1.now)) result (next text.now) }
 {
     if let Some(found) = comment(text) {
@@ -377,4 +377,18 @@ pub(crate) fn first_token(text: &[char]) -> (Option<Token<'_>>, &[char])
             Some((None, after)) => rest = after,
         }
     }
+}
+
+/// How many tokens a text has.
+pub(crate) fn count_tokens(text: &[char]) -> usize
+    ensures value { result ≡ length (tokens_of text.now) }
+    ensures small { result ≤ length text.now }
+{
+    let mut count = 0;
+    let mut rest = text;
+    while let (Some(_), after) = first_token(rest) {
+        count += 1;
+        rest = after;
+    }
+    count
 }

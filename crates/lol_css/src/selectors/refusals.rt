@@ -1,0 +1,94 @@
+//! Which item of the outermost list is refused, and from which token on.
+
+ghost use Rattle.std.specs.Prelude.{◌≡◌, ◌-◌, length, IfOk};
+ghost use Rattle.std.specs.Option.{option_map};
+ghost use Rattle.lol_css.specs.Points.{◌or◌};
+ghost use Rattle.lol_css.specs.Tokens.{tokens_of};
+ghost use Rattle.lol_css.specs.Rules.{giving, skip_space};
+ghost use Rattle.lol_css.specs.Reading.{item, inner_list};
+ghost use Rattle.lol_css.specs.Accepting.{judged_item};
+ghost use Rattle.lol_css.specs.Locating.{refused_token};
+ghost use Rattle.lol_css.specs.Views.{nesting_of, is_inside, judgement, read_of, left_of, numbers, late_place};
+ghost use Rattle.lol_css.specs.TreeViews.{item_of};
+
+use crate::error::SelectorError;
+use crate::selector::ComplexSelector;
+use crate::selectors::judged::Judged;
+use crate::selectors::parser::Parser;
+use crate::syntax::reader::{Nesting, Reader};
+use std::alloc::{AllocError, Global};
+
+/// An item of the outermost list that is refused.
+#[derive(Drop)]
+pub(crate) struct RefusedItem {
+    /// How many items stand before it.
+    pub number: usize,
+    /// How many tokens of the text stand before the first that is refused.
+    pub token: usize,
+}
+
+impl Parser<'_> {
+    /// An item; nothing where it is refused as it is read, which leaves the reader at the first token that is refused.
+    fn item_if_read(&mut self) -> Result<Option<Judged<ComplexSelector>>, AllocError>
+        ensures read { IfOk result (λ found. option_map (judgement item_of) found ≡ read_of (giving (judged_item (is_inside self.old.context.nesting)) (item (inner_list self.old.context.depth_left) (nesting_of self.old.context.nesting) self.old.reader))) }
+        ensures left { IfOk result (λ _. self.new.reader ≡ left_of (giving (judged_item (is_inside self.old.context.nesting)) (item (inner_list self.old.context.depth_left) (nesting_of self.old.context.nesting) self.old.reader))) }
+        ensures context { self.new.context ≡ self.old.context }
+    {
+        match self.item() {
+            Ok(item) => Ok(Some(item)),
+            Err(SelectorError::Memory) => Err(AllocError),
+            Err(_) => Ok(None),
+        }
+    }
+}
+
+/// The first item that is refused late: the one that was found, or this one, which has this number and begins here.
+fn first_late(
+    found: Option<RefusedItem>,
+    item: Judged<ComplexSelector>,
+    number: usize,
+    mut start: Reader<'_>,
+    all: usize,
+) -> Option<RefusedItem>
+    ensures { option_map numbers result ≡ (option_map numbers found or late_place (judgement item_of item) (number, all - length (skip_space start.entry))) }
+{
+    if found.is_some() {
+        return found;
+    }
+    match item {
+        Judged::Kept(_) => None,
+        Judged::Refused(_) => {
+            start.skip_space();
+            Some(RefusedItem {
+                number,
+                token: all.saturating_sub(start.count()),
+            })
+        }
+    }
+}
+
+/// The item that is refused of a text that is preprocessed: the first that is refused as it is read, or else the first that is refused late.
+pub(crate) fn refused_item(
+    alloc: Global,
+    points: &[char],
+) -> Result<Option<RefusedItem>, AllocError>
+    ensures { IfOk result (λ found. option_map numbers found ≡ refused_token (tokens_of points.now)) }
+{
+    let mut parser = Parser::outermost(alloc, points);
+    let all = parser.reader.count();
+    let mut number = 0;
+    let mut late = None;
+    'items: loop {
+        let start = parser.reader.fork();
+        let Some(item) = parser.item_if_read()? else {
+            let token = all.saturating_sub(parser.reader.count());
+            return Ok(Some(RefusedItem { number, token }));
+        };
+        late = first_late(late, item, number, start, all);
+        if parser.reader.is_at_end(Nesting::Outside) {
+            return Ok(late);
+        }
+        parser.reader.advance();
+        number += 1;
+    }
+}
