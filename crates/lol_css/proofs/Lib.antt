@@ -10,3 +10,4 @@ pub mod Accepts
 pub mod Fewer
 pub mod Places
 pub mod Locating
+pub mod Located

@@ -9,7 +9,7 @@ use Rattle.lol_css.specs.Rules.{Read, giving, skip_space, Outside, at_end}
 use Rattle.lol_css.specs.Reading.{inner_list}
 use Rattle.lol_css.specs.Accepting.{judged_item}
 use Rattle.lol_css.specs.Judging.{Judged}
-use Rattle.lol_css.specs.Locating.{outer_item, items_after, items_at_most, outer_items, early, late, first_refused, refused_token}
+use Rattle.lol_css.specs.Locating.{outer_item, items_after, outer_items_at_most, outer_items, early, late, first_refused, refused_token}
 use Rattle.lol_css.specs.Views.{read_of, left_of, late_place}
 use Rattle.lol_css.proofs.Shorter.{item-leaves, inner_list-leaves}
 
@@ -47,20 +47,20 @@ after_same (Ok p) f g h = after_same_of (at_end Outside p.1) (f (drop 1 p.1)) (g
 after_same (Err refusal) f g h = refl
 
 -- more rounds than tokens change nothing
-items_enough : (m n : ℕ) (tokens : List Token) → length tokens < m → length tokens < n → items_at_most m tokens ≡ items_at_most n tokens
-unfolding items_at_most
+pub items_enough : (m n : ℕ) (tokens : List Token) → length tokens < m → length tokens < n → outer_items_at_most m tokens ≡ outer_items_at_most n tokens
+unfolding outer_items_at_most
 items_enough zero n tokens a b = absurd (omega arith)
 items_enough (suc m) zero tokens a b = absurd (omega arith)
 items_enough (suc m) (suc n) tokens a b =
-    ap (λ (l : List (List Token)). tokens ∷ l) (after_same (outer_item tokens) (items_at_most m) (items_at_most n) (λ x rest e end.
+    ap (λ (l : List (List Token)). tokens ∷ l) (after_same (outer_item tokens) (outer_items_at_most m) (outer_items_at_most n) (λ x rest e end.
     let less = next_item-shorter tokens x rest e end in
     items_enough m n (drop 1 rest) (omega (arith, less)) (omega (arith, less))))
 
 pub outer_items-unfold : (tokens : List Token) → outer_items tokens ≡ tokens ∷ items_after outer_items (outer_item tokens)
-unfolding items_at_most
+unfolding outer_items_at_most
 outer_items-unfold tokens =
     let n : length tokens + 1 ≡ suc (length tokens) = omega arith in
-    rw n (ap (λ (l : List (List Token)). tokens ∷ l) (after_same (outer_item tokens) (items_at_most (length tokens)) outer_items (λ x rest e end.
+    rw n (ap (λ (l : List (List Token)). tokens ∷ l) (after_same (outer_item tokens) (outer_items_at_most (length tokens)) outer_items (λ x rest e end.
     let less = next_item-shorter tokens x rest e end in
     items_enough (length tokens) (length (drop 1 rest) + 1) (drop 1 rest) (omega (arith, less)) (omega arith))))
 
@@ -77,19 +77,19 @@ told whole n found tokens = option_map (place whole) (first_refused early n (out
 pub told-starts : (tokens : List Token) → told tokens 0 None tokens ≡ refused_token tokens
 told-starts tokens = sym (or_map (place tokens) (first_refused early 0 (outer_items tokens)) (first_refused late 0 (outer_items tokens)))
 
-abbrev early_of : Read DraftItem → Option (List Token)
+abbrev pub early_of : Read DraftItem → Option (List Token)
 early_of read = elim read [ Ok x ↦ None | Err refusal ↦ Some refusal.left ]
 
-abbrev late_of : List Token → Read DraftItem → Option (List Token)
+abbrev pub late_of : List Token → Read DraftItem → Option (List Token)
 late_of tokens read = elim read [
   | Ok x ↦ elim (judged_item false x.0) [ Ok kept ↦ None | Err cause ↦ Some (skip_space tokens) ]
   | Err refusal ↦ None
 ]
 
-early_is : (tokens : List Token) (read : Read DraftItem) → outer_item tokens ≡ read → early tokens ≡ early_of read
+pub early_is : (tokens : List Token) (read : Read DraftItem) → outer_item tokens ≡ read → early tokens ≡ early_of read
 early_is tokens read e = ap early_of e
 
-late_is : (tokens : List Token) (read : Read DraftItem) → outer_item tokens ≡ read → late tokens ≡ late_of tokens read
+pub late_is : (tokens : List Token) (read : Read DraftItem) → outer_item tokens ≡ read → late tokens ≡ late_of tokens read
 late_is tokens read e = ap (late_of tokens) e
 
 told_early_of : (read : Read DraftItem) (whole : List Token) (n : ℕ) (found : Option (ℕ × ℕ)) (tokens : List Token) → outer_item tokens ≡ read → read_of (giving (judged_item false) read) ≡ None → told whole n found tokens ≡ Some (n, length whole - length (left_of (giving (judged_item false) read)))

@@ -23,13 +23,13 @@ items_after others (Ok x) = if at_end Outside x.1 then [] else others (drop 1 x.
 items_after others (Err refusal) = []
 
 -- the items of the outermost list, each as the tokens from where it begins on, up to the first that is refused as it is read
-unfoldable pub items_at_most : ℕ → List Token → List (List Token)
-items_at_most zero tokens = []
-items_at_most (suc n) tokens = tokens ∷ items_after (items_at_most n) (outer_item tokens)
+unfoldable pub outer_items_at_most : ℕ → List Token → List (List Token)
+outer_items_at_most zero tokens = []
+outer_items_at_most (suc n) tokens = tokens ∷ items_after (outer_items_at_most n) (outer_item tokens)
 
 -- each item but the last ends at a comma, so there are at most so many
 abbrev pub outer_items : List Token → List (List Token)
-outer_items tokens = items_at_most (length tokens + 1) tokens
+outer_items tokens = outer_items_at_most (length tokens + 1) tokens
 
 -- where an item is refused as it is read: from the first token that is refused
 abbrev pub early : List Token → Option (List Token)
