@@ -5,6 +5,7 @@ use Rattle.lol_css.specs.Trees.{LocalName, AnyName, NoNamespace, Id, Class, Exis
 use Rattle.lol_base.specs.declared.attribute.AttrSelectorOperator.TheVariants.{Equal, Includes, DashMatch, Prefix, Substring, Suffix}
 use Rattle.lol_base.specs.declared.attribute.ParsedCaseSensitivity.TheVariants.{ExplicitCaseSensitive, AsciiCaseInsensitive, CaseSensitive, AsciiCaseInsensitiveIfInHtmlElementInHtmlDocument}
 use Rattle.lol_css.specs.declared.selector.Combinator.TheVariants.{Child, Descendant}
+use Rattle.lol_css.specs.declared.error.ErrorLocation.{ErrorLocation}
 use Rattle.lol_css.specs.declared.error.SelectorError.{SelectorError}
 use Rattle.lol_css.specs.declared.error.SelectorError.TheVariants.{UnexpectedToken, UnexpectedEnd, MissingAttributeName, EmptySelector, DanglingCombinator, UnexpectedTokenInAttribute, UnsupportedPseudoClassOrElement, NamespacedSelector, InvalidClassName, UnsupportedCombinator}
 
@@ -125,6 +126,68 @@ refused_pseudo =
     ∷ codes ":read-write" ∷ codes ":required" ∷ codes ":right" ∷ codes ":root" ∷ codes ":scope" ∷ codes ":target" ∷ codes ":target-within" ∷ codes ":user-invalid"
     ∷ codes ":valid" ∷ codes ":visited" ∷ codes "::after" ∷ codes "::backdrop" ∷ codes "::before" ∷ codes "::cue" ∷ codes "::first-letter"
     ∷ codes "::first-line" ∷ codes "::grammar-error" ∷ codes "::marker" ∷ codes "::placeholder" ∷ codes "::selection" ∷ codes "::slotted()" ∷ codes "::spelling-error" ∷ []
+
+-- a text, and where it is refused
+pub record Located : Type 0 where
+  pub text : List ℕ
+  pub location : ErrorLocation
+
+abbrev pub refused_at : List ℕ → ℕ → ℕ → Located
+refused_at text item offset = record { text = text; location = record { item = item; offset = offset } }
+
+abbrev pub located_rows : List Located
+located_rows =
+    refused_at [] 0 0
+    ∷ refused_at (codes ",a") 0 0
+    ∷ refused_at (codes "a,,b") 1 2
+    ∷ refused_at (codes "a, ") 1 3
+    ∷ refused_at (codes "a)") 0 1
+    ∷ refused_at (codes "*|") 0 2
+    ∷ refused_at (codes "a b|c") 0 3
+    ∷ refused_at (codes "div, p >") 1 8
+    ∷ refused_at (codes "a > + b") 0 4
+    ∷ refused_at (codes "a.") 0 2
+    ∷ refused_at (codes ".foo()") 0 1
+    ∷ refused_at (codes "a[href^=]") 0 8
+    ∷ refused_at (codes "[a=\"x\ny\"]") 0 3
+    ∷ refused_at (codes "[a=b x]") 0 5
+    ∷ refused_at (codes "[a*|b]") 0 2
+    ∷ refused_at (codes "a:foo") 0 2
+    ∷ refused_at (codes "a, b:foo(x)") 1 5
+    ∷ refused_at (codes "a: b") 0 2
+    ∷ refused_at (codes "a::before") 0 3
+    ∷ refused_at (codes "a::") 0 3
+    ∷ refused_at (codes ":nth-child()") 0 11
+    ∷ refused_at (codes ":nth-child(2147483648)") 0 11
+    ∷ refused_at (codes ":nth-child(n + 2147483648)") 0 15
+    ∷ refused_at (codes ":nth-child(n-2147483649)") 0 11
+    ∷ refused_at (codes ":nth-child(--n)") 0 11
+    ∷ refused_at (codes ":nth-child(+ n)") 0 12
+    ∷ refused_at (codes ":nth-child(2n of a)") 0 14
+    ∷ refused_at (codes "a:not(b, c|d)") 0 10
+    ∷ refused_at (codes "x, :not(:is(a,))") 1 14
+    ∷ refused_at (codes "p, a + b") 1 3
+    ∷ refused_at (codes "a ,  b > c ~ d") 1 5
+    ∷ refused_at (codes "a + b, c ~ d") 0 0
+    ∷ refused_at (codes "a + b, c[") 1 9
+    ∷ refused_at (codes " [*|a], b") 0 1
+    ∷ refused_at (codes "a, b, :is(c d), :root") 2 6
+    ∷ refused_at (codes "a,\r\nb|c") 1 5
+    ∷ refused_at (codes "a,\rb|c") 1 4
+    ∷ refused_at (97 ∷ 0 ∷ codes "|b") 0 2
+    ∷ refused_at (195 ∷ 169 ∷ codes "|b") 0 2
+    ∷ refused_at (230 ∷ 151 ∷ 165 ∷ codes ", " ++ 240 ∷ 157 ∷ 132 ∷ 158 ∷ codes ")") 1 9
+    ∷ refused_at (codes "/*" ++ 195 ∷ 169 ∷ codes "*/a|b") 0 7
+    ∷ refused_at (codes "a/*x*/|b") 0 6
+    ∷ refused_at (codes "a,/**/ b + c") 1 7
+    ∷ refused_at (codes "a,/*x") 1 5
+    ∷ refused_at (codes "\\31 a|b") 0 5
+    ∷ refused_at (codes "\\31\r\nb|c") 0 6
+    ∷ []
+
+-- texts that are accepted, and so refused nowhere
+abbrev pub unlocated_texts : List (List ℕ)
+unlocated_texts = codes "a, b" ∷ codes "div.foo#bar:not([baz])" ∷ codes "a/* b" ∷ codes "[foo=\"bar" ∷ []
 
 -- a text so often
 abbrev pub times : ℕ → List ℕ → List ℕ
