@@ -5,6 +5,8 @@
 #[cfg(test)]
 mod css;
 #[cfg(test)]
+mod locations;
+#[cfg(test)]
 mod readings;
 #[cfg(test)]
 mod texts;
