@@ -4,6 +4,7 @@ ghost use Rattle.std.specs.Prelude.{◌≡◌};
 ghost use Rattle.lol_css.specs.declared.error.SelectorError.TheVariants.{Memory};
 
 use std::alloc::{AllocError, AllocFailed};
+use std::fmt;
 use thiserror::Error;
 
 /// The first cause for which a text is refused, as in lol_html's `selectors_vm::SelectorError`.
@@ -89,4 +90,12 @@ pub struct ErrorLocation {
     pub item: usize,
     /// The byte offset in the text, as it is given: of the first token that is refused, or of the item where it is refused late.
     pub offset: usize,
+}
+
+impl fmt::Display for ErrorLocation {
+    fn fmt<W: fmt::Write>(&self, f: &mut fmt::Formatter<W>) -> fmt::Result {
+        let item = self.item;
+        let offset = self.offset;
+        write!(f, "item {item}, byte {offset}")
+    }
 }

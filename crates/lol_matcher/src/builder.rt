@@ -1,8 +1,8 @@
 //! Selectors and settings, before the first tag.
 
+use crate::error::AddError;
 use crate::matcher::Matcher;
 use crate::reading::add_text;
-use lol_css::SelectorError;
 use lol_memory::MatchId;
 use lol_program::Ast;
 use std::alloc::{AllocError, Global};
@@ -85,10 +85,10 @@ impl MatcherBuilder {
     /// Adds the selectors of a text, a list of them with commas, under an id. Several texts may have one id.
     ///
     /// # Errors
-    /// Why the text isn't accepted, or `Memory`. Then the matcher answers as if the text had not been given.
-    pub fn add(&mut self, id: MatchId, text: &str) -> Result<(), SelectorError>
+    /// Why the text isn't accepted and where, or `Memory`. Then the matcher answers as if the text had not been given.
+    pub fn add(&mut self, id: MatchId, text: &str) -> Result<(), AddError>
         ensures added { OnOk result (Adds id text.now self.old.ast self.new.ast) }
-        ensures refused { IfErr result (λ cause. Refuses id text.now cause self.old.ast self.new.ast) }
+        ensures refused { IfErr result (λ error. Refuses id text.now error self.old.ast self.new.ast) }
         ensures rest { self.new ≡ record self.old { ast = self.new.ast } }
     {
         add_text(self.alloc, &mut self.ast, id, text)

@@ -1,6 +1,22 @@
 //! Why a call was refused.
 
+use lol_css::{ErrorLocation, SelectorError};
 use thiserror::Error;
+
+/// Why a text wasn't added.
+#[derive(Debug, Clone, Copy, PartialEq, Eq, Error)]
+pub enum AddError {
+    /// The text isn't accepted as a selector: the cause, and which item of the list is refused from which byte on, both from 0.
+    #[error("{cause} ({location})")]
+    Refused {
+        cause: SelectorError,
+        location: ErrorLocation,
+    },
+
+    /// Memory was refused.
+    #[error("out of memory")]
+    Memory,
+}
 
 /// Why a tag wasn't answered.
 #[derive(Debug, Clone, Copy, PartialEq, Eq, Error)]

@@ -15,11 +15,11 @@ mod tags;
 mod tests;
 
 pub use builder::MatcherBuilder;
-pub use error::MatcherError;
+pub use error::{AddError, MatcherError};
 pub use lol_base::{
     AttributeBuffer, AttributeOutline, Attributes, AuxStartTagInfo, Bytes, Namespace, Range,
 };
-pub use lol_css::SelectorError;
+pub use lol_css::{ErrorLocation, SelectorError};
 pub use lol_memory::{MatchId, MatchInfo};
 pub use lol_program::Tries;
 pub use lol_stack::ElementValue;

@@ -1,8 +1,11 @@
 //! Selectors from texts.
 
-ghost use Rattle.std.specs.Prelude.{◌≡◌, ◌⊎◌, Ok, Err, IfErr, OnOk};
-ghost use Rattle.lol_matcher.specs.Building.{Adds, Refuses};
+ghost use Rattle.std.specs.Prelude.{◌≡◌, Err, IfErr, OnOk};
+ghost use Rattle.lol_css.specs.Accepting.{accept};
+ghost use Rattle.lol_matcher.specs.Building.{Adds, IsRefused, Refuses};
 
+use crate::error::AddError;
+use lol_css::laws::located_where_refused;
 use lol_css::{Selector, SelectorError};
 use lol_memory::MatchId;
 use lol_program::Ast;
@@ -14,11 +17,30 @@ pub(crate) fn add_text(
     ast: &mut Ast,
     id: MatchId,
     text: &str,
-) -> Result<(), SelectorError>
+) -> Result<(), AddError>
     ensures added { OnOk result (Adds id text.now ast.old ast.new) }
-    ensures refused { IfErr result (λ cause. Refuses id text.now cause ast.old ast.new) }
+    ensures refused { IfErr result (λ error. Refuses id text.now error ast.old ast.new) }
 {
-    let selector = Selector::from_str(alloc, text)?;
-    ast.add_selector(&selector, id)?;
-    Ok(())
+    let selector = match Selector::from_str(alloc, text) {
+        Ok(selector) => selector,
+        Err(SelectorError::Memory) => return Err(AddError::Memory),
+        Err(cause) => return Err(refusal(alloc, text, cause)),
+    };
+    match ast.add_selector(&selector, id) {
+        Ok(()) => Ok(()),
+        Err(_) => Err(AddError::Memory),
+    }
+}
+
+/// Why a text isn't added that isn't accepted: the cause and where, or memory was refused as it was looked for.
+fn refusal(alloc: Global, text: &str, cause: SelectorError) -> AddError
+    requires { accept text.now ≡ Err cause }
+    ensures { IsRefused text.now result }
+{
+    located_where_refused();
+    match Selector::locate_error(alloc, text) {
+        Ok(Some(location)) => AddError::Refused { cause, location },
+        Ok(None) => unreachable!(),
+        Err(_) => AddError::Memory,
+    }
 }

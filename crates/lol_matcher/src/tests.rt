@@ -1,8 +1,8 @@
 //! A matcher on small pages.
 
 use crate::{
-    AttributeBuffer, AttributeOutline, Attributes, AuxStartTagInfo, Bytes, ElementValue, Matcher,
-    MatcherError, Namespace, Range, SelectorError, Started,
+    AddError, AttributeBuffer, AttributeOutline, Attributes, AuxStartTagInfo, Bytes, ElementValue,
+    ErrorLocation, Matcher, MatcherError, Namespace, Range, SelectorError, Started,
 };
 use std::alloc::Global;
 use std::process::Abort;
@@ -229,7 +229,12 @@ fn hands_out_values_after_a_refusal(rt: HostRuntime) -> Result<(), Fail> {
 #[test]
 fn leaves_out_a_text_that_is_refused(rt: HostRuntime) -> Result<(), Fail> {
     let mut builder = Matcher::builder(rt.alloc());
-    assert!(rt; builder.add(0, "div, p >") == Err(SelectorError::DanglingCombinator));
+    let location = ErrorLocation { item: 1, offset: 8 };
+    let cause = SelectorError::DanglingCombinator;
+    let refused = AddError::Refused { cause, location };
+    assert!(rt; builder.add(0, "div, p >") == Err(refused));
+    let text = format!(in rt.alloc(); "{refused}")?;
+    assert!(rt; text.as_str() == "Dangling combinator in selector. (item 1, byte 8)");
     builder.add(1, "p")?;
     let mut matcher = builder.build()?;
     assert!(rt; reports(&mut matcher, b"div", &[]) && reports(&mut matcher, b"p", &[1]));

@@ -3,22 +3,28 @@
 use crate::outcome::{Met, Stop, TURNS, expect};
 use crate::trees::attribute;
 use lol_matcher::{
-    Attributes, Matcher, MatcherBuilder, MatcherError, Namespace, SelectorError, Started,
+    AddError, Attributes, ErrorLocation, Matcher, MatcherBuilder, MatcherError, Namespace,
+    SelectorError,
 };
 use std::alloc::Global;
 
-/// `.a p` under 0 and `p` under 1; the start tags `div` with `class=a` and `p`, and the end tag `div`. A text whose adding is refused is
-/// added again; after a refused tag nothing is reported, and each later one is answered `Failed`.
+/// A matcher with a number for each open element.
+type Counting = Matcher<u32>;
+
+/// `.a p` under 0 and `p` under 1, and a text that isn't accepted; the start tags `div` with `class=a` and `p`, each with a value, and the
+/// end tag `div`. A text whose adding is refused is added again; after a refused tag nothing is reported, and each later one is answered
+/// `Failed`, while the end tag hands out the values of the elements before.
 pub(crate) fn matcher(alloc: Global) -> Result<Met, Stop> {
     let class = attribute(alloc, b"class", b"a")?;
     let mut builder = Matcher::builder(alloc);
     let first = add_in_turn(&mut builder, 0, ".a p")?;
+    let refused = refuse_in_turn(&mut builder)?;
     let second = add_in_turn(&mut builder, 1, "p")?;
-    let Ok(mut matcher) = builder.build() else {
+    let Ok(mut matcher) = builder.build_with_values::<u32>() else {
         return Ok(Met::Refusal);
     };
     let told = tell(&mut matcher, &class)?;
-    let met = [first, second, told].contains(&Met::Refusal);
+    let met = [first, refused, second, told].contains(&Met::Refusal);
     Ok(if met { Met::Refusal } else { Met::Nothing })
 }
 
@@ -26,50 +32,75 @@ fn add_in_turn(builder: &mut MatcherBuilder, id: u32, text: &str) -> Result<Met,
     for met in TURNS {
         match builder.add(id, text) {
             Ok(()) => return Ok(met),
-            Err(error) => expect(error == SelectorError::Memory)?,
+            Err(error) => expect(error == AddError::Memory)?,
         }
     }
     Err(Stop::Wrong)
 }
 
+fn refuse_in_turn(builder: &mut MatcherBuilder) -> Result<Met, Stop> {
+    let refused = AddError::Refused {
+        cause: SelectorError::DanglingCombinator,
+        location: ErrorLocation { item: 1, offset: 6 },
+    };
+    for met in TURNS {
+        let answer = builder.add(2, "p, a >");
+        if answer == Err(refused) {
+            return Ok(met);
+        }
+        expect(answer == Err(AddError::Memory))?;
+    }
+    Err(Stop::Wrong)
+}
+
 /// Tells of the tags, up to one that memory is refused for.
-fn tell(matcher: &mut Matcher, class: &Attributes) -> Result<Met, Stop> {
-    if let Err(error) = start_and_finish(matcher, b"div", class) {
-        return stuck(matcher, class, error);
+fn tell(matcher: &mut Counting, class: &Attributes) -> Result<Met, Stop> {
+    if let Err(error) = matcher.start_with(b"div", Namespace::Html, class.aux_info(false)) {
+        return stuck(matcher, class, error, &[]);
     }
-    expect(has_ids(matcher, &[]))?;
-    if let Err(error) = start_and_finish(matcher, b"p", class) {
-        return stuck(matcher, class, error);
+    expect(has_ids(matcher, &[]) && matcher.has_opened())?;
+    expect(matcher.replace_value(Some(1)).is_none())?;
+    if let Err(error) = matcher.start_with(b"p", Namespace::Html, class.aux_info(false)) {
+        return stuck(matcher, class, error, &[1]);
     }
-    expect(has_ids(matcher, &[0, 1]))?;
-    matcher.end(b"div");
+    expect(has_ids(matcher, &[0, 1]) && matcher.has_opened())?;
+    expect(matcher.replace_value(Some(2)).is_none())?;
+    expect(hands_out(matcher, &[1, 2]))?;
     expect(has_ids(matcher, &[]) && !matcher.has_failed())?;
     Ok(Met::Nothing)
 }
 
-/// Tells of a start tag of HTML and, where they are asked for, of its attributes.
-fn start_and_finish(
-    matcher: &mut Matcher,
-    name: &[u8],
-    attributes: &Attributes,
-) -> Result<(), MatcherError> {
-    match matcher.start(name, Namespace::Html)? {
-        Started::Reported => Ok(()),
-        Started::NeedsAttributes => matcher.finish(attributes.aux_info(false)),
-    }
-}
-
 /// What stands after a refusal.
-fn stuck(matcher: &mut Matcher, class: &Attributes, error: MatcherError) -> Result<Met, Stop> {
+fn stuck(
+    matcher: &mut Counting,
+    class: &Attributes,
+    error: MatcherError,
+    values: &[u32],
+) -> Result<Met, Stop> {
     expect(error == MatcherError::Memory && matcher.has_failed() && has_ids(matcher, &[]))?;
     expect(matcher.start(b"br", Namespace::Html) == Err(MatcherError::Failed))?;
     expect(matcher.finish(class.aux_info(false)) == Err(MatcherError::Failed))?;
-    matcher.end(b"div");
-    expect(matcher.has_failed() && has_ids(matcher, &[]))?;
+    expect(hands_out(matcher, values) && matcher.has_failed() && has_ids(matcher, &[]))?;
     Ok(Met::Refusal)
 }
 
-fn has_ids(matcher: &Matcher, ids: &[u32]) -> bool {
+/// Closes `div`: whether these values are handed out, in order, and no other.
+fn hands_out(matcher: &mut Counting, values: &[u32]) -> bool {
+    let mut count = 0usize;
+    let mut in_order = true;
+    matcher.end_with(
+        b"div",
+        &mut |element| {
+            if let Some(value) = element.value {
+                in_order = in_order && values.get(count) == Some(&value);
+                count = count.wrapping_add(1);
+            }
+        },
+    );
+    in_order && count == values.len()
+}
+
+fn has_ids(matcher: &Counting, ids: &[u32]) -> bool {
     matcher
         .matches()
         .iter()

@@ -42,10 +42,10 @@ returns-else-matches-clause-told g c = λ s esi events tag past pending rest.
     (ap (λ (l : Limiter). l.maximum) c.in-Ok.ensures.charged) (charged_more vm call.new.self limiter call.new.limiter call.ensures.bytes c.in-Ok.ensures.grows c.in-Ok.ensures.charged past.runs.charged)
     true answered c.open_elements-open_before.result c.open_elements-open_before.ensures c.clear_opened-opened.result c.clear_opened-opened.ensures _ kept in (
       reported laws.depths laws.ordered s esi events tag vm call.new.self c.clear_opened-opened.new.vm limiter call.new.limiter (charged_before laws.depths laws.ordered s esi events past.tag vm limiter past.runs past.dropped)
-      (room_before laws.depths laws.ordered s esi events past.tag vm limiter past.runs past.dropped) (countable_before laws.depths laws.ordered s esi events past.tag vm limiter past.runs past.dropped)
-      (λ opening. c.in-Ok.ensures.unlimited s esi events tag pending rest (has_content_if s esi events tag opening)) call.ensures.bytes
-      (ap (λ (l : Limiter). l.maximum) c.in-Ok.ensures.charged) (charged_more vm call.new.self limiter call.new.limiter call.ensures.bytes c.in-Ok.ensures.grows c.in-Ok.ensures.charged past.runs.charged)
-      true answered c.open_elements-open_before.result c.open_elements-open_before.ensures c.clear_opened-opened.result c.clear_opened-opened.ensures _ kept,
+          (room_before laws.depths laws.ordered s esi events past.tag vm limiter past.runs past.dropped) (countable_before laws.depths laws.ordered s esi events past.tag vm limiter past.runs past.dropped)
+          (λ opening. c.in-Ok.ensures.unlimited s esi events tag pending rest (has_content_if s esi events tag opening)) call.ensures.bytes
+          (ap (λ (l : Limiter). l.maximum) c.in-Ok.ensures.charged) (charged_more vm call.new.self limiter call.new.limiter call.ensures.bytes c.in-Ok.ensures.grows c.in-Ok.ensures.charged past.runs.charged)
+          true answered c.open_elements-open_before.result c.open_elements-open_before.ensures c.clear_opened-opened.result c.clear_opened-opened.ensures _ kept,
       parts.0,
       parts.1,
     )
@@ -56,18 +56,17 @@ returns-then-matches-clause-told g c = λ s esi events tag past pending rest.
     let vm = c.args.vm.now in
     let limiter = c.args.limiter.now in
     let call = c.finish_start_tag in
-    let answered = c.in-Ok.ensures.answered s esi events tag pending rest in
-    (
+    let answered = c.in-Ok.ensures.answered s esi events tag pending rest in (
       unreported laws.depths laws.ordered s esi events tag vm call.new.self c.clear_opened-opened.new.vm limiter call.new.limiter (charged_before laws.depths laws.ordered s esi events past.tag vm limiter past.runs past.dropped)
-      (room_before laws.depths laws.ordered s esi events past.tag vm limiter past.runs past.dropped) (countable_before laws.depths laws.ordered s esi events past.tag vm limiter past.runs past.dropped)
-      (λ opening. c.in-Ok.ensures.unlimited s esi events tag pending rest (has_content_if s esi events tag opening)) call.ensures.bytes
-      (ap (λ (l : Limiter). l.maximum) c.in-Ok.ensures.charged) (charged_more vm call.new.self limiter call.new.limiter call.ensures.bytes c.in-Ok.ensures.grows c.in-Ok.ensures.charged past.runs.charged)
-      true answered c.open_elements-open_before.result c.open_elements-open_before.ensures c.clear_opened-opened.result c.clear_opened-opened.ensures,
+          (room_before laws.depths laws.ordered s esi events past.tag vm limiter past.runs past.dropped) (countable_before laws.depths laws.ordered s esi events past.tag vm limiter past.runs past.dropped)
+          (λ opening. c.in-Ok.ensures.unlimited s esi events tag pending rest (has_content_if s esi events tag opening)) call.ensures.bytes
+          (ap (λ (l : Limiter). l.maximum) c.in-Ok.ensures.charged) (charged_more vm call.new.self limiter call.new.limiter call.ensures.bytes c.in-Ok.ensures.grows c.in-Ok.ensures.charged past.runs.charged)
+          true answered c.open_elements-open_before.result c.open_elements-open_before.ensures c.clear_opened-opened.result c.clear_opened-opened.ensures,
       leaves_unreported laws.depths laws.ordered s esi events tag vm call.new.self c.clear_opened-opened.new.vm limiter call.new.limiter (charged_before laws.depths laws.ordered s esi events past.tag vm limiter past.runs past.dropped)
-      (room_before laws.depths laws.ordered s esi events past.tag vm limiter past.runs past.dropped) (countable_before laws.depths laws.ordered s esi events past.tag vm limiter past.runs past.dropped)
-      (λ opening. c.in-Ok.ensures.unlimited s esi events tag pending rest (has_content_if s esi events tag opening)) call.ensures.bytes
-      (ap (λ (l : Limiter). l.maximum) c.in-Ok.ensures.charged) (charged_more vm call.new.self limiter call.new.limiter call.ensures.bytes c.in-Ok.ensures.grows c.in-Ok.ensures.charged past.runs.charged)
-      true answered c.open_elements-open_before.result c.open_elements-open_before.ensures c.clear_opened-opened.result c.clear_opened-opened.ensures,
+          (room_before laws.depths laws.ordered s esi events past.tag vm limiter past.runs past.dropped) (countable_before laws.depths laws.ordered s esi events past.tag vm limiter past.runs past.dropped)
+          (λ opening. c.in-Ok.ensures.unlimited s esi events tag pending rest (has_content_if s esi events tag opening)) call.ensures.bytes
+          (ap (λ (l : Limiter). l.maximum) c.in-Ok.ensures.charged) (charged_more vm call.new.self limiter call.new.limiter call.ensures.bytes c.in-Ok.ensures.grows c.in-Ok.ensures.charged past.runs.charged)
+          true answered c.open_elements-open_before.result c.open_elements-open_before.ensures c.clear_opened-opened.result c.clear_opened-opened.ensures,
     )
 
 pub returns-in-Err-Limit-clause-refused : goal.returns-in-Err-Limit-clause-refused

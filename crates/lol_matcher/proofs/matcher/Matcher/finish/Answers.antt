@@ -175,8 +175,7 @@ returns-in-Err-clause-not_asked g c =
     let w = waiting t vm c.in-Some.request c.self.inside.request (sym c.take.ensures.value ∙ c.in-Some.is) (c.self.invariant.waits c.if-self.false) in
     let past = runs_past t vm c.in-Some.request limiter w (c.self.invariant.runs c.if-self.false) in
     let tag = tag_of w.name w.namespace c.args.aux_info true in
-    let refusal = is_refusal c.in-Err.error _ _ (c.in-Err.ensures.refused (selectors t.ast) t.esi t.events tag past (w.pending tag refl refl) (refl, refl, refl)) in
-    (
+    let refusal = is_refusal c.in-Err.error _ _ (c.in-Err.ensures.refused (selectors t.ast) t.esi t.events tag past (w.pending tag refl refl) (refl, refl, refl)) in (
       λ is. absurd (subst (λ (r : Result (Unit {0}) MatcherError). IfErr r IsRefusal) is refusal),
       λ none.
           let waits : c.args.self.now.told.asked ≡ Some (w.name, w.namespace) = ap (λ m. m.told.asked) (sym c.self.view_is) ∙ w.asked in

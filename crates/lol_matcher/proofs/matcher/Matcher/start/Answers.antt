@@ -101,8 +101,8 @@ pub returns-in-Ok-Reported-clause-opens : goal.returns-in-Ok-Reported-clause-ope
 returns-in-Ok-Reported-clause-opens g c =
     let t = c.self.inside.past.history.told in
     rw (← c.self.view_is) (λ tag named spaced.
-        let leaves = leaves_reported (has_content t.esi tag) c.start_tag.new.matches.items.items (data_in c.self.inside.vm) (data_in c.start_tag.new.vm) _ _ c.in-Ok-Reported.field-0-is (c.in-Ok-Reported.ensures.leaves (selectors t.ast) t.esi (heard t) tag (c.self.invariant.runs c.if-self.false) named spaced) in
-        record { opened = leaves.0; kept = leaves.1 })
+    let leaves = leaves_reported (has_content t.esi tag) c.start_tag.new.matches.items.items (data_in c.self.inside.vm) (data_in c.start_tag.new.vm) _ _ c.in-Ok-Reported.field-0-is (c.in-Ok-Reported.ensures.leaves (selectors t.ast) t.esi (heard t) tag (c.self.invariant.runs c.if-self.false) named spaced) in
+    record { opened = leaves.0; kept = leaves.1 })
 
 pub returns-in-Ok-Reported-clause-tried : goal.returns-in-Ok-Reported-clause-tried
 returns-in-Ok-Reported-clause-tried g c =
