@@ -1,4 +1,3 @@
 pub mod Added
-pub mod Charges
 pub mod Pushed
 pub mod Told

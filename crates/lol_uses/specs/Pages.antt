@@ -1,14 +1,13 @@
 -- Pages, tag by tag.
-use Rattle.std.specs.Prelude.{◌*◌, ◌≡◌, Bool, true, false, List, [], ◌∷◌, ◌++◌, map}
+use Rattle.std.specs.Prelude.{◌≡◌, Bool, true, false, List, [], ◌∷◌, ◌++◌, map}
 use Rattle.lol_base.specs.StartTags.{StartTag, RangesAreInside}
-use Rattle.lol_memory.specs.Limiter.{Limiter, charged}
 use Rattle.lol_memory.specs.declared.match_info.MatchInfo.{MatchInfo}
 use Rattle.lol_program.specs.Paths.{Selectors}
 use Rattle.lol_vm.specs.Answers.{Match, answer, document}
 use Rattle.lol_stack.specs.Calls.{IsCalledAtEach}
 use Rattle.lol_vm.specs.Events as events
 use Rattle.lol_vm.specs.Views.{tag_of}
-use Rattle.lol_vm.specs.Vms.{Vm, Stands, info_of, slots_charged, slot_bytes}
+use Rattle.lol_vm.specs.Vms.{Vm, Stands, info_of}
 use Rattle.lol_uses.specs.Reported.{ids_of}
 use Rattle.lol_uses.specs.declared.page.PageTag.{PageTag}
 use Rattle.lol_uses.specs.declared.page.PageTag.TheVariants.{Start, End}
@@ -23,10 +22,6 @@ event_of_tag (End name) = events.End name.now
 abbrev pub HasAttributesInside : PageTag → Type 0
 HasAttributesInside (Start name ns aux) = RangesAreInside aux
 HasAttributesInside (End name) = Unit {0}
-
--- a limiter that was so before, once all slots of a machine are charged
-abbrev pub IsChargedFor : {E : Type 0} → Limiter → Vm E → Limiter → Type 0
-IsChargedFor before vm limiter = limiter ≡ charged before (slots_charged vm * slot_bytes vm)
 
 -- an item comes last, or memory was refused; after a refusal nothing is kept
 abbrev pub KeepsItem : {T : Type 0} → Kept T → T → Kept T → Type 0

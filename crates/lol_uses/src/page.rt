@@ -4,12 +4,12 @@ ghost use Rattle.std.specs.Prelude.{◌≡◌, ◌++◌, ◌∷◌, [], Bool, tr
 ghost use Rattle.lol_base.specs.StartTags.{StartTag, RangesAreInside};
 ghost use Rattle.lol_memory.specs.Limiter.{Limiter};
 ghost use Rattle.lol_program.specs.Paths.{Selectors};
-ghost use Rattle.lol_uses.specs.Pages.{HasAttributesInside, IsChargedFor, IsTold, KeepsItem, event_of_tag};
+ghost use Rattle.lol_uses.specs.Pages.{HasAttributesInside, IsTold, KeepsItem, event_of_tag};
 ghost use Rattle.lol_uses.specs.Reported.{ids_of, reported_ids};
 ghost use Rattle.lol_vm.specs.Answers.{answer, document};
 ghost use Rattle.lol_vm.specs.Events.{Event, Start, End};
 ghost use Rattle.lol_vm.specs.Views.{selectors, tag_of};
-ghost use Rattle.lol_vm.specs.Vms.{Stands, IsTagOf, IsRestOf, data_in, open_after};
+ghost use Rattle.lol_vm.specs.Vms.{Stands, ChargesSlots, IsTagOf, IsRestOf, data_in, open_after};
 
 use lol_base::{AuxStartTagInfo, LocalName, Namespace};
 use lol_memory::{DenseHashSet, MatchId, MatchInfo, SharedMemoryLimiter};
@@ -122,7 +122,7 @@ fn ids_of_tags(
 ) -> Result<Vec<MatchId>, Refused>
     requires { All HasAttributesInside page.now }
     ensures ids { IfOk result (λ ids. (s : Selectors) (esi : Bool) → Stands s esi vm.old [] → ids.items ≡ reported_ids s esi (map event_of_tag page.now)) }
-    ensures charge { (before : Limiter) → IsChargedFor before vm.old limiter.old → IsChargedFor before vm.new limiter.new }
+    ensures charges { ChargesSlots vm.old vm.new limiter.old limiter.new }
 {
     let mut ids = Vec::new(alloc);
     for tag in page {
@@ -144,7 +144,7 @@ fn ids_of_tag(
     requires { HasAttributesInside tag.now }
     ensures reported { IfOk result (λ ids. (s : Selectors) (esi : Bool) (events : List Event) → Stands s esi vm.old events → ids.items ≡ ids_of (answer s esi (document s esi events) (event_of_tag tag.now))) }
     ensures stands { OnOk result ((s : Selectors) (esi : Bool) (events : List Event) → Stands s esi vm.old events → Stands s esi vm.new (events ++ event_of_tag tag.now ∷ [])) }
-    ensures charge { (before : Limiter) → IsChargedFor before vm.old limiter.old → IsChargedFor before vm.new limiter.new }
+    ensures charges { ChargesSlots vm.old vm.new limiter.old limiter.new }
 {
     match tag {
         PageTag::Start { name, ns, aux_info } => {
@@ -172,7 +172,7 @@ pub fn start_tag(
     requires { RangesAreInside aux_info }
     ensures reported { IfOk result (λ ids. (s : Selectors) (esi : Bool) (events : List Event) → Stands s esi vm.old events → ids.items ≡ ids_of (answer s esi (document s esi events) (Start (tag_of name.now ns aux_info.entry true)))) }
     ensures stands { OnOk result ((s : Selectors) (esi : Bool) (events : List Event) → Stands s esi vm.old events → Stands s esi vm.new (events ++ Start (tag_of name.now ns aux_info.entry true) ∷ [])) }
-    ensures charge { (before : Limiter) → IsChargedFor before vm.old limiter.old → IsChargedFor before vm.new limiter.new }
+    ensures charges { ChargesSlots vm.old vm.new limiter.old limiter.new }
 {
     let mut kept = Kept::new(alloc);
     let mut handler = |info: MatchInfo|
@@ -208,7 +208,7 @@ fn match_start<F: FnMut(MatchInfo)>(
     requires callable { F.IsAlwaysCallable handler.old }
     ensures told { OnOk result ((s : Selectors) (esi : Bool) (events : List Event) (tag : StartTag) → Stands s esi vm.old events → IsTagOf local_name.entry ns tag → IsRestOf aux_info.entry tag
         → IsTold F.step s esi events tag vm.new handler.old handler.new) }
-    ensures charge { (before : Limiter) → IsChargedFor before vm.old limiter.old → IsChargedFor before vm.new limiter.new }
+    ensures charges { ChargesSlots vm.old vm.new limiter.old limiter.new }
 {
     let request = match vm.exec_for_start_tag(local_name, ns, limiter, handler) {
         Ok(()) => return Ok(()),
@@ -232,7 +232,7 @@ pub fn end_tag(
 ) -> Result<Vec<LinkElement>, AllocError>
     ensures closed { IfOk result (λ closed. (s : Selectors) (esi : Bool) (events : List Event) → Stands s esi vm.old events → closed.items ≡ drop (length (open_after name.now (document s esi events).open_elements)) (data_in vm.old)) }
     ensures stands { (s : Selectors) (esi : Bool) (events : List Event) → Stands s esi vm.old events → Stands s esi vm.new (events ++ End name.now ∷ []) }
-    ensures charge { (before limiter : Limiter) → IsChargedFor before vm.old limiter → IsChargedFor before vm.new limiter }
+    ensures charges { (limiter : Limiter) → ChargesSlots vm.old vm.new limiter limiter }
 {
     standing_has_open::<LinkElement>();
     let mut kept = Kept::new(alloc);

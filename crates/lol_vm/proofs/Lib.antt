@@ -34,3 +34,4 @@ pub mod GatheringLemmas
 pub mod InstructionLists
 pub mod StackEnds
 pub mod InstructionPlaces
+pub mod CallerLemmas

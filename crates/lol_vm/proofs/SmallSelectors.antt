@@ -1,9 +1,7 @@
 -- Which selectors are small, and which are flat.
-use Rattle.std.proofs.Common.{◌≡◌, ℕ, ◌<◌, Bool, true, false, List, Option, Some, None, refl, sym, ap, ◌∙◌, subst, arith, inl, inr, Contains}
-use Rattle.std.specs.Prelude.{nat_lt, not, ◌&&◌, ◌||◌, is_none}
-use Rattle.std.specs.List.{list_all}
+use Rattle.std.proofs.Common.{◌≡◌, ℕ, Bool, true, false, List, None, refl, sym, ap, ◌∙◌, arith, inl, inr, Contains}
+use Rattle.std.specs.Prelude.{nat_lt, not, ◌||◌, is_none}
 use Rattle.std.proofs.lemmas.Bool.Decides.{nat_tests}
-use Rattle.lol_css.specs.declared.selector.Combinator.{Combinator}
 use Rattle.lol_base.specs.BoolLaws.{and_parts}
 use Rattle.lol_base.specs.MemberLaws.{Among}
 use Rattle.lol_instructions.specs.Compounds.{has_test_by_type}

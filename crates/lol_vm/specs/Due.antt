@@ -1,5 +1,5 @@
 -- What a start tag is answered with where its element can't be charged.
-use Rattle.std.specs.Prelude.{◌≡◌, Bool, List, true, false}
+use Rattle.std.specs.Prelude.{Bool, List, true, false}
 use Rattle.lol_base.specs.LocalNames.{Name}
 use Rattle.lol_base.specs.StartTags.{StartTag}
 use Rattle.lol_base.specs.declared.namespace.Namespace.{Namespace}

@@ -1,11 +1,12 @@
 -- When a machine stands for the events that it was told of, and how it answers one more.
-use Rattle.std.specs.Prelude.{ℕ, ◌+◌, ◌≤◌, ◌≡◌, Bool, true, false, not, List, [], ◌∷◌, ◌++◌, map, length, Option, Some, None, Result, Ok, Err}
+use Rattle.std.specs.Prelude.{ℕ, ◌+◌, ◌-◌, ◌*◌, ◌≤◌, ◌≡◌, Bool, true, false, not, List, [], ◌∷◌, ◌++◌, map, length, Option, Some, None, Result, Ok, Err}
 use Rattle.std.specs.declared.ops.Range as std
 use Rattle.lol_base.specs.LocalNames.{Name, local_name}
 use Rattle.lol_base.specs.StartTags.{StartTag, attributes_of}
 use Rattle.lol_base.specs.declared.namespace.Namespace.{Namespace}
 use Rattle.lol_base.specs.declared.start_tag.AuxStartTagInfo.{AuxStartTagInfo}
 use Rattle.lol_memory.specs.Ids.{Ids, ascending}
+use Rattle.lol_memory.specs.Limiter.{Limiter, charged}
 use Rattle.lol_memory.specs.declared.match_info.MatchInfo.{MatchInfo}
 use Rattle.lol_instructions.specs.Compiled.{sight_of}
 use Rattle.lol_program.specs.Paths.{Path, Selectors}
@@ -237,3 +238,21 @@ module _ {E : Type 0} (ids_of : E → Ids) where
     pub places_left : left ≡ all_places (map range_shown (ranges_left (ranges_to_try vm) (stop_to_try vm request.point)))
     pub names : names_counted vm.tries + length left ≡ length (all_places (ranges_of_machine machine)) + tried_at (stop_to_try vm request.point)
     pub attributes : attributes_counted vm.tries ≡ 0
+
+-- 6. Charges
+
+-- What a call charged: there are as many slots as before or more, each for as many bytes as before, and the limiter is charged for
+-- those that came.
+pub record ChargesSlots {E : Type 0} (old new : Vm E) (before now : Limiter) : Type 0 where
+  pub grows : slots_charged old ≤ slots_charged new
+  pub bytes : slot_bytes new ≡ slot_bytes old
+  pub charged : now ≡ charged before ((slots_charged new - slots_charged old) * slot_bytes old)
+
+module _ {E : Type 0} where
+  -- the usage holds what a machine is charged for, so that it can be given back
+  abbrev pub IsCovered : Vm E → Limiter → Type 0
+  IsCovered vm limiter = slots_charged vm * slot_bytes vm ≤ limiter.usage
+
+  -- a limiter that was so before, once all slots of a machine are charged
+  abbrev pub IsChargedFor : Limiter → Vm E → Limiter → Type 0
+  IsChargedFor before vm limiter = limiter ≡ charged before (slots_charged vm * slot_bytes vm)

@@ -1,9 +1,9 @@
 //! A whole run.
 
-ghost use Rattle.std.specs.Prelude.{◌≡◌, ◌≤◌, ◌<◌, ◌-◌, ◌*◌, ◌++◌, ◌∷◌, ◌⊎◌, ◌^◌, [], List, ℕ, Bool, true, IfOk, OnOk, IfErr, OnErr, IfSome, IsSome, None, map, length, take, All};
+ghost use Rattle.std.specs.Prelude.{◌≡◌, ◌≤◌, ◌<◌, ◌++◌, ◌∷◌, ◌⊎◌, ◌^◌, [], List, ℕ, Bool, true, IfOk, OnOk, IfErr, OnErr, IfSome, IsSome, None, map, length, take, All};
 ghost use Rattle.lol_base.specs.StartTags.{StartTag, RangesAreInside};
 ghost use Rattle.lol_memory.specs.LimitedVec.{IsLimited};
-ghost use Rattle.lol_memory.specs.Limiter.{Limiter, charged};
+ghost use Rattle.lol_memory.specs.Limiter.{Limiter};
 ghost use Rattle.lol_instructions.specs.Counters.{full_count};
 ghost use Rattle.lol_program.specs.Paths.{Selectors};
 ghost use Rattle.lol_vm.specs.Answers.{answers};
@@ -15,7 +15,7 @@ ghost use Rattle.lol_vm.specs.Refusals.{refused};
 ghost use Rattle.lol_vm.specs.RunRefusals.{allowance_of, IsRefusedAt, StopsBeforeLimit, StopsFor};
 ghost use Rattle.lol_stack.specs.Stacks.{list_in, last_count};
 ghost use Rattle.lol_vm.specs.Views.{HasRangesInside, event_of, answer_of, selectors};
-ghost use Rattle.lol_vm.specs.Vms.{Stands, IsNameOf, IsTagOf, stack_in, tries_in, data_in, slots_charged, slot_bytes};
+ghost use Rattle.lol_vm.specs.Vms.{Stands, ChargesSlots, IsNameOf, IsTagOf, stack_in, tries_in, data_in, slots_charged, slot_bytes};
 
 use crate::error::VmError;
 use crate::events::{RunCause, RunRefusal, RunStop, TagEvent, TagReport};
@@ -261,10 +261,9 @@ fn take_start<F: FnMut(MatchInfo)>(
     requires callable { F.IsAlwaysCallable match_handler.old }
     ensures taken { IfOk result (λ taken. (s : Selectors) (esi : Bool) (events : List Event) (tag : StartTag) → Stands s esi vm.old events → IsTagOf local_name.entry ns tag → IsHandedOver rest.entry tag
         → IsTaken (λ started. started.matched_ids) F.step s esi events tag taken vm.old vm.new match_handler.old match_handler.new) }
-    ensures charged { OnOk result (limiter.new ≡ charged limiter.old ((slots_charged vm.new - slots_charged vm.old) * slot_bytes vm.old)) }
+    ensures charges { ChargesSlots vm.old vm.new limiter.old limiter.new }
     ensures uncharged { OnErr result (limiter.new ≡ limiter.old) }
     ensures slots { OnErr result (slots_charged vm.new ≡ slots_charged vm.old) }
-    ensures bytes { slot_bytes vm.new ≡ slot_bytes vm.old }
     ensures counted { OnOk result ((s : Selectors) (esi : Bool) (events : List Event) → Stands s esi vm.old events → last_count (stack_in vm.old) ≡ full_count → ⊥) }
     ensures unlimited { OnOk result ((s : Selectors) (esi : Bool) (events : List Event) (tag : StartTag) → Stands s esi vm.old events → IsTagOf local_name.entry ns tag → IsHandedOver rest.entry tag
         → opens s esi events tag ≡ true → IsLimited (list_in (stack_in vm.old)) limiter.old → ⊥) }

@@ -20,7 +20,7 @@ ghost use Rattle.lol_vm.specs.TriedStarts.{IsTried};
 ghost use Rattle.lol_vm.specs.VmLending.{lends_current_of_vm};
 ghost use Rattle.lol_stack.specs.Stacks.{items_in, slots_in, item_bytes_in, list_in, last_count, IsPushed, IsSame};
 ghost use Rattle.lol_vm.specs.Views.{selectors};
-ghost use Rattle.lol_vm.specs.Vms.{Stands, HasOpen, IsNameOf, IsTagOf, IsRestOf, IsAnswered, IsReported, IsTriedAtMost, IsPending, IsRefusal, IsSilent, content_at, open_after, stack_in, tries_in, has_failed, data_in, slots_charged, slot_bytes, IsRequested, IsEntered, IsFailedAs, with_failure};
+ghost use Rattle.lol_vm.specs.Vms.{Stands, HasOpen, IsNameOf, IsTagOf, IsRestOf, IsAnswered, IsReported, IsTriedAtMost, IsPending, IsRefusal, IsSilent, content_at, open_after, stack_in, tries_in, has_failed, data_in, slots_charged, slot_bytes, ChargesSlots, IsCovered, IsRequested, IsEntered, IsFailedAs, with_failure};
 
 use crate::error::{AuxStartTagInfoRequest, VmError};
 use crate::tag_runs::{RecoveryPoint, complete_tag, try_tag};
@@ -137,11 +137,9 @@ impl<E: ElementData> VmOf<Program, LocalName<'static>, StackNames, E> {
             → IsAnswered E.ids F.step s esi events tag false self.old self.new match_handler.old match_handler.new) }
         ensures asked { (request : AuxStartTagInfoRequest E) → result ≡ Err (VmError.InfoRequest request) → (s : Selectors) (esi : Bool) (events : List Event) (tag : StartTag) → Stands s esi self.old events → IsTagOf local_name.entry ns tag
             → IsPending E.ids s esi events tag self.new request }
-        ensures charged { OnOk result (limiter.new ≡ charged limiter.old ((slots_charged self.new - slots_charged self.old) * slot_bytes self.old)) }
-        ensures grows { OnOk result (slots_charged self.old ≤ slots_charged self.new) }
+        ensures charges { ChargesSlots self.old self.new limiter.old limiter.new }
         ensures uncharged { OnErr result (limiter.new ≡ limiter.old) }
         ensures slots { OnErr result (slots_charged self.new ≡ slots_charged self.old) }
-        ensures bytes { slot_bytes self.new ≡ slot_bytes self.old }
         ensures unchanged { OnErr result (data_in self.new ≡ data_in self.old) }
         ensures still_open { OnErr result ((bytes : List ℕ) (elements : List Element) → IsNameOf local_name.entry bytes → HasOpen self.old elements → HasOpen self.new elements) }
         ensures failed { (result ≡ Err VmError.Failed) ↔ (has_failed self.old ≡ true) }
@@ -240,8 +238,7 @@ impl<E: ElementData> VmOf<Program, LocalName<'static>, StackNames, E> {
         ensures again { F.IsAlwaysCallable match_handler.new }
         ensures reported { IsCalledAtEach F.step match_handler.old (reports ctx.entry.with_content (ascending (E.ids ctx.entry.stack_item.element_data))) match_handler.new }
         ensures ok { OnOk result (IsEntered ctx.entry.with_content ctx.entry.stack_item self.old self.new) }
-        ensures charged { OnOk result (limiter.new ≡ charged limiter.old ((slots_charged self.new - slots_charged self.old) * slot_bytes self.old)) }
-        ensures grows { OnOk result (slots_charged self.old ≤ slots_charged self.new) }
+        ensures charges { ChargesSlots self.old self.new limiter.old limiter.new }
         ensures limited { IsErrOf result (PushError.Limit (record {}))
             ↔ (ctx.entry.with_content ≡ true) × IsLimited (list_in self.old.stack) limiter.old }
         ensures unlimited { OnOk result (ctx.entry.with_content ≡ true → IsLimited (list_in self.old.stack) limiter.old → ⊥) }
@@ -280,11 +277,9 @@ impl<E: ElementData> VmOf<Program, LocalName<'static>, StackNames, E> {
         ensures again { F.IsAlwaysCallable match_handler.new }
         ensures answered { OnOk result ((s : Selectors) (esi : Bool) (events : List Event) (tag : StartTag) → IsPending E.ids s esi events tag self.old request → IsRestOf aux_info.entry tag
             → IsAnswered E.ids F.step s esi events tag true self.old self.new match_handler.old match_handler.new) }
-        ensures charged { OnOk result (limiter.new ≡ charged limiter.old ((slots_charged self.new - slots_charged self.old) * slot_bytes self.old)) }
-        ensures grows { OnOk result (slots_charged self.old ≤ slots_charged self.new) }
+        ensures charges { ChargesSlots self.old self.new limiter.old limiter.new }
         ensures uncharged { OnErr result (limiter.new ≡ limiter.old) }
         ensures slots { OnErr result (slots_charged self.new ≡ slots_charged self.old) }
-        ensures bytes { slot_bytes self.new ≡ slot_bytes self.old }
         ensures unchanged { OnErr result (data_in self.new ≡ data_in self.old) }
         ensures still_open { OnErr result ((elements : List Element) → HasOpen self.old elements → HasOpen self.new elements) }
         ensures refused { OnErr result (has_failed self.new ≡ true) }
@@ -362,7 +357,7 @@ impl<E: ElementData> VmOf<Program, LocalName<'static>, StackNames, E> {
 
     /// Drops the machine, and lowers the usage by the charge of its slots. (Not in lol_html.)
     pub fn release(self, limiter: &mut SharedMemoryLimiter)
-        requires { slots_charged self * slot_bytes self ≤ limiter.old.usage }
+        requires { IsCovered self limiter.old }
         ensures { limiter.new ≡ record limiter.old { usage = limiter.old.usage - slots_charged self.entry * slot_bytes self.entry } }
     {
         let VmOf {

@@ -17,14 +17,14 @@ returns-else-matches-clause-charged g c = λ h.
     let run = c.clear_opened-opened.ensures.running in
     let call = c.finish_start_tag in
     charged_alike call.new.self c.clear_opened-opened.new.vm call.new.limiter call.new.limiter run.slots run.bytes refl
-    (charged_more c.args.vm.now call.new.self c.args.limiter.now call.new.limiter call.ensures.bytes c.in-Ok.ensures.grows c.in-Ok.ensures.charged h)
+    (charged_more c.args.vm.now call.new.self c.args.limiter.now call.new.limiter call.ensures.charges.bytes call.ensures.charges.grows call.ensures.charges.charged h)
 
 pub returns-then-matches-clause-charged : goal.returns-then-matches-clause-charged
 returns-then-matches-clause-charged g c = λ h.
     let run = c.clear_opened-opened.ensures.running in
     let call = c.finish_start_tag in
     charged_alike call.new.self c.clear_opened-opened.new.vm call.new.limiter call.new.limiter run.slots run.bytes refl
-    (charged_more c.args.vm.now call.new.self c.args.limiter.now call.new.limiter call.ensures.bytes c.in-Ok.ensures.grows c.in-Ok.ensures.charged h)
+    (charged_more c.args.vm.now call.new.self c.args.limiter.now call.new.limiter call.ensures.charges.bytes call.ensures.charges.grows call.ensures.charges.charged h)
 
 pub returns-else-matches-clause-told : goal.returns-else-matches-clause-told
 returns-else-matches-clause-told g c = λ s esi events tag past pending rest.
@@ -38,13 +38,13 @@ returns-else-matches-clause-told g c = λ s esi events tag past pending rest.
     let kept : c.matches-1.given.0.items.items ≡ map info_of answered.matched = search (rules, collected.0, collected.1, c.if-matches.false) in
     let parts = leaves laws.depths laws.ordered s esi events tag vm call.new.self c.clear_opened-opened.new.vm limiter call.new.limiter (charged_before laws.depths laws.ordered s esi events past.tag vm limiter past.runs past.dropped)
     (room_before laws.depths laws.ordered s esi events past.tag vm limiter past.runs past.dropped) (countable_before laws.depths laws.ordered s esi events past.tag vm limiter past.runs past.dropped)
-    (λ opening. c.in-Ok.ensures.unlimited s esi events tag pending rest (has_content_if s esi events tag opening)) call.ensures.bytes
-    (ap (λ (l : Limiter). l.maximum) c.in-Ok.ensures.charged) (charged_more vm call.new.self limiter call.new.limiter call.ensures.bytes c.in-Ok.ensures.grows c.in-Ok.ensures.charged past.runs.charged)
+    (λ opening. c.in-Ok.ensures.unlimited s esi events tag pending rest (has_content_if s esi events tag opening)) call.ensures.charges.bytes
+    (ap (λ (l : Limiter). l.maximum) call.ensures.charges.charged) (charged_more vm call.new.self limiter call.new.limiter call.ensures.charges.bytes call.ensures.charges.grows call.ensures.charges.charged past.runs.charged)
     true answered c.open_elements-open_before.result c.open_elements-open_before.ensures c.clear_opened-opened.result c.clear_opened-opened.ensures _ kept in (
       reported laws.depths laws.ordered s esi events tag vm call.new.self c.clear_opened-opened.new.vm limiter call.new.limiter (charged_before laws.depths laws.ordered s esi events past.tag vm limiter past.runs past.dropped)
           (room_before laws.depths laws.ordered s esi events past.tag vm limiter past.runs past.dropped) (countable_before laws.depths laws.ordered s esi events past.tag vm limiter past.runs past.dropped)
-          (λ opening. c.in-Ok.ensures.unlimited s esi events tag pending rest (has_content_if s esi events tag opening)) call.ensures.bytes
-          (ap (λ (l : Limiter). l.maximum) c.in-Ok.ensures.charged) (charged_more vm call.new.self limiter call.new.limiter call.ensures.bytes c.in-Ok.ensures.grows c.in-Ok.ensures.charged past.runs.charged)
+          (λ opening. c.in-Ok.ensures.unlimited s esi events tag pending rest (has_content_if s esi events tag opening)) call.ensures.charges.bytes
+          (ap (λ (l : Limiter). l.maximum) call.ensures.charges.charged) (charged_more vm call.new.self limiter call.new.limiter call.ensures.charges.bytes call.ensures.charges.grows call.ensures.charges.charged past.runs.charged)
           true answered c.open_elements-open_before.result c.open_elements-open_before.ensures c.clear_opened-opened.result c.clear_opened-opened.ensures _ kept,
       parts.0,
       parts.1,
@@ -59,13 +59,13 @@ returns-then-matches-clause-told g c = λ s esi events tag past pending rest.
     let answered = c.in-Ok.ensures.answered s esi events tag pending rest in (
       unreported laws.depths laws.ordered s esi events tag vm call.new.self c.clear_opened-opened.new.vm limiter call.new.limiter (charged_before laws.depths laws.ordered s esi events past.tag vm limiter past.runs past.dropped)
           (room_before laws.depths laws.ordered s esi events past.tag vm limiter past.runs past.dropped) (countable_before laws.depths laws.ordered s esi events past.tag vm limiter past.runs past.dropped)
-          (λ opening. c.in-Ok.ensures.unlimited s esi events tag pending rest (has_content_if s esi events tag opening)) call.ensures.bytes
-          (ap (λ (l : Limiter). l.maximum) c.in-Ok.ensures.charged) (charged_more vm call.new.self limiter call.new.limiter call.ensures.bytes c.in-Ok.ensures.grows c.in-Ok.ensures.charged past.runs.charged)
+          (λ opening. c.in-Ok.ensures.unlimited s esi events tag pending rest (has_content_if s esi events tag opening)) call.ensures.charges.bytes
+          (ap (λ (l : Limiter). l.maximum) call.ensures.charges.charged) (charged_more vm call.new.self limiter call.new.limiter call.ensures.charges.bytes call.ensures.charges.grows call.ensures.charges.charged past.runs.charged)
           true answered c.open_elements-open_before.result c.open_elements-open_before.ensures c.clear_opened-opened.result c.clear_opened-opened.ensures,
       leaves_unreported laws.depths laws.ordered s esi events tag vm call.new.self c.clear_opened-opened.new.vm limiter call.new.limiter (charged_before laws.depths laws.ordered s esi events past.tag vm limiter past.runs past.dropped)
           (room_before laws.depths laws.ordered s esi events past.tag vm limiter past.runs past.dropped) (countable_before laws.depths laws.ordered s esi events past.tag vm limiter past.runs past.dropped)
-          (λ opening. c.in-Ok.ensures.unlimited s esi events tag pending rest (has_content_if s esi events tag opening)) call.ensures.bytes
-          (ap (λ (l : Limiter). l.maximum) c.in-Ok.ensures.charged) (charged_more vm call.new.self limiter call.new.limiter call.ensures.bytes c.in-Ok.ensures.grows c.in-Ok.ensures.charged past.runs.charged)
+          (λ opening. c.in-Ok.ensures.unlimited s esi events tag pending rest (has_content_if s esi events tag opening)) call.ensures.charges.bytes
+          (ap (λ (l : Limiter). l.maximum) call.ensures.charges.charged) (charged_more vm call.new.self limiter call.new.limiter call.ensures.charges.bytes call.ensures.charges.grows call.ensures.charges.charged past.runs.charged)
           true answered c.open_elements-open_before.result c.open_elements-open_before.ensures c.clear_opened-opened.result c.clear_opened-opened.ensures,
     )
 

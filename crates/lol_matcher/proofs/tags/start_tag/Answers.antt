@@ -20,14 +20,14 @@ returns-else-matches-clause-charged g c = λ h.
     let run = c.clear_opened-opened.ensures.running in
     let call = c.exec_for_start_tag in
     charged_alike call.new.self c.clear_opened-opened.new.vm call.new.limiter call.new.limiter run.slots run.bytes refl
-    (charged_more c.args.vm.now call.new.self c.args.limiter.now call.new.limiter call.ensures.bytes c.in-Ok.ensures.grows c.in-Ok.ensures.charged h)
+    (charged_more c.args.vm.now call.new.self c.args.limiter.now call.new.limiter call.ensures.charges.bytes call.ensures.charges.grows call.ensures.charges.charged h)
 
 pub returns-then-matches-clause-charged : goal.returns-then-matches-clause-charged
 returns-then-matches-clause-charged g c = λ h.
     let run = c.clear_opened-opened.ensures.running in
     let call = c.exec_for_start_tag in
     charged_alike call.new.self c.clear_opened-opened.new.vm call.new.limiter call.new.limiter run.slots run.bytes refl
-    (charged_more c.args.vm.now call.new.self c.args.limiter.now call.new.limiter call.ensures.bytes c.in-Ok.ensures.grows c.in-Ok.ensures.charged h)
+    (charged_more c.args.vm.now call.new.self c.args.limiter.now call.new.limiter call.ensures.charges.bytes call.ensures.charges.grows call.ensures.charges.charged h)
 
 pub returns-else-matches-clause-told : goal.returns-else-matches-clause-told
 returns-else-matches-clause-told g c = λ s esi events tag runs named spaced.
@@ -41,8 +41,8 @@ returns-else-matches-clause-told g c = λ s esi events tag runs named spaced.
     let kept : c.matches-1.given.0.items.items ≡ map info_of answered.matched = search (rules, collected.0, collected.1, c.if-matches.false) in
     reported laws.depths laws.ordered s esi events tag vm call.new.self c.clear_opened-opened.new.vm limiter call.new.limiter (charged_for laws.depths laws.ordered s esi events vm limiter runs)
     (room_for laws.places s esi events vm limiter runs tag (room_answered s esi events vm call.result runs.stands call.ensures.full _ c.in-Ok.is)) runs.countable
-    (λ opening. c.in-Ok.ensures.unlimited s esi events tag runs.stands (c.new.ensures ∙ ap local_name (sym named), spaced) (has_content_if s esi events tag opening)) call.ensures.bytes
-    (ap (λ (l : Limiter). l.maximum) c.in-Ok.ensures.charged) (charged_more vm call.new.self limiter call.new.limiter call.ensures.bytes c.in-Ok.ensures.grows c.in-Ok.ensures.charged runs.charged)
+    (λ opening. c.in-Ok.ensures.unlimited s esi events tag runs.stands (c.new.ensures ∙ ap local_name (sym named), spaced) (has_content_if s esi events tag opening)) call.ensures.charges.bytes
+    (ap (λ (l : Limiter). l.maximum) call.ensures.charges.charged) (charged_more vm call.new.self limiter call.new.limiter call.ensures.charges.bytes call.ensures.charges.grows call.ensures.charges.charged runs.charged)
     false answered c.open_elements-open_before.result c.open_elements-open_before.ensures c.clear_opened-opened.result c.clear_opened-opened.ensures _ kept
 
 pub returns-else-matches-clause-leaves : goal.returns-else-matches-clause-leaves
@@ -57,8 +57,8 @@ returns-else-matches-clause-leaves g c = λ s esi events tag runs named spaced.
     let kept : c.matches-1.given.0.items.items ≡ map info_of answered.matched = search (rules, collected.0, collected.1, c.if-matches.false) in
     leaves laws.depths laws.ordered s esi events tag vm call.new.self c.clear_opened-opened.new.vm limiter call.new.limiter (charged_for laws.depths laws.ordered s esi events vm limiter runs)
     (room_for laws.places s esi events vm limiter runs tag (room_answered s esi events vm call.result runs.stands call.ensures.full _ c.in-Ok.is)) runs.countable
-    (λ opening. c.in-Ok.ensures.unlimited s esi events tag runs.stands (c.new.ensures ∙ ap local_name (sym named), spaced) (has_content_if s esi events tag opening)) call.ensures.bytes
-    (ap (λ (l : Limiter). l.maximum) c.in-Ok.ensures.charged) (charged_more vm call.new.self limiter call.new.limiter call.ensures.bytes c.in-Ok.ensures.grows c.in-Ok.ensures.charged runs.charged)
+    (λ opening. c.in-Ok.ensures.unlimited s esi events tag runs.stands (c.new.ensures ∙ ap local_name (sym named), spaced) (has_content_if s esi events tag opening)) call.ensures.charges.bytes
+    (ap (λ (l : Limiter). l.maximum) call.ensures.charges.charged) (charged_more vm call.new.self limiter call.new.limiter call.ensures.charges.bytes call.ensures.charges.grows call.ensures.charges.charged runs.charged)
     false answered c.open_elements-open_before.result c.open_elements-open_before.ensures c.clear_opened-opened.result c.clear_opened-opened.ensures _ kept
 
 pub returns-then-matches-clause-told : goal.returns-then-matches-clause-told
@@ -70,8 +70,8 @@ returns-then-matches-clause-told g c = λ s esi events tag runs named spaced.
     let answered = c.in-Ok.ensures.answered s esi events tag runs.stands (c.new.ensures ∙ ap local_name (sym named), spaced) in
     unreported laws.depths laws.ordered s esi events tag vm call.new.self c.clear_opened-opened.new.vm limiter call.new.limiter (charged_for laws.depths laws.ordered s esi events vm limiter runs)
     (room_for laws.places s esi events vm limiter runs tag (room_answered s esi events vm call.result runs.stands call.ensures.full _ c.in-Ok.is)) runs.countable
-    (λ opening. c.in-Ok.ensures.unlimited s esi events tag runs.stands (c.new.ensures ∙ ap local_name (sym named), spaced) (has_content_if s esi events tag opening)) call.ensures.bytes
-    (ap (λ (l : Limiter). l.maximum) c.in-Ok.ensures.charged) (charged_more vm call.new.self limiter call.new.limiter call.ensures.bytes c.in-Ok.ensures.grows c.in-Ok.ensures.charged runs.charged)
+    (λ opening. c.in-Ok.ensures.unlimited s esi events tag runs.stands (c.new.ensures ∙ ap local_name (sym named), spaced) (has_content_if s esi events tag opening)) call.ensures.charges.bytes
+    (ap (λ (l : Limiter). l.maximum) call.ensures.charges.charged) (charged_more vm call.new.self limiter call.new.limiter call.ensures.charges.bytes call.ensures.charges.grows call.ensures.charges.charged runs.charged)
     false answered c.open_elements-open_before.result c.open_elements-open_before.ensures c.clear_opened-opened.result c.clear_opened-opened.ensures
 
 pub returns-then-matches-clause-leaves : goal.returns-then-matches-clause-leaves
@@ -83,8 +83,8 @@ returns-then-matches-clause-leaves g c = λ s esi events tag runs named spaced.
     let answered = c.in-Ok.ensures.answered s esi events tag runs.stands (c.new.ensures ∙ ap local_name (sym named), spaced) in
     leaves_unreported laws.depths laws.ordered s esi events tag vm call.new.self c.clear_opened-opened.new.vm limiter call.new.limiter (charged_for laws.depths laws.ordered s esi events vm limiter runs)
     (room_for laws.places s esi events vm limiter runs tag (room_answered s esi events vm call.result runs.stands call.ensures.full _ c.in-Ok.is)) runs.countable
-    (λ opening. c.in-Ok.ensures.unlimited s esi events tag runs.stands (c.new.ensures ∙ ap local_name (sym named), spaced) (has_content_if s esi events tag opening)) call.ensures.bytes
-    (ap (λ (l : Limiter). l.maximum) c.in-Ok.ensures.charged) (charged_more vm call.new.self limiter call.new.limiter call.ensures.bytes c.in-Ok.ensures.grows c.in-Ok.ensures.charged runs.charged)
+    (λ opening. c.in-Ok.ensures.unlimited s esi events tag runs.stands (c.new.ensures ∙ ap local_name (sym named), spaced) (has_content_if s esi events tag opening)) call.ensures.charges.bytes
+    (ap (λ (l : Limiter). l.maximum) call.ensures.charges.charged) (charged_more vm call.new.self limiter call.new.limiter call.ensures.charges.bytes call.ensures.charges.grows call.ensures.charges.charged runs.charged)
     false answered c.open_elements-open_before.result c.open_elements-open_before.ensures c.clear_opened-opened.result c.clear_opened-opened.ensures
 
 pub returns-in-Err-InfoRequest-clause-told : goal.returns-in-Err-InfoRequest-clause-told
@@ -95,8 +95,8 @@ returns-in-Err-InfoRequest-clause-told g c = λ s esi events tag runs named spac
     let call = c.exec_for_start_tag in
     let is = c.in-Err-InfoRequest.is ∙ ap Err c.in-Err-InfoRequest.field-0-is in
     asked_for laws.depths laws.ordered laws.dropped s esi events tag vm call.new.self limiter call.new.limiter runs
-    (room_for laws.places s esi events vm limiter runs tag (room_asked s esi events vm call.result runs.stands call.ensures.full c.in-Err-InfoRequest.request is)) call.ensures.bytes
-    (ap (λ (l : Limiter). l.maximum) c.in-Err-InfoRequest.ensures.uncharged) (charged_alike vm call.new.self limiter call.new.limiter c.in-Err-InfoRequest.ensures.slots call.ensures.bytes c.in-Err-InfoRequest.ensures.uncharged runs.charged)
+    (room_for laws.places s esi events vm limiter runs tag (room_asked s esi events vm call.result runs.stands call.ensures.full c.in-Err-InfoRequest.request is)) call.ensures.charges.bytes
+    (ap (λ (l : Limiter). l.maximum) c.in-Err-InfoRequest.ensures.uncharged) (charged_alike vm call.new.self limiter call.new.limiter c.in-Err-InfoRequest.ensures.slots call.ensures.charges.bytes c.in-Err-InfoRequest.ensures.uncharged runs.charged)
     c.in-Err-InfoRequest.request (call.ensures.asked c.in-Err-InfoRequest.request is s esi events tag runs.stands (c.new.ensures ∙ ap local_name (sym named), spaced))
 
 pub returns-in-Err-MemoryLimitExceeded-clause-refused : goal.returns-in-Err-MemoryLimitExceeded-clause-refused

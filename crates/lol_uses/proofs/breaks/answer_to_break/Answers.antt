@@ -4,15 +4,11 @@ use Rattle.lol_base.specs.Names.{is_void, void_names}
 use Rattle.lol_base.specs.StartTags.{StartTag}
 use Rattle.lol_base.specs.declared.namespace.Namespace.TheVariants.{Html}
 use Rattle.lol_vm.specs.Views.{selectors}
-use Rattle.lol_vm.specs.Vms.{slot_bytes, slots_charged}
-use Rattle.lol_uses.proofs.Charges.{charged_since}
+use Rattle.lol_vm.proofs.CallerLemmas.{covered_since_new}
 use Rattle.lol_uses.proofs.breaks.answer_to_break.Goals as goal
 
 pub release-requires : goal.release-requires
-release-requires g c =
-    let told = c.exec_for_start_tag-answer.ensures in
-    charged_since c.exec_for_start_tag-answer.result (slots_charged c.in-Ok-new.vm) (slots_charged c.exec_for_start_tag-answer.new.self) (slot_bytes c.in-Ok-new.vm) (slot_bytes c.exec_for_start_tag-answer.new.self) c.args.limiter.now
-    c.exec_for_start_tag-answer.new.limiter c.in-Ok-new.ensures.slots told.bytes told.charged told.slots
+release-requires g c = covered_since_new c.in-Ok-new.ensures.slots c.exec_for_start_tag-answer.ensures.charges
 
 -- `br` is one of the void names
 br_is_void : is_void (codes "br") ≡ true

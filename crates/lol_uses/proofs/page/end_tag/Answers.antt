@@ -1,5 +1,6 @@
 use Rattle.std.proofs.Common.{rules, ◌≡◌, List, false, refl}
 use Rattle.std.proofs.lemmas.Fn.{chained_keeps}
+use Rattle.lol_vm.proofs.CallerLemmas.{charges_at_end}
 use Rattle.lol_vm.specs.Answers.{document}
 use Rattle.lol_uses.specs.declared.page.LinkElement.{LinkElement}
 use Rattle.lol_uses.proofs.page.end_tag.Goals as goal
@@ -11,3 +12,9 @@ returns-clause-closed c = λ s esi events stands.
     let collected = chained_keeps _ (λ (xs : List LinkElement) q. (q.0.ghost_name ≡ c.kept-1.given.0) × (q.0.now.refused ≡ false → q.0.now.items.items ≡ xs))
     (λ xs q x v j k. search (rules, j, k)) _ _ _ (refl, λ _. c.new-kept.ensures.items) (c.exec_for_end_tag.ensures.called d.open_elements _ c.new.ensures has) in
     search (rules, collected.0, collected.1, c.if-refused.false)
+
+pub returns-clause-charges : goal.returns-clause-charges
+returns-clause-charges c = λ limiter. charges_at_end c.exec_for_end_tag.ensures.slots c.exec_for_end_tag.ensures.bytes
+
+pub returns-then-refused-clause-charges : goal.returns-then-refused-clause-charges
+returns-then-refused-clause-charges c = λ limiter. charges_at_end c.exec_for_end_tag.ensures.slots c.exec_for_end_tag.ensures.bytes

@@ -9,5 +9,5 @@ pub returns-in-Start-clause-reported : goal.returns-in-Start-clause-reported
 returns-in-Start-clause-reported c = IfOk-weaker c.start_tag.result _ _
     (λ ids told s esi events stands. told s esi events stands ∙ ap (λ tag. ids_of (answer s esi (document s esi events) (event_of_tag tag))) (sym c.in-Start.is)) c.start_tag.ensures.reported
 
-pub returns-after-end_tag-clause-charge : goal.returns-after-end_tag-clause-charge
-returns-after-end_tag-clause-charge c = λ before held. c.end_tag.ensures.charge before c.args.limiter.now held
+pub returns-after-end_tag-clause-charges : goal.returns-after-end_tag-clause-charges
+returns-after-end_tag-clause-charges c = c.end_tag.ensures.charges c.args.limiter.now

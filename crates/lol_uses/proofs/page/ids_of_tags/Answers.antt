@@ -5,7 +5,16 @@ use Rattle.lol_uses.specs.Pages.{event_of_tag}
 use Rattle.lol_uses.specs.Reported.{reported_ids}
 use Rattle.lol_base.specs.ListLaws.{mapped_more}
 use Rattle.lol_uses.proofs.Pushed.{reported_more}
+use Rattle.lol_vm.proofs.CallerLemmas.{charges_both, charges_nothing}
 use Rattle.lol_uses.proofs.page.ids_of_tags.Goals as goal
+
+pub loop-tag-init : goal.loop-tag-init
+loop-tag-init c =
+    record {
+      ids = λ s esi stands. c.new-ids.ensures.items;
+      stands = λ s esi stands. stands;
+      charges = charges_nothing;
+    }
 
 pub loop-tag-preserved : goal.loop-tag-preserved
 loop-tag-preserved c =
@@ -20,7 +29,7 @@ loop-tag-preserved c =
           let reported = c.in_ok-reported.ensures.reported s esi before (c.loop-tag.invariant.stands s esi stands) in
           pushed ∙ ((λ i. c.loop-tag.invariant.ids s esi stands i ++ reported i) ∙ sym (ap (reported_ids s esi) front ∙ reported_more s esi before (event_of_tag tag)));
       stands = λ s esi stands. subst (λ events. Stands s esi c.ids_of_tag.new.vm events) (sym front) (c.in_ok-reported.ensures.stands s esi before (c.loop-tag.invariant.stands s esi stands));
-      charge = λ before held. c.ids_of_tag.ensures.charge before (c.loop-tag.invariant.charge before held);
+      charges = charges_both c.loop-tag.invariant.charges c.ids_of_tag.ensures.charges;
     }
 
 pub returns-clause-ids : goal.returns-clause-ids
@@ -28,8 +37,8 @@ returns-clause-ids c = λ s esi stands.
     let whole = take_all c.loop-tag.tag-index c.args.page.now (omega (arith, c.loop-tag-test.false)) in
     c.loop-tag.invariant.ids s esi stands ∙ ap (λ tags. reported_ids s esi (map event_of_tag tags)) whole
 
-pub returns-in_err-reported-clause-charge : goal.returns-in_err-reported-clause-charge
-returns-in_err-reported-clause-charge c = λ before held. c.ids_of_tag.ensures.charge before (c.loop-tag.invariant.charge before held)
+pub returns-in_err-reported-clause-charges : goal.returns-in_err-reported-clause-charges
+returns-in_err-reported-clause-charges c = charges_both c.loop-tag.invariant.charges c.ids_of_tag.ensures.charges
 
-pub returns-then-is_err-clause-charge : goal.returns-then-is_err-clause-charge
-returns-then-is_err-clause-charge c = λ before held. c.ids_of_tag.ensures.charge before (c.loop-tag.invariant.charge before held)
+pub returns-then-is_err-clause-charges : goal.returns-then-is_err-clause-charges
+returns-then-is_err-clause-charges c = charges_both c.loop-tag.invariant.charges c.ids_of_tag.ensures.charges

@@ -1,9 +1,8 @@
 use Rattle.std.proofs.Common.{◌≡◌, [], map, take}
 use Rattle.std.specs.Prelude.{Bool}
-use Rattle.lol_memory.specs.Limiter.{Limiter}
 use Rattle.lol_program.specs.Paths.{Selectors}
-use Rattle.lol_vm.specs.Vms.{Stands}
-use Rattle.lol_uses.specs.Pages.{IsChargedFor, event_of_tag}
+use Rattle.lol_vm.specs.Vms.{Stands, ChargesSlots}
+use Rattle.lol_uses.specs.Pages.{event_of_tag}
 use Rattle.lol_uses.specs.Reported.{reported_ids}
 use Rattle.lol_uses.proofs.page.ids_of_tags.Given as goal
 
@@ -12,5 +11,5 @@ invariant-loop-tag l =
     record {
       ids : (s : Selectors) (esi : Bool) → Stands s esi l.initial.vm [] → l.ids.items ≡ reported_ids s esi (map event_of_tag (take l.tag-index l.page));
       stands : (s : Selectors) (esi : Bool) → Stands s esi l.initial.vm [] → Stands s esi l.vm (map event_of_tag (take l.tag-index l.page));
-      charge : (before : Limiter) → IsChargedFor before l.initial.vm l.initial.limiter → IsChargedFor before l.vm l.limiter;
+      charges : ChargesSlots l.initial.vm l.vm l.initial.limiter l.limiter;
     }

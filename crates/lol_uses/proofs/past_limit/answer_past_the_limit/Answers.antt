@@ -11,7 +11,7 @@ use Rattle.lol_vm.specs.Due.{IsDue}
 use Rattle.lol_vm.specs.Events.{has_content}
 use Rattle.lol_vm.specs.Views.{selectors}
 use Rattle.lol_vm.specs.Vms.{Vm, slot_bytes, slots_charged}
-use Rattle.lol_uses.proofs.Charges.{charged_since}
+use Rattle.lol_vm.proofs.CallerLemmas.{covered_since_new}
 use Rattle.lol_uses.proofs.past_limit.answer_past_the_limit.Goals as goal
 
 -- without slots nothing can be charged where the maximum is 0
@@ -34,10 +34,7 @@ unfolding void_names
 paragraph_has_content = refl
 
 pub release-requires : goal.release-requires
-release-requires g c =
-    let told = c.exec_for_start_tag-answer.ensures in
-    charged_since c.exec_for_start_tag-answer.result (slots_charged c.in-Ok-new.vm) (slots_charged c.exec_for_start_tag-answer.new.self) (slot_bytes c.in-Ok-new.vm) (slot_bytes c.exec_for_start_tag-answer.new.self) c.new-limiter.result
-    c.exec_for_start_tag-answer.new.limiter c.in-Ok-new.ensures.slots told.bytes told.charged told.slots
+release-requires g c = covered_since_new c.in-Ok-new.ensures.slots c.exec_for_start_tag-answer.ensures.charges
 
 pub returns-clause-refused : goal.returns-clause-refused
 returns-clause-refused g c =

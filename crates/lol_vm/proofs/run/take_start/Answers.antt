@@ -5,6 +5,7 @@ use Rattle.lol_vm.specs.declared.error.AuxStartTagInfoRequest.{AuxStartTagInfoRe
 use Rattle.lol_vm.specs.declared.error.VmError.{VmError}
 use Rattle.lol_vm.specs.declared.error.VmError.TheVariants.{InfoRequest, MemoryLimitExceeded, Memory, CounterFull}
 use Rattle.std.specs.declared.alloc.AllocError.{AllocError}
+use Rattle.lol_vm.proofs.CallerLemmas.{charges_both}
 use Rattle.lol_vm.proofs.RunSteps.{hasnt_failed}
 use Rattle.lol_vm.proofs.TakenStarts.{has_content_if, is_left, opens_unasked, opens_handed, dropped, answered_since, has_room, limited_since}
 use Rattle.lol_vm.proofs.run.take_start.Goals as goal
@@ -58,7 +59,7 @@ returns-in-Ok-finish_start_tag-clause-unlimited g c = λ s esi events tag stands
     let pending = c.exec_for_start_tag.ensures.asked c.in-Err-InfoRequest.request is s esi events tag stands named in
     let rest = subst (λ r. IsHandedOver r tag) c.in-Some.is handed in
     c.in-Ok-finish_start_tag.ensures.unlimited s esi events tag pending rest (has_content_if s esi events tag opening)
-    (limited_since c.args.vm.now c.exec_for_start_tag.new.self c.args.limiter.now c.exec_for_start_tag.new.limiter c.in-Err-InfoRequest.ensures.unchanged c.in-Err-InfoRequest.ensures.slots c.exec_for_start_tag.ensures.bytes
+    (limited_since c.args.vm.now c.exec_for_start_tag.new.self c.args.limiter.now c.exec_for_start_tag.new.limiter c.in-Err-InfoRequest.ensures.unchanged c.in-Err-InfoRequest.ensures.slots c.exec_for_start_tag.ensures.charges.bytes
     c.in-Err-InfoRequest.ensures.uncharged limited)
 
 pub returns-in-Err-Limit-clause-refused : goal.returns-in-Err-Limit-clause-refused
@@ -70,7 +71,7 @@ returns-in-Err-Limit-clause-refused g c = λ s esi events tag stands named hande
     let reported = c.finish_start_tag.ensures.limit_reported refused s esi events tag pending rest in
     let limited = c.finish_start_tag.ensures.limited refused in (
       opens_handed s esi events tag reported.0 rest.2,
-      limited_since c.exec_for_start_tag.new.self c.args.vm.now c.exec_for_start_tag.new.limiter c.args.limiter.now (sym c.in-Err-InfoRequest.ensures.unchanged) (sym c.in-Err-InfoRequest.ensures.slots) (sym c.exec_for_start_tag.ensures.bytes)
+      limited_since c.exec_for_start_tag.new.self c.args.vm.now c.exec_for_start_tag.new.limiter c.args.limiter.now (sym c.in-Err-InfoRequest.ensures.unchanged) (sym c.in-Err-InfoRequest.ensures.slots) (sym c.exec_for_start_tag.ensures.charges.bytes)
           (sym c.in-Err-InfoRequest.ensures.uncharged) limited,
       has_room s esi events c.args.vm.now c.exec_for_start_tag.result stands c.exec_for_start_tag.ensures.full (asked_instead c.exec_for_start_tag.result c.in-Err-InfoRequest.request is),
     )
@@ -98,7 +99,16 @@ returns-in-Err-Memory-finish_start_tag-clause-refused g c = λ s esi events tag 
       has_room s esi events c.args.vm.now c.exec_for_start_tag.result stands c.exec_for_start_tag.ensures.full (asked_instead c.exec_for_start_tag.result c.in-Err-InfoRequest.request is),
       λ runs opening limited.
           c.finish_start_tag.ensures.due _ refused
-          (limited_since c.args.vm.now c.exec_for_start_tag.new.self c.args.limiter.now c.exec_for_start_tag.new.limiter c.in-Err-InfoRequest.ensures.unchanged c.in-Err-InfoRequest.ensures.slots c.exec_for_start_tag.ensures.bytes
+          (limited_since c.args.vm.now c.exec_for_start_tag.new.self c.args.limiter.now c.exec_for_start_tag.new.limiter c.in-Err-InfoRequest.ensures.unchanged c.in-Err-InfoRequest.ensures.slots c.exec_for_start_tag.ensures.charges.bytes
           c.in-Err-InfoRequest.ensures.uncharged limited)
           s esi events tag pending runs.flat,
     )
+
+pub returns-in-Ok-finish_start_tag-clause-charges : goal.returns-in-Ok-finish_start_tag-clause-charges
+returns-in-Ok-finish_start_tag-clause-charges g c = charges_both c.exec_for_start_tag.ensures.charges c.finish_start_tag.ensures.charges
+
+pub returns-in-Err-Limit-clause-charges : goal.returns-in-Err-Limit-clause-charges
+returns-in-Err-Limit-clause-charges g c = charges_both c.exec_for_start_tag.ensures.charges c.finish_start_tag.ensures.charges
+
+pub returns-in-Err-Memory-finish_start_tag-clause-charges : goal.returns-in-Err-Memory-finish_start_tag-clause-charges
+returns-in-Err-Memory-finish_start_tag-clause-charges g c = charges_both c.exec_for_start_tag.ensures.charges c.finish_start_tag.ensures.charges

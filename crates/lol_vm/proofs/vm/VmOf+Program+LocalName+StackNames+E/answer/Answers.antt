@@ -1,4 +1,5 @@
-use Rattle.std.proofs.Common.{rules}
+use Rattle.std.proofs.Common.{rules, refl}
+use Rattle.lol_vm.proofs.CallerLemmas.{charges_none, charges_pushed}
 use Rattle.lol_vm.proofs.vm.VmOf+Program+LocalName+StackNames+E.answer.Goals as goal
 
 pub returns-then-not-ctx-clause-reported : goal.returns-then-not-ctx-clause-reported
@@ -9,3 +10,11 @@ returns-clause-reported g c = c.handle_matched_ids.ensures.called
 
 pub returns-clause-ok : goal.returns-clause-ok
 returns-clause-ok g c = search rules
+
+pub returns-then-not-ctx-clause-charges : goal.returns-then-not-ctx-clause-charges
+returns-then-not-ctx-clause-charges g c = charges_none c.args.self.now _ c.args.limiter.now _ refl refl refl
+
+pub returns-clause-charges : goal.returns-clause-charges
+returns-clause-charges g c =
+    let told = c.open_element-pushed.ensures in
+    charges_pushed c.open_element-pushed.result c.args.self.now _ _ c.args.limiter.now c.open_element-pushed.new.limiter told.ok told.err told.charged told.err_limiter

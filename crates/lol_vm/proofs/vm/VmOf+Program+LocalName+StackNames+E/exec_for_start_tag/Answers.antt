@@ -1,8 +1,7 @@
-use Rattle.std.proofs.Common.{◌≡◌, ◌-◌, ◌*◌, ◌≤◌, arith, false, inl, inr, Ok, refl, sym, ap, ◌∙◌, subst}
+use Rattle.std.proofs.Common.{◌≡◌, arith, false, inl, inr, Ok, refl, sym, ap, ◌∙◌, subst}
 use Rattle.std.specs.Option.{IsNone}
 use Rattle.lol_base.specs.LocalNames.{Name, local_name}
 use Rattle.lol_memory.specs.LimitedVec.{LimitedVec, IsLimited}
-use Rattle.lol_memory.specs.Limiter.{charged}
 use Rattle.lol_stack.specs.declared.stack.StackOf.{StackOf}
 use Rattle.lol_stack.specs.declared.stack.StackNames.{StackNames}
 use Rattle.lol_stack.specs.declared.stack_item.StackItemOf.{StackItemOf}
@@ -11,6 +10,7 @@ use Rattle.lol_vm.specs.Vms.{Vm, IsSilent, slots_charged, slot_bytes}
 use Rattle.lol_stack.specs.declared.stack.AddChildError.TheVariants.{CounterFull}
 use Rattle.lol_vm.specs.Events.{has_content}
 use Rattle.lol_vm.specs.declared.error.VmError.TheVariants.{Memory}
+use Rattle.lol_vm.proofs.CallerLemmas.{charges_both, charges_none}
 use Rattle.lol_vm.proofs.FreeTags.{asked_only, full_only, has_none_typed, is_alone_free, is_closed_free, limit_only, not_for_memory, void_is_closed, void_unspelled}
 use Rattle.lol_vm.proofs.TriedStarts.{ended_answered, ended_content, ended_reported, most_tried, never_refused, stopped_pending}
 use Rattle.lol_vm.proofs.VmStarts.{none_tried, requested_is}
@@ -133,12 +133,6 @@ returns-in-Err-clause-tried g c = λ s esi events tag stands named. none_tried s
 pub returns-in-Some-clause-answered : goal.returns-in-Some-clause-answered
 returns-in-Some-clause-answered g c = requested_ok _ _ _ c.request.new.self _ c.request.result c.request.ensures.requested
 
-pub returns-in-Some-clause-charged : goal.returns-in-Some-clause-charged
-returns-in-Some-clause-charged g c = requested_ok _ _ _ c.request.new.self _ c.request.result c.request.ensures.requested
-
-pub returns-in-Some-clause-grows : goal.returns-in-Some-clause-grows
-returns-in-Some-clause-grows g c = requested_ok _ _ _ c.request.new.self _ c.request.result c.request.ensures.requested
-
 pub returns-in-Some-clause-unlimited : goal.returns-in-Some-clause-unlimited
 returns-in-Some-clause-unlimited g c = requested_ok _ _ _ c.request.new.self _ c.request.result c.request.ensures.requested
 
@@ -228,20 +222,11 @@ returns-then-self-clause-answered g c = tt
 pub returns-then-self-clause-asked : goal.returns-then-self-clause-asked
 returns-then-self-clause-asked g c = λ request is. cc
 
-pub returns-then-self-clause-charged : goal.returns-then-self-clause-charged
-returns-then-self-clause-charged g c = tt
-
-pub returns-then-self-clause-grows : goal.returns-then-self-clause-grows
-returns-then-self-clause-grows g c = tt
-
 pub returns-then-self-clause-uncharged : goal.returns-then-self-clause-uncharged
 returns-then-self-clause-uncharged g c = refl
 
 pub returns-then-self-clause-slots : goal.returns-then-self-clause-slots
 returns-then-self-clause-slots g c = refl
-
-pub returns-then-self-clause-bytes : goal.returns-then-self-clause-bytes
-returns-then-self-clause-bytes g c = refl
 
 pub returns-then-self-clause-unchanged : goal.returns-then-self-clause-unchanged
 returns-then-self-clause-unchanged g c = refl
@@ -288,20 +273,11 @@ returns-in-Err-clause-again g c = c.requires
 pub returns-in-Err-clause-answered : goal.returns-in-Err-clause-answered
 returns-in-Err-clause-answered g c = tt
 
-pub returns-in-Err-clause-charged : goal.returns-in-Err-clause-charged
-returns-in-Err-clause-charged g c = tt
-
-pub returns-in-Err-clause-grows : goal.returns-in-Err-clause-grows
-returns-in-Err-clause-grows g c = tt
-
 pub returns-in-Err-clause-uncharged : goal.returns-in-Err-clause-uncharged
 returns-in-Err-clause-uncharged g c = refl
 
 pub returns-in-Err-clause-slots : goal.returns-in-Err-clause-slots
 returns-in-Err-clause-slots g c = c.add_child.ensures.slots.0
-
-pub returns-in-Err-clause-bytes : goal.returns-in-Err-clause-bytes
-returns-in-Err-clause-bytes g c = c.add_child.ensures.slots.1
 
 pub returns-in-Err-clause-unchanged : goal.returns-in-Err-clause-unchanged
 returns-in-Err-clause-unchanged g c = ap (λ (x : StackOf Name StackNames _). element_data_of (list_in x).items) c.in-Err.ensures.err
@@ -318,20 +294,11 @@ returns-in-Err-tried-clause-answered g c = tt
 pub returns-in-Err-tried-clause-asked : goal.returns-in-Err-tried-clause-asked
 returns-in-Err-tried-clause-asked g c = λ request is. cc
 
-pub returns-in-Err-tried-clause-charged : goal.returns-in-Err-tried-clause-charged
-returns-in-Err-tried-clause-charged g c = tt
-
-pub returns-in-Err-tried-clause-grows : goal.returns-in-Err-tried-clause-grows
-returns-in-Err-tried-clause-grows g c = tt
-
 pub returns-in-Err-tried-clause-uncharged : goal.returns-in-Err-tried-clause-uncharged
 returns-in-Err-tried-clause-uncharged g c = refl
 
 pub returns-in-Err-tried-clause-slots : goal.returns-in-Err-tried-clause-slots
 returns-in-Err-tried-clause-slots g c = ap (λ (v : Vm _). slots_charged v) c.in-Err-tried.ensures.err ∙ c.add_child.ensures.slots.0
-
-pub returns-in-Err-tried-clause-bytes : goal.returns-in-Err-tried-clause-bytes
-returns-in-Err-tried-clause-bytes g c = ap (λ (v : Vm _). slot_bytes v) c.in-Err-tried.ensures.err ∙ c.add_child.ensures.slots.1
 
 pub returns-in-Err-tried-clause-failed : goal.returns-in-Err-tried-clause-failed
 returns-in-Err-tried-clause-failed g c = (λ is. cc, λ failed. cc)
@@ -364,11 +331,6 @@ pub returns-in-Some-clause-slots : goal.returns-in-Some-clause-slots
 returns-in-Some-clause-slots g c =
     let rest = requested_keeps _ _ _ c.request.new.self c.request.result c.request.ensures.requested in
     on_err c.request.result (ap (λ (x : StackOf Name StackNames _). (list_in x).slots) rest.stack ∙ (ap (λ (v : Vm _). slots_charged v) c.in-Ok.ensures.ok ∙ c.add_child.ensures.slots.0))
-
-pub returns-in-Some-clause-bytes : goal.returns-in-Some-clause-bytes
-returns-in-Some-clause-bytes g c =
-    let rest = requested_keeps _ _ _ c.request.new.self c.request.result c.request.ensures.requested in
-    ap (λ (x : StackOf Name StackNames _). (list_in x).item_bytes) rest.stack ∙ (ap (λ (v : Vm _). slot_bytes v) c.in-Ok.ensures.ok ∙ c.add_child.ensures.slots.1)
 
 pub returns-in-Ok-answer-clause-again : goal.returns-in-Ok-answer-clause-again
 returns-in-Ok-answer-clause-again g c = c.answer.ensures.again
@@ -418,34 +380,14 @@ returns-in-Err-answer-clause-again g c = c.answer.ensures.again
 pub returns-in-Err-answer-clause-answered : goal.returns-in-Err-answer-clause-answered
 returns-in-Err-answer-clause-answered g c = tt
 
-pub returns-in-Err-answer-clause-charged : goal.returns-in-Err-answer-clause-charged
-returns-in-Err-answer-clause-charged g c = tt
-
-pub returns-in-Err-answer-clause-grows : goal.returns-in-Err-answer-clause-grows
-returns-in-Err-answer-clause-grows g c = tt
-
 pub returns-in-Err-answer-clause-uncharged : goal.returns-in-Err-answer-clause-uncharged
 returns-in-Err-answer-clause-uncharged g c = c.in-Err-answer.ensures.err_limiter
 
 pub returns-in-Err-answer-clause-slots : goal.returns-in-Err-answer-clause-slots
 returns-in-Err-answer-clause-slots g c = ap (λ (v : LimitedVec (StackItemOf Name _)). v.slots) c.in-Err-answer.ensures.err.0.items ∙ (ap (λ (v : Vm _). slots_charged v) c.in-Ok.ensures.ok ∙ c.add_child.ensures.slots.0)
 
-pub returns-in-Err-answer-clause-bytes : goal.returns-in-Err-answer-clause-bytes
-returns-in-Err-answer-clause-bytes g c = ap (λ (v : LimitedVec (StackItemOf Name _)). v.item_bytes) c.in-Err-answer.ensures.err.0.items ∙ (ap (λ (v : Vm _). slot_bytes v) c.in-Ok.ensures.ok ∙ c.add_child.ensures.slots.1)
-
 pub returns-in-Err-answer-clause-unlimited : goal.returns-in-Err-answer-clause-unlimited
 returns-in-Err-answer-clause-unlimited g c = tt
-
-pub returns-in-Ok-answer-clause-charged : goal.returns-in-Ok-answer-clause-charged
-returns-in-Ok-answer-clause-charged g c =
-    let slots : slots_charged c.try_start-tried.new.self ≡ slots_charged c.args.self.now = ap (λ (v : Vm _). slots_charged v) c.in-Ok.ensures.ok ∙ c.add_child.ensures.slots.0 in
-    let bytes : slot_bytes c.try_start-tried.new.self ≡ slot_bytes c.args.self.now = ap (λ (v : Vm _). slot_bytes v) c.in-Ok.ensures.ok ∙ c.add_child.ensures.slots.1 in
-    c.in-Ok-answer.ensures.charged ∙ (λ i. charged c.args.limiter.now ((slots_charged c.answer.new.self - slots i) * bytes i))
-
-pub returns-in-Ok-answer-clause-grows : goal.returns-in-Ok-answer-clause-grows
-returns-in-Ok-answer-clause-grows g c =
-    let slots : slots_charged c.try_start-tried.new.self ≡ slots_charged c.args.self.now = ap (λ (v : Vm _). slots_charged v) c.in-Ok.ensures.ok ∙ c.add_child.ensures.slots.0 in
-    subst (λ n. n ≤ slots_charged c.answer.new.self) slots c.in-Ok-answer.ensures.grows
 
 pub returns-in-Err-answer-clause-free : goal.returns-in-Err-answer-clause-free
 returns-in-Err-answer-clause-free g c = λ error is s esi events tag stands named takes.
@@ -488,3 +430,32 @@ returns-in-Err-answer-clause-due g c = λ error is due s esi events tag stands n
 
 pub returns-in-Ok-answer-clause-due : goal.returns-in-Ok-answer-clause-due
 returns-in-Ok-answer-clause-due g c = λ error is due s esi events tag stands named runs. cc
+
+pub returns-then-self-clause-charges : goal.returns-then-self-clause-charges
+returns-then-self-clause-charges g c = charges_none c.args.self.now _ c.args.limiter.now _ refl refl refl
+
+pub returns-in-Err-clause-charges : goal.returns-in-Err-clause-charges
+returns-in-Err-clause-charges g c = charges_none c.args.self.now _ c.args.limiter.now _ c.add_child.ensures.slots.0 c.add_child.ensures.slots.1 refl
+
+pub returns-in-Err-tried-clause-charges : goal.returns-in-Err-tried-clause-charges
+returns-in-Err-tried-clause-charges g c =
+    charges_none c.args.self.now c.try_start-tried.new.self c.args.limiter.now _ (ap (λ (v : Vm _). slots_charged v) c.in-Err-tried.ensures.err ∙ c.add_child.ensures.slots.0)
+    (ap (λ (v : Vm _). slot_bytes v) c.in-Err-tried.ensures.err ∙ c.add_child.ensures.slots.1) refl
+
+pub returns-in-Some-clause-charges : goal.returns-in-Some-clause-charges
+returns-in-Some-clause-charges g c =
+    let rest = requested_keeps _ _ _ c.request.new.self c.request.result c.request.ensures.requested in
+    charges_none c.args.self.now c.request.new.self c.args.limiter.now _ (ap (λ (x : StackOf Name StackNames _). (list_in x).slots) rest.stack ∙ (ap (λ (v : Vm _). slots_charged v) c.in-Ok.ensures.ok ∙ c.add_child.ensures.slots.0))
+    (ap (λ (x : StackOf Name StackNames _). (list_in x).item_bytes) rest.stack ∙ (ap (λ (v : Vm _). slot_bytes v) c.in-Ok.ensures.ok ∙ c.add_child.ensures.slots.1)) refl
+
+pub returns-in-Ok-answer-clause-charges : goal.returns-in-Ok-answer-clause-charges
+returns-in-Ok-answer-clause-charges g c =
+    let tried = charges_none c.args.self.now c.try_start-tried.new.self c.args.limiter.now c.args.limiter.now (ap (λ (v : Vm _). slots_charged v) c.in-Ok.ensures.ok ∙ c.add_child.ensures.slots.0)
+    (ap (λ (v : Vm _). slot_bytes v) c.in-Ok.ensures.ok ∙ c.add_child.ensures.slots.1) refl in
+    charges_both tried c.answer.ensures.charges
+
+pub returns-in-Err-answer-clause-charges : goal.returns-in-Err-answer-clause-charges
+returns-in-Err-answer-clause-charges g c =
+    let tried = charges_none c.args.self.now c.try_start-tried.new.self c.args.limiter.now c.args.limiter.now (ap (λ (v : Vm _). slots_charged v) c.in-Ok.ensures.ok ∙ c.add_child.ensures.slots.0)
+    (ap (λ (v : Vm _). slot_bytes v) c.in-Ok.ensures.ok ∙ c.add_child.ensures.slots.1) refl in
+    charges_both tried c.answer.ensures.charges

@@ -7,6 +7,7 @@ use Rattle.lol_stack.specs.declared.execution_ctx.ExecutionCtx.{ExecutionCtx}
 use Rattle.lol_vm.specs.Vms.{IsFailedAs, IsTriedAtMost, Vm}
 use Rattle.lol_memory.specs.declared.limited_vec.PushError.TheVariants as pushes
 use Rattle.lol_vm.specs.Events.{has_content}
+use Rattle.lol_vm.proofs.CallerLemmas.{charges_both, charges_none}
 use Rattle.lol_vm.proofs.FreeTags.{finished_closed, is_alone_free, is_closed_free, memory_instead, void_is_closed}
 use Rattle.lol_vm.proofs.VmFinishes.{tried_at_most, has_reported, has_content_still, answered, can_finish}
 use Rattle.lol_vm.proofs.VmRefusals.{err_is_not_ok, not_false, reported_with, has_open_same, has_open_failed, same_stack}
@@ -152,3 +153,11 @@ pub returns-clause-due : goal.returns-clause-due
 returns-clause-due g c = λ error is due s esi events tag pending flat.
     let opens = not_false c.complete_tag-completed.new.ctx.with_content (λ closed. err_is_not_ok c.answer.result (pushes.Memory error) is (c.answer.ensures.closed closed)) in
     memory_instead c.answer.result error is (c.answer.ensures.limited.1 (opens, due))
+
+pub returns-in-Err-clause-charges : goal.returns-in-Err-clause-charges
+returns-in-Err-clause-charges g c = charges_none c.args.self.now _ c.args.limiter.now _ refl refl refl
+
+pub returns-clause-charges : goal.returns-clause-charges
+returns-clause-charges g c =
+    let tried = record c.args.self.now { tries = c.complete_tag-completed.new.tries } in
+    charges_both (charges_none c.args.self.now tried c.args.limiter.now c.args.limiter.now refl refl refl) c.answer.ensures.charges
