@@ -1,5 +1,5 @@
 -- A machine that was told of nothing yet.
-use Rattle.std.proofs.Common.{◌≡◌, ℕ, ◌*◌, ◌^◌, ◌<◌, ◌≤◌, Bool, [], sym, ap, ◌∙◌, arith}
+use Rattle.std.proofs.Common.{◌≡◌, ◌*◌, ◌^◌, ◌<◌, ◌≤◌, Bool, [], sym, ap, ◌∙◌, arith}
 use Rattle.lol_memory.specs.Limiter.{Limiter}
 use Rattle.lol_program.specs.Paths.{Selectors}
 use Rattle.lol_vm.specs.Vms.{Vm, Stands, slots_charged, slot_bytes}

@@ -1,7 +1,6 @@
 -- What is kept of the open elements, where one was opened, and where the last one has another value.
-use Rattle.std.proofs.Common.{◌≡◌, ℕ, suc, ◌+◌, ◌-◌, ◌<◌, Bool, true, false, cond, List, [], ◌∷◌, ◌++◌, length, map, Option, Some, None, refl, sym, ap, subst, ◌∙◌, arith, length-append}
+use Rattle.std.proofs.Common.{◌≡◌, suc, ◌-◌, ◌<◌, Bool, true, false, List, [], ◌∷◌, ◌++◌, length, map, Option, Some, None, refl, sym, ap, subst, ◌∙◌, arith, length-append}
 use Rattle.std.specs.Prelude.{slice_get, slice_set, IsTrue, ◌↔◌, if◌then◌else◌}
-use Rattle.lol_memory.specs.Ids.{ascending}
 use Rattle.lol_memory.specs.declared.match_info.MatchInfo.{MatchInfo}
 use Rattle.lol_vm.specs.Answers.{Match}
 use Rattle.lol_vm.specs.Vms.{AreOpened, info_of}

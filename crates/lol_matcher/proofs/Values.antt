@@ -1,5 +1,5 @@
 -- A machine whose open elements have other values.
-use Rattle.std.proofs.Common.{◌≡◌, ℕ, ◌≤◌, Bool, List, Option, Some, None, refl, sym, subst}
+use Rattle.std.proofs.Common.{ℕ, ◌≤◌, Bool, List, Option, Some, None, refl, sym, subst}
 use Rattle.lol_base.specs.StartTags.{StartTag}
 use Rattle.lol_base.specs.declared.namespace.Namespace.{Namespace}
 use Rattle.lol_memory.specs.Limiter.{Limiter}

@@ -7,7 +7,6 @@ use Rattle.lol_memory.specs.Limiter.{Limiter}
 use Rattle.lol_memory.specs.declared.match_info.MatchInfo.{MatchInfo}
 use Rattle.lol_instructions.specs.Tests.{Element}
 use Rattle.lol_program.specs.Paths.{Selectors}
-use Rattle.lol_stack.specs.declared.element_value.ElementValue.{ElementValue}
 use Rattle.lol_vm.specs.Answers.{document, is_dropped}
 use Rattle.lol_vm.specs.Documents.{children_of, element_of}
 use Rattle.lol_vm.specs.Events.{Event, Start, has_content}
@@ -17,7 +16,7 @@ use Rattle.lol_vm.specs.Vms.{Vm, Stands, HasOpen, IsPending, data_in, slots_char
 use Rattle.lol_vm.specs.declared.error.AuxStartTagInfoRequest.{AuxStartTagInfoRequest}
 use Rattle.lol_matcher.specs.Answering.{GrowsBy, IsReported, Kept, KeepsOne, with_value}
 use Rattle.lol_matcher.specs.Refusing.{allowance, refusal_after}
-use Rattle.lol_matcher.specs.Told.{Told, History, elements_of, heard}
+use Rattle.lol_matcher.specs.Told.{History, elements_of, heard}
 use Rattle.lol_matcher.specs.declared.error.MatcherError.{MatcherError}
 use Rattle.lol_matcher.specs.declared.error.MatcherError.TheVariants.{MemoryLimitExceeded, Memory, CounterFull, Failed, NotAsked, OutsideInput}
 use Rattle.lol_matcher.specs.declared.matches.Matches.{Matches}

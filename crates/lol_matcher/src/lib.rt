@@ -13,6 +13,8 @@ mod readme;
 mod tags;
 #[cfg(test)]
 mod tests;
+#[cfg(test)]
+mod uses;
 
 pub use builder::MatcherBuilder;
 pub use error::{AddError, MatcherError};

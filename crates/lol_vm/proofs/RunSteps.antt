@@ -22,7 +22,7 @@ use Rattle.lol_vm.specs.Standing.{counted_last, counted_root, closed_count, or_r
 use Rattle.lol_vm.specs.Vms.{Vm, Stands, stack_in, data_in, slots_charged, slot_bytes, open_after}
 use Rattle.lol_vm.specs.declared.events.RunCause.{RunCause}
 use Rattle.lol_vm.specs.declared.events.RunCause.TheVariants.{MemoryLimitExceeded, CounterFull, Memory}
-use Rattle.lol_vm.specs.declared.started.Started.{Started}
+use Rattle.lol_vm.specs.Follows.{Started}
 use Rattle.lol_vm.proofs.Kept.{items_length, counters_are_places, documents_are_ordered, longest_push, outer_is, children-cons}
 use Rattle.lol_vm.proofs.RefusedRuns.{fits_on, slots_rise, stays_within, passes_maximum}
 use Rattle.lol_vm.proofs.Runs.{document_push}
@@ -246,7 +246,7 @@ module _ (s : Selectors) (esi : Bool) (item_bytes : ℕ) (before : Limiter) (vm 
         )
 
     pub follows_on : (new : Vm Started) (later : Limiter) → Stands s esi new (events ++ event ∷ []) → slot_bytes new ≡ slot_bytes vm
-        → map (λ (x : Started). x.event) (data_in new) ≡ reverse (map (λ (e : Element). e.number) (after s esi d event).open_elements)
+        → map (λ (x : Started). x.value) (data_in new) ≡ reverse (map (λ (e : Element). e.number) (after s esi d event).open_elements)
         → later ≡ charged now ((slots_charged new - slots_charged vm) * slot_bytes vm) → Follows s esi item_bytes before new (events ++ event ∷ []) later
     follows_on new later stands bytes numbers is =
         let grown = slots_later {new = new} (bytes ∙ f.charged.0) stands in
@@ -289,16 +289,16 @@ module _ (s : Selectors) (esi : Bool) (item_bytes : ℕ) (before : Limiter) (vm 
     abbrev kept_data : List Started
     kept_data = data_in vm
 
-    kept_at : (n : ℕ) → map (λ (x : Started). x.event) (take (length (drop n d.open_elements)) kept_data) ≡ reverse (numbers_of (drop n d.open_elements))
+    kept_at : (n : ℕ) → map (λ (x : Started). x.value) (take (length (drop n d.open_elements)) kept_data) ≡ reverse (numbers_of (drop n d.open_elements))
     kept_at n =
-        sym (take-map (λ (x : Started). x.event) (length (drop n d.open_elements)) kept_data)
+        sym (take-map (λ (x : Started). x.value) (length (drop n d.open_elements)) kept_data)
         ∙ (ap (take (length (drop n d.open_elements))) (f.numbers ∙ cut_at n (numbers_of d.open_elements))
         ∙ (take_at (reverse (drop n (numbers_of d.open_elements))) (reverse (take n (numbers_of d.open_elements))) (length (drop n d.open_elements)) (as_long n)
         ∙ ap reverse (drop-map (λ (e : Element). e.number) n d.open_elements)))
 
-    handed_at : (n : ℕ) → map (λ (x : Started). x.event) (drop (length (drop n d.open_elements)) kept_data) ≡ reverse (numbers_of (take n d.open_elements))
+    handed_at : (n : ℕ) → map (λ (x : Started). x.value) (drop (length (drop n d.open_elements)) kept_data) ≡ reverse (numbers_of (take n d.open_elements))
     handed_at n =
-        sym (drop-map (λ (x : Started). x.event) (length (drop n d.open_elements)) kept_data)
+        sym (drop-map (λ (x : Started). x.value) (length (drop n d.open_elements)) kept_data)
         ∙ (ap (drop (length (drop n d.open_elements))) (f.numbers ∙ cut_at n (numbers_of d.open_elements))
         ∙ (drop_at (reverse (drop n (numbers_of d.open_elements))) (reverse (take n (numbers_of d.open_elements))) (length (drop n d.open_elements)) (as_long n)
         ∙ ap reverse (take-map (λ (e : Element). e.number) n d.open_elements)))
@@ -307,14 +307,14 @@ module _ (s : Selectors) (esi : Bool) (item_bytes : ℕ) (before : Limiter) (vm 
     inner_is None = refl
     inner_is (Some place) = refl
 
-    pub numbers_kept : (new : Vm Started) → data_in new ≡ take (length (open_after name d.open_elements)) kept_data → map (λ (x : Started). x.event) (data_in new) ≡ reverse (numbers_of (after s esi d (End name)).open_elements)
+    pub numbers_kept : (new : Vm Started) → data_in new ≡ take (length (open_after name d.open_elements)) kept_data → map (λ (x : Started). x.value) (data_in new) ≡ reverse (numbers_of (after s esi d (End name)).open_elements)
     numbers_kept new kept =
-        ap (map (λ (x : Started). x.event)) (kept ∙ ap (λ (es : List Element). take (length es) kept_data) open_is)
+        ap (map (λ (x : Started). x.value)) (kept ∙ ap (λ (es : List Element). take (length es) kept_data) open_is)
         ∙ (kept_at closing ∙ ap (λ (es : List Element). reverse (numbers_of es)) (sym open_is))
 
-    pub numbers_handed : map (λ (x : Started). x.event) (drop (length (open_after name d.open_elements)) kept_data) ≡ closed name d
+    pub numbers_handed : map (λ (x : Started). x.value) (drop (length (open_after name d.open_elements)) kept_data) ≡ closed name d
     numbers_handed =
-        ap (λ (es : List Element). map (λ (x : Started). x.event) (drop (length es) kept_data)) open_is
+        ap (λ (es : List Element). map (λ (x : Started). x.value) (drop (length es) kept_data)) open_is
         ∙ (handed_at closing ∙ ap (λ (es : List Element). reverse (numbers_of es)) (sym (inner_is (place_of name d.open_elements))))
 
 -- 4. A new machine
@@ -327,7 +327,7 @@ starts s esi item_bytes before vm some word within stands bytes empty =
       some = some;
       word = word;
       stands = stands;
-      numbers = ap (map (λ (x : Started). x.event)) empty;
+      numbers = ap (map (λ (x : Started). x.value)) empty;
       charged = (bytes, ap (λ n. record before { usage = n }) (omega (arith, none)));
       within = omega (arith, none, within);
       countable = λ parent. omega arith;

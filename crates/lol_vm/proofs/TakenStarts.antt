@@ -30,7 +30,7 @@ use Rattle.lol_vm.specs.declared.error.VmError.{VmError}
 use Rattle.lol_vm.specs.declared.error.VmError.TheVariants.{CounterFull}
 use Rattle.lol_vm.specs.declared.events.TagReport.TheVariants as reports
 use Rattle.lol_stack.specs.declared.stack_item.StackItemOf.{StackItemOf}
-use Rattle.lol_vm.specs.declared.started.Started.{Started}
+use Rattle.lol_vm.specs.Follows.{Started}
 use Rattle.lol_vm.proofs.RunSteps.{hasnt_failed, charged_later, follows_on, not_refused}
 use Rattle.lol_vm.proofs.Runs.{events-document}
 
@@ -146,7 +146,7 @@ module _ (s : Selectors) (esi : Bool) (item_bytes : ℕ) (before : Limiter) (vm 
   numbers_of elements = map (λ (e : Element). e.number) elements
 
   abbrev events_of : List Started → List ℕ
-  events_of started = map (λ (x : Started). x.event) started
+  events_of started = map (λ (x : Started). x.value) started
 
   abbrev opened_if : Bool → List Element
   opened_if b = (after_start d tag b).open_elements
@@ -190,7 +190,7 @@ module _ (s : Selectors) (esi : Bool) (item_bytes : ℕ) (before : Limiter) (vm 
 
     module _ {F : Type 0} (ids_of : Started → Ids) (step : F → MatchInfo → Unit {0} → F → Type 0) (asked : Bool) (mid : Vm Started) (g h : F) (a : IsAnswered ids_of step s esi events tag asked vm mid g h) (matched : Vec MatchInfo Global)
         (kept : matched.items ≡ map info_of a.matched) (tries : tries_in new ≡ tries_in mid) (number open_before : ℕ) (place : length events ≡ number) (open_is : open_before ≡ length (data_in vm))
-        (numbered : open_before < length (data_in mid) → (outer : List Started) (last : Started) → data_in mid ≡ outer ++ last ∷ [] → data_in new ≡ outer ++ (record last { event = number }) ∷ [])
+        (numbered : open_before < length (data_in mid) → (outer : List Started) (last : Started) → data_in mid ≡ outer ++ last ∷ [] → data_in new ≡ outer ++ (record last { value = number }) ∷ [])
         (unchanged : length (data_in mid) ≤ open_before → data_in new ≡ data_in mid) where
       isnt_dropped : drops ≡ false
       isnt_dropped = by_drop drops (sym (told drops refl) ∙ a.answered)
@@ -205,7 +205,7 @@ module _ (s : Selectors) (esi : Bool) (item_bytes : ℕ) (before : Limiter) (vm 
           let size = ap length one ∙ length-append (data_in vm) (w ∷ []) in
           let events_before : d.events ≡ number = events-document s esi empty events ∙ omega (arith, place) in
           ap events_of (numbered (omega (arith, size, open_is)) (data_in vm) w one)
-          ∙ (map_push (λ (x : Started). x.event) (data_in vm) (record w { event = number })
+          ∙ (map_push (λ (x : Started). x.value) (data_in vm) (record w { value = number })
           ∙ ((λ i. f.numbers i ++ sym events_before i ∷ []) ∙ sym (reverse-append (d.events ∷ []) (numbers_of d.open_elements))))
 
       pub goes_started : Goes s esi item_bytes before new events (Start tag) later (reports.Started asked matched (tries_in new))

@@ -20,7 +20,11 @@ use Rattle.lol_vm.specs.Vms.{Vm, Stands, IsAnswered, IsRestOf, stack_in, data_in
 use Rattle.lol_vm.specs.declared.events.RunCause.{RunCause}
 use Rattle.lol_vm.specs.declared.events.RunCause.TheVariants.{MemoryLimitExceeded, CounterFull, Memory}
 use Rattle.lol_vm.specs.declared.events.TagReport.{TagReport}
-use Rattle.lol_vm.specs.declared.started.Started.{Started}
+use Rattle.lol_stack.specs.declared.element_value.ElementValue.{ElementValue}
+
+-- what a run keeps of an open element: the ids that it was reported under, and the number of its start tag
+abbrev pub Started : Type 0
+Started = ElementValue ℕ
 
 -- 1. A start tag
 
@@ -68,7 +72,7 @@ pub record Follows (s : Selectors) (esi : Bool) (item_bytes : ℕ) (before : Lim
   pub some : 1 ≤ item_bytes
   pub word : before.maximum < 2 ^ 64
   pub stands : Stands s esi vm events
-  pub numbers : map (λ x. x.event) (data_in vm) ≡ reverse (map (λ e. e.number) (document s esi events).open_elements)
+  pub numbers : map (λ x. x.value) (data_in vm) ≡ reverse (map (λ e. e.number) (document s esi events).open_elements)
   pub charged : IsCharged item_bytes before vm now
   pub within : before.usage + slots_charged vm * item_bytes ≤ before.maximum
   pub countable : (parent : Option ℕ) → children_of parent (document s esi events).children ≤ greatest_count

@@ -39,8 +39,9 @@ pub use lol_program::{
     SelectorState, Test, Tries, TryExecResult,
 };
 pub use lol_stack::{
-    AddChildError, AddressRanges, CounterItem, CounterList, ElementData, ElementValue, ExecutionCtx,
-    Stack, StackDirective, StackItem, StackItemOf, StackNames, StackOf, TypedChildCounterMap,
+    AddChildError, AddressRanges, CounterItem, CounterList, ElementData, ElementValue,
+    ExecutionCtx, Stack, StackDirective, StackItem, StackItemOf, StackNames, StackOf,
+    TypedChildCounterMap,
 };
 pub use run::{match_each_event, match_events};
 pub use vm::{SelectorMatchingVm, VmOf};

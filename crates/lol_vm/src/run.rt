@@ -291,7 +291,7 @@ fn take_start<F: FnMut(MatchInfo)>(
 /// Writes the number of its start tag into the data of the last open element, if more elements are open than before.
 fn number_opened(vm: &mut SelectorMatchingVm<Started>, open_before: usize, number: usize)
     ensures stands { (s : Selectors) (esi : Bool) (events : List Event) → Stands s esi vm.old events → Stands s esi vm.new events }
-    ensures numbered { open_before < length (data_in vm.old) → (outer : List Started) (last : Started) → data_in vm.old ≡ outer ++ last ∷ [] → data_in vm.new ≡ outer ++ (record last { event = number }) ∷ [] }
+    ensures numbered { open_before < length (data_in vm.old) → (outer : List Started) (last : Started) → data_in vm.old ≡ outer ++ last ∷ [] → data_in vm.new ≡ outer ++ (record last { value = number }) ∷ [] }
     ensures unchanged { length (data_in vm.old) ≤ open_before → data_in vm.new ≡ data_in vm.old }
     ensures tries { tries_in vm.new ≡ tries_in vm.old }
     ensures slots { slots_charged vm.new ≡ slots_charged vm.old }
@@ -301,7 +301,7 @@ fn number_opened(vm: &mut SelectorMatchingVm<Started>, open_before: usize, numbe
         return;
     }
     if let Some(started) = vm.current_element_data_mut() {
-        started.event = number;
+        started.value = number;
     }
 }
 
@@ -319,9 +319,9 @@ fn answer_end(
 {
     let mut collected = Collected::new(alloc);
     let mut handler = |started: Started|
-        ensures { Collects collected.entry started.event collected.exit }
+        ensures { Collects collected.entry started.value collected.exit }
     {
-        collected.keep(started.event);
+        collected.keep(started.value);
     };
     vm.exec_for_end_tag(local_name, &mut handler);
     let Collected { items, refused } = collected;

@@ -1,13 +1,13 @@
 use Rattle.std.proofs.Common.{◌≡◌, ◌++◌, ◌∷◌, [], ℕ, Some, sym, ap, ◌∙◌}
 use Rattle.std.specs.Option.{option_copied_mut}
-use Rattle.lol_vm.specs.declared.started.Started.{Started}
+use Rattle.lol_vm.specs.Follows.{Started}
 use Rattle.lol_vm.proofs.VmData.{data_change_nothing, data_with, last_data}
 use Rattle.lol_vm.proofs.run.number_opened.Goals as goal
 
 pub returns-in-Some-clause-stands : goal.returns-in-Some-clause-stands
 returns-in-Some-clause-stands c = λ s esi events stands. data_change_nothing s esi c.args.vm.now events _ stands
 
-the_same : (a b : Started) (number : ℕ) → Some a ≡ Some b → record { matched_ids = a.matched_ids; event = number } ≡ record b { event = number }
+the_same : (a b : Started) (number : ℕ) → Some a ≡ Some b → record { matched_ids = a.matched_ids; value = number } ≡ record b { value = number }
 the_same a b number is = cc
 
 pub returns-in-Some-clause-numbered : goal.returns-in-Some-clause-numbered

@@ -1,4 +1,4 @@
-use Rattle.std.proofs.Common.{rules, ◌≡◌, Bool, List, [], ◌∷◌, ◌++◌, true, false, true≢false, Some, None, Result, refl, inr, sym, ap, subst, ◌∙◌}
+use Rattle.std.proofs.Common.{rules, ◌≡◌, [], ◌∷◌, ◌++◌, true, false, true≢false, Some, None, Result, refl, inr, sym, ap, subst, ◌∙◌}
 use Rattle.std.proofs.lemmas.Bool.{false≢true}
 use Rattle.std.specs.Prelude.{IfErr}
 use Rattle.lol_base.specs.StartTags.{RangesAreInside}
