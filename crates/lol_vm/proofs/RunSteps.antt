@@ -22,7 +22,7 @@ use Rattle.lol_vm.specs.Standing.{counted_last, counted_root, closed_count, or_r
 use Rattle.lol_vm.specs.Vms.{Vm, Stands, stack_in, data_in, slots_charged, slot_bytes, open_after}
 use Rattle.lol_vm.specs.declared.events.RunCause.{RunCause}
 use Rattle.lol_vm.specs.declared.events.RunCause.TheVariants.{MemoryLimitExceeded, CounterFull, Memory}
-use Rattle.lol_vm.specs.Follows.{Started}
+use Rattle.lol_vm.specs.Follows.{StartedElement}
 use Rattle.lol_vm.proofs.Kept.{items_length, counters_are_places, documents_are_ordered, longest_push, outer_is, children-cons}
 use Rattle.lol_vm.proofs.RefusedRuns.{fits_on, slots_rise, stays_within, passes_maximum}
 use Rattle.lol_vm.proofs.Runs.{document_push}
@@ -63,7 +63,7 @@ cut_at n xs = ap reverse (sym (take-append-drop n xs)) ∙ reverse-append (take 
 
 -- 2. A run, one event on
 
-module _ (s : Selectors) (esi : Bool) (item_bytes : ℕ) (before : Limiter) (vm : Vm Started) (events : List Event) (now : Limiter) (f : Follows s esi item_bytes before vm events now) where
+module _ (s : Selectors) (esi : Bool) (item_bytes : ℕ) (before : Limiter) (vm : Vm StartedElement) (events : List Event) (now : Limiter) (f : Follows s esi item_bytes before vm events now) where
   abbrev d : Document
   d = document s esi events
 
@@ -167,7 +167,7 @@ module _ (s : Selectors) (esi : Bool) (item_bytes : ℕ) (before : Limiter) (vm 
     later_longest : longest s esi (events ++ event ∷ []) ≡ max most (length (after s esi d event).open_elements)
     later_longest = longest_push s esi empty events event
 
-    slots_later : {new : Vm Started} → slot_bytes new ≡ item_bytes → Stands s esi new (events ++ event ∷ []) → slots_charged new ≡ slots item_bytes (max most (length (after s esi d event).open_elements))
+    slots_later : {new : Vm StartedElement} → slot_bytes new ≡ item_bytes → Stands s esi new (events ++ event ∷ []) → slots_charged new ≡ slots item_bytes (max most (length (after s esi d event).open_elements))
     slots_later {new} bytes stands =
         slots_are_of_depth s esi new (events ++ event ∷ []) stands ∙ (λ i. slots (bytes i) (later_longest i))
 
@@ -235,7 +235,7 @@ module _ (s : Selectors) (esi : Bool) (item_bytes : ℕ) (before : Limiter) (vm 
         let e : new * item_bytes ≡ old * item_bytes + (new - old) * item_bytes = ap (λ k. k * item_bytes) n ∙ omega arith in
         omega (arith, e)
 
-    pub charged_later : (new : Vm Started) (later : Limiter) → Stands s esi new (events ++ event ∷ []) → slot_bytes new ≡ slot_bytes vm → later ≡ charged now ((slots_charged new - slots_charged vm) * slot_bytes vm)
+    pub charged_later : (new : Vm StartedElement) (later : Limiter) → Stands s esi new (events ++ event ∷ []) → slot_bytes new ≡ slot_bytes vm → later ≡ charged now ((slots_charged new - slots_charged vm) * slot_bytes vm)
         → IsCharged item_bytes before new later
     charged_later new later stands bytes is =
         let same_bytes = bytes ∙ f.charged.0 in
@@ -245,8 +245,8 @@ module _ (s : Selectors) (esi : Bool) (item_bytes : ℕ) (before : Limiter) (vm 
           is ∙ ((λ i. charged (f.charged.1 i) ((slots_charged new - slots_charged vm) * f.charged.0 i)) ∙ ap (λ n. record before { usage = n }) (sum (slots_charged vm) (slots_charged new) rise)),
         )
 
-    pub follows_on : (new : Vm Started) (later : Limiter) → Stands s esi new (events ++ event ∷ []) → slot_bytes new ≡ slot_bytes vm
-        → map (λ (x : Started). x.value) (data_in new) ≡ reverse (map (λ (e : Element). e.number) (after s esi d event).open_elements)
+    pub follows_on : (new : Vm StartedElement) (later : Limiter) → Stands s esi new (events ++ event ∷ []) → slot_bytes new ≡ slot_bytes vm
+        → map (λ (x : StartedElement). x.value) (data_in new) ≡ reverse (map (λ (e : Element). e.number) (after s esi d event).open_elements)
         → later ≡ charged now ((slots_charged new - slots_charged vm) * slot_bytes vm) → Follows s esi item_bytes before new (events ++ event ∷ []) later
     follows_on new later stands bytes numbers is =
         let grown = slots_later {new = new} (bytes ∙ f.charged.0) stands in
@@ -262,7 +262,7 @@ module _ (s : Selectors) (esi : Bool) (item_bytes : ℕ) (before : Limiter) (vm 
         }
 
   -- where no slots come, nothing more is charged
-  pub uncharged : (new : Vm Started) → slots_charged new ≡ slots_charged vm → now ≡ charged now ((slots_charged new - slots_charged vm) * slot_bytes vm)
+  pub uncharged : (new : Vm StartedElement) → slots_charged new ≡ slots_charged vm → now ≡ charged now ((slots_charged new - slots_charged vm) * slot_bytes vm)
   uncharged new same =
       let none : slots_charged new - slots_charged vm ≡ 0 = omega (arith, same) in
       sym (ap (λ n. charged now (n * slot_bytes vm)) none ∙ ap (λ n. record now { usage = n }) (omega arith))
@@ -286,19 +286,19 @@ module _ (s : Selectors) (esi : Bool) (item_bytes : ℕ) (before : Limiter) (vm 
         let short = length-drop n d.open_elements in
         length-reverse (drop n (numbers_of d.open_elements)) ∙ omega (arith, shorter, same, short)
 
-    abbrev kept_data : List Started
+    abbrev kept_data : List StartedElement
     kept_data = data_in vm
 
-    kept_at : (n : ℕ) → map (λ (x : Started). x.value) (take (length (drop n d.open_elements)) kept_data) ≡ reverse (numbers_of (drop n d.open_elements))
+    kept_at : (n : ℕ) → map (λ (x : StartedElement). x.value) (take (length (drop n d.open_elements)) kept_data) ≡ reverse (numbers_of (drop n d.open_elements))
     kept_at n =
-        sym (take-map (λ (x : Started). x.value) (length (drop n d.open_elements)) kept_data)
+        sym (take-map (λ (x : StartedElement). x.value) (length (drop n d.open_elements)) kept_data)
         ∙ (ap (take (length (drop n d.open_elements))) (f.numbers ∙ cut_at n (numbers_of d.open_elements))
         ∙ (take_at (reverse (drop n (numbers_of d.open_elements))) (reverse (take n (numbers_of d.open_elements))) (length (drop n d.open_elements)) (as_long n)
         ∙ ap reverse (drop-map (λ (e : Element). e.number) n d.open_elements)))
 
-    handed_at : (n : ℕ) → map (λ (x : Started). x.value) (drop (length (drop n d.open_elements)) kept_data) ≡ reverse (numbers_of (take n d.open_elements))
+    handed_at : (n : ℕ) → map (λ (x : StartedElement). x.value) (drop (length (drop n d.open_elements)) kept_data) ≡ reverse (numbers_of (take n d.open_elements))
     handed_at n =
-        sym (drop-map (λ (x : Started). x.value) (length (drop n d.open_elements)) kept_data)
+        sym (drop-map (λ (x : StartedElement). x.value) (length (drop n d.open_elements)) kept_data)
         ∙ (ap (drop (length (drop n d.open_elements))) (f.numbers ∙ cut_at n (numbers_of d.open_elements))
         ∙ (drop_at (reverse (drop n (numbers_of d.open_elements))) (reverse (take n (numbers_of d.open_elements))) (length (drop n d.open_elements)) (as_long n)
         ∙ ap reverse (take-map (λ (e : Element). e.number) n d.open_elements)))
@@ -307,19 +307,19 @@ module _ (s : Selectors) (esi : Bool) (item_bytes : ℕ) (before : Limiter) (vm 
     inner_is None = refl
     inner_is (Some place) = refl
 
-    pub numbers_kept : (new : Vm Started) → data_in new ≡ take (length (open_after name d.open_elements)) kept_data → map (λ (x : Started). x.value) (data_in new) ≡ reverse (numbers_of (after s esi d (End name)).open_elements)
+    pub numbers_kept : (new : Vm StartedElement) → data_in new ≡ take (length (open_after name d.open_elements)) kept_data → map (λ (x : StartedElement). x.value) (data_in new) ≡ reverse (numbers_of (after s esi d (End name)).open_elements)
     numbers_kept new kept =
-        ap (map (λ (x : Started). x.value)) (kept ∙ ap (λ (es : List Element). take (length es) kept_data) open_is)
+        ap (map (λ (x : StartedElement). x.value)) (kept ∙ ap (λ (es : List Element). take (length es) kept_data) open_is)
         ∙ (kept_at closing ∙ ap (λ (es : List Element). reverse (numbers_of es)) (sym open_is))
 
-    pub numbers_handed : map (λ (x : Started). x.value) (drop (length (open_after name d.open_elements)) kept_data) ≡ closed name d
+    pub numbers_handed : map (λ (x : StartedElement). x.value) (drop (length (open_after name d.open_elements)) kept_data) ≡ closed name d
     numbers_handed =
-        ap (λ (es : List Element). map (λ (x : Started). x.value) (drop (length es) kept_data)) open_is
+        ap (λ (es : List Element). map (λ (x : StartedElement). x.value) (drop (length es) kept_data)) open_is
         ∙ (handed_at closing ∙ ap (λ (es : List Element). reverse (numbers_of es)) (sym (inner_is (place_of name d.open_elements))))
 
 -- 4. A new machine
 
-pub starts : (s : Selectors) (esi : Bool) (item_bytes : ℕ) (before : Limiter) (vm : Vm Started) → 1 ≤ item_bytes → before.maximum < 2 ^ 64 → before.usage ≤ before.maximum
+pub starts : (s : Selectors) (esi : Bool) (item_bytes : ℕ) (before : Limiter) (vm : Vm StartedElement) → 1 ≤ item_bytes → before.maximum < 2 ^ 64 → before.usage ≤ before.maximum
     → Stands s esi vm [] → slot_bytes vm ≡ item_bytes → data_in vm ≡ [] → Follows s esi item_bytes before vm [] before
 starts s esi item_bytes before vm some word within stands bytes empty =
     let none : slots_charged vm * item_bytes ≡ 0 = ap (λ n. n * item_bytes) (slots_are_of_depth s esi vm [] stands) ∙ omega arith in
@@ -327,7 +327,7 @@ starts s esi item_bytes before vm some word within stands bytes empty =
       some = some;
       word = word;
       stands = stands;
-      numbers = ap (map (λ (x : Started). x.value)) empty;
+      numbers = ap (map (λ (x : StartedElement). x.value)) empty;
       charged = (bytes, ap (λ n. record before { usage = n }) (omega (arith, none)));
       within = omega (arith, none, within);
       countable = λ parent. omega arith;
@@ -335,7 +335,7 @@ starts s esi item_bytes before vm some word within stands bytes empty =
     }
 
 -- what a run charged is charged no more once its machine is released
-pub released : (item_bytes : ℕ) (before : Limiter) (vm : Vm Started) (now : Limiter) → IsCharged item_bytes before vm now
+pub released : (item_bytes : ℕ) (before : Limiter) (vm : Vm StartedElement) (now : Limiter) → IsCharged item_bytes before vm now
     → (slots_charged vm * slot_bytes vm ≤ now.usage) × (record now { usage = now.usage - slots_charged vm * slot_bytes vm } ≡ before)
 released item_bytes before vm now charge =
     let usage : now.usage ≡ before.usage + slots_charged vm * slot_bytes vm = ap (λ (l : Limiter). l.usage) charge.1 ∙ ap (λ n. before.usage + slots_charged vm * n) (sym charge.0) in

@@ -30,7 +30,7 @@ use Rattle.lol_vm.specs.declared.error.VmError.{VmError}
 use Rattle.lol_vm.specs.declared.error.VmError.TheVariants.{CounterFull}
 use Rattle.lol_vm.specs.declared.events.TagReport.TheVariants as reports
 use Rattle.lol_stack.specs.declared.stack_item.StackItemOf.{StackItemOf}
-use Rattle.lol_vm.specs.Follows.{Started}
+use Rattle.lol_vm.specs.Follows.{StartedElement}
 use Rattle.lol_vm.proofs.RunSteps.{hasnt_failed, charged_later, follows_on, not_refused}
 use Rattle.lol_vm.proofs.Runs.{events-document}
 
@@ -135,7 +135,7 @@ module _ {E F : Type 0} (ids_of : E → Ids) (step : F → MatchInfo → Unit {0
   taken_stands (Some b) h = h.stands
 
 -- What a run makes of it.
-module _ (s : Selectors) (esi : Bool) (item_bytes : ℕ) (before : Limiter) (vm : Vm Started) (events : List Event) (now : Limiter) (f : Follows s esi item_bytes before vm events now) (tag : StartTag) where
+module _ (s : Selectors) (esi : Bool) (item_bytes : ℕ) (before : Limiter) (vm : Vm StartedElement) (events : List Event) (now : Limiter) (f : Follows s esi item_bytes before vm events now) (tag : StartTag) where
   abbrev d : Document
   d = document s esi events
 
@@ -145,8 +145,8 @@ module _ (s : Selectors) (esi : Bool) (item_bytes : ℕ) (before : Limiter) (vm 
   abbrev numbers_of : List Element → List ℕ
   numbers_of elements = map (λ (e : Element). e.number) elements
 
-  abbrev events_of : List Started → List ℕ
-  events_of started = map (λ (x : Started). x.value) started
+  abbrev events_of : List StartedElement → List ℕ
+  events_of started = map (λ (x : StartedElement). x.value) started
 
   abbrev opened_if : Bool → List Element
   opened_if b = (after_start d tag b).open_elements
@@ -172,7 +172,7 @@ module _ (s : Selectors) (esi : Bool) (item_bytes : ℕ) (before : Limiter) (vm 
   opens_content true drop is = ap not is
   opens_content false drop is = refl
 
-  module _ (new : Vm Started) (later : Limiter) (stands : Stands s esi new (events ++ Start tag ∷ [])) (bytes : slot_bytes new ≡ slot_bytes vm) (charge : later ≡ charged now ((slots_charged new - slots_charged vm) * slot_bytes vm))
+  module _ (new : Vm StartedElement) (later : Limiter) (stands : Stands s esi new (events ++ Start tag ∷ [])) (bytes : slot_bytes new ≡ slot_bytes vm) (charge : later ≡ charged now ((slots_charged new - slots_charged vm) * slot_bytes vm))
       (room : last_count (stack_in vm) ≡ full_count → ⊥) (unlimited : opens s esi events tag ≡ true → IsLimited (list_in (stack_in vm)) now → ⊥) where
     goes_on : (b : Bool) → opens s esi events tag ≡ b → events_of (data_in new) ≡ reverse (numbers_of (opened_if b)) → Follows s esi item_bytes before new (events ++ Start tag ∷ []) later
     goes_on b is numbers =
@@ -188,9 +188,9 @@ module _ (s : Selectors) (esi : Bool) (item_bytes : ℕ) (before : Limiter) (vm 
       follows = goes_on false (opens_nothing (has_content esi tag) drops is.dropped) (ap events_of is.kept ∙ f.numbers);
     }
 
-    module _ {F : Type 0} (ids_of : Started → Ids) (step : F → MatchInfo → Unit {0} → F → Type 0) (asked : Bool) (mid : Vm Started) (g h : F) (a : IsAnswered ids_of step s esi events tag asked vm mid g h) (matched : Vec MatchInfo Global)
+    module _ {F : Type 0} (ids_of : StartedElement → Ids) (step : F → MatchInfo → Unit {0} → F → Type 0) (asked : Bool) (mid : Vm StartedElement) (g h : F) (a : IsAnswered ids_of step s esi events tag asked vm mid g h) (matched : Vec MatchInfo Global)
         (kept : matched.items ≡ map info_of a.matched) (tries : tries_in new ≡ tries_in mid) (number open_before : ℕ) (place : length events ≡ number) (open_is : open_before ≡ length (data_in vm))
-        (numbered : open_before < length (data_in mid) → (outer : List Started) (last : Started) → data_in mid ≡ outer ++ last ∷ [] → data_in new ≡ outer ++ (record last { value = number }) ∷ [])
+        (numbered : open_before < length (data_in mid) → (outer : List StartedElement) (last : StartedElement) → data_in mid ≡ outer ++ last ∷ [] → data_in new ≡ outer ++ (record last { value = number }) ∷ [])
         (unchanged : length (data_in mid) ≤ open_before → data_in new ≡ data_in mid) where
       isnt_dropped : drops ≡ false
       isnt_dropped = by_drop drops (sym (told drops refl) ∙ a.answered)
@@ -205,7 +205,7 @@ module _ (s : Selectors) (esi : Bool) (item_bytes : ℕ) (before : Limiter) (vm 
           let size = ap length one ∙ length-append (data_in vm) (w ∷ []) in
           let events_before : d.events ≡ number = events-document s esi empty events ∙ omega (arith, place) in
           ap events_of (numbered (omega (arith, size, open_is)) (data_in vm) w one)
-          ∙ (map_push (λ (x : Started). x.value) (data_in vm) (record w { value = number })
+          ∙ (map_push (λ (x : StartedElement). x.value) (data_in vm) (record w { value = number })
           ∙ ((λ i. f.numbers i ++ sym events_before i ∷ []) ∙ sym (reverse-append (d.events ∷ []) (numbers_of d.open_elements))))
 
       pub goes_started : Goes s esi item_bytes before new events (Start tag) later (reports.Started asked matched (tries_in new))

@@ -23,8 +23,8 @@ use Rattle.lol_vm.specs.declared.events.TagReport.{TagReport}
 use Rattle.lol_stack.specs.declared.element_value.ElementValue.{ElementValue}
 
 -- what a run keeps of an open element: the ids that it was reported under, and the number of its start tag
-abbrev pub Started : Type 0
-Started = ElementValue ℕ
+abbrev pub StartedElement : Type 0
+StartedElement = ElementValue ℕ
 
 -- 1. A start tag
 
@@ -63,12 +63,12 @@ module _ {E : Type 0} where
 -- 2. A run
 
 -- The limiter holds what was there before the run, and the charge of the slots.
-abbrev pub IsCharged : ℕ → Limiter → Vm Started → Limiter → Type 0
+abbrev pub IsCharged : ℕ → Limiter → Vm StartedElement → Limiter → Type 0
 IsCharged item_bytes before vm now = (slot_bytes vm ≡ item_bytes) × (now ≡ record before { usage = before.usage + slots_charged vm * item_bytes })
 
 -- The machine stands for the events, its data hold the numbers of the open elements, the limiter its charge, within the maximum; and no
 -- event was to be refused.
-pub record Follows (s : Selectors) (esi : Bool) (item_bytes : ℕ) (before : Limiter) (vm : Vm Started) (events : List Event) (now : Limiter) : Type 0 where
+pub record Follows (s : Selectors) (esi : Bool) (item_bytes : ℕ) (before : Limiter) (vm : Vm StartedElement) (events : List Event) (now : Limiter) : Type 0 where
   pub some : 1 ≤ item_bytes
   pub word : before.maximum < 2 ^ 64
   pub stands : Stands s esi vm events
@@ -79,7 +79,7 @@ pub record Follows (s : Selectors) (esi : Bool) (item_bytes : ℕ) (before : Lim
   pub fits : refused s esi (allowance_of item_bytes before) events ≡ None
 
 -- One event more was answered.
-pub record Goes (s : Selectors) (esi : Bool) (item_bytes : ℕ) (before : Limiter) (vm : Vm Started) (events : List Event) (event : Event) (now : Limiter) (report : TagReport) : Type 0 where
+pub record Goes (s : Selectors) (esi : Bool) (item_bytes : ℕ) (before : Limiter) (vm : Vm StartedElement) (events : List Event) (event : Event) (now : Limiter) (report : TagReport) : Type 0 where
   pub answered : answer_of report ≡ answer s esi (document s esi events) event
   pub follows : Follows s esi item_bytes before vm (events ++ event ∷ []) now
 

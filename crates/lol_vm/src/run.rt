@@ -13,6 +13,7 @@ ghost use Rattle.lol_vm.specs.Follows.{Follows, Goes, IsCharged, IsHandedOver, I
 ghost use Rattle.lol_vm.specs.Handlers.{IsCalledWithAnswers};
 ghost use Rattle.lol_vm.specs.Refusals.{refused};
 ghost use Rattle.lol_vm.specs.RunRefusals.{allowance_of, IsRefusedAt, StopsBeforeLimit, StopsFor};
+ghost use Rattle.lol_stack.specs.declared.element_value.ElementValue.{ElementValue};
 ghost use Rattle.lol_stack.specs.Stacks.{list_in, last_count};
 ghost use Rattle.lol_vm.specs.Views.{HasRangesInside, event_of, answer_of, selectors};
 ghost use Rattle.lol_vm.specs.Vms.{Stands, ChargesSlots, IsNameOf, IsTagOf, stack_in, tries_in, data_in, slots_charged, slot_bytes};
@@ -291,7 +292,7 @@ fn take_start<F: FnMut(MatchInfo)>(
 /// Writes the number of its start tag into the data of the last open element, if more elements are open than before.
 fn number_opened(vm: &mut SelectorMatchingVm<Started>, open_before: usize, number: usize)
     ensures stands { (s : Selectors) (esi : Bool) (events : List Event) → Stands s esi vm.old events → Stands s esi vm.new events }
-    ensures numbered { open_before < length (data_in vm.old) → (outer : List Started) (last : Started) → data_in vm.old ≡ outer ++ last ∷ [] → data_in vm.new ≡ outer ++ (record last { value = number }) ∷ [] }
+    ensures numbered { open_before < length (data_in vm.old) → (outer : List (ElementValue ℕ)) (last : ElementValue ℕ) → data_in vm.old ≡ outer ++ last ∷ [] → data_in vm.new ≡ outer ++ (record last { value = number }) ∷ [] }
     ensures unchanged { length (data_in vm.old) ≤ open_before → data_in vm.new ≡ data_in vm.old }
     ensures tries { tries_in vm.new ≡ tries_in vm.old }
     ensures slots { slots_charged vm.new ≡ slots_charged vm.old }
