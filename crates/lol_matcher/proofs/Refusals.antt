@@ -15,7 +15,7 @@ use Rattle.lol_matcher.specs.Keeping.{IsRefusal}
 use Rattle.lol_matcher.specs.Refusing.{IsRefusedFor, allowance}
 use Rattle.lol_matcher.specs.declared.error.MatcherError.{MatcherError}
 use Rattle.lol_matcher.specs.declared.error.MatcherError.TheVariants.{MemoryLimitExceeded, Memory, CounterFull, Failed, NotAsked, OutsideInput}
-use Rattle.lol_matcher.proofs.Charging.{stays_within, passes_maximum}
+use Rattle.lol_vm.specs.ChargeLaws.{stays_within_alone, passes_maximum_alone}
 
 -- what a start tag is refused for refuses all that come later
 pub is_refusal : (error : MatcherError) (free : Type 0) (refusal : Option Cause) → IsRefusedFor error free refusal → IsRefusal error
@@ -72,7 +72,7 @@ module _ {T : Type 0} (s : Selectors) (esi : Bool) (d : Document) (most : ℕ) (
   fits true tag unlimited =
       let many : suc (length d.open_elements) ≡ length d.open_elements + 1 = omega arith in
       subst (λ n. slots v.item_bytes (max most n) * v.item_bytes ≤ now.maximum) (sym many)
-      (stays_within v.item_bytes (length d.open_elements) most is.enough v now is.some is.word refl is.many is.charged usage within (unlimited refl))
+      (stays_within_alone v.item_bytes (length d.open_elements) most is.enough v now is.some is.word refl is.many is.charged usage within (unlimited refl))
   fits false tag unlimited =
       let e = is.enough in
       let same : most ≡ max most (length d.open_elements) = omega (arith, e) in
@@ -82,7 +82,7 @@ module _ {T : Type 0} (s : Selectors) (esi : Bool) (d : Document) (most : ℕ) (
   passes tag limited =
       let many : suc (length d.open_elements) ≡ length d.open_elements + 1 = omega arith in
       subst (λ n. now.maximum < slots v.item_bytes (max most n) * v.item_bytes) (sym many)
-      (passes_maximum v.item_bytes (length d.open_elements) most is.enough v now is.some is.word refl is.many is.charged usage limited)
+      (passes_maximum_alone v.item_bytes (length d.open_elements) most is.enough v now is.some is.word refl is.many is.charged usage limited)
 
   tests : (tag : StartTag) (full over : Bool) → nat_lt greatest_count (element_of d tag).position ≡ full
       → exceeds a (max most (length (after_start d tag (opens_in s esi d tag)).open_elements)) ≡ over

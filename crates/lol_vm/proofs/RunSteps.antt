@@ -24,7 +24,8 @@ use Rattle.lol_vm.specs.declared.events.RunCause.{RunCause}
 use Rattle.lol_vm.specs.declared.events.RunCause.TheVariants.{MemoryLimitExceeded, CounterFull, Memory}
 use Rattle.lol_vm.specs.Follows.{StartedElement}
 use Rattle.lol_vm.proofs.Kept.{items_length, counters_are_places, documents_are_ordered, longest_push, outer_is, children-cons}
-use Rattle.lol_vm.proofs.RefusedRuns.{fits_on, slots_rise, stays_within, passes_maximum}
+use Rattle.lol_vm.specs.ChargeLaws.{slots_rise, stays_within, passes_maximum}
+use Rattle.lol_vm.proofs.RefusedRuns.{fits_on}
 use Rattle.lol_vm.proofs.Runs.{document_push}
 use Rattle.lol_vm.proofs.StackCounting.{seen_children}
 use Rattle.lol_vm.proofs.StackMachines.{items_counted}

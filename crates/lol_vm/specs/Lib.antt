@@ -30,3 +30,4 @@ pub mod RunLaws
 pub mod StackMachines
 pub mod Gathering
 pub mod InstructionLaws
+pub mod ChargeLaws
