@@ -1,4 +1,4 @@
-//! Callers of the crates, each on a small page each of whose elements has `rel=me`.
+//! Callers of the crates on small pages, each of whose elements has `rel=me`, but for that of links to other hosts.
 
 ghost use Rattle.std.specs.Prelude.{All};
 ghost use Rattle.lol_uses.specs.Pages.{HasAttributesInside};
@@ -6,7 +6,8 @@ ghost use Rattle.lol_vm.specs.Views.{HasRangesInside};
 
 use lol_samples::{WrittenAttributes, written_attributes};
 use lol_uses::{
-    PageTag, add_text, answer_past_the_limit, answer_to_break, ids_of_run, ids_on_page, refusal_of,
+    LinkTag, PageTag, Refused, add_text, answer_past_the_limit, answer_to_break, count_links_away,
+    ids_of_run, ids_on_page, refusal_of,
 };
 use lol_vm::{Ast, MatchInfo, Namespace, SelectorError, SharedMemoryLimiter, TagEvent, VmError};
 use std::alloc::Global;
@@ -144,5 +145,41 @@ fn answers_a_paragraph_past_the_limit(rt: HostRuntime) -> Result<(), Fail> {
     let answer = answer_past_the_limit(rt.alloc(), &mut handler);
     assert!(rt; matches!(answer, Some(Err(VmError::MemoryLimitExceeded(_)))));
     assert!(rt; reported.as_slice() == [(7, true)].as_slice());
+    Ok(())
+}
+
+#[test]
+fn counts_links_to_other_hosts(rt: HostRuntime) -> Result<(), Fail> {
+    let alloc = rt.alloc();
+    let written = [
+        written_attributes(alloc, &[("href", Some("/away?to=http:"))])?,
+        written_attributes(alloc, &[("rel", None), ("href", Some("HTTPS://b.example"))])?,
+        written_attributes(alloc, &[("href", Some("//c.example/x.css"))])?,
+    ];
+    let [near, far, bare] = &written;
+    let page = [
+        LinkTag::Start {
+            name: b"nav",
+            attributes: far,
+        },
+        LinkTag::Start {
+            name: b"a",
+            attributes: near,
+        },
+        LinkTag::End { name: b"a" },
+        LinkTag::Start {
+            name: b"A",
+            attributes: far,
+        },
+        LinkTag::End { name: b"nav" },
+        LinkTag::Start {
+            name: b"link",
+            attributes: bare,
+        },
+    ];
+    let mut limiter = SharedMemoryLimiter::new(512);
+    assert!(rt; count_links_away(alloc, &page, &mut limiter) == Ok(2));
+    let mut limiter = SharedMemoryLimiter::new(511);
+    assert!(rt; count_links_away(alloc, &page, &mut limiter) == Err(Refused));
     Ok(())
 }

@@ -1,5 +1,5 @@
 //! Callers of the crates below, each with a contract of its own: attributes, names, sets and charges; selectors that are read or refused; a
-//! page that is gone over tag by tag, and a link that is its only tag; a whole list of tags; a tag that takes no memory, and one past the limit.
+//! page that is gone over tag by tag, a link that is its only tag, and a link checker; a whole list of tags; a tag that takes no memory, and one past the limit.
 #![tactic(auto)]
 
 mod attributes;
@@ -7,6 +7,7 @@ mod breaks;
 mod charged_list;
 mod classes;
 mod link;
+mod links;
 mod names;
 mod opening;
 mod page;
@@ -21,6 +22,7 @@ pub use breaks::{answer_to_break, line_breaks};
 pub use charged_list::push_once;
 pub use classes::has_class;
 pub use link::ids_of_link;
+pub use links::{LinkTag, count_links_away};
 pub use names::set_value;
 pub use opening::open;
 pub use page::{LinkElement, PageTag, Refused, end_tag, ids_on_page, start_tag};
