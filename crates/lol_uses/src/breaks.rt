@@ -5,15 +5,14 @@ ghost use Rattle.lol_vm.specs.FreeTags.{AreSmall};
 ghost use Rattle.lol_vm.specs.VmErrors.{IsAskedOrFull};
 ghost use Rattle.lol_vm.specs.Views.{selectors};
 ghost use Rattle.lol_vm.specs.declared.error.VmError.{VmError};
-ghost use Rattle.lol_uses.specs.declared.page.LinkElement.{LinkElement};
+ghost use Rattle.lol_stack.specs.declared.element_value.ElementValue.{ElementValue};
 
-use crate::page::LinkElement;
 use lol_base::{LocalName, Namespace};
 use lol_css::{Selector, SelectorError};
 use lol_memory::{MatchInfo, SharedMemoryLimiter};
 use lol_program::Ast;
 use lol_vm::vm_laws::few_selectors_need_no_memory;
-use lol_vm::{SelectorMatchingVm, VmError};
+use lol_vm::{ElementValue, SelectorMatchingVm, VmError};
 use std::alloc::Global;
 
 /// The selectors `p br` and `br`, under the id 31.
@@ -36,9 +35,9 @@ pub fn answer_to_break<F: FnMut(MatchInfo)>(
     alloc: Global,
     limiter: &mut SharedMemoryLimiter,
     handler: &mut F,
-) -> Option<Result<(), VmError<LinkElement>>>
+) -> Option<Result<(), VmError<ElementValue<()>>>>
     requires { F.IsAlwaysCallable handler.old }
-    ensures { IfSome result (λ answer. (error : VmError LinkElement) → answer ≡ Err error → IsAskedOrFull error) }
+    ensures { IfSome result (λ answer. (error : VmError (ElementValue (Unit {0}))) → answer ≡ Err error → IsAskedOrFull error) }
 {
     let Ok(ast) = line_breaks(alloc) else {
         return None;

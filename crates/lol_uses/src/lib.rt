@@ -25,7 +25,7 @@ pub use link::ids_of_link;
 pub use links::{LinkTag, count_links_away};
 pub use names::set_value;
 pub use opening::open;
-pub use page::{LinkElement, PageTag, Refused, end_tag, ids_on_page, start_tag};
+pub use page::{PageTag, Refused, end_tag, ids_on_page, start_tag};
 pub use past_limit::{answer_past_the_limit, paragraphs};
 pub use reading::{add_text, refusal_of};
 pub use reports::report_each;

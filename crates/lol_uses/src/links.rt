@@ -3,10 +3,10 @@
 ghost use Rattle.std.specs.Prelude.{◌≡◌};
 ghost use Rattle.lol_vm.specs.Vms.{ChargesSlots};
 
-use crate::page::{LinkElement, Refused};
+use crate::page::Refused;
 use lol_vm::{
-    Ast, Attributes, LocalName, MatchInfo, Namespace, Selector, SelectorError, SelectorMatchingVm,
-    SharedMemoryLimiter, VmError,
+    Ast, Attributes, ElementValue, LocalName, MatchInfo, Namespace, Selector, SelectorError,
+    SelectorMatchingVm, SharedMemoryLimiter, VmError,
 };
 use std::alloc::Global;
 
@@ -59,7 +59,7 @@ fn links_away(alloc: Global) -> Result<Ast, SelectorError> {
 
 /// Goes over the tags of a page.
 fn count_in_tags(
-    vm: &mut SelectorMatchingVm<LinkElement>,
+    vm: &mut SelectorMatchingVm<ElementValue<()>>,
     page: &[LinkTag],
     limiter: &mut SharedMemoryLimiter,
 ) -> Result<u64, Refused>
@@ -74,7 +74,7 @@ fn count_in_tags(
 
 /// Tells the machine of a tag.
 fn tell(
-    vm: &mut SelectorMatchingVm<LinkElement>,
+    vm: &mut SelectorMatchingVm<ElementValue<()>>,
     tag: &LinkTag,
     limiter: &mut SharedMemoryLimiter,
     count: &mut u64,
@@ -84,7 +84,7 @@ fn tell(
     match tag {
         LinkTag::Start { name, attributes } => count_start(vm, name, attributes, limiter, count),
         LinkTag::End { name } => {
-            vm.exec_for_end_tag(LocalName::new(name), &mut |_element: LinkElement| {});
+            vm.exec_for_end_tag(LocalName::new(name), &mut |_element: ElementValue<()>| {});
             Ok(())
         }
     }
@@ -92,7 +92,7 @@ fn tell(
 
 /// Counts a start tag, if it is one of the links.
 fn count_start(
-    vm: &mut SelectorMatchingVm<LinkElement>,
+    vm: &mut SelectorMatchingVm<ElementValue<()>>,
     name: &[u8],
     attributes: &Attributes,
     limiter: &mut SharedMemoryLimiter,

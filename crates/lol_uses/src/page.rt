@@ -1,6 +1,6 @@
 //! A page, tag by tag: a machine is told of each tag, and keeps data of the caller's own for each open element.
 
-ghost use Rattle.std.specs.Prelude.{◌≡◌, ◌++◌, ◌∷◌, [], Bool, true, false, refl, List, IfOk, OnOk, map, drop, length, All};
+ghost use Rattle.std.specs.Prelude.{◌≡◌, ◌++◌, ◌∷◌, [], Bool, true, false, List, IfOk, OnOk, map, drop, length, All};
 ghost use Rattle.lol_base.specs.StartTags.{StartTag, RangesAreInside};
 ghost use Rattle.lol_memory.specs.Limiter.{Limiter};
 ghost use Rattle.lol_program.specs.Paths.{Selectors};
@@ -12,10 +12,10 @@ ghost use Rattle.lol_vm.specs.Views.{selectors, tag_of};
 ghost use Rattle.lol_vm.specs.Vms.{Stands, ChargesSlots, IsTagOf, IsRestOf, data_in, open_after};
 
 use lol_base::{AuxStartTagInfo, LocalName, Namespace};
-use lol_memory::{DenseHashSet, MatchId, MatchInfo, SharedMemoryLimiter};
+use lol_memory::{MatchId, MatchInfo, SharedMemoryLimiter};
 use lol_program::Ast;
 use lol_vm::vm_laws::standing_has_open;
-use lol_vm::{ElementData, SelectorMatchingVm, VmError};
+use lol_vm::{ElementValue, SelectorMatchingVm, VmError};
 use std::alloc::{AllocError, Global};
 
 /// How many bytes an open element is charged for.
@@ -37,32 +37,6 @@ pub enum PageTag<'t> {
 /// A tag was refused: its element can't be charged, its parent has too many children, or memory was refused.
 #[derive(Debug, Clone, Copy, PartialEq, Eq)]
 pub struct Refused;
-
-/// What is kept of an open element: the ids of the links that it is.
-#[derive(Drop)]
-pub struct LinkElement {
-    pub link_ids: DenseHashSet,
-}
-
-impl ElementData for LinkElement {
-    ghost ids = { λ e. e.link_ids };
-
-    ghost with_ids = { λ e w. record e { link_ids = w } };
-
-    ghost ids_of_changed = { λ e w. refl };
-
-    ghost same_ids_change_nothing = { λ e. refl };
-
-    fn new(alloc: Global) -> Self {
-        LinkElement {
-            link_ids: DenseHashSet::new(alloc),
-        }
-    }
-
-    fn matched_ids_mut(&mut self) -> &mut DenseHashSet {
-        &mut self.link_ids
-    }
-}
 
 /// What a handler was called with, up to the first that memory was refused for.
 #[derive(Drop)]
@@ -116,7 +90,7 @@ pub fn ids_on_page(
 /// Goes over the tags of a page.
 fn ids_of_tags(
     alloc: Global,
-    vm: &mut SelectorMatchingVm<LinkElement>,
+    vm: &mut SelectorMatchingVm<ElementValue<()>>,
     page: &[PageTag],
     limiter: &mut SharedMemoryLimiter,
 ) -> Result<Vec<MatchId>, Refused>
@@ -137,7 +111,7 @@ fn ids_of_tags(
 /// The ids that a tag is reported under: none for an end tag.
 fn ids_of_tag(
     alloc: Global,
-    vm: &mut SelectorMatchingVm<LinkElement>,
+    vm: &mut SelectorMatchingVm<ElementValue<()>>,
     tag: &PageTag,
     limiter: &mut SharedMemoryLimiter,
 ) -> Result<Vec<MatchId>, Refused>
@@ -163,7 +137,7 @@ fn ids_of_tag(
 /// `Refused` where the tag was, or memory for its ids.
 pub fn start_tag(
     alloc: Global,
-    vm: &mut SelectorMatchingVm<LinkElement>,
+    vm: &mut SelectorMatchingVm<ElementValue<()>>,
     limiter: &mut SharedMemoryLimiter,
     name: &[u8],
     ns: Namespace,
@@ -197,7 +171,7 @@ pub fn start_tag(
 
 /// Matches a start tag, and finishes it where its attributes are asked for.
 fn match_start<F: FnMut(MatchInfo)>(
-    vm: &mut SelectorMatchingVm<LinkElement>,
+    vm: &mut SelectorMatchingVm<ElementValue<()>>,
     limiter: &mut SharedMemoryLimiter,
     local_name: LocalName<'_>,
     ns: Namespace,
@@ -227,16 +201,16 @@ fn match_start<F: FnMut(MatchInfo)>(
 /// Where memory for these was refused.
 pub fn end_tag(
     alloc: Global,
-    vm: &mut SelectorMatchingVm<LinkElement>,
+    vm: &mut SelectorMatchingVm<ElementValue<()>>,
     name: &[u8],
-) -> Result<Vec<LinkElement>, AllocError>
+) -> Result<Vec<ElementValue<()>>, AllocError>
     ensures closed { IfOk result (λ closed. (s : Selectors) (esi : Bool) (events : List Event) → Stands s esi vm.old events → closed.items ≡ drop (length (open_after name.now (document s esi events).open_elements)) (data_in vm.old)) }
     ensures stands { (s : Selectors) (esi : Bool) (events : List Event) → Stands s esi vm.old events → Stands s esi vm.new (events ++ End name.now ∷ []) }
     ensures charges { (limiter : Limiter) → ChargesSlots vm.old vm.new limiter limiter }
 {
-    standing_has_open::<LinkElement>();
+    standing_has_open::<ElementValue<()>>();
     let mut kept = Kept::new(alloc);
-    let mut handler = |element: LinkElement|
+    let mut handler = |element: ElementValue<()>|
         ensures { KeepsItem kept.entry element kept.exit }
     {
         kept.keep(element);

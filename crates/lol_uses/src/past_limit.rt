@@ -5,15 +5,14 @@ ghost use Rattle.lol_vm.specs.FreeTags.{AreFlat};
 ghost use Rattle.lol_vm.specs.VmErrors.{IsNotForMemory};
 ghost use Rattle.lol_vm.specs.Views.{selectors};
 ghost use Rattle.lol_vm.specs.declared.error.VmError.{VmError};
-ghost use Rattle.lol_uses.specs.declared.page.LinkElement.{LinkElement};
+ghost use Rattle.lol_stack.specs.declared.element_value.ElementValue.{ElementValue};
 
-use crate::page::LinkElement;
 use lol_base::{LocalName, Namespace};
 use lol_css::{Selector, SelectorError};
 use lol_memory::{MatchInfo, SharedMemoryLimiter};
 use lol_program::Ast;
 use lol_vm::vm_laws::few_selectors_need_no_memory;
-use lol_vm::{SelectorMatchingVm, VmError};
+use lol_vm::{ElementValue, SelectorMatchingVm, VmError};
 use std::alloc::Global;
 
 /// The selector `p` under the id 7.
@@ -35,11 +34,11 @@ pub fn paragraphs(alloc: Global) -> Result<Ast, SelectorError>
 pub fn answer_past_the_limit<F: FnMut(MatchInfo)>(
     alloc: Global,
     handler: &mut F,
-) -> Option<Result<(), VmError<LinkElement>>>
+) -> Option<Result<(), VmError<ElementValue<()>>>>
     requires { F.IsAlwaysCallable handler.old }
     ensures refused { IfSome result (λ answer. IsErr answer) }
     ensures never_memory { IfSome result (λ answer.
-        (error : VmError LinkElement) → answer ≡ Err error → IsNotForMemory error) }
+        (error : VmError (ElementValue (Unit {0}))) → answer ≡ Err error → IsNotForMemory error) }
 {
     let Ok(ast) = paragraphs(alloc) else {
         return None;
