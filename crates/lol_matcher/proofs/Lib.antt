@@ -1,7 +1,6 @@
 pub mod Alike
 pub mod Calls
 pub mod Charges
-pub mod Counting
 pub mod Refusals
 pub mod Rooms
 pub mod Running

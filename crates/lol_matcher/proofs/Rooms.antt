@@ -11,7 +11,7 @@ use Rattle.lol_vm.specs.declared.error.AuxStartTagInfoRequest.{AuxStartTagInfoRe
 use Rattle.lol_vm.specs.declared.error.VmError.{VmError}
 use Rattle.lol_vm.specs.declared.error.VmError.TheVariants.{InfoRequest, MemoryLimitExceeded, Memory, CounterFull}
 use Rattle.std.specs.declared.alloc.AllocError.{AllocError}
-use Rattle.lol_matcher.proofs.Counting.{hasnt_failed}
+use Rattle.lol_vm.proofs.CallerLemmas.{hasnt_failed}
 
 module _ {E : Type 0} (s : Selectors) (esi : Bool) (events : List Event) (vm : Vm E) (result : Result (Unit {0}) (VmError E)) (stands : Stands s esi vm events)
     (exact : (result ≡ Err CounterFull) ↔ ((has_failed vm ≡ false) × (last_count (stack_in vm) ≡ full_count))) where

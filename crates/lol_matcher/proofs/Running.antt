@@ -17,7 +17,7 @@ use Rattle.lol_vm.specs.Standing.{DocumentsAreOrdered}
 use Rattle.lol_vm.specs.VmLaws.{SlotsAreOfDepth}
 use Rattle.lol_vm.specs.Vms.{Vm, Stands, stack_in, slots_charged, slot_bytes}
 use Rattle.lol_matcher.specs.Keeping.{Runs, IsCharged}
-use Rattle.lol_matcher.proofs.Counting.{many_open}
+use Rattle.lol_vm.proofs.CallerLemmas.{many_open}
 use Rattle.lol_matcher.proofs.Refusals.{IsChargedFor}
 
 -- 1. Documents, one event on

@@ -20,10 +20,10 @@ use Rattle.lol_vm.specs.Views.{match_of}
 use Rattle.lol_vm.specs.VmLaws.{PendingStands, SlotsAreOfDepth}
 use Rattle.lol_vm.specs.Vms.{Vm, Stands, IsAnswered, IsPending, data_in, info_of, tries_in, stack_in, slot_bytes}
 use Rattle.lol_vm.specs.declared.error.AuxStartTagInfoRequest.{AuxStartTagInfoRequest}
+use Rattle.lol_vm.proofs.CallerLemmas.{position_is}
 use Rattle.lol_matcher.specs.Answering.{GrowsBy, Kept, KeepsOne}
 use Rattle.lol_matcher.specs.Keeping.{ClearsOpened, IsToldAs, IsAskedFor, IsCharged, IsUnreported, KeepsRunning, Runs, allowed, ids_of}
 use Rattle.lol_matcher.proofs.Charges.{charged_alike}
-use Rattle.lol_matcher.proofs.Counting.{position_is}
 use Rattle.lol_matcher.proofs.Opened.{grows_by, is_opened, keeps_one}
 use Rattle.lol_matcher.proofs.Refusals.{IsChargedFor, fits, not_refused, opens_in}
 use Rattle.lol_matcher.proofs.Running.{charged_for, countable_after, runs_on}
@@ -85,7 +85,7 @@ module _ {E : Type 0} (places : CountersArePlaces) (s : Selectors) (esi : Bool) 
   room_for room = by_test (nat_lt (last_count (stack_in vm)) full_count) refl
     where
       position : (element_of (document s esi events) tag).position ≡ last_count (stack_in vm) + 1
-      position = position_is s esi vm events runs.stands places tag
+      position = position_is s esi vm events runs.stands tag
 
       few : (element_of (document s esi events) tag).position ≤ greatest_count + 1
       few = let c = runs.countable (parent_of (document s esi events).open_elements) in omega (arith, c)
@@ -96,7 +96,7 @@ module _ {E : Type 0} (places : CountersArePlaces) (s : Selectors) (esi : Bool) 
 
   pub no_room_for : last_count (stack_in vm) ≡ full_count → greatest_count < (element_of (document s esi events) tag).position
   no_room_for full =
-      let position = position_is s esi vm events runs.stands places tag in
+      let position = position_is s esi vm events runs.stands tag in
       omega (arith, position, full)
 
 module _ {E : Type 0} (depths : SlotsAreOfDepth E) (ordered : DocumentsAreOrdered) (s : Selectors) (esi : Bool) (events : List Event) (tag : StartTag) (old new : Vm E) (now later : Limiter)

@@ -1,13 +1,22 @@
--- What a caller of a machine cites: the charge of its slots, from call to call, up to `release`.
-use Rattle.std.proofs.Common.{◌≡◌, ℕ, ◌+◌, ◌-◌, ◌*◌, ◌≤◌, Result, Ok, Err, refl, sym, ap, ◌∙◌, arith}
+-- What a caller of a machine cites: the charge of its slots, from call to call, up to `release`; and what it has of its document.
+use Rattle.std.proofs.Common.{◌≡◌, ℕ, ◌+◌, ◌-◌, ◌*◌, ◌≤◌, Bool, false, List, [], ◌∷◌, length, Result, Ok, Err, refl, sym, ap, ◌∙◌, arith}
 use Rattle.std.specs.Result.{OnErr, OnOk}
 use Rattle.std.proofs.Math.Nat.{add-mul}
 use Rattle.lol_base.specs.LocalNames.{Name}
+use Rattle.lol_base.specs.StartTags.{StartTag}
 use Rattle.lol_memory.specs.LimitedVec.{grown_slots}
 use Rattle.lol_memory.specs.Limiter.{Limiter, charged}
+use Rattle.lol_program.specs.Paths.{Selectors}
 use Rattle.lol_stack.specs.declared.stack_item.StackItemOf.{StackItemOf}
-use Rattle.lol_stack.specs.Stacks.{IsPushed, IsSame, item_bytes_in, list_in}
-use Rattle.lol_vm.specs.Vms.{Vm, ChargesSlots, IsChargedFor, IsCovered, slots_charged, slot_bytes}
+use Rattle.lol_stack.specs.Stacks.{IsPushed, IsSame, item_bytes_in, items_in, last_count, list_in}
+use Rattle.lol_vm.specs.Answers.{document}
+use Rattle.lol_vm.specs.Documents.{element_of}
+use Rattle.lol_vm.specs.Events.{Event}
+use Rattle.lol_vm.specs.Standing.{counted_last, counted_root, or_root}
+use Rattle.lol_vm.specs.Vms.{Vm, ChargesSlots, IsChargedFor, IsCovered, Stands, slots_charged, slot_bytes}
+use Rattle.lol_vm.proofs.Kept.{items_length, counters_are_places}
+use Rattle.lol_vm.proofs.StackCounting.{seen_children}
+use Rattle.lol_vm.proofs.StackMachines.{items_counted}
 
 -- 1. What a call charges
 
@@ -113,3 +122,28 @@ module _ {E : Type 0} {first last : Vm E} {before now : Limiter} where
   -- which leaves the limiter as it was when the machine was made
   pub released_since_new : {after : Limiter} → slots_charged first ≡ 0 → ChargesSlots first last before now → after ≡ record now { usage = now.usage - slots_charged last * slot_bytes last } → after ≡ before
   released_since_new none h is = charge_released before last now _ is (charged_after before h (charged_at_first before first none))
+
+-- 5. What a machine that stands for events has of their document
+
+one_more : (counts : List ℕ) (root : ℕ) → or_root (counted_last counts) (counted_root counts root) ≡ or_root counts root + 1
+one_more [] root = refl
+one_more (c ∷ counts) root = refl
+
+module _ {E : Type 0} (s : Selectors) (esi : Bool) (vm : Vm E) (events : List Event) (stands : Stands s esi vm events) where
+  as_many : length stands.machine.items ≡ length (document s esi events).open_elements
+  as_many = items_length stands.paths stands.machine.program stands.machine.items (document s esi events).open_elements stands.standing.items
+
+  -- as many items as elements are open
+  pub many_open : length (items_in vm.stack) ≡ length (document s esi events).open_elements
+  many_open = sym (items_counted vm.stack stands.machine stands.shows.stack) ∙ as_many
+
+  -- the next element is the child after those that were counted
+  pub position_is : (tag : StartTag) → (element_of (document s esi events) tag).position ≡ last_count vm.stack + 1
+  position_is tag =
+      let m = stands.machine in
+      sym (counters_are_places m (document s esi events) tag stands.standing.counted as_many).0
+      ∙ (one_more m.children m.root_children ∙ ap (λ n. n + 1) (sym (seen_children vm.stack m stands.shows.stack (items_in vm.stack) refl)))
+
+  -- no tag was refused
+  pub hasnt_failed : vm.failed ≡ false
+  hasnt_failed = sym stands.shows.refused ∙ stands.standing.never_refused

@@ -1,10 +1,7 @@
 -- Which event of a run is refused, as events come.
-use Rattle.std.proofs.Common.{◌≡◌, ℕ, ◌+◌, ◌-◌, ◌*◌, ◌≤◌, ◌<◌, ◌^◌, inl, inr, Bool, true, false, List, [], ◌∷◌, ◌++◌, length, Option, Some, None, refl, sym, ap, ◌∙◌, subst, arith}
-use Rattle.std.specs.Prelude.{max, nat_lt, if◌then◌else◌, ◌⊎◌}
-use Rattle.std.proofs.lemmas.Bool.Decides.{nat_tests}
-use Rattle.lol_memory.specs.LimitedVec.{LimitedVec, IsLimited, more_slots}
+use Rattle.std.proofs.Common.{◌≡◌, ℕ, ◌≤◌, ◌<◌, inl, inr, Bool, true, false, List, [], ◌∷◌, ◌++◌, length, Option, Some, None, refl, sym, ap, ◌∙◌, subst, arith}
+use Rattle.std.specs.Prelude.{max, if◌then◌else◌, ◌⊎◌}
 use Rattle.lol_memory.specs.Limiter.{Limiter}
-use Rattle.lol_memory.specs.Slots.{slots, minimum_slots}
 use Rattle.lol_program.specs.Paths.{Selectors}
 use Rattle.lol_vm.specs.Answers.{after, document, document_from}
 use Rattle.lol_vm.specs.Documents.{Document, empty}
@@ -17,7 +14,6 @@ use Rattle.lol_vm.specs.Follows.{IsRunWithoutMemory, Stops}
 use Rattle.lol_vm.specs.RunRefusals.{IsUntil, StopsBeforeLimit, StopsFor, allowance_of}
 use Rattle.lol_vm.specs.declared.events.RunCause.{RunCause}
 use Rattle.lol_vm.specs.declared.events.RunCause.TheVariants.{MemoryLimitExceeded, CounterFull, Memory}
-use Rattle.lol_memory.specs.SlotLaws.{slots_grow}
 use Rattle.lol_vm.proofs.Runs.{events_after, events-document}
 
 -- lists that are parted after as many

@@ -17,41 +17,20 @@ use Rattle.lol_vm.specs.Events.{Event, Start, End}
 use Rattle.lol_vm.specs.Follows.{Follows, IsCharged, IsRefusedFor, Stops, opens, refusal_after}
 use Rattle.lol_vm.specs.Refusals.{Cause, Limit, Counter, longest, exceeds, greatest_count}
 use Rattle.lol_vm.specs.RunRefusals.{allowance_of}
-use Rattle.lol_stack.specs.Stacks.{items_in, list_in, last_count}
-use Rattle.lol_vm.specs.Standing.{counted_last, counted_root, closed_count, or_root}
+use Rattle.lol_stack.specs.Stacks.{list_in, last_count}
+use Rattle.lol_vm.specs.Standing.{closed_count}
 use Rattle.lol_vm.specs.Vms.{Vm, Stands, stack_in, data_in, slots_charged, slot_bytes, open_after}
 use Rattle.lol_vm.specs.declared.events.RunCause.{RunCause}
 use Rattle.lol_vm.specs.declared.events.RunCause.TheVariants.{MemoryLimitExceeded, CounterFull, Memory}
 use Rattle.lol_vm.specs.Follows.{StartedElement}
-use Rattle.lol_vm.proofs.Kept.{items_length, counters_are_places, documents_are_ordered, longest_push, outer_is, children-cons}
+use Rattle.lol_vm.proofs.CallerLemmas.{many_open, position_is}
+use Rattle.lol_vm.proofs.Kept.{documents_are_ordered, longest_push, outer_is, children-cons}
 use Rattle.lol_vm.specs.ChargeLaws.{slots_rise, stays_within, passes_maximum}
 use Rattle.lol_vm.proofs.RefusedRuns.{fits_on}
 use Rattle.lol_vm.proofs.Runs.{document_push}
-use Rattle.lol_vm.proofs.StackCounting.{seen_children}
-use Rattle.lol_vm.proofs.StackMachines.{items_counted}
 use Rattle.lol_vm.proofs.VmData.{slots_are_of_depth}
 
--- 1. A machine that stands
-
-one_more : (counts : List ℕ) (root : ℕ) → or_root (counted_last counts) (counted_root counts root) ≡ or_root counts root + 1
-one_more [] root = refl
-one_more (c ∷ counts) root = refl
-
-module _ {E : Type 0} (s : Selectors) (esi : Bool) (vm : Vm E) (events : List Event) (stands : Stands s esi vm events) where
-  as_many : length stands.machine.items ≡ length (document s esi events).open_elements
-  as_many = items_length stands.paths stands.machine.program stands.machine.items (document s esi events).open_elements stands.standing.items
-
-  pub many_open : length (items_in vm.stack) ≡ length (document s esi events).open_elements
-  many_open = sym (items_counted vm.stack stands.machine stands.shows.stack) ∙ as_many
-
-  pub position_is : (tag : StartTag) → (element_of (document s esi events) tag).position ≡ last_count vm.stack + 1
-  position_is tag =
-      let m = stands.machine in
-      sym (counters_are_places m (document s esi events) tag stands.standing.counted as_many).0
-      ∙ (one_more m.children m.root_children ∙ ap (λ n. n + 1) (sym (seen_children vm.stack m stands.shows.stack (items_in vm.stack) refl)))
-
-  pub hasnt_failed : vm.failed ≡ false
-  hasnt_failed = sym stands.shows.refused ∙ stands.standing.never_refused
+-- 1. Parents, and lists that are cut
 
 parent_is : (a b : Option ℕ) → same_parent a b ≡ true → a ≡ b
 parent_is None None same = refl

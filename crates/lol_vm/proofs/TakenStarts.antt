@@ -31,7 +31,8 @@ use Rattle.lol_vm.specs.declared.error.VmError.TheVariants.{CounterFull}
 use Rattle.lol_vm.specs.declared.events.TagReport.TheVariants as reports
 use Rattle.lol_stack.specs.declared.stack_item.StackItemOf.{StackItemOf}
 use Rattle.lol_vm.specs.Follows.{StartedElement}
-use Rattle.lol_vm.proofs.RunSteps.{hasnt_failed, charged_later, follows_on, not_refused}
+use Rattle.lol_vm.proofs.CallerLemmas.{hasnt_failed}
+use Rattle.lol_vm.proofs.RunSteps.{charged_later, follows_on, not_refused}
 use Rattle.lol_vm.proofs.Runs.{events-document}
 
 module _ (s : Selectors) (esi : Bool) (events : List Event) (tag : StartTag) where

@@ -8,7 +8,7 @@ use Rattle.lol_vm.specs.Answers.{document}
 use Rattle.lol_vm.specs.Refusals.{longest}
 use Rattle.lol_vm.specs.Vms.{IsTriedAtMost, info_of, stack_in}
 use Rattle.lol_matcher.proofs.Charges.{charged_alike, charged_more}
-use Rattle.lol_matcher.proofs.Counting.{hasnt_failed}
+use Rattle.lol_vm.proofs.CallerLemmas.{hasnt_failed}
 use Rattle.lol_matcher.proofs.Refusals.{counter_has_room, limit_isnt_due, refused_for_counter, refused_for_limit}
 use Rattle.lol_matcher.proofs.Rooms.{room_answered, room_asked, room_limited, room_refused}
 use Rattle.lol_matcher.proofs.Running.{charged_for}

@@ -5,8 +5,7 @@ use Rattle.lol_vm.specs.declared.error.AuxStartTagInfoRequest.{AuxStartTagInfoRe
 use Rattle.lol_vm.specs.declared.error.VmError.{VmError}
 use Rattle.lol_vm.specs.declared.error.VmError.TheVariants.{InfoRequest, MemoryLimitExceeded, Memory, CounterFull}
 use Rattle.std.specs.declared.alloc.AllocError.{AllocError}
-use Rattle.lol_vm.proofs.CallerLemmas.{charges_both}
-use Rattle.lol_vm.proofs.RunSteps.{hasnt_failed}
+use Rattle.lol_vm.proofs.CallerLemmas.{charges_both, hasnt_failed}
 use Rattle.lol_vm.proofs.TakenStarts.{has_content_if, is_left, opens_unasked, opens_handed, dropped, answered_since, has_room, limited_since}
 use Rattle.lol_vm.proofs.run.take_start.Goals as goal
 
