@@ -9,10 +9,11 @@ use Rattle.lol_memory.specs.Limiter.{Limiter}
 use Rattle.lol_memory.specs.Slots.{slots}
 use Rattle.lol_program.specs.Paths.{Selectors}
 use Rattle.lol_stack.specs.Stacks.{list_in}
-use Rattle.lol_vm.specs.Answers.{after, document, document_from, is_dropped}
+use Rattle.lol_vm.specs.Answers.{after, document, is_dropped}
+use Rattle.lol_vm.specs.DocumentLaws.{document_push, longest_push}
 use Rattle.lol_vm.specs.Documents.{Child, Document, empty, element_of, children_of, same_parent, parent_of, place_of, outer_part, after_start, after_end}
 use Rattle.lol_vm.specs.Events.{Event, Start, End, has_content}
-use Rattle.lol_vm.specs.Refusals.{greatest_count, longest, longest_from}
+use Rattle.lol_vm.specs.Refusals.{greatest_count, longest}
 use Rattle.lol_vm.specs.Standing.{DocumentsAreOrdered}
 use Rattle.lol_vm.specs.VmLaws.{SlotsAreOfDepth}
 use Rattle.lol_vm.specs.Vms.{Vm, Stands, stack_in, slots_charged, slot_bytes}
@@ -23,19 +24,11 @@ use Rattle.lol_matcher.proofs.Refusals.{IsChargedFor}
 -- 1. Documents, one event on
 
 module _ (s : Selectors) (esi : Bool) where
-  document_push : (d : Document) (before : List Event) (event : Event) → document_from s esi d (before ++ event ∷ []) ≡ after s esi (document_from s esi d before) event
-  document_push d [] event = refl
-  document_push d (e ∷ before) event = document_push (after s esi d e) before event
-
-  longest_push : (d : Document) (events : List Event) (event : Event) → longest_from s esi d (events ++ event ∷ []) ≡ max (longest_from s esi d events) (length (after s esi (document_from s esi d events) event).open_elements)
-  longest_push d [] event = refl
-  longest_push d (e ∷ events) event = ap (max (length d.open_elements)) (longest_push (after s esi d e) events event) ∙ omega arith
-
   pub later_document : (events : List Event) (event : Event) → document s esi (events ++ event ∷ []) ≡ after s esi (document s esi events) event
-  later_document events event = document_push empty events event
+  later_document events event = document_push s esi empty events event
 
   pub later_longest : (events : List Event) (event : Event) → longest s esi (events ++ event ∷ []) ≡ max (longest s esi events) (length (after s esi (document s esi events) event).open_elements)
-  later_longest events event = longest_push empty events event
+  later_longest events event = longest_push s esi empty events event
 
 -- 2. Children
 

@@ -17,7 +17,8 @@ use Rattle.lol_vm.specs.Events.{Event, Start, End, has_content}
 use Rattle.lol_vm.specs.Documents.{Document, Child, empty, element_of, parent_of, same_parent, children_of, typed_children_of, place_of, inner_part, outer_part, after_start, after_end}
 use Rattle.lol_vm.specs.Answers.{document, document_from, after, is_dropped, asks}
 use Rattle.lol_vm.specs.Refusals.{longest, longest_from}
-use Rattle.lol_vm.proofs.Runs.{document_push, position-map}
+use Rattle.lol_vm.specs.DocumentLaws.{document_push, longest_push}
+use Rattle.lol_vm.proofs.Runs.{position-map}
 use Rattle.lol_base.specs.BoolLaws.{and-false, not_true}
 use Rattle.lol_program.specs.Programs.{Range, Program, AreClosed, all_places}
 use Rattle.lol_vm.specs.Machines.{OpenItem, AreItems, HasRanges, Matches, HoldOnce, LeftMatches, active_of, newly_active, is_active, ranges_to_run, jumps_of, hereditary_jumps_of}
@@ -120,11 +121,6 @@ module _ (s : Selectors) (esi : Bool) where
       let later = ordered_from (after s esi d event) events (ordered_after d (length d.open_elements) event h) in
       let enough = later.enough in
       record { numbers = later.numbers; fresh = later.fresh; enough = omega (arith, enough) }
-
-  pub longest_push : (d : Document) (events : List Event) (event : Event) → longest_from s esi d (events ++ event ∷ []) ≡ max (longest_from s esi d events) (length (after s esi (document_from s esi d events) event).open_elements)
-  longest_push d [] event = refl
-  longest_push d (e ∷ events) event =
-      ap (max (length d.open_elements)) (longest_push (after s esi d e) events event) ∙ omega arith
 
 pub documents_are_ordered : DocumentsAreOrdered
 documents_are_ordered s esi events = ordered_from s esi empty events (record { numbers = tt; fresh = λ n above. (refl, λ name. refl); enough = omega arith })

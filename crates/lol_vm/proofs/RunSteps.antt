@@ -24,10 +24,10 @@ use Rattle.lol_vm.specs.declared.events.RunCause.{RunCause}
 use Rattle.lol_vm.specs.declared.events.RunCause.TheVariants.{MemoryLimitExceeded, CounterFull, Memory}
 use Rattle.lol_vm.specs.Follows.{StartedElement}
 use Rattle.lol_vm.proofs.CallerLemmas.{many_open, position_is}
-use Rattle.lol_vm.proofs.Kept.{documents_are_ordered, longest_push, outer_is, children-cons}
+use Rattle.lol_vm.proofs.Kept.{documents_are_ordered, outer_is, children-cons}
 use Rattle.lol_vm.specs.ChargeLaws.{slots_rise, stays_within, passes_maximum}
 use Rattle.lol_vm.proofs.RefusedRuns.{fits_on}
-use Rattle.lol_vm.proofs.Runs.{document_push}
+use Rattle.lol_vm.specs.DocumentLaws.{document_push, longest_push}
 use Rattle.lol_vm.proofs.VmData.{slots_are_of_depth}
 
 -- 1. Parents, and lists that are cut

@@ -40,10 +40,6 @@ module _ {A B : Type 0} (p : B → Bool) (f : A → B) where
 -- 2. One more event
 
 module _ (s : Selectors) (esi : Bool) where
-  pub document_push : (d : Document) (before : List Event) (event : Event) → document_from s esi d (before ++ event ∷ []) ≡ after s esi (document_from s esi d before) event
-  document_push d [] event = refl
-  document_push d (e ∷ before) event = document_push (after s esi d e) before event
-
   pub answers_push : (d : Document) (before : List Event) (event : Event) → answers_from s esi d (before ++ event ∷ []) ≡ answers_from s esi d before ++ answer s esi (document_from s esi d before) event ∷ []
   answers_push d [] event = refl
   answers_push d (e ∷ before) event = ap (λ told. answer s esi d e ∷ told) (answers_push (after s esi d e) before event)

@@ -13,7 +13,7 @@ use Rattle.lol_vm.specs.Answers.{document}
 use Rattle.lol_vm.specs.Matching.{left_matches}
 use Rattle.lol_vm.specs.Machines.{HoldOnce, LeftMatches, active_of, newly_active, ranges_to_run, PushedItemsAreActive}
 use Rattle.lol_vm.specs.Standing.{Machine, StandsFor, new_machine, machine_after, machine_from, MachinesStand}
-use Rattle.lol_vm.proofs.Runs.{document_push}
+use Rattle.lol_vm.specs.DocumentLaws.{document_push}
 use Rattle.lol_vm.specs.VmLaws.{RangesHoldOnce, TriesAreFew}
 use Rattle.lol_vm.proofs.Held.{ranges_hold_left_matches}
 use Rattle.lol_vm.proofs.Starts.{ranges_shown}

@@ -31,3 +31,4 @@ pub mod StackMachines
 pub mod Gathering
 pub mod InstructionLaws
 pub mod ChargeLaws
+pub mod DocumentLaws
