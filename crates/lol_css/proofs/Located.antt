@@ -1,5 +1,5 @@
 -- A text has a location exactly where it isn't accepted, and an offset lies in the text.
-use Rattle.std.proofs.Common.{◌≡◌, ℕ, zero, suc, ◌+◌, ◌-◌, ◌≤◌, Bool, true, false, cond, eqb, ◌&&◌, List, [], ◌∷◌, ◌++◌, map, length, get_or, drop, Option, Some, None, IsNone, IfSome, Ok, Err, is_ok, IsOk, refl, sym, ap, ◌∙◌, arith, length-append, length-drop}
+use Rattle.std.proofs.Common.{◌≡◌, ℕ, zero, suc, ◌+◌, ◌-◌, ◌≤◌, Bool, true, false, cond, eqb, ◌&&◌, List, [], ◌∷◌, ◌++◌, map, length, get_or, drop, Option, Some, None, IsNone, IfSome, IsSomeAnd, Ok, Err, IfErr, is_ok, IsOk, refl, sym, ap, ◌∙◌, arith, length-append, length-drop}
 use Rattle.std.proofs.lemmas.Str.{encodes-chars, length-encode}
 use Rattle.std.proofs.Math.Utf8.{encode}
 use Rattle.std.specs.Char.{len_utf8}
@@ -9,9 +9,9 @@ use Rattle.lol_base.specs.CodePoints.{line_feed, carriage_return}
 use Rattle.lol_css.specs.Points.{◌or◌, clean_points_after}
 use Rattle.lol_css.specs.Tokens.{Token, tokens}
 use Rattle.lol_css.specs.Trees as trees
-use Rattle.lol_css.specs.Drafts.{DraftItem, DraftItems}
+use Rattle.lol_css.specs.Drafts.{DraftItem, DraftItems, NoItems, And}
 use Rattle.lol_css.specs.Rules.{Read, Refusal, ◌>>=◌, giving, skip_space, Outside, at_end}
-use Rattle.lol_css.specs.Reading.{inner_list, list, selector}
+use Rattle.lol_css.specs.Reading.{items_at_most, inner_list, list, selector}
 use Rattle.lol_css.specs.Accepting.{judged_item, judged, accept}
 use Rattle.lol_css.specs.Judging.{Judged, with_item, judged_items_at_most}
 use Rattle.lol_css.specs.Locating.{outer_item, items_after, outer_items_at_most, outer_items, early, late, first_refused, refused_token, offsets_after, point_offsets, token_offset, error_location}
@@ -183,3 +183,54 @@ small_of text (Some p) u = point_offset_small text _ u
 
 pub location-small : (text : List ℕ) → IsUtf8 text → IfSome (error_location text) (λ location. location.offset ≤ length text)
 location-small text u = small_of text (refused_token (tokens (chars text))) u
+
+-- ---- the token that reading refuses
+
+-- some item is refused as it is read, from these tokens on
+record Refuses (o : Option (ℕ × List Token)) (left : List Token) : Type 0 where
+  number : ℕ
+  is : o ≡ Some (number, left)
+
+cond_others : (b : Bool) (l r : List (List Token)) → (b ≡ false → l ≡ r) → cond b [] l ≡ cond b [] r
+cond_others true l r h = refl
+cond_others false l r h = h refl
+
+item_refuses_of : (read : Read DraftItem) (n k : ℕ) (items : DraftItems) (tokens : List Token) (refusal : Refusal) → outer_item tokens ≡ read → ((rest : List Token) (more : DraftItems) → items_at_most n (inner_list 128) Outside more rest ≡ Err refusal → Refuses (first_refused early (k + 1) (cond (at_end Outside rest) [] (outer_items_at_most n (drop 1 rest)))) refusal.left) → (read >>= λ x. items_at_most n (inner_list 128) Outside (And items x.0) x.1) ≡ Err refusal → Refuses (first_refused early k (outer_items_at_most (suc n) tokens)) refusal.left
+unfolding outer_items_at_most
+item_refuses_of (Err other) n k items tokens refusal e h g =
+    let same : other ≡ refusal = cc in
+    record { number = k; is = rw (early_is tokens (Err other) e) (ap (λ (r : Refusal). Some (k, r.left)) same) }
+item_refuses_of (Ok p) n k items tokens refusal e h g =
+    let others = h p.1 (And items p.0) g in
+    record { number = others.number; is = rw (early_is tokens (Ok p) e, e) others.is }
+
+list_refuses_of : (b : Bool) (n k : ℕ) (items : DraftItems) (rest : List Token) (refusal : Refusal) (read : Read DraftItems) → (read ≡ Err refusal → Refuses (first_refused early k (outer_items_at_most (suc n) (drop 1 rest))) refusal.left) → cond {A = Read DraftItems} b (Ok (items, drop 1 rest)) read ≡ Err refusal → Refuses (first_refused early k (cond b [] (outer_items_at_most (suc n) (drop 1 rest)))) refusal.left
+list_refuses_of true n k items rest refusal read h g = absurd cc
+list_refuses_of false n k items rest refusal read h g = h g
+
+later_refuses : (n k : ℕ) (items : DraftItems) (rest : List Token) (refusal : Refusal) → items_at_most n (inner_list 128) Outside items rest ≡ Err refusal → Refuses (first_refused early k (cond (at_end Outside rest) [] (outer_items_at_most n (drop 1 rest)))) refusal.left
+unfolding items_at_most
+later_refuses zero k items rest refusal g = absurd cc
+later_refuses (suc n) k items rest refusal g =
+    list_refuses_of (at_end Outside rest) n k items rest refusal (outer_item (drop 1 rest) >>= λ x. items_at_most n (inner_list 128) Outside (And items x.0) x.1) (λ h. item_refuses_of (outer_item (drop 1 rest)) n k items (drop 1 rest) refusal refl (λ left more m. later_refuses n (k + 1) more left refusal m) h) g
+
+whole_refuses_of : (read : Read DraftItem) (tokens : List Token) (refusal : Refusal) → outer_item tokens ≡ read → (read >>= λ first. items_at_most (length first.1 + 1) (inner_list 128) Outside (And NoItems first.0) first.1) ≡ Err refusal → Refuses (first_refused early 0 (outer_items tokens)) refusal.left
+whole_refuses_of (Err other) tokens refusal e g =
+    let same : other ≡ refusal = cc in
+    record { number = 0; is = rw (outer_items-unfold tokens, early_is tokens (Err other) e) (ap (λ (r : Refusal). Some (0, r.left)) same) }
+whole_refuses_of (Ok p) tokens refusal e g =
+    let n = length p.1 + 1 in
+    let others = later_refuses n 1 (And NoItems p.0) p.1 refusal g in
+    let same = cond_others (at_end Outside p.1) (outer_items_at_most n (drop 1 p.1)) (outer_items (drop 1 p.1)) (λ end. items_enough n (length (drop 1 p.1) + 1) (drop 1 p.1) (omega (arith, length-drop 1 p.1)) (omega arith)) in
+    record { number = others.number; is = rw (outer_items-unfold tokens, early_is tokens (Ok p) e, e) (ap (λ (items : List (List Token)). first_refused early 1 items) (sym same) ∙ others.is) }
+
+selector_refuses : (tokens : List Token) (refusal : Refusal) → selector tokens ≡ Err refusal → Refuses (first_refused early 0 (outer_items tokens)) refusal.left
+unfolding selector list
+selector_refuses tokens refusal g = whole_refuses_of (outer_item tokens) tokens refusal refl g
+
+refusal_located_of : (text : List ℕ) (read : Read DraftItems) → selector (tokens (chars text)) ≡ read → IfErr read (λ refusal. IsSomeAnd (error_location text) (λ location. location.offset ≡ token_offset text (length (tokens (chars text)) - length refusal.left)))
+refusal_located_of text (Ok x) e = tt
+refusal_located_of text (Err refusal) e = rw (selector_refuses (tokens (chars text)) refusal e).is refl
+
+pub refusal-located : (text : List ℕ) → IfErr (selector (tokens (chars text))) (λ refusal. IsSomeAnd (error_location text) (λ location. location.offset ≡ token_offset text (length (tokens (chars text)) - length refusal.left)))
+refusal-located text = refusal_located_of text (selector (tokens (chars text))) refl
