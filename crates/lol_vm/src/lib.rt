@@ -23,8 +23,8 @@ pub use lol_base::{
 };
 pub use lol_css::{
     AttrSelectorOperator, CaseSensitivity, Combinator, ComplexSelector, Compound, CssString,
-    NthChild, ParsedCaseSensitivity, Selector, SelectorError, SelectorList, SelectorsParser,
-    SimpleSelector,
+    ErrorLocation, NthChild, ParsedCaseSensitivity, Selector, SelectorError, SelectorList,
+    SelectorsParser, SimpleSelector,
 };
 pub use lol_memory::{
     DenseHashSet, DenseHashSetIter, Drain, LimitedVec, MatchId, MatchInfo,
