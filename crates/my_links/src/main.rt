@@ -51,6 +51,15 @@ const fn html(name: &'static str, attributes: &'static [Attribute]) -> Tag {
     })
 }
 
+/// A start tag of an SVG element.
+const fn svg(name: &'static str, attributes: &'static [Attribute]) -> Tag {
+    Tag::Start(StartTag {
+        name,
+        namespace: Namespace::Svg,
+        attributes,
+    })
+}
+
 /// The matcher of a link checker.
 fn checker(alloc: Global) -> Result<Matcher> {
     let mut builder = Matcher::builder(alloc);
@@ -115,8 +124,9 @@ fn value_of(tag: &StartTag, name: &str) -> &'static str {
         .map_or("", |(_, value)| *value)
 }
 
-fn main(rt: HostRuntime) -> Result<()> {
-    let page = [
+/// The tags of the page, in order.
+fn page() -> [Tag; 24] {
+    [
         html("html", &[]),
         html("body", &[]),
         html("p", &[("class", "intro")]),
@@ -125,13 +135,7 @@ fn main(rt: HostRuntime) -> Result<()> {
         html("a", &[("href", "/local")]),
         html("img", &[("src", "logo.png")]),
         Tag::End("a"),
-        html(
-            "a",
-            &[
-                ("rel", "external nofollow"),
-                ("href", "https://spam.example/"),
-            ],
-        ),
+        html("a", &[("rel", "me nofollow"), ("href", "//spam.org/")]),
         Tag::End("a"),
         html("a", &[("href", "//cdn.example/x")]),
         html("img", &[("src", "x.png"), ("alt", "An x")]),
@@ -141,25 +145,21 @@ fn main(rt: HostRuntime) -> Result<()> {
         html("area", &[("href", "https://example.net/b")]),
         html("area", &[("href", "http://example.net/c")]),
         Tag::End("map"),
-        Tag::Start(StartTag {
-            name: "svg",
-            namespace: Namespace::Svg,
-            attributes: &[],
-        }),
-        Tag::Start(StartTag {
-            name: "a",
-            namespace: Namespace::Svg,
-            attributes: &[("href", "https://example.com/d")],
-        }),
+        // Outside of HTML attributes are asked for too.
+        svg("svg", &[]),
+        svg("a", &[("href", "https://example.com/d")]),
         Tag::End("a"),
         Tag::End("svg"),
         Tag::End("body"),
         Tag::End("html"),
-    ];
+    ]
+}
+
+fn main(rt: HostRuntime) -> Result<()> {
     let mut matcher = checker(rt.alloc())?;
     let mut attributes = Attributes::new(rt.alloc());
     let mut counts = Counts::default();
-    for tag in &page {
+    for tag in &page() {
         match tag {
             Tag::Start(start) => check(&rt, &mut matcher, &mut attributes, start, &mut counts)?,
             Tag::End(name) => matcher.end(name.as_bytes()),
