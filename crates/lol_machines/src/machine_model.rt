@@ -223,7 +223,7 @@ fn end_both(rt: &impl Abort, alloc: Global, vm: &mut Machine, open: &mut Open, k
     let closed = end(rt, alloc, vm, name);
     let wanted = open.elements.as_slice().get(left..).unwrap_or(&[]);
     let numbers = wanted.iter().map(|element| element.number);
-    assert!(rt; closed.iter().map(|data| data.number).eq(numbers));
+    assert!(rt; closed.iter().map(|data| data.value).eq(numbers));
     open.elements.truncate(left);
 }
 

@@ -196,7 +196,7 @@ pub(crate) fn number(rt: &impl Abort, vm: &mut Machine, number: usize)
     ensures { slot_bytes vm.new ≡ slot_bytes vm.old }
 {
     let data = vm.current_element_data_mut();
-    data.expect(rt, "data of an open element").number = number;
+    data.expect(rt, "data of an open element").value = number;
 }
 
 /// Releases a machine whose slots are charged for `ITEM_BYTES` each.

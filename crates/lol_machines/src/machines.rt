@@ -31,10 +31,7 @@ type Row<'t> = (&'t [(&'t str, u32)], bool, &'t [Step<'t>]);
 /// Whether data hold exactly these ids, in turn.
 fn hold(data: &[Numbered], ids: &[&[u32]]) -> bool {
     data.len() == ids.len()
-        && data
-            .iter()
-            .zip(ids)
-            .all(|(data, ids)| data.ids.iter().eq(ids.iter().copied()))
+        && data.iter().zip(ids).all(|(data, ids)| data.matched_ids.iter().eq(ids.iter().copied()))
 }
 
 /// Whether exactly these ids were reported, with this content mark.
@@ -436,7 +433,7 @@ fn write_into_data(rt: &impl Abort, vm: &mut Machine)
     number(rt, vm, 5);
     let data = vm.current_element_data_mut();
     let data = data.expect(rt, "data of an open element");
-    assert!(rt; data.ids.insert(9).is_ok());
+    assert!(rt; data.matched_ids.insert(9).is_ok());
 }
 
 /// Whether an end tag hands out the data that `write_into_data` wrote into, which had the id 0.
@@ -444,7 +441,7 @@ fn hands_out_written(rt: &impl Abort, alloc: Global, vm: &mut Machine, name: &st
     ensures { slot_bytes vm.new ≡ slot_bytes vm.old }
 {
     let closed = end(rt, alloc, vm, name);
-    hold(&closed, &[&[0, 9]]) && closed.iter().all(|data| data.number == 5)
+    hold(&closed, &[&[0, 9]]) && closed.iter().all(|data| data.value == 5)
 }
 
 #[test]
