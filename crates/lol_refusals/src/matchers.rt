@@ -84,20 +84,36 @@ fn stuck(
     Ok(Met::Refusal)
 }
 
+/// The values of the elements that an end tag closed, from the outermost inwards.
+#[derive(Default, Drop)]
+struct HandedOut {
+    first: Option<u32>,
+    last: Option<u32>,
+    count: usize,
+}
+
+impl HandedOut {
+    fn keep(&mut self, value: Option<u32>) {
+        if value.is_some() {
+            self.first = self.first.or(value);
+            self.last = value;
+            self.count = self.count.wrapping_add(1);
+        }
+    }
+
+    /// Whether these were handed out and no other: at most two values.
+    fn are(&self, values: &[u32]) -> bool {
+        self.first == values.first().copied()
+            && self.last == values.last().copied()
+            && self.count == values.len()
+    }
+}
+
 /// Closes `div`: whether these values are handed out, in order, and no other.
 fn hands_out(matcher: &mut Counting, values: &[u32]) -> bool {
-    let mut count = 0usize;
-    let mut in_order = true;
-    matcher.end_with(
-        b"div",
-        &mut |element| {
-            if let Some(value) = element.value {
-                in_order = in_order && values.get(count) == Some(&value);
-                count = count.wrapping_add(1);
-            }
-        },
-    );
-    in_order && count == values.len()
+    let mut handed_out = HandedOut::default();
+    matcher.end_with(b"div", &mut |element| handed_out.keep(element.value));
+    handed_out.are(values)
 }
 
 fn has_ids(matcher: &Counting, ids: &[u32]) -> bool {
