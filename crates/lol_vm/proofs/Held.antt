@@ -16,7 +16,7 @@ use Rattle.lol_program.specs.StepLaws.{one_front, one_step}
 use Rattle.lol_vm.proofs.Bools.{not_both, true_or_not}
 use Rattle.lol_program.specs.Programs.{Range, Instruction, Program, IsWithin, IsAt, HoldsPlaces, IsRangeOf, IsProgramOf, AreClosed, above, places, all_places}
 use Rattle.lol_vm.specs.Machines.{OpenItem, ranges_to_run, IsReached, HasRanges, IsItem, AreItems, Matches, HoldOnce, LeftMatches, active_of, is_active, same_range, last_jumps, ranges_of_active, jumps_of, hereditary_jumps_of}
-use Rattle.lol_vm.specs.MachineLaws.{ProgramsHaveEachNode, RangesHoldLeftMatches, PlacesAreWithin}
+use Rattle.lol_vm.specs.MachineLaws.{ProgramsHaveEachNode, RangesHoldLeftMatches}
 use Rattle.lol_vm.proofs.Lists.{same_length, to_contains, to_among, to_once, to_distinct, distinct_append, among_at, among_flat_map, flat_map_among, distinct_flat_map, among_range, range_among, distinct_range, among_map, map_among, among_filter, filter_among, distinct_filter, any_among, among_any}
 
 -- 1. Ranges and the places in them
@@ -290,11 +290,6 @@ ranges_are_inside s paths p items elements closed program are r (inr a) =
   where
     inside : (step : Combinator) {path : Path} → HoldsPlaces paths r (Some (path, step)) → (r.start ≤ r.end) × (r.end ≤ length p.instructions)
     inside step h = let within = h.inside in let count = program.count in (h.ordered, omega (arith, within, count))
-
-pub places_are_within : PlacesAreWithin
-places_are_within s paths p ranges outer program held place c =
-    let x = (held.members place).0 c in
-    omega (arith, at_within paths place x.0 x.1, program.count)
 
 pub programs_have_each_node : ProgramsHaveEachNode
 programs_have_each_node s paths p closed program = record {

@@ -1,8 +1,8 @@
 -- A machine that stands for events, one event on.
-use Rattle.std.proofs.Common.{◌≡◌, ℕ, zero, suc, ◌+◌, ◌<◌, ◌≤◌, Bool, true, false, cond, not, List, [], ◌∷◌, ◌++◌, length, map, filter, drop, take, reverse, position, Option, Some, None, refl, sym, ap, ◌∙◌, subst, arith}
+use Rattle.std.proofs.Common.{◌≡◌, ℕ, zero, suc, ◌+◌, ◌<◌, ◌≤◌, Bool, true, false, cond, not, List, [], ◌∷◌, ◌++◌, length, map, filter, drop, position, Option, Some, None, refl, sym, ap, ◌∙◌, subst, arith}
 use Rattle.std.specs.Prelude.{nat_lt, nat_le, max, ◌&&◌, ◌==◌, if◌then◌else◌}
 use Rattle.std.proofs.lemmas.Bool.Decides.{Decides-eqb, Decides-ltb, nat_tests}
-use Rattle.std.proofs.lemmas.List.{append-nil, length-drop, drop-map, take-map}
+use Rattle.std.proofs.lemmas.List.{append-nil, length-drop, drop-map}
 use Rattle.std.proofs.lemmas.List.Elements.{filter-append}
 use Rattle.std.proofs.lemmas.Slice.Eq.{bytes_eq-Decides}
 use Rattle.std.specs.Str.{bytes_eq}
@@ -14,7 +14,7 @@ use Rattle.lol_instructions.specs.Tests.{Element}
 use Rattle.lol_program.specs.Paths.{Path, Selectors}
 use Rattle.lol_base.specs.MemberLaws.{count_by-cons}
 use Rattle.lol_vm.specs.Events.{Event, Start, End, has_content}
-use Rattle.lol_vm.specs.Documents.{Document, Child, empty, element_of, parent_of, same_parent, children_of, typed_children_of, place_of, inner_part, outer_part, after_start, after_end}
+use Rattle.lol_vm.specs.Documents.{Document, Child, empty, element_of, parent_of, same_parent, children_of, typed_children_of, place_of, outer_part, after_start, after_end}
 use Rattle.lol_vm.specs.Answers.{document, document_from, after, is_dropped, asks}
 use Rattle.lol_vm.specs.Refusals.{longest, longest_from}
 use Rattle.lol_vm.specs.DocumentLaws.{document_push, longest_push}
@@ -23,7 +23,7 @@ use Rattle.lol_base.specs.BoolLaws.{and-false, not_true}
 use Rattle.lol_program.specs.Programs.{Range, Program, AreClosed, all_places}
 use Rattle.lol_vm.specs.Machines.{OpenItem, AreItems, HasRanges, Matches, HoldOnce, LeftMatches, active_of, newly_active, is_active, ranges_to_run, jumps_of, hereditary_jumps_of}
 use Rattle.lol_vm.specs.PlaceRuns.{Context, context_of, run}
-use Rattle.lol_vm.specs.Standing.{Machine, AreTyped, TypedStand, AreCounted, StandsOn, StandsFor, counted_root, counted_last, counted_typed, counted, opened, cut, closed_count, ended, started, machine_after, Descend, IsOrdered, DocumentsAreOrdered, NewStands, StandingIsKept, EndsKeepItems, unfinished, finished, RequestsStand, FinishingIsKept, EndsHandOut, CountersArePlaces, or_root}
+use Rattle.lol_vm.specs.Standing.{Machine, AreTyped, TypedStand, AreCounted, StandsOn, StandsFor, counted_root, counted_last, counted_typed, counted, opened, cut, closed_count, ended, started, machine_after, Descend, IsOrdered, DocumentsAreOrdered, NewStands, StandingIsKept, unfinished, finished, RequestsStand, FinishingIsKept, CountersArePlaces, or_root}
 use Rattle.lol_vm.proofs.Held.{ranges_hold_left_matches}
 use Rattle.lol_vm.proofs.Gathered.{runs_give_reports}
 use Rattle.lol_vm.proofs.Stops.{requests_finish, asks_by_names}
@@ -152,13 +152,6 @@ module _ (paths : List Path) (p : Program) where
       sym (position-map (λ n. bytes_eq n (lowercased name)) (λ (item : OpenItem). lowercased item.name) items)
       ∙ (ap (position (λ n. bytes_eq n (lowercased name))) (same_names items elements h)
       ∙ position-map (λ n. bytes_eq n (lowercased name)) (λ (e : Element). lowercased e.tag.name) elements)
-
-pub ends_keep_items : EndsKeepItems
-ends_keep_items paths m d name h =
-    let place = position (λ (item : OpenItem). same_name item.name name) m.items in
-    subst (AreItems paths m.program (drop (closed_count place) m.items))
-    (ap (λ o. drop (closed_count o) d.open_elements) (same_place paths m.program name m.items d.open_elements h) ∙ sym (outer_is (place_of name d.open_elements) d.open_elements))
-    (items_drop paths m.program (closed_count place) m.items d.open_elements h)
 
 -- 4. Active ranges of fewer items
 
@@ -501,13 +494,3 @@ finishing_is_kept s esi paths m events tag context left closed finish h stands r
         let sizes : max (max most (length d.open_elements)) (suc (length d.open_elements)) ≡ max most (suc (length d.open_elements)) = omega arith in
         subst (StandsOn s esi paths (opened m tag.name c) (after_start d tag true)) sizes
         (opened_on s esi paths d most ordered m (max most (length d.open_elements)) (omega arith) tag here c jumps hereditary)
-
-pub ends_hand_out : EndsHandOut
-ends_hand_out paths m d name numbers are is =
-    ap reverse (ap (take (closed_count (position (λ (item : OpenItem). same_name item.name name) m.items))) is
-    ∙ (take-map (λ (e : Element). e.number) (closed_count (position (λ (item : OpenItem). same_name item.name name) m.items)) d.open_elements
-    ∙ ap (map (λ (e : Element). e.number)) (ap (λ o. take (closed_count o) d.open_elements) (same_place paths m.program name m.items d.open_elements are) ∙ inner_is (place_of name d.open_elements) d.open_elements)))
-  where
-    inner_is : (o : Option ℕ) (xs : List Element) → take (closed_count o) xs ≡ inner_part o xs
-    inner_is None xs = refl
-    inner_is (Some k) xs = refl

@@ -25,7 +25,9 @@ pub mod Whole
 pub mod ContentMarks
 pub mod Closings
 pub mod OneId
+pub mod Alike
 pub mod Unasked
+pub mod ToldRuns
 pub mod StackMachines
 pub mod TypedLevels
 pub mod TypedCounting

@@ -1,13 +1,12 @@
 -- Runs that stop and go on.
-use Rattle.std.proofs.Common.{◌≡◌, ℕ, suc, ◌+◌, ◌-◌, ◌<◌, Bool, true, false, cond, not, List, [], ◌∷◌, ◌++◌, length, drop, Option, Some, None, inl, inr, refl, sym, ap, ◌∙◌, subst, arith, append_assoc}
+use Rattle.std.proofs.Common.{◌≡◌, ℕ, suc, ◌+◌, Bool, true, false, cond, not, List, [], ◌∷◌, ◌++◌, length, drop, Option, Some, None, inl, inr, refl, sym, ap, ◌∙◌, subst, arith, append_assoc}
 use Rattle.std.specs.Prelude.{slice_get, count_by, option_to_list, ◌&&◌, ◌||◌}
 use Rattle.std.specs.List.{list_any}
-use Rattle.std.proofs.lemmas.List.{append-nil, append_cancel_right, length-append, drop_more}
+use Rattle.std.proofs.lemmas.List.{append-nil, append_cancel_right, length-append}
 use Rattle.std.proofs.lemmas.List.{drop-append-le}
 use Rattle.std.proofs.Math.Seq.{drop-append-add}
 use Rattle.std.proofs.lemmas.Grind.{flat_map-append}
 use Rattle.std.proofs.lemmas.List.Concat.{length-flat_map}
-use Rattle.std.proofs.lemmas.List.FromFn.{length-range_with_len, get_or-range_with_len}
 use Rattle.std.specs.Option.{option_map}
 use Rattle.lol_base.specs.StartTags.{Attribute}
 use Rattle.lol_instructions.specs.Tests.{Element, is_html}
@@ -21,10 +20,10 @@ use Rattle.lol_program.specs.Programs.{Range, Instruction, Program, IsAt, IsProg
 use Rattle.lol_instructions.specs.declared.name_value.NameValue.{NameValue}
 use Rattle.lol_instructions.specs.declared.name_value.NameValue.TheVariants.{True, False, Open}
 use Rattle.lol_program.specs.ValueLaws.{values_decide, values_are_by_names}
-use Rattle.lol_vm.specs.PlaceRuns.{Context, no_context, Stop, given_by, gathered_from_places, context_of, branch, step_with_attributes, step_by_names, run, run_by_names, instruction_value, value_at, is_open_at, stop_in, stop_or, first_open, ids_list, jumps_list, hereditary_jumps_list}
+use Rattle.lol_vm.specs.PlaceRuns.{Context, no_context, Stop, given_by, gathered_from_places, context_of, branch, step_with_attributes, step_by_names, run, run_by_names, instruction_value, value_at, is_open_at, first_open, ids_list, jumps_list, hereditary_jumps_list}
 use Rattle.lol_vm.proofs.Held.{path_at}
 use Rattle.lol_vm.proofs.Counted.{places_count_tries}
-use Rattle.lol_vm.specs.MachineLaws.{RunsDontSeeTheRest, StoppedStartsAreWhole, StopsAreRequests, ForeignTagsAsk, RequestsFinish, RunsGather, RunsGoOn, RunsByNamesGoOn, StopsLeave, NumbersAreOffsets, from_number, then_by_names, with_context, ValuesDecideAt, IsStop, starts_open, left_from, RunsStopWhereAsked, StopsAreOffsets, OffsetsGoOn}
+use Rattle.lol_vm.specs.MachineLaws.{RunsDontSeeTheRest, StoppedStartsAreWhole, StopsAreRequests, ForeignTagsAsk, RequestsFinish, RunsGather, StopsLeave, NumbersAreOffsets, from_number, with_context, ValuesDecideAt, IsStop, starts_open, RunsStopWhereAsked}
 
 -- 1. Runs gather
 
@@ -131,65 +130,7 @@ runs_stop_where_asked p content e context (place ∷ ps) decides =
     at_place p content e context place ps (is_open_at p e place) refl decides
     (runs_stop_where_asked p content e (next p content e context place) ps (λ k i h at. decides k i (contains_from_among (place ∷ ps) k (inr (among_from_contains ps k h))) at))
 
-pub runs_go_on : RunsGoOn
-runs_go_on = run-append
-
-pub runs_by_names_go_on : RunsByNamesGoOn
-runs_by_names_go_on p content e context [] qs = refl
-runs_by_names_go_on p content e context (place ∷ ps) qs = by_test (is_open_at p e place) (runs_by_names_go_on p content e (next p content e context place) ps qs)
-  where
-    by_test : (b : Bool) → run_by_names p content e (next p content e context place) (ps ++ qs) ≡ then_by_names p content e (run_by_names p content e (next p content e context place) ps) qs
-        → cond b (record { context = context; left = place ∷ (ps ++ qs) }) (run_by_names p content e (next p content e context place) (ps ++ qs))
-        ≡ then_by_names p content e (cond b (record { context = context; left = place ∷ ps }) (run_by_names p content e (next p content e context place) ps)) qs
-    by_test true later = refl
-    by_test false later = later
-
 -- 3. Stops as offsets
-
-module _ (p : Program) (e : Element) where
-  left_of : List ℕ → List ℕ
-  left_of [] = []
-  left_of (place ∷ ps) = cond (is_open_at p e place) (place ∷ ps) (left_of ps)
-
-  left_is : (content : Bool) (context : Context) (ps : List ℕ) → (run_by_names p content e context ps).left ≡ left_of ps
-  unfolding left_of
-  left_is content context [] = refl
-  left_is content context (place ∷ ps) = by_test (is_open_at p e place) (left_is content (next p content e context place) ps)
-    where
-      by_test : (b : Bool) → (run_by_names p content e (next p content e context place) ps).left ≡ left_of ps
-          → (cond b (record { context = context; left = place ∷ ps }) (run_by_names p content e (next p content e context place) ps)).left ≡ cond b (place ∷ ps) (left_of ps)
-      by_test true h = refl
-      by_test false h = h
-
-  or_drop : Option ℕ → List ℕ → List ℕ → List ℕ
-  or_drop None ps qs = left_of qs
-  or_drop (Some k) ps qs = drop k ps ++ qs
-
-  left_append : (ps qs : List ℕ) → left_of (ps ++ qs) ≡ or_drop (first_open p e ps) ps qs
-  unfolding left_of or_drop
-  left_append [] qs = refl
-  left_append (place ∷ ps) qs = by_test (is_open_at p e place) (left_append ps qs)
-    where
-      later : (o : Option ℕ) → or_drop o ps qs ≡ or_drop (option_map suc o) (place ∷ ps) qs
-      later None = refl
-      later (Some k) = refl
-
-      by_test : (b : Bool) → left_of (ps ++ qs) ≡ or_drop (first_open p e ps) ps qs
-          → cond b (place ∷ (ps ++ qs)) (left_of (ps ++ qs)) ≡ or_drop (cond b (Some 0) (option_map suc (first_open p e ps))) (place ∷ ps) qs
-      by_test true h = refl
-      by_test false h = h ∙ later (first_open p e ps)
-
-  left_ranges : (ranges : List Range) → left_of (all_places ranges) ≡ left_from (stop_in p e ranges)
-  unfolding left_of or_drop
-  left_ranges [] = refl
-  left_ranges (r ∷ ranges) = left_append (places r) (all_places ranges) ∙ by_offset (first_open p e (places r)) (left_ranges ranges)
-    where
-      by_offset : (o : Option ℕ) → left_of (all_places ranges) ≡ left_from (stop_in p e ranges) → or_drop o (places r) (all_places ranges) ≡ left_from (stop_or o r ranges (stop_in p e ranges))
-      by_offset None h = h
-      by_offset (Some k) h = refl
-
-pub stops_are_offsets : StopsAreOffsets
-stops_are_offsets p content e context ranges = left_is p e content context (all_places ranges) ∙ left_ranges p e ranges
 
 pub stops_leave : StopsLeave
 stops_leave p content e context [] = refl
@@ -205,14 +146,6 @@ pub numbers_are_offsets : NumbersAreOffsets
 numbers_are_offsets front r back offset within =
     ap (drop (length (all_places front) + offset)) (flat_map-append places front (r ∷ back))
     ∙ (drop-append-add (all_places front) (all_places (r ∷ back)) offset ∙ drop-append-le offset (places r) (all_places back) within)
-
-pub offsets_go_on : OffsetsGoOn
-offsets_go_on offset r ranges within =
-    let n = r.end - r.start in
-    let below : offset < n = omega (arith, within) in
-    let here : drop offset (places r) ≡ (r.start + offset) ∷ drop (offset + 1) (places r) =
-    drop_more (places r) offset 0 (omega (arith, below, length-range_with_len r.start n)) ∙ ap (λ k. k ∷ drop (offset + 1) (places r)) (get_or-range_with_len r.start n offset 0 below) in
-    ap (λ ps. ps ++ all_places ranges) here
 
 -- 4. Programs of selectors
 

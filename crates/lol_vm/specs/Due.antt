@@ -1,7 +1,6 @@
 -- What a start tag is answered with where its element can't be charged.
-use Rattle.std.specs.Prelude.{Bool, List, true, false}
+use Rattle.std.specs.Prelude.{true, false}
 use Rattle.lol_base.specs.LocalNames.{Name}
-use Rattle.lol_base.specs.StartTags.{StartTag}
 use Rattle.lol_base.specs.declared.namespace.Namespace.{Namespace}
 use Rattle.lol_base.specs.declared.start_tag.AuxStartTagInfo.{AuxStartTagInfo}
 use Rattle.lol_instructions.specs.declared.tries.Tries.{Tries}
@@ -9,12 +8,11 @@ use Rattle.lol_memory.specs.Ids.{Ids}
 use Rattle.lol_memory.specs.LimitedVec.{IsLimited}
 use Rattle.lol_memory.specs.Limiter.{Limiter}
 use Rattle.lol_memory.specs.declared.match_info.MatchInfo.{MatchInfo}
-use Rattle.lol_program.specs.Paths.{Selectors}
 use Rattle.lol_stack.specs.Stacks.{list_in}
-use Rattle.lol_vm.specs.Events.{Event}
 use Rattle.lol_vm.specs.FreeTags.{AreFlat, RunsWithoutMemory}
+use Rattle.lol_vm.specs.Premises.{ForPending, ForRestOf, ForTagOf}
 use Rattle.lol_vm.specs.VmErrors.{IsNotForMemory}
-use Rattle.lol_vm.specs.Vms.{Vm, IsPending, IsReported, IsRestOf, IsTagOf, Stands, stack_in}
+use Rattle.lol_vm.specs.Vms.{Vm, IsReported, stack_in}
 use Rattle.lol_vm.specs.declared.error.AuxStartTagInfoRequest.{AuxStartTagInfoRequest}
 use Rattle.lol_vm.specs.declared.error.VmError.{VmError}
 
@@ -25,23 +23,21 @@ module _ {E : Type 0} where
 
   -- a start tag of this name that is run without memory, whichever events the machine stands for, isn't refused for memory
   abbrev pub IsNeverForMemory : Vm E → Name → Namespace → VmError E → Type 0
-  IsNeverForMemory vm name ns error =
-      (s : Selectors) (esi : Bool) (events : List Event) (tag : StartTag) → Stands s esi vm events → IsTagOf name ns tag → RunsWithoutMemory s esi events tag
-      → IsNotForMemory error
+  IsNeverForMemory vm name ns error = ForTagOf vm name ns (λ s esi events tag. RunsWithoutMemory s esi events tag → IsNotForMemory error)
 
   -- the whole report of a start tag was made, and the limit isn't due
   abbrev pub IsAfterReport : {F : Type 0} → (F → MatchInfo → Unit {0} → F → Type 0) → Vm E → Name → Namespace → Limiter → Tries → F → F → Type 0
   IsAfterReport step vm name ns limiter tries f g =
-      ((s : Selectors) (esi : Bool) (events : List Event) (tag : StartTag) → Stands s esi vm events → IsTagOf name ns tag → IsReported step s esi events tag false tries f g)
+      ForTagOf vm name ns (λ s esi events tag. IsReported step s esi events tag false tries f g)
       × (IsDue vm limiter → ⊥)
 
   module _ (ids_of : E → Ids) (vm : Vm E) (request : AuxStartTagInfoRequest E) where
     -- a request of flat selectors isn't refused for memory
     abbrev pub IsNeverPending : Type 0
-    IsNeverPending = (s : Selectors) (esi : Bool) (events : List Event) (tag : StartTag) → IsPending ids_of s esi events tag vm request → AreFlat s → ⊥
+    IsNeverPending = ForPending vm ids_of request (λ s esi events tag. AreFlat s → ⊥)
 
     -- the whole report of the tag of a request was made, and the limit isn't due
     abbrev pub IsAfterWholeReport : {F : Type 0} → (F → MatchInfo → Unit {0} → F → Type 0) → AuxStartTagInfo → Limiter → Tries → F → F → Type 0
     IsAfterWholeReport step aux limiter tries f g =
-        ((s : Selectors) (esi : Bool) (events : List Event) (tag : StartTag) → IsPending ids_of s esi events tag vm request → IsRestOf aux tag → IsReported step s esi events tag true tries f g)
+        ForRestOf vm ids_of request aux (λ s esi events tag. IsReported step s esi events tag true tries f g)
         × (IsDue vm limiter → ⊥)

@@ -86,6 +86,11 @@ ranges_from ranges stop =
     record { start = (get_or ranges stop.range no_range).start + stop.offset; end = (get_or ranges stop.range no_range).end }
     ∷ drop (stop.range + 1) ranges
 
+-- Something is so where ranges are gone on with from a stop in them, and what is left of them can be run.
+abbrev pub IfRunnableFrom : List Instruction → List (Range ℕ) → Stop → Tries → Type 0 → Type 0
+IfRunnableFrom instructions ranges stop tries holds =
+    IsStopIn instructions ranges stop → AreRunnable instructions (ranges_from ranges stop) tries → holds
+
 module _ {E : Type 0} (ids : E → Ids) (with_ids : E → Ids → E) where
   abbrev pub with_branch_if : Bool → ExecutionCtx E → Instruction → ExecutionCtx E
   with_branch_if true ctx i = with_branch ids with_ids ctx i.associated_branch

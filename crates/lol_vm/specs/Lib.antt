@@ -13,6 +13,7 @@ pub mod TriedStarts
 pub mod VmLending
 pub mod Collecting
 pub mod Follows
+pub mod Premises
 pub mod Handlers
 pub mod FreeTags
 pub mod Due
@@ -27,6 +28,7 @@ pub mod PlaceRuns
 pub mod MachineLaws
 pub mod Standing
 pub mod RunLaws
+pub mod AskedRuns
 pub mod StackMachines
 pub mod Gathering
 pub mod InstructionLaws

@@ -8,7 +8,7 @@ use Rattle.lol_program.specs.Paths.{Path, Selectors}
 use Rattle.lol_program.specs.Programs.{Range, Program, Instruction, AreClosed, IsProgramOf, IsAt, places, all_places}
 use Rattle.lol_vm.specs.Answers.{name_tries, attribute_tries, needs_attributes, matching_ids}
 use Rattle.lol_vm.specs.Machines.{OpenItem, AreItems, HasRanges, Matches, HoldOnce, LeftMatches, active_of, ranges_to_run, jumps_of, hereditary_jumps_of}
-use Rattle.lol_vm.specs.PlaceRuns.{Context, Stop, no_context, is_open_at, context_of, run, run_by_names, first_open, stop_in, places_from}
+use Rattle.lol_vm.specs.PlaceRuns.{Context, Stop, no_context, is_open_at, context_of, run, run_by_names, first_open, places_from}
 
 -- 1. Which places are run
 
@@ -18,7 +18,8 @@ pub record HasEachNode (s : Selectors) (paths : List Path) (p : Program) : Type 
   pub place : (node : Path) → Contains s.nodes node → (place : ℕ) × IsAt paths place node × (place < length p.instructions)
 
 abbrev pub ProgramsHaveEachNode : Type 0
-ProgramsHaveEachNode = (s : Selectors) (paths : List Path) (p : Program) → AreClosed s → IsProgramOf s paths p → HasEachNode s paths p
+ProgramsHaveEachNode =
+    (s : Selectors) (paths : List Path) (p : Program) → AreClosed s → IsProgramOf s paths p → HasEachNode s paths p
 
 -- The ranges that are run for a start tag hold the place of each node whose left part matches exactly once, and no other place.
 abbrev pub RangesHoldLeftMatches : Type 0
@@ -26,12 +27,6 @@ RangesHoldLeftMatches =
     (s : Selectors) (paths : List Path) (p : Program) (items : List OpenItem) (elements : List Element)
     → AreClosed s → IsProgramOf s paths p → AreItems paths p items elements
     → HoldOnce paths (ranges_to_run p items (active_of items)) (LeftMatches elements)
-
--- Such ranges hold places of instructions alone.
-abbrev pub PlacesAreWithin : Type 0
-PlacesAreWithin =
-    (s : Selectors) (paths : List Path) (p : Program) (ranges : List Range) (outer : List Element)
-    → IsProgramOf s paths p → HoldOnce paths ranges (LeftMatches outer) → (place : ℕ) → Contains (all_places ranges) place → place < length p.instructions
 
 abbrev pub sum_of_lengths : List Range → ℕ
 sum_of_lengths ranges = sum_by (λ r. length (places r)) ranges
@@ -69,17 +64,15 @@ with_context a b = record { ids = a.ids ++ b.ids; jumps = a.jumps ++ b.jumps; he
 -- A run place by place gathers what its places give, in their order.
 abbrev pub RunsGather : Type 0
 RunsGather =
-    (p : Program) (content : Bool) (e : Element) (context : Context) (ps : List ℕ) → run p content e context ps ≡ with_context context (context_of p content e ps)
-
--- A run over places and then over others is the run over the latter, from what the former give.
-abbrev pub RunsGoOn : Type 0
-RunsGoOn = (p : Program) (content : Bool) (e : Element) (context : Context) (ps qs : List ℕ) → run p content e context (ps ++ qs) ≡ run p content e (run p content e context ps) qs
+    (p : Program) (content : Bool) (e : Element) (context : Context) (ps : List ℕ)
+    → run p content e context ps ≡ with_context context (context_of p content e ps)
 
 -- 3. Runs by names, which stop
 
 -- every place is that of an instruction whose value by names decides, at this element
 abbrev pub ValuesDecideAt : Program → Element → List ℕ → Type 0
-ValuesDecideAt p e ps = (place : ℕ) (i : Instruction) → Contains ps place → IsAt p.instructions place i → Decides (i.value e) (i.holds e)
+ValuesDecideAt p e ps =
+    (place : ℕ) (i : Instruction) → Contains ps place → IsAt p.instructions place i → Decides (i.value e) (i.holds e)
 
 -- whether there is a first place, which is open
 abbrev pub starts_open : Program → Element → List ℕ → Bool
@@ -98,32 +91,8 @@ pub record IsStop (p : Program) (content : Bool) (e : Element) (context : Contex
 
 abbrev pub RunsStopWhereAsked : Type 0
 RunsStopWhereAsked =
-    (p : Program) (content : Bool) (e : Element) (context : Context) (ps : List ℕ) → ValuesDecideAt p e ps → IsStop p content e context ps (run_by_names p content e context ps)
-
--- with others after those that are left
-abbrev pub after_left : Program → Bool → Element → Context → List ℕ → List ℕ → Stop
-after_left p content e context [] qs = run_by_names p content e context qs
-after_left p content e context (place ∷ left) qs = record { context = context; left = place ∷ (left ++ qs) }
-
-abbrev pub then_by_names : Program → Bool → Element → Stop → List ℕ → Stop
-then_by_names p content e stop qs = after_left p content e stop.context stop.left qs
-
--- A run by names over places and then over others: where the former stop, all the others are left too.
-abbrev pub RunsByNamesGoOn : Type 0
-RunsByNamesGoOn =
-    (p : Program) (content : Bool) (e : Element) (context : Context) (ps qs : List ℕ)
-    → run_by_names p content e context (ps ++ qs) ≡ then_by_names p content e (run_by_names p content e context ps) qs
-
--- the places from a stop on, none where there is no stop
-abbrev pub left_from : Option (ℕ × List Range) → List ℕ
-left_from None = []
-left_from (Some stop) = places_from stop.0 stop.1
-
--- A run by names over ranges stops at an offset in a range: what is left are the places from there on.
-abbrev pub StopsAreOffsets : Type 0
-StopsAreOffsets =
-    (p : Program) (content : Bool) (e : Element) (context : Context) (ranges : List Range)
-    → (run_by_names p content e context (all_places ranges)).left ≡ left_from (stop_in p e ranges)
+    (p : Program) (content : Bool) (e : Element) (context : Context) (ps : List ℕ) → ValuesDecideAt p e ps
+    → IsStop p content e context ps (run_by_names p content e context ps)
 
 -- the places without so many at the front; none at all where there is no number
 abbrev pub from_number : Option ℕ → List ℕ → List ℕ
@@ -132,7 +101,9 @@ from_number (Some n) ps = drop n ps
 
 -- What is left by names are the places from the first open one on.
 abbrev pub StopsLeave : Type 0
-StopsLeave = (p : Program) (content : Bool) (e : Element) (context : Context) (ps : List ℕ) → (run_by_names p content e context ps).left ≡ from_number (first_open p e ps) ps
+StopsLeave =
+    (p : Program) (content : Bool) (e : Element) (context : Context) (ps : List ℕ)
+    → (run_by_names p content e context ps).left ≡ from_number (first_open p e ps) ps
 
 -- The places of ranges without those before an offset in one of them are those from that offset on.
 abbrev pub NumbersAreOffsets : Type 0
@@ -140,16 +111,13 @@ NumbersAreOffsets =
     (front : List Range) (r : Range) (back : List Range) (offset : ℕ) → offset ≤ length (places r)
     → drop (length (all_places front) + offset) (all_places (front ++ r ∷ back)) ≡ places_from offset (r ∷ back)
 
--- From an offset in a range there come its own place, and then the places from the next offset on.
-abbrev pub OffsetsGoOn : Type 0
-OffsetsGoOn =
-    (offset : ℕ) (r : Range) (ranges : List Range) → r.start + offset < r.end → places_from offset (r ∷ ranges) ≡ (r.start + offset) ∷ places_from (offset + 1) (r ∷ ranges)
-
 -- A run by names of a program of selectors doesn't depend on the rest of the tag.
 abbrev pub RunsDontSeeTheRest : Type 0
 RunsDontSeeTheRest =
-    (s : Selectors) (paths : List Path) (p : Program) (e : Element) (attributes : List Attribute) (self_closing finish : Bool) (content : Bool) (context : Context) (ps : List ℕ)
-    → IsProgramOf s paths p → run_by_names p content (with_rest e attributes self_closing finish) context ps ≡ run_by_names p content e context ps
+    (s : Selectors) (paths : List Path) (p : Program) (e : Element) (attributes : List Attribute)
+    (self_closing finish : Bool) (content : Bool) (context : Context) (ps : List ℕ) → IsProgramOf s paths p
+    → run_by_names p content (with_rest e attributes self_closing finish) context ps
+    ≡ run_by_names p content e context ps
 
 -- the run by names of a start tag over these ranges
 abbrev pub started_by_names : Program → Bool → Element → List Range → Stop
@@ -166,8 +134,9 @@ pub record WholeStart (s : Selectors) (p : Program) (ranges : List Range) (e : E
 
 abbrev pub StoppedStartsAreWhole : Type 0
 StoppedStartsAreWhole =
-    (s : Selectors) (paths : List Path) (p : Program) (ranges : List Range) (e : Element) (outer : List Element) (content : Bool)
-    → AreClosed s → IsProgramOf s paths p → HoldOnce paths ranges (LeftMatches outer) → WholeStart s p ranges e outer content
+    (s : Selectors) (paths : List Path) (p : Program) (ranges : List Range) (e : Element) (outer : List Element)
+    (content : Bool) → AreClosed s → IsProgramOf s paths p → HoldOnce paths ranges (LeftMatches outer)
+    → WholeStart s p ranges e outer content
 
 -- 4. Requests
 
@@ -185,16 +154,19 @@ abbrev pub StopsAreRequests : Type 0
 StopsAreRequests =
     (s : Selectors) (paths : List Path) (p : Program) (content : Bool) (e : Element) (ranges : List Range)
     → IsProgramOf s paths p → starts_open p e (started_by_names p content e ranges).left ≡ true
-    → IsRequest p content e ranges (started_by_names p content e ranges).context (started_by_names p content e ranges).left
+    → IsRequest p content e ranges (started_by_names p content e ranges).context
+    (started_by_names p content e ranges).left
 
 -- Outside HTML a request is made before any place is run.
 abbrev pub ForeignTagsAsk : Type 0
 ForeignTagsAsk =
-    (p : Program) (content : Bool) (e : Element) (ranges : List Range) → is_html e.tag.namespace ≡ false → IsRequest p content e ranges no_context (all_places ranges)
+    (p : Program) (content : Bool) (e : Element) (ranges : List Range) → is_html e.tag.namespace ≡ false
+    → IsRequest p content e ranges no_context (all_places ranges)
 
 -- A request that is finished, with whatever rest of the tag, gives what a whole run gives.
 abbrev pub RequestsFinish : Type 0
 RequestsFinish =
-    (p : Program) (content : Bool) (e : Element) (ranges : List Range) (context : Context) (left : List ℕ) → IsRequest p content e ranges context left
-    → (attributes : List Attribute) (self_closing finish : Bool)
-    → run p content (with_rest e attributes self_closing finish) context left ≡ context_of p content (with_rest e attributes self_closing finish) (all_places ranges)
+    (p : Program) (content : Bool) (e : Element) (ranges : List Range) (context : Context) (left : List ℕ)
+    → IsRequest p content e ranges context left → (attributes : List Attribute) (self_closing finish : Bool)
+    → run p content (with_rest e attributes self_closing finish) context left
+    ≡ context_of p content (with_rest e attributes self_closing finish) (all_places ranges)

@@ -1,5 +1,5 @@
 -- What a machine keeps of the open elements.
-use Rattle.std.specs.Prelude.{ℕ, ◌≡◌, ◌↔◌, ◌&&◌, ◌==◌, not, Bool, true, List, [], ◌∷◌, ◌++◌, map, filter, length, reverse, Option, Some, Contains}
+use Rattle.std.specs.Prelude.{ℕ, ◌≡◌, ◌↔◌, ◌&&◌, ◌==◌, not, Bool, true, List, [], ◌∷◌, ◌++◌, map, filter, length, Option, Some, Contains}
 use Rattle.std.specs.List.{list_any}
 use Rattle.lol_base.specs.Names.{same_name}
 use Rattle.lol_instructions.specs.Tests.{Element}
@@ -82,9 +82,3 @@ pub record HoldOnce (paths : List Path) (ranges : List Range) (P : Path → Type
 
 abbrev pub LeftMatches : List Element → Path → Type 0
 LeftMatches outer path = left_matches path outer ≡ true
-
--- Items that are kept the outermost first: one more at the end makes its new ranges active, at its place.
-abbrev pub PushedItemsAreActive : Type 0
-PushedItemsAreActive =
-    (items : List OpenItem) (item : OpenItem)
-    → active_of (reverse (items ++ item ∷ [])) ≡ active_of (reverse items) ++ newly_active (active_of (reverse items)) (length items) item.hereditary_jumps

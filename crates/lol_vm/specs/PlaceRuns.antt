@@ -100,12 +100,3 @@ places_from offset (r ∷ ranges) = drop offset (places r) ++ all_places ranges
 abbrev pub first_open : Program → Element → List ℕ → Option ℕ
 first_open p e [] = None
 first_open p e (place ∷ ps) = if is_open_at p e place then Some 0 else option_map suc (first_open p e ps)
-
-abbrev pub stop_or : Option ℕ → Range → List Range → Option (ℕ × List Range) → Option (ℕ × List Range)
-stop_or None r ranges later = later
-stop_or (Some offset) r ranges later = Some (offset, r ∷ ranges)
-
--- The offset of the first open place in its range, with that range and those after it.
-abbrev pub stop_in : Program → Element → List Range → Option (ℕ × List Range)
-stop_in p e [] = None
-stop_in p e (r ∷ ranges) = stop_or (first_open p e (places r)) r ranges (stop_in p e ranges)

@@ -1,13 +1,13 @@
 -- When a machine stands for events.
-use Rattle.std.specs.Prelude.{ℕ, suc, ◌+◌, ◌≡◌, ◌≤◌, ◌<◌, ◌&&◌, ◌||◌, count_by, ◌==◌, not, Bool, true, false, if◌then◌else◌, nat_lt, nat_le, max, List, [], ◌∷◌, ◌++◌, map, filter, drop, take, reverse, length, position, Option, Some, None}
+use Rattle.std.specs.Prelude.{ℕ, suc, ◌+◌, ◌≡◌, ◌≤◌, ◌<◌, ◌&&◌, ◌||◌, count_by, ◌==◌, not, Bool, true, false, if◌then◌else◌, nat_lt, nat_le, max, List, [], ◌∷◌, ◌++◌, map, filter, drop, length, position, Option, Some, None}
 use Rattle.lol_base.specs.Names.{same_name}
 use Rattle.lol_base.specs.StartTags.{StartTag}
 use Rattle.lol_memory.specs.Slots.{slots, slots_after}
 use Rattle.lol_instructions.specs.Tests.{Element, is_html}
 use Rattle.lol_program.specs.Paths.{Path, Selectors}
 use Rattle.lol_vm.specs.Events.{Event, Start, End, has_content}
-use Rattle.lol_vm.specs.Documents.{Document, Child, empty, element_of, children_of, typed_children_of, after_end, closed}
-use Rattle.lol_vm.specs.Answers.{document, after, is_dropped, asks, ascending_once, matching_ids, name_tries, attribute_tries}
+use Rattle.lol_vm.specs.Documents.{Document, Child, element_of, children_of, typed_children_of}
+use Rattle.lol_vm.specs.Answers.{document, is_dropped, asks, ascending_once, matching_ids, name_tries, attribute_tries}
 use Rattle.lol_vm.specs.Refusals.{longest}
 use Rattle.lol_program.specs.Programs.{Range, Program, IsProgramOf, AreClosed, all_places}
 use Rattle.lol_vm.specs.Machines.{OpenItem, AreItems, active_of, newly_active, ranges_to_run}
@@ -145,26 +145,26 @@ pub record IsOrdered (d : Document) (most : ℕ) : Type 0 where
   pub enough : length d.open_elements ≤ most
 
 abbrev pub DocumentsAreOrdered : Type 0
-DocumentsAreOrdered = (s : Selectors) (esi : Bool) (events : List Event) → IsOrdered (document s esi events) (longest s esi events)
+DocumentsAreOrdered =
+    (s : Selectors) (esi : Bool) (events : List Event) → IsOrdered (document s esi events) (longest s esi events)
 
 abbrev pub SlotsGrow : Type 0
-SlotsGrow = (item_bytes items most : ℕ) → items ≤ most → slots_after item_bytes (slots item_bytes most) items ≡ slots item_bytes (max most (items + 1))
+SlotsGrow =
+    (item_bytes items most : ℕ) → items ≤ most
+    → slots_after item_bytes (slots item_bytes most) items ≡ slots item_bytes (max most (items + 1))
 
 -- The new machine stands for no events.
 abbrev pub NewStands : Type 0
-NewStands = (s : Selectors) (esi : Bool) (paths : List Path) (p : Program) (item_bytes : ℕ) → IsProgramOf s paths p → StandsFor s esi paths (new_machine p esi item_bytes) []
+NewStands =
+    (s : Selectors) (esi : Bool) (paths : List Path) (p : Program) (item_bytes : ℕ) → IsProgramOf s paths p
+    → StandsFor s esi paths (new_machine p esi item_bytes) []
 
 -- A machine that stands for events stands for them with one more, whichever it is.
 abbrev pub StandingIsKept : Type 0
 StandingIsKept =
     (s : Selectors) (esi : Bool) (paths : List Path) (m : Machine) (events : List Event) (event : Event) → AreClosed s
-    → StandsFor s esi paths m events → StandsFor s esi paths (machine_after s m (document s esi events) event) (events ++ event ∷ [])
-
--- An end tag needs and keeps the open items alone: also after a refusal.
-abbrev pub EndsKeepItems : Type 0
-EndsKeepItems =
-    (paths : List Path) (m : Machine) (d : Document) (name : List ℕ)
-    → AreItems paths m.program m.items d.open_elements → AreItems paths m.program (ended m name).items (after_end d name).open_elements
+    → StandsFor s esi paths m events
+    → StandsFor s esi paths (machine_after s m (document s esi events) event) (events ++ event ∷ [])
 
 abbrev pub or_root : List ℕ → ℕ → ℕ
 or_root [] root = root
@@ -179,7 +179,8 @@ abbrev pub CountersArePlaces : Type 0
 CountersArePlaces =
     (m : Machine) (d : Document) (tag : StartTag) → AreCounted m d → length m.items ≡ length d.open_elements
     → (innermost_count (counted m tag.name) ≡ (element_of d tag).position)
-    × (m.program.by_type ≡ true → (counted m tag.name).typed (length m.items) tag.name ≡ (element_of d tag).typed_position)
+    × (m.program.by_type ≡ true
+    → (counted m tag.name).typed (length m.items) tag.name ≡ (element_of d tag).typed_position)
 
 -- What a machine answers to a start tag: what it asks, reports and counts is what the definition says.
 pub record AnswersStart (s : Selectors) (m : Machine) (e : Element) (outer : List Element) : Type 0 where
@@ -192,7 +193,8 @@ pub record AnswersStart (s : Selectors) (m : Machine) (e : Element) (outer : Lis
 
 abbrev pub StartsAnswer : Type 0
 StartsAnswer =
-    (s : Selectors) (esi : Bool) (paths : List Path) (m : Machine) (events : List Event) (tag : StartTag) → AreClosed s → StandsFor s esi paths m events
+    (s : Selectors) (esi : Bool) (paths : List Path) (m : Machine) (events : List Event) (tag : StartTag) → AreClosed s
+    → StandsFor s esi paths m events
     → AnswersStart s m (element_of (document s esi events) tag) (document s esi events).open_elements
 
 -- 5. Requests
@@ -205,7 +207,8 @@ unfinished tag = record { name = tag.name; namespace = tag.namespace; attributes
 abbrev pub RequestsStand : Type 0
 RequestsStand =
     (s : Selectors) (esi : Bool) (paths : List Path) (m : Machine) (events : List Event) (tag : StartTag)
-    → StandsFor s esi paths m events → asks s (element_of (document s esi events) tag) (document s esi events).open_elements ≡ true
+    → StandsFor s esi paths m events
+    → asks s (element_of (document s esi events) tag) (document s esi events).open_elements ≡ true
     → StandsFor s esi paths (counted m tag.name) (events ++ Start (unfinished tag) ∷ [])
 
 abbrev pub finished : Machine → Bool → List ℕ → Context → Machine
@@ -214,26 +217,11 @@ finished m opens name context = if opens then opened m name context else m
 -- Finishing a request on that machine puts the finished event in its place.
 abbrev pub FinishingIsKept : Type 0
 FinishingIsKept =
-    (s : Selectors) (esi : Bool) (paths : List Path) (m : Machine) (events : List Event) (tag : StartTag) (context : Context) (left : List ℕ)
-    → AreClosed s → tag.finish ≡ true → asks s (element_of (document s esi events) tag) (document s esi events).open_elements ≡ true
+    (s : Selectors) (esi : Bool) (paths : List Path) (m : Machine) (events : List Event) (tag : StartTag)
+    (context : Context) (left : List ℕ) → AreClosed s → tag.finish ≡ true
+    → asks s (element_of (document s esi events) tag) (document s esi events).open_elements ≡ true
     → StandsFor s esi paths m (events ++ Start (unfinished tag) ∷ [])
     → IsRequest m.program true (element_of (document s esi events) tag) (ranges_of_machine m) context left
-    → StandsFor s esi paths (finished m (has_content esi tag) tag.name (run m.program true (element_of (document s esi events) tag) context left)) (events ++ Start tag ∷ [])
-
--- The machine over events, from what has come before.
-abbrev pub machine_from : Selectors → Bool → Machine → Document → List Event → Machine
-machine_from s esi m d [] = m
-machine_from s esi m d (event ∷ events) = machine_from s esi (machine_after s m d event) (after s esi d event) events
-
--- The new machine of a program of selectors, over any events, stands for them.
-abbrev pub MachinesStand : Type 0
-MachinesStand =
-    (s : Selectors) (esi : Bool) (paths : List Path) (p : Program) (item_bytes : ℕ) (events : List Event) → AreClosed s → IsProgramOf s paths p
-    → StandsFor s esi paths (machine_from s esi (new_machine p esi item_bytes) empty events) events
-
--- What is handed out at an end tag: of any data of the open items, the innermost first, those of the closed ones, the outermost first.
-abbrev pub EndsHandOut : Type 0
-EndsHandOut =
-    (paths : List Path) (m : Machine) (d : Document) (name : List ℕ) (numbers : List ℕ)
-    → AreItems paths m.program m.items d.open_elements → numbers ≡ map (λ e. e.number) d.open_elements
-    → reverse (take (closed_count (position (λ item. same_name item.name name) m.items)) numbers) ≡ closed name d
+    → StandsFor s esi paths
+    (finished m (has_content esi tag) tag.name (run m.program true (element_of (document s esi events) tag) context left))
+    (events ++ Start tag ∷ [])

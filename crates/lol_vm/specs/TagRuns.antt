@@ -110,6 +110,22 @@ module _ {E : Type 0} where
   abbrev pub ranges_to_run_in : Program → StackOf Name StackNames E → List (Range ℕ)
   ranges_to_run_in p s = tag_ranges p.entry_points (jumps_in s) (ranges_in (active_in s))
 
+  module _ (p : Program) (s : StackOf Name StackNames E) where
+    -- where a run of these ranges goes on
+    abbrev pub IsPointFor : RecoveryPoint → Type 0
+    IsPointFor point = IsPointIn p.instructions.items p.entry_points (jumps_in s) (ranges_in (active_in s)) point
+
+    -- that as a stop in them, where it is given and where it is found
+    abbrev pub stop_for : RecoveryPoint → Option Stop
+    stop_for point = stop_at p.entry_points (jumps_in s) point
+
+    abbrev pub found_for : Option RecoveryPoint → Option Stop
+    found_for point = stop_found p.entry_points (jumps_in s) point
+
+    -- what is left of them from there on
+    abbrev pub left_for : RecoveryPoint → List (Range ℕ)
+    left_for point = ranges_left (ranges_to_run_in p s) (stop_for point)
+
   -- what tests see of a child of this name that was counted
   abbrev pub sight_in : StackOf Name StackNames E → Name → Sight
   sight_in s name = record { name = name.lowercased; position = last_count s; typed_position = typed_count s name }

@@ -4,11 +4,10 @@ use Rattle.lol_base.specs.StartTags.{StartTag}
 use Rattle.lol_memory.specs.Ids.{Ids}
 use Rattle.lol_instructions.specs.Tests.{is_html}
 use Rattle.lol_instructions.specs.Tries.{attributes_counted}
-use Rattle.lol_stack.specs.Stacks.{active_in}
 use Rattle.lol_stack.specs.declared.execution_ctx.ExecutionCtx.{ExecutionCtx}
 use Rattle.lol_vm.specs.Events.{has_content}
-use Rattle.lol_vm.specs.InstructionRuns.{AreRunnable, NeedNoMemory, ranges_in}
-use Rattle.lol_vm.specs.TagRuns.{AreTried, AreWithin, IsPointIn, jumps_in, sight_in, stop_found}
+use Rattle.lol_vm.specs.InstructionRuns.{AreRunnable, NeedNoMemory}
+use Rattle.lol_vm.specs.TagRuns.{AreTried, AreWithin, IsPointFor, found_for, sight_in}
 use Rattle.lol_vm.specs.Vms.{Vm, instructions_in, ranges_to_try}
 use Rattle.lol_vm.specs.declared.tag_runs.RecoveryPoint.{RecoveryPoint}
 use Rattle.lol_vm.specs.declared.tag_runs.RecoveryPoint.TheVariants.{AtOnce}
@@ -18,10 +17,10 @@ module _ {E R : Type 0} (ids : E → Ids) (with_ids : E → Ids → E) (old new 
   pub record IsTriedByName (content : Bool) : Type 0 where
     pub size : length (instructions_in old) < 2 ^ 63
     pub tried : AreRunnable (instructions_in old) (ranges_to_try old) old.tries
-        → IfOk result (λ point. AreTried ids with_ids (sight_in old.stack ctx.stack_item.local_name) (instructions_in old) (ranges_to_try old) (record ctx { with_content = content }) next old.tries new.tries (stop_found old.program.entry_points (jumps_in old.stack) point))
+        → IfOk result (λ point. AreTried ids with_ids (sight_in old.stack ctx.stack_item.local_name) (instructions_in old) (ranges_to_try old) (record ctx { with_content = content }) next old.tries new.tries (found_for old.program old.stack point))
     pub point : AreRunnable (instructions_in old) (ranges_to_try old) old.tries
-        → IfOk result (λ point. IfSome point (IsPointIn (instructions_in old) old.program.entry_points (jumps_in old.stack) (ranges_in (active_in old.stack))))
-    pub stop : IfOk result (λ point. IsSome point → IsSome (stop_found old.program.entry_points (jumps_in old.stack) point))
+        → IfOk result (λ point. IfSome point (IsPointFor old.program old.stack))
+    pub stop : IfOk result (λ point. IsSome point → IsSome (found_for old.program old.stack point))
     pub attributes : attributes_counted new.tries ≡ attributes_counted old.tries
     pub within : AreRunnable (instructions_in old) (ranges_to_try old) old.tries
         → AreWithin (sight_in old.stack ctx.stack_item.local_name) (instructions_in old) (ranges_to_try old) old.tries new.tries 0

@@ -21,43 +21,57 @@ use Rattle.lol_vm.specs.declared.error.AuxStartTagInfoRequest.{AuxStartTagInfoRe
 -- What a caller writes into the data of the last open element changes neither which events the machine stands for, and so no later
 -- report, nor which elements are open.
 abbrev pub DataChangeNothing : Type 0 → Type 0
-DataChangeNothing E = (s : Selectors) (esi : Bool) (vm : Vm E) (events : List Event) (w : E) → Stands s esi vm events → Stands s esi (with_current_in vm w) events
+DataChangeNothing E =
+    (s : Selectors) (esi : Bool) (vm : Vm E) (events : List Event) (w : E) → Stands s esi vm events
+    → Stands s esi (with_current_in vm w) events
 
 abbrev pub DataKeepOpen : Type 0 → Type 0
-DataKeepOpen E = (vm : Vm E) (elements : List Element) (w : E) → HasOpen vm elements → HasOpen (with_current_in vm w) elements
+DataKeepOpen E =
+    (vm : Vm E) (elements : List Element) (w : E) → HasOpen vm elements → HasOpen (with_current_in vm w) elements
 
 -- The same while a request is open: finishing its tag answers the same.
 abbrev pub DataKeepRequests : Type 0 → Type 0
 DataKeepRequests E =
-    (ids_of : E → Ids) (s : Selectors) (esi : Bool) (events : List Event) (tag : StartTag) (vm : Vm E) (request : AuxStartTagInfoRequest E) (w : E)
-    → IsPending ids_of s esi events tag vm request → IsPending ids_of s esi events tag (with_current_in vm w) request
+    (ids_of : E → Ids) (s : Selectors) (esi : Bool) (events : List Event) (tag : StartTag) (vm : Vm E)
+    (request : AuxStartTagInfoRequest E) (w : E) → IsPending ids_of s esi events tag vm request
+    → IsPending ids_of s esi events tag (with_current_in vm w) request
 
 -- What is lent of a machine are the data of the last open element, and where they change no others do.
 abbrev pub LastDataAreLent : Type 0 → Type 0
-LastDataAreLent E = (vm : Vm E) → option_map (λ item. item.element_data) (slice_get (items_in (stack_in vm)) (length (items_in (stack_in vm)) - 1)) ≡ slice_get (data_in vm) (length (data_in vm) - 1)
+LastDataAreLent E =
+    (vm : Vm E)
+    → option_map (λ item. item.element_data) (slice_get (items_in (stack_in vm)) (length (items_in (stack_in vm)) - 1))
+    ≡ slice_get (data_in vm) (length (data_in vm) - 1)
 
 abbrev pub LastDataChange : Type 0 → Type 0
-LastDataChange E = (vm : Vm E) (w : E) → data_in (with_current_in vm w) ≡ slice_set (data_in vm) (length (data_in vm) - 1) w
+LastDataChange E =
+    (vm : Vm E) (w : E) → data_in (with_current_in vm w) ≡ slice_set (data_in vm) (length (data_in vm) - 1) w
 
 -- A machine whose request is dropped stands for the events with the tag dropped.
 abbrev pub PendingStands : Type 0 → Type 0
 PendingStands E =
-    (ids_of : E → Ids) (s : Selectors) (esi : Bool) (events : List Event) (tag : StartTag) (vm : Vm E) (request : AuxStartTagInfoRequest E)
-    → IsPending ids_of s esi events tag vm request → Stands s esi vm (events ++ Start (unfinished tag) ∷ [])
+    (ids_of : E → Ids) (s : Selectors) (esi : Bool) (events : List Event) (tag : StartTag) (vm : Vm E)
+    (request : AuxStartTagInfoRequest E) → IsPending ids_of s esi events tag vm request
+    → Stands s esi vm (events ++ Start (unfinished tag) ∷ [])
 
 -- A machine that stands for events has their open elements.
 abbrev pub StandingHasOpen : Type 0 → Type 0
-StandingHasOpen E = (s : Selectors) (esi : Bool) (vm : Vm E) (events : List Event) → Stands s esi vm events → HasOpen vm (document s esi events).open_elements
+StandingHasOpen E =
+    (s : Selectors) (esi : Bool) (vm : Vm E) (events : List Event) → Stands s esi vm events
+    → HasOpen vm (document s esi events).open_elements
 
 -- While a request is open, no more nodes were tried for its tag than the definition tries.
 abbrev pub RequestsTryAtMost : Type 0 → Type 0
 RequestsTryAtMost E =
-    (ids_of : E → Ids) (s : Selectors) (esi : Bool) (events : List Event) (tag : StartTag) (vm : Vm E) (request : AuxStartTagInfoRequest E)
-    → IsPending ids_of s esi events tag vm request → IsTriedAtMost s esi events tag (tries_in vm)
+    (ids_of : E → Ids) (s : Selectors) (esi : Bool) (events : List Event) (tag : StartTag) (vm : Vm E)
+    (request : AuxStartTagInfoRequest E) → IsPending ids_of s esi events tag vm request
+    → IsTriedAtMost s esi events tag (tries_in vm)
 
 -- The slots that are charged are those of the greatest depth so far, and of nothing else.
 abbrev pub SlotsAreOfDepth : Type 0 → Type 0
-SlotsAreOfDepth E = (s : Selectors) (esi : Bool) (vm : Vm E) (events : List Event) → Stands s esi vm events → slots_charged vm ≡ slots (slot_bytes vm) (longest s esi events)
+SlotsAreOfDepth E =
+    (s : Selectors) (esi : Bool) (vm : Vm E) (events : List Event) → Stands s esi vm events
+    → slots_charged vm ≡ slots (slot_bytes vm) (longest s esi events)
 
 -- What a machine is about to run for a start tag: of some paths, whose places are those of its program, the place of each whose left part
 -- matches exactly once, and no other place.
@@ -67,7 +81,9 @@ pub record RunsEachOnce {E : Type 0} (s : Selectors) (vm : Vm E) (outer : List E
   pub held : HoldOnce paths (map range_shown (ranges_to_try vm)) (LeftMatches outer)
 
 abbrev pub RangesHoldOnce : Type 0 → Type 0
-RangesHoldOnce E = (s : Selectors) (esi : Bool) (vm : Vm E) (events : List Event) → Stands s esi vm events → RunsEachOnce s vm (document s esi events).open_elements
+RangesHoldOnce E =
+    (s : Selectors) (esi : Bool) (vm : Vm E) (events : List Event) → Stands s esi vm events
+    → RunsEachOnce s vm (document s esi events).open_elements
 
 -- No more nodes are tried for their attributes than by their names, and no more by their names than there are.
 abbrev pub TriesAreFew : Type 0

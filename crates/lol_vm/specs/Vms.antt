@@ -22,14 +22,13 @@ use Rattle.lol_stack.specs.Calls.{IsCalledAtEach}
 use Rattle.lol_vm.specs.Documents.{Document, element_of, place_of, outer_part}
 use Rattle.lol_vm.specs.Events.{Event, Start, has_content}
 use Rattle.lol_vm.specs.Gathering.{Gathers}
-use Rattle.lol_vm.specs.InstructionRuns.{ranges_in}
 use Rattle.lol_vm.specs.MachineLaws.{IsRequest}
 use Rattle.lol_vm.specs.PlaceRuns.{Context, no_context}
 use Rattle.lol_stack.specs.SoundStacks.{IsSound}
 use Rattle.lol_vm.specs.StackMachines.{KeepsMachine}
-use Rattle.lol_stack.specs.Stacks.{items_in, active_in, element_data_of, slots_in, item_bytes_in, IsSame, IsPushed}
+use Rattle.lol_stack.specs.Stacks.{items_in, element_data_of, slots_in, item_bytes_in, IsSame, IsPushed}
 use Rattle.lol_vm.specs.Standing.{Machine, StandsOn, IsOrdered, StandsFor, ranges_of_machine, unfinished}
-use Rattle.lol_vm.specs.TagRuns.{sight_in, jumps_in, ranges_to_run_in, stop_at, ranges_left, IsPointIn, tried_at}
+use Rattle.lol_vm.specs.TagRuns.{sight_in, ranges_to_run_in, stop_for, left_for, IsPointFor, tried_at}
 use Rattle.lol_vm.specs.declared.error.AuxStartTagInfoRequest.{AuxStartTagInfoRequest}
 use Rattle.lol_vm.specs.declared.error.VmError.{VmError}
 use Rattle.lol_vm.specs.declared.error.VmError.TheVariants.{InfoRequest, MemoryLimitExceeded, Memory, CounterFull, Failed}
@@ -80,7 +79,7 @@ module _ {E : Type 0} where
   ranges_to_try vm = ranges_to_run_in vm.program vm.stack
 
   abbrev pub stop_to_try : Vm E → RecoveryPoint → Option Stop
-  stop_to_try vm point = stop_at vm.program.entry_points (jumps_in vm.stack) point
+  stop_to_try vm point = stop_for vm.program vm.stack point
 
 -- 2. Standing
 
@@ -234,8 +233,8 @@ module _ {E : Type 0} (ids_of : E → Ids) where
     pub childless : request.ctx.stack_item.child_counter ≡ 0
     pub gathered : Gathers ids_of request.ctx.stack_item (content_of request.ctx.with_content context)
     pub goes_on : GoesOnAt (is_html tag.namespace) (has_content esi tag) context (stop_to_try vm request.point) request.ctx.with_content
-    pub stopped : IsPointIn (instructions_in vm) vm.program.entry_points (jumps_in vm.stack) (ranges_in (active_in vm.stack)) request.point
-    pub places_left : left ≡ all_places (map range_shown (ranges_left (ranges_to_try vm) (stop_to_try vm request.point)))
+    pub stopped : IsPointFor vm.program vm.stack request.point
+    pub places_left : left ≡ all_places (map range_shown (left_for vm.program vm.stack request.point))
     pub names : names_counted vm.tries + length left ≡ length (all_places (ranges_of_machine machine)) + tried_at (stop_to_try vm request.point)
     pub attributes : attributes_counted vm.tries ≡ 0
 

@@ -3,7 +3,7 @@
 ghost use Rattle.std.specs.Prelude.{◌≡◌, ◌+◌, ◌-◌, ◌≤◌, Bool, IfOk, IsOk, Ok, Some, length};
 ghost use Rattle.lol_instructions.specs.Compiled.{sight};
 ghost use Rattle.lol_instructions.specs.Tries.{names_counted, attributes_counted};
-ghost use Rattle.lol_vm.specs.InstructionRuns.{AreRunnable, NeedNoMemory, all_at, place_in, IsStopIn, HasTriesLeft, IsInsideOf, ranges_in, ranges_from, instructions_at, open_among, first_open_from, tried_until, gathered_by_names, gathered_with_attributes};
+ghost use Rattle.lol_vm.specs.InstructionRuns.{AreRunnable, IfRunnableFrom, NeedNoMemory, all_at, place_in, IsStopIn, HasTriesLeft, IsInsideOf, ranges_in, ranges_from, instructions_at, open_among, first_open_from, tried_until, gathered_by_names, gathered_with_attributes};
 
 use lol_program::{
     AddressRange, AttributeMatcher, Instruction, SelectorState, Tries, TryExecResult,
@@ -23,9 +23,12 @@ pub(crate) fn try_instructions<E: ElementData>(
 ) -> Result<Option<usize>, AllocError>
     requires names_fit { names_counted tries.old + length instructions.now ≤ u64.MAX }
     requires attributes_fit { attributes_counted tries.old + length instructions.now ≤ u64.MAX }
-    ensures stop { IfOk result (λ stop. stop ≡ first_open_from (sight state.now ctx.old.stack_item.local_name) 0 instructions.now) }
-    ensures ctx { IfOk result (λ stop. ctx.new ≡ gathered_by_names E.ids E.with_ids (sight state.now ctx.old.stack_item.local_name) ctx.old instructions.now) }
-    ensures names { IfOk result (λ stop. names_counted tries.new ≡ names_counted tries.old + tried_until stop (length instructions.now)) }
+    ensures stop { IfOk result (λ stop.
+        stop ≡ first_open_from (sight state.now ctx.old.stack_item.local_name) 0 instructions.now) }
+    ensures ctx { IfOk result (λ stop. ctx.new
+        ≡ gathered_by_names E.ids E.with_ids (sight state.now ctx.old.stack_item.local_name) ctx.old instructions.now) }
+    ensures names { IfOk result (λ stop.
+        names_counted tries.new ≡ names_counted tries.old + tried_until stop (length instructions.now)) }
     ensures names_bound { names_counted tries.new ≤ names_counted tries.old + length instructions.now }
     ensures attributes { attributes_counted tries.new ≡ attributes_counted tries.old }
     ensures name { ctx.new.stack_item.local_name ≡ ctx.old.stack_item.local_name }
@@ -55,11 +58,15 @@ pub(crate) fn exec_instructions<E: ElementData>(
 ) -> Result<(), AllocError>
     requires names_fit { names_counted tries.old + length instructions.now ≤ u64.MAX }
     requires attributes_fit { attributes_counted tries.old + length instructions.now ≤ u64.MAX }
-    ensures ctx { IfOk result (λ done. ctx.new ≡ gathered_with_attributes E.ids E.with_ids (sight state.now ctx.old.stack_item.local_name) matcher.now ctx.old instructions.now) }
+    ensures ctx { IfOk result (λ done. ctx.new
+        ≡ gathered_with_attributes E.ids E.with_ids (sight state.now ctx.old.stack_item.local_name)
+        matcher.now ctx.old instructions.now) }
     ensures names { IfOk result (λ done. names_counted tries.new ≡ names_counted tries.old + length instructions.now) }
-    ensures attributes { IfOk result (λ done. attributes_counted tries.new ≡ attributes_counted tries.old + open_among (sight state.now ctx.old.stack_item.local_name) instructions.now) }
+    ensures attributes { IfOk result (λ done. attributes_counted tries.new
+        ≡ attributes_counted tries.old + open_among (sight state.now ctx.old.stack_item.local_name) instructions.now) }
     ensures names_bound { names_counted tries.new ≤ names_counted tries.old + length instructions.now }
-    ensures attributes_bound { attributes_counted tries.new ≤ attributes_counted tries.old + open_among (sight state.now ctx.old.stack_item.local_name) instructions.now }
+    ensures attributes_bound { attributes_counted tries.new
+        ≤ attributes_counted tries.old + open_among (sight state.now ctx.old.stack_item.local_name) instructions.now }
     ensures name { ctx.new.stack_item.local_name ≡ ctx.old.stack_item.local_name }
     ensures content { ctx.new.with_content ≡ ctx.old.with_content }
     ensures free { NeedNoMemory ctx.old.with_content instructions.now → IsOk result }
@@ -80,7 +87,8 @@ fn instructions_in<'p>(
     range: &AddressRange,
     tries: &Tries,
 ) -> &'p [Instruction]
-    ensures value { IsInsideOf instructions.now range.now → HasTriesLeft tries.now (range.now.end - range.now.start) → result.now ≡ instructions_at instructions.now range.now }
+    ensures value { IsInsideOf instructions.now range.now → HasTriesLeft tries.now (range.now.end - range.now.start)
+        → result.now ≡ instructions_at instructions.now range.now }
     ensures room { HasTriesLeft tries.now (length result.now) }
     ensures free { (content : Bool) → NeedNoMemory content instructions.now → NeedNoMemory content result.now }
 {
@@ -112,12 +120,20 @@ pub(crate) fn try_ranges<E: ElementData>(
     ctx: &mut ExecutionCtx<'_, E>,
     tries: &mut Tries,
 ) -> Result<Option<Stop>, AllocError>
-    ensures stop { AreRunnable instructions.now ranges.now tries.old → IfOk result (λ stop. place_in instructions.now ranges.now stop ≡ first_open_from (sight state.now ctx.old.stack_item.local_name) 0 (all_at instructions.now ranges.now)) }
-    ensures within { AreRunnable instructions.now ranges.now tries.old → (stop : Stop) → result ≡ Ok (Some stop) → IsStopIn instructions.now ranges.now stop }
-    ensures ctx { AreRunnable instructions.now ranges.now tries.old → IfOk result (λ stop. ctx.new ≡ gathered_by_names E.ids E.with_ids (sight state.now ctx.old.stack_item.local_name) ctx.old (all_at instructions.now ranges.now)) }
-    ensures names { AreRunnable instructions.now ranges.now tries.old → IfOk result (λ stop. names_counted tries.new ≡ names_counted tries.old + tried_until (place_in instructions.now ranges.now stop) (length (all_at instructions.now ranges.now))) }
+    ensures stop { AreRunnable instructions.now ranges.now tries.old → IfOk result (λ stop.
+        place_in instructions.now ranges.now stop
+        ≡ first_open_from (sight state.now ctx.old.stack_item.local_name) 0 (all_at instructions.now ranges.now)) }
+    ensures within { AreRunnable instructions.now ranges.now tries.old
+        → (stop : Stop) → result ≡ Ok (Some stop) → IsStopIn instructions.now ranges.now stop }
+    ensures ctx { AreRunnable instructions.now ranges.now tries.old → IfOk result (λ stop. ctx.new
+        ≡ gathered_by_names E.ids E.with_ids (sight state.now ctx.old.stack_item.local_name)
+        ctx.old (all_at instructions.now ranges.now)) }
+    ensures names { AreRunnable instructions.now ranges.now tries.old → IfOk result (λ stop.
+        names_counted tries.new ≡ names_counted tries.old
+        + tried_until (place_in instructions.now ranges.now stop) (length (all_at instructions.now ranges.now))) }
     ensures attributes { attributes_counted tries.new ≡ attributes_counted tries.old }
-    ensures names_bound { AreRunnable instructions.now ranges.now tries.old → names_counted tries.new ≤ names_counted tries.old + length (all_at instructions.now ranges.now) }
+    ensures names_bound { AreRunnable instructions.now ranges.now tries.old
+        → names_counted tries.new ≤ names_counted tries.old + length (all_at instructions.now ranges.now) }
     ensures name { ctx.new.stack_item.local_name ≡ ctx.old.stack_item.local_name }
     ensures content { ctx.new.with_content ≡ ctx.old.with_content }
     ensures free { NeedNoMemory ctx.old.with_content instructions.now → IsOk result }
@@ -142,11 +158,19 @@ pub(crate) fn exec_ranges<E: ElementData>(
     ctx: &mut ExecutionCtx<'_, E>,
     tries: &mut Tries,
 ) -> Result<(), AllocError>
-    ensures ctx { AreRunnable instructions.now ranges.now tries.old → IfOk result (λ done. ctx.new ≡ gathered_with_attributes E.ids E.with_ids (sight state.now ctx.old.stack_item.local_name) matcher.now ctx.old (all_at instructions.now ranges.now)) }
-    ensures names { AreRunnable instructions.now ranges.now tries.old → IfOk result (λ done. names_counted tries.new ≡ names_counted tries.old + length (all_at instructions.now ranges.now)) }
-    ensures attributes { AreRunnable instructions.now ranges.now tries.old → IfOk result (λ done. attributes_counted tries.new ≡ attributes_counted tries.old + open_among (sight state.now ctx.old.stack_item.local_name) (all_at instructions.now ranges.now)) }
-    ensures names_bound { AreRunnable instructions.now ranges.now tries.old → names_counted tries.new ≤ names_counted tries.old + length (all_at instructions.now ranges.now) }
-    ensures attributes_bound { AreRunnable instructions.now ranges.now tries.old → attributes_counted tries.new ≤ attributes_counted tries.old + open_among (sight state.now ctx.old.stack_item.local_name) (all_at instructions.now ranges.now) }
+    ensures ctx { AreRunnable instructions.now ranges.now tries.old → IfOk result (λ done. ctx.new
+        ≡ gathered_with_attributes E.ids E.with_ids (sight state.now ctx.old.stack_item.local_name)
+        matcher.now ctx.old (all_at instructions.now ranges.now)) }
+    ensures names { AreRunnable instructions.now ranges.now tries.old → IfOk result (λ done.
+        names_counted tries.new ≡ names_counted tries.old + length (all_at instructions.now ranges.now)) }
+    ensures attributes { AreRunnable instructions.now ranges.now tries.old
+        → IfOk result (λ done. attributes_counted tries.new ≡ attributes_counted tries.old
+        + open_among (sight state.now ctx.old.stack_item.local_name) (all_at instructions.now ranges.now)) }
+    ensures names_bound { AreRunnable instructions.now ranges.now tries.old
+        → names_counted tries.new ≤ names_counted tries.old + length (all_at instructions.now ranges.now) }
+    ensures attributes_bound { AreRunnable instructions.now ranges.now tries.old
+        → attributes_counted tries.new ≤ attributes_counted tries.old
+        + open_among (sight state.now ctx.old.stack_item.local_name) (all_at instructions.now ranges.now) }
     ensures name { ctx.new.stack_item.local_name ≡ ctx.old.stack_item.local_name }
     ensures content { ctx.new.with_content ≡ ctx.old.with_content }
     ensures free { NeedNoMemory ctx.old.with_content instructions.now → IsOk result }
@@ -168,12 +192,22 @@ pub(crate) fn try_active<E: ElementData>(
     ctx: &mut ExecutionCtx<'_, E>,
     tries: &mut Tries,
 ) -> Result<Option<Stop>, AllocError>
-    ensures stop { AreRunnable instructions.now (ranges_in active.now) tries.old → IfOk result (λ stop. place_in instructions.now (ranges_in active.now) stop ≡ first_open_from (sight state.now ctx.old.stack_item.local_name) 0 (all_at instructions.now (ranges_in active.now))) }
-    ensures within { AreRunnable instructions.now (ranges_in active.now) tries.old → (stop : Stop) → result ≡ Ok (Some stop) → IsStopIn instructions.now (ranges_in active.now) stop }
-    ensures ctx { AreRunnable instructions.now (ranges_in active.now) tries.old → IfOk result (λ stop. ctx.new ≡ gathered_by_names E.ids E.with_ids (sight state.now ctx.old.stack_item.local_name) ctx.old (all_at instructions.now (ranges_in active.now))) }
-    ensures names { AreRunnable instructions.now (ranges_in active.now) tries.old → IfOk result (λ stop. names_counted tries.new ≡ names_counted tries.old + tried_until (place_in instructions.now (ranges_in active.now) stop) (length (all_at instructions.now (ranges_in active.now)))) }
+    ensures stop { AreRunnable instructions.now (ranges_in active.now) tries.old → IfOk result (λ stop.
+        place_in instructions.now (ranges_in active.now) stop
+        ≡ first_open_from (sight state.now ctx.old.stack_item.local_name) 0
+        (all_at instructions.now (ranges_in active.now))) }
+    ensures within { AreRunnable instructions.now (ranges_in active.now) tries.old
+        → (stop : Stop) → result ≡ Ok (Some stop) → IsStopIn instructions.now (ranges_in active.now) stop }
+    ensures ctx { AreRunnable instructions.now (ranges_in active.now) tries.old → IfOk result (λ stop. ctx.new
+        ≡ gathered_by_names E.ids E.with_ids (sight state.now ctx.old.stack_item.local_name)
+        ctx.old (all_at instructions.now (ranges_in active.now))) }
+    ensures names { AreRunnable instructions.now (ranges_in active.now) tries.old → IfOk result (λ stop.
+        names_counted tries.new ≡ names_counted tries.old
+        + tried_until (place_in instructions.now (ranges_in active.now) stop)
+        (length (all_at instructions.now (ranges_in active.now)))) }
     ensures attributes { attributes_counted tries.new ≡ attributes_counted tries.old }
-    ensures names_bound { AreRunnable instructions.now (ranges_in active.now) tries.old → names_counted tries.new ≤ names_counted tries.old + length (all_at instructions.now (ranges_in active.now)) }
+    ensures names_bound { AreRunnable instructions.now (ranges_in active.now) tries.old
+        → names_counted tries.new ≤ names_counted tries.old + length (all_at instructions.now (ranges_in active.now)) }
     ensures name { ctx.new.stack_item.local_name ≡ ctx.old.stack_item.local_name }
     ensures content { ctx.new.with_content ≡ ctx.old.with_content }
     ensures free { NeedNoMemory ctx.old.with_content instructions.now → IsOk result }
@@ -198,11 +232,19 @@ pub(crate) fn exec_active<E: ElementData>(
     ctx: &mut ExecutionCtx<'_, E>,
     tries: &mut Tries,
 ) -> Result<(), AllocError>
-    ensures ctx { AreRunnable instructions.now (ranges_in active.now) tries.old → IfOk result (λ done. ctx.new ≡ gathered_with_attributes E.ids E.with_ids (sight state.now ctx.old.stack_item.local_name) matcher.now ctx.old (all_at instructions.now (ranges_in active.now))) }
-    ensures names { AreRunnable instructions.now (ranges_in active.now) tries.old → IfOk result (λ done. names_counted tries.new ≡ names_counted tries.old + length (all_at instructions.now (ranges_in active.now))) }
-    ensures attributes { AreRunnable instructions.now (ranges_in active.now) tries.old → IfOk result (λ done. attributes_counted tries.new ≡ attributes_counted tries.old + open_among (sight state.now ctx.old.stack_item.local_name) (all_at instructions.now (ranges_in active.now))) }
-    ensures names_bound { AreRunnable instructions.now (ranges_in active.now) tries.old → names_counted tries.new ≤ names_counted tries.old + length (all_at instructions.now (ranges_in active.now)) }
-    ensures attributes_bound { AreRunnable instructions.now (ranges_in active.now) tries.old → attributes_counted tries.new ≤ attributes_counted tries.old + open_among (sight state.now ctx.old.stack_item.local_name) (all_at instructions.now (ranges_in active.now)) }
+    ensures ctx { AreRunnable instructions.now (ranges_in active.now) tries.old → IfOk result (λ done. ctx.new
+        ≡ gathered_with_attributes E.ids E.with_ids (sight state.now ctx.old.stack_item.local_name)
+        matcher.now ctx.old (all_at instructions.now (ranges_in active.now))) }
+    ensures names { AreRunnable instructions.now (ranges_in active.now) tries.old → IfOk result (λ done.
+        names_counted tries.new ≡ names_counted tries.old + length (all_at instructions.now (ranges_in active.now))) }
+    ensures attributes { AreRunnable instructions.now (ranges_in active.now) tries.old
+        → IfOk result (λ done. attributes_counted tries.new ≡ attributes_counted tries.old
+        + open_among (sight state.now ctx.old.stack_item.local_name) (all_at instructions.now (ranges_in active.now))) }
+    ensures names_bound { AreRunnable instructions.now (ranges_in active.now) tries.old
+        → names_counted tries.new ≤ names_counted tries.old + length (all_at instructions.now (ranges_in active.now)) }
+    ensures attributes_bound { AreRunnable instructions.now (ranges_in active.now) tries.old
+        → attributes_counted tries.new ≤ attributes_counted tries.old
+        + open_among (sight state.now ctx.old.stack_item.local_name) (all_at instructions.now (ranges_in active.now)) }
     ensures name { ctx.new.stack_item.local_name ≡ ctx.old.stack_item.local_name }
     ensures content { ctx.new.with_content ≡ ctx.old.with_content }
     ensures free { NeedNoMemory ctx.old.with_content instructions.now → IsOk result }
@@ -227,11 +269,16 @@ pub(crate) fn complete_instructions<E: ElementData>(
 ) -> Result<(), AllocError>
     requires names_fit { names_counted tries.old + length instructions.now ≤ u64.MAX }
     requires attributes_fit { attributes_counted tries.old + length instructions.now ≤ u64.MAX }
-    ensures ctx { IfOk result (λ done. ctx.new ≡ gathered_with_attributes E.ids E.with_ids (sight state.now ctx.old.stack_item.local_name) matcher.now ctx.old instructions.now) }
-    ensures names { IfOk result (λ done. names_counted tries.new ≡ names_counted tries.old + (length instructions.now - 1)) }
-    ensures attributes { IfOk result (λ done. attributes_counted tries.new ≡ attributes_counted tries.old + open_among (sight state.now ctx.old.stack_item.local_name) instructions.now) }
+    ensures ctx { IfOk result (λ done. ctx.new
+        ≡ gathered_with_attributes E.ids E.with_ids (sight state.now ctx.old.stack_item.local_name)
+        matcher.now ctx.old instructions.now) }
+    ensures names { IfOk result (λ done.
+        names_counted tries.new ≡ names_counted tries.old + (length instructions.now - 1)) }
+    ensures attributes { IfOk result (λ done. attributes_counted tries.new
+        ≡ attributes_counted tries.old + open_among (sight state.now ctx.old.stack_item.local_name) instructions.now) }
     ensures names_bound { names_counted tries.new ≤ names_counted tries.old + (length instructions.now - 1) }
-    ensures attributes_bound { attributes_counted tries.new ≤ attributes_counted tries.old + open_among (sight state.now ctx.old.stack_item.local_name) instructions.now }
+    ensures attributes_bound { attributes_counted tries.new
+        ≤ attributes_counted tries.old + open_among (sight state.now ctx.old.stack_item.local_name) instructions.now }
     ensures name { ctx.new.stack_item.local_name ≡ ctx.old.stack_item.local_name }
     ensures content { ctx.new.with_content ≡ ctx.old.with_content }
     ensures free { NeedNoMemory ctx.old.with_content instructions.now → IsOk result }
@@ -249,7 +296,8 @@ pub(crate) fn complete_instructions<E: ElementData>(
 /// What is left of a range, from an offset on.
 #[inline(always)]
 fn range_from(range: &AddressRange, offset: usize) -> AddressRange
-    ensures { range.now.start + offset ≤ range.now.end → result ≡ record { start = range.now.start + offset; end = range.now.end } }
+    ensures { range.now.start + offset ≤ range.now.end
+        → result ≡ record { start = range.now.start + offset; end = range.now.end } }
 {
     let (start, end) = (range.start, range.end);
     start.saturating_add(offset)..end
@@ -267,11 +315,23 @@ pub(crate) fn complete_ranges<E: ElementData>(
     ctx: &mut ExecutionCtx<'_, E>,
     tries: &mut Tries,
 ) -> Result<(), AllocError>
-    ensures ctx { IsStopIn instructions.now ranges.now stop → AreRunnable instructions.now (ranges_from ranges.now stop) tries.old → IfOk result (λ done. ctx.new ≡ gathered_with_attributes E.ids E.with_ids (sight state.now ctx.old.stack_item.local_name) matcher.now ctx.old (all_at instructions.now (ranges_from ranges.now stop))) }
-    ensures names { IsStopIn instructions.now ranges.now stop → AreRunnable instructions.now (ranges_from ranges.now stop) tries.old → IfOk result (λ done. names_counted tries.new + 1 ≡ names_counted tries.old + length (all_at instructions.now (ranges_from ranges.now stop))) }
-    ensures attributes { IsStopIn instructions.now ranges.now stop → AreRunnable instructions.now (ranges_from ranges.now stop) tries.old → IfOk result (λ done. attributes_counted tries.new ≡ attributes_counted tries.old + open_among (sight state.now ctx.old.stack_item.local_name) (all_at instructions.now (ranges_from ranges.now stop))) }
-    ensures names_bound { IsStopIn instructions.now ranges.now stop → AreRunnable instructions.now (ranges_from ranges.now stop) tries.old → names_counted tries.new + 1 ≤ names_counted tries.old + length (all_at instructions.now (ranges_from ranges.now stop)) }
-    ensures attributes_bound { IsStopIn instructions.now ranges.now stop → AreRunnable instructions.now (ranges_from ranges.now stop) tries.old → attributes_counted tries.new ≤ attributes_counted tries.old + open_among (sight state.now ctx.old.stack_item.local_name) (all_at instructions.now (ranges_from ranges.now stop)) }
+    ensures ctx { IfRunnableFrom instructions.now ranges.now stop tries.old (IfOk result (λ done. ctx.new
+        ≡ gathered_with_attributes E.ids E.with_ids (sight state.now ctx.old.stack_item.local_name)
+        matcher.now ctx.old (all_at instructions.now (ranges_from ranges.now stop)))) }
+    ensures names { IfRunnableFrom instructions.now ranges.now stop tries.old (IfOk result (λ done.
+        names_counted tries.new + 1 ≡ names_counted tries.old
+        + length (all_at instructions.now (ranges_from ranges.now stop)))) }
+    ensures attributes { IfRunnableFrom instructions.now ranges.now stop tries.old (IfOk result (λ done.
+        attributes_counted tries.new ≡ attributes_counted tries.old
+        + open_among (sight state.now ctx.old.stack_item.local_name)
+        (all_at instructions.now (ranges_from ranges.now stop)))) }
+    ensures names_bound { IfRunnableFrom instructions.now ranges.now stop tries.old
+        (names_counted tries.new + 1 ≤ names_counted tries.old
+        + length (all_at instructions.now (ranges_from ranges.now stop))) }
+    ensures attributes_bound { IfRunnableFrom instructions.now ranges.now stop tries.old
+        (attributes_counted tries.new ≤ attributes_counted tries.old
+        + open_among (sight state.now ctx.old.stack_item.local_name)
+        (all_at instructions.now (ranges_from ranges.now stop))) }
     ensures name { ctx.new.stack_item.local_name ≡ ctx.old.stack_item.local_name }
     ensures content { ctx.new.with_content ≡ ctx.old.with_content }
     ensures free { NeedNoMemory ctx.old.with_content instructions.now → IsOk result }
@@ -299,11 +359,23 @@ pub(crate) fn complete_active<E: ElementData>(
     ctx: &mut ExecutionCtx<'_, E>,
     tries: &mut Tries,
 ) -> Result<(), AllocError>
-    ensures ctx { IsStopIn instructions.now (ranges_in active.now) stop → AreRunnable instructions.now (ranges_from (ranges_in active.now) stop) tries.old → IfOk result (λ done. ctx.new ≡ gathered_with_attributes E.ids E.with_ids (sight state.now ctx.old.stack_item.local_name) matcher.now ctx.old (all_at instructions.now (ranges_from (ranges_in active.now) stop))) }
-    ensures names { IsStopIn instructions.now (ranges_in active.now) stop → AreRunnable instructions.now (ranges_from (ranges_in active.now) stop) tries.old → IfOk result (λ done. names_counted tries.new + 1 ≡ names_counted tries.old + length (all_at instructions.now (ranges_from (ranges_in active.now) stop))) }
-    ensures attributes { IsStopIn instructions.now (ranges_in active.now) stop → AreRunnable instructions.now (ranges_from (ranges_in active.now) stop) tries.old → IfOk result (λ done. attributes_counted tries.new ≡ attributes_counted tries.old + open_among (sight state.now ctx.old.stack_item.local_name) (all_at instructions.now (ranges_from (ranges_in active.now) stop))) }
-    ensures names_bound { IsStopIn instructions.now (ranges_in active.now) stop → AreRunnable instructions.now (ranges_from (ranges_in active.now) stop) tries.old → names_counted tries.new + 1 ≤ names_counted tries.old + length (all_at instructions.now (ranges_from (ranges_in active.now) stop)) }
-    ensures attributes_bound { IsStopIn instructions.now (ranges_in active.now) stop → AreRunnable instructions.now (ranges_from (ranges_in active.now) stop) tries.old → attributes_counted tries.new ≤ attributes_counted tries.old + open_among (sight state.now ctx.old.stack_item.local_name) (all_at instructions.now (ranges_from (ranges_in active.now) stop)) }
+    ensures ctx { IfRunnableFrom instructions.now (ranges_in active.now) stop tries.old (IfOk result (λ done. ctx.new
+        ≡ gathered_with_attributes E.ids E.with_ids (sight state.now ctx.old.stack_item.local_name)
+        matcher.now ctx.old (all_at instructions.now (ranges_from (ranges_in active.now) stop)))) }
+    ensures names { IfRunnableFrom instructions.now (ranges_in active.now) stop tries.old (IfOk result (λ done.
+        names_counted tries.new + 1 ≡ names_counted tries.old
+        + length (all_at instructions.now (ranges_from (ranges_in active.now) stop)))) }
+    ensures attributes { IfRunnableFrom instructions.now (ranges_in active.now) stop tries.old (IfOk result (λ done.
+        attributes_counted tries.new ≡ attributes_counted tries.old
+        + open_among (sight state.now ctx.old.stack_item.local_name)
+        (all_at instructions.now (ranges_from (ranges_in active.now) stop)))) }
+    ensures names_bound { IfRunnableFrom instructions.now (ranges_in active.now) stop tries.old
+        (names_counted tries.new + 1 ≤ names_counted tries.old
+        + length (all_at instructions.now (ranges_from (ranges_in active.now) stop))) }
+    ensures attributes_bound { IfRunnableFrom instructions.now (ranges_in active.now) stop tries.old
+        (attributes_counted tries.new ≤ attributes_counted tries.old
+        + open_among (sight state.now ctx.old.stack_item.local_name)
+        (all_at instructions.now (ranges_from (ranges_in active.now) stop))) }
     ensures name { ctx.new.stack_item.local_name ≡ ctx.old.stack_item.local_name }
     ensures content { ctx.new.with_content ≡ ctx.old.with_content }
     ensures free { NeedNoMemory ctx.old.with_content instructions.now → IsOk result }

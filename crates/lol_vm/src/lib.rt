@@ -30,7 +30,7 @@ pub use lol_memory::{
     DenseHashSet, DenseHashSetIter, Drain, LimitedVec, MatchId, MatchInfo,
     MemoryLimitExceededError, PushError, SharedMemoryLimiter,
 };
-pub use lol_names::{BlockPlace, NameMap, NamePlace};
+pub use lol_name_map::{BlockPlace, NameMap, NamePlace};
 pub use lol_program::{
     AddressRange, Ast, AstNode, AttrExprOperands, AttributeComparisonExpr, AttributeExprTest,
     AttributeMatcher, ChildCounter, Compilable, CompiledAttributeExpr, CompiledLocalNameExpr,

@@ -2,9 +2,8 @@
 
 ghost use Rattle.lol_vm.specs.Gathering.{BranchesGather, GatheredIdsAscend, NewElementsGather};
 ghost use Rattle.lol_vm.specs.InstructionLaws.{InstructionsAreAsOpen, InstructionsGather};
-ghost use Rattle.lol_vm.specs.MachineLaws.{ForeignTagsAsk, NumbersAreOffsets, OffsetsGoOn, PlacesAreWithin, PlacesCountTries, ProgramsHaveEachNode, RangesHoldLeftMatches, RequestsFinish, RunsByNamesGoOn, RunsDontSeeTheRest, RunsGather, RunsGiveReports, RunsGoOn, RunsStopWhereAsked, StoppedStartsAreWhole, StopsAreOffsets, StopsAreRequests, StopsLeave};
-ghost use Rattle.lol_vm.specs.Machines.{PushedItemsAreActive};
-ghost use Rattle.lol_vm.specs.Standing.{CountersArePlaces, DocumentsAreOrdered, EndsHandOut, EndsKeepItems, FinishingIsKept, MachinesStand, NewStands, RequestsStand, SlotsGrow, StandingIsKept, StartsAnswer};
+ghost use Rattle.lol_vm.specs.MachineLaws.{ForeignTagsAsk, NumbersAreOffsets, PlacesCountTries, ProgramsHaveEachNode, RangesHoldLeftMatches, RequestsFinish, RunsDontSeeTheRest, RunsGather, RunsGiveReports, RunsStopWhereAsked, StoppedStartsAreWhole, StopsAreRequests, StopsLeave};
+ghost use Rattle.lol_vm.specs.Standing.{CountersArePlaces, DocumentsAreOrdered, FinishingIsKept, NewStands, RequestsStand, SlotsGrow, StandingIsKept, StartsAnswer};
 
 /// A program has as many instructions as there are nodes, and each node's place is one of theirs.
 pub fn programs_have_each_node()
@@ -15,11 +14,6 @@ pub fn programs_have_each_node()
 /// exactly once, and no other place.
 pub fn ranges_hold_left_matches()
     ensures { RangesHoldLeftMatches }
-{}
-
-/// Their places are places of instructions.
-pub fn places_are_within()
-    ensures { PlacesAreWithin }
 {}
 
 /// Their places are as many as the tries by names, and the open ones as many as the tries by
@@ -44,27 +38,11 @@ pub fn runs_stop_where_asked()
     ensures { RunsStopWhereAsked }
 {}
 
-/// A run over some places goes on over others; by names, only where it hasn't stopped.
-pub fn runs_go_on()
-    ensures whole { RunsGoOn }
-    ensures by_names { RunsByNamesGoOn }
-{}
-
-/// The place of a stop is an offset in a range, before the ranges after it.
-pub fn stops_are_offsets()
-    ensures { StopsAreOffsets }
-{}
-
 /// What a stop leaves are the places from the first open one on; in the places of ranges these are
 /// those from an offset in one range on, with the ranges after it.
 pub fn stops_leave()
     ensures places { StopsLeave }
     ensures ranges { NumbersAreOffsets }
-{}
-
-/// The stop's own place comes first, then the places after it.
-pub fn offsets_go_on()
-    ensures { OffsetsGoOn }
 {}
 
 /// A run by names is the same whatever the attributes and the end of the tag are.
@@ -91,11 +69,6 @@ pub fn foreign_tags_ask()
 /// A request that is finished, with whatever rest of the tag, gives what a whole run gives.
 pub fn requests_finish()
     ensures { RequestsFinish }
-{}
-
-/// Where items are kept the outermost first, one more at the end makes its new ranges active.
-pub fn pushed_items_are_active()
-    ensures { PushedItemsAreActive }
 {}
 
 /// The slots after one more item are those of the new greatest number of open elements.
@@ -139,21 +112,6 @@ pub fn requests_stand()
 /// Finishing a request on that machine puts the finished event in its place.
 pub fn finishing_is_kept()
     ensures { FinishingIsKept }
-{}
-
-/// An end tag needs and keeps the open items alone, also after a refusal.
-pub fn ends_keep_items()
-    ensures { EndsKeepItems }
-{}
-
-/// What is handed out at an end tag are the data of the closed elements, the outermost first.
-pub fn ends_hand_out()
-    ensures { EndsHandOut }
-{}
-
-/// The new machine of a program of selectors, over any events, stands for them.
-pub fn machines_stand()
-    ensures { MachinesStand }
 {}
 
 /// A start tag's element begins with nothing gathered, and has with each instruction's ids and ranges

@@ -53,21 +53,26 @@ pub fn operators()
 
 /// Ids, classes and their white space, and names of attributes.
 pub fn ids_and_classes()
-    ensures first_of_two { has_id (codes "A") (written (codes "ID") (codes "A") ∷ written (codes "id") (codes "b") ∷ []) ≡ true }
-    ensures second_of_two { has_id (codes "b") (written (codes "ID") (codes "A") ∷ written (codes "id") (codes "b") ∷ []) ≡ false }
+    ensures first_of_two { has_id (codes "A")
+        (written (codes "ID") (codes "A") ∷ written (codes "id") (codes "b") ∷ []) ≡ true }
+    ensures second_of_two { has_id (codes "b")
+        (written (codes "ID") (codes "A") ∷ written (codes "id") (codes "b") ∷ []) ≡ false }
     ensures unwritten_id { has_id [] (unwritten (codes "id") ∷ []) ≡ true }
     ensures class { has_class (codes "a") (codes " a  b") ≡ true }
     ensures no_class { has_class [] (codes " a  b") ≡ true }
     ensures class_case { has_class (codes "A") (codes " a  b") ≡ false }
     ensures class_spaces { has_class (codes "b") (97 ∷ 9 ∷ 98 ∷ 10 ∷ 99 ∷ 12 ∷ 100 ∷ 13 ∷ []) ≡ true }
     ensures other_spaces { has_class (codes "b") (97 ∷ 11 ∷ 98 ∷ []) ≡ false }
-    ensures capital_kept { attribute_holds (HasAttribute (codes "FOO")) (element_with_attributes (written (codes "foo") [] ∷ [])) ≡ false }
-    ensures capital_found { attribute_holds (HasAttribute (codes "foo")) (element_with_attributes (written (codes "FOO") [] ∷ [])) ≡ true }
+    ensures capital_kept { attribute_holds (HasAttribute (codes "FOO"))
+        (element_with_attributes (written (codes "foo") [] ∷ [])) ≡ false }
+    ensures capital_found { attribute_holds (HasAttribute (codes "foo"))
+        (element_with_attributes (written (codes "FOO") [] ∷ [])) ≡ true }
 {}
 
 /// Slots for items of 64, 512 and 7 bytes, and the tag at which a limit is passed.
 pub fn charges_and_limits()
-    ensures slots { (slots 64 0 ∷ slots 64 1 ∷ slots 64 9 ∷ slots 512 3 ∷ slots 7 18 ∷ slots 7 19 ∷ []) ≡ (0 ∷ 8 ∷ 16 ∷ 8 ∷ 18 ∷ 36 ∷ []) }
+    ensures slots { (slots 64 0 ∷ slots 64 1 ∷ slots 64 9 ∷ slots 512 3 ∷ slots 7 18 ∷ slots 7 19 ∷ [])
+        ≡ (0 ∷ 8 ∷ 16 ∷ 8 ∷ 18 ∷ 36 ∷ []) }
     ensures too_little { refused_at 511 1 ≡ Some (0, Limit) }
     ensures eight_fit { refused_at 512 8 ≡ None }
     ensures ninth { refused_at 512 9 ≡ Some (8, Limit) }

@@ -1,22 +1,23 @@
 //! A whole run.
 
-ghost use Rattle.std.specs.Prelude.{◌≡◌, ◌≤◌, ◌<◌, ◌++◌, ◌∷◌, ◌⊎◌, ◌^◌, [], List, ℕ, Bool, true, IfOk, OnOk, IfErr, OnErr, IfSome, IsSome, None, map, length, take, All};
-ghost use Rattle.lol_base.specs.StartTags.{StartTag, RangesAreInside};
-ghost use Rattle.lol_memory.specs.LimitedVec.{IsLimited};
+ghost use Rattle.std.specs.Prelude.{◌≡◌, ◌≤◌, ◌<◌, ◌++◌, ◌∷◌, ◌⊎◌, [], List, ℕ, Bool, true, IfOk, OnOk, IfErr, OnErr, IfSome, None, map, length, take, All};
+ghost use Rattle.lol_base.specs.StartTags.{RangesAreInside};
 ghost use Rattle.lol_memory.specs.Limiter.{Limiter};
 ghost use Rattle.lol_instructions.specs.Counters.{full_count};
 ghost use Rattle.lol_program.specs.Paths.{Selectors};
 ghost use Rattle.lol_vm.specs.Answers.{answers};
 ghost use Rattle.lol_vm.specs.Collecting.{Collects};
+ghost use Rattle.lol_vm.specs.Due.{IsDue};
 ghost use Rattle.lol_vm.specs.Events.{Event, Start, End};
-ghost use Rattle.lol_vm.specs.Follows.{Follows, Goes, IsCharged, IsHandedOver, IsTaken, IsRefusedFor, Stops, opens};
+ghost use Rattle.lol_vm.specs.Follows.{Follows, Goes, IsCharged, IsTaken, IsRefusedFor, Stops, opens};
 ghost use Rattle.lol_vm.specs.Handlers.{IsCalledWithAnswers};
+ghost use Rattle.lol_vm.specs.Premises.{ForEvents, ForHandedOf, ForRun, ForRunSoFar, ForTagInRun};
 ghost use Rattle.lol_vm.specs.Refusals.{refused};
 ghost use Rattle.lol_vm.specs.RunRefusals.{allowance_of, IsRefusedAt, StopsBeforeLimit, StopsFor};
 ghost use Rattle.lol_stack.specs.declared.element_value.ElementValue.{ElementValue};
-ghost use Rattle.lol_stack.specs.Stacks.{list_in, last_count};
+ghost use Rattle.lol_stack.specs.Stacks.{last_count};
 ghost use Rattle.lol_vm.specs.Views.{HasRangesInside, event_of, answer_of, selectors};
-ghost use Rattle.lol_vm.specs.Vms.{Stands, ChargesSlots, IsNameOf, IsTagOf, stack_in, tries_in, data_in, slots_charged, slot_bytes};
+ghost use Rattle.lol_vm.specs.Vms.{Stands, ChargesSlots, IsNameOf, stack_in, tries_in, data_in, slots_charged, slot_bytes};
 
 use crate::error::VmError;
 use crate::events::{RunCause, RunRefusal, RunStop, TagEvent, TagReport};
@@ -55,11 +56,15 @@ pub fn match_events(
 ) -> Result<Vec<TagReport>, RunRefusal>
     requires item_bytes { 1 ≤ item_bytes }
     requires ranges { All HasRangesInside events.now }
-    ensures ok { IfOk result (λ reports. map answer_of reports.items ≡ answers (selectors ast) enable_esi_tags (map event_of events.now)) }
-    ensures fits { OnOk result (refused (selectors ast) enable_esi_tags (allowance_of item_bytes limiter.old) (map event_of events.now) ≡ None) }
-    ensures refused { IfErr result (λ refusal. map answer_of refusal.reports.items ≡ answers (selectors ast) enable_esi_tags (map event_of (take refusal.event events.now))) }
+    ensures ok { IfOk result (λ reports.
+        map answer_of reports.items ≡ answers (selectors ast) enable_esi_tags (map event_of events.now)) }
+    ensures fits { OnOk result (refused
+        (selectors ast) enable_esi_tags (allowance_of item_bytes limiter.old) (map event_of events.now) ≡ None) }
+    ensures refused { IfErr result (λ refusal. map answer_of refusal.reports.items
+        ≡ answers (selectors ast) enable_esi_tags (map event_of (take refusal.event events.now))) }
     ensures event { IfErr result (λ refusal. (refusal.event ≡ 0) ⊎ (refusal.event < length events.now)) }
-    ensures cause { IfErr result (λ refusal. IsRefusedAt refusal (refused (selectors ast) enable_esi_tags (allowance_of item_bytes limiter.old) (map event_of events.now))) }
+    ensures cause { IfErr result (λ refusal. IsRefusedAt refusal (refused
+        (selectors ast) enable_esi_tags (allowance_of item_bytes limiter.old) (map event_of events.now))) }
     ensures due { IfErr result (λ refusal.
         StopsBeforeLimit (selectors ast) enable_esi_tags (map event_of events.now) refusal.cause refusal.event
         (refused (selectors ast) enable_esi_tags (allowance_of item_bytes limiter.old) (map event_of events.now))) }
@@ -112,11 +117,15 @@ pub fn match_each_event<F: FnMut(TagReport)>(
     requires ranges { All HasRangesInside events.now }
     requires callable { F.IsAlwaysCallable handler.old }
     ensures again { F.IsAlwaysCallable handler.new }
-    ensures ok { OnOk result (IsCalledWithAnswers F.step (selectors ast) enable_esi_tags (map event_of events.now) handler.old handler.new) }
-    ensures fits { OnOk result (refused (selectors ast) enable_esi_tags (allowance_of item_bytes limiter.old) (map event_of events.now) ≡ None) }
-    ensures refused { IfErr result (λ stop. IsCalledWithAnswers F.step (selectors ast) enable_esi_tags (map event_of (take stop.event events.now)) handler.old handler.new) }
+    ensures ok { OnOk result (IsCalledWithAnswers F.step
+        (selectors ast) enable_esi_tags (map event_of events.now) handler.old handler.new) }
+    ensures fits { OnOk result (refused
+        (selectors ast) enable_esi_tags (allowance_of item_bytes limiter.old) (map event_of events.now) ≡ None) }
+    ensures refused { IfErr result (λ stop. IsCalledWithAnswers F.step
+        (selectors ast) enable_esi_tags (map event_of (take stop.event events.now)) handler.old handler.new) }
     ensures event { IfErr result (λ stop. (stop.event ≡ 0) ⊎ (stop.event < length events.now)) }
-    ensures cause { IfErr result (λ stop. StopsFor stop.cause stop.event (refused (selectors ast) enable_esi_tags (allowance_of item_bytes limiter.old) (map event_of events.now))) }
+    ensures cause { IfErr result (λ stop. StopsFor stop.cause stop.event (refused
+        (selectors ast) enable_esi_tags (allowance_of item_bytes limiter.old) (map event_of events.now))) }
     ensures due { IfErr result (λ stop.
         StopsBeforeLimit (selectors ast) enable_esi_tags (map event_of events.now) stop.cause stop.event
         (refused (selectors ast) enable_esi_tags (allowance_of item_bytes limiter.old) (map event_of events.now))) }
@@ -148,20 +157,20 @@ fn answer_events<F: FnMut(TagReport)>(
     requires ranges { All HasRangesInside events.now }
     requires callable { F.IsAlwaysCallable handler.old }
     ensures again { F.IsAlwaysCallable handler.new }
-    ensures ok { OnOk result ((s : Selectors) (esi : Bool) (item_bytes : ℕ) (before : Limiter) → Follows s esi item_bytes before vm.old [] limiter.old
-        → IsCalledWithAnswers F.step s esi (map event_of events.now) handler.old handler.new) }
-    ensures fits { OnOk result ((s : Selectors) (esi : Bool) (item_bytes : ℕ) (before : Limiter) → Follows s esi item_bytes before vm.old [] limiter.old
-        → refused s esi (allowance_of item_bytes before) (map event_of events.now) ≡ None) }
-    ensures refused { IfErr result (λ stop. (s : Selectors) (esi : Bool) (item_bytes : ℕ) (before : Limiter) → Follows s esi item_bytes before vm.old [] limiter.old
-        → IsCalledWithAnswers F.step s esi (map event_of (take stop.event events.now)) handler.old handler.new) }
+    ensures ok { OnOk result (ForRun vm.old limiter.old (λ s esi item_bytes before.
+        IsCalledWithAnswers F.step s esi (map event_of events.now) handler.old handler.new)) }
+    ensures fits { OnOk result (ForRun vm.old limiter.old (λ s esi item_bytes before.
+        refused s esi (allowance_of item_bytes before) (map event_of events.now) ≡ None)) }
+    ensures refused { IfErr result (λ stop. ForRun vm.old limiter.old (λ s esi item_bytes before.
+        IsCalledWithAnswers F.step s esi (map event_of (take stop.event events.now)) handler.old handler.new)) }
     ensures event { IfErr result (λ stop. (stop.event ≡ 0) ⊎ (stop.event < length events.now)) }
-    ensures cause { IfErr result (λ stop. (s : Selectors) (esi : Bool) (item_bytes : ℕ) (before : Limiter) → Follows s esi item_bytes before vm.old [] limiter.old
-        → StopsFor stop.cause stop.event (refused s esi (allowance_of item_bytes before) (map event_of events.now))) }
-    ensures due { IfErr result (λ stop. (s : Selectors) (esi : Bool) (item_bytes : ℕ) (before : Limiter)
-        → Follows s esi item_bytes before vm.old [] limiter.old
-        → StopsBeforeLimit s esi (map event_of events.now) stop.cause stop.event
-        (refused s esi (allowance_of item_bytes before) (map event_of events.now))) }
-    ensures charged { (s : Selectors) (esi : Bool) (item_bytes : ℕ) (before : Limiter) → Follows s esi item_bytes before vm.old [] limiter.old → IsCharged item_bytes before vm.new limiter.new }
+    ensures cause { IfErr result (λ stop. ForRun vm.old limiter.old (λ s esi item_bytes before.
+        StopsFor stop.cause stop.event (refused s esi (allowance_of item_bytes before) (map event_of events.now)))) }
+    ensures due { IfErr result (λ stop. ForRun vm.old limiter.old (λ s esi item_bytes before.
+        StopsBeforeLimit s esi (map event_of events.now) stop.cause stop.event
+        (refused s esi (allowance_of item_bytes before) (map event_of events.now)))) }
+    ensures charged { ForRun vm.old limiter.old (λ s esi item_bytes before.
+        IsCharged item_bytes before vm.new limiter.new) }
 {
     for (number, event) in events.iter().enumerate() {
         match answer_event(alloc, vm, number, event, limiter) {
@@ -186,11 +195,12 @@ fn answer_event(
     limiter: &mut SharedMemoryLimiter,
 ) -> Result<TagReport, RunCause>
     requires { HasRangesInside event.now }
-    ensures goes { IfOk result (λ report. (s : Selectors) (esi : Bool) (item_bytes : ℕ) (before : Limiter) (events : List Event) → Follows s esi item_bytes before vm.old events limiter.old → length events ≡ number
-        → Goes s esi item_bytes before vm.new events (event_of event.now) limiter.new report) }
-    ensures stops { IfErr result (λ cause. (s : Selectors) (esi : Bool) (item_bytes : ℕ) (before : Limiter) (events : List Event) → Follows s esi item_bytes before vm.old events limiter.old
-        → Stops cause s esi item_bytes before events (event_of event.now)) }
-    ensures charged { OnErr result ((s : Selectors) (esi : Bool) (item_bytes : ℕ) (before : Limiter) (events : List Event) → Follows s esi item_bytes before vm.old events limiter.old → IsCharged item_bytes before vm.new limiter.new) }
+    ensures goes { IfOk result (λ report. ForRunSoFar vm.old limiter.old (λ s esi item_bytes before events.
+        length events ≡ number → Goes s esi item_bytes before vm.new events (event_of event.now) limiter.new report)) }
+    ensures stops { IfErr result (λ cause. ForRunSoFar vm.old limiter.old (λ s esi item_bytes before events.
+        Stops cause s esi item_bytes before events (event_of event.now))) }
+    ensures charged { OnErr result (ForRunSoFar vm.old limiter.old (λ s esi item_bytes before events.
+        IsCharged item_bytes before vm.new limiter.new)) }
 {
     match event {
         TagEvent::Start {
@@ -217,13 +227,15 @@ fn answer_start(
     limiter: &mut SharedMemoryLimiter,
 ) -> Result<TagReport, RunCause>
     requires { IfSome rest RangesAreInside }
-    ensures goes { IfOk result (λ report. (s : Selectors) (esi : Bool) (item_bytes : ℕ) (before : Limiter) (events : List Event) (tag : StartTag) → Follows s esi item_bytes before vm.old events limiter.old → length events ≡ number
-        → IsTagOf local_name.entry ns tag → IsHandedOver rest.entry tag → Goes s esi item_bytes before vm.new events (Start tag) limiter.new report) }
-    ensures stops { IfErr result (λ cause. (s : Selectors) (esi : Bool) (item_bytes : ℕ) (before : Limiter) (events : List Event) (tag : StartTag) → Follows s esi item_bytes before vm.old events limiter.old
-        → IsTagOf local_name.entry ns tag → IsHandedOver rest.entry tag
-        → Stops cause s esi item_bytes before events (Start tag)) }
-    ensures charged { OnErr result ((s : Selectors) (esi : Bool) (item_bytes : ℕ) (before : Limiter) (events : List Event) (tag : StartTag) → Follows s esi item_bytes before vm.old events limiter.old
-        → IsTagOf local_name.entry ns tag → IsHandedOver rest.entry tag → IsCharged item_bytes before vm.new limiter.new) }
+    ensures goes { IfOk result (λ report.
+        ForTagInRun vm.old limiter.old local_name.entry ns rest.entry (λ s esi item_bytes before events tag.
+        length events ≡ number → Goes s esi item_bytes before vm.new events (Start tag) limiter.new report)) }
+    ensures stops { IfErr result (λ cause.
+        ForTagInRun vm.old limiter.old local_name.entry ns rest.entry (λ s esi item_bytes before events tag.
+        Stops cause s esi item_bytes before events (Start tag))) }
+    ensures charged { OnErr result
+        (ForTagInRun vm.old limiter.old local_name.entry ns rest.entry (λ s esi item_bytes before events tag.
+        IsCharged item_bytes before vm.new limiter.new)) }
 {
     let open_before = vm.open_elements();
     let mut collected = Collected::new(alloc);
@@ -260,16 +272,18 @@ fn take_start<F: FnMut(MatchInfo)>(
 ) -> Result<Option<bool>, RunCause>
     requires ranges { IfSome rest RangesAreInside }
     requires callable { F.IsAlwaysCallable match_handler.old }
-    ensures taken { IfOk result (λ taken. (s : Selectors) (esi : Bool) (events : List Event) (tag : StartTag) → Stands s esi vm.old events → IsTagOf local_name.entry ns tag → IsHandedOver rest.entry tag
-        → IsTaken (λ started. started.matched_ids) F.step s esi events tag taken vm.old vm.new match_handler.old match_handler.new) }
+    ensures taken { IfOk result (λ taken. ForHandedOf vm.old local_name.entry ns rest.entry (λ s esi events tag.
+        IsTaken (λ started. started.matched_ids) F.step s esi events tag taken
+        vm.old vm.new match_handler.old match_handler.new)) }
     ensures charges { ChargesSlots vm.old vm.new limiter.old limiter.new }
     ensures uncharged { OnErr result (limiter.new ≡ limiter.old) }
     ensures slots { OnErr result (slots_charged vm.new ≡ slots_charged vm.old) }
-    ensures counted { OnOk result ((s : Selectors) (esi : Bool) (events : List Event) → Stands s esi vm.old events → last_count (stack_in vm.old) ≡ full_count → ⊥) }
-    ensures unlimited { OnOk result ((s : Selectors) (esi : Bool) (events : List Event) (tag : StartTag) → Stands s esi vm.old events → IsTagOf local_name.entry ns tag → IsHandedOver rest.entry tag
-        → opens s esi events tag ≡ true → IsLimited (list_in (stack_in vm.old)) limiter.old → ⊥) }
-    ensures refused { IfErr result (λ cause. (s : Selectors) (esi : Bool) (events : List Event) (tag : StartTag) → Stands s esi vm.old events → IsTagOf local_name.entry ns tag → IsHandedOver rest.entry tag
-        → IsRefusedFor cause s esi events tag vm.old limiter.old) }
+    ensures counted { OnOk result (ForEvents vm.old (λ s esi events.
+        last_count (stack_in vm.old) ≡ full_count → ⊥)) }
+    ensures unlimited { OnOk result (ForHandedOf vm.old local_name.entry ns rest.entry (λ s esi events tag.
+        opens s esi events tag ≡ true → IsDue vm.old limiter.old → ⊥)) }
+    ensures refused { IfErr result (λ cause. ForHandedOf vm.old local_name.entry ns rest.entry (λ s esi events tag.
+        IsRefusedFor cause s esi events tag vm.old limiter.old)) }
 {
     let request = match vm.exec_for_start_tag(local_name, ns, limiter, match_handler) {
         Ok(()) => return Ok(Some(false)),
@@ -291,8 +305,10 @@ fn take_start<F: FnMut(MatchInfo)>(
 
 /// Writes the number of its start tag into the data of the last open element, if more elements are open than before.
 fn number_opened(vm: &mut SelectorMatchingVm<Started>, open_before: usize, number: usize)
-    ensures stands { (s : Selectors) (esi : Bool) (events : List Event) → Stands s esi vm.old events → Stands s esi vm.new events }
-    ensures numbered { open_before < length (data_in vm.old) → (outer : List (ElementValue ℕ)) (last : ElementValue ℕ) → data_in vm.old ≡ outer ++ last ∷ [] → data_in vm.new ≡ outer ++ (record last { value = number }) ∷ [] }
+    ensures stands { ForEvents vm.old (λ s esi events. Stands s esi vm.new events) }
+    ensures numbered { open_before < length (data_in vm.old)
+        → (outer : List (ElementValue ℕ)) (last : ElementValue ℕ) → data_in vm.old ≡ outer ++ last ∷ []
+        → data_in vm.new ≡ outer ++ (record last { value = number }) ∷ [] }
     ensures unchanged { length (data_in vm.old) ≤ open_before → data_in vm.new ≡ data_in vm.old }
     ensures tries { tries_in vm.new ≡ tries_in vm.old }
     ensures slots { slots_charged vm.new ≡ slots_charged vm.old }
@@ -312,7 +328,8 @@ fn answer_end(
     vm: &mut SelectorMatchingVm<Started>,
     local_name: LocalName<'_>,
 ) -> Result<TagReport, RunCause>
-    ensures goes { IfOk result (λ report. (s : Selectors) (esi : Bool) (item_bytes : ℕ) (before : Limiter) (events : List Event) (now : Limiter) (name : List ℕ) → Follows s esi item_bytes before vm.old events now
+    ensures goes { IfOk result (λ report. (s : Selectors) (esi : Bool) (item_bytes : ℕ) (before : Limiter)
+        (events : List Event) (now : Limiter) (name : List ℕ) → Follows s esi item_bytes before vm.old events now
         → IsNameOf local_name.entry name → Goes s esi item_bytes before vm.new events (End name) now report) }
     ensures memory { IfErr result (λ cause. cause ≡ RunCause.Memory) }
     ensures slots { slots_charged vm.new ≡ slots_charged vm.old }

@@ -1,5 +1,6 @@
 //! What those who use the answers of a run rely on, each law the contract of an empty function.
 
+ghost use Rattle.lol_vm.specs.AskedRuns.{AskedRunsAnswerAlike, ToldGoesOn};
 ghost use Rattle.lol_vm.specs.RunLaws.{EndsCloseInside, MarksTellContent, OneIdsPathsDecide, UnaskedAttributesChangeNothing};
 
 /// The content mark of a report is false exactly for an HTML tag with a void name, where ESI is on
@@ -24,4 +25,11 @@ pub fn ends_close_inside()
 /// matches the elements of the same events, and all is answered alike.
 pub fn unasked_attributes_change_nothing()
     ensures { UnaskedAttributesChangeNothing }
+{}
+
+/// A run that is told of the attributes of a start tag only where they are asked for answers what the
+/// run over the tags as they are does, and the same tag is refused first.
+pub fn asked_runs_answer_alike()
+    ensures alike { AskedRunsAnswerAlike }
+    ensures goes_on { ToldGoesOn }
 {}

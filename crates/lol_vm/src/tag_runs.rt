@@ -3,9 +3,8 @@
 ghost use Rattle.std.specs.Prelude.{◌≡◌, ◌<◌, ◌^◌, length, IfOk, IfSome, IsOk, IsSome};
 ghost use Rattle.lol_instructions.specs.Compiled.{sight};
 ghost use Rattle.lol_instructions.specs.Tries.{attributes_counted};
-ghost use Rattle.lol_vm.specs.InstructionRuns.{AreRunnable, NeedNoMemory, ranges_in};
-ghost use Rattle.lol_stack.specs.Stacks.{active_in};
-ghost use Rattle.lol_vm.specs.TagRuns.{ranges_of, stop_of, stop_if, left_of, tried_at, IsPointOf, IsPointIn, AreTried, AreExecuted, AreWithin, jumps_in, ranges_to_run_in, sight_in, stop_at, stop_found, ranges_left};
+ghost use Rattle.lol_vm.specs.InstructionRuns.{AreRunnable, NeedNoMemory};
+ghost use Rattle.lol_vm.specs.TagRuns.{ranges_of, stop_of, stop_if, left_of, tried_at, IsPointOf, AreTried, AreExecuted, AreWithin, jumps_in, ranges_to_run_in, sight_in, IsPointFor, stop_for, found_for, left_for};
 
 use crate::instruction_runs::{
     Stop, complete_active, complete_ranges, exec_active, exec_ranges, try_active, try_ranges,
@@ -46,11 +45,16 @@ fn try_ranges_of_tag<E: ElementData>(
     ctx: &mut ExecutionCtx<'_, E>,
     tries: &mut Tries,
 ) -> Result<Option<RecoveryPoint>, AllocError>
-    ensures tried { AreRunnable instructions.now (ranges_of ranges.now) tries.old → IfOk result (λ point. AreTried E.ids E.with_ids (sight state.now ctx.old.stack_item.local_name) instructions.now (ranges_of ranges.now) ctx.old ctx.new tries.old tries.new (stop_if ranges.now point)) }
-    ensures point { AreRunnable instructions.now (ranges_of ranges.now) tries.old → IfOk result (λ point. IfSome point (IsPointOf instructions.now ranges.now)) }
+    ensures tried { AreRunnable instructions.now (ranges_of ranges.now) tries.old → IfOk result (λ point.
+        AreTried E.ids E.with_ids (sight state.now ctx.old.stack_item.local_name) instructions.now
+        (ranges_of ranges.now) ctx.old ctx.new tries.old tries.new (stop_if ranges.now point)) }
+    ensures point { AreRunnable instructions.now (ranges_of ranges.now) tries.old
+        → IfOk result (λ point. IfSome point (IsPointOf instructions.now ranges.now)) }
     ensures stop { IfOk result (λ point. IsSome point → IsSome (stop_if ranges.now point)) }
     ensures attributes { attributes_counted tries.new ≡ attributes_counted tries.old }
-    ensures within { AreRunnable instructions.now (ranges_of ranges.now) tries.old → AreWithin (sight state.now ctx.old.stack_item.local_name) instructions.now (ranges_of ranges.now) tries.old tries.new 0 }
+    ensures within { AreRunnable instructions.now (ranges_of ranges.now) tries.old
+        → AreWithin (sight state.now ctx.old.stack_item.local_name) instructions.now (ranges_of ranges.now)
+        tries.old tries.new 0 }
     ensures name { ctx.new.stack_item.local_name ≡ ctx.old.stack_item.local_name }
     ensures content { ctx.new.with_content ≡ ctx.old.with_content }
     ensures free { NeedNoMemory ctx.old.with_content instructions.now → IsOk result }
@@ -81,8 +85,15 @@ fn complete_ranges_of_tag<E: ElementData>(
     ctx: &mut ExecutionCtx<'_, E>,
     tries: &mut Tries,
 ) -> Result<(), AllocError>
-    ensures executed { IsPointOf instructions.now ranges.now point → AreRunnable instructions.now (left_of ranges.now point) tries.old → IfOk result (λ done. AreExecuted E.ids E.with_ids (sight state.now ctx.old.stack_item.local_name) instructions.now (left_of ranges.now point) ctx.old ctx.new tries.old tries.new matcher.now (tried_at (stop_of ranges.now point))) }
-    ensures within { IsPointOf instructions.now ranges.now point → AreRunnable instructions.now (left_of ranges.now point) tries.old → AreWithin (sight state.now ctx.old.stack_item.local_name) instructions.now (left_of ranges.now point) tries.old tries.new (tried_at (stop_of ranges.now point)) }
+    ensures executed { IsPointOf instructions.now ranges.now point
+        → AreRunnable instructions.now (left_of ranges.now point) tries.old → IfOk result (λ done.
+        AreExecuted E.ids E.with_ids (sight state.now ctx.old.stack_item.local_name) instructions.now
+        (left_of ranges.now point) ctx.old ctx.new tries.old tries.new matcher.now
+        (tried_at (stop_of ranges.now point))) }
+    ensures within { IsPointOf instructions.now ranges.now point
+        → AreRunnable instructions.now (left_of ranges.now point) tries.old
+        → AreWithin (sight state.now ctx.old.stack_item.local_name) instructions.now (left_of ranges.now point)
+        tries.old tries.new (tried_at (stop_of ranges.now point)) }
     ensures name { ctx.new.stack_item.local_name ≡ ctx.old.stack_item.local_name }
     ensures content { ctx.new.with_content ≡ ctx.old.with_content }
     ensures free { NeedNoMemory ctx.old.with_content instructions.now → IsOk result }
@@ -140,12 +151,18 @@ pub(crate) fn try_tag<'s, 'i: 's, E: ElementData>(
     ctx: &mut ExecutionCtx<'i, E>,
     tries: &mut Tries,
 ) -> Result<Option<RecoveryPoint>, AllocError>
-    ensures tried { AreRunnable program.now.instructions.items (ranges_to_run_in program.now stack.now) tries.old → IfOk result (λ point. AreTried E.ids E.with_ids (sight_in stack.now ctx.old.stack_item.local_name) program.now.instructions.items (ranges_to_run_in program.now stack.now) ctx.old ctx.new tries.old tries.new (stop_found program.now.entry_points (jumps_in stack.now) point)) }
-    ensures point { AreRunnable program.now.instructions.items (ranges_to_run_in program.now stack.now) tries.old → IfOk result (λ point. IfSome point (IsPointIn program.now.instructions.items program.now.entry_points (jumps_in stack.now) (ranges_in (active_in stack.now)))) }
-    ensures stop { IfOk result (λ point. IsSome point → IsSome (stop_found program.now.entry_points (jumps_in stack.now) point)) }
+    ensures tried { AreRunnable program.now.instructions.items (ranges_to_run_in program.now stack.now) tries.old
+        → IfOk result (λ point. AreTried E.ids E.with_ids (sight_in stack.now ctx.old.stack_item.local_name)
+        program.now.instructions.items (ranges_to_run_in program.now stack.now)
+        ctx.old ctx.new tries.old tries.new (found_for program.now stack.now point)) }
+    ensures point { AreRunnable program.now.instructions.items (ranges_to_run_in program.now stack.now) tries.old
+        → IfOk result (λ point. IfSome point (IsPointFor program.now stack.now)) }
+    ensures stop { IfOk result (λ point. IsSome point → IsSome (found_for program.now stack.now point)) }
     ensures attributes { attributes_counted tries.new ≡ attributes_counted tries.old }
     ensures size { length program.now.instructions.items < 2 ^ 63 }
-    ensures within { AreRunnable program.now.instructions.items (ranges_to_run_in program.now stack.now) tries.old → AreWithin (sight_in stack.now ctx.old.stack_item.local_name) program.now.instructions.items (ranges_to_run_in program.now stack.now) tries.old tries.new 0 }
+    ensures within { AreRunnable program.now.instructions.items (ranges_to_run_in program.now stack.now) tries.old
+        → AreWithin (sight_in stack.now ctx.old.stack_item.local_name) program.now.instructions.items
+        (ranges_to_run_in program.now stack.now) tries.old tries.new 0 }
     ensures name { ctx.new.stack_item.local_name ≡ ctx.old.stack_item.local_name }
     ensures content { ctx.new.with_content ≡ ctx.old.with_content }
     ensures free { NeedNoMemory ctx.old.with_content program.now.instructions.items → IsOk result }
@@ -170,9 +187,16 @@ pub(crate) fn complete_tag<'s, 'i: 's, E: ElementData>(
     ctx: &mut ExecutionCtx<'i, E>,
     tries: &mut Tries,
 ) -> Result<(), AllocError>
-    ensures executed { IsPointIn program.now.instructions.items program.now.entry_points (jumps_in stack.now) (ranges_in (active_in stack.now)) point → AreRunnable program.now.instructions.items (ranges_left (ranges_to_run_in program.now stack.now) (stop_at program.now.entry_points (jumps_in stack.now) point)) tries.old → IfOk result (λ done. AreExecuted E.ids E.with_ids (sight_in stack.now ctx.old.stack_item.local_name) program.now.instructions.items (ranges_left (ranges_to_run_in program.now stack.now) (stop_at program.now.entry_points (jumps_in stack.now) point)) ctx.old ctx.new tries.old tries.new matcher.now (tried_at (stop_at program.now.entry_points (jumps_in stack.now) point))) }
+    ensures executed { IsPointFor program.now stack.now point
+        → AreRunnable program.now.instructions.items (left_for program.now stack.now point) tries.old
+        → IfOk result (λ done. AreExecuted E.ids E.with_ids (sight_in stack.now ctx.old.stack_item.local_name)
+        program.now.instructions.items (left_for program.now stack.now point) ctx.old ctx.new tries.old tries.new
+        matcher.now (tried_at (stop_for program.now stack.now point))) }
     ensures size { length program.now.instructions.items < 2 ^ 63 }
-    ensures within { IsPointIn program.now.instructions.items program.now.entry_points (jumps_in stack.now) (ranges_in (active_in stack.now)) point → AreRunnable program.now.instructions.items (ranges_left (ranges_to_run_in program.now stack.now) (stop_at program.now.entry_points (jumps_in stack.now) point)) tries.old → AreWithin (sight_in stack.now ctx.old.stack_item.local_name) program.now.instructions.items (ranges_left (ranges_to_run_in program.now stack.now) (stop_at program.now.entry_points (jumps_in stack.now) point)) tries.old tries.new (tried_at (stop_at program.now.entry_points (jumps_in stack.now) point)) }
+    ensures within { IsPointFor program.now stack.now point
+        → AreRunnable program.now.instructions.items (left_for program.now stack.now point) tries.old
+        → AreWithin (sight_in stack.now ctx.old.stack_item.local_name) program.now.instructions.items
+        (left_for program.now stack.now point) tries.old tries.new (tried_at (stop_for program.now stack.now point)) }
     ensures name { ctx.new.stack_item.local_name ≡ ctx.old.stack_item.local_name }
     ensures content { ctx.new.with_content ≡ ctx.old.with_content }
     ensures free { NeedNoMemory ctx.old.with_content program.now.instructions.items → IsOk result }

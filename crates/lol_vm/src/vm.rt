@@ -16,11 +16,12 @@ ghost use Rattle.lol_vm.specs.Events.{Event, End, has_content};
 ghost use Rattle.lol_vm.specs.FreeTags.{TakesNoMemory};
 ghost use Rattle.lol_vm.specs.VmErrors.{IsAskedOrFull};
 ghost use Rattle.lol_vm.specs.Due.{IsDue, IsNeverForMemory, IsAfterReport, IsNeverPending, IsAfterWholeReport};
+ghost use Rattle.lol_vm.specs.Premises.{ForEndOf, ForPending, ForRestOf, ForTagOf};
 ghost use Rattle.lol_vm.specs.TriedStarts.{IsTried};
 ghost use Rattle.lol_vm.specs.VmLending.{lends_current_of_vm};
 ghost use Rattle.lol_stack.specs.Stacks.{items_in, slots_in, item_bytes_in, list_in, last_count, IsPushed, IsSame};
 ghost use Rattle.lol_vm.specs.Views.{selectors};
-ghost use Rattle.lol_vm.specs.Vms.{Stands, HasOpen, IsNameOf, IsTagOf, IsRestOf, IsAnswered, IsReported, IsTriedAtMost, IsPending, IsRefusal, IsSilent, content_at, open_after, stack_in, tries_in, has_failed, data_in, slots_charged, slot_bytes, ChargesSlots, IsCovered, IsRequested, IsEntered, IsFailedAs, with_failure};
+ghost use Rattle.lol_vm.specs.Vms.{Stands, HasOpen, IsNameOf, IsTagOf, IsAnswered, IsReported, IsTriedAtMost, IsPending, IsRefusal, IsSilent, content_at, open_after, stack_in, tries_in, has_failed, data_in, slots_charged, slot_bytes, ChargesSlots, IsCovered, IsRequested, IsEntered, IsFailedAs, with_failure};
 
 use crate::error::{AuxStartTagInfoRequest, VmError};
 use crate::tag_runs::{RecoveryPoint, complete_tag, try_tag};
@@ -133,28 +134,34 @@ impl<E: ElementData> VmOf<Program, LocalName<'static>, StackNames, E> {
     ) -> Result<(), VmError<E>>
         requires { F.IsAlwaysCallable match_handler.old }
         ensures again { F.IsAlwaysCallable match_handler.new }
-        ensures answered { OnOk result ((s : Selectors) (esi : Bool) (events : List Event) (tag : StartTag) → Stands s esi self.old events → IsTagOf local_name.entry ns tag
-            → IsAnswered E.ids F.step s esi events tag false self.old self.new match_handler.old match_handler.new) }
-        ensures asked { (request : AuxStartTagInfoRequest E) → result ≡ Err (VmError.InfoRequest request) → (s : Selectors) (esi : Bool) (events : List Event) (tag : StartTag) → Stands s esi self.old events → IsTagOf local_name.entry ns tag
-            → IsPending E.ids s esi events tag self.new request }
+        ensures answered { OnOk result (ForTagOf self.old local_name.entry ns (λ s esi events tag.
+            IsAnswered E.ids F.step s esi events tag false self.old self.new match_handler.old match_handler.new)) }
+        ensures asked { (request : AuxStartTagInfoRequest E) → result ≡ Err (VmError.InfoRequest request)
+            → ForTagOf self.old local_name.entry ns (λ s esi events tag.
+            IsPending E.ids s esi events tag self.new request) }
         ensures charges { ChargesSlots self.old self.new limiter.old limiter.new }
         ensures uncharged { OnErr result (limiter.new ≡ limiter.old) }
         ensures slots { OnErr result (slots_charged self.new ≡ slots_charged self.old) }
         ensures unchanged { OnErr result (data_in self.new ≡ data_in self.old) }
-        ensures still_open { OnErr result ((bytes : List ℕ) (elements : List Element) → IsNameOf local_name.entry bytes → HasOpen self.old elements → HasOpen self.new elements) }
+        ensures still_open { OnErr result ((bytes : List ℕ) (elements : List Element)
+            → IsNameOf local_name.entry bytes → HasOpen self.old elements → HasOpen self.new elements) }
         ensures failed { (result ≡ Err VmError.Failed) ↔ (has_failed self.old ≡ true) }
         ensures stuck { has_failed self.old ≡ true → self.new ≡ self.old }
-        ensures full { (result ≡ Err VmError.CounterFull) ↔ ((has_failed self.old ≡ false) × (last_count (stack_in self.old) ≡ full_count)) }
+        ensures full { (result ≡ Err VmError.CounterFull)
+            ↔ ((has_failed self.old ≡ false) × (last_count (stack_in self.old) ≡ full_count)) }
         ensures refused { (error : VmError E) → result ≡ Err error → IsRefusal error → has_failed self.new ≡ true }
-        ensures silent { (error : VmError E) → result ≡ Err error → IsSilent error → match_handler.new ≡ match_handler.old }
-        ensures limited { IsErrOf result (VmError.MemoryLimitExceeded (record {})) → IsLimited (list_in (stack_in self.old)) limiter.old }
-        ensures limit_reported { IsErrOf result (VmError.MemoryLimitExceeded (record {})) → (s : Selectors) (esi : Bool) (events : List Event) (tag : StartTag) → Stands s esi self.old events → IsTagOf local_name.entry ns tag
-            → (has_content esi tag ≡ true) × IsReported F.step s esi events tag false (tries_in self.new) match_handler.old match_handler.new }
-        ensures unlimited { OnOk result ((s : Selectors) (esi : Bool) (events : List Event) (tag : StartTag) → Stands s esi self.old events → IsTagOf local_name.entry ns tag
-            → has_content esi tag ≡ true → IsLimited (list_in (stack_in self.old)) limiter.old → ⊥) }
-        ensures free { (error : VmError E) → result ≡ Err error → (s : Selectors) (esi : Bool) (events : List Event) (tag : StartTag) → Stands s esi self.old events → IsTagOf local_name.entry ns tag
-            → TakesNoMemory s tag → IsAskedOrFull error }
-        ensures tried { (s : Selectors) (esi : Bool) (events : List Event) (tag : StartTag) → Stands s esi self.old events → IsTagOf local_name.entry ns tag → IsTriedAtMost s esi events tag (tries_in self.new) }
+        ensures silent { (error : VmError E) → result ≡ Err error → IsSilent error
+            → match_handler.new ≡ match_handler.old }
+        ensures limited { IsErrOf result (VmError.MemoryLimitExceeded (record {})) → IsDue self.old limiter.old }
+        ensures limit_reported { IsErrOf result (VmError.MemoryLimitExceeded (record {}))
+            → ForTagOf self.old local_name.entry ns (λ s esi events tag. (has_content esi tag ≡ true)
+            × IsReported F.step s esi events tag false (tries_in self.new) match_handler.old match_handler.new) }
+        ensures unlimited { OnOk result (ForTagOf self.old local_name.entry ns (λ s esi events tag.
+            has_content esi tag ≡ true → IsDue self.old limiter.old → ⊥)) }
+        ensures free { (error : VmError E) → result ≡ Err error
+            → ForTagOf self.old local_name.entry ns (λ s esi events tag. TakesNoMemory s tag → IsAskedOrFull error) }
+        ensures tried { ForTagOf self.old local_name.entry ns (λ s esi events tag.
+            IsTriedAtMost s esi events tag (tries_in self.new)) }
         ensures due { (error : VmError E) → result ≡ Err error → IsDue self.old limiter.old
             → IsNeverForMemory self.old local_name.entry ns error }
         ensures all_or_none { (error : AllocError) → result ≡ Err (VmError.Memory error)
@@ -191,7 +198,8 @@ impl<E: ElementData> VmOf<Program, LocalName<'static>, StackNames, E> {
         &mut self,
         ctx: &mut ExecutionCtx<'_, E>,
     ) -> Result<Option<RecoveryPoint>, AllocError>
-        ensures tried { (tag : StartTag) → IsTagOf ctx.old.stack_item.local_name ctx.old.ns tag → IsTried E.ids E.with_ids self.old self.new ctx.old ctx.new result tag }
+        ensures tried { (tag : StartTag) → IsTagOf ctx.old.stack_item.local_name ctx.old.ns tag
+            → IsTried E.ids E.with_ids self.old self.new ctx.old ctx.new result tag }
         ensures name { ctx.new.stack_item.local_name ≡ ctx.old.stack_item.local_name }
         ensures ok { OnOk result (self.new ≡ record self.old { tries = self.new.tries }) }
         ensures err { OnErr result (self.new ≡ with_failure (record self.old { tries = self.new.tries })) }
@@ -236,12 +244,14 @@ impl<E: ElementData> VmOf<Program, LocalName<'static>, StackNames, E> {
     ) -> Result<(), PushError>
         requires { F.IsAlwaysCallable match_handler.old }
         ensures again { F.IsAlwaysCallable match_handler.new }
-        ensures reported { IsCalledAtEach F.step match_handler.old (reports ctx.entry.with_content (ascending (E.ids ctx.entry.stack_item.element_data))) match_handler.new }
+        ensures reported { IsCalledAtEach F.step match_handler.old
+            (reports ctx.entry.with_content (ascending (E.ids ctx.entry.stack_item.element_data))) match_handler.new }
         ensures ok { OnOk result (IsEntered ctx.entry.with_content ctx.entry.stack_item self.old self.new) }
         ensures charges { ChargesSlots self.old self.new limiter.old limiter.new }
         ensures limited { IsErrOf result (PushError.Limit (record {}))
             ↔ (ctx.entry.with_content ≡ true) × IsLimited (list_in self.old.stack) limiter.old }
-        ensures unlimited { OnOk result (ctx.entry.with_content ≡ true → IsLimited (list_in self.old.stack) limiter.old → ⊥) }
+        ensures unlimited { OnOk result
+            (ctx.entry.with_content ≡ true → IsLimited (list_in self.old.stack) limiter.old → ⊥) }
         ensures closed { ctx.entry.with_content ≡ false → IsOk result }
         ensures tries { self.new.tries ≡ self.old.tries }
         ensures err { OnErr result (IsFailedAs self.old self.new) }
@@ -275,21 +285,24 @@ impl<E: ElementData> VmOf<Program, LocalName<'static>, StackNames, E> {
         requires ranges { RangesAreInside aux_info }
         requires callable { F.IsAlwaysCallable match_handler.old }
         ensures again { F.IsAlwaysCallable match_handler.new }
-        ensures answered { OnOk result ((s : Selectors) (esi : Bool) (events : List Event) (tag : StartTag) → IsPending E.ids s esi events tag self.old request → IsRestOf aux_info.entry tag
-            → IsAnswered E.ids F.step s esi events tag true self.old self.new match_handler.old match_handler.new) }
+        ensures answered { OnOk result (ForRestOf self.old E.ids request aux_info.entry (λ s esi events tag.
+            IsAnswered E.ids F.step s esi events tag true self.old self.new match_handler.old match_handler.new)) }
         ensures charges { ChargesSlots self.old self.new limiter.old limiter.new }
         ensures uncharged { OnErr result (limiter.new ≡ limiter.old) }
         ensures slots { OnErr result (slots_charged self.new ≡ slots_charged self.old) }
         ensures unchanged { OnErr result (data_in self.new ≡ data_in self.old) }
-        ensures still_open { OnErr result ((elements : List Element) → HasOpen self.old elements → HasOpen self.new elements) }
+        ensures still_open { OnErr result
+            ((elements : List Element) → HasOpen self.old elements → HasOpen self.new elements) }
         ensures refused { OnErr result (has_failed self.new ≡ true) }
-        ensures limited { IsErrOf result (PushError.Limit (record {})) → IsLimited (list_in (stack_in self.old)) limiter.old }
-        ensures limit_reported { IsErrOf result (PushError.Limit (record {})) → (s : Selectors) (esi : Bool) (events : List Event) (tag : StartTag) → IsPending E.ids s esi events tag self.old request → IsRestOf aux_info.entry tag
-            → (has_content esi tag ≡ true) × IsReported F.step s esi events tag true (tries_in self.new) match_handler.old match_handler.new }
-        ensures unlimited { OnOk result ((s : Selectors) (esi : Bool) (events : List Event) (tag : StartTag) → IsPending E.ids s esi events tag self.old request → IsRestOf aux_info.entry tag
-            → has_content esi tag ≡ true → IsLimited (list_in (stack_in self.old)) limiter.old → ⊥) }
-        ensures free { (s : Selectors) (esi : Bool) (events : List Event) (tag : StartTag) → IsPending E.ids s esi events tag self.old request → TakesNoMemory s tag → IsOk result }
-        ensures tried { (s : Selectors) (esi : Bool) (events : List Event) (tag : StartTag) → IsPending E.ids s esi events tag self.old request → IsTriedAtMost s esi events tag (tries_in self.new) }
+        ensures limited { IsErrOf result (PushError.Limit (record {})) → IsDue self.old limiter.old }
+        ensures limit_reported { IsErrOf result (PushError.Limit (record {}))
+            → ForRestOf self.old E.ids request aux_info.entry (λ s esi events tag. (has_content esi tag ≡ true)
+            × IsReported F.step s esi events tag true (tries_in self.new) match_handler.old match_handler.new) }
+        ensures unlimited { OnOk result (ForRestOf self.old E.ids request aux_info.entry (λ s esi events tag.
+            has_content esi tag ≡ true → IsDue self.old limiter.old → ⊥)) }
+        ensures free { ForPending self.old E.ids request (λ s esi events tag. TakesNoMemory s tag → IsOk result) }
+        ensures tried { ForPending self.old E.ids request (λ s esi events tag.
+            IsTriedAtMost s esi events tag (tries_in self.new)) }
         ensures due { (error : AllocError) → result ≡ Err (PushError.Memory error) → IsDue self.old limiter.old
             → IsNeverPending E.ids self.old request }
         ensures all_or_none { (error : AllocError) → result ≡ Err (PushError.Memory error)
@@ -322,11 +335,15 @@ impl<E: ElementData> VmOf<Program, LocalName<'static>, StackNames, E> {
     pub fn exec_for_end_tag<F: FnMut(E)>(&mut self, local_name: LocalName<'_>, handler: &mut F)
         requires { F.IsAlwaysCallable handler.old }
         ensures again { F.IsAlwaysCallable handler.new }
-        ensures stands { (s : Selectors) (esi : Bool) (events : List Event) (name : List ℕ) → IsNameOf local_name.entry name → Stands s esi self.old events → Stands s esi self.new (events ++ End name ∷ []) }
-        ensures still_open { (elements : List Element) (name : List ℕ) → IsNameOf local_name.entry name → HasOpen self.old elements → HasOpen self.new (open_after name elements) }
-        ensures kept { (elements : List Element) (name : List ℕ) → IsNameOf local_name.entry name → HasOpen self.old elements → data_in self.new ≡ take (length (open_after name elements)) (data_in self.old) }
-        ensures called { (elements : List Element) (name : List ℕ) → IsNameOf local_name.entry name → HasOpen self.old elements
-            → IsCalledAtEach F.step handler.old (drop (length (open_after name elements)) (data_in self.old)) handler.new }
+        ensures stands { (s : Selectors) (esi : Bool) (events : List Event) (name : List ℕ)
+            → IsNameOf local_name.entry name → Stands s esi self.old events
+            → Stands s esi self.new (events ++ End name ∷ []) }
+        ensures still_open { ForEndOf self.old local_name.entry (λ elements name.
+            HasOpen self.new (open_after name elements)) }
+        ensures kept { ForEndOf self.old local_name.entry (λ elements name.
+            data_in self.new ≡ take (length (open_after name elements)) (data_in self.old)) }
+        ensures called { ForEndOf self.old local_name.entry (λ elements name. IsCalledAtEach F.step handler.old
+            (drop (length (open_after name elements)) (data_in self.old)) handler.new) }
         ensures tries { tries_in self.new ≡ tries_in self.old }
         ensures slots { slots_charged self.new ≡ slots_charged self.old }
         ensures bytes { slot_bytes self.new ≡ slot_bytes self.old }
@@ -358,7 +375,8 @@ impl<E: ElementData> VmOf<Program, LocalName<'static>, StackNames, E> {
     /// Drops the machine, and lowers the usage by the charge of its slots. (Not in lol_html.)
     pub fn release(self, limiter: &mut SharedMemoryLimiter)
         requires { IsCovered self limiter.old }
-        ensures { limiter.new ≡ record limiter.old { usage = limiter.old.usage - slots_charged self.entry * slot_bytes self.entry } }
+        ensures { limiter.new
+            ≡ record limiter.old { usage = limiter.old.usage - slots_charged self.entry * slot_bytes self.entry } }
     {
         let VmOf {
             program: _,

@@ -19,7 +19,7 @@ pub returns-after-finish-clause-goes : goal.returns-after-finish-clause-goes
 returns-after-finish-clause-goes c = IfOk-weaker c.answer_start.result _ _
     (λ report goes s esi item_bytes before events f place.
     subst (λ event. Goes s esi item_bytes before c.answer_start.new.vm events event c.answer_start.new.limiter report) (sym (ap event_of c.in-Start.is))
-    (goes s esi item_bytes before events (tag_in c) f place (c.new.ensures, refl) (handed c)))
+    (goes s esi item_bytes before events (tag_in c) f (c.new.ensures, refl) (handed c) place))
     c.answer_start.ensures.goes
 
 pub returns-after-finish-clause-charged : goal.returns-after-finish-clause-charged

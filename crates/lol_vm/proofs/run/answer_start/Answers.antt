@@ -28,13 +28,13 @@ returns-then-refused-clause-charged c = λ s esi item_bytes before events tag f 
     c.take_start.ensures.charges.bytes c.take_start.ensures.charges.charged (c.in_ok-taken.ensures.counted s esi events f.stands) (c.in_ok-taken.ensures.unlimited s esi events tag f.stands named handed)
 
 pub returns-in_default-clause-goes : goal.returns-in_default-clause-goes
-returns-in_default-clause-goes c = λ s esi item_bytes before events tag f place named handed.
+returns-in_default-clause-goes c = λ s esi item_bytes before events tag f named handed place.
     let taken = taken_none (λ started. started.matched_ids) _ s esi events tag c.args.vm.now c.take_start.new.vm _ _ c.in_ok-taken.taken c.in_default.is (c.in_ok-taken.ensures.taken s esi events tag f.stands named handed) in
     goes_dropped s esi item_bytes before c.args.vm.now events c.args.limiter.now f tag c.take_start.new.vm c.take_start.new.limiter taken.stands c.take_start.ensures.charges.bytes c.take_start.ensures.charges.charged
     (c.in_ok-taken.ensures.counted s esi events f.stands) (c.in_ok-taken.ensures.unlimited s esi events tag f.stands named handed) _ _ taken
 
 pub returns-clause-goes : goal.returns-clause-goes
-returns-clause-goes c = λ s esi item_bytes before events tag f place named handed.
+returns-clause-goes c = λ s esi item_bytes before events tag f named handed place.
     let taken = taken_some (λ started. started.matched_ids) _ s esi events tag c.args.vm.now c.take_start.new.vm _ _ c.in_ok-taken.taken c.in-Some.asked c.in-Some.is (c.in_ok-taken.ensures.taken s esi events tag f.stands named handed) in
     let collected = chained_keeps _ (λ (xs : List MatchInfo) q. (q.0.ghost_name ≡ c.collected-1.given.0) × (q.0.now.refused ≡ false → q.0.now.items.items ≡ xs))
     (λ xs q x v j k. search (rules, j, k)) _ _ _ (refl, λ _. c.new-collected.ensures.items) taken.reported in

@@ -1,0 +1,328 @@
+-- Documents that no selector tells apart, and start tags whose attributes aren't asked for.
+use Rattle.std.proofs.Common.{◌≡◌, ℕ, zero, suc, ◌+◌, Bool, true, false, cond, not, List, [], ◌∷◌, length, map, filter, drop, take, reverse, position, Option, Some, None, inl, inr, refl, sym, ap, ◌∙◌, subst, Contains}
+use Rattle.std.specs.Prelude.{◌&&◌, ◌||◌}
+use Rattle.std.specs.List.{list_any}
+use Rattle.std.proofs.lemmas.List.{length-map, take-map}
+use Rattle.lol_base.specs.BoolLaws.{not_true, or_of}
+use Rattle.lol_base.specs.MemberLaws.{Among}
+use Rattle.lol_base.specs.Names.{same_name}
+use Rattle.lol_base.specs.StartTags.{StartTag}
+use Rattle.lol_base.specs.declared.namespace.Namespace.{Namespace}
+use Rattle.lol_base.specs.declared.namespace.Namespace.TheVariants.{Html, Svg, MathML}
+use Rattle.lol_css.specs.declared.selector.Combinator.TheVariants.{Child, Descendant}
+use Rattle.lol_instructions.specs.Compounds.{by_names, all_hold, is_open, Decides}
+use Rattle.lol_instructions.specs.Tests.{Element, is_html}
+use Rattle.lol_instructions.specs.declared.name_value.NameValue.{NameValue}
+use Rattle.lol_instructions.specs.declared.name_value.NameValue.TheVariants.{True, False, Open}
+use Rattle.lol_program.specs.Paths.{Path, First, Then, Selectors, last_compound}
+use Rattle.lol_program.specs.Programs.{AreClosed}
+use Rattle.lol_program.specs.ValueLaws.{values_decide, values_are_by_names}
+use Rattle.lol_vm.specs.Answers.{Answer, Started, Dropped, Ended, ascending_once, matching_ids, report, name_tries, attribute_tries, needs_attributes, asks, is_dropped, answer, after}
+use Rattle.lol_vm.specs.Documents.{Document, element_of, parent_of, children_of, typed_children_of, place_of, inner_part, outer_part}
+use Rattle.lol_vm.specs.Events.{Event, Start, End, has_content, has_content_in}
+use Rattle.lol_vm.specs.Matching.{matches, left_matches, parent_passes, some_ancestor_passes}
+use Rattle.lol_vm.specs.AskedRuns.{bare_tag}
+use Rattle.lol_vm.proofs.Lists.{to_contains, to_among, count_same, any_among}
+use Rattle.lol_vm.proofs.Runs.{position-map}
+
+-- 1. Tests that agree on a list
+
+module _ {A : Type 0} (p r : A → Bool) where
+  any_same : (xs : List A) → ((x : A) → Among xs x → p x ≡ r x) → list_any p xs ≡ list_any r xs
+  any_same [] h = refl
+  any_same (x ∷ xs) h = λ i. h x (inl refl) i || any_same xs (λ y a. h y (inr a)) i
+
+  filter_same : (xs : List A) → ((x : A) → Among xs x → p x ≡ r x) → filter p xs ≡ filter r xs
+  filter_same [] h = refl
+  filter_same (x ∷ xs) h = λ i. cond (h x (inl refl) i) (x ∷ filter_same xs (λ y a. h y (inr a)) i) (filter_same xs (λ y a. h y (inr a)) i)
+
+pub none_passes : {A : Type 0} (p : A → Bool) (xs : List A) (x : A) → list_any p xs ≡ false → Among xs x → p x ≡ false
+none_passes p xs x none a = not_true (p x) (λ fits. let some = any_among p xs x a fits in cc)
+
+-- a test that isn't open is decided alike, whatever the attributes are
+pub decided : (v : NameValue) (a b left : Bool) → Decides v a → Decides v b → (left && is_open v) ≡ false → (a && left) ≡ (b && left)
+decided True a b left h h' none = ap (λ c. c && left) (h ∙ sym h')
+decided False a b left h h' none = ap (λ c. c && left) (h ∙ sym h')
+decided Open a b true h h' none = cc
+decided Open true true false h h' none = refl
+decided Open true false false h h' none = refl
+decided Open false true false h h' none = refl
+decided Open false false false h h' none = refl
+
+-- 2. Open elements that no node tells apart
+
+module _ (s : Selectors) (closed : AreClosed s) where
+  abbrev pub IsNode : Path → Type 0
+  IsNode path = Contains s.nodes path
+
+  abbrev pub Alike : List Element → List Element → Type 0
+  Alike [] [] = Unit {0}
+  Alike (x ∷ xs) (y ∷ ys) = (x.number ≡ y.number) × (x.tag.name ≡ y.tag.name) × ((node : Path) → IsNode node → matches node x xs ≡ matches node y ys) × Alike xs ys
+  Alike [] (y ∷ ys) = ⊥
+  Alike (x ∷ xs) [] = ⊥
+
+  pub alike_self : (xs : List Element) → Alike xs xs
+  alike_self [] = tt
+  alike_self (x ∷ xs) = (refl, refl, λ node h. refl, alike_self xs)
+
+  alike_drop : (n : ℕ) (xs ys : List Element) → Alike xs ys → Alike (drop n xs) (drop n ys)
+  alike_drop zero xs ys h = h
+  alike_drop (suc n) [] [] h = tt
+  alike_drop (suc n) [] (y ∷ ys) h = absurd h
+  alike_drop (suc n) (x ∷ xs) [] h = absurd h
+  alike_drop (suc n) (x ∷ xs) (y ∷ ys) h = alike_drop n xs ys h.3
+
+  same_parents : (xs ys : List Element) → Alike xs ys → parent_of xs ≡ parent_of ys
+  same_parents [] [] h = refl
+  same_parents [] (y ∷ ys) h = absurd h
+  same_parents (x ∷ xs) [] h = absurd h
+  same_parents (x ∷ xs) (y ∷ ys) h = ap Some h.0
+
+  same_numbers : (xs ys : List Element) → Alike xs ys → map (λ (e : Element). e.number) xs ≡ map (λ (e : Element). e.number) ys
+  same_numbers [] [] h = refl
+  same_numbers [] (y ∷ ys) h = absurd h
+  same_numbers (x ∷ xs) [] h = absurd h
+  same_numbers (x ∷ xs) (y ∷ ys) h = λ i. h.0 i ∷ same_numbers xs ys h.3 i
+
+  same_names : (xs ys : List Element) → Alike xs ys → map (λ (e : Element). e.tag.name) xs ≡ map (λ (e : Element). e.tag.name) ys
+  same_names [] [] h = refl
+  same_names [] (y ∷ ys) h = absurd h
+  same_names (x ∷ xs) [] h = absurd h
+  same_names (x ∷ xs) (y ∷ ys) h = λ i. h.1 i ∷ same_names xs ys h.3 i
+
+  same_place : (name : List ℕ) (xs ys : List Element) → Alike xs ys → place_of name xs ≡ place_of name ys
+  same_place name xs ys h =
+      sym (position-map (λ (n : List ℕ). same_name n name) (λ (e : Element). e.tag.name) xs)
+      ∙ (ap (position (λ (n : List ℕ). same_name n name)) (same_names xs ys h)
+      ∙ position-map (λ (n : List ℕ). same_name n name) (λ (e : Element). e.tag.name) ys)
+
+  same_closed : (o : Option ℕ) (xs ys : List Element) → Alike xs ys → map (λ (e : Element). e.number) (inner_part o xs) ≡ map (λ (e : Element). e.number) (inner_part o ys)
+  same_closed None xs ys h = refl
+  same_closed (Some k) xs ys h =
+      sym (take-map (λ (e : Element). e.number) (k + 1) xs) ∙ (ap (take (k + 1)) (same_numbers xs ys h) ∙ take-map (λ (e : Element). e.number) (k + 1) ys)
+
+  -- 3. What nodes say of them
+
+  same_parent_passes : (xs ys : List Element) → Alike xs ys → (node : Path) → IsNode node → parent_passes (matches node) xs ≡ parent_passes (matches node) ys
+  same_parent_passes [] [] h node is = refl
+  same_parent_passes [] (y ∷ ys) h node is = absurd h
+  same_parent_passes (x ∷ xs) [] h node is = absurd h
+  same_parent_passes (x ∷ xs) (y ∷ ys) h node is = h.2 node is
+
+  same_ancestors_pass : (xs ys : List Element) → Alike xs ys → (node : Path) → IsNode node → some_ancestor_passes (matches node) xs ≡ some_ancestor_passes (matches node) ys
+  same_ancestors_pass [] [] h node is = refl
+  same_ancestors_pass [] (y ∷ ys) h node is = absurd h
+  same_ancestors_pass (x ∷ xs) [] h node is = absurd h
+  same_ancestors_pass (x ∷ xs) (y ∷ ys) h node is = λ i. h.2 node is i || same_ancestors_pass xs ys h.3 node is i
+
+  same_left : (xs ys : List Element) → Alike xs ys → (node : Path) → IsNode node → left_matches node xs ≡ left_matches node ys
+  same_left xs ys h (First c) is = refl
+  same_left xs ys h (Then front Child c) is = same_parent_passes xs ys h front (closed.fronts front Child c is)
+  same_left xs ys h (Then front Descendant c) is = same_ancestors_pass xs ys h front (closed.fronts front Descendant c is)
+
+  pub same_matches : (e : Element) (xs ys : List Element) → Alike xs ys → (node : Path) → IsNode node → matches node e xs ≡ matches node e ys
+  same_matches e xs ys h node is = ap (λ b. all_hold (last_compound node) e && b) (same_left xs ys h node is)
+
+  module _ (esi : Bool) where
+    -- the answer to a start tag of an element
+    abbrev pub started : Element → List Element → Answer
+    started e outer = cond (is_dropped s e outer) Dropped (Started (report s esi e outer) (asks s e outer) (name_tries s.nodes outer) (attribute_tries s.nodes e outer))
+
+    -- elements of which the nodes say the same are answered alike
+    module _ (x y : Element) (xs ys : List Element)
+        (content : has_content esi x.tag ≡ has_content esi y.tag) (html : is_html x.tag.namespace ≡ is_html y.tag.namespace) (dropped : asks s x xs ≡ asks s y ys → is_dropped s x xs ≡ is_dropped s y ys)
+        (left : (node : Path) → IsNode node → left_matches node xs ≡ left_matches node ys)
+        (needs : (node : Path) → IsNode node → needs_attributes x xs node ≡ needs_attributes y ys node)
+        (matching : (node : Path) → IsNode node → matches node x xs ≡ matches node y ys) where
+      same_asks : asks s x xs ≡ asks s y ys
+      same_asks = λ i. not (html i) || any_same (needs_attributes x xs) (needs_attributes y ys) s.nodes (λ node a. needs node (to_contains s.nodes node a)) i
+
+      pub same_dropped : is_dropped s x xs ≡ is_dropped s y ys
+      same_dropped = dropped same_asks
+
+      same_ids : matching_ids s.pairs x xs ≡ matching_ids s.pairs y ys
+      same_ids =
+          ap (λ (pairs : List (Path × ℕ)). ascending_once (map (λ (p : Path × ℕ). p.1) pairs))
+          (filter_same (λ (p : Path × ℕ). matches p.0 x xs) (λ (p : Path × ℕ). matches p.0 y ys) s.pairs (λ p a. matching p.0 (closed.paths p.0 p.1 (to_contains s.pairs p a))))
+
+      same_report : report s esi x xs ≡ report s esi y ys
+      same_report = λ i. map (λ id. record { id = id; with_content = content i }) (same_ids i)
+
+      same_name_tries : name_tries s.nodes xs ≡ name_tries s.nodes ys
+      same_name_tries = count_same (λ node. left_matches node xs) (λ node. left_matches node ys) s.nodes (λ node a. left node (to_contains s.nodes node a))
+
+      same_attribute_tries : attribute_tries s.nodes x xs ≡ attribute_tries s.nodes y ys
+      same_attribute_tries = count_same (needs_attributes x xs) (needs_attributes y ys) s.nodes (λ node a. needs node (to_contains s.nodes node a))
+
+      pub same_started : started x xs ≡ started y ys
+      same_started = λ i. cond (same_dropped i) Dropped (Started (same_report i) (same_asks i) (same_name_tries i) (same_attribute_tries i))
+
+    -- 4. Documents that no node tells apart
+
+    pub record AlikeDocuments (d g : Document) : Type 0 where
+      pub events : d.events ≡ g.events
+      pub children : d.children ≡ g.children
+      pub open_elements : Alike d.open_elements g.open_elements
+
+    pub same_element : (d g : Document) (tag : StartTag) → AlikeDocuments d g → element_of d tag ≡ element_of g tag
+    same_element d g tag h =
+        let parents = same_parents d.open_elements g.open_elements h.open_elements in
+        λ i. record {
+          number = h.events i;
+          tag = tag;
+          position = children_of (parents i) (h.children i) + 1;
+          typed_position = typed_children_of (parents i) tag.name (h.children i) + 1;
+        }
+
+    pub same_needs : (e : Element) (xs ys : List Element) → Alike xs ys → (node : Path) → IsNode node → needs_attributes e xs node ≡ needs_attributes e ys node
+    same_needs e xs ys h node is = ap (λ b. b && is_open (by_names (last_compound node) e)) (same_left xs ys h node is)
+
+    pub same_answer : (d g : Document) (event : Event) → AlikeDocuments d g → answer s esi d event ≡ answer s esi g event
+    same_answer d g (Start tag) h =
+        let e = element_of g tag in
+        ap (λ x. started x d.open_elements) (same_element d g tag h)
+        ∙ same_started e e d.open_elements g.open_elements refl refl (λ is i. is i && not tag.finish) (same_left d.open_elements g.open_elements h.open_elements) (same_needs e d.open_elements g.open_elements h.open_elements)
+        (same_matches e d.open_elements g.open_elements h.open_elements)
+    same_answer d g (End name) h =
+        ap (λ (ns : List ℕ). Ended (reverse ns))
+        (ap (λ o. map (λ (e : Element). e.number) (inner_part o d.open_elements)) (same_place name d.open_elements g.open_elements h.open_elements)
+        ∙ same_closed (place_of name g.open_elements) d.open_elements g.open_elements h.open_elements)
+
+    pub alike_opened : (x y : Element) (xs ys : List Element) → x.number ≡ y.number → x.tag.name ≡ y.tag.name → ((node : Path) → IsNode node → matches node x xs ≡ matches node y ys) → Alike xs ys
+        → (a b : Bool) → a ≡ b → Alike (cond a (x ∷ xs) xs) (cond b (y ∷ ys) ys)
+    alike_opened x y xs ys number name matching h true true is = (number, name, matching, h)
+    alike_opened x y xs ys number name matching h false false is = h
+    alike_opened x y xs ys number name matching h true false is = cc
+    alike_opened x y xs ys number name matching h false true is = cc
+
+    pub alike_after : (d g : Document) (event : Event) → AlikeDocuments d g → AlikeDocuments (after s esi d event) (after s esi g event)
+    alike_after d g (Start tag) h =
+        let e = element_of g tag in
+        let here = same_element d g tag h in
+        let parents = same_parents d.open_elements g.open_elements h.open_elements in
+        let left = same_left d.open_elements g.open_elements h.open_elements in
+        let dropped : is_dropped s (element_of d tag) d.open_elements ≡ is_dropped s e g.open_elements =
+        ap (λ x. is_dropped s x d.open_elements) here
+        ∙ same_dropped e e d.open_elements g.open_elements refl refl (λ is i. is i && not tag.finish) left (same_needs e d.open_elements g.open_elements h.open_elements) (same_matches e d.open_elements g.open_elements h.open_elements) in
+        record {
+          events = ap (λ n. n + 1) h.events;
+          children = λ i. record { parent = parents i; name = tag.name } ∷ h.children i;
+          open_elements = alike_opened (element_of d tag) e d.open_elements g.open_elements h.events refl
+              (λ node is. ap (λ x. matches node x d.open_elements) here ∙ same_matches e d.open_elements g.open_elements h.open_elements node is) h.open_elements
+              _ _ (ap (λ b. has_content esi tag && not b) dropped);
+        }
+    alike_after d g (End name) h =
+        let place = place_of name g.open_elements in
+        record {
+          events = ap (λ n. n + 1) h.events;
+          children = h.children;
+          open_elements = subst (λ o. Alike (outer_part o d.open_elements) (outer_part place g.open_elements)) (sym (same_place name d.open_elements g.open_elements h.open_elements))
+              (alike_outer place d.open_elements g.open_elements h.open_elements);
+        }
+      where
+        alike_outer : (o : Option ℕ) (xs ys : List Element) → Alike xs ys → Alike (outer_part o xs) (outer_part o ys)
+        alike_outer None xs ys h = h
+        alike_outer (Some k) xs ys h = alike_drop (k + 1) xs ys h
+
+    alike_trans : (xs ys zs : List Element) → Alike xs ys → Alike ys zs → Alike xs zs
+    alike_trans [] [] [] h k = tt
+    alike_trans [] [] (z ∷ zs) h k = absurd k
+    alike_trans [] (y ∷ ys) zs h k = absurd h
+    alike_trans (x ∷ xs) [] zs h k = absurd h
+    alike_trans (x ∷ xs) (y ∷ ys) [] h k = absurd k
+    alike_trans (x ∷ xs) (y ∷ ys) (z ∷ zs) h k = (h.0 ∙ k.0, h.1 ∙ k.1, λ node is. h.2 node is ∙ k.2 node is, alike_trans xs ys zs h.3 k.3)
+
+    pub documents_trans : (d f g : Document) → AlikeDocuments d f → AlikeDocuments f g → AlikeDocuments d g
+    documents_trans d f g h k = record { events = h.events ∙ k.events; children = h.children ∙ k.children; open_elements = alike_trans d.open_elements f.open_elements g.open_elements h.open_elements k.open_elements }
+
+    pub documents_self : (d : Document) → AlikeDocuments d d
+    documents_self d = record { events = refl; children = refl; open_elements = alike_self d.open_elements }
+
+    same_lengths : (xs ys : List Element) → Alike xs ys → length xs ≡ length ys
+    same_lengths xs ys h = sym (length-map xs (λ (e : Element). e.number)) ∙ (ap length (same_numbers xs ys h) ∙ length-map ys (λ (e : Element). e.number))
+
+    pub same_depth : (d g : Document) → AlikeDocuments d g → length d.open_elements ≡ length g.open_elements
+    same_depth d g h = same_lengths d.open_elements g.open_elements h.open_elements
+
+    pub same_position : (d g : Document) (tag other : StartTag) → AlikeDocuments d g → (element_of d tag).position ≡ (element_of g other).position
+    same_position d g tag other h = λ i. children_of (same_parents d.open_elements g.open_elements h.open_elements i) (h.children i) + 1
+
+    -- 5. A start tag whose attributes aren't asked for, or that is dropped
+
+    module _ (d : Document) (tag : StartTag) where
+      abbrev e : Element
+      e = element_of d tag
+
+      abbrev bare : StartTag
+      bare = bare_tag tag.name tag.namespace
+
+      abbrev other : Element
+      other = element_of d bare
+
+      needs_alike : (node : Path) → IsNode node → needs_attributes e d.open_elements node ≡ needs_attributes other d.open_elements node
+      needs_alike node is = ap (λ v. left_matches node d.open_elements && is_open v) (sym (values_are_by_names (last_compound node) e [] false false))
+
+      asks_alike : asks s e d.open_elements ≡ asks s other d.open_elements
+      asks_alike = λ i. not (is_html tag.namespace) || any_same (needs_attributes e d.open_elements) (needs_attributes other d.open_elements) s.nodes (λ node a. needs_alike node (to_contains s.nodes node a)) i
+
+      module _ (unasked : asks s e d.open_elements ≡ false) where
+        none_needs : list_any (needs_attributes e d.open_elements) s.nodes ≡ false
+        none_needs = not_true (list_any (needs_attributes e d.open_elements) s.nodes) (λ some. let asked = or_of (not (is_html tag.namespace)) _ (inr some) in cc)
+
+        matched_alike : (node : Path) → IsNode node → matches node e d.open_elements ≡ matches node other d.open_elements
+        matched_alike node is =
+            decided (by_names (last_compound node) e) (all_hold (last_compound node) e) (all_hold (last_compound node) other) (left_matches node d.open_elements)
+            (values_decide (last_compound node) e tag.attributes tag.self_closing tag.finish)
+            (values_decide (last_compound node) e [] false false)
+            (none_passes (needs_attributes e d.open_elements) s.nodes node none_needs (to_among s.nodes node is))
+
+        -- it is of HTML, where the end of a tag tells nothing
+        content_alike : has_content esi tag ≡ has_content esi bare
+        content_alike = by_namespace tag.namespace (λ foreign. let asked = or_of (not (is_html tag.namespace)) _ (inl (ap not foreign)) in false_isnt_true (sym unasked ∙ asked))
+          where
+            false_isnt_true : false ≡ true → ⊥
+            false_isnt_true is = cc
+
+            by_namespace : (namespace : Namespace) → (is_html namespace ≡ false → ⊥) → has_content_in namespace esi tag ≡ has_content_in namespace esi bare
+            by_namespace Html html = refl
+            by_namespace Svg html = absurd (html refl)
+            by_namespace MathML html = absurd (html refl)
+
+        dropped_alike : asks s e d.open_elements ≡ asks s other d.open_elements → is_dropped s e d.open_elements ≡ is_dropped s other d.open_elements
+        dropped_alike same = (λ i. unasked i && not tag.finish) ∙ sym (λ i. (sym same ∙ unasked) i && true)
+
+        pub unasked_answered : answer s esi d (Start bare) ≡ answer s esi d (Start tag)
+        unasked_answered = sym (same_started e other d.open_elements d.open_elements content_alike refl dropped_alike (λ node is. refl) needs_alike matched_alike)
+
+        pub unasked_after : AlikeDocuments (after s esi d (Start bare)) (after s esi d (Start tag))
+        unasked_after = record {
+          events = refl;
+          children = refl;
+          open_elements = alike_opened other e d.open_elements d.open_elements refl refl (λ node is. sym (matched_alike node is)) (alike_self d.open_elements) _ _
+              (sym (λ i. content_alike i && not (dropped_alike asks_alike i)));
+        }
+
+      module _ (asked : asks s e d.open_elements ≡ true) (unfinished : tag.finish ≡ false) where
+        drops : is_dropped s e d.open_elements ≡ true
+        drops = λ i. asked i && not (unfinished i)
+
+        bare_drops : is_dropped s other d.open_elements ≡ true
+        bare_drops = λ i. (sym asks_alike ∙ asked) i && true
+
+        abbrev started_of : Element → Answer
+        started_of x = Started (report s esi x d.open_elements) (asks s x d.open_elements) (name_tries s.nodes d.open_elements) (attribute_tries s.nodes x d.open_elements)
+
+        pub dropped_answered : answer s esi d (Start bare) ≡ answer s esi d (Start tag)
+        dropped_answered = ap (λ b. cond b Dropped (started_of other)) bare_drops ∙ sym (ap (λ b. cond b Dropped (started_of e)) drops)
+
+        opens_none : (content drop : Bool) → drop ≡ true → (content && not drop) ≡ false
+        opens_none true drop is = ap not is
+        opens_none false drop is = refl
+
+        opened_alike : (a b : Bool) → a ≡ false → b ≡ false → Alike (cond a (other ∷ d.open_elements) d.open_elements) (cond b (e ∷ d.open_elements) d.open_elements)
+        opened_alike false false h h' = alike_self d.open_elements
+        opened_alike true b h h' = cc
+        opened_alike false true h h' = cc
+
+        pub dropped_after : AlikeDocuments (after s esi d (Start bare)) (after s esi d (Start tag))
+        dropped_after = record { events = refl; children = refl; open_elements = opened_alike _ _ (opens_none (has_content esi bare) _ bare_drops) (opens_none (has_content esi tag) _ drops) }

@@ -1,5 +1,0 @@
-use Rattle.lol_vm.proofs.Kept as proved
-use Rattle.lol_vm.proofs.machine_laws.ends_keep_items.Goals as goal
-
-pub returns : goal.returns
-returns c = proved.ends_keep_items
