@@ -13,7 +13,8 @@ use Rattle.lol_vm.specs.Vms.{Vm, IsPending, data_in}
 use Rattle.lol_vm.specs.declared.error.AuxStartTagInfoRequest.{AuxStartTagInfoRequest}
 use Rattle.lol_matcher.specs.Answering.{GrowsBy, Kept, KeepsOne}
 use Rattle.lol_matcher.specs.Keeping.{IsFinished, IsToldAs, IsUnreported, Waits, Runs, RunsPast, ids_of}
-use Rattle.lol_matcher.specs.Told.{Told, bare_tag, heard, with_dropped}
+use Rattle.lol_matcher.specs.Told.{Told, heard, with_dropped}
+use Rattle.lol_vm.specs.AskedRuns.{bare_tag}
 use Rattle.lol_matcher.specs.declared.tags.Finished.{Finished}
 use Rattle.lol_matcher.specs.declared.tags.Finished.TheVariants.{Reported, Unreported}
 

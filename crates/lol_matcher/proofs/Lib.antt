@@ -1,5 +1,3 @@
-pub mod Alike
-pub mod Calls
 pub mod Charges
 pub mod Refusals
 pub mod Rooms

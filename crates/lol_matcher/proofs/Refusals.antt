@@ -1,5 +1,5 @@
 -- Whether a start tag is refused, by what a machine has.
-use Rattle.std.proofs.Common.{◌≡◌, ℕ, suc, ◌+◌, ◌*◌, ◌≤◌, ◌<◌, ◌^◌, Bool, true, false, length, Option, Some, None, refl, sym, ap, ◌∙◌, subst, arith}
+use Rattle.std.proofs.Common.{◌≡◌, ℕ, suc, ◌+◌, ◌*◌, ◌≤◌, ◌<◌, ◌^◌, Bool, true, false, length, Option, Some, None, inl, refl, sym, ap, ◌∙◌, subst, arith}
 use Rattle.std.specs.Prelude.{max, nat_lt, ◌&&◌, not, if◌then◌else◌}
 use Rattle.std.proofs.lemmas.Bool.Decides.{nat_tests}
 use Rattle.lol_base.specs.StartTags.{StartTag}
@@ -11,8 +11,10 @@ use Rattle.lol_vm.specs.Answers.{is_dropped}
 use Rattle.lol_vm.specs.Documents.{Document, element_of, after_start}
 use Rattle.lol_vm.specs.Events.{Start, has_content}
 use Rattle.lol_vm.specs.Refusals.{Allowance, Cause, Limit, Counter, exceeds, greatest_count, refusal}
+use Rattle.lol_matcher.specs.Answering.{LeavesOpen, SameOpen}
 use Rattle.lol_matcher.specs.Keeping.{IsRefusal}
 use Rattle.lol_matcher.specs.Refusing.{IsRefusedFor, allowance}
+use Rattle.lol_matcher.specs.Told.{Told, Matching}
 use Rattle.lol_matcher.specs.declared.error.MatcherError.{MatcherError}
 use Rattle.lol_matcher.specs.declared.error.MatcherError.TheVariants.{MemoryLimitExceeded, Memory, CounterFull, Failed, NotAsked, OutsideInput}
 use Rattle.lol_vm.specs.ChargeLaws.{stays_within_alone, passes_maximum_alone}
@@ -41,6 +43,15 @@ refused_unreported none = (λ full. none_is_some none full, λ free over. none_i
   where
     none_is_some : {cause : Cause} {refusal : Option Cause} → refusal ≡ None → refusal ≡ Some cause → ⊥
     none_is_some none is = cc
+
+-- the same elements are open after any refusal that leaves them so
+pub left_same : {T : Type 0} (error : MatcherError) (told : Told) (tag : StartTag) (old new : Matching T) → SameOpen old new → LeavesOpen error told tag old new
+left_same MemoryLimitExceeded told tag old new h = h
+left_same Memory told tag old new h = inl h
+left_same CounterFull told tag old new h = h
+left_same Failed told tag old new h = h
+left_same NotAsked told tag old new h = h
+left_same OutsideInput told tag old new h = h
 
 -- A list has as many elements as are open, and slots for the most that were, which a limiter is charged for.
 pub record IsChargedFor {T : Type 0} (d : Document) (most : ℕ) (v : LimitedVec T) (now : Limiter) : Type 0 where

@@ -1,7 +1,8 @@
 -- What a matcher answers.
-use Rattle.std.specs.Prelude.{ℕ, ◌≡◌, Bool, true, false, List, [], ◌∷◌, ◌++◌, length, map, take, Option, None, ◌⊎◌}
+use Rattle.std.specs.Prelude.{ℕ, ◌≡◌, Bool, true, false, List, [], ◌∷◌, ◌++◌, length, map, take, Option, None, IfSome, ◌⊎◌}
 use Rattle.lol_base.specs.StartTags.{StartTag}
 use Rattle.lol_base.specs.declared.namespace.Namespace.{Namespace}
+use Rattle.lol_base.specs.declared.start_tag.AuxStartTagInfo.{AuxStartTagInfo}
 use Rattle.lol_instructions.specs.Tries.{names_counted, attributes_counted}
 use Rattle.lol_instructions.specs.declared.tries.Tries.{Tries}
 use Rattle.lol_memory.specs.Ids.{ascending}
@@ -13,9 +14,8 @@ use Rattle.lol_vm.specs.Documents.{element_of}
 use Rattle.lol_vm.specs.Events.{Event, Start, has_content}
 use Rattle.lol_vm.specs.Views.{selectors, match_of}
 use Rattle.lol_vm.specs.Vms.{open_after}
-use Rattle.lol_matcher.specs.Calls.{told_of}
 use Rattle.lol_matcher.specs.Told.{Told, Matching, elements_of, heard}
-use Rattle.lol_matcher.specs.Noted.{started_told, asked_told, ended_told}
+use Rattle.lol_matcher.specs.Noted.{handed, started_told, asked_told, ended_told}
 use Rattle.lol_matcher.specs.declared.error.MatcherError.{MatcherError}
 use Rattle.lol_matcher.specs.declared.error.MatcherError.TheVariants.{Memory}
 use Rattle.lol_matcher.specs.declared.matcher.Started as started
@@ -34,15 +34,9 @@ asks_after s esi events tag = asks s (element_of (document s esi events) tag) (d
 abbrev pub reported_after : Selectors → Bool → List Event → StartTag → List Match
 reported_after s esi events tag = report s esi (element_of (document s esi events) tag) (document s esi events).open_elements
 
--- what was told, after a start tag whose attributes are handed over where they are asked for
-abbrev pub handed_told : Told → StartTag → Told
-handed_told t tag =
-    record {
-      ast = t.ast;
-      esi = t.esi;
-      events = heard t ++ told_of (selectors t.ast) (document (selectors t.ast) t.esi (heard t)) (Start tag) ∷ [];
-      asked = None;
-    }
+-- what a start tag that comes now is reported under, in order
+abbrev pub reported_in : Told → StartTag → List Match
+reported_in t tag = reported_after (selectors t.ast) t.esi (heard t) tag
 
 -- what was told, after a start tag
 abbrev pub told_after : started.Started → Told → List ℕ → Namespace → Told
@@ -83,26 +77,37 @@ pub record Opens {T : Type 0} (content : Bool) (old new : Matching T) : Type 0 w
   pub opened : new.opened ≡ content
   pub kept : KeepsOne content new.matched old.kept new.kept
 
+-- the same of a start tag
+abbrev pub OpensFor : {T : Type 0} → StartTag → Matching T → Matching T → Type 0
+OpensFor tag old new = Opens (has_content old.told.esi tag) old new
+
+-- Of the start tag that waits, with these attributes, this holds, if one waits.
+abbrev pub IfWaits : Told → AuxStartTagInfo → (StartTag → Type 0) → Type 0
+IfWaits told aux holds = IfSome told.asked (λ asked. holds (handed asked.0 asked.1 aux))
+
+-- The start tag that waited was answered as the definition says.
+abbrev pub IsFinishedAs : {T : Type 0} → Told → StartTag → Matching T → Type 0
+IsFinishedAs t tag new = IsReported (selectors t.ast) t.esi t.events tag true new.matched new.tries
+
 -- A start tag with its attributes was answered as the definition says, after what was told.
 abbrev pub IsAnsweredAfter : {T : Type 0} → Told → StartTag → Matching T → Type 0
 IsAnsweredAfter t tag new = IsReported (selectors t.ast) t.esi (heard t) tag (asks_after (selectors t.ast) t.esi (heard t) tag) new.matched new.tries
 
--- It was told, and nothing else changed but for what is reported and what is open.
-abbrev pub IsHandedOver : {T : Type 0} → StartTag → Matching T → Matching T → Type 0
-IsHandedOver tag old new =
-    new
-    ≡ record old {
-      told = handed_told old.told tag;
+-- A matcher that was told a tag: nothing else changed but for what is reported and what is open.
+abbrev pub with_told : {T : Type 0} → Told → Matching T → Matching T → Matching T
+with_told told m new =
+    record m {
+      told = told;
       matched = new.matched;
       tries = new.tries;
       opened = new.opened;
-      open_elements = elements_of (handed_told old.told tag);
+      open_elements = elements_of told;
       kept = new.kept;
     }
 
 -- A start tag of this name and namespace was reported, and its element is open exactly if it has content; or its attributes are asked for.
 abbrev pub OpensStart : {T : Type 0} → started.Started → List ℕ → Namespace → Matching T → Matching T → Type 0
-OpensStart Reported name ns old new = (tag : StartTag) → tag.name ≡ name → tag.namespace ≡ ns → Opens (has_content old.told.esi tag) old new
+OpensStart Reported name ns old new = (tag : StartTag) → tag.name ≡ name → tag.namespace ≡ ns → OpensFor tag old new
 OpensStart NeedsAttributes name ns old new = Opens false old new
 
 -- A matcher after a refusal: it has failed, nothing is reported, and what it was told is as before.
@@ -133,9 +138,9 @@ pub record OpensUnreported {T : Type 0} (told : Told) (content : Bool) (old new 
   pub kept : GrowsBy content old.kept new.kept
 
 -- what is open after a refusal: where memory is refused for the list of the report, the tag's element too
-abbrev pub LeavesOpen : {T : Type 0} → MatcherError → Told → Bool → Matching T → Matching T → Type 0
-LeavesOpen Memory told content old new = SameOpen old new ⊎ OpensUnreported told content old new
-LeavesOpen error told content old new = SameOpen old new
+abbrev pub LeavesOpen : {T : Type 0} → MatcherError → Told → StartTag → Matching T → Matching T → Type 0
+LeavesOpen Memory told tag old new = SameOpen old new ⊎ OpensUnreported told (has_content old.told.esi tag) old new
+LeavesOpen error told tag old new = SameOpen old new
 
 -- a matcher after an end tag
 abbrev pub with_ended : {T : Type 0} → Matching T → List ℕ → Matching T

@@ -2,6 +2,7 @@
 use Rattle.std.specs.Prelude.{ℕ, ◌*◌, ◌^◌, ◌≡◌, ◌≤◌, ◌<◌, Bool, true, false, List, [], ◌∷◌, ◌++◌, length, Option, Some, None, IsTrue, ◌↔◌, if◌then◌else◌}
 use Rattle.lol_base.specs.StartTags.{StartTag}
 use Rattle.lol_base.specs.declared.namespace.Namespace.{Namespace}
+use Rattle.lol_base.specs.declared.start_tag.AuxStartTagInfo.{AuxStartTagInfo}
 use Rattle.lol_memory.specs.Ids.{Ids}
 use Rattle.lol_memory.specs.Limiter.{Limiter}
 use Rattle.lol_memory.specs.declared.match_info.MatchInfo.{MatchInfo}
@@ -12,9 +13,10 @@ use Rattle.lol_vm.specs.Documents.{children_of, element_of}
 use Rattle.lol_vm.specs.Events.{Event, Start, has_content}
 use Rattle.lol_vm.specs.Refusals.{Allowance, greatest_count}
 use Rattle.lol_vm.specs.Views.{selectors}
-use Rattle.lol_vm.specs.Vms.{Vm, Stands, HasOpen, IsPending, data_in, slots_charged, slot_bytes, tries_in}
+use Rattle.lol_vm.specs.Vms.{Vm, Stands, HasOpen, IsPending, IsRestOf, data_in, slots_charged, slot_bytes, tries_in}
 use Rattle.lol_vm.specs.declared.error.AuxStartTagInfoRequest.{AuxStartTagInfoRequest}
-use Rattle.lol_matcher.specs.Answering.{GrowsBy, IsReported, Kept, KeepsOne, with_value}
+use Rattle.lol_matcher.specs.Answering.{GrowsBy, IsReported, Kept, KeepsOne, asks_after, with_value}
+use Rattle.lol_vm.specs.AskedRuns.{told_of}
 use Rattle.lol_matcher.specs.Refusing.{allowance, refusal_after}
 use Rattle.lol_matcher.specs.Told.{History, elements_of, heard}
 use Rattle.lol_matcher.specs.declared.error.MatcherError.{MatcherError}
@@ -67,6 +69,18 @@ pub record RunsPast {E : Type 0} (s : Selectors) (esi : Bool) (events : List Eve
   pub dropped : is_dropped s (element_of (document s esi events) tag) (document s esi events).open_elements ≡ true
   pub runs : Runs s esi (events ++ Start tag ∷ []) vm limiter
 
+-- A start tag whose attributes are at hand was answered: it is reported under these, wasn't to be refused, and the machine runs on over what
+-- it was told of it.
+pub record IsHandedAs {E : Type 0} (s : Selectors) (esi : Bool) (events : List Event) (tag : StartTag) (matched : List MatchInfo) (a : Allowance) (vm : Vm E) (limiter : Limiter) : Type 0 where
+  pub reported : IsReported s esi events tag (asks_after s esi events tag) matched (tries_in vm)
+  pub fits : refusal_after s esi a events tag ≡ None
+  pub runs : Runs s esi (events ++ told_of s (document s esi events) (Start tag) ∷ []) vm limiter
+
+-- The same, but memory was refused for the list of its report.
+pub record IsHandedUnreported {E : Type 0} (s : Selectors) (esi : Bool) (events : List Event) (tag : StartTag) (a : Allowance) (vm : Vm E) (limiter : Limiter) : Type 0 where
+  pub fits : refusal_after s esi a events tag ≡ None
+  pub runs : Runs s esi (events ++ told_of s (document s esi events) (Start tag) ∷ []) vm limiter
+
 -- what refuses a tag, and all that come later
 abbrev pub IsRefusal : MatcherError → Type 0
 IsRefusal MemoryLimitExceeded = Unit {0}
@@ -98,6 +112,28 @@ abbrev pub IsFinished : {T : Type 0} → Selectors → Bool → List Event → S
 IsFinished s esi events tag (finishes.Reported opened) matched a old new limiter =
     IsToldAs s esi events tag true matched a new limiter × (opened ≡ has_content esi tag) × KeepsOne (has_content esi tag) matched (data_in old) (data_in new)
 IsFinished s esi events tag finishes.Unreported matched a old new limiter = IsUnreported s esi events tag a new limiter × GrowsBy (has_content esi tag) (data_in old) (data_in new)
+
+-- A start tag whose attributes are at hand was answered, or memory was refused for the list of its report.
+abbrev pub IsHanded : {T : Type 0} → Selectors → Bool → List Event → StartTag → finished.Finished → List MatchInfo → Allowance → Vm (Kept T) → Vm (Kept T) → Limiter → Type 0
+IsHanded s esi events tag (finishes.Reported opened) matched a old new limiter =
+    IsHandedAs s esi events tag matched a new limiter × (opened ≡ has_content esi tag) × KeepsOne (has_content esi tag) matched (data_in old) (data_in new)
+IsHanded s esi events tag finishes.Unreported matched a old new limiter =
+    IsHandedUnreported s esi events tag a new limiter × GrowsBy (has_content esi tag) (data_in old) (data_in new)
+
+-- This holds of each start tag of a name and a namespace, after whatever events a machine runs over.
+abbrev pub ForTag : {E : Type 0} → Vm E → Limiter → List ℕ → Namespace → (Selectors → Bool → List Event → StartTag → Type 0) → Type 0
+ForTag vm limiter name ns holds =
+    (s : Selectors) (esi : Bool) (events : List Event) (tag : StartTag) → Runs s esi events vm limiter → tag.name ≡ name → tag.namespace ≡ ns → holds s esi events tag
+
+-- The same of each that has these attributes.
+abbrev pub ForHandedTag : {E : Type 0} → Vm E → Limiter → List ℕ → Namespace → AuxStartTagInfo → (Selectors → Bool → List Event → StartTag → Type 0) → Type 0
+ForHandedTag vm limiter name ns aux holds = ForTag vm limiter name ns (λ s esi events tag. IsRestOf aux tag → holds s esi events tag)
+
+-- This holds of each start tag that a request is made for and that has these attributes, after whatever events a machine ran over before it.
+abbrev pub ForRequest : {T : Type 0} → Vm (Kept T) → Limiter → AuxStartTagInfoRequest (Kept T) → AuxStartTagInfo → (Selectors → Bool → List Event → StartTag → Type 0) → Type 0
+ForRequest vm limiter request aux holds =
+    (s : Selectors) (esi : Bool) (events : List Event) (tag : StartTag)
+    → RunsPast s esi events vm limiter → IsPending ids_of s esi events tag vm request → IsRestOf aux tag → holds s esi events tag
 
 -- Only what is kept of the open elements changes: the machine stands for the same events, and goes on alike.
 pub record KeepsRunning {E : Type 0} (old new : Vm E) : Type 0 where

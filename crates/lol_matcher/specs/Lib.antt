@@ -4,4 +4,3 @@ pub mod Refusing
 pub mod Keeping
 pub mod Answering
 pub mod Building
-pub mod Calls

@@ -1,6 +1,5 @@
 -- What a matcher was told of a document, and what a contract sees of it.
-use Rattle.std.specs.Prelude.{ℕ, Bool, false, List, [], ◌∷◌, ◌++◌, Option, Some, None}
-use Rattle.lol_base.specs.StartTags.{StartTag}
+use Rattle.std.specs.Prelude.{ℕ, Bool, List, [], ◌∷◌, ◌++◌, Option, Some, None}
 use Rattle.lol_base.specs.declared.namespace.Namespace.{Namespace}
 use Rattle.lol_instructions.specs.declared.tries.Tries.{Tries}
 use Rattle.lol_instructions.specs.Tests.{Element}
@@ -8,6 +7,7 @@ use Rattle.lol_memory.specs.declared.match_info.MatchInfo.{MatchInfo}
 use Rattle.lol_program.specs.declared.ast.Ast.{Ast}
 use Rattle.lol_stack.specs.declared.element_value.ElementValue.{ElementValue}
 use Rattle.lol_vm.specs.Answers.{document}
+use Rattle.lol_vm.specs.AskedRuns.{bare_tag}
 use Rattle.lol_vm.specs.Events.{Event, Start}
 use Rattle.lol_vm.specs.Views.{selectors}
 
@@ -32,10 +32,6 @@ pub record Matching (T : Type 0) : Type 0 where
   pub opened : Bool
   pub open_elements : List Element
   pub kept : List (ElementValue (Option T))
-
--- a start tag without attributes, which isn't finished
-abbrev pub bare_tag : List ℕ → Namespace → StartTag
-bare_tag name ns = record { name = name; namespace = ns; attributes = []; self_closing = false; finish = false }
 
 -- events, and a start tag that waits for its attributes, as dropped
 abbrev pub with_dropped : List Event → Option (List ℕ × Namespace) → List Event

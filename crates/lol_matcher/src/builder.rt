@@ -97,7 +97,8 @@ impl MatcherBuilder {
     /// The matcher, before the first tag, whose elements have no values. It is refused only where memory is.
     pub fn build(self) -> Result<Matcher, AllocError>
         ensures told { IfOk result (λ matcher. matcher ≡ started_with self matcher.tries) }
-        ensures tries { IfOk result (λ matcher. (names_counted matcher.tries ≡ 0) × (attributes_counted matcher.tries ≡ 0)) }
+        ensures tries { IfOk result (λ matcher.
+            (names_counted matcher.tries ≡ 0) × (attributes_counted matcher.tries ≡ 0)) }
     {
         self.build_with_values()
     }
@@ -105,7 +106,8 @@ impl MatcherBuilder {
     /// The matcher, before the first tag, where each open element may have a value of the type `T`. It is refused only where memory is.
     pub fn build_with_values<T: Drop>(self) -> Result<Matcher<T>, AllocError>
         ensures told { IfOk result (λ matcher. matcher ≡ started_with self matcher.tries) }
-        ensures tries { IfOk result (λ matcher. (names_counted matcher.tries ≡ 0) × (attributes_counted matcher.tries ≡ 0)) }
+        ensures tries { IfOk result (λ matcher.
+            (names_counted matcher.tries ≡ 0) × (attributes_counted matcher.tries ≡ 0)) }
     {
         let MatcherBuilder {
             alloc,

@@ -2,9 +2,10 @@
 
 ghost use Rattle.lol_vm.specs.Standing.{CountersArePlaces, DocumentsAreOrdered};
 ghost use Rattle.lol_vm.specs.VmLaws.{DataChangeNothing, DataKeepOpen, DataKeepRequests, LastDataAreLent, LastDataChange, PendingStands, SlotsAreOfDepth, StandingHasOpen};
-ghost use Rattle.lol_matcher.specs.Calls.{CallsAnswerAlike, ToldGoesOn};
+ghost use Rattle.lol_vm.specs.AskedRuns.{AskedRunsAnswerAlike, ToldGoesOn};
 
 use lol_vm::machine_laws::{counters_are_places, documents_are_ordered};
+use lol_vm::run_laws::asked_runs_answer_alike;
 use lol_vm::vm_laws::{
     data_change_nothing, dropped_requests_stand, last_data_are_lent, slots_are_of_depth,
     standing_has_open,
@@ -13,9 +14,11 @@ use lol_vm::vm_laws::{
 /// A matcher that is told of each tag of a list, and of the attributes of a start tag where it asks for them, answers what a run over
 /// that list does (`match_events` of lol_vm), and the same tag is refused first.
 pub fn calls_answer_alike()
-    ensures alike { CallsAnswerAlike }
+    ensures alike { AskedRunsAnswerAlike }
     ensures goes_on { ToldGoesOn }
-{}
+{
+    asked_runs_answer_alike();
+}
 
 /// What a machine has of the document of the events that it stands for.
 pub(crate) fn run_laws<E>()

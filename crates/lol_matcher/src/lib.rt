@@ -3,6 +3,7 @@
 
 mod builder;
 mod error;
+mod handed;
 pub mod laws;
 mod matcher;
 mod matches;

@@ -2,10 +2,13 @@
 
 use crate::builder::MatcherBuilder;
 use crate::error::MatcherError;
+use crate::handed::hand_tag;
 use crate::laws::run_laws;
 use crate::matches::Matches;
 use crate::past::{Note, Past};
-use crate::tags::{Answered, Finished, Kept, end_tag, finish_tag, replace_value, start_tag};
+use crate::tags::{
+    Answered, Finished, Kept, drop_request, end_tag, finish_tag, replace_value, start_tag,
+};
 use lol_base::{AuxStartTagInfo, Namespace};
 use lol_memory::{MatchInfo, SharedMemoryLimiter};
 use lol_program::{Ast, Tries};
@@ -85,18 +88,18 @@ impl Matcher {
 }
 
 impl<T: Drop> Matcher<T> {
-    ghost use Rattle.std.specs.Prelude.{◌≡◌, ◌≤◌, ◌↔◌, [], true, false, None, Some, Err, IfOk, OnOk, OnErr, IfErr, IfSome, IsSome, drop, length, map};
+    ghost use Rattle.std.specs.Prelude.{◌≡◌, ◌≤◌, ◌↔◌, true, false, None, Err, IfOk, OnOk, IfErr, IsSome, drop, length, map};
     ghost use Rattle.lol_base.specs.StartTags.{RangesAreInside, StartTag};
     ghost use Rattle.lol_instructions.specs.Tries.{names_counted, attributes_counted};
     ghost use Rattle.lol_stack.specs.Calls.{IsCalledAtEach};
-    ghost use Rattle.lol_matcher.specs.Answering.{Answers, IsAnsweredAfter, IsHandedOver, IsReported, LeavesOpen, Opens, OpensStart, last_value, reported_after, told_after, refused_with, with_ended, with_value};
+    ghost use Rattle.lol_matcher.specs.Answering.{Answers, IfWaits, IsAnsweredAfter, IsFinishedAs, LeavesOpen, OpensFor, OpensStart, last_value, reported_in, told_after, refused_with, with_ended, with_told, with_value};
     ghost use Rattle.lol_matcher.specs.Building.{Building, started_with};
     ghost use Rattle.lol_matcher.specs.Keeping.{IsRefusal};
-    ghost use Rattle.lol_matcher.specs.Noted.{finished_told, started_told};
+    ghost use Rattle.lol_matcher.specs.Noted.{finished_told, handed, handed_told, started_told};
     ghost use Rattle.lol_matcher.specs.Refusing.{Fits, RefusesStart, RefusesStartWith, RefusesFinish, refusal_of};
-    ghost use Rattle.lol_matcher.specs.Told.{bare_tag, elements_of, heard};
-    ghost use Rattle.lol_vm.specs.Events.{has_content};
-    ghost use Rattle.lol_vm.specs.Views.{match_of, selectors, tag_of};
+    ghost use Rattle.lol_matcher.specs.Told.{elements_of, heard};
+    ghost use Rattle.lol_vm.specs.AskedRuns.{bare_tag};
+    ghost use Rattle.lol_vm.specs.Views.{match_of, selectors};
     ghost use Rattle.lol_vm.specs.Vms.{IsTriedAtMost, open_after};
 
     /// A matcher for the selectors of a tree.
@@ -108,8 +111,10 @@ impl<T: Drop> Matcher<T> {
         enable_esi_tags: bool,
     ) -> Result<Self, AllocError>
         requires { 1 ≤ element_bytes }
-        ensures tries { IfOk result (λ matcher. (names_counted matcher.tries ≡ 0) × (attributes_counted matcher.tries ≡ 0)) }
-        ensures told { IfOk result (λ matcher. matcher ≡ started_with (record { ast = ast; max_memory = max_memory; element_bytes = element_bytes; esi = enable_esi_tags }) matcher.tries) }
+        ensures tries { IfOk result (λ matcher.
+            (names_counted matcher.tries ≡ 0) × (attributes_counted matcher.tries ≡ 0)) }
+        ensures told { IfOk result (λ matcher. matcher ≡ started_with
+            (record { ast = ast; max_memory = max_memory; element_bytes = element_bytes; esi = enable_esi_tags }) matcher.tries) }
     {
         run_laws::<Kept<T>>();
         let past = Past::new(&ast, &enable_esi_tags);
@@ -158,16 +163,18 @@ impl<T: Drop> Matcher<T> {
     /// # Errors
     /// `Failed` exactly after a refusal, and then nothing changes; else why the tag is refused, and all that come later.
     pub fn start(&mut self, name: &[u8], ns: Namespace) -> Result<Started, MatcherError>
-        ensures answers { IfOk result (λ started. Answers started self.old.told name.now ns self.new.matched self.new.tries) }
+        ensures answers { IfOk result (λ started.
+            Answers started self.old.told name.now ns self.new.matched self.new.tries) }
         ensures opens { IfOk result (λ started. OpensStart started name.now ns self.old self.new) }
-        ensures ok { IfOk result (λ started. self.new ≡ record self.old { told = told_after started self.old.told name.now ns; matched = self.new.matched; tries = self.new.tries; opened = self.new.opened; open_elements = elements_of (told_after started self.old.told name.now ns); kept = self.new.kept }) }
+        ensures ok { IfOk result (λ started.
+            self.new ≡ with_told (told_after started self.old.told name.now ns) self.old self.new) }
         ensures fits { IfOk result (λ started. (self.old.failed ≡ false) × Fits started self.old name.now ns) }
         ensures failed { (result ≡ Err MatcherError.Failed) ↔ (self.old.failed ≡ true) }
         ensures stuck { self.old.failed ≡ true → self.new ≡ self.old }
         ensures refused { IfErr result (λ error. self.old.failed ≡ false → RefusesStart error self.old name.now ns) }
         ensures after { IfErr result (λ error. self.old.failed ≡ false → self.new ≡ refused_with self.old self.new) }
         ensures left { IfErr result (λ error. self.old.failed ≡ false
-            → LeavesOpen error (started_told self.old.told name.now ns) (has_content self.old.told.esi (bare_tag name.now ns)) self.old self.new) }
+            → LeavesOpen error (started_told self.old.told name.now ns) (bare_tag name.now ns) self.old self.new) }
         ensures tried { self.old.failed ≡ false → (tag : StartTag) → tag.name ≡ name.now → tag.namespace ≡ ns
             → IsTriedAtMost (selectors self.old.told.ast) self.old.told.esi (heard self.old.told) tag self.new.tries }
     {
@@ -175,7 +182,7 @@ impl<T: Drop> Matcher<T> {
             return Err(MatcherError::Failed);
         }
         run_laws::<Kept<T>>();
-        self.request = None;
+        drop_request(&mut self.request);
         match start_tag(&mut self.vm, &mut self.limiter, name, ns, &mut self.matches) {
             Ok(Answered::Reported(opened)) => {
                 self.opened = opened;
@@ -212,21 +219,26 @@ impl<T: Drop> Matcher<T> {
     /// `NotAsked` exactly where no tag waits. Then nothing changes, and a tag that waits still does. Else why the tag is refused, and all
     /// that come later.
     pub fn finish(&mut self, aux_info: AuxStartTagInfo<'_>) -> Result<(), MatcherError>
-        ensures reported { OnOk result (IfSome self.old.told.asked (λ asked.
-            IsReported (selectors self.old.told.ast) self.old.told.esi self.old.told.events (tag_of asked.0 asked.1 aux_info.entry true) true self.new.matched self.new.tries)) }
-        ensures opens { OnOk result (IfSome self.old.told.asked (λ asked. Opens (has_content self.old.told.esi (tag_of asked.0 asked.1 aux_info.entry true)) self.old self.new)) }
-        ensures ok { OnOk result (self.new ≡ record self.old { told = finished_told self.old.told aux_info.entry; matched = self.new.matched; tries = self.new.tries; opened = self.new.opened; open_elements = elements_of (finished_told self.old.told aux_info.entry); kept = self.new.kept }) }
-        ensures fits { OnOk result (IfSome self.old.told.asked (λ asked. refusal_of self.old self.old.told.events (tag_of asked.0 asked.1 aux_info.entry true) ≡ None)) }
-        ensures well { OnOk result ((self.old.failed ≡ false) × RangesAreInside aux_info.entry × IsSome self.old.told.asked) }
+        ensures reported { OnOk result (IfWaits self.old.told aux_info.entry (λ tag.
+            IsFinishedAs self.old.told tag self.new)) }
+        ensures opens { OnOk result (IfWaits self.old.told aux_info.entry (λ tag. OpensFor tag self.old self.new)) }
+        ensures ok { OnOk result (self.new ≡ with_told (finished_told self.old.told aux_info.entry) self.old self.new) }
+        ensures fits { OnOk result (IfWaits self.old.told aux_info.entry (λ tag.
+            refusal_of self.old self.old.told.events tag ≡ None)) }
+        ensures well { OnOk result ((self.old.failed ≡ false) × RangesAreInside aux_info.entry
+            × IsSome self.old.told.asked) }
         ensures failed { (result ≡ Err MatcherError.Failed) ↔ (self.old.failed ≡ true) }
-        ensures outside { (result ≡ Err MatcherError.OutsideInput) ↔ ((self.old.failed ≡ false) × (RangesAreInside aux_info.entry → ⊥)) }
-        ensures not_asked { (result ≡ Err MatcherError.NotAsked) ↔ ((self.old.failed ≡ false) × RangesAreInside aux_info.entry × (self.old.told.asked ≡ None)) }
-        ensures refused { IfErr result (λ error. IsRefusal error → IfSome self.old.told.asked (λ asked. RefusesFinish error self.old (tag_of asked.0 asked.1 aux_info.entry true))) }
+        ensures outside { (result ≡ Err MatcherError.OutsideInput)
+            ↔ ((self.old.failed ≡ false) × (RangesAreInside aux_info.entry → ⊥)) }
+        ensures not_asked { (result ≡ Err MatcherError.NotAsked)
+            ↔ ((self.old.failed ≡ false) × RangesAreInside aux_info.entry × (self.old.told.asked ≡ None)) }
+        ensures refused { IfErr result (λ error. IsRefusal error → IfWaits self.old.told aux_info.entry (λ tag.
+            RefusesFinish error self.old tag)) }
         ensures after { IfErr result (λ error. IsRefusal error → self.new ≡ refused_with self.old self.new) }
-        ensures left { IfErr result (λ error. IsRefusal error → IfSome self.old.told.asked (λ asked.
-            LeavesOpen error (finished_told self.old.told aux_info.entry) (has_content self.old.told.esi (tag_of asked.0 asked.1 aux_info.entry true)) self.old self.new)) }
-        ensures tried { IfErr result (λ error. IsRefusal error → IfSome self.old.told.asked (λ asked.
-            IsTriedAtMost (selectors self.old.told.ast) self.old.told.esi self.old.told.events (tag_of asked.0 asked.1 aux_info.entry true) self.new.tries)) }
+        ensures left { IfErr result (λ error. IsRefusal error → IfWaits self.old.told aux_info.entry (λ tag.
+            LeavesOpen error (finished_told self.old.told aux_info.entry) tag self.old self.new)) }
+        ensures tried { IfErr result (λ error. IsRefusal error → IfWaits self.old.told aux_info.entry (λ tag.
+            IsTriedAtMost (selectors self.old.told.ast) self.old.told.esi self.old.told.events tag self.new.tries)) }
         ensures unchanged { IfErr result (λ error. (IsRefusal error → ⊥) → self.new ≡ self.old) }
     {
         if self.failed {
@@ -279,17 +291,26 @@ impl<T: Drop> Matcher<T> {
         aux_info: AuxStartTagInfo<'_>,
     ) -> Result<(), MatcherError>
         ensures reported { OnOk result (map match_of self.new.matched
-            ≡ reported_after (selectors self.old.told.ast) self.old.told.esi (heard self.old.told) (tag_of name.now ns aux_info.entry true)) }
-        ensures tried { OnOk result (IsAnsweredAfter self.old.told (tag_of name.now ns aux_info.entry true) self.new) }
-        ensures opens { OnOk result (Opens (has_content self.old.told.esi (tag_of name.now ns aux_info.entry true)) self.old self.new) }
-        ensures ok { OnOk result (IsHandedOver (tag_of name.now ns aux_info.entry true) self.old self.new) }
-        ensures fits { OnOk result (refusal_of self.old (heard self.old.told) (tag_of name.now ns aux_info.entry true) ≡ None) }
+            ≡ reported_in self.old.told (handed name.now ns aux_info.entry)) }
+        ensures answered { OnOk result (IsAnsweredAfter self.old.told (handed name.now ns aux_info.entry) self.new) }
+        ensures opens { OnOk result (OpensFor (handed name.now ns aux_info.entry) self.old self.new) }
+        ensures ok { OnOk result (self.new
+            ≡ with_told (handed_told self.old.told (handed name.now ns aux_info.entry)) self.old self.new) }
+        ensures fits { OnOk result (refusal_of self.old (heard self.old.told) (handed name.now ns aux_info.entry)
+            ≡ None) }
         ensures well { OnOk result ((self.old.failed ≡ false) × RangesAreInside aux_info.entry) }
         ensures failed { (result ≡ Err MatcherError.Failed) ↔ (self.old.failed ≡ true) }
-        ensures outside { (result ≡ Err MatcherError.OutsideInput) ↔ ((self.old.failed ≡ false) × (RangesAreInside aux_info.entry → ⊥)) }
+        ensures outside { (result ≡ Err MatcherError.OutsideInput)
+            ↔ ((self.old.failed ≡ false) × (RangesAreInside aux_info.entry → ⊥)) }
         ensures asked { result ≡ Err MatcherError.NotAsked → ⊥ }
-        ensures refused { IfErr result (λ error. IsRefusal error → RefusesStartWith error self.old (tag_of name.now ns aux_info.entry true)) }
-        ensures after { IfErr result (λ error. IsRefusal error → (self.new.failed ≡ true) × (self.new.matched ≡ [])) }
+        ensures refused { IfErr result (λ error.
+            IsRefusal error → RefusesStartWith error self.old (handed name.now ns aux_info.entry)) }
+        ensures after { IfErr result (λ error. IsRefusal error → self.new ≡ refused_with self.old self.new) }
+        ensures left { IfErr result (λ error. IsRefusal error → LeavesOpen error
+            (handed_told self.old.told (handed name.now ns aux_info.entry)) (handed name.now ns aux_info.entry) self.old self.new) }
+        ensures tried { IfErr result (λ error.
+            IsRefusal error → IsTriedAtMost (selectors self.old.told.ast) self.old.told.esi
+            (heard self.old.told) (handed name.now ns aux_info.entry) self.new.tries) }
         ensures unchanged { IfErr result (λ error. (IsRefusal error → ⊥) → self.new ≡ self.old) }
     {
         if self.failed {
@@ -298,9 +319,34 @@ impl<T: Drop> Matcher<T> {
         if !aux_info.ranges_inside() {
             return Err(MatcherError::OutsideInput);
         }
-        match self.start(name, ns)? {
-            Started::Reported => Ok(()),
-            Started::NeedsAttributes => self.finish(aux_info),
+        run_laws::<Kept<T>>();
+        drop_request(&mut self.request);
+        match hand_tag(
+            &mut self.vm,
+            &mut self.limiter,
+            name,
+            ns,
+            aux_info,
+            &mut self.matches,
+        ) {
+            Ok(Finished::Reported(opened)) => {
+                self.opened = opened;
+                self.past = self.past.then(&Note::Handed(name, ns, aux_info));
+                Ok(())
+            }
+            Ok(Finished::Unreported) => {
+                self.failed = true;
+                self.opened = false;
+                self.matches.clear();
+                self.past = self.past.then(&Note::HandedUnreported(name, ns, aux_info));
+                Err(MatcherError::Memory)
+            }
+            Err(error) => {
+                self.failed = true;
+                self.opened = false;
+                self.matches.clear();
+                Err(error)
+            }
         }
     }
 
@@ -327,10 +373,11 @@ impl<T: Drop> Matcher<T> {
         requires { F.IsAlwaysCallable handler.old }
         ensures again { F.IsAlwaysCallable handler.new }
         ensures ended { self.new ≡ with_ended self.old name.now }
-        ensures called { IsCalledAtEach F.step handler.old (drop (length (open_after name.now self.old.open_elements)) self.old.kept) handler.new }
+        ensures called { IsCalledAtEach F.step handler.old
+            (drop (length (open_after name.now self.old.open_elements)) self.old.kept) handler.new }
         ensures open { self.old.failed ≡ false → self.new.open_elements ≡ elements_of self.new.told }
     {
-        self.request = None;
+        drop_request(&mut self.request);
         self.opened = false;
         self.matches.clear();
         end_tag(&mut self.vm, name, handler);

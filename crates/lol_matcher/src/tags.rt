@@ -1,17 +1,17 @@
 //! What a machine answers to one tag.
 
-ghost use Rattle.std.specs.Prelude.{◌≡◌, ◌++◌, ◌∷◌, [], List, Bool, OnErr, IfOk, IfErr, drop, length, take};
+ghost use Rattle.std.specs.Prelude.{◌≡◌, ◌++◌, ◌∷◌, [], List, Bool, None, OnErr, IfOk, IfErr, drop, length, take};
 ghost use Rattle.lol_base.specs.StartTags.{StartTag, RangesAreInside};
 ghost use Rattle.lol_instructions.specs.Tests.{Element};
 ghost use Rattle.lol_memory.specs.Limiter.{Limiter};
 ghost use Rattle.lol_program.specs.Paths.{Selectors};
 ghost use Rattle.lol_stack.specs.Calls.{IsCalledAtEach};
-ghost use Rattle.lol_matcher.specs.Keeping.{ClearsOpened, KeepsItem, KeepsRunning, Leaves, Runs, RunsPast, Tells, IsFinished, IsCharged, allowed, ids_of};
+ghost use Rattle.lol_matcher.specs.Keeping.{ClearsOpened, ForRequest, ForTag, KeepsItem, KeepsRunning, Leaves, Runs, Tells, IsFinished, IsCharged, allowed, ids_of};
 ghost use Rattle.lol_matcher.specs.Answering.{last_value, with_value};
 ghost use Rattle.lol_matcher.specs.Refusing.{IsRefusedFor, refusal_after};
 ghost use Rattle.lol_vm.specs.Events.{Event, End, has_content};
 ghost use Rattle.lol_vm.specs.FreeTags.{AreFlat, RunsWithoutMemory};
-ghost use Rattle.lol_vm.specs.Vms.{HasOpen, IsPending, IsRestOf, IsTriedAtMost, data_in, open_after, slot_bytes, tries_in};
+ghost use Rattle.lol_vm.specs.Vms.{HasOpen, IsPending, IsTriedAtMost, data_in, open_after, slot_bytes, tries_in};
 
 use crate::error::MatcherError;
 use crate::laws::{data_laws, run_laws};
@@ -43,19 +43,16 @@ pub(crate) fn start_tag<T: Drop>(
     ns: Namespace,
     matches: &mut Matches,
 ) -> Result<Answered<T>, MatcherError>
-    ensures told { IfOk result (λ answered. (s : Selectors) (esi : Bool) (events : List Event) (tag : StartTag)
-        → Runs s esi events vm.old limiter.old → tag.name ≡ name.now → tag.namespace ≡ ns
-        → Tells s esi events tag answered matches.new.items.items (allowed vm.old limiter.old) vm.new limiter.new) }
-    ensures leaves { IfOk result (λ answered. (s : Selectors) (esi : Bool) (events : List Event) (tag : StartTag)
-        → Runs s esi events vm.old limiter.old → tag.name ≡ name.now → tag.namespace ≡ ns
-        → Leaves (has_content esi tag) answered matches.new.items.items (data_in vm.old) (data_in vm.new)) }
-    ensures refused { IfErr result (λ error. (s : Selectors) (esi : Bool) (events : List Event) (tag : StartTag)
-        → Runs s esi events vm.old limiter.old → tag.name ≡ name.now → tag.namespace ≡ ns
-        → IsRefusedFor error (RunsWithoutMemory s esi events tag) (refusal_after s esi (allowed vm.old limiter.old) events tag)) }
+    ensures told { IfOk result (λ answered. ForTag vm.old limiter.old name.now ns (λ s esi events tag.
+        Tells s esi events tag answered matches.new.items.items (allowed vm.old limiter.old) vm.new limiter.new)) }
+    ensures leaves { IfOk result (λ answered. ForTag vm.old limiter.old name.now ns (λ s esi events tag.
+        Leaves (has_content esi tag) answered matches.new.items.items (data_in vm.old) (data_in vm.new))) }
+    ensures refused { IfErr result (λ error. ForTag vm.old limiter.old name.now ns (λ s esi events tag.
+        IsRefusedFor error (RunsWithoutMemory s esi events tag) (refusal_after s esi (allowed vm.old limiter.old) events tag))) }
     ensures unchanged { OnErr result (data_in vm.new ≡ data_in vm.old) }
     ensures still_open { OnErr result ((elements : List Element) → HasOpen vm.old elements → HasOpen vm.new elements) }
-    ensures tried { (s : Selectors) (esi : Bool) (events : List Event) (tag : StartTag)
-        → Runs s esi events vm.old limiter.old → tag.name ≡ name.now → tag.namespace ≡ ns → IsTriedAtMost s esi events tag (tries_in vm.new) }
+    ensures tried { ForTag vm.old limiter.old name.now ns (λ s esi events tag.
+        IsTriedAtMost s esi events tag (tries_in vm.new)) }
     ensures charged { IsCharged vm.old limiter.old → IsCharged vm.new limiter.new }
     ensures bytes { slot_bytes vm.new ≡ slot_bytes vm.old }
     ensures maximum { limiter.new.maximum ≡ limiter.old.maximum }
@@ -102,12 +99,10 @@ pub(crate) fn finish_tag<T: Drop>(
     matches: &mut Matches,
 ) -> Result<Finished, MatcherError>
     requires { RangesAreInside aux_info }
-    ensures told { IfOk result (λ finished. (s : Selectors) (esi : Bool) (events : List Event) (tag : StartTag)
-        → RunsPast s esi events vm.old limiter.old → IsPending ids_of s esi events tag vm.old request → IsRestOf aux_info.entry tag
-        → IsFinished s esi events tag finished matches.new.items.items (allowed vm.old limiter.old) vm.old vm.new limiter.new) }
-    ensures refused { IfErr result (λ error. (s : Selectors) (esi : Bool) (events : List Event) (tag : StartTag)
-        → RunsPast s esi events vm.old limiter.old → IsPending ids_of s esi events tag vm.old request → IsRestOf aux_info.entry tag
-        → IsRefusedFor error (AreFlat s) (refusal_after s esi (allowed vm.old limiter.old) events tag)) }
+    ensures told { IfOk result (λ finished. ForRequest vm.old limiter.old request aux_info.entry (λ s esi events tag.
+        IsFinished s esi events tag finished matches.new.items.items (allowed vm.old limiter.old) vm.old vm.new limiter.new)) }
+    ensures refused { IfErr result (λ error. ForRequest vm.old limiter.old request aux_info.entry (λ s esi events tag.
+        IsRefusedFor error (AreFlat s) (refusal_after s esi (allowed vm.old limiter.old) events tag))) }
     ensures unchanged { OnErr result (data_in vm.new ≡ data_in vm.old) }
     ensures still_open { OnErr result ((elements : List Element) → HasOpen vm.old elements → HasOpen vm.new elements) }
     ensures tried { (s : Selectors) (esi : Bool) (events : List Event) (tag : StartTag)
@@ -137,8 +132,20 @@ pub(crate) fn finish_tag<T: Drop>(
     }
 }
 
+/// Drops a request that waits. Where there is none, nothing is written: a request is some 200 bytes.
+pub(crate) fn drop_request<T: Drop>(request: &mut Option<AuxStartTagInfoRequest<Kept<T>>>)
+    ensures { request.new ≡ None }
+{
+    if request.is_some() {
+        *request = None;
+    }
+}
+
 /// Leaves the last open element without a value, if more elements are open than before: whether they are.
-fn clear_opened<T: Drop>(vm: &mut SelectorMatchingVm<Kept<T>>, open_before: usize) -> bool
+pub(crate) fn clear_opened<T: Drop>(
+    vm: &mut SelectorMatchingVm<Kept<T>>,
+    open_before: usize,
+) -> bool
     ensures { ClearsOpened open_before result vm.old vm.new }
 {
     if vm.open_elements() <= open_before {
@@ -176,10 +183,13 @@ pub(crate) fn end_tag<T: Drop, F: FnMut(ElementValue<Option<T>>)>(
     ensures again { F.IsAlwaysCallable handler.new }
     ensures runs { (s : Selectors) (esi : Bool) (events : List Event) (limiter : Limiter)
         → Runs s esi events vm.old limiter → Runs s esi (events ++ End name.now ∷ []) vm.new limiter }
-    ensures still_open { (elements : List Element) → HasOpen vm.old elements → HasOpen vm.new (open_after name.now elements) }
-    ensures kept { (elements : List Element) → HasOpen vm.old elements → data_in vm.new ≡ take (length (open_after name.now elements)) (data_in vm.old) }
+    ensures still_open { (elements : List Element) → HasOpen vm.old elements
+        → HasOpen vm.new (open_after name.now elements) }
+    ensures kept { (elements : List Element) → HasOpen vm.old elements
+        → data_in vm.new ≡ take (length (open_after name.now elements)) (data_in vm.old) }
     ensures called { (elements : List Element) → HasOpen vm.old elements
-        → IsCalledAtEach F.step handler.old (drop (length (open_after name.now elements)) (data_in vm.old)) handler.new }
+        → IsCalledAtEach F.step handler.old (drop (length (open_after name.now elements))
+        (data_in vm.old)) handler.new }
     ensures charged { (limiter : Limiter) → IsCharged vm.old limiter → IsCharged vm.new limiter }
     ensures bytes { slot_bytes vm.new ≡ slot_bytes vm.old }
     ensures tries { tries_in vm.new ≡ tries_in vm.old }

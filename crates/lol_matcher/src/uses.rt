@@ -1,9 +1,8 @@
 //! A caller of a matcher, with a contract of its own.
 
 ghost use Rattle.std.specs.Prelude.{◌↔◌, ◌<◌, IfOk, IsTrue, length, true};
-ghost use Rattle.lol_vm.specs.Views.{selectors, tag_of};
-ghost use Rattle.lol_matcher.specs.Answering.{reported_after};
-ghost use Rattle.lol_matcher.specs.Told.{heard};
+ghost use Rattle.lol_matcher.specs.Answering.{reported_in};
+ghost use Rattle.lol_matcher.specs.Noted.{handed};
 
 use crate::{Attributes, AuxStartTagInfo, Matcher, MatcherError, Namespace};
 use std::test::Fail;
@@ -16,7 +15,7 @@ pub fn is_reported(
     aux_info: AuxStartTagInfo<'_>,
 ) -> Result<bool, MatcherError>
     ensures { IfOk result (λ found. IsTrue found ↔ (0 < length
-        (reported_after (selectors matcher.old.told.ast) matcher.old.told.esi (heard matcher.old.told) (tag_of name.now ns aux_info.entry true)))) }
+        (reported_in matcher.old.told (handed name.now ns aux_info.entry)))) }
 {
     matcher.start_with(name, ns, aux_info)?;
     Ok(!matcher.matches().is_empty())

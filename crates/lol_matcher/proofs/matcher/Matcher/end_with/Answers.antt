@@ -11,7 +11,7 @@ pub invariant_of-self : goal.invariant_of-self
 invariant_of-self g c =
     let h = c.self.inside.past.history in
     let keeps = c.self.invariant in
-    rw c.then-self-inside.ensures (record {
+    rw (c.then-self-inside.ensures, c.drop_request.ensures) (record {
       charged = c.end_tag.ensures.charged c.self.inside.limiter keeps.charged;
       has_open = c.end_tag.ensures.still_open h.open_elements keeps.has_open;
       runs = λ ok. c.end_tag.ensures.runs (selectors h.told.ast) h.told.esi (heard h.told) c.self.inside.limiter (keeps.runs ok);

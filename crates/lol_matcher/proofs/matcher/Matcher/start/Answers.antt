@@ -11,12 +11,13 @@ use Rattle.lol_vm.specs.Vms.{Vm, data_in}
 use Rattle.lol_vm.specs.declared.error.AuxStartTagInfoRequest.{AuxStartTagInfoRequest}
 use Rattle.lol_matcher.specs.Answering.{Kept}
 use Rattle.lol_matcher.specs.Keeping.{IsRefusal, Tells, IsToldAs, IsAskedFor, IsUnreported, allowed}
-use Rattle.lol_matcher.specs.Told.{Told, bare_tag, heard}
+use Rattle.lol_matcher.specs.Told.{Told, heard}
+use Rattle.lol_vm.specs.AskedRuns.{bare_tag}
 use Rattle.lol_matcher.specs.declared.error.MatcherError.{MatcherError}
 use Rattle.lol_matcher.specs.declared.matcher.Started.{Started}
 use Rattle.lol_matcher.specs.declared.tags.Answered.{Answered}
 use Rattle.lol_matcher.specs.declared.tags.Answered.TheVariants.{Reported, Unreported, Asked}
-use Rattle.lol_matcher.proofs.Leaving.{leaves_asked, leaves_reported, leaves_unreported}
+use Rattle.lol_matcher.proofs.Leaving.{leaves_asked, leaves_reported, leaves_unreported, tells_asked, tells_reported, tells_unreported}
 use Rattle.lol_matcher.proofs.Refusals.{is_refusal, refused_unreported}
 use Rattle.lol_matcher.proofs.matcher.Matcher.start.Goals as goal
 
@@ -27,14 +28,14 @@ module _ {T : Type 0} (t : Told) (name : List ℕ) (ns : Namespace) (vm new : Vm
 
   reported : (a : Answered T) (opened : Bool) → a ≡ Reported opened → Told_of a → (tag : StartTag) → tag.name ≡ name → tag.namespace ≡ ns
       → IsToldAs (selectors t.ast) t.esi (heard t) tag false items (allowed vm limiter) new later
-  reported a opened is told tag named spaced = subst (λ (a : Answered T). Tells (selectors t.ast) t.esi (heard t) tag a items (allowed vm limiter) new later) is (told tag named spaced)
+  reported a opened is told tag named spaced = tells_reported (selectors t.ast) t.esi (heard t) tag items (allowed vm limiter) new later a opened is (told tag named spaced)
 
   asked : (a : Answered T) (request : AuxStartTagInfoRequest (Kept T)) → a ≡ Asked request → Told_of a → (tag : StartTag) → tag.name ≡ name → tag.namespace ≡ ns
       → IsAskedFor (selectors t.ast) t.esi (heard t) tag (allowed vm limiter) new later request
-  asked a request is told tag named spaced = subst (λ (a : Answered T). Tells (selectors t.ast) t.esi (heard t) tag a items (allowed vm limiter) new later) is (told tag named spaced)
+  asked a request is told tag named spaced = tells_asked (selectors t.ast) t.esi (heard t) tag items (allowed vm limiter) new later a request is (told tag named spaced)
 
   unreported : (a : Answered T) → a ≡ Unreported → Told_of a → (tag : StartTag) → tag.name ≡ name → tag.namespace ≡ ns → IsUnreported (selectors t.ast) t.esi (heard t) tag (allowed vm limiter) new later
-  unreported a is told tag named spaced = subst (λ (a : Answered T). Tells (selectors t.ast) t.esi (heard t) tag a items (allowed vm limiter) new later) is (told tag named spaced)
+  unreported a is told tag named spaced = tells_unreported (selectors t.ast) t.esi (heard t) tag items (allowed vm limiter) new later a is (told tag named spaced)
 
 pub returns-in-Err-clause-failed : goal.returns-in-Err-clause-failed
 returns-in-Err-clause-failed g c =
@@ -48,7 +49,7 @@ invariant_of-self g c =
     let t = c.self.inside.past.history.told in
     let told = λ (tag : StartTag) (named : tag.name ≡ c.args.name.now) (spaced : tag.namespace ≡ c.args.ns). c.in-Ok-Reported.ensures.told (selectors t.ast) t.esi (heard t) tag (c.self.invariant.runs c.if-self.false) named spaced in
     let runs = (reported t c.args.name.now c.args.ns c.self.inside.vm c.start_tag.new.vm c.self.inside.limiter c.start_tag.new.limiter c.start_tag.new.matches.items.items _ _ c.in-Ok-Reported.field-0-is told (bare_tag c.args.name.now c.args.ns) refl refl).runs in
-    rw c.then-self-inside.ensures (record {
+    rw (c.then-self-inside.ensures, c.drop_request.ensures) (record {
       charged = c.in-Ok-Reported.ensures.charged c.self.invariant.charged;
       has_open = c.run_laws.ensures.has_open (selectors t.ast) t.esi c.start_tag.new.vm (heard t ++ Start (bare_tag c.args.name.now c.args.ns) ∷ []) runs.stands;
       runs = λ ok. runs;

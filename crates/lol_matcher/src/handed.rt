@@ -1,0 +1,70 @@
+//! What a machine answers to a start tag whose attributes are at hand.
+
+ghost use Rattle.std.specs.Prelude.{◌≡◌, OnErr, IfOk, IfErr};
+ghost use Rattle.lol_base.specs.StartTags.{RangesAreInside};
+ghost use Rattle.lol_matcher.specs.Keeping.{ForHandedTag, ForTag, IsCharged, IsHanded, KeepsItem, allowed};
+ghost use Rattle.lol_matcher.specs.Refusing.{IsRefusedFor, refusal_after};
+ghost use Rattle.lol_vm.specs.Answers.{document};
+ghost use Rattle.lol_vm.specs.FreeTags.{RunsWithoutMemory};
+ghost use Rattle.lol_vm.specs.Vms.{HasOpen, IsTriedAtMost, data_in, slot_bytes, tries_in};
+
+use crate::error::MatcherError;
+use crate::laws::run_laws;
+use crate::matches::Matches;
+use crate::tags::{Finished, Kept, clear_opened, finish_tag};
+use lol_base::{AuxStartTagInfo, LocalName, Namespace};
+use lol_memory::{MatchInfo, SharedMemoryLimiter};
+use lol_vm::{SelectorMatchingVm, VmError};
+
+/// Tells the machine of a start tag whose attributes are at hand, hands them over where they are asked for, and keeps what it is reported
+/// under.
+pub(crate) fn hand_tag<T: Drop>(
+    vm: &mut SelectorMatchingVm<Kept<T>>,
+    limiter: &mut SharedMemoryLimiter,
+    name: &[u8],
+    ns: Namespace,
+    aux_info: AuxStartTagInfo<'_>,
+    matches: &mut Matches,
+) -> Result<Finished, MatcherError>
+    requires { RangesAreInside aux_info }
+    ensures told { IfOk result (λ finished.
+        ForHandedTag vm.old limiter.old name.now ns aux_info.entry (λ s esi events tag.
+        IsHanded s esi events tag finished matches.new.items.items (allowed vm.old limiter.old) vm.old vm.new limiter.new)) }
+    ensures refused { IfErr result (λ error.
+        ForHandedTag vm.old limiter.old name.now ns aux_info.entry (λ s esi events tag.
+        IsRefusedFor error (RunsWithoutMemory s esi events tag) (refusal_after s esi (allowed vm.old limiter.old) events tag))) }
+    ensures unchanged { OnErr result (ForTag vm.old limiter.old name.now ns (λ s esi events tag.
+        data_in vm.new ≡ data_in vm.old)) }
+    ensures still_open { OnErr result (ForTag vm.old limiter.old name.now ns (λ s esi events tag.
+        HasOpen vm.new (document s esi events).open_elements)) }
+    ensures tried { ForTag vm.old limiter.old name.now ns (λ s esi events tag.
+        IsTriedAtMost s esi events tag (tries_in vm.new)) }
+    ensures charged { IsCharged vm.old limiter.old → IsCharged vm.new limiter.new }
+    ensures bytes { slot_bytes vm.new ≡ slot_bytes vm.old }
+    ensures maximum { limiter.new.maximum ≡ limiter.old.maximum }
+{
+    run_laws::<Kept<T>>();
+    matches.clear();
+    let open_before = vm.open_elements();
+    let mut handler = |info: MatchInfo|
+        ensures { KeepsItem matches.entry.now info matches.exit.now }
+    {
+        matches.keep(info);
+    };
+    match vm.exec_for_start_tag(LocalName::new(name), ns, limiter, &mut handler) {
+        Ok(()) => {
+            let opened = clear_opened(vm, open_before);
+            if matches.refused {
+                return Ok(Finished::Unreported);
+            }
+            Ok(Finished::Reported(opened))
+        }
+        Err(VmError::InfoRequest(request)) => {
+            finish_tag(vm, limiter, request, aux_info, matches)
+        }
+        Err(VmError::MemoryLimitExceeded(_)) => Err(MatcherError::MemoryLimitExceeded),
+        Err(VmError::CounterFull) => Err(MatcherError::CounterFull),
+        Err(VmError::Memory(_)) => Err(MatcherError::Memory),
+        Err(VmError::Failed) => Err(MatcherError::Failed),
+    }
+}
