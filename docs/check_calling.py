@@ -15,7 +15,7 @@ FILE = re.compile(r"`(crates/[\w/]+\.(rt|antt))`")
 SUFFIX = {"rust": "rt", "antt": "antt"}
 ITEM = re.compile(
     r"^(?:impl(?:<[^\n]*?>)? (?:[^\n]* for )?|pub trait )(?P<owner>\w+)|^\}"
-    r"|^(?: {4})?(?:pub(?:\(crate\))? )?fn (?P<name>\w+)(?P<rest>.*?)(?:\n *\{\}?| \{|;)$",
+    r"|^(?: {4})?(?:pub(?:\(crate\))? )?fn (?P<name>\w+)(?P<rest>.*?)(?:\n *\{\}?|(?<!record) \{|;)$",
     re.M | re.S,
 )
 CLAUSE = re.compile(r"^ *(?=(?:requires|ensures)\*?(?: \w+)? \{)", re.M)

@@ -17,14 +17,15 @@ ROWS = [
     ("lol_css", "rows"),
     ("lol_vm", "rows"),
     ("lol_script", "laws"),
-    ("lol_rows", "caseless_names"),
-    ("lol_rows", "void_names"),
-    ("lol_rows", "worked_runs"),
-    ("lol_rows", "worked_texts"),
+    ("lol_vectors", "caseless_names"),
+    ("lol_vectors", "void_names"),
+    ("lol_vectors", "worked_runs"),
+    ("lol_vectors", "worked_texts"),
 ]
 
-SPEC = re.compile(r"Rattle\.(lol_\w+)\.specs\.(?!declared)(\w+)")
-DECLARED = re.compile(r"Rattle\.(lol_\w+)\.specs\.declared\.([\w.]+)")
+CRATE = r"Rattle\.((?:lol|test)_\w+)"
+SPEC = re.compile(CRATE + r"\.specs\.(?!declared)(\w+)")
+DECLARED = re.compile(CRATE + r"\.specs\.declared\.([\w.]+)")
 DECLARATION = re.compile(
     r"^pub(?:\(crate\))? (?:(?:enum|struct) (\w+)[^;{]*\{.*?^\}|type (\w+)[^;]*;)", re.M | re.S
 )
@@ -43,9 +44,9 @@ def write(path, text):
 
 def renamed(text):
     """The same text, where each crate's definitions and proofs stand in a folder of the one crate `definitions`."""
-    text = re.sub(r"Rattle\.(lol_\w+)\.specs\.declared\.", r"Rattle.definitions.specs.declared.\1.", text)
-    text = re.sub(r"Rattle\.(lol_\w+)\.specs\.(?!declared)", r"Rattle.definitions.specs.\1.", text)
-    return re.sub(r"Rattle\.(lol_\w+)\.proofs\.", r"Rattle.definitions.proofs.\1.", text)
+    text = re.sub(CRATE + r"\.specs\.declared\.", r"Rattle.definitions.specs.declared.\1.", text)
+    text = re.sub(CRATE + r"\.specs\.(?!declared)", r"Rattle.definitions.specs.\1.", text)
+    return re.sub(CRATE + r"\.proofs\.", r"Rattle.definitions.proofs.\1.", text)
 
 
 class Definitions:
@@ -200,7 +201,7 @@ def rows_that_refuse(change, repository, base, folder):
     crate = f"{folder}/crates/definitions"
 
     def put(path, text):
-        home, name = re.match(r"(lol_\w+)/specs/(\w+)\.antt", path).groups()
+        home, name = re.match(r"(\w+)/specs/(\w+)\.antt", path).groups()
         write(f"{crate}/specs/{home}/{name}.antt", renamed(text))
 
     change.apply("definition", f"{repository}/crates", put)

@@ -1,8 +1,8 @@
 #!/bin/sh
-# Refuses each request for memory in turn: of every scenario of crates/lol_refusals, and of lol_match over the scripts of examples/.
+# Refuses each request for memory in turn: of every scenario of crates/test_refusals, and of lol_match over the scripts of examples/.
 #
 # Run it at the top of the repository; it wants a C compiler (cc) and glibc, and the two programs built:
-#     (cd crates/lol_refusals && rt run < /dev/null) && (cd crates/lol_match && rt run < /dev/null)
+#     (cd crates/test_refusals && rt run < /dev/null) && (cd crates/lol_match && rt run < /dev/null)
 #     sh hostile/refusals.sh
 #
 # One run refuses one request, the first, the second, and so on until a run meets none. It is told for each scenario how many of them were
@@ -14,7 +14,7 @@ set -u
 folder=$(mktemp -d)
 trap 'rm -r "$folder"' EXIT
 cc -shared -fPIC -O2 -o "$folder/refuse.so" hostile/refuse.c || exit 2
-refusals=crates/lol_refusals/out/lol_refusals
+refusals=crates/test_refusals/out/test_refusals
 match=crates/lol_match/out/lol_match
 wrong=0
 
