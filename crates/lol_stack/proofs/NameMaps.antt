@@ -2,7 +2,7 @@
 use Rattle.std.proofs.Common.{◌≡◌, ◌∙◌, sym, ap, refl, true, false, cond, Option, None}
 use Rattle.std.proofs.lemmas.Slice.Eq.{bytes_eq-Decides}
 use Rattle.lol_base.specs.LocalNames.{Name, same_local_name}
-use Rattle.lol_names.specs.NameMaps.{SlottedNames, value_of, IsPutAt}
+use Rattle.lol_name_map.specs.NameMaps.{SlottedNames, value_of, IsPutAt}
 
 module _ {V : Type 0} where
   -- equal names find the same

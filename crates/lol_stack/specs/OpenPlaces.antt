@@ -1,7 +1,7 @@
 -- The places of the open elements of each name.
 use Rattle.std.specs.Prelude.{ℕ, List, [], Option, Some, None}
 use Rattle.lol_base.specs.LocalNames.{Name}
-use Rattle.lol_names.specs.NameMaps.{value_of}
+use Rattle.lol_name_map.specs.NameMaps.{value_of}
 use Rattle.lol_stack.specs.declared.open_names.Places.{Places}
 use Rattle.lol_stack.specs.declared.open_names.OpenNames.{OpenNames}
 use Rattle.lol_stack.specs.Places.{places_listed}

@@ -10,7 +10,7 @@ ghost use Rattle.lol_stack.specs.TypedCounts.{counted_by_type, cut_to, key_of, c
 
 use lol_base::LocalName;
 use lol_instructions::ChildCounter;
-use lol_names::NameMap;
+use lol_name_map::NameMap;
 use std::alloc::{AllocError, Global};
 use std::marker::Model;
 

@@ -1,3 +1,5 @@
-pub mod PlainElements
-pub mod PlainNodes
-pub mod Plain
+pub mod Runs
+pub mod VoidNames
+pub mod CaselessNames
+pub mod WorkedRuns
+pub mod WorkedTexts

@@ -6,9 +6,8 @@
 mod page;
 
 ghost use Rattle.std.specs.Prelude.{◌↔◌, ◌<◌, IfOk, IsTrue, length, true};
-ghost use Rattle.lol_vm.specs.Views.{selectors, tag_of};
-ghost use Rattle.lol_matcher.specs.Answering.{reported_after};
-ghost use Rattle.lol_matcher.specs.Told.{heard};
+ghost use Rattle.lol_matcher.specs.Answering.{reported_in};
+ghost use Rattle.lol_matcher.specs.Noted.{handed};
 
 use anyhow::Result;
 use lol_matcher::{Attributes, AuxStartTagInfo, Matcher, MatcherError, Namespace};
@@ -66,7 +65,7 @@ fn is_unwanted(
     aux_info: AuxStartTagInfo<'_>,
 ) -> Result<bool, MatcherError>
     ensures { IfOk result (λ found. IsTrue found ↔ (0 < length
-        (reported_after (selectors matcher.old.told.ast) matcher.old.told.esi (heard matcher.old.told) (tag_of name.now ns aux_info.entry true)))) }
+        (reported_in matcher.old.told (handed name.now ns aux_info.entry)))) }
 {
     matcher.start_with(name, ns, aux_info)?;
     Ok(!matcher.matches().is_empty())

@@ -1,5 +1,5 @@
 use Rattle.std.proofs.Common.{◌∙◌, sym, ap, subst, Some, ◌++◌, ◌∷◌, []}
-use Rattle.lol_names.specs.NameMaps.{IsPutAt}
+use Rattle.lol_name_map.specs.NameMaps.{IsPutAt}
 use Rattle.lol_stack.specs.declared.open_names.Places.TheVariants.{One}
 use Rattle.lol_stack.specs.OpenPlaces.{places_if}
 use Rattle.lol_stack.proofs.NameMaps.{put-twice, read-put, read-kept}

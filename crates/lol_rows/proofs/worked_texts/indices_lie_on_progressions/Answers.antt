@@ -1,9 +1,0 @@
-use Rattle.std.proofs.Common.{refl}
-use Rattle.lol_rows.proofs.worked_texts.indices_lie_on_progressions.Goals as goal
-
-pub returns : goal.returns
-returns c = record {
-  rising = (2, refl);
-  falling = (3, refl);
-  alone = (0, refl);
-}

@@ -1,5 +1,0 @@
-pub mod Runs
-pub mod VoidNames
-pub mod CaselessNames
-pub mod WorkedRuns
-pub mod WorkedTexts

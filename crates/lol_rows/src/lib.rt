@@ -1,8 +1,0 @@
-//! Worked rows of the definitions, each computed from texts of selectors and from tags: the contract of an empty function is its rows. The tests
-//! of `lol_agreement` tell the machine the same rows, so that definitions and code can't be changed alike unnoticed.
-#![tactic(auto)]
-
-pub mod caseless_names;
-pub mod void_names;
-pub mod worked_runs;
-pub mod worked_texts;

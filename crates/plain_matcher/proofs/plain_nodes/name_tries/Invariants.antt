@@ -1,0 +1,12 @@
+use Rattle.std.proofs.Common.{◌≡◌, ◌≤◌, map, take}
+use Rattle.lol_vm.specs.Answers as answers
+use Rattle.plain_matcher.specs.PlainElements.{element_shown}
+use Rattle.plain_matcher.specs.PlainNodes.{selectors_shown}
+use Rattle.plain_matcher.proofs.plain_nodes.name_tries.Given as goal
+
+abbrev pub invariant-loop-node : goal.invariant-loop-node
+invariant-loop-node l =
+    record {
+      counted : l.tries ≡ answers.name_tries (selectors_shown (take l.node-index l.nodes)).nodes (map element_shown l.outer);
+      within : l.tries ≤ l.node-index;
+    }

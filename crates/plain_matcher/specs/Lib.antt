@@ -1,0 +1,3 @@
+pub mod PlainElements
+pub mod PlainNodes
+pub mod Plain

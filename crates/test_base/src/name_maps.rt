@@ -1,0 +1,236 @@
+//! Values by the names of elements.
+
+use lol_base::LocalName;
+use lol_name_map::NameMap;
+use std::alloc::{AllocError, Global};
+use std::process::Abort;
+use std::test::Fail;
+
+/// The bytes that a code of two bytes can end with. With `a` or `c` before them they have the slots 0 to 31, with `b` or `d` 32 to 63.
+const ENDS: &[u8] = b"123456abcdefghijklmnopqrstuvwxyz";
+
+/// Gives a name a value, whether it stands there or not.
+fn put(
+    alloc: Global,
+    map: &mut NameMap<usize>,
+    name: &[u8],
+    value: usize,
+) -> Result<(), AllocError> {
+    let name = LocalName::new(name).into_owned(alloc)?;
+    match map.search(&name) {
+        Ok(place) => {
+            map.replace(place, value);
+            Ok(())
+        }
+        Err(place) => map.insert(place, name, value),
+    }
+}
+
+/// Takes a name out, and answers its value.
+fn take(map: &mut NameMap<usize>, name: &[u8]) -> Option<usize> {
+    let place = map.search(&LocalName::new(name)).ok()?;
+    let value = map.replace(place, 0);
+    map.remove(place);
+    Some(value)
+}
+
+fn get(map: &NameMap<usize>, name: &[u8]) -> Option<usize> {
+    map.get(&LocalName::new(name)).copied()
+}
+
+/// Gives each name of this first letter its end's place in `ENDS`, more `first_value`.
+fn put_all(
+    alloc: Global,
+    map: &mut NameMap<usize>,
+    letter: u8,
+    first_value: usize,
+) -> Result<(), AllocError> {
+    for (at, end) in ENDS.iter().enumerate() {
+        put(alloc, map, &[letter, *end], first_value.saturating_add(at))?;
+    }
+    Ok(())
+}
+
+/// Whether each name of this first letter has the value that `put_all` gave it.
+fn have_all(map: &NameMap<usize>, letter: u8, first_value: usize) -> bool {
+    ENDS.iter().enumerate().all(|(at, end)| get(map, &[letter, *end])
+        == Some(first_value.saturating_add(at)))
+}
+
+/// Whether no name of this first letter has a value.
+fn have_none(map: &NameMap<usize>, letter: u8) -> bool {
+    ENDS.iter().all(|end| get(map, &[letter, *end]).is_none())
+}
+
+/// Takes the names of this first letter out, from the last one, and answers whether each had the value that `put_all` gave it.
+fn take_all(map: &mut NameMap<usize>, letter: u8, first_value: usize) -> bool {
+    let mut had = true;
+    for (at, end) in ENDS.iter().enumerate().rev() {
+        had &= take(map, &[letter, *end]) == Some(first_value.saturating_add(at));
+    }
+    had
+}
+
+/// A step on a map, with what it has to answer.
+#[derive(Clone, Copy)]
+enum Step {
+    Put(&'static [u8], usize),
+    Get(&'static [u8], Option<usize>),
+    Take(&'static [u8], Option<usize>),
+}
+
+use Step::{Get, Put, Take};
+
+/// Takes a step, and says whether it answered what it has to.
+fn is_answered(alloc: Global, map: &mut NameMap<usize>, step: Step) -> Result<bool, AllocError> {
+    match step {
+        Put(name, value) => {
+            put(alloc, map, name, value)?;
+            Ok(true)
+        }
+        Get(name, value) => Ok(get(map, name) == value),
+        Take(name, value) => Ok(take(map, name) == value),
+    }
+}
+
+fn check(rt: &impl Abort, alloc: Global, steps: &[Step]) -> Result<(), Fail> {
+    let mut map = NameMap::new(alloc);
+    for (at, step) in steps.iter().enumerate() {
+        assert!(rt; is_answered(alloc, &mut map, *step)?, "step {at}");
+    }
+    Ok(())
+}
+
+/// Names that share a slot.
+const IN_A_SLOT: &[Step] = &[
+    Get(b"aa", None),
+    Put(b"aa", 1),
+    Put(b"ca", 2),
+    Get(b"AA", Some(1)),
+    Get(b"Ca", Some(2)),
+    Take(b"aa", Some(1)),
+    Get(b"aa", None),
+    Get(b"ca", Some(2)),
+    Put(b"ca", 3),
+    Get(b"aa", None),
+    Get(b"ca", Some(3)),
+    Put(b"aa", 4),
+    Take(b"ca", Some(3)),
+    Get(b"aa", Some(4)),
+    Get(b"ca", None),
+    Take(b"ca", None),
+];
+
+#[test]
+fn keep_names_that_share_a_slot(rt: HostRuntime) -> Result<(), Fail> {
+    check(&rt, rt.alloc(), IN_A_SLOT)
+}
+
+/// `h7`, `x-y` and `abcdefghijklm` have no code, and the slot of `bz` and `dz`.
+const WITHOUT_CODE: &[Step] = &[
+    Put(b"h7", 0),
+    Put(b"x-y", 1),
+    Put(b"abcdefghijklm", 2),
+    Put(b"bz", 10),
+    Put(b"X-y", 11),
+    Get(b"h7", Some(0)),
+    Get(b"x-Y", Some(11)),
+    Get(b"abcdefghijklM", Some(2)),
+    Get(b"bz", Some(10)),
+    Get(b"x-z", None),
+    Get(b"dz", None),
+    Take(b"h7", Some(0)),
+    Put(b"dz", 12),
+    Take(b"bz", Some(10)),
+    Take(b"x-y", Some(11)),
+    Get(b"h7", None),
+    Get(b"dz", Some(12)),
+    Get(b"bz", None),
+    Get(b"abcdefghijklm", Some(2)),
+];
+
+#[test]
+fn keep_names_without_a_code(rt: HostRuntime) -> Result<(), Fail> {
+    check(&rt, rt.alloc(), WITHOUT_CODE)
+}
+
+/// A step on all the names of a first letter.
+#[derive(Clone, Copy)]
+enum Stride {
+    /// Puts them, with this first value.
+    PutAll(u8, usize),
+    /// They are there, with this first value.
+    HaveAll(u8, usize),
+    HaveNone(u8),
+    /// Takes them, with this first value.
+    TakeAll(u8, usize),
+}
+
+use Stride::{HaveAll, HaveNone, PutAll, TakeAll};
+
+/// Takes a stride, and says whether it answered what it has to.
+fn is_well(alloc: Global, map: &mut NameMap<usize>, stride: Stride) -> Result<bool, AllocError> {
+    match stride {
+        PutAll(letter, first_value) => {
+            put_all(alloc, map, letter, first_value)?;
+            Ok(true)
+        }
+        HaveAll(letter, first_value) => Ok(have_all(map, letter, first_value)),
+        HaveNone(letter) => Ok(have_none(map, letter)),
+        TakeAll(letter, first_value) => Ok(take_all(map, letter, first_value)),
+    }
+}
+
+fn take_strides(
+    rt: &impl Abort,
+    alloc: Global,
+    map: &mut NameMap<usize>,
+    strides: &[Stride],
+) -> Result<(), AllocError> {
+    for (at, stride) in strides.iter().enumerate() {
+        assert!(rt; is_well(alloc, map, *stride)?, "step {at}");
+    }
+    Ok(())
+}
+
+/// More names than slots.
+const ALL: &[Stride] = &[
+    PutAll(b'a', 0),
+    PutAll(b'b', 100),
+    PutAll(b'c', 200),
+    PutAll(b'd', 300),
+];
+
+const AFTER_ALL: &[Stride] = &[
+    HaveAll(b'a', 0),
+    HaveAll(b'b', 100),
+    HaveAll(b'C', 200),
+    HaveAll(b'D', 300),
+    TakeAll(b'a', 0),
+    HaveNone(b'a'),
+    HaveAll(b'c', 200),
+    TakeAll(b'd', 300),
+    PutAll(b'a', 500),
+    PutAll(b'c', 600),
+    HaveAll(b'a', 500),
+    HaveAll(b'b', 100),
+    HaveAll(b'c', 600),
+    HaveNone(b'd'),
+    TakeAll(b'c', 600),
+    TakeAll(b'b', 100),
+    HaveAll(b'a', 500),
+    HaveNone(b'c'),
+    TakeAll(b'a', 500),
+    HaveNone(b'a'),
+];
+
+#[test]
+fn keep_more_names_than_slots(rt: HostRuntime) -> Result<(), Fail> {
+    let alloc = rt.alloc();
+    let mut map = NameMap::new(alloc);
+    take_strides(&rt, alloc, &mut map, ALL)?;
+    put(alloc, &mut map, b"x-y", 400)?;
+    take_strides(&rt, alloc, &mut map, AFTER_ALL)?;
+    assert!(rt; take(&mut map, b"x-y") == Some(400));
+    Ok(())
+}

@@ -1,0 +1,10 @@
+//! Tests of the trees that selectors make, and of their programs: rows whose answers come from outside, and each call that can refuse once with
+//! ample memory.
+#![tactic(auto)]
+
+#[cfg(test)]
+mod nodes;
+#[cfg(test)]
+mod programs;
+#[cfg(test)]
+mod trees;

@@ -1,0 +1,111 @@
+//! Machines and runs over trees of every number of nodes.
+
+ghost use Rattle.std.specs.Prelude.{◌≡◌};
+ghost use Rattle.lol_vm.specs.Vms.{slot_bytes};
+
+use lol_css::Selector;
+use lol_memory::{MatchInfo, SharedMemoryLimiter};
+use lol_vm::{LocalName, Namespace, SelectorMatchingVm};
+use std::alloc::Global;
+use std::process::Abort;
+use std::test::Fail;
+use test_kit::{Numbered, is_tried, name_of, node_selectors, tree_of};
+
+/// How many bytes an open element is charged for.
+const ITEM_BYTES: usize = 64;
+
+/// The ids of a start tag that has the name of a number: the number, where the tree has its node.
+#[derive(Clone, Copy)]
+struct Ids {
+    only: Option<u32>,
+    count: usize,
+    are_wanted: bool,
+}
+
+impl Ids {
+    fn of(number: u32, nodes: usize) -> Self {
+        Ids {
+            only: ((number as usize) < nodes).then_some(number),
+            count: 0,
+            are_wanted: true,
+        }
+    }
+
+    fn take(&mut self, info: MatchInfo) {
+        self.are_wanted &= self.only == Some(info.match_id) && info.with_content;
+        self.count = self.count.saturating_add(1);
+    }
+
+    /// Whether exactly the wanted id was taken.
+    fn are_taken(&self) -> bool {
+        self.are_wanted && self.count == usize::from(self.only.is_some())
+    }
+}
+
+/// Tells a machine of a start tag of the name of a number, and says whether it reports what it has to.
+fn starts(
+    alloc: Global,
+    vm: &mut SelectorMatchingVm<Numbered>,
+    limiter: &mut SharedMemoryLimiter,
+    number: u32,
+    nodes: usize,
+) -> bool
+    ensures { slot_bytes vm.new ≡ slot_bytes vm.old }
+{
+    let Ok(text) = name_of(alloc, number) else {
+        return false;
+    };
+    let mut ids = Ids::of(number, nodes);
+    let mut handler = |info: MatchInfo| {
+        ids.take(info);
+    };
+    let name = LocalName::new(text.as_bytes());
+    let answered = vm.exec_for_start_tag(name, Namespace::Html, limiter, &mut handler);
+    answered.is_ok() && ids.are_taken()
+}
+
+/// Releases a machine.
+fn release(rt: &impl Abort, vm: SelectorMatchingVm<Numbered>, limiter: &mut SharedMemoryLimiter)
+    requires { slot_bytes vm ≡ 64 }
+{
+    let charge = vm.charged_slots().checked_mul(ITEM_BYTES);
+    let charge = charge.expect(rt, "a charge that fits");
+    assert!(rt; charge <= limiter.current_usage());
+    vm.release(limiter);
+    assert!(rt; limiter.current_usage() == 0);
+}
+
+/// Makes a machine of the tree of these selectors, and tells it of the names of two nodes, one under the other.
+fn drive(rt: &impl Abort, alloc: Global, selectors: &[Selector]) {
+    let nodes = selectors.len();
+    let ast = tree_of(alloc, selectors).expect(rt, "memory");
+    let mut limiter = SharedMemoryLimiter::new(512);
+    let made = SelectorMatchingVm::new(alloc, ast, ITEM_BYTES, false);
+    assert!(rt; made.is_ok(), "{nodes} nodes");
+    let mut vm = made.expect(rt, "a machine");
+    assert!(rt;
+        starts(alloc, &mut vm, &mut limiter, 0, nodes),
+        "{nodes} nodes"
+    );
+    assert!(rt;
+        starts(alloc, &mut vm, &mut limiter, 1, nodes),
+        "{nodes} nodes"
+    );
+    release(rt, vm, &mut limiter);
+}
+
+/// Trees of up to 5,000 nodes, all numbers up to 1,500.
+#[test]
+fn machines_are_of_every_number_of_nodes(rt: HostRuntime) -> Result<(), Fail> {
+    let selectors = node_selectors(rt.alloc(), 5_000)?;
+    for nodes in 0..5_001 {
+        if is_tried(nodes, 1_500) {
+            drive(
+                &rt,
+                rt.alloc(),
+                selectors.as_slice().get(..nodes).unwrap_or(&[]),
+            );
+        }
+    }
+    Ok(())
+}

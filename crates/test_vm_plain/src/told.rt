@@ -1,0 +1,71 @@
+//! What the machine answers to tags as words.
+
+use crate::tag_words::events_of;
+use lol_vm::{RunStop, SharedMemoryLimiter, TagReport, match_each_event, match_events};
+use std::alloc::Global;
+use std::process::Abort;
+use std::test::Fail;
+use test_kit::{TagWord, attributes_of, selectors, words_of};
+
+/// What the machine answers to tags, with the names of ESI or without, and ample memory.
+pub(crate) fn reports(
+    alloc: Global,
+    texts: &[(&str, u32)],
+    enable_esi_tags: bool,
+    tags: &str,
+) -> Result<Vec<TagReport>, Fail> {
+    let words = words_of(alloc, tags)?;
+    reports_of_tags(alloc, texts, enable_esi_tags, &words)
+}
+
+/// The same for tags that are no words.
+pub(crate) fn reports_of_tags(
+    alloc: Global,
+    texts: &[(&str, u32)],
+    enable_esi_tags: bool,
+    tags: &[TagWord<'_>],
+) -> Result<Vec<TagReport>, Fail> {
+    let attributes = attributes_of(alloc, tags)?;
+    let events = events_of(alloc, tags, &attributes)?;
+    let ast = selectors(alloc, texts)?;
+    let mut limiter = SharedMemoryLimiter::new(1_000_000);
+    match match_events(alloc, ast, 64, enable_esi_tags, &events, &mut limiter) {
+        Ok(reports) => Ok(reports),
+        Err(_) => Err(Fail::from("the run was refused")),
+    }
+}
+
+/// Where a run of so many nested `d` under `*` stops, with items of 64 bytes, this maximum, and so many bytes in use before.
+pub(crate) fn stop_of(
+    rt: &impl Abort,
+    alloc: Global,
+    maximum: usize,
+    usage: usize,
+    depth: usize,
+) -> Result<Option<RunStop>, Fail> {
+    let words = vec![in alloc; TagWord::of("d"); depth]?;
+    let attributes = attributes_of(alloc, &words)?;
+    let events = events_of(alloc, &words, &attributes)?;
+    let ast = selectors(alloc, &[("*", 0)])?;
+    let mut limiter = SharedMemoryLimiter::new(maximum);
+    assert!(rt; limiter.increase_usage(usage).is_ok());
+    let mut handler = |report: TagReport| drop(report);
+    let answered = match_each_event(alloc, ast, 64, false, &events, &mut limiter, &mut handler);
+    assert!(rt; limiter.current_usage() == usage);
+    Ok(answered.err())
+}
+
+/// Whether a report is of a start tag under these ids, with content or without, or of an end tag that closes these elements.
+pub(crate) fn tells(report: &TagReport, numbers: &[usize], content: bool) -> bool {
+    match report {
+        TagReport::Started { matched, .. } => {
+            matched.iter().all(|found| found.with_content == content)
+                && matched
+                    .iter()
+                    .map(|found| found.match_id as usize)
+                    .eq(numbers.iter().copied())
+        }
+        TagReport::Dropped => numbers.is_empty(),
+        TagReport::Ended { closed } => closed.as_slice() == numbers,
+    }
+}
