@@ -1,12 +1,12 @@
 -- A start tag whose attributes are at hand.
-use Rattle.std.proofs.Common.{◌≡◌, ℕ, Bool, true, false, List, [], ◌∷◌, ◌++◌, None, Result, Ok, Err, sym, subst, map, ap, ◌∙◌}
+use Rattle.std.proofs.Common.{◌≡◌, ℕ, Bool, true, false, List, [], ◌∷◌, ◌++◌, None, Result, Ok, Err, refl, sym, subst, map, ap, ◌∙◌}
 use Rattle.std.specs.Prelude.{◌&&◌, if◌then◌else◌, OnErr}
 use Rattle.lol_base.specs.StartTags.{StartTag}
 use Rattle.lol_instructions.specs.declared.tries.Tries.{Tries}
 use Rattle.lol_memory.specs.Limiter.{Limiter}
 use Rattle.lol_memory.specs.declared.match_info.MatchInfo.{MatchInfo}
 use Rattle.lol_program.specs.Paths.{Selectors}
-use Rattle.lol_vm.specs.Answers.{Match, Dropped, Started, document, is_dropped}
+use Rattle.lol_vm.specs.Answers.{Match, Dropped, Started, answer, document, is_dropped}
 use Rattle.lol_vm.specs.Documents.{element_of}
 use Rattle.lol_vm.specs.Events.{Event, Start, has_content}
 use Rattle.lol_vm.specs.Refusals.{Allowance}
@@ -53,7 +53,7 @@ module _ {E : Type 0} (s : Selectors) (esi : Bool) (events : List Event) (tag : 
 -- 3. One whose attributes aren't asked for
 
 module _ {E : Type 0} (s : Selectors) (esi : Bool) (events : List Event) (tag : StartTag) (a : Allowance) (vm : Vm E) (limiter : Limiter) where
-  pub handed_unasked : (items : List MatchInfo) → IsToldAs s esi events tag false items a vm limiter → IsToldAs s esi events (bare_tag tag.name tag.namespace) false items a vm limiter
+  handed_unasked : (items : List MatchInfo) → IsToldAs s esi events tag false items a vm limiter → IsToldAs s esi events (bare_tag tag.name tag.namespace) false items a vm limiter
       → IsHandedAs s esi events tag items a vm limiter
   handed_unasked items whole bare = record {
     reported = subst (λ b. IsReported s esi events tag b items (tries_in vm)) (sym (report_is s esi events tag false items (tries_in vm) whole.reported).asks) whole.reported;
@@ -61,30 +61,31 @@ module _ {E : Type 0} (s : Selectors) (esi : Bool) (events : List Event) (tag : 
     runs = told_either s esi events tag vm limiter whole.runs bare.runs;
   }
 
-  pub handed_unreported : IsUnreported s esi events tag a vm limiter → IsUnreported s esi events (bare_tag tag.name tag.namespace) a vm limiter → IsHandedUnreported s esi events tag a vm limiter
+  handed_unreported : IsUnreported s esi events tag a vm limiter → IsUnreported s esi events (bare_tag tag.name tag.namespace) a vm limiter → IsHandedUnreported s esi events tag a vm limiter
   handed_unreported whole bare = record { fits = whole.fits; runs = told_either s esi events tag vm limiter whole.runs bare.runs }
 
--- 4. One whose attributes are asked for
+-- 4. One whose attributes are asked for, or not
 
-module _ {T : Type 0} (s : Selectors) (esi : Bool) (events : List Event) (tag : StartTag) (is : asks_after s esi events tag ≡ true) (finish : tag.finish ≡ true) (items : List MatchInfo) (given a : Allowance) (same : given ≡ a)
-    (old mid new : Vm (Kept T)) (kept : data_in mid ≡ data_in old) (limiter : Limiter) where
-  pub handed_asked : (finished : Finished) → IsFinished s esi events tag finished items given mid new limiter → IsHanded s esi events tag finished items a old new limiter
-  handed_asked (Reported opened) h = (
-    record {
-      reported = subst (λ b. IsReported s esi events tag b items (tries_in new)) (sym is) h.0.reported;
-      fits = subst (λ a. refusal_after s esi a events tag ≡ None) same h.0.fits;
-      runs = told_whole s esi events tag new limiter is finish h.0.runs;
-    },
-    h.1,
-    subst (λ kept. KeepsOne (has_content esi tag) items kept (data_in new)) kept h.2,
-  )
-  handed_asked Unreported h = (
-    record {
-      fits = subst (λ a. refusal_after s esi a events tag ≡ None) same h.0.fits;
-      runs = told_whole s esi events tag new limiter is finish h.0.runs;
-    },
-    subst (λ kept. GrowsBy (has_content esi tag) kept (data_in new)) kept h.1,
-  )
+pub asks_are : (s : Selectors) (esi : Bool) (events : List Event) (tag : StartTag) (matched : List Match) (asked : Bool) (m n : ℕ) → answer s esi (document s esi events) (Start tag) ≡ Started matched asked m n
+    → asks_after s esi events tag ≡ asked
+asks_are s esi events tag matched asked m n is = (same_report (is_dropped s (element_of (document s esi events) tag) (document s esi events).open_elements) _ _ _ _ _ _ _ _ is).asks
+
+module _ {E : Type 0} (s : Selectors) (esi : Bool) (events : List Event) (tag : StartTag) (a : Allowance) (vm : Vm E) (limiter : Limiter) (finish : tag.finish ≡ true) where
+  pub handed_as : (asked : Bool) (items : List MatchInfo) → IsToldAs s esi events tag asked items a vm limiter → (asked ≡ false → IsToldAs s esi events (bare_tag tag.name tag.namespace) asked items a vm limiter)
+      → IsHandedAs s esi events tag items a vm limiter
+  handed_as true items whole bare =
+      let asks = (report_is s esi events tag true items (tries_in vm) whole.reported).asks in
+      record {
+        reported = subst (λ b. IsReported s esi events tag b items (tries_in vm)) (sym asks) whole.reported;
+        fits = whole.fits;
+        runs = told_whole s esi events tag vm limiter asks finish whole.runs;
+      }
+  handed_as false items whole bare = handed_unasked s esi events tag a vm limiter items whole (bare refl)
+
+  pub handed_unreported_as : (asked : Bool) → asks_after s esi events tag ≡ asked → IsUnreported s esi events tag a vm limiter → (asked ≡ false → IsUnreported s esi events (bare_tag tag.name tag.namespace) a vm limiter)
+      → IsHandedUnreported s esi events tag a vm limiter
+  handed_unreported_as true asks whole bare = record { fits = whole.fits; runs = told_whole s esi events tag vm limiter asks finish whole.runs }
+  handed_unreported_as false asks whole bare = handed_unreported s esi events tag a vm limiter whole (bare refl)
 
 -- 5. What a matcher reported of one
 

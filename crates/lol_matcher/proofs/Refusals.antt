@@ -28,15 +28,6 @@ is_refusal Failed free refusal h = h
 is_refusal NotAsked free refusal h = h
 is_refusal OutsideInput free refusal h = h
 
--- it is refused for the same, where less is run without memory
-pub refused_for_less : {free less : Type 0} (error : MatcherError) (refusal : Option Cause) → (less → free) → IsRefusedFor error free refusal → IsRefusedFor error less refusal
-refused_for_less MemoryLimitExceeded refusal runs h = h
-refused_for_less CounterFull refusal runs h = h
-refused_for_less Memory refusal runs h = (h.0, λ free. h.1 (runs free))
-refused_for_less Failed refusal runs h = h
-refused_for_less NotAsked refusal runs h = h
-refused_for_less OutsideInput refusal runs h = h
-
 -- where memory was refused for the list of a report, the tag wasn't to be refused
 pub refused_unreported : {free : Type 0} {refusal : Option Cause} → refusal ≡ None → IsRefusedFor Memory free refusal
 refused_unreported none = (λ full. none_is_some none full, λ free over. none_is_some none over)

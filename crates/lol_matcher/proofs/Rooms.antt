@@ -13,11 +13,15 @@ use Rattle.lol_vm.specs.declared.error.VmError.TheVariants.{InfoRequest, MemoryL
 use Rattle.std.specs.declared.alloc.AllocError.{AllocError}
 use Rattle.lol_vm.proofs.CallerLemmas.{hasnt_failed}
 
+-- a counter isn't full where no such refusal was answered
+pub room_unless : {E : Type 0} (s : Selectors) (esi : Bool) (events : List Event) (vm : Vm E) (IsFull : Type 0) → Stands s esi vm events → IsFull ↔ ((has_failed vm ≡ false) × (last_count (stack_in vm) ≡ full_count))
+    → (IsFull → ⊥) → last_count (stack_in vm) ≡ full_count → ⊥
+room_unless s esi events vm IsFull stands exact other full = other (exact.1 (hasnt_failed s esi vm events stands, full))
+
 module _ {E : Type 0} (s : Selectors) (esi : Bool) (events : List Event) (vm : Vm E) (result : Result (Unit {0}) (VmError E)) (stands : Stands s esi vm events)
     (exact : (result ≡ Err CounterFull) ↔ ((has_failed vm ≡ false) × (last_count (stack_in vm) ≡ full_count))) where
-  -- a counter isn't full where no such refusal was answered
   has_room : (result ≡ Err CounterFull → ⊥) → last_count (stack_in vm) ≡ full_count → ⊥
-  has_room other full = other (exact.1 (hasnt_failed s esi vm events stands, full))
+  has_room other = room_unless s esi events vm (result ≡ Err CounterFull) stands exact other
 
   pub room_answered : (done : Unit {0}) → result ≡ Ok done → last_count (stack_in vm) ≡ full_count → ⊥
   room_answered done is = has_room (λ full. cc)

@@ -49,7 +49,7 @@ RefusesStart error m name ns =
 
 -- A start tag is refused for this, whose attributes are at hand.
 abbrev pub RefusesStartWith : {T : Type 0} → MatcherError → Matching T → StartTag → Type 0
-RefusesStartWith error m tag = IsRefusedFor error (RunsWithoutMemory (selectors m.told.ast) m.told.esi (heard m.told) tag) (refusal_of m (heard m.told) tag)
+RefusesStartWith error m tag = IsRefusedFor error (AreFlat (selectors m.told.ast)) (refusal_of m (heard m.told) tag)
 
 -- The start tag that waits is refused for this.
 abbrev pub RefusesFinish : {T : Type 0} → MatcherError → Matching T → StartTag → Type 0

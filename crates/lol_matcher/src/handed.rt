@@ -5,19 +5,18 @@ ghost use Rattle.lol_base.specs.StartTags.{RangesAreInside};
 ghost use Rattle.lol_matcher.specs.Keeping.{ForHandedTag, ForTag, IsCharged, IsHanded, KeepsItem, allowed};
 ghost use Rattle.lol_matcher.specs.Refusing.{IsRefusedFor, refusal_after};
 ghost use Rattle.lol_vm.specs.Answers.{document};
-ghost use Rattle.lol_vm.specs.FreeTags.{RunsWithoutMemory};
+ghost use Rattle.lol_vm.specs.FreeTags.{AreFlat};
 ghost use Rattle.lol_vm.specs.Vms.{HasOpen, IsTriedAtMost, data_in, slot_bytes, tries_in};
 
 use crate::error::MatcherError;
 use crate::laws::run_laws;
 use crate::matches::Matches;
-use crate::tags::{Finished, Kept, clear_opened, finish_tag};
+use crate::tags::{Finished, Kept, clear_opened};
 use lol_base::{AuxStartTagInfo, LocalName, Namespace};
 use lol_memory::{MatchInfo, SharedMemoryLimiter};
-use lol_vm::{SelectorMatchingVm, VmError};
+use lol_vm::{SelectorMatchingVm, StartTagError};
 
-/// Tells the machine of a start tag whose attributes are at hand, hands them over where they are asked for, and keeps what it is reported
-/// under.
+/// Tells the machine of a start tag whose attributes are at hand, and keeps what it is reported under.
 pub(crate) fn hand_tag<T: Drop>(
     vm: &mut SelectorMatchingVm<Kept<T>>,
     limiter: &mut SharedMemoryLimiter,
@@ -32,7 +31,7 @@ pub(crate) fn hand_tag<T: Drop>(
         IsHanded s esi events tag finished matches.new.items.items (allowed vm.old limiter.old) vm.old vm.new limiter.new)) }
     ensures refused { IfErr result (λ error.
         ForHandedTag vm.old limiter.old name.now ns aux_info.entry (λ s esi events tag.
-        IsRefusedFor error (RunsWithoutMemory s esi events tag) (refusal_after s esi (allowed vm.old limiter.old) events tag))) }
+        IsRefusedFor error (AreFlat s) (refusal_after s esi (allowed vm.old limiter.old) events tag))) }
     ensures unchanged { OnErr result (ForTag vm.old limiter.old name.now ns (λ s esi events tag.
         data_in vm.new ≡ data_in vm.old)) }
     ensures still_open { OnErr result (ForTag vm.old limiter.old name.now ns (λ s esi events tag.
@@ -51,20 +50,18 @@ pub(crate) fn hand_tag<T: Drop>(
     {
         matches.keep(info);
     };
-    match vm.exec_for_start_tag(LocalName::new(name), ns, limiter, &mut handler) {
-        Ok(()) => {
+    let local_name = LocalName::new(name);
+    match vm.exec_for_whole_start_tag(local_name, ns, aux_info, limiter, &mut handler) {
+        Ok(_asked) => {
             let opened = clear_opened(vm, open_before);
             if matches.refused {
                 return Ok(Finished::Unreported);
             }
             Ok(Finished::Reported(opened))
         }
-        Err(VmError::InfoRequest(request)) => {
-            finish_tag(vm, limiter, request, aux_info, matches)
-        }
-        Err(VmError::MemoryLimitExceeded(_)) => Err(MatcherError::MemoryLimitExceeded),
-        Err(VmError::CounterFull) => Err(MatcherError::CounterFull),
-        Err(VmError::Memory(_)) => Err(MatcherError::Memory),
-        Err(VmError::Failed) => Err(MatcherError::Failed),
+        Err(StartTagError::MemoryLimitExceeded) => Err(MatcherError::MemoryLimitExceeded),
+        Err(StartTagError::CounterFull) => Err(MatcherError::CounterFull),
+        Err(StartTagError::Memory) => Err(MatcherError::Memory),
+        Err(StartTagError::Failed) => Err(MatcherError::Failed),
     }
 }

@@ -1,6 +1,6 @@
 -- Start tags that take no memory.
 use Rattle.std.proofs.Common.{◌≡◌, ℕ, suc, zero, ◌<◌, Bool, true, false, cond, true≢false, List, [], ◌∷◌, length, map, Option, Some, None, Result, Err, refl, sym, ap, ◌∙◌, subst, arith, inl, inr, get_or, Contains}
-use Rattle.std.specs.Prelude.{◌||◌, slice_get, not, ◌&&◌}
+use Rattle.std.specs.Prelude.{◌||◌, ◌⊎◌, slice_get, not, ◌&&◌}
 use Rattle.std.specs.List.{list_any, list_all}
 use Rattle.std.specs.Option.{IsNone, option_map}
 use Rattle.std.proofs.lemmas.List.{length-map}
@@ -31,20 +31,18 @@ use Rattle.lol_vm.specs.Events.{has_content, has_content_in}
 use Rattle.lol_memory.specs.Ids.{AllSmall}
 use Rattle.lol_css.specs.declared.selector.Combinator.{Combinator}
 use Rattle.lol_css.specs.declared.selector.Combinator.TheVariants.{Child, Descendant}
-use Rattle.lol_vm.specs.FreeTags.{AreSmall}
+use Rattle.lol_vm.specs.FreeTags.{AreFlat, AreSmall, TakesNoMemory}
 use Rattle.lol_vm.specs.InstructionRuns.{NeedNoMemory}
 use Rattle.lol_vm.specs.StackMachines.{KeepsTyped}
 use Rattle.lol_stack.specs.TypedCounts.{TypedCount}
 use Rattle.lol_stack.specs.Stacks.{typed_in}
 use Rattle.lol_vm.specs.Standing.{Machine}
-use Rattle.lol_vm.specs.VmErrors.{IsAskedOrFull, IsNotForMemory, child_error, push_error}
+use Rattle.lol_vm.specs.VmErrors.{IsAskedOrFull, IsNotForMemory, push_error}
 use Rattle.lol_memory.specs.declared.limited_vec.PushError.{PushError}
 use Rattle.lol_memory.specs.declared.limited_vec.PushError.TheVariants as pushes
 use Rattle.lol_vm.specs.PlaceRuns.{Context}
 use Rattle.lol_vm.specs.TagRuns.{stop_at}
 use Rattle.lol_vm.specs.Vms.{Vm, Shows, IsRequested, GoesOnAt, content_at}
-use Rattle.lol_stack.specs.declared.stack.AddChildError.{AddChildError}
-use Rattle.lol_stack.specs.declared.stack.AddChildError.TheVariants as children
 use Rattle.lol_vm.specs.declared.error.VmError.{VmError}
 use Rattle.lol_vm.specs.declared.error.VmError.TheVariants.{InfoRequest, MemoryLimitExceeded, Memory, CounterFull, Failed}
 use Rattle.lol_stack.specs.declared.execution_ctx.ExecutionCtx.{ExecutionCtx}
@@ -171,10 +169,17 @@ module _ {E : Type 0} (s : Selectors) (paths : List Path) (vm : Vm E) (m : Machi
       untyped (typed_in vm.stack) m.program.by_type (length m.items) m.typed shown.stack.typed
       (ap (λ (p : programs.Program). p.by_type) shown.program ∙ not_by_type s paths vm.program small shown_program)
 
--- 3. Answers
+-- a start tag that takes no memory, or one of flat selectors
+pub small_if : (s : Selectors) (tag : StartTag) → TakesNoMemory s tag ⊎ AreFlat s → AreSmall s
+small_if s tag (inl takes) = takes.0
+small_if s tag (inr flat) = flat.small
 
-pub full_only : {E : Type 0} (child : AddChildError) (made error : VmError E) → child ≡ children.CounterFull → made ≡ child_error child → made ≡ error → IsAskedOrFull error
-full_only child made error is from same = subst IsAskedOrFull (sym (ap child_error is) ∙ (sym from ∙ same)) tt
+pub free_if : {E : Type 0} (s : Selectors) (paths : List Path) (vm : Vm E) (m : Machine) → Shows vm m → IsProgramOf s paths m.program → (esi : Bool) (tag : StartTag)
+    → TakesNoMemory s tag ⊎ AreFlat s → NeedNoMemory (has_content esi tag) vm.program.instructions.items
+free_if s paths vm m shown program esi tag (inl takes) = is_closed_free s paths vm m shown program takes.0 (has_content esi tag) (void_is_closed esi tag takes.1 takes.2)
+free_if s paths vm m shown program esi tag (inr flat) = is_alone_free s paths vm m shown program flat.small flat.alone (has_content esi tag)
+
+-- 3. Answers
 
 -- a request that changes nothing
 pub asked_only : {E : Type 0} (ctx : ExecutionCtx E) (point : RecoveryPoint) (old new : Vm E) (result : Result (Unit {0}) (VmError E)) (error : VmError E)

@@ -1,5 +1,5 @@
 -- A start tag, and its rest if that is handed over.
-use Rattle.std.proofs.Common.{◌≡◌, ℕ, ◌+◌, ◌-◌, ◌≤◌, ◌<◌, ◌*◌, Bool, true, false, not, Result, Err, List, [], ◌∷◌, ◌++◌, length, map, reverse, Vec, Option, Some, None, refl, sym, ap, ◌∙◌, subst, arith}
+use Rattle.std.proofs.Common.{◌≡◌, ℕ, ◌+◌, ◌-◌, ◌≤◌, ◌<◌, ◌*◌, Bool, true, false, not, List, [], ◌∷◌, ◌++◌, length, map, reverse, Vec, Option, Some, None, refl, sym, ap, ◌∙◌, subst, arith}
 use Rattle.std.specs.Prelude.{max, ◌&&◌, if◌then◌else◌, ◌↔◌, ◌^◌, ◌⊎◌}
 use Rattle.std.specs.Global.{Global}
 use Rattle.std.proofs.lemmas.List.{length-append, length-map, map_push, reverse-append}
@@ -26,8 +26,6 @@ use Rattle.lol_vm.specs.Standing.{StandsFor, unfinished}
 use Rattle.lol_stack.specs.Stacks.{items_in, list_in, last_count}
 use Rattle.lol_vm.specs.Vms.{Vm, Stands, IsAnswered, IsPending, AreOpened, info_of, stack_in, tries_in, data_in, has_failed, slots_charged, slot_bytes}
 use Rattle.lol_vm.specs.declared.error.AuxStartTagInfoRequest.{AuxStartTagInfoRequest}
-use Rattle.lol_vm.specs.declared.error.VmError.{VmError}
-use Rattle.lol_vm.specs.declared.error.VmError.TheVariants.{CounterFull}
 use Rattle.lol_vm.specs.declared.events.TagReport.TheVariants as reports
 use Rattle.lol_stack.specs.declared.stack_item.StackItemOf.{StackItemOf}
 use Rattle.lol_vm.specs.Follows.{StartedElement}
@@ -104,9 +102,9 @@ Limits many slots bytes l =
 
 module _ {E : Type 0} where
   -- a counter isn't full where no such refusal was answered
-  pub has_room : (s : Selectors) (esi : Bool) (events : List Event) (vm : Vm E) (result : Result (Unit {0}) (VmError E)) → Stands s esi vm events
-      → (result ≡ Err CounterFull) ↔ ((has_failed vm ≡ false) × (last_count (stack_in vm) ≡ full_count)) → (result ≡ Err CounterFull → ⊥) → last_count (stack_in vm) ≡ full_count → ⊥
-  has_room s esi events vm result stands exact other full = other (exact.1 (hasnt_failed s esi vm events stands, full))
+  pub has_room : (s : Selectors) (esi : Bool) (events : List Event) (vm : Vm E) (IsFull : Type 0) → Stands s esi vm events
+      → IsFull ↔ ((has_failed vm ≡ false) × (last_count (stack_in vm) ≡ full_count)) → (IsFull → ⊥) → last_count (stack_in vm) ≡ full_count → ⊥
+  has_room s esi events vm IsFull stands exact other full = other (exact.1 (hasnt_failed s esi vm events stands, full))
 
   -- with as many elements and slots, as much can be charged
   pub limited_since : (old mid : Vm E) (now later : Limiter) → data_in mid ≡ data_in old → slots_charged mid ≡ slots_charged old → slot_bytes mid ≡ slot_bytes old → later ≡ now

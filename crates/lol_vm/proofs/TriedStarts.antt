@@ -1,5 +1,6 @@
 -- What trying a counted start tag by its name comes to.
-use Rattle.std.proofs.Common.{◌≡◌, Result, Ok, ◌<◌, Bool, true, false, List, Option, Some, None, refl, sym, ap, ◌∙◌, subst}
+use Rattle.std.proofs.Common.{◌≡◌, Result, Ok, ◌<◌, Bool, true, false, List, Option, Some, None, refl, sym, ap, ◌∙◌, subst, inl, inr}
+use Rattle.std.specs.Prelude.{◌⊎◌}
 use Rattle.std.specs.Option.{IfSome, IsSome}
 use Rattle.std.specs.Result.{IfOk, IsOk}
 use Rattle.lol_base.specs.LocalNames.{Name}
@@ -14,17 +15,21 @@ use Rattle.lol_instructions.specs.declared.tries.Tries.{Tries}
 use Rattle.lol_program.specs.Paths.{Selectors}
 use Rattle.lol_stack.specs.Calls.{IsCalledAtEach, reports}
 use Rattle.lol_stack.specs.Contexts.{IsNewItem}
-use Rattle.lol_stack.specs.Stacks.{active_in, counted_in, last_count}
+use Rattle.lol_stack.specs.Stacks.{active_in, counted_in, last_count, list_in}
 use Rattle.lol_stack.specs.declared.execution_ctx.ExecutionCtx.{ExecutionCtx}
 use Rattle.lol_stack.specs.declared.stack.StackNames.{StackNames}
 use Rattle.lol_stack.specs.declared.stack.StackOf.{StackOf}
+use Rattle.lol_memory.specs.LimitedVec.{IsLimited}
+use Rattle.lol_memory.specs.Limiter.{Limiter}
+use Rattle.lol_vm.specs.Due.{IsDue}
 use Rattle.lol_vm.specs.Events.{Event, has_content}
 use Rattle.lol_vm.specs.InstructionRuns.{NeedNoMemory, ranges_in}
 use Rattle.lol_vm.specs.TagRuns.{AreTried, IsPointIn, jumps_in, ranges_to_run_in, sight_in, stop_found}
-use Rattle.lol_vm.specs.TriedStarts.{IsTried, IsTriedAs, IsTriedByName}
-use Rattle.lol_vm.specs.Vms.{Vm, Stands, IsTagOf, IsAnswered, IsReported, IsTriedAtMost, IsPending, IsEntered}
+use Rattle.lol_vm.specs.TriedStarts.{IsBegun, IsNewContext, IsTried, IsTriedAs, IsTriedByName, left_at}
+use Rattle.lol_vm.specs.Vms.{Vm, Stands, IsTagOf, IsAnswered, IsReported, IsTriedAtMost, IsPending, IsEntered, is_asked_for}
 use Rattle.lol_vm.specs.declared.tag_runs.RecoveryPoint.{RecoveryPoint}
 use Rattle.lol_vm.specs.declared.tag_runs.RecoveryPoint.TheVariants.{AtOnce}
+use Rattle.lol_vm.proofs.VmRefusals.{limited_counted, was_limited}
 use Rattle.lol_vm.proofs.VmStarts.{answered, can_run, has_content_still, has_reported, none_tried, pending_at_once, pending_point, tried_as, tried_at_most}
 
 -- 1. How it is tried
@@ -150,3 +155,71 @@ module _ {E R : Type 0} (ids : E → Ids) (with_ids : E → Ids → E) (lends : 
       by_namespace : (html : Bool) → IsTriedAs ids with_ids start new ctx next result html opens → IsOk result
       by_namespace true t = t.free (subst (λ b. NeedNoMemory b vm.program.instructions.items) (sym opens_is) free)
       by_namespace false t = subst (λ r. IsOk r) (sym t.0) refl
+
+-- 3. What comes of a start tag that was begun
+
+pub new_context : {E : Type 0} (ids : E → Ids) (name : Name) (ctx : ExecutionCtx E) → IsNewItem ids name ctx.stack_item → ctx.with_content ≡ true → IsNewContext ids ctx
+new_context ids name ctx item content =
+    (record { name = refl; ids = item.ids; jumps = item.jumps; hereditary_jumps = item.hereditary_jumps; children = item.children; directive = item.directive }, content)
+
+-- It is one of this name and namespace.
+pub record Began {E : Type 0} (ids : E → Ids) (with_ids : E → Ids → E) (vm new : Vm E) (name : Name) (ns : Namespace) (next : ExecutionCtx E) (stopped : Option RecoveryPoint) : Type 0 where
+  pub lends : (w : E) (more : Ids) → ids (with_ids w more) ≡ more
+  pub ctx : ExecutionCtx E
+  pub item : IsNewItem ids name ctx.stack_item
+  pub namespace : ctx.ns ≡ ns
+  pub content : ctx.with_content ≡ true
+  pub begun : IsBegun ids with_ids vm new ctx next stopped
+
+pub began : {E : Type 0} {ids : E → Ids} {with_ids : E → Ids → E} {vm new : Vm E} {name : Name} {ns : Namespace} {ctx next : ExecutionCtx E} {stopped : Option RecoveryPoint} → ((w : E) (more : Ids) → ids (with_ids w more) ≡ more)
+    → IsNewItem ids name ctx.stack_item → ctx.ns ≡ ns → ctx.with_content ≡ true → IsBegun ids with_ids vm new ctx next stopped → Began ids with_ids vm new name ns next stopped
+began {ctx = ctx} lends item namespace content begun = record { lends = lends; ctx = ctx; item = item; namespace = namespace; content = content; begun = begun }
+
+module _ {E : Type 0} {ids : E → Ids} {with_ids : E → Ids → E} {vm new : Vm E} {name : Name} {ns : Namespace} {next : ExecutionCtx E} {stopped : Option RecoveryPoint} (b : Began ids with_ids vm new name ns next stopped) where
+  counted_is : b.begun.stack ≡ counted_in vm.stack name
+  counted_is = b.begun.counted ∙ ap (counted_in vm.stack) b.item.name
+
+  -- counting a child changes nothing of what can be charged
+  pub begun_due : (l : Limiter) → IsDue vm l → IsDue new l
+  begun_due l due = subst (λ (x : StackOf Name StackNames E). IsLimited (list_in x) l) (sym (ap (λ (v : Vm E). v.stack) b.begun.kept ∙ counted_is)) (limited_counted vm.stack name l due)
+
+  pub begun_was_due : (l : Limiter) → IsDue new l → IsDue vm l
+  begun_was_due l due = was_limited vm.stack name l (subst (λ (x : StackOf Name StackNames E). IsLimited (list_in x) l) (ap (λ (v : Vm E). v.stack) b.begun.kept ∙ counted_is) due)
+
+  module _ (s : Selectors) (esi : Bool) (events : List Event) (tag : StartTag) (st : Stands s esi vm events) (named : IsTagOf name ns tag) where
+    -- a machine that was refused answers no more
+    pub begun_unfailed : new.failed ≡ false
+    begun_unfailed = ap (λ (v : Vm E). v.failed) b.begun.kept ∙ (sym st.shows.refused ∙ st.standing.never_refused)
+
+    pub begun_pending : (point : RecoveryPoint) → stopped ≡ Some point → IsPending ids s esi events tag new (left_at next point)
+    begun_pending point at =
+        stopped_pending ids with_ids b.lends vm name ns s esi events tag st named b.begun.stack counted_is b.begun.room b.ctx next b.begun.before new (Ok stopped) b.item b.namespace b.content b.begun.names b.begun.attributes (b.begun.tried tag)
+        point (ap Ok at) b.begun.kept
+
+    module _ (at : stopped ≡ None) where
+      pub begun_answered : {F : Type 0} (step : F → MatchInfo → Unit {0} → F → Type 0) (f g : F) (last : Vm E)
+          → IsCalledAtEach step f (reports next.with_content (ascending (ids next.stack_item.element_data))) g
+          → IsEntered next.with_content next.stack_item new last → IsAnswered ids step s esi events tag false vm last f g
+      begun_answered step f g last called entered =
+          ended_answered ids with_ids b.lends vm name ns s esi events tag st named b.begun.stack counted_is b.begun.room b.ctx next b.begun.before new (Ok stopped) b.item b.namespace b.content b.begun.names b.begun.attributes (b.begun.tried tag)
+          (ap Ok at) b.begun.kept step f g last called entered
+
+      pub begun_reported : {F : Type 0} (step : F → MatchInfo → Unit {0} → F → Type 0) (f g : F)
+          → IsCalledAtEach step f (reports next.with_content (ascending (ids next.stack_item.element_data))) g
+          → IsReported step s esi events tag false new.tries f g
+      begun_reported step f g called =
+          ended_reported ids with_ids b.lends vm name ns s esi events tag st named b.begun.stack counted_is b.begun.room b.ctx next b.begun.before new (Ok stopped) b.item b.namespace b.content b.begun.names b.begun.attributes (b.begun.tried tag)
+          (ap Ok at) step f g called
+
+      pub begun_content : next.with_content ≡ has_content esi tag
+      begun_content =
+          ended_content ids with_ids b.lends vm name ns s esi events tag st named b.begun.stack counted_is b.begun.room b.ctx next b.begun.before new (Ok stopped) b.item b.namespace b.content b.begun.names b.begun.attributes (b.begun.tried tag) (ap Ok at)
+
+-- a report of a start tag whose attributes are asked for, or not
+pub reported_if : {F : Type 0} {step : F → MatchInfo → Unit {0} → F → Type 0} (s : Selectors) (esi : Bool) (events : List Event) (tag : StartTag) (asked : Bool) (tries : Tries) (f g : F)
+    → is_asked_for s esi events tag ≡ asked → IsReported step s esi events tag asked tries f g → IsReported step s esi events tag (is_asked_for s esi events tag) tries f g
+reported_if {step = step} s esi events tag asked tries f g asks h = subst (λ a. IsReported step s esi events tag a tries f g) (sym asks) h
+
+pub whole_since : {P Q R : Type 0} → P ⊎ Q → (Q → R) → P ⊎ R
+whole_since (inl p) f = inl p
+whole_since (inr q) f = inr (f q)

@@ -31,7 +31,9 @@ use Rattle.lol_vm.specs.Standing.{Machine, new_machine, AreCounted, StandsOn, Is
 use Rattle.lol_vm.specs.Views.{selectors}
 use Rattle.lol_memory.specs.declared.limited_vec.PushError.{PushError}
 use Rattle.lol_memory.specs.declared.limited_vec.PushError.TheVariants as pushes
-use Rattle.lol_vm.specs.VmErrors.{child_error, push_error}
+use Rattle.lol_vm.specs.VmErrors.{IsAskedOrFull, push_error, refused_child, refused_push, vm_error}
+use Rattle.lol_vm.specs.declared.error.StartTagError.{StartTagError}
+use Rattle.lol_vm.specs.declared.error.StartTagError.TheVariants as refusals
 use Rattle.lol_stack.specs.declared.stack.AddChildError.{AddChildError}
 use Rattle.lol_stack.specs.declared.stack.AddChildError.TheVariants as children
 use Rattle.lol_vm.specs.declared.error.AuxStartTagInfoRequest.{AuxStartTagInfoRequest}
@@ -316,27 +318,99 @@ module _ {E : Type 0} (pushed : PushError) (error : VmError E) (is : error ≡ p
       by_push (pushes.Memory e) at = cc
 
 -- what a child that wasn't counted answers
-module _ {E : Type 0} (child : AddChildError) (error : VmError E) (is : error ≡ child_error child) where
-  pub child_isnt_failed : error ≡ Failed → ⊥
-  child_isnt_failed at = by_child child (sym is ∙ at)
+module _ (child : AddChildError) (error : StartTagError) (is : error ≡ refused_child child) where
+  pub refused_child_isnt_failed : error ≡ refusals.Failed → ⊥
+  refused_child_isnt_failed at = by_child child (sym is ∙ at)
     where
-      by_child : (c : AddChildError) → child_error {E = E} c ≡ Failed → ⊥
+      by_child : (c : AddChildError) → refused_child c ≡ refusals.Failed → ⊥
       by_child children.CounterFull at = cc
       by_child (children.Memory e) at = cc
 
-  pub child_isnt_limit : error ≡ MemoryLimitExceeded (record {}) → ⊥
-  child_isnt_limit at = by_child child (sym is ∙ at)
+  pub refused_child_isnt_limit : error ≡ refusals.MemoryLimitExceeded → ⊥
+  refused_child_isnt_limit at = by_child child (sym is ∙ at)
     where
-      by_child : (c : AddChildError) → child_error {E = E} c ≡ MemoryLimitExceeded (record {}) → ⊥
+      by_child : (c : AddChildError) → refused_child c ≡ refusals.MemoryLimitExceeded → ⊥
       by_child children.CounterFull at = cc
       by_child (children.Memory e) at = cc
 
-  pub child_isnt_asked : (request : AuxStartTagInfoRequest E) → error ≡ InfoRequest request → ⊥
-  child_isnt_asked request at = by_child child (sym is ∙ at)
+  pub refused_child_full : error ≡ refusals.CounterFull → child ≡ children.CounterFull
+  refused_child_full at = by_child child (sym is ∙ at)
     where
-      by_child : (c : AddChildError) → child_error {E = E} c ≡ InfoRequest request → ⊥
-      by_child children.CounterFull at = cc
+      by_child : (c : AddChildError) → refused_child c ≡ refusals.CounterFull → c ≡ children.CounterFull
+      by_child children.CounterFull at = refl
       by_child (children.Memory e) at = cc
+
+-- the same, as a start tag's refusal
+module _ (pushed : PushError) (error : StartTagError) (is : error ≡ refused_push pushed) where
+  pub refused_push_isnt_failed : error ≡ refusals.Failed → ⊥
+  refused_push_isnt_failed at = by_push pushed (sym is ∙ at)
+    where
+      by_push : (p : PushError) → refused_push p ≡ refusals.Failed → ⊥
+      by_push (pushes.Limit e) at = cc
+      by_push (pushes.Memory e) at = cc
+
+  pub refused_push_isnt_full : error ≡ refusals.CounterFull → ⊥
+  refused_push_isnt_full at = by_push pushed (sym is ∙ at)
+    where
+      by_push : (p : PushError) → refused_push p ≡ refusals.CounterFull → ⊥
+      by_push (pushes.Limit e) at = cc
+      by_push (pushes.Memory e) at = cc
+
+  pub refused_push_limit : error ≡ refusals.MemoryLimitExceeded → pushed ≡ pushes.Limit (record {})
+  refused_push_limit at = by_push pushed (sym is ∙ at)
+    where
+      by_push : (p : PushError) → refused_push p ≡ refusals.MemoryLimitExceeded → p ≡ pushes.Limit (record {})
+      by_push (pushes.Limit e) at = refl
+      by_push (pushes.Memory e) at = cc
+
+  pub refused_push_memory : error ≡ refusals.Memory → pushed ≡ pushes.Memory (record {})
+  refused_push_memory at = by_push pushed (sym is ∙ at)
+    where
+      by_push : (p : PushError) → refused_push p ≡ refusals.Memory → p ≡ pushes.Memory (record {})
+      by_push (pushes.Limit e) at = cc
+      by_push (pushes.Memory e) at = refl
+
+-- a start tag's refusal as the machine's answer
+module _ {E : Type 0} (refused : StartTagError) (error : VmError E) (is : error ≡ vm_error refused) where
+  pub refused_isnt_asked : (request : AuxStartTagInfoRequest E) → error ≡ InfoRequest request → ⊥
+  refused_isnt_asked request at = by_error refused (sym is ∙ at)
+    where
+      by_error : (r : StartTagError) → vm_error {E = E} r ≡ InfoRequest request → ⊥
+      by_error refusals.MemoryLimitExceeded at = cc
+      by_error refusals.CounterFull at = cc
+      by_error refusals.Memory at = cc
+      by_error refusals.Failed at = cc
+
+  pub refused_as_failed : error ≡ Failed → refused ≡ refusals.Failed
+  refused_as_failed at = by_error refused (sym is ∙ at)
+    where
+      by_error : (r : StartTagError) → vm_error {E = E} r ≡ Failed → r ≡ refusals.Failed
+      by_error refusals.MemoryLimitExceeded at = cc
+      by_error refusals.CounterFull at = cc
+      by_error refusals.Memory at = cc
+      by_error refusals.Failed at = refl
+
+  pub refused_as_full : error ≡ CounterFull → refused ≡ refusals.CounterFull
+  refused_as_full at = by_error refused (sym is ∙ at)
+    where
+      by_error : (r : StartTagError) → vm_error {E = E} r ≡ CounterFull → r ≡ refusals.CounterFull
+      by_error refusals.MemoryLimitExceeded at = cc
+      by_error refusals.CounterFull at = refl
+      by_error refusals.Memory at = cc
+      by_error refusals.Failed at = cc
+
+  pub refused_as_limit : error ≡ MemoryLimitExceeded (record {}) → refused ≡ refusals.MemoryLimitExceeded
+  refused_as_limit at = by_error refused (sym is ∙ at)
+    where
+      by_error : (r : StartTagError) → vm_error {E = E} r ≡ MemoryLimitExceeded (record {}) → r ≡ refusals.MemoryLimitExceeded
+      by_error refusals.MemoryLimitExceeded at = refl
+      by_error refusals.CounterFull at = cc
+      by_error refusals.Memory at = cc
+      by_error refusals.Failed at = cc
+
+  -- one by the parent's counter is answered as such
+  pub refused_full_only : refused ≡ refusals.CounterFull → IsAskedOrFull error
+  refused_full_only full = subst IsAskedOrFull (sym (is ∙ ap vm_error full)) tt
 
 module _ {E : Type 0} (vm : Vm E) (name : Name) (stack : StackOf Name StackNames E) (ok : stack ≡ counted_in vm.stack name) (room : last_count vm.stack < full_count) where
   pub data_after : (new : Vm E) → new.stack ≡ stack → data_in new ≡ data_in vm
@@ -354,6 +428,13 @@ limited_if s (Some item) l h = (subst (λ n. slots_in s ≤ n) (sym (length-set 
 -- counting a child changes nothing of what can be charged
 pub limited_counted : {E : Type 0} (s : StackOf Name StackNames E) (name : Name) (l : Limiter) → IsLimited (list_in s) l → IsLimited (list_in (counted_in s name)) l
 limited_counted s name l h = limited_if (with_typed s _) (slice_get (items_in s) (length (items_in s) - 1)) l h
+
+was_limited_if : {E : Type 0} (s : StackOf Name StackNames E) (o : Option (StackItemOf Name E)) (l : Limiter) → IsLimited (list_in (counted_if s o)) l → IsLimited (list_in s) l
+was_limited_if s None l h = h
+was_limited_if s (Some item) l h = (subst (λ n. slots_in s ≤ n) (length-set (items_in s) (length (items_in s) - 1) (counted_item item)) h.0, h.1)
+
+pub was_limited : {E : Type 0} (s : StackOf Name StackNames E) (name : Name) (l : Limiter) → IsLimited (list_in (counted_in s name)) l → IsLimited (list_in s) l
+was_limited s name l h = was_limited_if (with_typed s _) (slice_get (items_in s) (length (items_in s) - 1)) l h
 
 -- the same tries
 pub reported_with : {F : Type 0} (step : F → MatchInfo → Unit {0} → F → Type 0) (s : Selectors) (esi : Bool) (events : List Event) (tag : StartTag) (asked : Bool) (f g : F) (tries next : Tries) → next ≡ tries → IsReported step s esi events tag asked tries f g → IsReported step s esi events tag asked next f g

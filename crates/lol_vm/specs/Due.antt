@@ -1,5 +1,5 @@
 -- What a start tag is answered with where its element can't be charged.
-use Rattle.std.specs.Prelude.{true, false}
+use Rattle.std.specs.Prelude.{true, false, Some}
 use Rattle.lol_base.specs.LocalNames.{Name}
 use Rattle.lol_base.specs.declared.namespace.Namespace.{Namespace}
 use Rattle.lol_base.specs.declared.start_tag.AuxStartTagInfo.{AuxStartTagInfo}
@@ -10,9 +10,9 @@ use Rattle.lol_memory.specs.Limiter.{Limiter}
 use Rattle.lol_memory.specs.declared.match_info.MatchInfo.{MatchInfo}
 use Rattle.lol_stack.specs.Stacks.{list_in}
 use Rattle.lol_vm.specs.FreeTags.{AreFlat, RunsWithoutMemory}
-use Rattle.lol_vm.specs.Premises.{ForPending, ForRestOf, ForTagOf}
+use Rattle.lol_vm.specs.Premises.{ForHandedOf, ForPending, ForRestOf, ForTagOf}
 use Rattle.lol_vm.specs.VmErrors.{IsNotForMemory}
-use Rattle.lol_vm.specs.Vms.{Vm, IsReported, stack_in}
+use Rattle.lol_vm.specs.Vms.{Vm, IsReported, is_asked_for, stack_in}
 use Rattle.lol_vm.specs.declared.error.AuxStartTagInfoRequest.{AuxStartTagInfoRequest}
 use Rattle.lol_vm.specs.declared.error.VmError.{VmError}
 
@@ -29,6 +29,12 @@ module _ {E : Type 0} where
   abbrev pub IsAfterReport : {F : Type 0} → (F → MatchInfo → Unit {0} → F → Type 0) → Vm E → Name → Namespace → Limiter → Tries → F → F → Type 0
   IsAfterReport step vm name ns limiter tries f g =
       ForTagOf vm name ns (λ s esi events tag. IsReported step s esi events tag false tries f g)
+      × (IsDue vm limiter → ⊥)
+
+  -- the same of one whose attributes are at hand
+  abbrev pub IsAfterHandedReport : {F : Type 0} → (F → MatchInfo → Unit {0} → F → Type 0) → Vm E → Name → Namespace → AuxStartTagInfo → Limiter → Tries → F → F → Type 0
+  IsAfterHandedReport step vm name ns aux limiter tries f g =
+      ForHandedOf vm name ns (Some aux) (λ s esi events tag. IsReported step s esi events tag (is_asked_for s esi events tag) tries f g)
       × (IsDue vm limiter → ⊥)
 
   module _ (ids_of : E → Ids) (vm : Vm E) (request : AuxStartTagInfoRequest E) where

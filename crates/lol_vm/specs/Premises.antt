@@ -1,5 +1,5 @@
 -- What the clauses of a call are said for: the events, tags and runs that it may be a call for.
-use Rattle.std.specs.Prelude.{ℕ, Bool, List, [], Option}
+use Rattle.std.specs.Prelude.{ℕ, ◌≡◌, Bool, true, List, [], Option}
 use Rattle.lol_base.specs.LocalNames.{Name}
 use Rattle.lol_base.specs.StartTags.{StartTag}
 use Rattle.lol_base.specs.declared.namespace.Namespace.{Namespace}
@@ -32,6 +32,13 @@ module _ {E : Type 0} (vm : Vm E) where
   ForHandedOf name ns rest holds =
       (s : Selectors) (esi : Bool) (events : List Event) (tag : StartTag)
       → Stands s esi vm events → IsTagOf name ns tag → IsHandedOver rest tag → holds s esi events tag
+
+  -- The same of each tag, and where its attributes were asked for, of those that these are the rest of.
+  abbrev pub ForAskedOf :
+      Name → Namespace → Bool → AuxStartTagInfo → (Selectors → Bool → List Event → StartTag → Type 0) → Type 0
+  ForAskedOf name ns asked aux holds =
+      (s : Selectors) (esi : Bool) (events : List Event) (tag : StartTag)
+      → Stands s esi vm events → IsTagOf name ns tag → (asked ≡ true → IsRestOf aux tag) → holds s esi events tag
 
   -- For its open elements, the innermost first, and the bytes of an end tag's name.
   abbrev pub ForEndOf : Name → (List Element → List ℕ → Type 0) → Type 0

@@ -1,14 +1,23 @@
 -- How far a start tag is tried before its attributes are handed over.
 use Rattle.std.specs.Prelude.{◌≡◌, ◌<◌, ◌^◌, Bool, true, false, length, Option, Some, Result, Ok, IfOk, IfSome, IsOk, IsSome}
+use Rattle.std.specs.declared.alloc.AllocError.{AllocError}
+use Rattle.lol_base.specs.LocalNames.{Name}
 use Rattle.lol_base.specs.StartTags.{StartTag}
 use Rattle.lol_memory.specs.Ids.{Ids}
 use Rattle.lol_instructions.specs.Tests.{is_html}
-use Rattle.lol_instructions.specs.Tries.{attributes_counted}
+use Rattle.lol_instructions.specs.Counters.{full_count}
+use Rattle.lol_instructions.specs.Tries.{attributes_counted, names_counted}
+use Rattle.lol_instructions.specs.declared.tries.Tries.{Tries}
+use Rattle.lol_stack.specs.Contexts.{IsNewItem}
+use Rattle.lol_stack.specs.Stacks.{counted_in, last_count}
 use Rattle.lol_stack.specs.declared.execution_ctx.ExecutionCtx.{ExecutionCtx}
+use Rattle.lol_stack.specs.declared.stack.StackNames.{StackNames}
+use Rattle.lol_stack.specs.declared.stack.StackOf.{StackOf}
 use Rattle.lol_vm.specs.Events.{has_content}
 use Rattle.lol_vm.specs.InstructionRuns.{AreRunnable, NeedNoMemory}
 use Rattle.lol_vm.specs.TagRuns.{AreTried, AreWithin, IsPointFor, found_for, sight_in}
-use Rattle.lol_vm.specs.Vms.{Vm, instructions_in, ranges_to_try}
+use Rattle.lol_vm.specs.Vms.{IsTagOf, Vm, instructions_in, ranges_to_try}
+use Rattle.lol_vm.specs.declared.error.AuxStartTagInfoRequest.{AuxStartTagInfoRequest}
 use Rattle.lol_vm.specs.declared.tag_runs.RecoveryPoint.{RecoveryPoint}
 use Rattle.lol_vm.specs.declared.tag_runs.RecoveryPoint.TheVariants.{AtOnce}
 
@@ -33,3 +42,24 @@ module _ {E R : Type 0} (ids : E → Ids) (with_ids : E → Ids → E) (old new 
 
   abbrev pub IsTried : StartTag → Type 0
   IsTried tag = IsTriedAs (is_html tag.namespace) (has_content old.enable_esi_tags tag)
+
+module _ {E : Type 0} where
+  -- nothing is known of a start tag but its name and namespace
+  abbrev pub IsNewContext : (E → Ids) → ExecutionCtx E → Type 0
+  IsNewContext ids ctx = IsNewItem ids ctx.stack_item.local_name ctx.stack_item × (ctx.with_content ≡ true)
+
+  -- the request for the rest of a start tag that stopped at a point
+  abbrev pub left_at : ExecutionCtx E → RecoveryPoint → AuxStartTagInfoRequest E
+  left_at ctx point = record { ctx = ctx; point = point }
+
+-- A start tag was counted, and tried by its name.
+pub record IsBegun {E : Type 0} (ids : E → Ids) (with_ids : E → Ids → E) (old new : Vm E) (ctx next : ExecutionCtx E) (stopped : Option RecoveryPoint) : Type 0 where
+  pub room : last_count old.stack < full_count
+  pub stack : StackOf Name StackNames E
+  pub counted : stack ≡ counted_in old.stack ctx.stack_item.local_name
+  pub before : Tries
+  pub names : names_counted before ≡ 0
+  pub attributes : attributes_counted before ≡ 0
+  pub kept : new ≡ record old { stack = stack; tries = new.tries }
+  pub tried : (tag : StartTag) → IsTagOf ctx.stack_item.local_name ctx.ns tag
+      → IsTried {R = AllocError} ids with_ids (record old { stack = stack; tries = before }) new ctx next (Ok stopped) tag

@@ -188,6 +188,10 @@ abbrev pub GoesOnAt : Bool → Bool → Context → Option Stop → Bool → Typ
 GoesOnAt html content context None with_content = (html ≡ false) × (context ≡ no_context) × (with_content ≡ true)
 GoesOnAt html content context (Some stop) with_content = (html ≡ true) × (with_content ≡ content)
 
+-- whether the attributes of a start tag after events are asked for
+abbrev pub is_asked_for : Selectors → Bool → List Event → StartTag → Bool
+is_asked_for s esi events tag = asks s (element_of (document s esi events) tag) (document s esi events).open_elements
+
 -- The handler was called with exactly a start tag's report, in order, and so many nodes were tried as the definition says.
 pub record IsReported {F : Type 0} (step : F → MatchInfo → Unit {0} → F → Type 0) (s : Selectors) (esi : Bool) (events : List Event) (tag : StartTag) (asked : Bool) (tries : Tries) (f g : F) : Type 0 where
   pub asks : asks s (element_of (document s esi events) tag) (document s esi events).open_elements ≡ asked

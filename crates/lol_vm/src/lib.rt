@@ -15,7 +15,7 @@ mod tag_runs;
 mod vm;
 pub mod vm_laws;
 
-pub use error::{AuxStartTagInfoRequest, VmError};
+pub use error::{AuxStartTagInfoRequest, StartTagError, VmError};
 pub use events::{RunCause, RunRefusal, RunStop, TagEvent, TagReport};
 pub use lol_base::{
     AttributeBuffer, AttributeOutline, Attributes, AuxStartTagInfo, Bytes, LocalName, Namespace,

@@ -19,12 +19,12 @@ ghost use Rattle.lol_stack.specs.Stacks.{last_count};
 ghost use Rattle.lol_vm.specs.Views.{HasRangesInside, event_of, answer_of, selectors};
 ghost use Rattle.lol_vm.specs.Vms.{Stands, ChargesSlots, IsNameOf, stack_in, tries_in, data_in, slots_charged, slot_bytes};
 
-use crate::error::VmError;
+use crate::error::{StartTagError, VmError};
 use crate::events::{RunCause, RunRefusal, RunStop, TagEvent, TagReport};
 use crate::started::{Collected, Started};
 use crate::vm::SelectorMatchingVm;
 use lol_base::{AuxStartTagInfo, LocalName, Namespace};
-use lol_memory::{MatchInfo, PushError, SharedMemoryLimiter};
+use lol_memory::{MatchInfo, SharedMemoryLimiter};
 use lol_program::Ast;
 use std::alloc::Global;
 
@@ -285,21 +285,22 @@ fn take_start<F: FnMut(MatchInfo)>(
     ensures refused { IfErr result (λ cause. ForHandedOf vm.old local_name.entry ns rest.entry (λ s esi events tag.
         IsRefusedFor cause s esi events tag vm.old limiter.old)) }
 {
-    let request = match vm.exec_for_start_tag(local_name, ns, limiter, match_handler) {
-        Ok(()) => return Ok(Some(false)),
-        Err(VmError::InfoRequest(request)) => request,
-        Err(VmError::MemoryLimitExceeded(_)) => return Err(RunCause::MemoryLimitExceeded),
-        Err(VmError::CounterFull) => return Err(RunCause::CounterFull),
-        Err(VmError::Memory(_)) => return Err(RunCause::Memory),
-        Err(VmError::Failed) => return Err(RunCause::Memory),
-    };
-    let Some(aux_info) = rest else {
-        return Ok(None);
-    };
-    match vm.finish_start_tag(request, aux_info, limiter, match_handler) {
-        Ok(()) => Ok(Some(true)),
-        Err(PushError::Limit(_)) => Err(RunCause::MemoryLimitExceeded),
-        Err(PushError::Memory(_)) => Err(RunCause::Memory),
+    if let Some(aux_info) = rest {
+        return match vm.exec_for_whole_start_tag(local_name, ns, aux_info, limiter, match_handler) {
+            Ok(asked) => Ok(Some(asked)),
+            Err(StartTagError::MemoryLimitExceeded) => Err(RunCause::MemoryLimitExceeded),
+            Err(StartTagError::CounterFull) => Err(RunCause::CounterFull),
+            Err(StartTagError::Memory) => Err(RunCause::Memory),
+            Err(StartTagError::Failed) => Err(RunCause::Memory),
+        };
+    }
+    match vm.exec_for_start_tag(local_name, ns, limiter, match_handler) {
+        Ok(()) => Ok(Some(false)),
+        Err(VmError::InfoRequest(_)) => Ok(None),
+        Err(VmError::MemoryLimitExceeded(_)) => Err(RunCause::MemoryLimitExceeded),
+        Err(VmError::CounterFull) => Err(RunCause::CounterFull),
+        Err(VmError::Memory(_)) => Err(RunCause::Memory),
+        Err(VmError::Failed) => Err(RunCause::Memory),
     }
 }
 

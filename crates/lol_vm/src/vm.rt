@@ -1,6 +1,6 @@
 //! The machine, tag by tag.
 
-ghost use Rattle.std.specs.Prelude.{List, Bool, Err, ℕ, ◌≡◌, ◌≤◌, ◌<◌, ◌-◌, ◌*◌, ◌↔◌, ◌⊎◌, ◌++◌, ◌∷◌, [], true, false, take, drop, length, slice_get, OnOk, OnErr, IfOk, IsOk, IsSome, IsErrOf, IsNone};
+ghost use Rattle.std.specs.Prelude.{List, Bool, Err, ℕ, ◌≡◌, ◌≤◌, ◌<◌, ◌-◌, ◌*◌, ◌↔◌, ◌⊎◌, ◌++◌, ◌∷◌, [], true, false, take, drop, length, slice_get, OnOk, OnErr, Some, IfOk, IfErr, IsOk, IsSome, IsErrOf, IsNone};
 ghost use Rattle.std.specs.Option.{option_copied_mut, option_map};
 ghost use Rattle.std.specs.Borrow.{sem};
 ghost use Rattle.lol_base.specs.StartTags.{StartTag, RangesAreInside};
@@ -13,17 +13,17 @@ ghost use Rattle.lol_instructions.specs.Tests.{Element};
 ghost use Rattle.lol_instructions.specs.Tries.{names_counted, attributes_counted};
 ghost use Rattle.lol_stack.specs.Calls.{IsCalledAtEach, reports};
 ghost use Rattle.lol_vm.specs.Events.{Event, End, has_content};
-ghost use Rattle.lol_vm.specs.FreeTags.{TakesNoMemory};
+ghost use Rattle.lol_vm.specs.FreeTags.{AreFlat, TakesNoMemory};
 ghost use Rattle.lol_vm.specs.VmErrors.{IsAskedOrFull};
-ghost use Rattle.lol_vm.specs.Due.{IsDue, IsNeverForMemory, IsAfterReport, IsNeverPending, IsAfterWholeReport};
-ghost use Rattle.lol_vm.specs.Premises.{ForEndOf, ForPending, ForRestOf, ForTagOf};
-ghost use Rattle.lol_vm.specs.TriedStarts.{IsTried};
+ghost use Rattle.lol_vm.specs.Due.{IsDue, IsNeverForMemory, IsAfterHandedReport, IsAfterReport, IsNeverPending, IsAfterWholeReport};
+ghost use Rattle.lol_vm.specs.Premises.{ForAskedOf, ForEndOf, ForHandedOf, ForPending, ForRestOf, ForTagOf};
+ghost use Rattle.lol_vm.specs.TriedStarts.{IsBegun, IsNewContext, IsTried, left_at};
 ghost use Rattle.lol_vm.specs.VmLending.{lends_current_of_vm};
 ghost use Rattle.lol_stack.specs.Stacks.{items_in, slots_in, item_bytes_in, list_in, last_count, IsPushed, IsSame};
 ghost use Rattle.lol_vm.specs.Views.{selectors};
-ghost use Rattle.lol_vm.specs.Vms.{Stands, HasOpen, IsNameOf, IsTagOf, IsAnswered, IsReported, IsTriedAtMost, IsPending, IsRefusal, IsSilent, content_at, open_after, stack_in, tries_in, has_failed, data_in, slots_charged, slot_bytes, ChargesSlots, IsCovered, IsRequested, IsEntered, IsFailedAs, with_failure};
+ghost use Rattle.lol_vm.specs.Vms.{Stands, HasOpen, IsNameOf, IsTagOf, IsAnswered, IsReported, IsTriedAtMost, IsPending, IsRefusal, IsSilent, content_at, open_after, stack_in, tries_in, has_failed, data_in, slots_charged, slot_bytes, ChargesSlots, IsCovered, IsRequested, IsEntered, IsFailedAs, is_asked_for, with_failure};
 
-use crate::error::{AuxStartTagInfoRequest, VmError};
+use crate::error::{AuxStartTagInfoRequest, StartTagError, VmError};
 use crate::tag_runs::{RecoveryPoint, complete_tag, try_tag};
 use lol_base::{AuxStartTagInfo, LocalName, Namespace};
 use lol_memory::{MatchInfo, MemoryLimitExceededError, PushError, SharedMemoryLimiter};
@@ -169,19 +169,10 @@ impl<E: ElementData> VmOf<Program, LocalName<'static>, StackNames, E> {
             ⊎ IsAfterReport F.step self.old local_name.entry ns limiter.old (tries_in self.new)
             match_handler.old match_handler.new }
     {
-        if self.failed {
-            return Err(VmError::Failed);
-        }
-        self.tries = Tries::new();
-        if let Err(error) = self.stack.add_child(&local_name) {
-            self.failed = true;
-            return Err(VmError::from(error));
-        }
         let mut ctx = ExecutionCtx::new(self.alloc, local_name, ns, self.enable_esi_tags);
-        let tried = self.try_start(&mut ctx);
-        let stopped = match tried {
+        let stopped = match self.begin(&mut ctx) {
             Ok(stopped) => stopped,
-            Err(error) => return Err(VmError::Memory(error)),
+            Err(error) => return Err(VmError::from(error)),
         };
         if let Some(point) = stopped {
             return self.request(ctx, point);
@@ -189,6 +180,117 @@ impl<E: ElementData> VmOf<Program, LocalName<'static>, StackNames, E> {
         match self.answer(ctx, limiter, match_handler) {
             Ok(()) => Ok(()),
             Err(error) => Err(VmError::from(error)),
+        }
+    }
+
+    /// Matches a start tag whose attributes are at hand, in one call, which makes no request: whether they were needed. Else it is as
+    /// `exec_for_start_tag` and, where that asks for them, `finish_start_tag`. Each range of a name and of a value lies inside the input.
+    /// (Not in lol_html.)
+    ///
+    /// # Errors
+    /// `Failed` exactly after a refusal; else `CounterFull` exactly if the parent has as many children as can be counted;
+    /// `MemoryLimitExceeded` exactly if, once its reports are given, the element is to be opened and can't be charged; `Memory` only where
+    /// memory is refused, before all reports, or after all of them where the element could be charged. A start tag that takes no memory
+    /// (`TakesNoMemory`) is never refused for memory, nor is one of flat selectors (`AreFlat`) that can't be charged.
+    pub fn exec_for_whole_start_tag<F: FnMut(MatchInfo)>(
+        &mut self,
+        local_name: LocalName<'_>,
+        ns: Namespace,
+        aux_info: AuxStartTagInfo<'_>,
+        limiter: &mut SharedMemoryLimiter,
+        match_handler: &mut F,
+    ) -> Result<bool, StartTagError>
+        requires ranges { RangesAreInside aux_info }
+        requires callable { F.IsAlwaysCallable match_handler.old }
+        ensures again { F.IsAlwaysCallable match_handler.new }
+        ensures answered { IfOk result (λ asked.
+            ForAskedOf self.old local_name.entry ns asked aux_info.entry (λ s esi events tag.
+            IsAnswered E.ids F.step s esi events tag asked self.old self.new match_handler.old match_handler.new)) }
+        ensures charges { ChargesSlots self.old self.new limiter.old limiter.new }
+        ensures uncharged { OnErr result (limiter.new ≡ limiter.old) }
+        ensures slots { OnErr result (slots_charged self.new ≡ slots_charged self.old) }
+        ensures unchanged { OnErr result (data_in self.new ≡ data_in self.old) }
+        ensures still_open { OnErr result ((bytes : List ℕ) (elements : List Element)
+            → IsNameOf local_name.entry bytes → HasOpen self.old elements → HasOpen self.new elements) }
+        ensures failed { (result ≡ Err StartTagError.Failed) ↔ (has_failed self.old ≡ true) }
+        ensures stuck { has_failed self.old ≡ true → self.new ≡ self.old }
+        ensures full { (result ≡ Err StartTagError.CounterFull)
+            ↔ ((has_failed self.old ≡ false) × (last_count (stack_in self.old) ≡ full_count)) }
+        ensures refused { OnErr result (has_failed self.new ≡ true) }
+        ensures silent { (result ≡ Err StartTagError.CounterFull) ⊎ (result ≡ Err StartTagError.Failed)
+            → match_handler.new ≡ match_handler.old }
+        ensures limited { result ≡ Err StartTagError.MemoryLimitExceeded → IsDue self.old limiter.old }
+        ensures limit_reported { result ≡ Err StartTagError.MemoryLimitExceeded
+            → ForHandedOf self.old local_name.entry ns (Some aux_info.entry) (λ s esi events tag.
+            (has_content esi tag ≡ true) × IsReported F.step s esi events tag (is_asked_for s esi events tag)
+            (tries_in self.new) match_handler.old match_handler.new) }
+        ensures unlimited { IfOk result (λ asked.
+            ForAskedOf self.old local_name.entry ns asked aux_info.entry (λ s esi events tag.
+            has_content esi tag ≡ true → IsDue self.old limiter.old → ⊥)) }
+        ensures free { IfErr result (λ error. ForTagOf self.old local_name.entry ns (λ s esi events tag.
+            TakesNoMemory s tag → error ≡ StartTagError.CounterFull)) }
+        ensures tried { ForTagOf self.old local_name.entry ns (λ s esi events tag.
+            IsTriedAtMost s esi events tag (tries_in self.new)) }
+        ensures due { IfErr result (λ error. IsDue self.old limiter.old
+            → ForTagOf self.old local_name.entry ns (λ s esi events tag.
+            AreFlat s → error ≡ StartTagError.Memory → ⊥)) }
+        ensures all_or_none { result ≡ Err StartTagError.Memory → (match_handler.new ≡ match_handler.old)
+            ⊎ IsAfterHandedReport F.step self.old local_name.entry ns aux_info.entry limiter.old (tries_in self.new)
+            match_handler.old match_handler.new }
+    {
+        let mut ctx = ExecutionCtx::new(self.alloc, local_name, ns, self.enable_esi_tags);
+        let stopped = match self.begin(&mut ctx) {
+            Ok(stopped) => stopped,
+            Err(error) => return Err(error),
+        };
+        if let Some(point) = stopped {
+            return match self.finish(ctx, point, aux_info, limiter, match_handler) {
+                Ok(()) => Ok(true),
+                Err(error) => Err(StartTagError::from(error)),
+            };
+        }
+        match self.answer(ctx, limiter, match_handler) {
+            Ok(()) => Ok(false),
+            Err(error) => Err(StartTagError::from(error)),
+        }
+    }
+
+    /// Counts a start tag, of which only its name is known, and tries it by that name, up to the first test that needs its attributes.
+    #[inline(always)]
+    fn begin(
+        &mut self,
+        ctx: &mut ExecutionCtx<'_, E>,
+    ) -> Result<Option<RecoveryPoint>, StartTagError>
+        requires { IsNewContext E.ids ctx.old }
+        ensures begun { IfOk result (IsBegun E.ids E.with_ids self.old self.new ctx.old ctx.new) }
+        ensures name { ctx.new.stack_item.local_name ≡ ctx.old.stack_item.local_name }
+        ensures slots { slots_charged self.new ≡ slots_charged self.old }
+        ensures bytes { slot_bytes self.new ≡ slot_bytes self.old }
+        ensures unchanged { data_in self.new ≡ data_in self.old }
+        ensures still_open { (bytes : List ℕ) (elements : List Element) → IsNameOf ctx.old.stack_item.local_name bytes
+            → HasOpen self.old elements → HasOpen self.new elements }
+        ensures failed { (result ≡ Err StartTagError.Failed) ↔ (has_failed self.old ≡ true) }
+        ensures stuck { has_failed self.old ≡ true → self.new ≡ self.old }
+        ensures full { (result ≡ Err StartTagError.CounterFull)
+            ↔ ((has_failed self.old ≡ false) × (last_count (stack_in self.old) ≡ full_count)) }
+        ensures refused { OnErr result (has_failed self.new ≡ true) }
+        ensures unlimited { result ≡ Err StartTagError.MemoryLimitExceeded → ⊥ }
+        ensures free { IfErr result (λ error. ForTagOf self.old ctx.old.stack_item.local_name ctx.old.ns
+            (λ s esi events tag. TakesNoMemory s tag ⊎ AreFlat s → error ≡ StartTagError.CounterFull)) }
+        ensures tried { ForTagOf self.old ctx.old.stack_item.local_name ctx.old.ns (λ s esi events tag.
+            IsTriedAtMost s esi events tag (tries_in self.new)) }
+    {
+        if self.failed {
+            return Err(StartTagError::Failed);
+        }
+        self.tries = Tries::new();
+        if let Err(error) = self.stack.add_child(&ctx.stack_item.local_name) {
+            self.failed = true;
+            return Err(StartTagError::from(error));
+        }
+        match self.try_start(ctx) {
+            Ok(stopped) => Ok(stopped),
+            Err(_) => Err(StartTagError::Memory),
         }
     }
 
@@ -311,6 +413,50 @@ impl<E: ElementData> VmOf<Program, LocalName<'static>, StackNames, E> {
             match_handler.old match_handler.new }
     {
         let AuxStartTagInfoRequest { ctx, point } = request;
+        self.finish(ctx, point, aux_info, limiter, match_handler)
+    }
+
+    /// Finishes a start tag that stopped at a point.
+    fn finish<F: FnMut(MatchInfo)>(
+        &mut self,
+        ctx: ExecutionCtx<'_, E>,
+        point: RecoveryPoint,
+        aux_info: AuxStartTagInfo<'_>,
+        limiter: &mut SharedMemoryLimiter,
+        match_handler: &mut F,
+    ) -> Result<(), PushError>
+        requires ranges { RangesAreInside aux_info }
+        requires callable { F.IsAlwaysCallable match_handler.old }
+        ensures again { F.IsAlwaysCallable match_handler.new }
+        ensures answered { OnOk result
+            (ForRestOf self.old E.ids (left_at ctx.entry point) aux_info.entry (λ s esi events tag.
+            IsAnswered E.ids F.step s esi events tag true self.old self.new match_handler.old match_handler.new)) }
+        ensures charges { ChargesSlots self.old self.new limiter.old limiter.new }
+        ensures uncharged { OnErr result (limiter.new ≡ limiter.old) }
+        ensures slots { OnErr result (slots_charged self.new ≡ slots_charged self.old) }
+        ensures unchanged { OnErr result (data_in self.new ≡ data_in self.old) }
+        ensures still_open { OnErr result
+            ((elements : List Element) → HasOpen self.old elements → HasOpen self.new elements) }
+        ensures refused { OnErr result (has_failed self.new ≡ true) }
+        ensures limited { IsErrOf result (PushError.Limit (record {})) → IsDue self.old limiter.old }
+        ensures limit_reported { IsErrOf result (PushError.Limit (record {}))
+            → ForRestOf self.old E.ids (left_at ctx.entry point) aux_info.entry (λ s esi events tag.
+            (has_content esi tag ≡ true)
+            × IsReported F.step s esi events tag true (tries_in self.new) match_handler.old match_handler.new) }
+        ensures unlimited { OnOk result
+            (ForRestOf self.old E.ids (left_at ctx.entry point) aux_info.entry (λ s esi events tag.
+            has_content esi tag ≡ true → IsDue self.old limiter.old → ⊥)) }
+        ensures free { ForPending self.old E.ids (left_at ctx.entry point) (λ s esi events tag.
+            TakesNoMemory s tag → IsOk result) }
+        ensures tried { ForPending self.old E.ids (left_at ctx.entry point) (λ s esi events tag.
+            IsTriedAtMost s esi events tag (tries_in self.new)) }
+        ensures due { (error : AllocError) → result ≡ Err (PushError.Memory error) → IsDue self.old limiter.old
+            → IsNeverPending E.ids self.old (left_at ctx.entry point) }
+        ensures all_or_none { (error : AllocError) → result ≡ Err (PushError.Memory error)
+            → (match_handler.new ≡ match_handler.old)
+            ⊎ IsAfterWholeReport E.ids self.old (left_at ctx.entry point) F.step aux_info.entry limiter.old
+            (tries_in self.new) match_handler.old match_handler.new }
+    {
         let mut ctx = ctx;
         ctx.with_content = content_at(point, ctx.with_content, aux_info.self_closing);
         let matcher = AttributeMatcher::new(aux_info.input, aux_info.attr_buffer, ctx.ns);

@@ -2,8 +2,8 @@
 
 use lol_vm::{
     AddChildError, Attributes, LocalName, MatchInfo, Namespace, RunCause, RunRefusal, RunStop,
-    SelectorError, SelectorMatchingVm, SharedMemoryLimiter, TagEvent, TagReport, VmError,
-    match_each_event,
+    SelectorError, SelectorMatchingVm, SharedMemoryLimiter, StartTagError, TagEvent, TagReport,
+    VmError, match_each_event,
 };
 use std::alloc::{AllocError, Global};
 use std::fmt::Display;
@@ -90,6 +90,20 @@ fn say_what_happened(rt: HostRuntime) -> Result<(), Fail> {
         &rt,
         alloc,
         &failed,
+        "an earlier start tag was refused: no other is answered",
+    )?;
+    says(&rt, alloc, &StartTagError::CounterFull, many)?;
+    says(&rt, alloc, &StartTagError::Memory, "out of memory")?;
+    says(
+        &rt,
+        alloc,
+        &StartTagError::MemoryLimitExceeded,
+        "the memory limit would have been passed",
+    )?;
+    says(
+        &rt,
+        alloc,
+        &StartTagError::Failed,
         "an earlier start tag was refused: no other is answered",
     )?;
     says(&rt, alloc, &RunCause::Memory, "out of memory")?;

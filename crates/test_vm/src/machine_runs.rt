@@ -5,7 +5,7 @@ ghost use Rattle.lol_vm.specs.Vms.{slot_bytes};
 
 use lol_vm::{
     Ast, AuxStartTagInfoRequest, LocalName, MatchInfo, Namespace, SelectorMatchingVm,
-    SharedMemoryLimiter, VmError,
+    SharedMemoryLimiter, StartTagError, VmError,
 };
 use std::alloc::Global;
 use std::process::Abort;
@@ -62,6 +62,15 @@ pub(crate) enum Said {
     Asked,
     OverLimit,
     Failed,
+}
+
+/// When a machine is told of the attributes of a start tag.
+#[derive(Clone, Copy)]
+pub(crate) enum Told {
+    /// Where it asks for them.
+    WhereAsked,
+    /// With the tag.
+    AtOnce,
 }
 
 /// A machine for data with numbers.
@@ -145,6 +154,40 @@ pub(crate) fn start(
         Err(VmError::MemoryLimitExceeded(_)) => Said::OverLimit,
         Err(error) => {
             assert!(rt; matches!(&error, VmError::Failed));
+            Said::Failed
+        }
+    };
+    let Reports { infos, refused } = reports;
+    assert!(rt; !refused);
+    (said, infos)
+}
+
+/// The same of one whose attributes are told at once.
+pub(crate) fn start_whole(
+    rt: &impl Abort,
+    alloc: Global,
+    vm: &mut Machine,
+    limiter: &mut SharedMemoryLimiter,
+    tag: Written<'_>,
+) -> (Said, Vec<MatchInfo>)
+    ensures { slot_bytes vm.new ≡ slot_bytes vm.old }
+{
+    let mut reports = Reports {
+        infos: Vec::new(alloc),
+        refused: false,
+    };
+    let mut handler = |info: MatchInfo| {
+        reports.keep(info);
+    };
+    let name = LocalName::new(tag.name.as_bytes());
+    let written = written_attributes(alloc, tag.attributes).expect(rt, "memory");
+    let info = written.aux_info(tag.self_closing);
+    let said = match vm.exec_for_whole_start_tag(name, tag.ns, info, limiter, &mut handler) {
+        Ok(false) => Said::Unasked,
+        Ok(true) => Said::Asked,
+        Err(StartTagError::MemoryLimitExceeded) => Said::OverLimit,
+        Err(error) => {
+            assert!(rt; error == StartTagError::Failed);
             Said::Failed
         }
     };

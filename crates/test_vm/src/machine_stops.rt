@@ -4,7 +4,7 @@ ghost use Rattle.std.specs.Prelude.{◌≡◌};
 ghost use Rattle.lol_vm.specs.Vms.{slot_bytes};
 
 use crate::machine_runs::Said::{Asked, Unasked};
-use crate::machine_runs::{Machine, Written, end, machine, release, start, start_and_drop};
+use crate::machine_runs::{Machine, Told, Written, end, machine, release, start, start_and_drop};
 use crate::machines::Step::{End, Start};
 use crate::machines::{are_reported, take_step};
 use lol_vm::{Ast, Namespace, Selector, SharedMemoryLimiter};
@@ -81,7 +81,7 @@ fn open_all(
         let (name, names) = *tag;
         let tries = (names.saturating_add(more), 0);
         let step = Start(Written::html(name), Unasked, &[], true, tries);
-        take_step(rt, alloc, vm, limiter, &step);
+        take_step(rt, alloc, vm, limiter, Told::WhereAsked, &step);
     }
 }
 
@@ -95,8 +95,15 @@ fn go_on_where_they_stopped(rt: HostRuntime) -> Result<(), Fail> {
         let class = [("class", Some("a"))];
         let asked_for = Written::html("p").of(ns).with(&class);
         let step = Start(asked_for, Asked, ids, true, tries);
-        take_step(&rt, alloc, &mut vm, &mut limiter, &step);
-        take_step(&rt, alloc, &mut vm, &mut limiter, &End("p", &[ids]));
+        take_step(&rt, alloc, &mut vm, &mut limiter, Told::WhereAsked, &step);
+        take_step(
+            &rt,
+            alloc,
+            &mut vm,
+            &mut limiter,
+            Told::WhereAsked,
+            &End("p", &[ids]),
+        );
         release(&rt, vm, &mut limiter);
     }
     Ok(())

@@ -4,7 +4,8 @@ ghost use Rattle.std.specs.Prelude.{◌≡◌};
 ghost use Rattle.lol_vm.specs.Vms.{slot_bytes};
 
 use crate::machine_runs::{
-    Machine, Said, Written, end, machine, machine_with, number, release, start, start_and_drop,
+    Machine, Said, Told, Written, end, machine, machine_with, number, release, start,
+    start_and_drop, start_whole,
 };
 use lol_vm::{Ast, MatchInfo, SharedMemoryLimiter};
 use std::alloc::Global;
@@ -52,13 +53,17 @@ pub(crate) fn take_step(
     alloc: Global,
     vm: &mut Machine,
     limiter: &mut SharedMemoryLimiter,
+    told: Told,
     step: &Step<'_>,
 )
     ensures { slot_bytes vm.new ≡ slot_bytes vm.old }
 {
     match step {
         Step::Start(tag, wanted, ids, content, tries) => {
-            let (said, infos) = start(rt, alloc, vm, limiter, *tag);
+            let (said, infos) = match told {
+                Told::WhereAsked => start(rt, alloc, vm, limiter, *tag),
+                Told::AtOnce => start_whole(rt, alloc, vm, limiter, *tag),
+            };
             let as_wanted = said == *wanted && are_reported(&infos, ids, *content);
             let as_tried = (vm.tries().names(), vm.tries().attributes()) == *tries;
             assert!(rt; as_wanted && as_tried, "{}", tag.name);
@@ -78,14 +83,26 @@ pub(crate) fn take_step(
 /// Ample memory.
 const AMPLE: usize = 1_000_000;
 
-/// Takes the steps of a row on a machine of its own, with so many bytes at most.
+/// Takes the steps of a row on two machines of their own, with so many bytes at most: one is told of attributes where it asks, and one at
+/// once.
 fn check(rt: &impl Abort, alloc: Global, max: usize, row: Row<'_>) -> Result<(), Fail> {
+    take_steps(rt, alloc, max, Told::WhereAsked, row)?;
+    take_steps(rt, alloc, max, Told::AtOnce, row)
+}
+
+fn take_steps(
+    rt: &impl Abort,
+    alloc: Global,
+    max: usize,
+    told: Told,
+    row: Row<'_>,
+) -> Result<(), Fail> {
     let (texts, esi, steps) = row;
     let ast = selectors(alloc, texts)?;
     let mut limiter = SharedMemoryLimiter::new(max);
     let mut vm = machine_with(rt, alloc, ast, esi);
     for step in steps {
-        take_step(rt, alloc, &mut vm, &mut limiter, step);
+        take_step(rt, alloc, &mut vm, &mut limiter, told, step);
     }
     release(rt, vm, &mut limiter);
     assert!(rt; limiter.current_usage() == 0);
@@ -367,7 +384,7 @@ fn repeat(
     ensures { slot_bytes vm.new ≡ slot_bytes vm.old }
 {
     for _ in 0..times {
-        take_step(rt, alloc, vm, limiter, step);
+        take_step(rt, alloc, vm, limiter, Told::WhereAsked, step);
         assert!(rt; vm.charged_slots() == slots);
     }
 }
@@ -401,7 +418,7 @@ fn open_p(
 {
     let ids = [match_id];
     let step = Start(Written::html("p"), Unasked, &ids, true, (1, 0));
-    take_step(rt, alloc, vm, limiter, &step);
+    take_step(rt, alloc, vm, limiter, Told::WhereAsked, &step);
     assert!(rt; limiter.current_usage() == bytes);
 }
 
@@ -451,14 +468,28 @@ fn keep_what_is_written_into_data(rt: HostRuntime) -> Result<(), Fail> {
     let mut vm = machine(&rt, alloc, selectors(alloc, &[("*", 0), ("p p", 7)])?);
     assert!(rt; vm.current_element_data_mut().is_none());
     let first = Start(Written::html("p"), Unasked, &[0], true, (2, 0));
-    take_step(&rt, alloc, &mut vm, &mut limiter, &first);
+    take_step(&rt, alloc, &mut vm, &mut limiter, Told::WhereAsked, &first);
     write_into_data(&rt, &mut vm);
     let second = Start(Written::html("p"), Unasked, &[0, 7], true, (3, 0));
-    take_step(&rt, alloc, &mut vm, &mut limiter, &second);
+    take_step(&rt, alloc, &mut vm, &mut limiter, Told::WhereAsked, &second);
     let inside = Start(Written::html("b"), Unasked, &[0], true, (3, 0));
-    take_step(&rt, alloc, &mut vm, &mut limiter, &inside);
-    take_step(&rt, alloc, &mut vm, &mut limiter, &End("b", &[&[0]]));
-    take_step(&rt, alloc, &mut vm, &mut limiter, &End("p", &[&[0, 7]]));
+    take_step(&rt, alloc, &mut vm, &mut limiter, Told::WhereAsked, &inside);
+    take_step(
+        &rt,
+        alloc,
+        &mut vm,
+        &mut limiter,
+        Told::WhereAsked,
+        &End("b", &[&[0]]),
+    );
+    take_step(
+        &rt,
+        alloc,
+        &mut vm,
+        &mut limiter,
+        Told::WhereAsked,
+        &End("p", &[&[0, 7]]),
+    );
     assert!(rt; hands_out_written(&rt, alloc, &mut vm, "p"));
     release(&rt, vm, &mut limiter);
     Ok(())

@@ -2,6 +2,7 @@ use Rattle.std.proofs.Common.{inr, true, refl, ap, sym, ◌∙◌, subst}
 use Rattle.std.specs.Result.{IfOk, OnErr}
 use Rattle.std.proofs.lemmas.Result.{on_ok_weaker, on_err_weaker}
 use Rattle.lol_instructions.specs.Attributes.{tag_attributes}
+use Rattle.lol_vm.specs.TriedStarts.{left_at}
 use Rattle.lol_vm.specs.TagRuns.{AreExecuted, jumps_in, ranges_left, ranges_to_run_in, sight_in, stop_at, tried_at}
 use Rattle.lol_stack.specs.declared.execution_ctx.ExecutionCtx.{ExecutionCtx}
 use Rattle.lol_vm.specs.Vms.{IsFailedAs, IsTriedAtMost, Vm}
@@ -11,7 +12,7 @@ use Rattle.lol_vm.proofs.CallerLemmas.{charges_both, charges_none}
 use Rattle.lol_vm.proofs.FreeTags.{finished_closed, is_alone_free, is_closed_free, memory_instead, void_is_closed}
 use Rattle.lol_vm.proofs.VmFinishes.{tried_at_most, has_reported, has_content_still, answered, can_finish}
 use Rattle.lol_vm.proofs.VmRefusals.{err_is_not_ok, not_false, reported_with, has_open_same, has_open_failed, same_stack}
-use Rattle.lol_vm.proofs.vm.VmOf+Program+LocalName+StackNames+E.finish_start_tag.Goals as goal
+use Rattle.lol_vm.proofs.vm.VmOf+Program+LocalName+StackNames+E.finish.Goals as goal
 
 pub returns-in-Err-clause-still_open : goal.returns-in-Err-clause-still_open
 returns-in-Err-clause-still_open g c = λ elements h. has_open_same c.args.self.now _ elements (same_stack c.args.self.now.stack) refl refl h
@@ -23,7 +24,7 @@ returns-clause-answered g c =
     let ids = g.E.ElementData.ids in
     let with_ids = g.E.ElementData.with_ids in
     let lends = g.met.E.ElementData.ids_of_changed in
-    let request = c.args.request in
+    let request = (left_at c.args.ctx c.args.point) in
     let stop = stop_at vm.program.entry_points (jumps_in vm.stack) request.point in
     let left = ranges_left (ranges_to_run_in vm.program vm.stack) stop in
     let all = vm.program.instructions.items in
@@ -49,7 +50,7 @@ returns-clause-limit_reported g c = λ limit s esi events tag pending rest.
     let ids = g.E.ElementData.ids in
     let with_ids = g.E.ElementData.with_ids in
     let lends = g.met.E.ElementData.ids_of_changed in
-    let request = c.args.request in
+    let request = (left_at c.args.ctx c.args.point) in
     let stop = stop_at vm.program.entry_points (jumps_in vm.stack) request.point in
     let left = ranges_left (ranges_to_run_in vm.program vm.stack) stop in
     let all = vm.program.instructions.items in
@@ -72,7 +73,7 @@ returns-clause-unlimited g c =
     let ids = g.E.ElementData.ids in
     let with_ids = g.E.ElementData.with_ids in
     let lends = g.met.E.ElementData.ids_of_changed in
-    let request = c.args.request in
+    let request = (left_at c.args.ctx c.args.point) in
     let stop = stop_at vm.program.entry_points (jumps_in vm.stack) request.point in
     let left = ranges_left (ranges_to_run_in vm.program vm.stack) stop in
     let all = vm.program.instructions.items in
@@ -91,7 +92,7 @@ returns-clause-unlimited g c =
 pub returns-in-Err-clause-free : goal.returns-in-Err-clause-free
 returns-in-Err-clause-free g c = λ s esi events tag pending takes.
     let vm = c.args.self.now in
-    let request = c.args.request in
+    let request = (left_at c.args.ctx c.args.point) in
     let closed = finished_closed request.point vm.program.entry_points (jumps_in vm.stack) (has_content esi tag) request.ctx.with_content c.args.aux_info.self_closing pending.context tag.namespace
     pending.goes_on takes.1 (void_is_closed esi tag takes.1 takes.2) in
     let free = is_closed_free s pending.paths vm pending.machine pending.shows pending.standing.program takes.0 c.content_at.result (c.content_at.ensures ∙ closed) in
@@ -100,7 +101,7 @@ returns-in-Err-clause-free g c = λ s esi events tag pending takes.
 pub returns-clause-free : goal.returns-clause-free
 returns-clause-free g c = λ s esi events tag pending takes.
     let vm = c.args.self.now in
-    let request = c.args.request in
+    let request = (left_at c.args.ctx c.args.point) in
     let closed = finished_closed request.point vm.program.entry_points (jumps_in vm.stack) (has_content esi tag) request.ctx.with_content c.args.aux_info.self_closing pending.context tag.namespace
     pending.goes_on takes.1 (void_is_closed esi tag takes.1 takes.2) in
     c.answer.ensures.closed (c.complete_tag-completed.ensures.content ∙ (c.content_at.ensures ∙ closed))
@@ -112,7 +113,7 @@ returns-clause-all_or_none g c = λ error is. inr (
       let ids = g.E.ElementData.ids in
       let with_ids = g.E.ElementData.with_ids in
       let lends = g.met.E.ElementData.ids_of_changed in
-      let request = c.args.request in
+      let request = (left_at c.args.ctx c.args.point) in
       let stop = stop_at vm.program.entry_points (jumps_in vm.stack) request.point in
       let left = ranges_left (ranges_to_run_in vm.program vm.stack) stop in
       let all = vm.program.instructions.items in
@@ -134,15 +135,15 @@ returns-clause-all_or_none g c = λ error is. inr (
 pub returns-in-Err-clause-tried : goal.returns-in-Err-clause-tried
 returns-in-Err-clause-tried g c = λ s esi events tag pending.
     let vm = c.args.self.now in
-    let runs = can_finish g.E.ElementData.ids vm s esi events tag c.args.request pending c.complete_tag-completed.ensures.size in
-    tried_at_most g.E.ElementData.ids vm s esi events tag c.args.request pending c.complete_tag-completed.new.tries (c.complete_tag-completed.ensures.within pending.stopped runs)
+    let runs = can_finish g.E.ElementData.ids vm s esi events tag (left_at c.args.ctx c.args.point) pending c.complete_tag-completed.ensures.size in
+    tried_at_most g.E.ElementData.ids vm s esi events tag (left_at c.args.ctx c.args.point) pending c.complete_tag-completed.new.tries (c.complete_tag-completed.ensures.within pending.stopped runs)
 
 pub returns-clause-tried : goal.returns-clause-tried
 returns-clause-tried g c = λ s esi events tag pending.
     let vm = c.args.self.now in
-    let runs = can_finish g.E.ElementData.ids vm s esi events tag c.args.request pending c.complete_tag-completed.ensures.size in
+    let runs = can_finish g.E.ElementData.ids vm s esi events tag (left_at c.args.ctx c.args.point) pending c.complete_tag-completed.ensures.size in
     subst (IsTriedAtMost s esi events tag) (sym c.answer.ensures.tries)
-    (tried_at_most g.E.ElementData.ids vm s esi events tag c.args.request pending c.complete_tag-completed.new.tries (c.complete_tag-completed.ensures.within pending.stopped runs))
+    (tried_at_most g.E.ElementData.ids vm s esi events tag (left_at c.args.ctx c.args.point) pending c.complete_tag-completed.new.tries (c.complete_tag-completed.ensures.within pending.stopped runs))
 
 pub returns-in-Err-clause-due : goal.returns-in-Err-clause-due
 returns-in-Err-clause-due g c = λ error is due s esi events tag pending flat.
