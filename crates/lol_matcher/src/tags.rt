@@ -133,6 +133,7 @@ pub(crate) fn finish_tag<T: Drop>(
 }
 
 /// Drops a request that waits. Where there is none, nothing is written: a request is some 200 bytes.
+#[inline(always)]
 pub(crate) fn drop_request<T: Drop>(request: &mut Option<AuxStartTagInfoRequest<Kept<T>>>)
     ensures { request.new ≡ None }
 {
