@@ -253,6 +253,9 @@ def attribute_part(reader: Reader) -> tuple:
 def attribute_name(reader: Reader) -> tuple[str, bytes]:
     """The bars before a name, and the name, in lower case."""
     bars = reader.take_bars()
+    if not bars and reader.next().kind == "*":
+        reader.wanted()
+        reader.wanted(["|"], "UnexpectedTokenInAttribute")
     name = reader.wanted(["name"], "UnexpectedTokenInAttribute" if bars else "MissingAttributeName").value
     if not bars and reader.next().kind == "|":
         raise Refused("NamespacedSelector")
