@@ -1,0 +1,72 @@
+"""Answers to scripts: of the port, of the model, and of programs beside."""
+
+import os
+import re
+import signal
+import subprocess
+import sys
+
+ROOT = os.path.dirname(os.path.dirname(os.path.abspath(__file__)))
+PORT = os.path.join(ROOT, "crates", "lol_match", "out", "lol_match")
+SECONDS = 60
+GREATEST_ID_BESIDE = 100_000_000
+
+
+class NoAnswer(Exception):
+    """Raised in the model when its time is over."""
+
+
+def find_port(program: str) -> str:
+    if not os.path.exists(program):
+        sys.exit(f"{program} isn't there. It is built by `rt run < ../../examples/div_p.txt` in crates/lol_match;"
+                 " or name another one with --port.")
+    return program
+
+
+def run_program(program: str, script: bytes) -> tuple:
+    """Standard output and exit status; -1 stands for no answer in time."""
+    try:
+        done = subprocess.run([program], input=script, stdout=subprocess.PIPE, stderr=subprocess.DEVNULL, timeout=SECONDS)
+    except subprocess.TimeoutExpired:
+        return b"no answer in time\n", -1
+    return done.stdout, done.returncode
+
+
+def run_model(script: bytes) -> tuple:
+    """As run_program, by diff/model.py; -2 stands for an exception."""
+    from model import answer
+
+    def stop(*_):
+        raise NoAnswer
+
+    before = signal.signal(signal.SIGALRM, stop)
+    signal.alarm(SECONDS)
+    try:
+        return answer(script)
+    except NoAnswer:
+        return b"no answer in time\n", -1
+    except Exception as fault:
+        return f"{type(fault).__name__}: {fault}\n".encode(), -2
+    finally:
+        signal.alarm(0)
+        signal.signal(signal.SIGALRM, before)
+
+
+def has_great_id(script: bytes) -> bool:
+    """Whether some id is too great for the sets of a program beside, which may take a few bytes for each number below it."""
+    ids = re.findall(rb"^select\t(\d+)\t", script, re.M)
+    return any(int(number) > GREATEST_ID_BESIDE for number in ids)
+
+
+class Peer:
+    """What the port is compared with: the model, or a program beside."""
+
+    def __init__(self, program: str | None):
+        self.program = program
+        self.name = os.path.basename(program) if program else "the model"
+
+    def answer(self, script: bytes) -> tuple:
+        return run_program(self.program, script) if self.program else run_model(script)
+
+    def takes(self, script: bytes) -> bool:
+        return not self.program or not has_great_id(script)
