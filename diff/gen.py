@@ -8,7 +8,8 @@ import argparse
 import random
 import sys
 
-from selector_texts import ATTRIBUTES, NAMES, NEAR_MISSES, ODD_NAMES, VOID, WITHOUT_CASE, Selectors, Vocabulary, other_case
+from selector_texts import (ATTRIBUTES, NAMES, NEAR_MISSES, ODD_NAMES, OPERATORS, VOID, WITHOUT_CASE, Selectors, Vocabulary,
+                            other_case)
 
 NAMESPACES = ["html"] * 9 + ["html/", "svg", "svg", "svg/", "mathml", "mathml/"]
 SMALL_IDS = [0, 1, 2, 3, 7, 15, 16, 30, 31, 32, 33, 62, 63, 64, 65, 127, 128, 255, 1000, 4095, 100000]
@@ -89,7 +90,8 @@ def start_of(r: random.Random, names: list, attributes: list, most: int = 6):
     """The lines that set a script up, and its drawer of tags."""
     words = Vocabulary(r, names, attributes)
     selectors = Selectors(r, words, r.random() < 0.65)
-    lines = [select(identity(r), selectors.text()) for _ in range(r.choice((1, 1, 2, 3, most)))]
+    ids = [identity(r) for _ in range(r.choice((1, 2, 4)))]
+    lines = [select(r.choice(ids), selectors.text()) for _ in range(r.choice((1, 1, 2, 3, most)))]
     return settings(r) + lines, Tags(r, words)
 
 
@@ -108,6 +110,20 @@ def without_case(r: random.Random) -> list:
     """Attributes whose values are compared without case in HTML, and names near to theirs."""
     lines, tags = start_of(r, NAMES[:3], WITHOUT_CASE if r.random() < 0.7 else NEAR_MISSES + WITHOUT_CASE[:3])
     return lines + tags.lines(r.choice((2, 4, 8)))
+
+
+def each_without_case(r: random.Random) -> list:
+    """Many of the names whose values are compared without case, each in a selector of its own, and in tags in other case."""
+    names = r.sample(WITHOUT_CASE + NEAR_MISSES, r.choice((6, 20, 30)))
+    words = Vocabulary(r, NAMES[:3], ATTRIBUTES)
+    words.attributes, words.values = names, r.sample(("ab", "aB", "b", "ab b", "a-B"), 2)
+    selectors = Selectors(r, words, True)
+    lines = settings(r)
+    for number, name in enumerate(names):
+        text = f"{r.choice(OPERATORS)}{selectors.operand() or 'a'!r}{r.choice(('', '', '', ' i', ' s'))}"
+        lines.append(select(number, f"[{name}{text}]"))
+    tags = Tags(r, words)
+    return lines + [tags.start((3, 6, 20)) for _ in range(r.choice((3, 6)))]
 
 
 def refused(r: random.Random) -> list:
@@ -158,9 +174,11 @@ def deep(r: random.Random) -> list:
     """Elements one inside the other, now and then 10,000 of them."""
     words = Vocabulary(r, NAMES, ATTRIBUTES)
     selectors = Selectors(r, words, True)
-    lines = settings(r) + [select(identity(r), selectors.item(3)) for _ in range(r.choice((1, 2, 3)))]
     depth = r.choice((130, 131, 140, 140, 150, 200, 200, 260, 400, 1000 if r.random() < 0.2 else 140))
-    depth = 10000 if r.random() < 0.03 else depth
+    depth = 10000 if r.random() < 0.02 else depth
+    texts = [selectors.item(3) for _ in range(r.choice((1, 2, 3)))]
+    texts = texts if depth < 1000 else [selectors.compound() + r.choice(" >") + selectors.compound()]
+    lines = settings(r) + [select(identity(r), text) for text in texts]
     tags = Tags(r, words)
     tags.name_lists, tags.ends = [words.names], r.choice((0, 0, 0.1))
     lines += tags.lines(r.choice((0, 2)))
@@ -203,16 +221,16 @@ def many_ids(r: random.Random) -> list:
     words = Vocabulary(r, NAMES[:4], ATTRIBUTES)
     selectors = Selectors(r, words, r.random() < 0.8)
     if r.random() < 0.1:
-        greatest = 2 ** r.choice((24, 26, 28, 30, 32) if r.random() < 0.2 else (24, 25, 26))
-        ids = [r.choice((greatest - 1, greatest - 2 ** 5, r.randrange(greatest)))]
-        return [select(number, selectors.text()) for number in ids] + Tags(r, words).lines(3)
+        greatest = 2 ** r.choice((28, 30, 32) if r.random() < 0.02 else (22, 23, 24))
+        number = r.choice((greatest - 1, greatest - 2 ** 5, r.randrange(greatest)))
+        return [select(number, selectors.text())] + Tags(r, words).lines(2)
     count, spread = r.choice((10, 40, 150)), r.choice((1, 1, 31, 1000))
     texts = [selectors.item(1) for _ in range(r.choice((2, 10, 60)))]
     lines = [select(r.randrange(count) * spread, r.choice(texts)) for _ in range(count)]
     return settings(r) + lines + Tags(r, words).lines(r.choice((3, 10)))
 
 
-KINDS = {matching: 50, odd_names: 8, without_case: 10, refused: 14, bad_line: 6, limits: 4, deep: 2, wide: 2,
+KINDS = {matching: 48, odd_names: 8, without_case: 7, each_without_case: 4, refused: 14, bad_line: 6, limits: 4, deep: 3, wide: 2,
          long_values: 2, many_ids: 2, great_selectors: 1}
 
 

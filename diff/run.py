@@ -20,7 +20,7 @@ import stored
 from programs import PORT, Peer, find_port, run_model, run_program
 from shrinking import shrink
 
-BATCH = 50
+BATCH = 10
 
 
 class Comparing:
