@@ -8,7 +8,8 @@ import argparse
 import random
 import sys
 
-from selector_texts import (ATTRIBUTES, NAMES, NEAR_MISSES, ODD_NAMES, OPERATORS, VOID, WITHOUT_CASE, Selectors, Vocabulary,
+from selector_texts import (ATTRIBUTES, NAMES, NEAR_MISSES, ODD_NAMES, OPERATORS, VOID, WITHOUT_CASE, Selectors,
+Vocabulary,
                             other_case)
 
 NAMESPACES = ["html"] * 9 + ["html/", "svg", "svg", "svg/", "mathml", "mathml/"]
@@ -113,7 +114,7 @@ def without_case(r: random.Random) -> list:
 
 
 def each_without_case(r: random.Random) -> list:
-    """Many of the names whose values are compared without case, each in a selector of its own, and in tags in other case."""
+    """Many of the names whose values are compared without case, each in a selector of its own."""
     names = r.sample(WITHOUT_CASE + NEAR_MISSES, r.choice((6, 20, 30)))
     words = Vocabulary(r, NAMES[:3], ATTRIBUTES)
     words.attributes, words.values = names, r.sample(("ab", "aB", "b", "ab b", "a-B"), 2)
@@ -144,15 +145,18 @@ def bad_line(r: random.Random) -> list:
     """A script with one line that may be bad."""
     lines, tags = start_of(r, NAMES, ATTRIBUTES, 2)
     lines += tags.lines(r.choice((0, 1, 3)))
-    number = r.choice(("4294967295", "4294967296", "-1", "+1", "1.0", "", " 1", "0x1", "00", "99999999999999999999", "1a", "\u0661"))
+    number = r.choice(("4294967295", "4294967296", "-1", "+1", "1.0", "", " 1", "0x1", "00", "99999999999999999999",
+                      "1a", "\u0661"))
     bound = r.choice(("18446744073709551615", "18446744073709551616", "-1", "", "1 ", "0064", "1e3", "64\t"))
     line = r.choice([
-        f"limit\t{bound}", f"select\t{number}\t!", f"select\t{number}", "select\t0\t", "select\t0", "select 0 a", "select\t\ta",
-        "Select\t0\ta", "select\t0\ta\tb", "esi", "esi\t", "esi\r", "ESI", "tries", "tries\t1", " tries", "limit", "limit\t1\t2",
-        "start", "start\thtml", "start\thtml\t", "start\tHTML\ta", "start\thtml/\ta", "start\thtml//\ta", "start\t/\ta",
-        "start\tmath\ta", "start\thtml\ta\t", "start\thtml\ta\t=b", "start\thtml\ta\t\tb", "start\thtml\ta\tb=\tc==", "START\thtml\ta",
-        "drop", "drop\thtml", "drop\tsvg\ta", "start html a", "start\thtml \ta", "end", "end\t", "end\ta\tb", "end\ta ", "end\ta\r",
-        "\t", "\r", " ", "#", "start\thtml\ta\r", "start\thtml\r\ta", "select\t0\ta\r", "select\t0\r\ta", "limit\t64\r", "end a",
+        f"limit\t{bound}", f"select\t{number}\t!", f"select\t{number}", "select\t0\t", "select\t0", "select 0 a",
+        "select\t\ta", "Select\t0\ta", "select\t0\ta\tb", "esi", "esi\t", "esi\r", "ESI", "tries", "tries\t1",
+        " tries", "limit", "limit\t1\t2", "start", "start\thtml", "start\thtml\t", "start\tHTML\ta",
+        "start\thtml/\ta", "start\thtml//\ta", "start\t/\ta", "start\tmath\ta", "start\thtml\ta\t",
+        "start\thtml\ta\t=b", "start\thtml\ta\t\tb", "start\thtml\ta\tb=\tc==", "START\thtml\ta", "drop",
+        "drop\thtml", "drop\tsvg\ta", "start html a", "start\thtml \ta", "end", "end\t", "end\ta\tb", "end\ta ",
+        "end\ta\r", "\t", "\r", " ", "#", "start\thtml\ta\r", "start\thtml\r\ta", "select\t0\ta\r", "select\t0\r\ta",
+        "limit\t64\r", "end a",
     ]).encode()
     if r.random() < 0.1:
         line = b"select\t0\t." + r.choice(FALSE_UTF8)
@@ -230,7 +234,8 @@ def many_ids(r: random.Random) -> list:
     return settings(r) + lines + Tags(r, words).lines(r.choice((3, 10)))
 
 
-KINDS = {matching: 48, odd_names: 8, without_case: 7, each_without_case: 4, refused: 14, bad_line: 6, limits: 4, deep: 3, wide: 2,
+KINDS = {matching: 48, odd_names: 8, without_case: 7, each_without_case: 4, refused: 14, bad_line: 6, limits: 4,
+         deep: 3, wide: 2,
          long_values: 2, many_ids: 2, great_selectors: 1}
 
 

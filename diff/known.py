@@ -8,13 +8,14 @@ from programs import ROOT
 
 DEEPER = re.compile(r":(not|is|where)\(", re.I)
 NEGATION = re.compile(r":not\(", re.I)
-TOKEN = re.compile(r"/\*.*?(?:\*/|$)|\\[0-9a-fA-F]{1,6}[ \t]?|\\.|\"(?:\\.|[^\"\\])*(?:\"|$)|'(?:\\.|[^'\\])*(?:'|$)", re.S)
+TOKEN = re.compile(r"/\*.*?(?:\*/|$)|\\[0-9a-fA-F]{1,6}[ \t]?|\\."
+                   r"|\"(?:\\.|[^\"\\])*(?:\"|$)|'(?:\\.|[^'\\])*(?:'|$)", re.S)
 SIMPLE = re.compile(r"\s*(\*|[.#]?(\\.|[\w-]|[^\x00-\x7f])+|\[[^][]*\]?|:[\w-]+(\([^()]*\)?)?)\s*", re.S)
 TRIES = re.compile(rb"\ttries \d+ \d+$", re.M)
 PART = re.compile(r"\[[^]]*\]?|:?[.#]?(?:\\.|[\w-]|[^\x00-\x7f])+(?:\([^()]*\)?)?|[*|]", re.S)
 LINE = re.compile(rb"bad line (\d+): ([^\n]*)\n?")
-BOUNDS = ("A selector has at most 128 of `:not`, `:is` and `:where` one inside the other, and an item at most 1,024 compounds,"
-          " and the numbers of An+B lie in `i32`; beyond, a text is refused.")
+BOUNDS = ("A selector has at most 128 of `:not`, `:is` and `:where` one inside the other, and an item at most 1,024"
+          " compounds, and the numbers of An+B lie in `i32`; beyond, a text is refused.")
 
 
 def plain(text: str) -> str:
@@ -71,7 +72,7 @@ class Known(NamedTuple):
 CLASSES = [
     Known("is and where", "lol_html refuses both by name",
           "`:is` and `:where` are read, as parts `SimpleSelector::Is` and `Where`; lol_html refuses both by name.",
-          lambda text: re.search(r"(is|where|x)\(", plain(text), re.I) is not None,
+          lambda text: re.search(r"(is|where|x[\w-]*)\(", plain(text), re.I) is not None,
           lambda port, other: cause(other) == "UnsupportedPseudoClassOrElement"),
     Known("not of compounds", "lol_html negates each simple test by itself",
           "`:not` negates whole compounds, as Selectors 4 says, where lol_html negates each simple test by itself",
@@ -97,8 +98,9 @@ CLASSES = [
     Known("hyphen before an escaped line's end", "an older tokenizer takes it as a name", None,
           lambda text: re.search(r"-\\[\r\f]", text) is not None, lambda port, other: port[1] == 2 and other[1] == 2),
 ]
-IN_ORDER = Known("nodes by the order of tests", "lol_html keeps tests of names and of attributes apart, so `.a:first-child`"
-                 " and `:first-child.a` are one node there", "A compound's tests are a tree (`Predicate { tests }`, `Test`)",
+IN_ORDER = Known("nodes by the order of tests", "lol_html keeps tests of names and of attributes apart, so"
+                 " `.a:first-child` and `:first-child.a` are one node there",
+                 "A compound's tests are a tree (`Predicate { tests }`, `Test`)",
                  lambda text: True, lambda port, other: TRIES.sub(b"", port[0]) == TRIES.sub(b"", other[0]))
 
 

@@ -1,5 +1,6 @@
 """Answers to scripts: of the port, of the model, and of programs beside."""
 
+import importlib.util
 import os
 import re
 import signal
@@ -23,10 +24,17 @@ def find_port(program: str) -> str:
     return program
 
 
+def find_model() -> None:
+    """Ends the program if the model isn't there."""
+    if importlib.util.find_spec("model") is None:
+        sys.exit("diff/model.py isn't there: leave it out with --no-model.")
+
+
 def run_program(program: str, script: bytes) -> tuple:
     """Standard output and exit status; -1 stands for no answer in time."""
     try:
-        done = subprocess.run([program], input=script, stdout=subprocess.PIPE, stderr=subprocess.DEVNULL, timeout=SECONDS)
+        done = subprocess.run([program], input=script, stdout=subprocess.PIPE, stderr=subprocess.DEVNULL,
+                              timeout=SECONDS)
     except subprocess.TimeoutExpired:
         return b"no answer in time\n", -1
     return done.stdout, done.returncode
@@ -53,7 +61,7 @@ def run_model(script: bytes) -> tuple:
 
 
 def has_great_id(script: bytes) -> bool:
-    """Whether some id is too great for the sets of a program beside, which may take a few bytes for each number below it."""
+    """Whether some id is too great for the sets of a program beside, which may take bytes for each number below."""
     ids = re.findall(rb"^select\t(\d+)\t", script, re.M)
     return any(int(number) > GREATEST_ID_BESIDE for number in ids)
 

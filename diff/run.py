@@ -17,7 +17,7 @@ import time
 import gen
 import known
 import stored
-from programs import PORT, Peer, find_port, run_model, run_program
+from programs import PORT, Peer, find_model, find_port, run_model, run_program
 from shrinking import shrink
 
 BATCH = 10
@@ -161,7 +161,8 @@ def main() -> int:
     parser.add_argument("count", type=int, nargs="?", default=0, help="how many random cases")
     parser.add_argument("--seed", type=int, default=1)
     parser.add_argument("--port", default=PORT, help="the program to test")
-    parser.add_argument("--beside", nargs="+", action="extend", default=[], help="programs that answer the same scripts")
+    parser.add_argument("--beside", nargs="+", action="extend", default=[],
+                        help="programs that answer the same scripts")
     parser.add_argument("--jobs", type=int, default=multiprocessing.cpu_count(), help="how many run at once")
     parser.add_argument("--no-model", action="store_true", help="leave diff/model.py out")
     parser.add_argument("--differences", type=int, default=20, help="stop after so many cases that differ")
@@ -170,6 +171,8 @@ def main() -> int:
     options = parser.parse_args()
     if known.untold():
         sys.exit(f"docs/DIFFERENCES.md doesn't tell of these classes as known.py says: {', '.join(known.untold())}")
+    if not options.no_model:
+        find_model()
     if options.stored:
         return replay(options)
     return compare(options) if options.count else parser.error("how many cases?")

@@ -4,12 +4,14 @@ import random
 
 NAMES = ["a", "b", "div", "p", "span", "ul", "li", "h1", "1a", "custom-element", "circle", "averyveryverylongname"]
 VOID = ["br", "img", "input", "link", "meta", "wbr", "area", "base", "basefont", "bgsound", "col", "embed", "hr"]
-ODD_NAMES = ["esi:include", "esi:comment", "ESI:include", "image", "é", "a:b", "A", "Div", "x_y", "p ", "param", "track"]
+ODD_NAMES = ["esi:include", "esi:comment", "ESI:include", "image", "é", "a:b", "A", "Div", "x_y", "p ", "param",
+             "track"]
 WITHOUT_CASE = """accept accept-charset align alink axis bgcolor charset checked clear codetype color compact declare
 defer dir direction disabled enctype face frame hreflang http-equiv lang language link media method multiple nohref
 noresize noshade nowrap readonly rel rev rules scope scrolling selected shape target text type valign valuetype
 vlink""".split()
-NEAR_MISSES = ["accepts", "bg-color", "hrefs", "href", "relation", "types", "typ", "id", "xtype", "value", "rel-", "lang-"]
+NEAR_MISSES = ["accepts", "bg-color", "hrefs", "href", "relation", "types", "typ", "id", "xtype", "value", "rel-",
+               "lang-"]
 ATTRIBUTES = ["a", "b", "c", "class", "id", "type", "rel", "data-x", "xlink:href", "é"]
 WORDS = ["a", "b", "A", "B", "ab", "aB", "x1", "x-y", "é", "É", "1", "-", "k", "\u212a", "a.b", "it's", '"']
 OPERATORS = ["=", "=", "~=", "|=", "^=", "$=", "*="]
@@ -18,7 +20,8 @@ EDGES = [2147483647, 2147483646, -2147483648, -2147483647, 2147483648, -21474836
 KEYWORDS = ["odd", "even", "ODD", "eVeN", "n", "-n", "+n", "N", "0n", "-0n"]
 
 REFUSED = {
-    "EmptySelector": ["", " ", "/**/", "*|", "|", "#1a", "#", "!", "1", '"a"', "-->", "@a", "a,", ",a", ":not()", ")", "]"],
+    "EmptySelector": ["", " ", "/**/", "*|", "|", "#1a", "#", "!", "1", '"a"', "-->", "@a", "a,", ",a", ":not()",
+                      ")", "]"],
     "DanglingCombinator": ["a >", "a > ", "a >> b", "a > *|", "a > , b", "a > 1", "a >)", "a +", "a ~ ~ b", "a > |"],
     "UnexpectedEnd": ["a.", "a:", "a::", "[", "[a=", "[a=]", "[a= ", ":nth-child(", ":nth-child()", ":nth-child(+)",
                       ":nth-child(3n-)", "[a|]", ":not(:)", ".a, .", "[*", "[|", "a.,b", ":,a", ":nth-child(n -"],
@@ -27,21 +30,24 @@ REFUSED = {
                         ":nth-child(2n+1 of a)", ":nth-child(a)", ":nth-child(2e1)", ":nth-child(5%)", "*|a|b", "a*",
                         ":nth-of-type(n-2147483649)", ":nth-child(--n)", ":nth-child(+ 1)", "a b c {}", "a #1"],
     "MissingAttributeName": ["[=a]", '["a"]', "[1]", "[.a]", "[:a]", "[[a]]", "[#a]"],
-    "UnexpectedTokenInAttribute": ["[a~b]", "[a==b]", "[a=1]", "[a~/**/=b]", "[a b]", "[*a]", "[a=#b]", "[|1]", "[a!=b]",
-                                   "[|*]", "[a=.b]", "[*|1]", "[a,b]", "[a=,]", "[a(b)]"],
+    "UnexpectedTokenInAttribute": ["[a~b]", "[a==b]", "[a=1]", "[a~/**/=b]", "[a b]", "[*a]", "[a=#b]", "[|1]",
+                                   "[a!=b]", "[|*]", "[a=.b]", "[*|1]", "[a,b]", "[a=,]", "[a(b)]"],
     "InvalidClassName": [".1", ". a", ".foo()", "..a", ".#a", ".[a]", ".*", ".-1", ".|a", "a.>b"],
-    "NamespacedSelector": ["a|b", "a|*", "[a|b]", "[*|a]", "[a|b=c]", "[*|a=b]", "svg|circle", ":not([*|a])", "a|", "[a|=b|c]"],
+    "NamespacedSelector": ["a|b", "a|*", "[a|b]", "[*|a]", "[a|b=c]", "[*|a=b]", "svg|circle", ":not([*|a])", "a|",
+                           "[a|=b|c]"],
     "UnsupportedPseudoClassOrElement": [
-        ":hover", "::before", ":before", "a: b", ":is", ":not", "::is(a)", ":not(a b)", ":is(a > b)", ":last-child", ":1",
-        ":only-child", ":last-of-type", ":only-of-type", ":root", ":empty", ":scope", ":nth-last-child(1)", ":where(a + b)",
-        ":nth-last-of-type(2n)", ":has(a)", ":lang(en)", ":focus", ":checked", ":first-line", ":contains(a)", ":.a", ":nth-child",
-        ":first-child()", ":matches(a)", ":any(a)", ":ROOT", ":not/**/(a)", ":-a", ":not(:hover)", ":is(:first-line)"],
+        ":hover", "::before", ":before", "a: b", ":is", ":not", "::is(a)", ":not(a b)", ":is(a > b)", ":last-child",
+        ":1", ":only-child", ":last-of-type", ":only-of-type", ":root", ":empty", ":scope", ":nth-last-child(1)",
+        ":where(a + b)", ":nth-last-of-type(2n)", ":has(a)", ":lang(en)", ":focus", ":checked", ":first-line",
+        ":contains(a)", ":.a", ":nth-child", ":first-child()", ":matches(a)", ":any(a)", ":ROOT", ":not/**/(a)",
+        ":-a", ":not(:hover)", ":is(:first-line)"],
     "UnsupportedCombinator(+)": ["a + b", "a+b", "a b + c", "a ~ b + c", "a/**/+/**/b"],
     "UnsupportedCombinator(~)": ["a ~ b", "a~b", "a > b ~ c", "a + b ~ c"],
 }
 CAUSES = list(REFUSED)
-FRAGMENTS = """a b * | > + ~ , . # [ ] ( ) : :: = ~= |= ^= $= *= " ' \\ \\31 \\0 - -- --> /* */ /**/ @ ! ; { } i s 1 n 2n -1
-:not( :is( :where( :nth-child( :first-child [a] [a=b] .a #a odd +1 n-1 é \u00a0 \x01 \x00 \r \x0c \\\r &""".split(" ") + [" ", "\t"]
+FRAGMENTS = ("a b * | > + ~ , . # [ ] ( ) : :: = ~= |= ^= $= *= \" ' \\ \\31 \\0 - -- --> /* */ /**/ @ ! ; { } i s 1 n "
+             "2n -1 :not( :is( :where( :nth-child( :first-child [a] [a=b] .a #a odd +1 n-1 é \u00a0 \x01 \x00 \r \x0c "
+             "\\\r &").split(" ") + [" ", "\t"]
 
 
 class Vocabulary:
@@ -107,7 +113,8 @@ class Selectors:
         """A value of the vocabulary, or a part of one."""
         value = self.r.choice(self.words.values)
         start, end = sorted((self.r.randrange(len(value) + 1), self.r.randrange(len(value) + 1)))
-        part = self.r.choice((value, value, self.r.choice(self.words.words), value[start:], value[:end], value[start:end]))
+        part = self.r.choice((value, value, self.r.choice(self.words.words), value[start:], value[:end],
+                             value[start:end]))
         return other_case(self.r, part) if self.r.random() < 0.3 else part
 
     def attribute(self) -> str:
@@ -131,7 +138,8 @@ class Selectors:
             return r.choice(KEYWORDS)
         edge = r.random() < (0.01 if self.alike else 0.08)
         step, offset = r.choice(NUMBERS), r.choice(NUMBERS + EDGES if edge else NUMBERS)
-        offset_text = f"{offset:+d}" if r.random() < 0.8 else f"{offset:+d}"[0] + r.choice(("0", "00")) + f"{offset:+d}"[1:]
+        zeros = "" if r.random() < 0.8 else r.choice(("0", "00"))
+        offset_text = f"{offset:+d}"[0] + zeros + f"{offset:+d}"[1:]
         if r.random() < 0.3:
             return r.choice((f"{offset}", offset_text))
         sign = r.choice(("", "", "-", "+"))
@@ -215,7 +223,8 @@ class Selectors:
             depth = r.choice((126, 127, 128, 128, 129, 130))
             return "".join(r.choice((":not(", ":not(", ":is(", ":where(")) for _ in range(depth)) + "a" + ")" * depth
         if kind == 1:
-            return r.choice((" ", ">", " > ")).join(["a"] * r.choice((1022, 1023, 1024, 1025))) + r.choice(("", "", ">", " b"))
+            compounds = ["a"] * r.choice((1022, 1023, 1024, 1025))
+            return r.choice((" ", ">", " > ")).join(compounds) + r.choice(("", "", ">", " b"))
         if kind == 2:
             return ",".join(self.compound() for _ in range(r.choice((20, 100, 300))))
         if kind == 3:

@@ -1,8 +1,9 @@
 """Stored cases: how they are written and read, and which ones are chosen.
 
-A file in diff/cases has cases one after another. `case N: exit status S` begins one; a line of its script has `< ` before
-it, and a line of its answer `> `. Bytes that can't be read are written in hexadecimal, as in `‹0d›`. `‹9 times a›` stands
-for nine times `a`, `‹9 times› ` before a line for nine such lines, and `‹no line end›` ends a text that lacks its last LF.
+A file in diff/cases has cases one after another. `case N: exit status S` begins one; a line of its script has `< `
+before it, and a line of its answer `> `. Bytes that can't be read are written in hexadecimal, as in `‹0d›`. What occurs
+often in a row is written once: `‹9 times a›` stands for nine times `a`, `‹9 times› ` before a line for nine such lines.
+`‹no line end›` ends a text that lacks its last LF.
 """
 
 import collections
@@ -17,12 +18,14 @@ MARK = re.compile(r"‹(?:(\d+) times ([^‹›]+)|([0-9a-f ]+))›")
 ROW = re.compile(r"‹(\d+) times› ")
 WANTED, BYTES, COLUMNS = 2400, 1_400_000, 116
 OPERATOR = re.compile(r"\[[^]=]*?([~|^$*]?=)\s*(\"|'|)[^]]*?(\2\s*[iIsS])?\s*(\]|$)")
-FORMS = {"comment": r"/\*", "escape in hexadecimal": r"\\[0-9a-fA-F]", "escape": r"\\[^0-9a-fA-F]", "child": r">", "list": r",",
-         "no namespace": r"(^|[\s>,(])\|", "any namespace": r"\*\|", "universal": r"(^|[\s>,(])\*", "descendant": r"[\w\])*] +[\w.#:\[*]",
-         "class": r"\.[^\d]", "id": r"#", "exists": r"\[[^=\]]*\]", "left open": r"[\[(][^\])]*$", "tab": r"\t", "text": r"[^\x00-\x7f]",
-         "not": r":not\(", "is": r":is\(", "where": r":where\(", "nested": r":\w+\([^)]*:\w+\(", "nth-child": r":nth-child\(",
+FORMS = {"comment": r"/\*", "escape in hexadecimal": r"\\[0-9a-fA-F]", "escape": r"\\[^0-9a-fA-F]", "child": r">",
+         "list": r",", "no namespace": r"(^|[\s>,(])\|", "any namespace": r"\*\|", "universal": r"(^|[\s>,(])\*",
+         "descendant": r"[\w\])*] +[\w.#:\[*]", "class": r"\.[^\d]", "id": r"#", "exists": r"\[[^=\]]*\]",
+         "left open": r"[\[(][^\])]*$", "tab": r"\t", "text": r"[^\x00-\x7f]", "not": r":not\(", "is": r":is\(",
+         "where": r":where\(", "nested": r":\w+\([^)]*:\w+\(", "nth-child": r":nth-child\(",
          "nth-of-type": r":nth-of-type\(", "first-child": r":first-child", "first-of-type": r":first-of-type",
-         "keyword": r"\((odd|even|[+-]?n)\)", "step": r"\dn", "no step": r"\([+-]?\d+\)", "greater": r"-\d*n", "capital": r":[A-Z]"}
+         "keyword": r"\((odd|even|[+-]?n)\)", "step": r"\dn", "no step": r"\([+-]?\d+\)", "greater": r"-\d*n",
+         "capital": r":[A-Z]"}
 
 
 def byte_marks(text: str) -> str:
@@ -101,7 +104,7 @@ def cases():
 
 
 def selector_features(text: str) -> set:
-    features = {f"{operator[1]}{operator[2]}{operator[3][-1] if operator[3] else ''}" for operator in OPERATOR.finditer(text)}
+    features = {operator[1] + operator[2] + (operator[3] or "")[-1:] for operator in OPERATOR.finditer(text)}
     features |= {name for name, form in FORMS.items() if re.search(form, text)}
     return features | {f"{text.count('(')} parentheses" if text.count("(") < 5 else "many parentheses"}
 
@@ -110,7 +113,8 @@ def tag_features(fields: list) -> set:
     attributes = fields[3:]
     features = {f"{fields[0]} {fields[1] if len(fields) > 1 else ''} {min(len(attributes), 3)}"}
     features |= {"attribute " + one.split("=")[0].lower() for one in attributes}
-    features |= {"no value" if "=" not in one else "empty value" if one.endswith("=") else "value" for one in attributes}
+    values = [one.partition("=")[1:] for one in attributes]
+    features |= {"value" if value else "empty value" if sign else "no value" for sign, value in values}
     return features | {"name " + one.lower() for one in fields[2:3]}
 
 
