@@ -117,14 +117,13 @@ def each_without_case(r: random.Random) -> list:
     """Many of the names whose values are compared without case, each in a selector of its own."""
     names = r.sample(WITHOUT_CASE + NEAR_MISSES, r.choice((6, 20, 30)))
     words = Vocabulary(r, NAMES[:3], ATTRIBUTES)
-    words.attributes, words.values = names, r.sample(("ab", "aB", "b", "ab b", "a-B"), 2)
-    selectors = Selectors(r, words, True)
+    words.attributes, words.values = names, r.sample(("ab", "aB", "Ab", "AB", "ab-b", "AB b"), 2)
     lines = settings(r)
     for number, name in enumerate(names):
-        text = f"{r.choice(OPERATORS)}{selectors.operand() or 'a'!r}{r.choice(('', '', '', ' i', ' s'))}"
-        lines.append(select(number, f"[{name}{text}]"))
+        value = r.choice(("ab", "AB", "Ab", words.values[0], words.values[1]))
+        lines.append(select(number, f'[{name}{r.choice(OPERATORS)}"{value}"{r.choice(("",) * 6 + (" i", " s"))}]'))
     tags = Tags(r, words)
-    return lines + [tags.start((3, 6, 20)) for _ in range(r.choice((3, 6)))]
+    return lines + [tags.start((6, 20, 30)) for _ in range(r.choice((3, 6)))]
 
 
 def refused(r: random.Random) -> list:
@@ -180,7 +179,8 @@ def deep(r: random.Random) -> list:
     selectors = Selectors(r, words, True)
     depth = r.choice((130, 131, 140, 140, 150, 200, 200, 260, 400, 1000 if r.random() < 0.2 else 140))
     depth = 10000 if r.random() < 0.02 else depth
-    texts = [selectors.item(3) for _ in range(r.choice((1, 2, 3)))]
+    texts = [r.choice((selectors.item(3), f"{selectors.name()} {selectors.compound()}", f"{selectors.compound()} *"))
+             for _ in range(r.choice((1, 2, 3)))]
     texts = texts if depth < 1000 else [selectors.compound() + r.choice(" >") + selectors.compound()]
     lines = settings(r) + [select(identity(r), text) for text in texts]
     tags = Tags(r, words)
@@ -234,7 +234,7 @@ def many_ids(r: random.Random) -> list:
     return settings(r) + lines + Tags(r, words).lines(r.choice((3, 10)))
 
 
-KINDS = {matching: 48, odd_names: 8, without_case: 7, each_without_case: 4, refused: 14, bad_line: 6, limits: 4,
+KINDS = {matching: 46, odd_names: 8, without_case: 7, each_without_case: 6, refused: 14, bad_line: 6, limits: 4,
          deep: 3, wide: 2,
          long_values: 2, many_ids: 2, great_selectors: 1}
 

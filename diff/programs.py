@@ -17,11 +17,12 @@ class NoAnswer(Exception):
     """Raised in the model when its time is over."""
 
 
-def find_port(program: str) -> str:
+def find_program(program: str) -> str:
+    """The program's whole path; ends this one if it isn't there."""
     if not os.path.exists(program):
-        sys.exit(f"{program} isn't there. It is built by `rt run < ../../examples/div_p.txt` in crates/lol_match;"
-                 " or name another one with --port.")
-    return program
+        build = "It is built by `rt run < ../../examples/div_p.txt` in crates/lol_match; --port names another one."
+        sys.exit(f"{program} isn't there. " + (build if program == PORT else ""))
+    return os.path.abspath(program)
 
 
 def find_model() -> None:

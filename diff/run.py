@@ -17,7 +17,7 @@ import time
 import gen
 import known
 import stored
-from programs import PORT, Peer, find_model, find_port, run_model, run_program
+from programs import PORT, Peer, find_model, find_program, run_model, run_program
 from shrinking import shrink
 
 BATCH = 10
@@ -43,10 +43,8 @@ class Comparing:
         port, other = run_program(self.port, script), peer.answer(script)
         return port != other and self.class_of(script, peer, port, other) is None
 
-    def case(self, number: int, counts: collections.Counter) -> list:
+    def differences(self, number: int, script: bytes, port: tuple, counts: collections.Counter) -> list:
         """Counts how the peers answer a case; returns what differs in no known way."""
-        script = gen.case(self.seed, number)
-        port = run_program(self.port, script)
         found = []
         for peer in self.peers:
             if not peer.takes(script):
@@ -68,11 +66,12 @@ class Comparing:
     def batch(self, numbers: range) -> tuple:
         counts, found, pool = collections.Counter(), [], []
         for number in numbers:
-            differences = self.case(number, counts)
+            script = gen.case(self.seed, number)
+            port = run_program(self.port, script)
+            differences = self.differences(number, script, port, counts)
             found += differences
             if self.keep and not differences:
-                script = gen.case(self.seed, number)
-                pool.append((script, run_program(self.port, script)))
+                pool.append((script, port))
         return counts, found, pool
 
 
@@ -83,13 +82,14 @@ def show(title: str, text: bytes) -> None:
         print(line)
 
 
-def show_answers(port: tuple, name: str, other: tuple) -> None:
+def show_answers(port: tuple, name: str, other: tuple, first_name: str = "port") -> None:
     """Prints both answers; of long ones what is round the first line that differs."""
     ours, theirs = port[0].split(b"\n"), other[0].split(b"\n")
     first = next((place for place, pair in enumerate(itertools.zip_longest(ours, theirs)) if pair[0] != pair[1]), 0)
     start = first - 3 if first > 12 else 0
-    for title, lines, status in (("port", ours, port[1]), (name, theirs, other[1])):
+    for title, lines, status in ((first_name, ours, port[1]), (name, theirs, other[1])):
         shown = b"\n".join(lines[start:start + 16])
+        shown += b"\n.." * (len(lines) > start + 16) + b"\n" * (len(lines) > start + 15)
         show(f"  {title}, exit status {status}" + (f", from line {start + 1} on" if start else "") + ":", shown)
 
 
@@ -117,11 +117,12 @@ def show_counts(counts: collections.Counter, peers: list, seconds: float) -> Non
 
 
 def compare(options) -> int:
-    peers = ([] if options.no_model else [Peer(None)]) + [Peer(program) for program in options.beside]
+    peers = ([] if options.no_model else [Peer(None)]) + [Peer(find_program(program)) for program in options.beside]
     if not peers:
         sys.exit("There is nothing to compare with: leave --no-model out, or name a program with --beside.")
-    comparing = Comparing(find_port(options.port), peers, options.seed, options.store)
-    batches = [range(first, min(first + BATCH, options.count)) for first in range(0, options.count, BATCH)]
+    comparing = Comparing(find_program(options.port), peers, options.seed, options.store)
+    end = options.first + options.count
+    batches = [range(first, min(first + BATCH, end)) for first in range(options.first, end, BATCH)]
     counts, differing, pool, began = collections.Counter(), 0, [], time.monotonic()
     with multiprocessing.Pool(options.jobs) as workers:
         for some_counts, found, some_pool in workers.imap(functools.partial(Comparing.batch, comparing), batches):
@@ -135,23 +136,24 @@ def compare(options) -> int:
                 break
         workers.terminate()
     show_counts(counts, peers, time.monotonic() - began)
-    if options.store and not differing:
+    if options.store:
         print(f"{stored.store(pool)} cases stored, of {len(pool)}")
     return 1 if differing else 0
 
 
 def replay(options) -> int:
     """Compares the port, and the model if it is wanted, with the stored answers."""
-    port, began, wrong, count = find_port(options.port), time.monotonic(), 0, 0
+    port, began, wrong, count = find_program(options.port), time.monotonic(), 0, 0
     for place, script, answer in stored.cases():
         count += 1
         others = [("port", run_program(port, script))] + ([] if options.no_model else [("model", run_model(script))])
-        for name, other in others:
-            if other != answer:
-                wrong += 1
-                print(f"{place}: {name} answers otherwise")
+        differing = [(name, other) for name, other in others if other != answer]
+        wrong += bool(differing)
+        for name, other in differing:
+            if wrong <= options.differences:
+                print(f"{place}: the {name} answers otherwise")
                 show("  script:", script)
-                show_answers(other, "stored", answer)
+                show_answers(other, "stored", answer, name)
     print(f"{count - wrong} of {count} stored cases are answered as stored; {time.monotonic() - began:.0f} seconds")
     return 1 if wrong or not count else 0
 
@@ -160,6 +162,7 @@ def main() -> int:
     parser = argparse.ArgumentParser(description=__doc__, formatter_class=argparse.RawDescriptionHelpFormatter)
     parser.add_argument("count", type=int, nargs="?", default=0, help="how many random cases")
     parser.add_argument("--seed", type=int, default=1)
+    parser.add_argument("--first", type=int, default=0, help="the number of the first case")
     parser.add_argument("--port", default=PORT, help="the program to test")
     parser.add_argument("--beside", nargs="+", action="extend", default=[],
                         help="programs that answer the same scripts")
