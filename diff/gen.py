@@ -178,7 +178,7 @@ def deep(r: random.Random) -> list:
     words = Vocabulary(r, NAMES, ATTRIBUTES)
     selectors = Selectors(r, words, True)
     depth = r.choice((130, 131, 140, 140, 150, 200, 200, 260, 400, 1000 if r.random() < 0.2 else 140))
-    depth = 10000 if r.random() < 0.02 else depth
+    depth = 10000 if r.random() < 0.008 else depth
     texts = [r.choice((selectors.item(3), f"{selectors.name()} {selectors.compound()}", f"{selectors.compound()} *"))
              for _ in range(r.choice((1, 2, 3)))]
     texts = texts if depth < 1000 else [selectors.compound() + r.choice(" >") + selectors.compound()]
@@ -225,7 +225,7 @@ def many_ids(r: random.Random) -> list:
     words = Vocabulary(r, NAMES[:4], ATTRIBUTES)
     selectors = Selectors(r, words, r.random() < 0.8)
     if r.random() < 0.1:
-        greatest = 2 ** r.choice((28, 30, 32) if r.random() < 0.02 else (22, 23, 24))
+        greatest = 2 ** r.choice((30, 31, 32) if r.random() < 0.05 else (22, 24, 26, 28))
         number = r.choice((greatest - 1, greatest - 2 ** 5, r.randrange(greatest)))
         return [select(number, selectors.text())] + Tags(r, words).lines(2)
     count, spread = r.choice((10, 40, 150)), r.choice((1, 1, 31, 1000))

@@ -125,8 +125,11 @@ def compare(options) -> int:
     batches = [range(first, min(first + BATCH, end)) for first in range(options.first, end, BATCH)]
     counts, differing, pool, began = collections.Counter(), 0, [], time.monotonic()
     with multiprocessing.Pool(options.jobs) as workers:
-        for some_counts, found, some_pool in workers.imap(functools.partial(Comparing.batch, comparing), batches):
+        results = workers.imap(functools.partial(Comparing.batch, comparing), batches)
+        for batch, (some_counts, found, some_pool) in zip(batches, results):
             counts.update(some_counts)
+            if batch.stop % 1000 == 0:
+                print(f"{batch.stop} ..", file=sys.stderr)
             pool += some_pool
             for difference in found:
                 show_difference(options.seed, difference)

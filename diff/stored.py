@@ -42,7 +42,7 @@ def byte_marks(text: str) -> str:
 def line_of(line: bytes) -> str:
     text = line.decode("utf-8", "surrogateescape")
     out, place = "", 0
-    for again in AGAIN.finditer(text):
+    for again in AGAIN.finditer(text if len(text) > 60 else ""):
         piece = again[1]
         if piece == byte_marks(piece) and "\t" not in piece:
             count = len(again[0]) // len(piece)
@@ -142,7 +142,9 @@ def features_of(script: bytes, answer: tuple) -> set:
     answers = answer_features(answer)
     kind = "reported" if any(re.match(r"start [1-9]", one) for one in answers) else "not reported"
     if answer[1] == 2:
-        kind = answer[0].split(b": ")[-1].decode("utf-8", "replace")
+        number, kind = re.match(r"bad line (\d+): (.*)", answer[0].decode("utf-8", "replace")).groups()
+        line = script.split(b"\n")[int(number) - 1].decode("utf-8", "replace")
+        forms.add(line[:30] if kind == "form" else "refused")
     return answers | {f"{form} | {kind}" for form in forms}
 
 
@@ -163,6 +165,8 @@ def chosen(pool: list) -> list:
     """Cases that show each feature a few times, small ones first."""
     fitting = {}
     for script, answer in sorted(pool, key=lambda pair: (len(pair[0]) + len(pair[1][0]), pair[0])):
+        if len(script) > 20000:
+            continue
         block = block_of(0, script, answer)
         if max(map(len, block.split("\n"))) <= COLUMNS and len(block) < 6000:
             fitting[script] = (answer, features_of(script, answer), len(block.encode()))
