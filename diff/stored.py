@@ -131,12 +131,11 @@ def answer_features(answer: tuple) -> set:
 
 def features_of(script: bytes, answer: tuple) -> set:
     """What a case has: forms of lines and of selectors, each with how the case is answered, and forms of answers."""
-    forms, texts = set(), []
+    forms = set()
     for line in script.decode("utf-8", "surrogateescape").split("\n")[:400]:
         fields = line.split("\t")
         if fields[0] == "select":
-            texts.append(line.split("\t", 2)[-1])
-            forms |= selector_features(texts[-1]) | {f"id of {len(fields[1]) if len(fields) > 1 else 0} digits"}
+            forms |= selector_features("\t".join(fields[2:])) | {f"id of {len(''.join(fields[1:2]))} digits"}
         else:
             forms |= tag_features(fields) if fields[0] in ("start", "drop") else {" ".join(fields)[:24]}
     answers = answer_features(answer)
