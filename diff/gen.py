@@ -187,7 +187,7 @@ def deep(r: random.Random) -> list:
     tags.name_lists, tags.ends = [words.names], r.choice((0, 0, 0.1))
     lines += tags.lines(r.choice((0, 2)))
     body = [b"start\thtml\t" + r.choice(words.names).encode() for _ in range(r.choice((1, 2, 3)))]
-    body += [tags.start((0, 1))] * (depth < 1000)
+    body += [tags.start((0, 1))] * (depth < 1000 and r.random() < 0.7)
     lines += (body * (depth // len(body) + 1))[:depth]
     return lines + tags.lines(r.choice((4, 12)))
 

@@ -221,7 +221,8 @@ class Selectors:
         kind = r.randrange(5)
         if kind == 0:
             depth = r.choice((126, 127, 128, 128, 129, 130))
-            return "".join(r.choice((":not(", ":not(", ":is(", ":where(")) for _ in range(depth)) + "a" + ")" * depth
+            names = [":not("] if r.random() < 0.5 else [":not(", ":is(", ":where("]
+            return "".join(r.choice(names) for _ in range(depth)) + "a" + ")" * r.choice((depth, depth, 0))
         if kind == 1:
             compounds = ["a"] * r.choice((1022, 1023, 1024, 1025))
             return r.choice((" ", ">", " > ")).join(compounds) + r.choice(("", "", ">", " b"))

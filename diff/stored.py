@@ -1,6 +1,6 @@
 """Stored cases: how they are written and read, and which ones are chosen.
 
-A file in diff/cases has cases one after another. `case N: exit status S` begins one; a line of its script has `< `
+A file in diff/cases has cases one after another. `case, exit status S` begins one; a line of its script has `< `
 before it, and a line of its answer `> `. Bytes that can't be read are written in hexadecimal, as in `‹0d›`. What occurs
 often in a row is written once: `‹9 times a›` stands for nine times `a`, `‹9 times› ` before a line for nine such lines.
 `‹no line end›` ends a text that lacks its last LF.
@@ -16,7 +16,7 @@ NO_END = "‹no line end›"
 AGAIN = re.compile(r"([^‹›]{1,16}?)\1{9,}")
 MARK = re.compile(r"‹(?:(\d+) times ([^‹›]+)|([0-9a-f ]+))›")
 ROW = re.compile(r"‹(\d+) times› ")
-WANTED, BYTES, COLUMNS = 2400, 1_400_000, 116
+WANTED, BYTES, COLUMNS = 2400, 1_450_000, 116
 OPERATOR = re.compile(r"\[[^]=]*?([~|^$*]?=)\s*(\"|'|)[^]]*?(\2\s*[iIsS])?\s*(\]|$)")
 FORMS = {"comment": r"/\*", "escape in hexadecimal": r"\\[0-9a-fA-F]", "escape": r"\\[^0-9a-fA-F]", "child": r">",
          "list": r",", "no namespace": r"(^|[\s>,(])\|", "any namespace": r"\*\|", "universal": r"(^|[\s>,(])\*",
@@ -36,7 +36,7 @@ def byte_marks(text: str) -> str:
             out += c
         else:
             out += "‹" + c.encode("utf-8", "surrogateescape").hex(" ") + "›"
-    return out[:-1] + "‹20›" if out.endswith(" ") else out
+    return out[:-1] + f"‹{ord(out[-1]):02x}›" if out.endswith((" ", "\t")) else out
 
 
 def line_of(line: bytes) -> str:
@@ -87,20 +87,16 @@ def read_line(line: str) -> bytes:
 def cases():
     """The stored cases: where each is, its script, and its answer."""
     for path in sorted(glob.glob(os.path.join(FOLDER, "*.txt"))):
-        place, script, text, status = "", b"", b"", 0
         with open(path, encoding="utf-8", newline="\n") as page:
-            for line in page.read().split("\n"):
-                if line.startswith("case "):
-                    if place:
-                        yield place, script, (text, status)
-                    number, status = map(int, re.fullmatch(r"case (\d+): exit status (\d+)", line).groups())
-                    place, script, text = f"{os.path.basename(path)}, case {number}", b"", b""
-                elif line.startswith("< "):
-                    script += read_line(line[2:])
-                elif line.startswith("> "):
-                    text += read_line(line[2:])
-        if place:
-            yield place, script, (text, status)
+            lines = page.read().split("\n")
+        starts = [number for number, line in enumerate(lines) if line.startswith("case, ")] + [len(lines)]
+        for start, end in zip(starts, starts[1:]):
+            texts = {"< ": b"", "> ": b""}
+            for line in lines[start + 1:end]:
+                if line:
+                    texts[line[:2]] += read_line(line[2:])
+            status = int(lines[start].removeprefix("case, exit status "))
+            yield f"{os.path.basename(path)}, line {start + 1}", texts["< "], (texts["> "], status)
 
 
 def selector_features(text: str) -> set:
@@ -147,9 +143,8 @@ def features_of(script: bytes, answer: tuple) -> set:
     return answers | {f"{form} | {kind}" for form in forms}
 
 
-def block_of(number: int, script: bytes, answer: tuple) -> str:
-    lines = [f"case {number}: exit status {answer[1]}", *written(script, "< "), *written(answer[0], "> ")]
-    return "\n".join(lines) + "\n"
+def block_of(script: bytes, answer: tuple) -> str:
+    return "\n".join([f"case, exit status {answer[1]}", *written(script, "< "), *written(answer[0], "> ")]) + "\n"
 
 
 def file_of(script: bytes, answer: tuple) -> str:
@@ -160,37 +155,41 @@ def file_of(script: bytes, answer: tuple) -> str:
     return "selectors.txt" if len(re.findall(rb"^(start|drop|end)\t", script, re.M)) < 4 else "documents.txt"
 
 
-def chosen(pool: list) -> list:
-    """Cases that show each feature a few times, small ones first."""
-    fitting = {}
-    for script, answer in sorted(pool, key=lambda pair: (len(pair[0]) + len(pair[1][0]), pair[0])):
-        if len(script) > 20000:
-            continue
-        block = block_of(0, script, answer)
-        if max(map(len, block.split("\n"))) <= COLUMNS and len(block) < 6000:
-            fitting[script] = (answer, features_of(script, answer), len(block.encode()))
-    out, seen, size = {}, collections.Counter(), 0
+def size_of(pair: tuple) -> tuple:
+    script, answer = pair
+    return len(script) + len(answer[0]), script
+
+
+def chosen(pool: list, kept: dict) -> dict:
+    """The kept cases, and small ones of the pool: as many as are wanted, and each that shows what none shows yet."""
+    out, seen, size = dict(kept), collections.Counter(), 0
+    for script, answer in kept.items():
+        seen.update(features_of(script, answer))
+        size += len(block_of(script, answer).encode())
+    fitting = []
+    for script, answer in sorted(pool, key=size_of):
+        block = block_of(script, answer) if len(script) < 20000 else " " * 20000
+        if len(block) < 6000 and max(map(len, block.split("\n"))) <= COLUMNS:
+            fitting.append((script, answer, features_of(script, answer), len(block.encode())))
     for times in range(1, 40):
-        for script, (answer, features, count) in fitting.items():
-            if len(out) >= WANTED or size + count > BYTES:
-                return list(out.items())
+        for script, answer, features, count in fitting:
+            if len(out) >= WANTED and times > 1 or size + count > BYTES:
+                return out
             if script not in out and any(seen[feature] < times for feature in features):
                 out[script] = answer
                 seen.update(features)
                 size += count
-    return list(out.items())
+    return out
 
 
 def store(pool: list) -> int:
-    """Writes the chosen cases in place of those that are stored."""
+    """Adds cases of the pool to the stored ones; returns how many are stored then."""
     os.makedirs(FOLDER, exist_ok=True)
     files = collections.defaultdict(list)
-    kept = chosen(pool)
-    for script, answer in sorted(kept, key=lambda pair: (len(pair[0]) + len(pair[1][0]), pair[0])):
-        files[file_of(script, answer)].append((script, answer))
-    for path in glob.glob(os.path.join(FOLDER, "*.txt")):
-        os.remove(path)
-    for name, some in files.items():
+    kept = chosen(pool, {script: answer for _, script, answer in cases()})
+    for script, answer in sorted(kept.items(), key=size_of):
+        files[file_of(script, answer)].append(block_of(script, answer))
+    for name, blocks in files.items():
         with open(os.path.join(FOLDER, name), "w", encoding="utf-8", newline="\n") as page:
-            page.write("\n".join(block_of(number, *pair) for number, pair in enumerate(some)))
+            page.write("\n".join(blocks))
     return len(kept)
