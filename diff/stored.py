@@ -67,7 +67,7 @@ def written(text: bytes, before: str):
         shown = [f"‹{count} times› {line}"] if count > 2 else [line] * count
         if end and last + 1 == len(lines):
             shown[-1] += end
-        yield from (before + line for line in shown)
+        yield from ((before + line).rstrip(" ") for line in shown)
         place = last + 1
 
 
@@ -91,12 +91,12 @@ def cases():
             lines = page.read().split("\n")
         starts = [number for number, line in enumerate(lines) if line.startswith("case, ")] + [len(lines)]
         for start, end in zip(starts, starts[1:]):
-            texts = {"< ": b"", "> ": b""}
+            texts = {"<": b"", ">": b""}
             for line in lines[start + 1:end]:
                 if line:
-                    texts[line[:2]] += read_line(line[2:])
+                    texts[line[0]] += read_line(line[2:])
             status = int(lines[start].removeprefix("case, exit status "))
-            yield f"{os.path.basename(path)}, line {start + 1}", texts["< "], (texts["> "], status)
+            yield f"{os.path.basename(path)}, line {start + 1}", texts["<"], (texts[">"], status)
 
 
 def selector_features(text: str) -> set:
