@@ -18,7 +18,7 @@ class Shrinking:
     """A script as lines, which is made smaller while `holds` is true of it and there is time."""
 
     def __init__(self, script: bytes, holds: Callable[[bytes], bool], seconds: float):
-        self.lines = script.split(b"\n")
+        self.lines, self.tried = script.split(b"\n"), {hash(script)}
         self.holds, self.until, self.last = holds, processor_time() + seconds, time.monotonic() + 10 * seconds
 
     def script(self, lines=None) -> bytes:
@@ -28,7 +28,11 @@ class Shrinking:
         return processor_time() > self.until or time.monotonic() > self.last
 
     def try_lines(self, lines: list) -> bool:
-        if lines == self.lines or self.is_over() or not self.holds(self.script(lines)):
+        script = self.script(lines)
+        if hash(script) in self.tried or self.is_over():
+            return False
+        self.tried.add(hash(script))
+        if not self.holds(script):
             return False
         self.lines = lines
         return True
