@@ -1,6 +1,6 @@
 """Measures lol_match, and another program that reads the same scripts in turn with it: time, memory, instructions.
 
-    python3 bench/run.py [--port PROGRAM] [--beside PROGRAM] [--runs N] [--only WORDS] [--record]
+    python3 bench/run.py [--port PROGRAM] [--beside PROGRAM] [--runs N] [--only WORDS] [--no-instructions] [--record]
 
 Each workload is run N times by each program in turn. The time is the best of the N, its spread the third quarter of them over the best.
 """
@@ -13,7 +13,7 @@ from programs import TOP, circumstances, instructions, memory, port, run
 from workloads import WORKLOADS
 
 
-def measured(programs, script, runs):
+def measured(programs, script, runs, count):
     """For each program the times of its runs, memory and instructions; and whether all write the same."""
     times = [[] for _ in programs]
     written = [b""] * len(programs)
@@ -26,7 +26,7 @@ def measured(programs, script, runs):
             "seconds": round(min(spent), 4),
             "spread": round(sorted(spent)[len(spent) * 3 // 4] / min(spent), 2),
             "megabytes": memory(program, script),
-            "instructions": instructions(program, script),
+            "instructions": instructions(program, script) if count else None,
         }
         for program, spent in zip(programs, times)
     ]
@@ -68,6 +68,7 @@ def main():
     words.add_argument("--beside", help="another program that reads docs/SCRIPT.md")
     words.add_argument("--runs", type=int, default=15)
     words.add_argument("--only", default="", help="workloads whose name has these words")
+    words.add_argument("--no-instructions", action="store_true", help="leave out valgrind, which takes most of the time")
     words.add_argument("--record", action="store_true", help="keep the figures in bench/results")
     asked = words.parse_args()
     programs = [port(asked.port), *([asked.beside] if asked.beside else [])]
@@ -80,7 +81,7 @@ def main():
             script = os.path.join(folder, "script")
             with open(script, "wb") as file:
                 file.write(make())
-            figures, same = measured(programs, script, asked.runs)
+            figures, same = measured(programs, script, asked.runs, not asked.no_instructions)
             print(said(name, figures, same), flush=True)
             rows[name] = dict(zip(("port", "beside"), figures))
             all_same = all_same and same
