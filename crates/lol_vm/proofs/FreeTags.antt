@@ -41,13 +41,12 @@ use Rattle.lol_vm.specs.VmErrors.{IsAskedOrFull, IsNotForMemory, push_error}
 use Rattle.lol_memory.specs.declared.limited_vec.PushError.{PushError}
 use Rattle.lol_memory.specs.declared.limited_vec.PushError.TheVariants as pushes
 use Rattle.lol_vm.specs.PlaceRuns.{Context}
-use Rattle.lol_vm.specs.TagRuns.{stop_at}
 use Rattle.lol_vm.specs.Vms.{Vm, Shows, IsRequested, GoesOnAt, content_at}
 use Rattle.lol_vm.specs.declared.error.VmError.{VmError}
 use Rattle.lol_vm.specs.declared.error.VmError.TheVariants.{InfoRequest, MemoryLimitExceeded, Memory, CounterFull, Failed}
 use Rattle.lol_stack.specs.declared.execution_ctx.ExecutionCtx.{ExecutionCtx}
 use Rattle.lol_vm.specs.declared.tag_runs.RecoveryPoint.{RecoveryPoint}
-use Rattle.lol_vm.specs.declared.tag_runs.RecoveryPoint.TheVariants.{AtOnce, EntryPoints, Jumps, HereditaryJumps}
+use Rattle.lol_vm.specs.declared.tag_runs.RecoveryPoint.TheVariants.{AtOnce, At}
 use Rattle.lol_base.specs.PlaceLaws.{at_among, within_at}
 use Rattle.std.specs.declared.alloc.AllocError.{AllocError}
 use Rattle.lol_vm.proofs.Lists.{among_any, to_contains}
@@ -82,12 +81,10 @@ never_pushed ns esi name html void directive pushes is tested =
     tested ∙ (ap (λ d. sameb the_type d Push) (is ∙ (ap (λ n. directive_in n esi name) html ∙ ap (λ b. cond (b || (esi && is_esi name)) PopImmediately Push) void)))
 
 -- nor is it once it is finished
-pub finished_closed : (point : RecoveryPoint) (entry : std.Range ℕ) (jumps : List (std.Range ℕ)) (content with_content self_closing : Bool) (context : Context) (ns : Namespace)
-    → GoesOnAt (is_html ns) content context (stop_at entry jumps point) with_content → ns ≡ Html → content ≡ false → content_at point with_content self_closing ≡ false
-finished_closed AtOnce entry jumps content with_content self_closing context ns goes_on html closed = absurd (true≢false (sym (ap is_html html) ∙ goes_on.0))
-finished_closed (EntryPoints stop) entry jumps content with_content self_closing context ns goes_on html closed = goes_on.1 ∙ closed
-finished_closed (Jumps stop) entry jumps content with_content self_closing context ns goes_on html closed = goes_on.1 ∙ closed
-finished_closed (HereditaryJumps stop) entry jumps content with_content self_closing context ns goes_on html closed = goes_on.1 ∙ closed
+pub finished_closed : (point : RecoveryPoint) (content with_content self_closing : Bool) (context : Context) (ns : Namespace)
+    → GoesOnAt (is_html ns) content context point with_content → ns ≡ Html → content ≡ false → content_at point with_content self_closing ≡ false
+finished_closed AtOnce content with_content self_closing context ns goes_on html closed = absurd (true≢false (sym (ap is_html html) ∙ goes_on.0))
+finished_closed (At stop) content with_content self_closing context ns goes_on html closed = goes_on.1 ∙ closed
 
 -- 2. Small selectors
 

@@ -1,13 +1,9 @@
 -- Instructions that are run in parts.
-use Rattle.std.proofs.Common.{◌≡◌, ◌+◌, ◌-◌, ◌<◌, ◌≤◌, ℕ, Bool, List, [], ◌∷◌, ◌++◌, length, take, drop, get_or, suc, Option, Some, None, true, false, cond, refl, sym, ap, ◌∙◌, arith, drop-cons, subst}
+use Rattle.std.proofs.Common.{◌≡◌, ◌+◌, ◌-◌, ◌≤◌, ℕ, Bool, List, [], ◌∷◌, ◌++◌, length, take, drop, get_or, suc, Option, Some, None, true, false, cond, refl, sym, ap, ◌∙◌, arith}
 use Rattle.std.specs.declared.ops.Range.{Range}
-use Rattle.std.proofs.Math.ListN.{get_or-map}
-use Rattle.std.proofs.Math.Seq.{take-length}
-use Rattle.std.proofs.lemmas.List.{take-append-drop, drop-map, take_more, flat_map_more, length-append, length-drop, length-take}
+use Rattle.std.proofs.lemmas.List.{take-append-drop, length-append, length-drop, length-take}
 use Rattle.std.proofs.lemmas.Grind.{flat_map-append}
-use Rattle.std.proofs.lemmas.List.Elements.{All-get_or}
 use Rattle.std.proofs.lemmas.List.Sums.{sum_by-append, count_by-le-length}
-use Rattle.std.proofs.lemmas.List.Folds.{length-flat_map-take}
 use Rattle.lol_instructions.specs.Tries.{names_counted, attributes_counted}
 use Rattle.lol_instructions.specs.declared.tries.Tries.{Tries}
 use Rattle.lol_memory.specs.Ids.{Ids}
@@ -18,9 +14,10 @@ use Rattle.lol_instructions.specs.Running.{tries_of_attributes}
 use Rattle.lol_instructions.specs.declared.name_value.NameValue.{NameValue}
 use Rattle.lol_instructions.specs.declared.name_value.NameValue.TheVariants.{True, False, Open}
 use Rattle.lol_instructions.specs.declared.instruction.Instruction.{Instruction}
-use Rattle.lol_vm.specs.InstructionRuns.{NeedNoMemory, value_seen, holds_seen, is_true, with_branch_if, open_among, first_open_from, gathered_by_names, gathered_with_attributes, instructions_at, all_at, AreRunnable, IsInsideOf, HasTriesLeft, ranges_in, ranges_from, IsStopIn}
+use Rattle.lol_vm.specs.InstructionRuns.{NeedNoMemory, value_seen, holds_seen, is_true, with_branch_if, open_among, first_open_from, gathered_by_names, gathered_with_attributes, instructions_at, all_at, AreRunnable, IsInsideOf, HasTriesLeft}
+use Rattle.lol_vm.specs.TagRuns.{IsStopIn}
 use Rattle.lol_stack.specs.WithRange.{no_range}
-use Rattle.lol_vm.specs.declared.instruction_runs.Stop.{Stop}
+use Rattle.lol_vm.specs.declared.tag_runs.Stop.{Stop}
 use Rattle.lol_stack.specs.declared.execution_ctx.ExecutionCtx.{ExecutionCtx}
 
 -- 1. A choice that is none or some
@@ -117,74 +114,56 @@ open_at_most s instructions = count_by-le-length (λ i. is_open (value_seen s i)
 pub free_rest : (content : Bool) (i : Instruction) (others : List Instruction) → NeedNoMemory content (i ∷ others) → NeedNoMemory content others
 free_rest content i others free = λ k d within. free (suc k) d (omega (arith, within))
 
-module _ (instructions : List Instruction) (ranges : List (Range ℕ)) (at : ℕ) (within : at < length ranges) where
-  -- the range at the place
-  abbrev r : Range ℕ
-  r = get_or ranges at no_range
+-- what comes before some of the ranges, and from them on
+pub length_parts : (instructions : List Instruction) (ranges : List (Range ℕ)) (n : ℕ) → length (all_at instructions (take n ranges)) + length (all_at instructions (drop n ranges)) ≡ length (all_at instructions ranges)
+length_parts instructions ranges n =
+    sym (ap (λ rs. length (all_at instructions rs)) (sym (take-append-drop n ranges))
+    ∙ (ap length (flat_map-append (instructions_at instructions) (take n ranges) (drop n ranges)) ∙ length-append (all_at instructions (take n ranges)) (all_at instructions (drop n ranges))))
 
-  abbrev before : List Instruction
-  before = all_at instructions (take at ranges)
+-- 5. The first of some ranges
 
-  abbrev before_next : List Instruction
-  before_next = all_at instructions (take (at + 1) ranges)
-
-  abbrev after : List Instruction
-  after = all_at instructions (drop at ranges)
-
-  abbrev after_next : List Instruction
-  after_next = all_at instructions (drop (at + 1) ranges)
-
+module _ (instructions : List Instruction) (r : Range ℕ) (others : List (Range ℕ)) where
   abbrev here : List Instruction
   here = instructions_at instructions r
 
-  all_from : after ≡ here ++ after_next
-  all_from = let on : suc at ≡ at + 1 = omega arith in ap (all_at instructions) (drop-cons ranges at no_range within) ∙ ap (λ n. here ++ all_at instructions (drop n ranges)) on
+  abbrev later : List Instruction
+  later = all_at instructions others
 
-  all_until : before_next ≡ before ++ here
-  all_until = ap (all_at instructions) (take_more ranges at no_range within) ∙ sym (flat_map_more (instructions_at instructions) [] (take at ranges) r)
+  abbrev whole : List Instruction
+  whole = all_at instructions (r ∷ others)
 
-  -- the instructions of the range can be run
-  module _ (tries now : Tries) (runnable : AreRunnable instructions ranges tries) where
+  module _ (tries : Tries) (runnable : AreRunnable instructions (r ∷ others) tries) (part : List Instruction) where
     is_inside : IsInsideOf instructions r
-    is_inside = All-get_or (IsInsideOf instructions) ranges at no_range within runnable.inside
+    is_inside = runnable.inside 0 no_range (omega arith)
 
     length_here : length here ≡ r.end - r.start
     length_here = omega (arith, is_inside, length-take (r.end - r.start) (drop r.start instructions), length-drop r.start instructions)
 
-    has_room : names_counted now ≤ names_counted tries + length before → attributes_counted now ≤ attributes_counted tries + length before → HasTriesLeft now (r.end - r.start)
-    has_room names attributes =
-        let fits = length-flat_map-take (instructions_at instructions) ranges at no_range within in
-        (omega (arith, names, fits, length_here, runnable.room.0), omega (arith, attributes, fits, length_here, runnable.room.1))
+    -- its instructions are what is lent
+    pub is_lent : (IsInsideOf instructions r → HasTriesLeft tries (r.end - r.start) → part ≡ here) → part ≡ here
+    is_lent lent =
+        let count = length-append here later in
+        lent is_inside (omega (arith, runnable.room.0, count, length_here), omega (arith, runnable.room.1, count, length_here))
 
-    -- these are what is lent
-    pub is_lent : (part : List Instruction) → (IsInsideOf instructions r → HasTriesLeft now (r.end - r.start) → part ≡ here) → names_counted now ≤ names_counted tries + length before → attributes_counted now ≤ attributes_counted tries + length before → part ≡ here
-    is_lent part lent names attributes = lent is_inside (has_room names attributes)
-
-    pub open_within : (s : Sight) → attributes_counted now ≡ attributes_counted tries + open_among s before → attributes_counted now ≤ attributes_counted tries + length before
-    open_within s is = omega (arith, is, count_by-le-length (λ i. is_open (value_seen s i)) before)
+    -- the others can be run after it
+    pub others_run : part ≡ here → (mid : Tries) → names_counted mid ≤ names_counted tries + length part → attributes_counted mid ≤ attributes_counted tries + length part → AreRunnable instructions others mid
+    others_run is mid names attributes =
+        let count = length-append here later in
+        record {
+          inside = λ k d within. runnable.inside (suc k) d (omega (arith, within));
+          room = (omega (arith, runnable.room.0, count, ap length is, names), omega (arith, runnable.room.1, count, ap length is, attributes));
+        }
 
   module _ (part : List Instruction) (is : part ≡ here) where
-    from : after ≡ part ++ after_next
-    from = all_from ∙ ap (λ p. p ++ after_next) (sym is)
+    split : whole ≡ part ++ later
+    split = ap (λ p. p ++ later) (sym is)
 
-    pub until : before_next ≡ before ++ part
-    until = all_until ∙ ap (λ p. before ++ p) (sym is)
-
-    pub length_next : length before_next ≡ length before + length part
-    length_next = ap length until ∙ length-append before part
-
-    around : all_at instructions ranges ≡ before ++ (part ++ after_next)
-    around = ap (all_at instructions) (sym (take-append-drop at ranges)) ∙ (flat_map-append (instructions_at instructions) (take at ranges) (drop at ranges) ∙ ap (λ xs. before ++ xs) from)
-
-    pub length_bound : length before + length part ≤ length (all_at instructions ranges)
-    length_bound = omega (arith, ap length around, length-append before (part ++ after_next), length-append part after_next)
+    pub length_split : length whole ≡ length part + length later
+    length_split = ap length split ∙ length-append part later
 
     module _ (t s : Sight) (same : t ≡ s) where
-      pub open_bound : open_among s before + open_among t part ≤ open_among s (all_at instructions ranges)
-      open_bound = omega (arith, ap (open_among s) around, open_among-append s before (part ++ after_next), open_among-append s part after_next, ap (λ z. open_among z part) same)
-
-      pub open_next : open_among s before_next ≡ open_among s before + open_among t part
-      open_next = ap (open_among s) until ∙ (open_among-append s before part ∙ ap (λ z. open_among s before + open_among z part) (sym same))
+      pub opens_split : open_among s whole ≡ open_among t part + open_among s later
+      opens_split = ap (open_among s) split ∙ (open_among-append s part later ∙ ap (λ z. open_among z part + open_among s later) (sym same))
 
       none_here : first_open_from t 0 part ≡ None → first_open_from s 0 part ≡ None
       none_here none = ap (λ z. first_open_from z 0 part) (sym same) ∙ none
@@ -192,109 +171,35 @@ module _ (instructions : List Instruction) (ranges : List (Range ℕ)) (at : ℕ
       some_here : (k : ℕ) → first_open_from t 0 part ≡ Some k → first_open_from s 0 part ≡ Some k
       some_here k some = ap (λ z. first_open_from z 0 part) (sym same) ∙ some
 
-      pub stop_next : (whole : Option ℕ) → whole ≡ first_open_from s (length before) after → first_open_from t 0 part ≡ None → whole ≡ first_open_from s (length before_next) after_next
-      stop_next whole so_far none =
-          so_far
-          ∙ (ap (first_open_from s (length before)) from
-          ∙ (stops_after s (length before) part after_next (none_later s (length before) 0 part (none_here none))
-          ∙ ap (λ n. first_open_from s n after_next) (sym length_next)))
+      pub stop_next : (n : ℕ) → first_open_from t 0 part ≡ None → first_open_from s n whole ≡ first_open_from s (n + length part) later
+      stop_next n none = ap (first_open_from s n) split ∙ stops_after s n part later (none_later s n 0 part (none_here none))
 
-      pub stop_here : (whole : Option ℕ) (k : ℕ) → whole ≡ first_open_from s (length before) after → first_open_from t 0 part ≡ Some k → Some (length before + k) ≡ whole
-      stop_here whole k so_far some =
-          sym (so_far
-          ∙ (ap (first_open_from s (length before)) from
-          ∙ stops_before s (length before) (length before + k) part after_next (ap (λ n. first_open_from s n part) (omega arith) ∙ stops_later s (length before) 0 k part (some_here k some))))
+      pub stop_here : (n k : ℕ) → first_open_from t 0 part ≡ Some k → first_open_from s n whole ≡ Some (n + k)
+      stop_here n k some =
+          ap (first_open_from s n) split
+          ∙ stops_before s n (n + k) part later (ap (λ m. first_open_from s m part) (omega arith) ∙ stops_later s n 0 k part (some_here k some))
 
-      module _ {E : Type 0} (ids : E → Ids) (with_ids : E → Ids → E) (whole ctx new : ExecutionCtx E) where
-        pub names_next : whole ≡ gathered_by_names ids with_ids s ctx after → first_open_from t 0 part ≡ None → new ≡ gathered_by_names ids with_ids t ctx part → whole ≡ gathered_by_names ids with_ids s new after_next
-        names_next so_far none is_new =
-            so_far
-            ∙ (ap (gathered_by_names ids with_ids s ctx) from
-            ∙ (gathers_on s ids with_ids 0 ctx part after_next (none_here none)
-            ∙ ap (λ c. gathered_by_names ids with_ids s c after_next) (ap (λ z. gathered_by_names ids with_ids z ctx part) (sym same) ∙ sym is_new)))
+      module _ {E : Type 0} (ids : E → Ids) (with_ids : E → Ids → E) (ctx new : ExecutionCtx E) where
+        pub names_next : first_open_from t 0 part ≡ None → new ≡ gathered_by_names ids with_ids t ctx part → gathered_by_names ids with_ids s ctx whole ≡ gathered_by_names ids with_ids s new later
+        names_next none is_new =
+            ap (gathered_by_names ids with_ids s ctx) split
+            ∙ (gathers_on s ids with_ids 0 ctx part later (none_here none)
+            ∙ ap (λ c. gathered_by_names ids with_ids s c later) (ap (λ z. gathered_by_names ids with_ids z ctx part) (sym same) ∙ sym is_new))
 
-        pub names_here : (k : ℕ) → whole ≡ gathered_by_names ids with_ids s ctx after → first_open_from t 0 part ≡ Some k → new ≡ gathered_by_names ids with_ids t ctx part → new ≡ whole
-        names_here k so_far some is_new =
+        pub names_here : (k : ℕ) → first_open_from t 0 part ≡ Some k → new ≡ gathered_by_names ids with_ids t ctx part → new ≡ gathered_by_names ids with_ids s ctx whole
+        names_here k some is_new =
             is_new
             ∙ (ap (λ z. gathered_by_names ids with_ids z ctx part) same
-            ∙ sym (so_far ∙ (ap (gathered_by_names ids with_ids s ctx) from ∙ gathers_until s ids with_ids 0 k ctx part after_next (some_here k some))))
+            ∙ sym (ap (gathered_by_names ids with_ids s ctx) split ∙ gathers_until s ids with_ids 0 k ctx part later (some_here k some)))
 
-        pub attributes_next : (a : TagAttributes) → whole ≡ gathered_with_attributes ids with_ids s a ctx after → new ≡ gathered_with_attributes ids with_ids t a ctx part → whole ≡ gathered_with_attributes ids with_ids s a new after_next
-        attributes_next a so_far is_new =
-            so_far
-            ∙ (ap (gathered_with_attributes ids with_ids s a ctx) from
-            ∙ (gathers_all s ids with_ids a ctx part after_next
-            ∙ ap (λ c. gathered_with_attributes ids with_ids s a c after_next) (ap (λ z. gathered_with_attributes ids with_ids z a ctx part) (sym same) ∙ sym is_new)))
+        pub attributes_next : (a : TagAttributes) → new ≡ gathered_with_attributes ids with_ids t a ctx part → gathered_with_attributes ids with_ids s a ctx whole ≡ gathered_with_attributes ids with_ids s a new later
+        attributes_next a is_new =
+            ap (gathered_with_attributes ids with_ids s a ctx) split
+            ∙ (gathers_all s ids with_ids a ctx part later
+            ∙ ap (λ c. gathered_with_attributes ids with_ids s a c later) (ap (λ z. gathered_with_attributes ids with_ids z a ctx part) (sym same) ∙ sym is_new))
 
--- 5. Active ranges
-
--- what was said of an active range is so of that in the list of ranges
-pub active_at : (active : List (Range ℕ × ℕ)) (at : ℕ) (P : Range ℕ → Type 0) → P (get_or active at (no_range, 0)).0 → P (get_or (ranges_in active) at no_range)
-active_at active at P h = subst P (sym (get_or-map (λ (a : Range ℕ × ℕ). a.0) active at (no_range, 0))) h
-
--- the rest of active ranges, as the code slices it
-pub active_sliced : (active : List (Range ℕ × ℕ)) (n : ℕ) → ranges_in (take (length active - n) (drop n active)) ≡ drop n (ranges_in active)
-active_sliced active n =
-    ap ranges_in (ap (λ m. take m (drop n active)) (sym (length-drop n active)) ∙ take-length (drop n active)) ∙ sym (drop-map (λ (a : Range ℕ × ℕ). a.0) n active)
-
--- 6. From a stop on
-
--- the rest of ranges, as the code slices it
-pub rest_sliced : (ranges : List (Range ℕ)) (n : ℕ) → take (length ranges - n) (drop n ranges) ≡ drop n ranges
-rest_sliced ranges n = ap (λ m. take m (drop n ranges)) (sym (length-drop n ranges)) ∙ take-length (drop n ranges)
-
-module _ (instructions : List Instruction) (ranges : List (Range ℕ)) (stop : Stop) (is_stop : IsStopIn instructions ranges stop) where
-  abbrev stopped : Range ℕ
-  stopped = get_or ranges stop.range no_range
-
-  abbrev left : Range ℕ
-  left = record { start = stopped.start + stop.offset; end = stopped.end }
-
-  abbrev others : List (Range ℕ)
-  others = drop (stop.range + 1) ranges
-
-  offset_inside : stopped.start + stop.offset ≤ stopped.end
-  offset_inside = omega (arith, is_stop.1, length-take (stopped.end - stopped.start) (drop stopped.start instructions), length-drop stopped.start instructions)
-
-  module _ (tries : Tries) (runnable : AreRunnable instructions (ranges_from ranges stop) tries) (part : List Instruction) where
-    inside_left : IsInsideOf instructions left
-    inside_left = runnable.inside 0 no_range (omega arith)
-
-    length_left : length (instructions_at instructions left) ≡ left.end - left.start
-    length_left = omega (arith, inside_left, length-take (left.end - left.start) (drop left.start instructions), length-drop left.start instructions)
-
-    length_rest : length (all_at instructions (ranges_from ranges stop)) ≡ length (instructions_at instructions left) + length (all_at instructions others)
-    length_rest = length-append (instructions_at instructions left) (all_at instructions others)
-
-    pub is_left : (l : Range ℕ) → (stopped.start + stop.offset ≤ stopped.end → l ≡ left) → (IsInsideOf instructions l → HasTriesLeft tries (l.end - l.start) → part ≡ instructions_at instructions l) → part ≡ instructions_at instructions left
-    is_left l is lent =
-        subst (λ m. IsInsideOf instructions m → HasTriesLeft tries (m.end - m.start) → part ≡ instructions_at instructions m) (is offset_inside) lent
-        inside_left (omega (arith, runnable.room.0, length_rest, length_left), omega (arith, runnable.room.1, length_rest, length_left))
-
-    module _ (is : part ≡ instructions_at instructions left) where
-      pub length_from : length (all_at instructions (ranges_from ranges stop)) ≡ length part + length (all_at instructions others)
-      length_from = omega (arith, length_rest, ap length is)
-
-      pub others_run : (mid : Tries) → names_counted mid ≤ names_counted tries + length part → attributes_counted mid ≤ attributes_counted tries + length part → AreRunnable instructions others mid
-      others_run mid names attributes = record {
-        inside = λ k d within. runnable.inside (suc k) d (omega (arith, within));
-        room = (omega (arith, runnable.room.0, length_from, names), omega (arith, runnable.room.1, length_from, attributes));
-      }
-
-      -- it isn't empty
-      pub length_part : 0 < length part
-      length_part =
-          omega (arith, ap length is, length_left, is_stop.1, length-take (stopped.end - stopped.start) (drop stopped.start instructions), length-drop stopped.start instructions)
-
-      module _ (t s : Sight) (same : t ≡ s) where
-        pub open_from : open_among s (all_at instructions (ranges_from ranges stop)) ≡ open_among s part + open_among t (all_at instructions others)
-        open_from =
-            open_among-append s (instructions_at instructions left) (all_at instructions others)
-            ∙ (ap (λ p. open_among s p + open_among s (all_at instructions others)) (sym is) ∙ ap (λ z. open_among s part + open_among z (all_at instructions others)) (sym same))
-
-        pub gathered_from : {E : Type 0} (ids : E → Ids) (with_ids : E → Ids → E) (a : TagAttributes) (ctx mid new : ExecutionCtx E) → mid ≡ gathered_with_attributes ids with_ids s a ctx part → new ≡ gathered_with_attributes ids with_ids t a mid (all_at instructions others) → new ≡ gathered_with_attributes ids with_ids s a ctx (all_at instructions (ranges_from ranges stop))
-        gathered_from ids with_ids a ctx mid new is_mid is_new =
-            is_new
-            ∙ (ap (λ z. gathered_with_attributes ids with_ids z a mid (all_at instructions others)) same
-            ∙ (ap (λ c. gathered_with_attributes ids with_ids s a c (all_at instructions others)) (is_mid ∙ ap (gathered_with_attributes ids with_ids s a ctx) is)
-            ∙ sym (gathers_all s ids with_ids a ctx (instructions_at instructions left) (all_at instructions others))))
+-- an offset of a range is inside
+pub offset_inside : (instructions : List Instruction) (ranges : List (Range ℕ)) (stop : Stop) → IsStopIn instructions ranges stop → (get_or ranges stop.range no_range).start + stop.offset ≤ (get_or ranges stop.range no_range).end
+offset_inside instructions ranges stop is_stop =
+    let r = get_or ranges stop.range no_range in
+    omega (arith, is_stop.1, length-take (r.end - r.start) (drop r.start instructions), length-drop r.start instructions)

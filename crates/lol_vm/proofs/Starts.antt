@@ -4,7 +4,7 @@ use Rattle.std.specs.Prelude.{slice_get, if◌then◌else◌, count_by}
 use Rattle.std.proofs.lemmas.List.{map-append}
 use Rattle.std.proofs.lemmas.List.Concat.{length-flat_map}
 use Rattle.std.proofs.lemmas.List.Sums.{count_by-le-length}
-use Rattle.std.proofs.lemmas.List.{length-map, length-take, length-drop}
+use Rattle.std.proofs.lemmas.List.{length-map, length-drop}
 use Rattle.std.proofs.lemmas.List.FromFn.{length-range_with_len}
 use Rattle.std.proofs.lemmas.List.Elements.{All-take}
 use Rattle.std.specs.Option.{option_map}
@@ -30,7 +30,7 @@ use Rattle.lol_instructions.specs.declared.tries.Tries.{Tries}
 use Rattle.lol_vm.specs.Answers.{name_tries, attribute_tries}
 use Rattle.lol_stack.specs.Contexts.{with_branch}
 use Rattle.lol_vm.specs.Gathering.{Gathers}
-use Rattle.lol_vm.specs.InstructionRuns.{AreRunnable, IsInsideOf, all_at, place_in, ranges_in, ranges_from, value_seen, is_true, holds_seen, first_open_from, with_branch_if, gathered_by_names, gathered_with_attributes}
+use Rattle.lol_vm.specs.InstructionRuns.{AreRunnable, IsInsideOf, all_at, ranges_in, value_seen, is_true, holds_seen, first_open_from, with_branch_if, gathered_by_names, gathered_with_attributes}
 use Rattle.lol_stack.specs.WithRange.{no_range}
 use Rattle.lol_vm.specs.InstructionLaws.{AreRangesOf, AreAsOpen}
 use Rattle.lol_vm.specs.MachineLaws.{WholeStart, started_by_names, starts_open, from_number}
@@ -40,15 +40,16 @@ use Rattle.lol_vm.specs.PlaceRuns.{Context, no_context, context_of, branch, is_o
 use Rattle.lol_vm.specs.StackMachines.{KeepsMachine, in_lower_case, item_shown, items_shown, active_shown}
 use Rattle.lol_stack.specs.Stacks.{items_in, active_in}
 use Rattle.lol_vm.specs.Standing.{Machine, ranges_of_machine}
-use Rattle.lol_vm.specs.TagRuns.{AreTried, jumps_in, jumps_of_item, ranges_to_run_in, sight_in}
+use Rattle.lol_vm.specs.TagRuns.{AreTried, number_of, ranges_from, jumps_in, jumps_of_item, ranges_to_run_in, sight_in}
 use Rattle.lol_vm.specs.Vms.{content_of}
 use Rattle.lol_stack.specs.declared.execution_ctx.ExecutionCtx.{ExecutionCtx}
-use Rattle.lol_vm.specs.declared.instruction_runs.Stop.{Stop}
+use Rattle.lol_vm.specs.declared.tag_runs.Stop.{Stop}
 use Rattle.lol_stack.specs.declared.stack_item.StackItemOf.{StackItemOf}
 use Rattle.lol_stack.specs.declared.stack.StackOf.{StackOf}
 use Rattle.lol_stack.specs.declared.stack.StackNames.{StackNames}
 use Rattle.lol_vm.proofs.Counted.{places_count_tries}
 use Rattle.lol_vm.proofs.Held.{ranges_are_inside, ranges_hold_left_matches, programs_have_each_node}
+use Rattle.lol_vm.proofs.InstructionLists.{offset_inside}
 use Rattle.lol_vm.proofs.InstructionPlaces.{instructions_are_as_open, instructions_gather}
 use Rattle.lol_vm.proofs.Lists.{map_among}
 use Rattle.lol_vm.proofs.StackCounting.{ends, last_at, last_place}
@@ -309,7 +310,7 @@ module _ {E : Type 0} (s : Selectors) (paths : List Path) (m : Machine) (outer :
     pub stays : StaysThe old new
     stays = subst (StaysThe old) (sym tried.gathered) (names_stay ids with_ids (sight_in stack name) old (all_at all tag_code))
 
-    pub stop_shown : place_in all tag_code stop ≡ first_open p e (all_places rs)
+    pub stop_shown : option_map (number_of all tag_code) stop ≡ first_open p e (all_places rs)
     stop_shown =
         tried.stops
         ∙ (ap (λ z. first_open_from z 0 (all_at all tag_code)) seen
@@ -347,7 +348,7 @@ module _ {E : Type 0} (s : Selectors) (paths : List Path) (m : Machine) (outer :
   -- where one does
   module _ (old new : ExecutionCtx E) (before after : Tries) (stop : Stop) (tried : AreTried ids with_ids (sight_in stack name) all tag_code old new before after (Some stop)) where
     abbrev number : ℕ
-    number = length (all_at all (take stop.range tag_code)) + stop.offset
+    number = number_of all tag_code stop
 
     abbrev stopped : std.Range ℕ
     stopped = get_or tag_code stop.range no_range
@@ -367,14 +368,14 @@ module _ {E : Type 0} (s : Selectors) (paths : List Path) (m : Machine) (outer :
         let parts = around tag_code stop.range no_range within.0 in
         let shown_parts : map range_shown tag_code ≡ map range_shown front ++ range_shown stopped ∷ map range_shown back = ap (map range_shown) parts ∙ map-append range_shown front (stopped ∷ back) in
         let same_count = (instructions_are_as_open p p.by_type e all front (record { same_code = are.same_code; inside = All-take (IsInsideOf all) stop.range tag_code are.inside })).count in
-        let offset_inside : stopped.start + stop.offset ≤ stopped.end = omega (arith, within.1, length-take (stopped.end - stopped.start) (drop stopped.start all)) in
+        let inside = offset_inside all tag_code stop within in
         let sizes = length-range_with_len stopped.start (stopped.end - stopped.start) in
         stops_leave p true e no_context (all_places rs)
         ∙ (ap (λ o. from_number o (all_places rs)) found
         ∙ (ap (drop number) (sym same_places ∙ ap all_places shown_parts)
         ∙ (ap (λ n. drop (n + stop.offset) (all_places (map range_shown front ++ range_shown stopped ∷ map range_shown back))) same_count
-        ∙ (numbers_are_offsets (map range_shown front) (range_shown stopped) (map range_shown back) stop.offset (omega (arith, offset_inside, sizes))
-        ∙ ap (λ ps. ps ++ all_places (map range_shown back)) (range_after stopped.start stopped.end stop.offset offset_inside)))))
+        ∙ (numbers_are_offsets (map range_shown front) (range_shown stopped) (map range_shown back) stop.offset (omega (arith, inside, sizes))
+        ∙ ap (λ ps. ps ++ all_places (map range_shown back)) (range_after stopped.start stopped.end stop.offset inside)))))
 
     pub names_left : names_counted before ≡ 0 → names_counted after + length (started_by_names p true e rs).left ≡ length (all_places rs) + 1
     names_left none =

@@ -1,7 +1,6 @@
 -- What trying a counted start tag by its name comes to.
 use Rattle.std.proofs.Common.{◌≡◌, Result, Ok, ◌<◌, Bool, true, false, List, Option, Some, None, refl, sym, ap, ◌∙◌, subst, inl, inr}
 use Rattle.std.specs.Prelude.{◌⊎◌}
-use Rattle.std.specs.Option.{IfSome, IsSome}
 use Rattle.std.specs.Result.{IfOk, IsOk}
 use Rattle.lol_base.specs.LocalNames.{Name}
 use Rattle.lol_base.specs.StartTags.{StartTag}
@@ -15,7 +14,7 @@ use Rattle.lol_instructions.specs.declared.tries.Tries.{Tries}
 use Rattle.lol_program.specs.Paths.{Selectors}
 use Rattle.lol_stack.specs.Calls.{IsCalledAtEach, reports}
 use Rattle.lol_stack.specs.Contexts.{IsNewItem}
-use Rattle.lol_stack.specs.Stacks.{active_in, counted_in, last_count, list_in}
+use Rattle.lol_stack.specs.Stacks.{counted_in, last_count, list_in}
 use Rattle.lol_stack.specs.declared.execution_ctx.ExecutionCtx.{ExecutionCtx}
 use Rattle.lol_stack.specs.declared.stack.StackNames.{StackNames}
 use Rattle.lol_stack.specs.declared.stack.StackOf.{StackOf}
@@ -23,14 +22,15 @@ use Rattle.lol_memory.specs.LimitedVec.{IsLimited}
 use Rattle.lol_memory.specs.Limiter.{Limiter}
 use Rattle.lol_vm.specs.Due.{IsDue}
 use Rattle.lol_vm.specs.Events.{Event, has_content}
-use Rattle.lol_vm.specs.InstructionRuns.{NeedNoMemory, ranges_in}
-use Rattle.lol_vm.specs.TagRuns.{AreTried, IsPointIn, jumps_in, ranges_to_run_in, sight_in, stop_found}
-use Rattle.lol_vm.specs.TriedStarts.{IsBegun, IsNewContext, IsTried, IsTriedAs, IsTriedByName, left_at}
+use Rattle.lol_vm.specs.InstructionRuns.{NeedNoMemory}
+use Rattle.lol_vm.specs.TagRuns.{AreTried, ranges_to_run_in, sight_in}
+use Rattle.lol_vm.specs.TriedStarts.{OfStop, IsBegun, IsNewContext, IsTried, IsTriedAs, IsTriedByName, left_at}
 use Rattle.lol_vm.specs.Vms.{Vm, Stands, IsTagOf, IsAnswered, IsReported, IsTriedAtMost, IsPending, IsEntered, is_asked_for}
 use Rattle.lol_vm.specs.declared.tag_runs.RecoveryPoint.{RecoveryPoint}
-use Rattle.lol_vm.specs.declared.tag_runs.RecoveryPoint.TheVariants.{AtOnce}
+use Rattle.lol_vm.specs.declared.tag_runs.RecoveryPoint.TheVariants.{AtOnce, At}
+use Rattle.lol_vm.specs.declared.tag_runs.Stop.{Stop}
 use Rattle.lol_vm.proofs.VmRefusals.{limited_counted, was_limited}
-use Rattle.lol_vm.proofs.VmStarts.{answered, can_run, has_content_still, has_reported, none_tried, pending_at_once, pending_point, tried_as, tried_at_most}
+use Rattle.lol_vm.proofs.VmStarts.{answered, has_content_still, has_reported, none_tried, pending_at_once, pending_stop, tried_as, tried_at_most}
 
 -- 1. How it is tried
 
@@ -84,23 +84,27 @@ module _ {E R : Type 0} (ids : E → Ids) (with_ids : E → Ids → E) (lends : 
     no_tries : attributes_counted new.tries ≡ 0
     no_tries = (of_html html).attributes ∙ no_attributes
 
-    was_tried : AreTried ids with_ids (sight_in stack name) vm.program.instructions.items (ranges_to_run_in vm.program stack) by_name next before new.tries (stop_found vm.program.entry_points (jumps_in stack) found)
+    abbrev WasTried : Option Stop → Type 0
+    WasTried stop = AreTried ids with_ids (sight_in stack name) vm.program.instructions.items (ranges_to_run_in vm.program stack) by_name next before new.tries stop
+
+    was_tried : OfStop WasTried found
     was_tried =
         tried_as ids with_ids lends vm name ns s esi events tag st named stack counted_is room by_name next before new.tries no_names no_attributes (of_html html).size
-        ctx.stack_item.local_name item.name result (Ok found) at (of_html html).tried
+        ctx.stack_item.local_name item.name found
+        (λ runnable. subst (λ r. IfOk r (OfStop (λ stop. AreTried ids with_ids (sight_in stack ctx.stack_item.local_name) vm.program.instructions.items (ranges_to_run_in vm.program stack) by_name next before new.tries stop))) at
+        ((of_html html).tried runnable))
 
   -- it stopped
   pub stopped_pending : (point : RecoveryPoint) → result ≡ Ok (Some point) → new ≡ ended → IsPending ids s esi events tag new (record { ctx = next; point = point })
   stopped_pending point at kept = subst (λ (v : Vm E). IsPending ids s esi events tag v (record { ctx = next; point = point })) (sym kept) (by_namespace (is_html tag.namespace) refl is_tried)
     where
+      by_point : (html : is_html tag.namespace ≡ true) (point : RecoveryPoint) (at : result ≡ Ok (Some point)) → OfStop (WasTried html (Some point) at) (Some point) → IsPending ids s esi events tag ended (record { ctx = next; point = point })
+      by_point html AtOnce at tried = absurd tried
+      by_point html (At stop) at tried =
+          pending_stop ids with_ids lends vm name ns s esi events tag st named stack counted_is room (by_name html (Some (At stop)) at) next before new.tries item opens_is namespace html no_names (no_tries html (Some (At stop)) at) stop tried
+
       by_namespace : (html : Bool) → is_html tag.namespace ≡ html → IsTriedAs ids with_ids start new ctx next result html opens → IsPending ids s esi events tag ended (record { ctx = next; point = point })
-      by_namespace true html h =
-          let t = of_html html in
-          let run = can_run ids with_ids lends vm name ns s esi events tag st named stack counted_is room before no_names no_attributes t.size in
-          let inside = subst (λ r. IfOk r (λ p. IfSome p (IsPointIn vm.program.instructions.items vm.program.entry_points (jumps_in stack) (ranges_in (active_in stack))))) at (t.point run) in
-          let some = subst (λ r. IfOk r (λ p. IsSome p → IsSome (stop_found vm.program.entry_points (jumps_in stack) p))) at t.stop refl in
-          pending_point ids with_ids lends vm name ns s esi events tag st named stack counted_is room (by_name html (Some point) at) next before new.tries item opens_is namespace html no_names (no_tries html (Some point) at)
-          point some inside (was_tried html (Some point) at)
+      by_namespace true html h = by_point html point at (was_tried html (Some point) at)
       by_namespace false html h =
           let pending = pending_at_once ids with_ids lends vm name ns s esi events tag st named stack counted_is room html ctx before item namespace content no_names no_attributes in
           let at_once : AtOnce ≡ point = same_point result point h.0 at in

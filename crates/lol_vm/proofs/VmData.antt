@@ -1,5 +1,5 @@
 -- Machines with other data of their last element.
-use Rattle.std.proofs.Common.{◌≡◌, ℕ, suc, zero, ◌+◌, ◌-◌, List, [], ◌∷◌, ◌++◌, length, map, Option, Some, None, refl, sym, ap, subst, ◌∙◌, arith}
+use Rattle.std.proofs.Common.{◌≡◌, ℕ, suc, zero, ◌-◌, List, [], ◌∷◌, ◌++◌, length, map, Option, Some, None, refl, sym, ap, subst, ◌∙◌, arith}
 use Rattle.std.specs.Prelude.{reverse, slice_get, slice_set}
 use Rattle.std.specs.Option.{option_map}
 use Rattle.std.proofs.lemmas.List.{length-append, length-map}
@@ -14,14 +14,11 @@ use Rattle.lol_vm.specs.StackMachines.{KeepsMachine, item_shown}
 use Rattle.lol_stack.specs.Stacks.{items_in, active_in, count_or, typed_in, count_by_type}
 use Rattle.lol_program.specs.Programs.{all_places}
 use Rattle.lol_program.specs.ProgramViews.{range_shown}
-use Rattle.lol_instructions.specs.Tests.{is_html}
-use Rattle.lol_instructions.specs.Tries.{names_counted}
-use Rattle.lol_vm.specs.Events.{has_content}
 use Rattle.lol_vm.specs.InstructionRuns.{ranges_in}
-use Rattle.lol_vm.specs.Standing.{Machine, ranges_of_machine}
-use Rattle.lol_vm.specs.TagRuns.{jumps_of_item, jumps_in, sight_in, tag_ranges, stop_at, ranges_left, IsPointIn, tried_at}
+use Rattle.lol_vm.specs.Standing.{Machine}
+use Rattle.lol_vm.specs.TagRuns.{jumps_of_item, jumps_in, sight_in, tag_ranges, ranges_left, IsPointIn}
 use Rattle.lol_vm.specs.VmLaws.{DataChangeNothing, DataKeepOpen, DataKeepRequests, LastDataAreLent, LastDataChange, PendingStands, SlotsAreOfDepth}
-use Rattle.lol_vm.specs.Vms.{Vm, Shows, GoesOnAt, instructions_in, data_in}
+use Rattle.lol_vm.specs.Vms.{Vm, Shows, instructions_in, data_in}
 use Rattle.lol_stack.specs.declared.stack_item.StackItemOf.{StackItemOf}
 use Rattle.lol_stack.specs.declared.stack.StackOf.{StackOf}
 use Rattle.lol_stack.specs.declared.stack.StackNames.{StackNames}
@@ -125,18 +122,14 @@ data_keep_requests ids_of s esi events tag vm request w h = record {
   sight = same_sight w vm.stack request.ctx.stack_item.local_name ∙ h.sight;
   childless = h.childless;
   gathered = h.gathered;
-  goes_on = subst (λ js. GoesOnAt (is_html tag.namespace) (has_content esi tag) h.context (stop_at vm.program.entry_points js request.point) request.ctx.with_content) back h.goes_on;
-  stopped = subst (λ js. IsPointIn (instructions_in vm) vm.program.entry_points js (ranges_in (active_in vm.stack)) request.point) back h.stopped;
+  goes_on = h.goes_on;
+  stopped = subst (λ js. IsPointIn (instructions_in vm) (tag_ranges vm.program.entry_points js (ranges_in (active_in vm.stack))) request.point) back h.stopped;
   places_left =
       subst
-      (λ js. h.left ≡ all_places (map range_shown (ranges_left (tag_ranges vm.program.entry_points js (ranges_in (active_in vm.stack))) (stop_at vm.program.entry_points js request.point))))
+      (λ js. h.left ≡ all_places (map range_shown (ranges_left (tag_ranges vm.program.entry_points js (ranges_in (active_in vm.stack))) request.point)))
       back
       h.places_left;
-  names =
-      subst
-      (λ js. names_counted vm.tries + length h.left ≡ length (all_places (ranges_of_machine h.machine)) + tried_at (stop_at vm.program.entry_points js request.point))
-      back
-      h.names;
+  names = h.names;
   attributes = h.attributes;
 }
   where

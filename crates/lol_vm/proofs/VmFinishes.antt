@@ -1,7 +1,7 @@
 -- Requests that are finished, and what the machine of the code answers to them.
-use Rattle.std.proofs.Common.{◌≡◌, ℕ, suc, zero, ◌+◌, ◌-◌, ◌<◌, ◌≤◌, ◌^◌, Bool, true, false, not, List, [], ◌∷◌, ◌++◌, length, map, drop, get_or, All, Option, Some, None, refl, sym, ap, ◌∙◌, subst, arith}
+use Rattle.std.proofs.Common.{◌≡◌, ℕ, suc, zero, ◌+◌, ◌<◌, ◌≤◌, ◌^◌, Bool, true, false, not, List, [], ◌∷◌, ◌++◌, length, map, drop, get_or, All, refl, sym, ap, ◌∙◌, subst, arith}
 use Rattle.std.specs.Prelude.{◌&&◌, ◌||◌, if◌then◌else◌, count_by}
-use Rattle.std.proofs.lemmas.List.{length-append, length-take}
+use Rattle.std.proofs.lemmas.List.{length-append}
 use Rattle.std.proofs.lemmas.List.Concat.{length-flat_map}
 use Rattle.std.proofs.lemmas.List.Elements.{All-drop}
 use Rattle.std.specs.declared.ops.Range as std
@@ -24,32 +24,30 @@ use Rattle.lol_stack.specs.Calls.{IsCalledAtEach, reports}
 use Rattle.lol_vm.specs.Documents.{Document, element_of}
 use Rattle.lol_vm.specs.Events.{Event, Start, has_content, has_content_in}
 use Rattle.lol_vm.specs.Gathering.{Gathers}
-use Rattle.lol_vm.specs.InstructionRuns.{gathered_with_attributes, AreRunnable, IsInsideOf, all_at, open_among, ranges_in}
+use Rattle.lol_vm.specs.InstructionRuns.{gathered_with_attributes, AreRunnable, IsInsideOf, all_at, open_among}
 use Rattle.lol_stack.specs.WithRange.{no_range}
 use Rattle.lol_vm.specs.InstructionLaws.{AreRangesOf}
 use Rattle.lol_vm.specs.MachineLaws.{GivesReport, TriesAreExact, starts_open}
 use Rattle.lol_vm.specs.Machines.{AreItems, HoldOnce, LeftMatches}
 use Rattle.lol_vm.specs.PlaceRuns.{Context, no_context, context_of, is_open_at, run}
 use Rattle.lol_vm.specs.StackMachines.{IsItemOf}
-use Rattle.lol_stack.specs.Stacks.{active_in}
 use Rattle.lol_vm.specs.Standing.{Machine, StandsFor, ranges_of_machine}
-use Rattle.lol_vm.specs.TagRuns.{AreExecuted, AreWithin, IsPointIn, jumps_in, ranges_left, ranges_to_run_in, sight_in, stop_at, tag_ranges, tried_at, IsStopOf}
+use Rattle.lol_vm.specs.TagRuns.{AreExecuted, AreWithin, IsPointIn, ranges_left, ranges_to_run_in, sight_in, tried_at}
 use Rattle.lol_vm.specs.VmLaws.{RequestsTryAtMost}
 use Rattle.lol_vm.specs.Vms.{Vm, Shows, IsAnswered, IsReported, IsTriedAtMost, IsEntered, IsPending, GoesOnAt, content_at, content_of, info_of, data_in}
 use Rattle.lol_vm.specs.declared.error.AuxStartTagInfoRequest.{AuxStartTagInfoRequest}
 use Rattle.lol_stack.specs.declared.execution_ctx.ExecutionCtx.{ExecutionCtx}
-use Rattle.lol_vm.specs.declared.instruction_runs.Stop.{Stop}
 use Rattle.lol_vm.specs.declared.tag_runs.RecoveryPoint.{RecoveryPoint}
-use Rattle.lol_vm.specs.declared.tag_runs.RecoveryPoint.TheVariants.{AtOnce, EntryPoints, Jumps, HereditaryJumps}
+use Rattle.lol_vm.specs.declared.tag_runs.RecoveryPoint.TheVariants.{AtOnce, At}
 use Rattle.lol_vm.proofs.Answered.{in_order}
 use Rattle.lol_vm.proofs.Counted.{places_count_tries}
 use Rattle.lol_vm.proofs.Gathered.{runs_give_reports}
 use Rattle.lol_vm.proofs.GatheringLemmas.{gathered_ids_ascend}
+use Rattle.lol_vm.proofs.InstructionLists.{offset_inside}
 use Rattle.lol_vm.proofs.InstructionPlaces.{instructions_are_as_open, instructions_gather}
 use Rattle.lol_vm.proofs.Kept.{after_unfinished, finishing_is_kept}
 use Rattle.lol_vm.proofs.Starts.{StaysThe, held, are_ranges, within_bounds, attributes_stay, run_content, content_ids}
 use Rattle.lol_vm.proofs.Stops.{left_counted, requests_finish}
-use Rattle.lol_vm.proofs.TagRuns.{stop_before, stop_after}
 use Rattle.lol_vm.proofs.VmStarts.{opened_if, entered_stands, map-id, once_of, opened_as}
 
 -- 1. Content
@@ -65,26 +63,16 @@ foreign_content tag esi foreign = by_namespace tag.namespace foreign
 -- 2. What is left
 
 module _ (instructions : List Instruction) (ranges : List (std.Range ℕ)) (inside : All (IsInsideOf instructions) ranges) where
-  left_inside : (stop : Option Stop) → IsStopOf instructions ranges stop → All (IsInsideOf instructions) (ranges_left ranges stop)
-  left_inside None is = inside
-  left_inside (Some stop) is = one_more (IsInsideOf instructions) _ (drop (stop.range + 1) ranges) first (All-drop (IsInsideOf instructions) (stop.range + 1) ranges inside)
+  left_inside : (point : RecoveryPoint) → IsPointIn instructions ranges point → All (IsInsideOf instructions) (ranges_left ranges point)
+  left_inside AtOnce is = inside
+  left_inside (At stop) is = one_more (IsInsideOf instructions) _ (drop (stop.range + 1) ranges) first (All-drop (IsInsideOf instructions) (stop.range + 1) ranges inside)
     where
       one_more : {A : Type 0} (P : A → Type 0) (x : A) (xs : List A) → P x → All P xs → All P (x ∷ xs)
       one_more P x xs here later zero d within = here
       one_more P x xs here later (suc k) d within = later k d (omega (arith, within))
 
       first : IsInsideOf instructions (record { start = (get_or ranges stop.range no_range).start + stop.offset; end = (get_or ranges stop.range no_range).end })
-      first =
-          let r = get_or ranges stop.range no_range in
-          let whole = inside stop.range no_range is.0 in
-          (omega (arith, is.1, length-take (r.end - r.start) (drop r.start instructions)), whole.1)
-
--- a recovery point is a stop in all ranges
-point_is_stop : (instructions : List Instruction) (entry : std.Range ℕ) (jumps active : List (std.Range ℕ)) (point : RecoveryPoint) → IsPointIn instructions entry jumps active point → IsStopOf instructions (tag_ranges entry jumps active) (stop_at entry jumps point)
-point_is_stop instructions entry jumps active AtOnce is = tt
-point_is_stop instructions entry jumps active (EntryPoints stop) is = stop_before instructions (entry ∷ []) (jumps ++ active) stop is
-point_is_stop instructions entry jumps active (Jumps stop) is = stop_after instructions (entry ∷ []) (jumps ++ active) _ (stop_before instructions jumps active stop is)
-point_is_stop instructions entry jumps active (HereditaryJumps stop) is = stop_after instructions (entry ∷ jumps) active stop is
+      first = (offset_inside instructions ranges stop is, (inside stop.range no_range is.0).1)
 
 -- 3. A request
 
@@ -105,11 +93,8 @@ module _ {E : Type 0} (ids : E → Ids) (vm : Vm E) (s : Selectors) (esi : Bool)
   abbrev all : List Instruction
   all = vm.program.instructions.items
 
-  abbrev stop : Option Stop
-  stop = stop_at vm.program.entry_points (jumps_in vm.stack) request.point
-
   abbrev left_code : List (std.Range ℕ)
-  left_code = ranges_left (ranges_to_run_in vm.program vm.stack) stop
+  left_code = ranges_left (ranges_to_run_in vm.program vm.stack) request.point
 
   items : AreItems pending.paths m.program m.items d.open_elements
   items = subst (λ (x : Document). AreItems pending.paths m.program m.items x.open_elements) (after_unfinished s esi events tag pending.asks) pending.standing.items
@@ -120,7 +105,7 @@ module _ {E : Type 0} (ids : E → Ids) (vm : Vm E) (s : Selectors) (esi : Bool)
   are_left : AreRangesOf m.program m.program.by_type all left_code
   are_left = record {
     same_code = are.same_code;
-    inside = left_inside all (ranges_to_run_in vm.program vm.stack) are.inside stop (point_is_stop all vm.program.entry_points (jumps_in vm.stack) (ranges_in (active_in vm.stack)) request.point pending.stopped);
+    inside = left_inside all (ranges_to_run_in vm.program vm.stack) are.inside request.point pending.stopped;
   }
 
   left_count : length (all_at all left_code) ≡ length pending.left
@@ -136,16 +121,16 @@ module _ {E : Type 0} (ids : E → Ids) (vm : Vm E) (s : Selectors) (esi : Bool)
   can_finish size =
       let bounds = within_bounds s pending.paths m d.open_elements pending.closed pending.standing.program items pending.standing.active vm.stack vm.program pending.shows.stack pending.shows.program e in
       let names = pending.names in
-      let tried = at_most_one stop in
+      let tried = at_most_one request.point in
       let parts = ap length pending.is_request.parts ∙ length-append pending.is_request.before pending.left in
       record {
         inside = are_left.inside;
         room = (omega (arith, names, tried, left_count, all_count, bounds, size), omega (arith, pending.attributes, left_count, parts, all_count, bounds, size));
       }
     where
-      at_most_one : (o : Option Stop) → tried_at o ≤ 1
-      at_most_one None = omega arith
-      at_most_one (Some stop) = omega arith
+      at_most_one : (point : RecoveryPoint) → tried_at point ≤ 1
+      at_most_one AtOnce = omega arith
+      at_most_one (At stop) = omega arith
 
   tries_all : TriesAreExact s m.program rs e d.open_elements
   tries_all =
@@ -166,7 +151,7 @@ module _ {E : Type 0} (ids : E → Ids) (vm : Vm E) (s : Selectors) (esi : Bool)
   open_tried =
       let names = pending.names in
       let before = ap length pending.is_request.parts ∙ length-append pending.is_request.before pending.left in
-      record { names = omega (arith, names, all_count, before, one_left stop pending.goes_on); attributes = omega (arith, pending.attributes) }
+      record { names = omega (arith, names, all_count, before, one_left request.point pending.goes_on); attributes = omega (arith, pending.attributes) }
     where
       some_left : (left : List ℕ) → starts_open m.program e left ≡ true → 1 ≤ length left
       some_left [] h = cc
@@ -176,21 +161,19 @@ module _ {E : Type 0} (ids : E → Ids) (vm : Vm E) (s : Selectors) (esi : Bool)
       starts true o is h = h
       starts false o is h = cc
 
-      one_left : (o : Option Stop) → GoesOnAt (is_html tag.namespace) (has_content esi tag) pending.context o request.ctx.with_content → tried_at o ≤ length pending.left
-      one_left None h = omega arith
-      one_left (Some at) h = some_left pending.left (starts (is_html tag.namespace) (starts_open m.program e pending.left) h.0 pending.is_request.asks)
+      one_left : (point : RecoveryPoint) → GoesOnAt (is_html tag.namespace) (has_content esi tag) pending.context point request.ctx.with_content → tried_at point ≤ length pending.left
+      one_left AtOnce h = omega arith
+      one_left (At stop) h = some_left pending.left (starts (is_html tag.namespace) (starts_open m.program e pending.left) h.0 pending.is_request.asks)
 
-  pub tried_at_most : (after : Tries) → AreWithin (sight_in vm.stack request.ctx.stack_item.local_name) all left_code vm.tries after (tried_at stop) → IsTriedAtMost s esi events tag after
+  pub tried_at_most : (after : Tries) → AreWithin (sight_in vm.stack request.ctx.stack_item.local_name) all left_code vm.tries after (tried_at request.point) → IsTriedAtMost s esi events tag after
   tried_at_most after within = record { names = omega (arith, within.names, pending.names, left_count, all_count); attributes = omega (arith, within.attributes, pending.attributes, opens_left) }
 
   content_now : (self_closing : Bool) → self_closing ≡ tag.self_closing → content_at request.point request.ctx.with_content self_closing ≡ has_content esi tag
   content_now self_closing is = by_point request.point (pending.goes_on)
     where
-      by_point : (point : RecoveryPoint) → GoesOnAt (is_html tag.namespace) (has_content esi tag) pending.context (stop_at vm.program.entry_points (jumps_in vm.stack) point) request.ctx.with_content → content_at point request.ctx.with_content self_closing ≡ has_content esi tag
+      by_point : (point : RecoveryPoint) → GoesOnAt (is_html tag.namespace) (has_content esi tag) pending.context point request.ctx.with_content → content_at point request.ctx.with_content self_closing ≡ has_content esi tag
       by_point AtOnce h = ap not is ∙ foreign_content tag esi h.0
-      by_point (EntryPoints at) h = h.1
-      by_point (Jumps at) h = h.1
-      by_point (HereditaryJumps at) h = h.1
+      by_point (At stop) h = h.1
 
   gathered_before : (self_closing : Bool) → Gathers ids request.ctx.stack_item (content_of (content_at request.point request.ctx.with_content self_closing) pending.context)
   gathered_before self_closing = by_point request.point pending.goes_on
@@ -201,20 +184,18 @@ module _ {E : Type 0} (ids : E → Ids) (vm : Vm E) (s : Selectors) (esi : Bool)
       nothing false true = refl
       nothing false false = refl
 
-      by_point : (point : RecoveryPoint) → GoesOnAt (is_html tag.namespace) (has_content esi tag) pending.context (stop_at vm.program.entry_points (jumps_in vm.stack) point) request.ctx.with_content
+      by_point : (point : RecoveryPoint) → GoesOnAt (is_html tag.namespace) (has_content esi tag) pending.context point request.ctx.with_content
           → Gathers ids request.ctx.stack_item (content_of (content_at point request.ctx.with_content self_closing) pending.context)
       by_point AtOnce h =
           subst (Gathers ids request.ctx.stack_item) (ap (content_of request.ctx.with_content) h.1 ∙ (nothing request.ctx.with_content (not self_closing) ∙ sym (ap (content_of (not self_closing)) h.1))) pending.gathered
-      by_point (EntryPoints at) h = pending.gathered
-      by_point (Jumps at) h = pending.gathered
-      by_point (HereditaryJumps at) h = pending.gathered
+      by_point (At stop) h = pending.gathered
 
   module _ (with_ids : E → Ids → E) (lends : (w : E) (more : Ids) → ids (with_ids w more) ≡ more) (self_closing : Bool) (is_closing : self_closing ≡ tag.self_closing) (finish : tag.finish ≡ true) (new_ctx : ExecutionCtx E) (after : Tries) where
     abbrev ctx : ExecutionCtx E
     ctx = record request.ctx { with_content = content_at request.point request.ctx.with_content self_closing }
 
     abbrev Executed : Type 0
-    Executed = AreExecuted ids with_ids (sight_in vm.stack request.ctx.stack_item.local_name) all left_code ctx new_ctx vm.tries after (tag_attributes tag) (tried_at stop)
+    Executed = AreExecuted ids with_ids (sight_in vm.stack request.ctx.stack_item.local_name) all left_code ctx new_ctx vm.tries after (tag_attributes tag) (tried_at request.point)
 
     module _ (executed : Executed) where
       same : StaysThe ctx new_ctx

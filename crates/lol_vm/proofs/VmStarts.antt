@@ -2,8 +2,6 @@
 use Rattle.std.proofs.Common.{◌≡◌, ℕ, Result, Err, suc, zero, ◌+◌, ◌-◌, ◌<◌, ◌^◌, Bool, true, false, not, List, [], ◌∷◌, ◌++◌, length, map, Option, Some, None, refl, sym, ap, ◌∙◌, subst, arith}
 use Rattle.std.specs.Prelude.{◌||◌, ◌&&◌, if◌then◌else◌, slice_get, slice_set}
 use Rattle.std.specs.List.{list_any}
-use Rattle.std.specs.Option.{IsSome}
-use Rattle.std.specs.Result.{IfOk}
 use Rattle.std.proofs.lemmas.List.{map-append}
 use Rattle.lol_base.specs.LocalNames.{Name, local_name}
 use Rattle.lol_base.specs.MemberLaws.{map-map}
@@ -16,7 +14,6 @@ use Rattle.lol_instructions.specs.Compiled.{sight_of}
 use Rattle.lol_instructions.specs.Counters.{full_count}
 use Rattle.lol_program.specs.Paths.{Selectors}
 use Rattle.lol_program.specs.Programs.{Range, Once, all_places}
-use Rattle.lol_program.specs.ProgramViews.{range_shown}
 use Rattle.lol_instructions.specs.Tests.{Element, is_html}
 use Rattle.lol_instructions.specs.Tries.{names_counted, attributes_counted}
 use Rattle.lol_instructions.specs.declared.tries.Tries.{Tries}
@@ -26,25 +23,26 @@ use Rattle.lol_stack.specs.Contexts.{IsNewItem}
 use Rattle.lol_vm.specs.Documents.{Document, element_of}
 use Rattle.lol_vm.specs.Events.{Event, Start, has_content}
 use Rattle.lol_vm.specs.Gathering.{Gathers}
-use Rattle.lol_vm.specs.InstructionRuns.{AreRunnable, ranges_in}
+use Rattle.lol_vm.specs.InstructionRuns.{AreRunnable}
 use Rattle.lol_vm.specs.MachineLaws.{started_by_names}
 use Rattle.lol_vm.specs.PlaceRuns.{Context, no_context, context_of}
 use Rattle.lol_stack.specs.SoundStacks.{IsSound}
 use Rattle.lol_vm.specs.StackMachines.{KeepsMachine, IsItemOf}
-use Rattle.lol_stack.specs.Stacks.{items_in, active_in, last_count, typed_count, counted_in, counted_item, counted_if, with_typed, element_data_of}
+use Rattle.lol_stack.specs.Stacks.{items_in, last_count, typed_count, counted_in, counted_item, counted_if, with_typed, element_data_of}
 use Rattle.lol_vm.specs.Standing.{Machine, StandsFor, AnswersStart, counted, opened, started, ranges_of_machine}
-use Rattle.lol_vm.specs.TagRuns.{stop_found, AreTried, AreWithin, IsPointIn, jumps_in, ranges_to_run_in, sight_in, stop_at, ranges_left, tried_at}
-use Rattle.lol_vm.specs.Vms.{IsRequested, Vm, Shows, Stands, IsTagOf, IsAnswered, IsReported, IsTriedAtMost, IsPending, IsEntered, AreOpened, GoesOnAt, content_of, info_of, data_in}
+use Rattle.lol_vm.specs.TagRuns.{AreTried, AreWithin, ranges_to_run_in, sight_in}
+use Rattle.lol_vm.specs.TriedStarts.{OfStop}
+use Rattle.lol_vm.specs.Vms.{IsRequested, Vm, Shows, Stands, IsTagOf, IsAnswered, IsReported, IsTriedAtMost, IsPending, IsEntered, AreOpened, content_of, info_of, data_in}
 use Rattle.lol_vm.specs.declared.error.AuxStartTagInfoRequest.{AuxStartTagInfoRequest}
 use Rattle.lol_vm.specs.declared.error.VmError.{VmError}
 use Rattle.lol_vm.specs.declared.error.VmError.TheVariants.{InfoRequest}
 use Rattle.lol_stack.specs.declared.execution_ctx.ExecutionCtx.{ExecutionCtx}
-use Rattle.lol_vm.specs.declared.instruction_runs.Stop.{Stop}
 use Rattle.lol_stack.specs.declared.stack_item.StackItemOf.{StackItemOf}
 use Rattle.lol_stack.specs.declared.stack.StackOf.{StackOf}
 use Rattle.lol_stack.specs.declared.stack.StackNames.{StackNames}
 use Rattle.lol_vm.specs.declared.tag_runs.RecoveryPoint.{RecoveryPoint}
-use Rattle.lol_vm.specs.declared.tag_runs.RecoveryPoint.TheVariants.{AtOnce}
+use Rattle.lol_vm.specs.declared.tag_runs.RecoveryPoint.TheVariants.{AtOnce, At}
+use Rattle.lol_vm.specs.declared.tag_runs.Stop.{Stop}
 use Rattle.lol_vm.proofs.Answered.{starts_answer}
 use Rattle.lol_vm.proofs.Gathered.{runs_give_reports}
 use Rattle.lol_vm.proofs.GatheringLemmas.{new_elements_gather, gathered_ids_ascend}
@@ -184,15 +182,13 @@ module _ {E : Type 0} (ids : E → Ids) (with_ids : E → Ids → E) (lends : (w
       record { names = omega (arith, most.names, no_names, run, ap names_counted kept); attributes = omega (arith, same, no_attributes, ap attributes_counted kept) }
 
   -- what was run for its own name was run for the tag's
-  pub tried_as : {R : Type 0} (ctx new_ctx : ExecutionCtx E) (before after : Tries) → names_counted before ≡ 0 → attributes_counted before ≡ 0 → length vm.program.instructions.items < 2 ^ 63 → (own : Name) → own ≡ name
-      → (result found : Result (Option RecoveryPoint) R) → result ≡ found
+  pub tried_as : (ctx new_ctx : ExecutionCtx E) (before after : Tries) → names_counted before ≡ 0 → attributes_counted before ≡ 0 → length vm.program.instructions.items < 2 ^ 63 → (own : Name) → own ≡ name
+      → (point : Option RecoveryPoint)
       → (AreRunnable vm.program.instructions.items (ranges_to_run_in vm.program stack) before
-      → IfOk result (λ point. AreTried ids with_ids (sight_in stack own) vm.program.instructions.items (ranges_to_run_in vm.program stack) ctx new_ctx before after (stop_found vm.program.entry_points (jumps_in stack) point)))
-      → IfOk found (λ point. AreTried ids with_ids (sight_in stack name) vm.program.instructions.items (ranges_to_run_in vm.program stack) ctx new_ctx before after (stop_found vm.program.entry_points (jumps_in stack) point))
-  tried_as ctx new_ctx before after no_names no_attributes size own is result found at tried =
-      let runnable = can_run before no_names no_attributes size in
-      subst (λ r. IfOk r (λ point. AreTried ids with_ids (sight_in stack name) vm.program.instructions.items (ranges_to_run_in vm.program stack) ctx new_ctx before after (stop_found vm.program.entry_points (jumps_in stack) point))) at
-      (subst (λ n. IfOk result (λ point. AreTried ids with_ids (sight_in stack n) vm.program.instructions.items (ranges_to_run_in vm.program stack) ctx new_ctx before after (stop_found vm.program.entry_points (jumps_in stack) point))) is (tried runnable))
+      → OfStop (λ stop. AreTried ids with_ids (sight_in stack own) vm.program.instructions.items (ranges_to_run_in vm.program stack) ctx new_ctx before after stop) point)
+      → OfStop (λ stop. AreTried ids with_ids (sight_in stack name) vm.program.instructions.items (ranges_to_run_in vm.program stack) ctx new_ctx before after stop) point
+  tried_as ctx new_ctx before after no_names no_attributes size own is point tried =
+      subst (λ n. OfStop (λ stop. AreTried ids with_ids (sight_in stack n) vm.program.instructions.items (ranges_to_run_in vm.program stack) ctx new_ctx before after stop) point) is (tried (can_run before no_names no_attributes size))
 
   -- 4. A request at once
 
@@ -236,10 +232,8 @@ module _ {E : Type 0} (ids : E → Ids) (with_ids : E → Ids → E) (lends : (w
         (new_elements_gather ids name ctx.stack_item new)
 
     -- it stopped
-    pub pending_stop : (point : RecoveryPoint) (stop : Stop) → stop_at vm.program.entry_points (jumps_in stack) point ≡ Some stop
-        → IsPointIn vm.program.instructions.items vm.program.entry_points (jumps_in stack) (ranges_in (active_in stack)) point
-        → Tried (Some stop) → IsPending ids s esi events tag (record vm { stack = stack; tries = after }) (record { ctx = new_ctx; point = point })
-    pending_stop point stop at inside tried =
+    pub pending_stop : (stop : Stop) → Tried (Some stop) → IsPending ids s esi events tag (record vm { stack = stack; tries = after }) (record { ctx = new_ctx; point = At stop })
+    pending_stop stop tried =
         let open_there = needs s st.paths (counted m tag.name) d.open_elements st.closed st.standing.program st.standing.items st.standing.active stack vm.program keeps st.shows.program ids with_ids lends e name seen ctx new_ctx before after stop tried in
         let asked : asks s e d.open_elements ≡ true = sym answers.asked ∙ or-right_true (not (is_html tag.namespace)) _ open_there in
         let same = kept (Some stop) tried in
@@ -257,23 +251,12 @@ module _ {E : Type 0} (ids : E → Ids) (with_ids : E → Ids → E) (lends : (w
           sight = ap (sight_in stack) (same.name ∙ new.name) ∙ seen;
           childless = same.children ∙ new.children;
           gathered = has_gathered (Some stop) tried;
-          goes_on = subst (λ o. GoesOnAt (is_html tag.namespace) (has_content esi tag) (started_by_names m.program true e rs).context o new_ctx.with_content) (sym at) (html, same.content ∙ content);
-          stopped = inside;
-          places_left = subst (λ o. (started_by_names m.program true e rs).left ≡ all_places (map range_shown (ranges_left (ranges_to_run_in vm.program stack) o))) (sym at)
-              (left_places s st.paths (counted m tag.name) d.open_elements st.closed st.standing.program st.standing.items st.standing.active stack vm.program keeps st.shows.program ids with_ids lends e name seen ctx new_ctx before after stop tried);
-          names = subst (λ o. names_counted after + length (started_by_names m.program true e rs).left ≡ length (all_places rs) + tried_at o) (sym at)
-              (names_left s st.paths (counted m tag.name) d.open_elements st.closed st.standing.program st.standing.items st.standing.active stack vm.program keeps st.shows.program ids with_ids lends e name seen ctx new_ctx before after stop tried no_names);
+          goes_on = (html, same.content ∙ content);
+          stopped = tried.within;
+          places_left = left_places s st.paths (counted m tag.name) d.open_elements st.closed st.standing.program st.standing.items st.standing.active stack vm.program keeps st.shows.program ids with_ids lends e name seen ctx new_ctx before after stop tried;
+          names = names_left s st.paths (counted m tag.name) d.open_elements st.closed st.standing.program st.standing.items st.standing.active stack vm.program keeps st.shows.program ids with_ids lends e name seen ctx new_ctx before after stop tried no_names;
           attributes = no_tries;
         }
-
-    pub pending_point : (point : RecoveryPoint) → IsSome (stop_at vm.program.entry_points (jumps_in stack) point)
-        → IsPointIn vm.program.instructions.items vm.program.entry_points (jumps_in stack) (ranges_in (active_in stack)) point
-        → Tried (stop_at vm.program.entry_points (jumps_in stack) point) → IsPending ids s esi events tag (record vm { stack = stack; tries = after }) (record { ctx = new_ctx; point = point })
-    pending_point point some inside tried = by_stop (stop_at vm.program.entry_points (jumps_in stack) point) refl some tried
-      where
-        by_stop : (o : Option Stop) → stop_at vm.program.entry_points (jumps_in stack) point ≡ o → IsSome o → Tried o → IsPending ids s esi events tag (record vm { stack = stack; tries = after }) (record { ctx = new_ctx; point = point })
-        by_stop (Some stop) at some tried = pending_stop point stop at inside tried
-        by_stop None at some tried = cc
 
     -- it was run to its end
     module _ (tried : Tried None) where

@@ -1,5 +1,5 @@
 -- What instructions give that are run one after the other.
-use Rattle.std.specs.Prelude.{ℕ, ◌+◌, Bool, true, false, if◌then◌else◌, ◌≤◌, List, [], ◌∷◌, take, drop, map, get_or, length, All, flat_map, ◌<◌, ◌^◌, count_by, Option, Some, None}
+use Rattle.std.specs.Prelude.{ℕ, ◌+◌, Bool, true, false, if◌then◌else◌, ◌≤◌, List, [], ◌∷◌, map, length, All, flat_map, ◌<◌, ◌^◌, count_by, Option, Some, None}
 use Rattle.std.specs.List.{slice_range}
 use Rattle.std.specs.declared.ops.Range.{Range}
 use Rattle.lol_memory.specs.Ids.{Ids}
@@ -11,9 +11,7 @@ use Rattle.lol_instructions.specs.declared.tries.Tries.{Tries}
 use Rattle.lol_instructions.specs.declared.instruction.Instruction.{Instruction}
 use Rattle.lol_instructions.specs.declared.name_value.NameValue.{NameValue}
 use Rattle.lol_instructions.specs.declared.name_value.NameValue.TheVariants.{True, False, Open}
-use Rattle.lol_vm.specs.declared.instruction_runs.Stop.{Stop}
 use Rattle.lol_stack.specs.Contexts.{with_branch, NeedsNoMemory}
-use Rattle.lol_stack.specs.WithRange.{no_range}
 use Rattle.lol_stack.specs.declared.execution_ctx.ExecutionCtx.{ExecutionCtx}
 
 -- the value by names of an instruction
@@ -66,30 +64,9 @@ pub record AreRunnable (instructions : List Instruction) (ranges : List (Range �
   pub inside : All (IsInsideOf instructions) ranges
   pub room : HasTriesLeft tries (length (all_at instructions ranges))
 
--- Where a run by names stopped: at an instruction of one of the ranges.
-abbrev pub place_in : List Instruction → List (Range ℕ) → Option Stop → Option ℕ
-place_in instructions ranges None = None
-place_in instructions ranges (Some stop) = Some (length (all_at instructions (take stop.range ranges)) + stop.offset)
-
 -- what each of the instructions gives needs no memory
 abbrev pub NeedNoMemory : Bool → List Instruction → Type 0
 NeedNoMemory content instructions = All (λ i. NeedsNoMemory content i.associated_branch) instructions
-
--- the range and the instruction of a stop are there
-abbrev pub IsStopIn : List Instruction → List (Range ℕ) → Stop → Type 0
-IsStopIn instructions ranges stop =
-    (stop.range < length ranges) × (stop.offset < length (instructions_at instructions (get_or ranges stop.range no_range)))
-
--- what is left of ranges from a stop on
-abbrev pub ranges_from : List (Range ℕ) → Stop → List (Range ℕ)
-ranges_from ranges stop =
-    record { start = (get_or ranges stop.range no_range).start + stop.offset; end = (get_or ranges stop.range no_range).end }
-    ∷ drop (stop.range + 1) ranges
-
--- Something is so where ranges are gone on with from a stop in them, and what is left of them can be run.
-abbrev pub IfRunnableFrom : List Instruction → List (Range ℕ) → Stop → Tries → Type 0 → Type 0
-IfRunnableFrom instructions ranges stop tries holds =
-    IsStopIn instructions ranges stop → AreRunnable instructions (ranges_from ranges stop) tries → holds
 
 module _ {E : Type 0} (ids : E → Ids) (with_ids : E → Ids → E) where
   abbrev pub with_branch_if : Bool → ExecutionCtx E → Instruction → ExecutionCtx E

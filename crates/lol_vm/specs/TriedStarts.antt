@@ -1,5 +1,5 @@
 -- How far a start tag is tried before its attributes are handed over.
-use Rattle.std.specs.Prelude.{◌≡◌, ◌<◌, ◌^◌, Bool, true, false, length, Option, Some, Result, Ok, IfOk, IfSome, IsOk, IsSome}
+use Rattle.std.specs.Prelude.{◌≡◌, ◌<◌, ◌^◌, Bool, true, false, length, Option, Some, None, Result, Ok, IfOk, IsOk}
 use Rattle.std.specs.declared.alloc.AllocError.{AllocError}
 use Rattle.lol_base.specs.LocalNames.{Name}
 use Rattle.lol_base.specs.StartTags.{StartTag}
@@ -15,21 +15,25 @@ use Rattle.lol_stack.specs.declared.stack.StackNames.{StackNames}
 use Rattle.lol_stack.specs.declared.stack.StackOf.{StackOf}
 use Rattle.lol_vm.specs.Events.{has_content}
 use Rattle.lol_vm.specs.InstructionRuns.{AreRunnable, NeedNoMemory}
-use Rattle.lol_vm.specs.TagRuns.{AreTried, AreWithin, IsPointFor, found_for, sight_in}
+use Rattle.lol_vm.specs.TagRuns.{AreTried, AreWithin, sight_in}
 use Rattle.lol_vm.specs.Vms.{IsTagOf, Vm, instructions_in, ranges_to_try}
 use Rattle.lol_vm.specs.declared.error.AuxStartTagInfoRequest.{AuxStartTagInfoRequest}
 use Rattle.lol_vm.specs.declared.tag_runs.RecoveryPoint.{RecoveryPoint}
-use Rattle.lol_vm.specs.declared.tag_runs.RecoveryPoint.TheVariants.{AtOnce}
+use Rattle.lol_vm.specs.declared.tag_runs.RecoveryPoint.TheVariants.{AtOnce, At}
+use Rattle.lol_vm.specs.declared.tag_runs.Stop.{Stop}
+
+-- Something is so of where a run stopped, if it did.
+abbrev pub OfStop : (Option Stop → Type 0) → Option RecoveryPoint → Type 0
+OfStop holds None = holds None
+OfStop holds (Some AtOnce) = ⊥
+OfStop holds (Some (At stop)) = holds (Some stop)
 
 module _ {E R : Type 0} (ids : E → Ids) (with_ids : E → Ids → E) (old new : Vm E) (ctx next : ExecutionCtx E) (result : Result (Option RecoveryPoint) R) where
   -- A tag of HTML was run by its name, up to the first instruction that needs its attributes.
   pub record IsTriedByName (content : Bool) : Type 0 where
     pub size : length (instructions_in old) < 2 ^ 63
     pub tried : AreRunnable (instructions_in old) (ranges_to_try old) old.tries
-        → IfOk result (λ point. AreTried ids with_ids (sight_in old.stack ctx.stack_item.local_name) (instructions_in old) (ranges_to_try old) (record ctx { with_content = content }) next old.tries new.tries (found_for old.program old.stack point))
-    pub point : AreRunnable (instructions_in old) (ranges_to_try old) old.tries
-        → IfOk result (λ point. IfSome point (IsPointFor old.program old.stack))
-    pub stop : IfOk result (λ point. IsSome point → IsSome (found_for old.program old.stack point))
+        → IfOk result (OfStop (λ stop. AreTried ids with_ids (sight_in old.stack ctx.stack_item.local_name) (instructions_in old) (ranges_to_try old) (record ctx { with_content = content }) next old.tries new.tries stop))
     pub attributes : attributes_counted new.tries ≡ attributes_counted old.tries
     pub within : AreRunnable (instructions_in old) (ranges_to_try old) old.tries
         → AreWithin (sight_in old.stack ctx.stack_item.local_name) (instructions_in old) (ranges_to_try old) old.tries new.tries 0

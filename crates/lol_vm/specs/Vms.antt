@@ -1,5 +1,5 @@
 -- When a machine stands for the events that it was told of, and how it answers one more.
-use Rattle.std.specs.Prelude.{ℕ, ◌+◌, ◌-◌, ◌*◌, ◌≤◌, ◌≡◌, Bool, true, false, not, List, [], ◌∷◌, ◌++◌, map, length, Option, Some, None, Result, Ok, Err}
+use Rattle.std.specs.Prelude.{ℕ, ◌+◌, ◌-◌, ◌*◌, ◌≤◌, ◌≡◌, Bool, true, false, not, List, [], ◌∷◌, ◌++◌, map, length, Result, Ok, Err}
 use Rattle.std.specs.declared.ops.Range as std
 use Rattle.lol_base.specs.LocalNames.{Name, local_name}
 use Rattle.lol_base.specs.StartTags.{StartTag, attributes_of}
@@ -28,17 +28,16 @@ use Rattle.lol_stack.specs.SoundStacks.{IsSound}
 use Rattle.lol_vm.specs.StackMachines.{KeepsMachine}
 use Rattle.lol_stack.specs.Stacks.{items_in, element_data_of, slots_in, item_bytes_in, IsSame, IsPushed}
 use Rattle.lol_vm.specs.Standing.{Machine, StandsOn, IsOrdered, StandsFor, ranges_of_machine, unfinished}
-use Rattle.lol_vm.specs.TagRuns.{sight_in, ranges_to_run_in, stop_for, left_for, IsPointFor, tried_at}
+use Rattle.lol_vm.specs.TagRuns.{sight_in, ranges_to_run_in, ranges_left, IsPointIn, tried_at}
 use Rattle.lol_vm.specs.declared.error.AuxStartTagInfoRequest.{AuxStartTagInfoRequest}
 use Rattle.lol_vm.specs.declared.error.VmError.{VmError}
 use Rattle.lol_vm.specs.declared.error.VmError.TheVariants.{InfoRequest, MemoryLimitExceeded, Memory, CounterFull, Failed}
 use Rattle.lol_stack.specs.declared.execution_ctx.ExecutionCtx.{ExecutionCtx}
-use Rattle.lol_vm.specs.declared.instruction_runs.Stop.{Stop}
 use Rattle.lol_stack.specs.declared.stack_item.StackItemOf.{StackItemOf}
 use Rattle.lol_stack.specs.declared.stack.StackOf.{StackOf}
 use Rattle.lol_stack.specs.declared.stack.StackNames.{StackNames}
 use Rattle.lol_vm.specs.declared.tag_runs.RecoveryPoint.{RecoveryPoint}
-use Rattle.lol_vm.specs.declared.tag_runs.RecoveryPoint.TheVariants.{AtOnce, EntryPoints, Jumps, HereditaryJumps}
+use Rattle.lol_vm.specs.declared.tag_runs.RecoveryPoint.TheVariants.{AtOnce, At}
 use Rattle.lol_vm.specs.declared.vm.VmOf.{VmOf}
 
 abbrev pub Vm : Type 0 → Type 0
@@ -77,9 +76,6 @@ module _ {E : Type 0} where
   -- what a start tag is run through
   abbrev pub ranges_to_try : Vm E → List (std.Range ℕ)
   ranges_to_try vm = ranges_to_run_in vm.program vm.stack
-
-  abbrev pub stop_to_try : Vm E → RecoveryPoint → Option Stop
-  stop_to_try vm point = stop_for vm.program vm.stack point
 
 -- 2. Standing
 
@@ -179,14 +175,12 @@ content_of false context = record { ids = context.ids; jumps = []; hereditary_ju
 -- whether an element has content, once it is known whether its tag closes itself
 abbrev pub content_at : RecoveryPoint → Bool → Bool → Bool
 content_at AtOnce with_content self_closing = not self_closing
-content_at (EntryPoints stop) with_content self_closing = with_content
-content_at (Jumps stop) with_content self_closing = with_content
-content_at (HereditaryJumps stop) with_content self_closing = with_content
+content_at (At stop) with_content self_closing = with_content
 
 -- where a request goes on: outside HTML at once, with nothing gathered
-abbrev pub GoesOnAt : Bool → Bool → Context → Option Stop → Bool → Type 0
-GoesOnAt html content context None with_content = (html ≡ false) × (context ≡ no_context) × (with_content ≡ true)
-GoesOnAt html content context (Some stop) with_content = (html ≡ true) × (with_content ≡ content)
+abbrev pub GoesOnAt : Bool → Bool → Context → RecoveryPoint → Bool → Type 0
+GoesOnAt html content context AtOnce with_content = (html ≡ false) × (context ≡ no_context) × (with_content ≡ true)
+GoesOnAt html content context (At stop) with_content = (html ≡ true) × (with_content ≡ content)
 
 -- whether the attributes of a start tag after events are asked for
 abbrev pub is_asked_for : Selectors → Bool → List Event → StartTag → Bool
@@ -236,10 +230,10 @@ module _ {E : Type 0} (ids_of : E → Ids) where
     pub sight : sight_in vm.stack request.ctx.stack_item.local_name ≡ sight_of machine.program.by_type (element_of (document s esi events) tag)
     pub childless : request.ctx.stack_item.child_counter ≡ 0
     pub gathered : Gathers ids_of request.ctx.stack_item (content_of request.ctx.with_content context)
-    pub goes_on : GoesOnAt (is_html tag.namespace) (has_content esi tag) context (stop_to_try vm request.point) request.ctx.with_content
-    pub stopped : IsPointFor vm.program vm.stack request.point
-    pub places_left : left ≡ all_places (map range_shown (left_for vm.program vm.stack request.point))
-    pub names : names_counted vm.tries + length left ≡ length (all_places (ranges_of_machine machine)) + tried_at (stop_to_try vm request.point)
+    pub goes_on : GoesOnAt (is_html tag.namespace) (has_content esi tag) context request.point request.ctx.with_content
+    pub stopped : IsPointIn (instructions_in vm) (ranges_to_try vm) request.point
+    pub places_left : left ≡ all_places (map range_shown (ranges_left (ranges_to_try vm) request.point))
+    pub names : names_counted vm.tries + length left ≡ length (all_places (ranges_of_machine machine)) + tried_at request.point
     pub attributes : attributes_counted vm.tries ≡ 0
 
 -- 6. Charges

@@ -1,9 +1,9 @@
 //! Running instructions for a start tag, one after the other.
 
-ghost use Rattle.std.specs.Prelude.{◌≡◌, ◌+◌, ◌-◌, ◌≤◌, Bool, IfOk, IsOk, Ok, Some, length};
+ghost use Rattle.std.specs.Prelude.{◌≡◌, ◌+◌, ◌-◌, ◌≤◌, Bool, IfOk, IsOk, length};
 ghost use Rattle.lol_instructions.specs.Compiled.{sight};
 ghost use Rattle.lol_instructions.specs.Tries.{names_counted, attributes_counted};
-ghost use Rattle.lol_vm.specs.InstructionRuns.{AreRunnable, IfRunnableFrom, NeedNoMemory, all_at, place_in, IsStopIn, HasTriesLeft, IsInsideOf, ranges_in, ranges_from, instructions_at, open_among, first_open_from, tried_until, gathered_by_names, gathered_with_attributes};
+ghost use Rattle.lol_vm.specs.InstructionRuns.{NeedNoMemory, HasTriesLeft, IsInsideOf, instructions_at, open_among, first_open_from, tried_until, gathered_by_names, gathered_with_attributes};
 
 use lol_program::{
     AddressRange, AttributeMatcher, Instruction, SelectorState, Tries, TryExecResult,
@@ -80,182 +80,6 @@ pub(crate) fn exec_instructions<E: ElementData>(
     Ok(())
 }
 
-/// The instructions of a range; none where the range isn't inside, or where so many tries can't be counted.
-#[inline(always)]
-fn instructions_in<'p>(
-    instructions: &'p [Instruction],
-    range: &AddressRange,
-    tries: &Tries,
-) -> &'p [Instruction]
-    ensures value { IsInsideOf instructions.now range.now → HasTriesLeft tries.now (range.now.end - range.now.start)
-        → result.now ≡ instructions_at instructions.now range.now }
-    ensures room { HasTriesLeft tries.now (length result.now) }
-    ensures free { (content : Bool) → NeedNoMemory content instructions.now → NeedNoMemory content result.now }
-{
-    let (names, attributes) = (tries.names(), tries.attributes());
-    if range.start > range.end || range.end > instructions.len() {
-        return &[];
-    }
-    let count = (range.end - range.start) as u64;
-    if count > u64::MAX - names || count > u64::MAX - attributes {
-        return &[];
-    }
-    &instructions[range.start..range.end]
-}
-
-/// Where a run without attributes stopped: which range it was in, and at which of its instructions.
-#[derive(Clone, Copy)]
-pub(crate) struct Stop {
-    pub range: usize,
-    pub offset: usize,
-}
-
-/// Runs the instructions of ranges without attributes, up to the first that needs them.
-#[inline(always)]
-pub(crate) fn try_ranges<E: ElementData>(
-    instructions: &[Instruction],
-    ranges: &[AddressRange],
-    state: &SelectorState<'_>,
-    alloc: Global,
-    ctx: &mut ExecutionCtx<'_, E>,
-    tries: &mut Tries,
-) -> Result<Option<Stop>, AllocError>
-    ensures stop { AreRunnable instructions.now ranges.now tries.old → IfOk result (λ stop.
-        place_in instructions.now ranges.now stop
-        ≡ first_open_from (sight state.now ctx.old.stack_item.local_name) 0 (all_at instructions.now ranges.now)) }
-    ensures within { AreRunnable instructions.now ranges.now tries.old
-        → (stop : Stop) → result ≡ Ok (Some stop) → IsStopIn instructions.now ranges.now stop }
-    ensures ctx { AreRunnable instructions.now ranges.now tries.old → IfOk result (λ stop. ctx.new
-        ≡ gathered_by_names E.ids E.with_ids (sight state.now ctx.old.stack_item.local_name)
-        ctx.old (all_at instructions.now ranges.now)) }
-    ensures names { AreRunnable instructions.now ranges.now tries.old → IfOk result (λ stop.
-        names_counted tries.new ≡ names_counted tries.old
-        + tried_until (place_in instructions.now ranges.now stop) (length (all_at instructions.now ranges.now))) }
-    ensures attributes { attributes_counted tries.new ≡ attributes_counted tries.old }
-    ensures names_bound { AreRunnable instructions.now ranges.now tries.old
-        → names_counted tries.new ≤ names_counted tries.old + length (all_at instructions.now ranges.now) }
-    ensures name { ctx.new.stack_item.local_name ≡ ctx.old.stack_item.local_name }
-    ensures content { ctx.new.with_content ≡ ctx.old.with_content }
-    ensures free { NeedNoMemory ctx.old.with_content instructions.now → IsOk result }
-{
-    for (at, range) in ranges.iter().enumerate() {
-        let part = instructions_in(instructions, range, tries);
-        if let Some(offset) = try_instructions(part, state, alloc, ctx, tries)? {
-            return Ok(Some(Stop { range: at, offset }));
-        }
-    }
-    Ok(None)
-}
-
-/// Runs the instructions of ranges with attributes.
-#[inline(always)]
-pub(crate) fn exec_ranges<E: ElementData>(
-    instructions: &[Instruction],
-    ranges: &[AddressRange],
-    state: &SelectorState<'_>,
-    matcher: &AttributeMatcher<'_>,
-    alloc: Global,
-    ctx: &mut ExecutionCtx<'_, E>,
-    tries: &mut Tries,
-) -> Result<(), AllocError>
-    ensures ctx { AreRunnable instructions.now ranges.now tries.old → IfOk result (λ done. ctx.new
-        ≡ gathered_with_attributes E.ids E.with_ids (sight state.now ctx.old.stack_item.local_name)
-        matcher.now ctx.old (all_at instructions.now ranges.now)) }
-    ensures names { AreRunnable instructions.now ranges.now tries.old → IfOk result (λ done.
-        names_counted tries.new ≡ names_counted tries.old + length (all_at instructions.now ranges.now)) }
-    ensures attributes { AreRunnable instructions.now ranges.now tries.old
-        → IfOk result (λ done. attributes_counted tries.new ≡ attributes_counted tries.old
-        + open_among (sight state.now ctx.old.stack_item.local_name) (all_at instructions.now ranges.now)) }
-    ensures names_bound { AreRunnable instructions.now ranges.now tries.old
-        → names_counted tries.new ≤ names_counted tries.old + length (all_at instructions.now ranges.now) }
-    ensures attributes_bound { AreRunnable instructions.now ranges.now tries.old
-        → attributes_counted tries.new ≤ attributes_counted tries.old
-        + open_among (sight state.now ctx.old.stack_item.local_name) (all_at instructions.now ranges.now) }
-    ensures name { ctx.new.stack_item.local_name ≡ ctx.old.stack_item.local_name }
-    ensures content { ctx.new.with_content ≡ ctx.old.with_content }
-    ensures free { NeedNoMemory ctx.old.with_content instructions.now → IsOk result }
-{
-    for range in ranges {
-        let part = instructions_in(instructions, range, tries);
-        exec_instructions(part, state, matcher, alloc, ctx, tries)?;
-    }
-    Ok(())
-}
-
-/// The same over active ranges.
-#[inline(always)]
-pub(crate) fn try_active<E: ElementData>(
-    instructions: &[Instruction],
-    active: &[(AddressRange, usize)],
-    state: &SelectorState<'_>,
-    alloc: Global,
-    ctx: &mut ExecutionCtx<'_, E>,
-    tries: &mut Tries,
-) -> Result<Option<Stop>, AllocError>
-    ensures stop { AreRunnable instructions.now (ranges_in active.now) tries.old → IfOk result (λ stop.
-        place_in instructions.now (ranges_in active.now) stop
-        ≡ first_open_from (sight state.now ctx.old.stack_item.local_name) 0
-        (all_at instructions.now (ranges_in active.now))) }
-    ensures within { AreRunnable instructions.now (ranges_in active.now) tries.old
-        → (stop : Stop) → result ≡ Ok (Some stop) → IsStopIn instructions.now (ranges_in active.now) stop }
-    ensures ctx { AreRunnable instructions.now (ranges_in active.now) tries.old → IfOk result (λ stop. ctx.new
-        ≡ gathered_by_names E.ids E.with_ids (sight state.now ctx.old.stack_item.local_name)
-        ctx.old (all_at instructions.now (ranges_in active.now))) }
-    ensures names { AreRunnable instructions.now (ranges_in active.now) tries.old → IfOk result (λ stop.
-        names_counted tries.new ≡ names_counted tries.old
-        + tried_until (place_in instructions.now (ranges_in active.now) stop)
-        (length (all_at instructions.now (ranges_in active.now)))) }
-    ensures attributes { attributes_counted tries.new ≡ attributes_counted tries.old }
-    ensures names_bound { AreRunnable instructions.now (ranges_in active.now) tries.old
-        → names_counted tries.new ≤ names_counted tries.old + length (all_at instructions.now (ranges_in active.now)) }
-    ensures name { ctx.new.stack_item.local_name ≡ ctx.old.stack_item.local_name }
-    ensures content { ctx.new.with_content ≡ ctx.old.with_content }
-    ensures free { NeedNoMemory ctx.old.with_content instructions.now → IsOk result }
-{
-    for (at, active_range) in active.iter().enumerate() {
-        let part = instructions_in(instructions, &active_range.0, tries);
-        if let Some(offset) = try_instructions(part, state, alloc, ctx, tries)? {
-            return Ok(Some(Stop { range: at, offset }));
-        }
-    }
-    Ok(None)
-}
-
-/// The same over active ranges.
-#[inline(always)]
-pub(crate) fn exec_active<E: ElementData>(
-    instructions: &[Instruction],
-    active: &[(AddressRange, usize)],
-    state: &SelectorState<'_>,
-    matcher: &AttributeMatcher<'_>,
-    alloc: Global,
-    ctx: &mut ExecutionCtx<'_, E>,
-    tries: &mut Tries,
-) -> Result<(), AllocError>
-    ensures ctx { AreRunnable instructions.now (ranges_in active.now) tries.old → IfOk result (λ done. ctx.new
-        ≡ gathered_with_attributes E.ids E.with_ids (sight state.now ctx.old.stack_item.local_name)
-        matcher.now ctx.old (all_at instructions.now (ranges_in active.now))) }
-    ensures names { AreRunnable instructions.now (ranges_in active.now) tries.old → IfOk result (λ done.
-        names_counted tries.new ≡ names_counted tries.old + length (all_at instructions.now (ranges_in active.now))) }
-    ensures attributes { AreRunnable instructions.now (ranges_in active.now) tries.old
-        → IfOk result (λ done. attributes_counted tries.new ≡ attributes_counted tries.old
-        + open_among (sight state.now ctx.old.stack_item.local_name) (all_at instructions.now (ranges_in active.now))) }
-    ensures names_bound { AreRunnable instructions.now (ranges_in active.now) tries.old
-        → names_counted tries.new ≤ names_counted tries.old + length (all_at instructions.now (ranges_in active.now)) }
-    ensures attributes_bound { AreRunnable instructions.now (ranges_in active.now) tries.old
-        → attributes_counted tries.new ≤ attributes_counted tries.old
-        + open_among (sight state.now ctx.old.stack_item.local_name) (all_at instructions.now (ranges_in active.now)) }
-    ensures name { ctx.new.stack_item.local_name ≡ ctx.old.stack_item.local_name }
-    ensures content { ctx.new.with_content ≡ ctx.old.with_content }
-    ensures free { NeedNoMemory ctx.old.with_content instructions.now → IsOk result }
-{
-    for active_range in active {
-        let part = instructions_in(instructions, &active_range.0, tries);
-        exec_instructions(part, state, matcher, alloc, ctx, tries)?;
-    }
-    Ok(())
-}
-
 /// Goes on from the first of these instructions, which was tried without attributes: it is tried with them, and then the others are run.
 /// It is refused only where memory is out.
 #[inline(always)]
@@ -293,100 +117,35 @@ pub(crate) fn complete_instructions<E: ElementData>(
     exec_instructions(others, state, matcher, alloc, ctx, tries)
 }
 
+/// The instructions of a range; none where the range isn't inside, or where so many tries can't be counted.
+#[inline(always)]
+pub(crate) fn instructions_in<'p>(
+    instructions: &'p [Instruction],
+    range: &AddressRange,
+    tries: &Tries,
+) -> &'p [Instruction]
+    ensures value { IsInsideOf instructions.now range.now → HasTriesLeft tries.now (range.now.end - range.now.start)
+        → result.now ≡ instructions_at instructions.now range.now }
+    ensures room { HasTriesLeft tries.now (length result.now) }
+    ensures free { (content : Bool) → NeedNoMemory content instructions.now → NeedNoMemory content result.now }
+{
+    let (names, attributes) = (tries.names(), tries.attributes());
+    if range.start > range.end || range.end > instructions.len() {
+        return &[];
+    }
+    let count = (range.end - range.start) as u64;
+    if count > u64::MAX - names || count > u64::MAX - attributes {
+        return &[];
+    }
+    &instructions[range.start..range.end]
+}
+
 /// What is left of a range, from an offset on.
 #[inline(always)]
-fn range_from(range: &AddressRange, offset: usize) -> AddressRange
+pub(crate) fn range_from(range: &AddressRange, offset: usize) -> AddressRange
     ensures { range.now.start + offset ≤ range.now.end
         → result ≡ record { start = range.now.start + offset; end = range.now.end } }
 {
     let (start, end) = (range.start, range.end);
     start.saturating_add(offset)..end
-}
-
-/// Goes on from a stop in these ranges, whose instruction was tried without attributes.
-#[inline(always)]
-pub(crate) fn complete_ranges<E: ElementData>(
-    instructions: &[Instruction],
-    ranges: &[AddressRange],
-    stop: Stop,
-    state: &SelectorState<'_>,
-    matcher: &AttributeMatcher<'_>,
-    alloc: Global,
-    ctx: &mut ExecutionCtx<'_, E>,
-    tries: &mut Tries,
-) -> Result<(), AllocError>
-    ensures ctx { IfRunnableFrom instructions.now ranges.now stop tries.old (IfOk result (λ done. ctx.new
-        ≡ gathered_with_attributes E.ids E.with_ids (sight state.now ctx.old.stack_item.local_name)
-        matcher.now ctx.old (all_at instructions.now (ranges_from ranges.now stop)))) }
-    ensures names { IfRunnableFrom instructions.now ranges.now stop tries.old (IfOk result (λ done.
-        names_counted tries.new + 1 ≡ names_counted tries.old
-        + length (all_at instructions.now (ranges_from ranges.now stop)))) }
-    ensures attributes { IfRunnableFrom instructions.now ranges.now stop tries.old (IfOk result (λ done.
-        attributes_counted tries.new ≡ attributes_counted tries.old
-        + open_among (sight state.now ctx.old.stack_item.local_name)
-        (all_at instructions.now (ranges_from ranges.now stop)))) }
-    ensures names_bound { IfRunnableFrom instructions.now ranges.now stop tries.old
-        (names_counted tries.new + 1 ≤ names_counted tries.old
-        + length (all_at instructions.now (ranges_from ranges.now stop))) }
-    ensures attributes_bound { IfRunnableFrom instructions.now ranges.now stop tries.old
-        (attributes_counted tries.new ≤ attributes_counted tries.old
-        + open_among (sight state.now ctx.old.stack_item.local_name)
-        (all_at instructions.now (ranges_from ranges.now stop))) }
-    ensures name { ctx.new.stack_item.local_name ≡ ctx.old.stack_item.local_name }
-    ensures content { ctx.new.with_content ≡ ctx.old.with_content }
-    ensures free { NeedNoMemory ctx.old.with_content instructions.now → IsOk result }
-{
-    if stop.range >= ranges.len() {
-        return Ok(());
-    }
-    let range = &ranges[stop.range];
-    let left = range_from(range, stop.offset);
-    let part = instructions_in(instructions, &left, tries);
-    complete_instructions(part, state, matcher, alloc, ctx, tries)?;
-    let others = &ranges[stop.range + 1..];
-    exec_ranges(instructions, others, state, matcher, alloc, ctx, tries)
-}
-
-/// The same in active ranges.
-#[inline(always)]
-pub(crate) fn complete_active<E: ElementData>(
-    instructions: &[Instruction],
-    active: &[(AddressRange, usize)],
-    stop: Stop,
-    state: &SelectorState<'_>,
-    matcher: &AttributeMatcher<'_>,
-    alloc: Global,
-    ctx: &mut ExecutionCtx<'_, E>,
-    tries: &mut Tries,
-) -> Result<(), AllocError>
-    ensures ctx { IfRunnableFrom instructions.now (ranges_in active.now) stop tries.old (IfOk result (λ done. ctx.new
-        ≡ gathered_with_attributes E.ids E.with_ids (sight state.now ctx.old.stack_item.local_name)
-        matcher.now ctx.old (all_at instructions.now (ranges_from (ranges_in active.now) stop)))) }
-    ensures names { IfRunnableFrom instructions.now (ranges_in active.now) stop tries.old (IfOk result (λ done.
-        names_counted tries.new + 1 ≡ names_counted tries.old
-        + length (all_at instructions.now (ranges_from (ranges_in active.now) stop)))) }
-    ensures attributes { IfRunnableFrom instructions.now (ranges_in active.now) stop tries.old (IfOk result (λ done.
-        attributes_counted tries.new ≡ attributes_counted tries.old
-        + open_among (sight state.now ctx.old.stack_item.local_name)
-        (all_at instructions.now (ranges_from (ranges_in active.now) stop)))) }
-    ensures names_bound { IfRunnableFrom instructions.now (ranges_in active.now) stop tries.old
-        (names_counted tries.new + 1 ≤ names_counted tries.old
-        + length (all_at instructions.now (ranges_from (ranges_in active.now) stop))) }
-    ensures attributes_bound { IfRunnableFrom instructions.now (ranges_in active.now) stop tries.old
-        (attributes_counted tries.new ≤ attributes_counted tries.old
-        + open_among (sight state.now ctx.old.stack_item.local_name)
-        (all_at instructions.now (ranges_from (ranges_in active.now) stop))) }
-    ensures name { ctx.new.stack_item.local_name ≡ ctx.old.stack_item.local_name }
-    ensures content { ctx.new.with_content ≡ ctx.old.with_content }
-    ensures free { NeedNoMemory ctx.old.with_content instructions.now → IsOk result }
-{
-    if stop.range >= active.len() {
-        return Ok(());
-    }
-    let range = &active[stop.range].0;
-    let left = range_from(range, stop.offset);
-    let part = instructions_in(instructions, &left, tries);
-    complete_instructions(part, state, matcher, alloc, ctx, tries)?;
-    let others = &active[stop.range + 1..];
-    exec_active(instructions, others, state, matcher, alloc, ctx, tries)
 }

@@ -1,25 +1,25 @@
 //! Running what a start tag is run through: the entry points, the last open element's jumps, and the active hereditary jumps.
 
-ghost use Rattle.std.specs.Prelude.{◌≡◌, ◌<◌, ◌^◌, length, IfOk, IfSome, IsOk, IsSome};
+ghost use Rattle.std.specs.Prelude.{◌≡◌, ◌<◌, ◌^◌, drop, get_or, length, IfOk, IsOk};
 ghost use Rattle.lol_instructions.specs.Compiled.{sight};
 ghost use Rattle.lol_instructions.specs.Tries.{attributes_counted};
+ghost use Rattle.lol_stack.specs.WithRange.{no_range};
 ghost use Rattle.lol_vm.specs.InstructionRuns.{AreRunnable, NeedNoMemory};
-ghost use Rattle.lol_vm.specs.TagRuns.{ranges_of, stop_of, stop_if, left_of, tried_at, IsPointOf, AreTried, AreExecuted, AreWithin, jumps_in, ranges_to_run_in, sight_in, IsPointFor, stop_for, found_for, left_for};
+ghost use Rattle.lol_vm.specs.TagRuns.{ranges_of, ranges_from, ranges_left, tried_at, IsStopIn, IsPointIn, AreTried, AreExecuted, AreWithin, jumps_in, ranges_to_run_in, sight_in};
 
 use crate::instruction_runs::{
-    Stop, complete_active, complete_ranges, exec_active, exec_ranges, try_active, try_ranges,
+    complete_instructions, exec_instructions, instructions_in, range_from, try_instructions,
 };
+use lol_base::LocalName;
 use lol_program::{AddressRange, AttributeMatcher, Instruction, Program, SelectorState, Tries};
 use lol_stack::{ElementData, ExecutionCtx, Stack};
 use std::alloc::{AllocError, Global};
-use std::slice;
 
-/// The ranges of instructions that a start tag is run through.
-#[derive(Drop)]
-struct TagRanges<'p> {
-    entry_points: &'p AddressRange,
-    jumps: &'p [AddressRange],
-    hereditary_jumps: &'p [(AddressRange, usize)],
+/// Where a run without attributes stopped: in which of a tag's ranges, and at which of its instructions.
+#[derive(Clone, Copy)]
+pub(crate) struct Stop {
+    pub range: usize,
+    pub offset: usize,
 }
 
 /// Where the run of a start tag goes on, once its attributes are there.
@@ -27,107 +27,184 @@ struct TagRanges<'p> {
 pub(crate) enum RecoveryPoint {
     /// Nothing was run.
     AtOnce,
-    /// It stopped in the entry points.
-    EntryPoints(Stop),
-    /// It stopped in the last open element's jumps.
-    Jumps(Stop),
-    /// It stopped in the active hereditary jumps.
-    HereditaryJumps(Stop),
+    /// It stopped there.
+    At(Stop),
 }
 
-/// Runs a start tag without attributes, up to the first instruction that needs them.
-#[inline(always)]
-fn try_ranges_of_tag<E: ElementData>(
-    instructions: &[Instruction],
-    ranges: &TagRanges<'_>,
-    state: &SelectorState<'_>,
+/// The run of a start tag: the ranges of instructions that it is run through, one after the other, and what their tests see.
+#[derive(Drop)]
+pub(crate) struct TagRun<'p> {
+    instructions: &'p [Instruction],
+    entry_points: &'p AddressRange,
+    jumps: &'p [AddressRange],
+    hereditary_jumps: &'p [(AddressRange, usize)],
+    state: SelectorState<'p>,
     alloc: Global,
-    ctx: &mut ExecutionCtx<'_, E>,
-    tries: &mut Tries,
-) -> Result<Option<RecoveryPoint>, AllocError>
-    ensures tried { AreRunnable instructions.now (ranges_of ranges.now) tries.old → IfOk result (λ point.
-        AreTried E.ids E.with_ids (sight state.now ctx.old.stack_item.local_name) instructions.now
-        (ranges_of ranges.now) ctx.old ctx.new tries.old tries.new (stop_if ranges.now point)) }
-    ensures point { AreRunnable instructions.now (ranges_of ranges.now) tries.old
-        → IfOk result (λ point. IfSome point (IsPointOf instructions.now ranges.now)) }
-    ensures stop { IfOk result (λ point. IsSome point → IsSome (stop_if ranges.now point)) }
-    ensures attributes { attributes_counted tries.new ≡ attributes_counted tries.old }
-    ensures within { AreRunnable instructions.now (ranges_of ranges.now) tries.old
-        → AreWithin (sight state.now ctx.old.stack_item.local_name) instructions.now (ranges_of ranges.now)
-        tries.old tries.new 0 }
-    ensures name { ctx.new.stack_item.local_name ≡ ctx.old.stack_item.local_name }
-    ensures content { ctx.new.with_content ≡ ctx.old.with_content }
-    ensures free { NeedNoMemory ctx.old.with_content instructions.now → IsOk result }
-{
-    let entry_points = slice::from_ref(ranges.entry_points);
-    if let Some(stop) = try_ranges(instructions, entry_points, state, alloc, ctx, tries)? {
-        return Ok(Some(RecoveryPoint::EntryPoints(stop)));
-    }
-    if let Some(stop) = try_ranges(instructions, ranges.jumps, state, alloc, ctx, tries)? {
-        return Ok(Some(RecoveryPoint::Jumps(stop)));
-    }
-    let active = ranges.hereditary_jumps;
-    if let Some(stop) = try_active(instructions, active, state, alloc, ctx, tries)? {
-        return Ok(Some(RecoveryPoint::HereditaryJumps(stop)));
-    }
-    Ok(None)
 }
 
-/// Runs a start tag with attributes, from a recovery point on.
-#[inline(always)]
-fn complete_ranges_of_tag<E: ElementData>(
-    instructions: &[Instruction],
-    ranges: &TagRanges<'_>,
-    point: RecoveryPoint,
-    state: &SelectorState<'_>,
-    matcher: &AttributeMatcher<'_>,
-    alloc: Global,
-    ctx: &mut ExecutionCtx<'_, E>,
-    tries: &mut Tries,
-) -> Result<(), AllocError>
-    ensures executed { IsPointOf instructions.now ranges.now point
-        → AreRunnable instructions.now (left_of ranges.now point) tries.old → IfOk result (λ done.
-        AreExecuted E.ids E.with_ids (sight state.now ctx.old.stack_item.local_name) instructions.now
-        (left_of ranges.now point) ctx.old ctx.new tries.old tries.new matcher.now
-        (tried_at (stop_of ranges.now point))) }
-    ensures within { IsPointOf instructions.now ranges.now point
-        → AreRunnable instructions.now (left_of ranges.now point) tries.old
-        → AreWithin (sight state.now ctx.old.stack_item.local_name) instructions.now (left_of ranges.now point)
-        tries.old tries.new (tried_at (stop_of ranges.now point)) }
-    ensures name { ctx.new.stack_item.local_name ≡ ctx.old.stack_item.local_name }
-    ensures content { ctx.new.with_content ≡ ctx.old.with_content }
-    ensures free { NeedNoMemory ctx.old.with_content instructions.now → IsOk result }
-{
-    let entry = slice::from_ref(ranges.entry_points);
-    let jumps = ranges.jumps;
-    let active = ranges.hereditary_jumps;
-    match point {
-        RecoveryPoint::AtOnce => {
-            exec_ranges(instructions, entry, state, matcher, alloc, ctx, tries)?;
-            exec_ranges(instructions, jumps, state, matcher, alloc, ctx, tries)?;
-            exec_active(instructions, active, state, matcher, alloc, ctx, tries)
+impl<'p> TagRun<'p> {
+    /// The run of a start tag of this name, which has been counted.
+    #[inline(always)]
+    pub(crate) fn new<'i: 'p, E>(
+        program: &'p Program,
+        stack: &'p Stack<E>,
+        name: &LocalName<'i>,
+        alloc: Global,
+    ) -> Self
+        ensures size { length program.now.instructions.items < 2 ^ 63 }
+        ensures instructions { result.instructions.now ≡ program.now.instructions.items }
+        ensures ranges { ranges_of result ≡ ranges_to_run_in program.now stack.now }
+        ensures sight { sight result.state name.now ≡ sight_in stack.now name.now }
+    {
+        TagRun {
+            instructions: &program.instructions,
+            entry_points: &program.entry_points,
+            jumps: last_jumps(stack),
+            hereditary_jumps: stack.active_hereditary_jumps(),
+            state: stack.build_state(name),
+            alloc,
         }
-        RecoveryPoint::EntryPoints(stop) => {
-            complete_ranges(instructions, entry, stop, state, matcher, alloc, ctx, tries)?;
-            exec_ranges(instructions, jumps, state, matcher, alloc, ctx, tries)?;
-            exec_active(instructions, active, state, matcher, alloc, ctx, tries)
+    }
+
+    /// How many ranges there are.
+    #[inline(always)]
+    fn len(&self) -> usize
+        ensures { result ≡ length (ranges_of self.now) }
+    {
+        1 + self.jumps.len() + self.hereditary_jumps.len()
+    }
+
+    /// One of the ranges.
+    #[inline(always)]
+    fn range(&self, index: usize) -> &'p AddressRange
+        requires { index < length (ranges_of self.now) }
+        ensures { result.now ≡ get_or (ranges_of self.now) index no_range }
+    {
+        if index == 0 {
+            return self.entry_points;
         }
-        RecoveryPoint::Jumps(stop) => {
-            complete_ranges(instructions, jumps, stop, state, matcher, alloc, ctx, tries)?;
-            exec_active(instructions, active, state, matcher, alloc, ctx, tries)
+        let index = index - 1;
+        if index < self.jumps.len() {
+            return &self.jumps[index];
         }
-        RecoveryPoint::HereditaryJumps(stop) => {
-            complete_active(
-                instructions,
-                active,
-                stop,
-                state,
-                matcher,
-                alloc,
-                ctx,
-                tries,
-            )
+        &self.hereditary_jumps[index - self.jumps.len()].0
+    }
+
+    /// Runs without attributes, up to the first instruction that needs them.
+    #[inline(always)]
+    pub(crate) fn try_by_name<E: ElementData>(
+        &self,
+        ctx: &mut ExecutionCtx<'_, E>,
+        tries: &mut Tries,
+    ) -> Result<Option<Stop>, AllocError>
+        ensures tried { AreRunnable self.now.instructions.now (ranges_of self.now) tries.old → IfOk result (λ stop.
+            AreTried E.ids E.with_ids (sight self.now.state ctx.old.stack_item.local_name) self.now.instructions.now
+            (ranges_of self.now) ctx.old ctx.new tries.old tries.new stop) }
+        ensures attributes { attributes_counted tries.new ≡ attributes_counted tries.old }
+        ensures within { AreRunnable self.now.instructions.now (ranges_of self.now) tries.old
+            → AreWithin (sight self.now.state ctx.old.stack_item.local_name) self.now.instructions.now
+            (ranges_of self.now) tries.old tries.new 0 }
+        ensures name { ctx.new.stack_item.local_name ≡ ctx.old.stack_item.local_name }
+        ensures content { ctx.new.with_content ≡ ctx.old.with_content }
+        ensures free { NeedNoMemory ctx.old.with_content self.now.instructions.now → IsOk result }
+    {
+        for index in 0..self.len() {
+            let part = instructions_in(self.instructions, self.range(index), tries);
+            if let Some(offset) = try_instructions(part, &self.state, self.alloc, ctx, tries)? {
+                return Ok(Some(Stop {
+                    range: index,
+                    offset,
+                }));
+            }
         }
+        Ok(None)
+    }
+
+    /// Runs the ranges from one of them on, with attributes.
+    #[inline(always)]
+    fn exec_from<E: ElementData>(
+        &self,
+        first: usize,
+        matcher: &AttributeMatcher<'_>,
+        ctx: &mut ExecutionCtx<'_, E>,
+        tries: &mut Tries,
+    ) -> Result<(), AllocError>
+        ensures executed { AreRunnable self.now.instructions.now (drop first (ranges_of self.now)) tries.old
+            → IfOk result (λ done. AreExecuted E.ids E.with_ids
+            (sight self.now.state ctx.old.stack_item.local_name) self.now.instructions.now
+            (drop first (ranges_of self.now)) ctx.old ctx.new tries.old tries.new matcher.now 0) }
+        ensures within { AreRunnable self.now.instructions.now (drop first (ranges_of self.now)) tries.old
+            → AreWithin (sight self.now.state ctx.old.stack_item.local_name) self.now.instructions.now
+            (drop first (ranges_of self.now)) tries.old tries.new 0 }
+        ensures name { ctx.new.stack_item.local_name ≡ ctx.old.stack_item.local_name }
+        ensures content { ctx.new.with_content ≡ ctx.old.with_content }
+        ensures free { NeedNoMemory ctx.old.with_content self.now.instructions.now → IsOk result }
+    {
+        for index in first..self.len() {
+            let part = instructions_in(self.instructions, self.range(index), tries);
+            exec_instructions(part, &self.state, matcher, self.alloc, ctx, tries)?;
+        }
+        Ok(())
+    }
+
+    /// Goes on from a recovery point, with attributes.
+    #[inline(always)]
+    pub(crate) fn complete<E: ElementData>(
+        &self,
+        point: RecoveryPoint,
+        matcher: &AttributeMatcher<'_>,
+        ctx: &mut ExecutionCtx<'_, E>,
+        tries: &mut Tries,
+    ) -> Result<(), AllocError>
+        ensures executed { IsPointIn self.now.instructions.now (ranges_of self.now) point
+            → AreRunnable self.now.instructions.now (ranges_left (ranges_of self.now) point) tries.old
+            → IfOk result (λ done. AreExecuted E.ids E.with_ids
+            (sight self.now.state ctx.old.stack_item.local_name) self.now.instructions.now
+            (ranges_left (ranges_of self.now) point) ctx.old ctx.new tries.old tries.new matcher.now
+            (tried_at point)) }
+        ensures within { IsPointIn self.now.instructions.now (ranges_of self.now) point
+            → AreRunnable self.now.instructions.now (ranges_left (ranges_of self.now) point) tries.old
+            → AreWithin (sight self.now.state ctx.old.stack_item.local_name) self.now.instructions.now
+            (ranges_left (ranges_of self.now) point) tries.old tries.new (tried_at point) }
+        ensures name { ctx.new.stack_item.local_name ≡ ctx.old.stack_item.local_name }
+        ensures content { ctx.new.with_content ≡ ctx.old.with_content }
+        ensures free { NeedNoMemory ctx.old.with_content self.now.instructions.now → IsOk result }
+    {
+        match point {
+            RecoveryPoint::AtOnce => self.exec_from(0, matcher, ctx, tries),
+            RecoveryPoint::At(stop) => self.complete_from(stop, matcher, ctx, tries),
+        }
+    }
+
+    /// Goes on from a stop, with attributes.
+    #[inline(always)]
+    fn complete_from<E: ElementData>(
+        &self,
+        stop: Stop,
+        matcher: &AttributeMatcher<'_>,
+        ctx: &mut ExecutionCtx<'_, E>,
+        tries: &mut Tries,
+    ) -> Result<(), AllocError>
+        ensures executed { IsStopIn self.now.instructions.now (ranges_of self.now) stop
+            → AreRunnable self.now.instructions.now (ranges_from (ranges_of self.now) stop) tries.old
+            → IfOk result (λ done. AreExecuted E.ids E.with_ids
+            (sight self.now.state ctx.old.stack_item.local_name) self.now.instructions.now
+            (ranges_from (ranges_of self.now) stop) ctx.old ctx.new tries.old tries.new matcher.now 1) }
+        ensures within { IsStopIn self.now.instructions.now (ranges_of self.now) stop
+            → AreRunnable self.now.instructions.now (ranges_from (ranges_of self.now) stop) tries.old
+            → AreWithin (sight self.now.state ctx.old.stack_item.local_name) self.now.instructions.now
+            (ranges_from (ranges_of self.now) stop) tries.old tries.new 1 }
+        ensures name { ctx.new.stack_item.local_name ≡ ctx.old.stack_item.local_name }
+        ensures content { ctx.new.with_content ≡ ctx.old.with_content }
+        ensures free { NeedNoMemory ctx.old.with_content self.now.instructions.now → IsOk result }
+    {
+        if stop.range >= self.len() {
+            return Ok(());
+        }
+        let left = range_from(self.range(stop.range), stop.offset);
+        let part = instructions_in(self.instructions, &left, tries);
+        complete_instructions(part, &self.state, matcher, self.alloc, ctx, tries)?;
+        self.exec_from(stop.range + 1, matcher, ctx, tries)
     }
 }
 
@@ -139,82 +216,4 @@ fn last_jumps<E>(stack: &Stack<E>) -> &[AddressRange]
         Some(item) => item.jumps.as_slice(),
         None => &[],
     }
-}
-
-/// Runs a start tag without attributes: the entry points, the last open element's jumps, and the active hereditary jumps, up to the first
-/// instruction that needs them.
-#[inline(always)]
-pub(crate) fn try_tag<'s, 'i: 's, E: ElementData>(
-    program: &Program,
-    stack: &'s Stack<E>,
-    alloc: Global,
-    ctx: &mut ExecutionCtx<'i, E>,
-    tries: &mut Tries,
-) -> Result<Option<RecoveryPoint>, AllocError>
-    ensures tried { AreRunnable program.now.instructions.items (ranges_to_run_in program.now stack.now) tries.old
-        → IfOk result (λ point. AreTried E.ids E.with_ids (sight_in stack.now ctx.old.stack_item.local_name)
-        program.now.instructions.items (ranges_to_run_in program.now stack.now)
-        ctx.old ctx.new tries.old tries.new (found_for program.now stack.now point)) }
-    ensures point { AreRunnable program.now.instructions.items (ranges_to_run_in program.now stack.now) tries.old
-        → IfOk result (λ point. IfSome point (IsPointFor program.now stack.now)) }
-    ensures stop { IfOk result (λ point. IsSome point → IsSome (found_for program.now stack.now point)) }
-    ensures attributes { attributes_counted tries.new ≡ attributes_counted tries.old }
-    ensures size { length program.now.instructions.items < 2 ^ 63 }
-    ensures within { AreRunnable program.now.instructions.items (ranges_to_run_in program.now stack.now) tries.old
-        → AreWithin (sight_in stack.now ctx.old.stack_item.local_name) program.now.instructions.items
-        (ranges_to_run_in program.now stack.now) tries.old tries.new 0 }
-    ensures name { ctx.new.stack_item.local_name ≡ ctx.old.stack_item.local_name }
-    ensures content { ctx.new.with_content ≡ ctx.old.with_content }
-    ensures free { NeedNoMemory ctx.old.with_content program.now.instructions.items → IsOk result }
-{
-    let state = stack.build_state(&ctx.stack_item.local_name);
-    let ranges = TagRanges {
-        entry_points: &program.entry_points,
-        jumps: last_jumps(stack),
-        hereditary_jumps: stack.active_hereditary_jumps(),
-    };
-    try_ranges_of_tag(&program.instructions, &ranges, &state, alloc, ctx, tries)
-}
-
-/// Runs a start tag with attributes, from a recovery point on.
-#[inline(always)]
-pub(crate) fn complete_tag<'s, 'i: 's, E: ElementData>(
-    program: &Program,
-    stack: &'s Stack<E>,
-    point: RecoveryPoint,
-    matcher: &AttributeMatcher<'_>,
-    alloc: Global,
-    ctx: &mut ExecutionCtx<'i, E>,
-    tries: &mut Tries,
-) -> Result<(), AllocError>
-    ensures executed { IsPointFor program.now stack.now point
-        → AreRunnable program.now.instructions.items (left_for program.now stack.now point) tries.old
-        → IfOk result (λ done. AreExecuted E.ids E.with_ids (sight_in stack.now ctx.old.stack_item.local_name)
-        program.now.instructions.items (left_for program.now stack.now point) ctx.old ctx.new tries.old tries.new
-        matcher.now (tried_at (stop_for program.now stack.now point))) }
-    ensures size { length program.now.instructions.items < 2 ^ 63 }
-    ensures within { IsPointFor program.now stack.now point
-        → AreRunnable program.now.instructions.items (left_for program.now stack.now point) tries.old
-        → AreWithin (sight_in stack.now ctx.old.stack_item.local_name) program.now.instructions.items
-        (left_for program.now stack.now point) tries.old tries.new (tried_at (stop_for program.now stack.now point)) }
-    ensures name { ctx.new.stack_item.local_name ≡ ctx.old.stack_item.local_name }
-    ensures content { ctx.new.with_content ≡ ctx.old.with_content }
-    ensures free { NeedNoMemory ctx.old.with_content program.now.instructions.items → IsOk result }
-{
-    let state = stack.build_state(&ctx.stack_item.local_name);
-    let ranges = TagRanges {
-        entry_points: &program.entry_points,
-        jumps: last_jumps(stack),
-        hereditary_jumps: stack.active_hereditary_jumps(),
-    };
-    complete_ranges_of_tag(
-        &program.instructions,
-        &ranges,
-        point,
-        &state,
-        matcher,
-        alloc,
-        ctx,
-        tries,
-    )
 }

@@ -24,7 +24,7 @@ ghost use Rattle.lol_vm.specs.Views.{selectors};
 ghost use Rattle.lol_vm.specs.Vms.{Stands, HasOpen, IsNameOf, IsTagOf, IsAnswered, IsReported, IsTriedAtMost, IsPending, IsRefusal, IsSilent, content_at, open_after, stack_in, tries_in, has_failed, data_in, slots_charged, slot_bytes, ChargesSlots, IsCovered, IsRequested, IsEntered, IsFailedAs, is_asked_for, with_failure};
 
 use crate::error::{AuxStartTagInfoRequest, StartTagError, VmError};
-use crate::tag_runs::{RecoveryPoint, complete_tag, try_tag};
+use crate::tag_runs::{RecoveryPoint, TagRun};
 use lol_base::{AuxStartTagInfo, LocalName, Namespace};
 use lol_memory::{MatchInfo, MemoryLimitExceededError, PushError, SharedMemoryLimiter};
 use lol_program::{Ast, AttributeMatcher, Compiler, Program, Tries};
@@ -311,9 +311,11 @@ impl<E: ElementData> VmOf<Program, LocalName<'static>, StackNames, E> {
             return Ok(Some(RecoveryPoint::AtOnce));
         }
         ctx.with_content = directive == StackDirective::Push;
-        let tried = try_tag(&self.program, &self.stack, self.alloc, ctx, &mut self.tries);
-        match tried {
-            Ok(stopped) => Ok(stopped),
+        let name = &ctx.stack_item.local_name;
+        let run = TagRun::new(&self.program, &self.stack, name, self.alloc);
+        match run.try_by_name(ctx, &mut self.tries) {
+            Ok(None) => Ok(None),
+            Ok(Some(stop)) => Ok(Some(RecoveryPoint::At(stop))),
             Err(error) => {
                 self.failed = true;
                 Err(error)
@@ -460,16 +462,9 @@ impl<E: ElementData> VmOf<Program, LocalName<'static>, StackNames, E> {
         let mut ctx = ctx;
         ctx.with_content = content_at(point, ctx.with_content, aux_info.self_closing);
         let matcher = AttributeMatcher::new(aux_info.input, aux_info.attr_buffer, ctx.ns);
-        let completed = complete_tag(
-            &self.program,
-            &self.stack,
-            point,
-            &matcher,
-            self.alloc,
-            &mut ctx,
-            &mut self.tries,
-        );
-        if let Err(error) = completed {
+        let name = &ctx.stack_item.local_name;
+        let run = TagRun::new(&self.program, &self.stack, name, self.alloc);
+        if let Err(error) = run.complete(point, &matcher, &mut ctx, &mut self.tries) {
             self.failed = true;
             return Err(PushError::Memory(error));
         }
@@ -567,6 +562,6 @@ fn content_at(point: RecoveryPoint, with_content: bool, self_closing: bool) -> b
 {
     match point {
         RecoveryPoint::AtOnce => !self_closing,
-        _ => with_content,
+        RecoveryPoint::At(_) => with_content,
     }
 }

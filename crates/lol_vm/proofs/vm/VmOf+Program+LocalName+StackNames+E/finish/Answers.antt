@@ -1,164 +1,130 @@
-use Rattle.std.proofs.Common.{inr, true, refl, ap, sym, ◌∙◌, subst}
-use Rattle.std.specs.Result.{IfOk, OnErr}
+use Rattle.std.proofs.Common.{◌≡◌, true, inr, refl, ap, sym, ◌∙◌, subst, Bool, List}
+use Rattle.std.specs.Result.{IfOk, IsOk, OnErr}
 use Rattle.std.proofs.lemmas.Result.{on_ok_weaker, on_err_weaker}
+use Rattle.lol_base.specs.StartTags.{StartTag}
 use Rattle.lol_instructions.specs.Attributes.{tag_attributes}
-use Rattle.lol_vm.specs.TriedStarts.{left_at}
-use Rattle.lol_vm.specs.TagRuns.{AreExecuted, jumps_in, ranges_left, ranges_to_run_in, sight_in, stop_at, tried_at}
+use Rattle.lol_instructions.specs.declared.tries.Tries.{Tries}
+use Rattle.lol_program.specs.Paths.{Selectors}
 use Rattle.lol_stack.specs.declared.execution_ctx.ExecutionCtx.{ExecutionCtx}
-use Rattle.lol_vm.specs.Vms.{IsFailedAs, IsTriedAtMost, Vm}
+use Rattle.lol_memory.specs.Ids.{ascending}
+use Rattle.lol_memory.specs.declared.match_info.MatchInfo.{MatchInfo}
+use Rattle.lol_stack.specs.Calls.{IsCalledAtEach, reports}
 use Rattle.lol_memory.specs.declared.limited_vec.PushError.TheVariants as pushes
-use Rattle.lol_vm.specs.Events.{has_content}
-use Rattle.lol_vm.proofs.CallerLemmas.{charges_both, charges_none}
+use Rattle.lol_vm.specs.Events.{Event, has_content}
+use Rattle.lol_vm.specs.InstructionRuns.{AreRunnable, NeedNoMemory}
+use Rattle.lol_vm.specs.TagRuns.{AreExecuted, AreWithin, IsPointIn, ranges_left, ranges_to_run_in, sight_in, tried_at}
+use Rattle.lol_vm.specs.TriedStarts.{left_at}
+use Rattle.lol_vm.specs.Vms.{IsFailedAs, IsPending, IsReported, IsRestOf, IsTriedAtMost, Vm, content_at}
 use Rattle.lol_vm.proofs.FreeTags.{finished_closed, is_alone_free, is_closed_free, memory_instead, void_is_closed}
+use Rattle.lol_vm.proofs.TagRuns.{of_same}
 use Rattle.lol_vm.proofs.VmFinishes.{tried_at_most, has_reported, has_content_still, answered, can_finish}
 use Rattle.lol_vm.proofs.VmRefusals.{err_is_not_ok, not_false, reported_with, has_open_same, has_open_failed, same_stack}
+use Rattle.lol_vm.proofs.vm.VmOf+Program+LocalName+StackNames+E.finish.Given as given
 use Rattle.lol_vm.proofs.vm.VmOf+Program+LocalName+StackNames+E.finish.Goals as goal
+
+-- 1. It was refused before it was reported
 
 pub returns-in-Err-clause-still_open : goal.returns-in-Err-clause-still_open
 returns-in-Err-clause-still_open g c = λ elements h. has_open_same c.args.self.now _ elements (same_stack c.args.self.now.stack) refl refl h
 
-pub returns-clause-answered : goal.returns-clause-answered
-returns-clause-answered g c =
-    on_ok_weaker c.answer.result (λ entered s esi events tag pending rest.
-    let vm = c.args.self.now in
-    let ids = g.E.ElementData.ids in
-    let with_ids = g.E.ElementData.with_ids in
-    let lends = g.met.E.ElementData.ids_of_changed in
-    let request = (left_at c.args.ctx c.args.point) in
-    let stop = stop_at vm.program.entry_points (jumps_in vm.stack) request.point in
-    let left = ranges_left (ranges_to_run_in vm.program vm.stack) stop in
-    let all = vm.program.instructions.items in
-    let s_now = sight_in vm.stack request.ctx.stack_item.local_name in
-    let ctx : ExecutionCtx _ = record request.ctx { with_content = c.content_at.result } in
-    let new_ctx = c.complete_tag-completed.new.ctx in
-    let after = c.complete_tag-completed.new.tries in
-    let runnable = can_finish ids vm s esi events tag request pending c.complete_tag-completed.ensures.size in
-    let seen = c.new-matcher.ensures ∙ (λ i. record { attributes = sym rest.0 i; namespace = sym pending.named.1 i }) in
-    let done = subst (λ r. IfOk r (λ done. AreExecuted ids with_ids s_now all left ctx new_ctx vm.tries after c.new-matcher.result (tried_at stop))) c.in_default.is (c.complete_tag-completed.ensures.executed pending.stopped runnable) in
-    let executed = subst (λ b. AreExecuted ids with_ids s_now all left (record request.ctx { with_content = b }) new_ctx vm.tries after (tag_attributes tag) (tried_at stop)) c.content_at.ensures
-    (subst (λ a. AreExecuted ids with_ids s_now all left ctx new_ctx vm.tries after a (tried_at stop)) seen done) in
-    answered ids vm s esi events tag request pending with_ids lends c.args.aux_info.self_closing (sym rest.1) rest.2 new_ctx after executed _ c.args.match_handler.now c.answer.new.match_handler c.answer.new.self
-    c.answer.ensures.reported entered)
-    c.answer.ensures.ok
-
-pub returns-clause-still_open : goal.returns-clause-still_open
-returns-clause-still_open g c = on_err_weaker c.answer.result (λ failed elements h. has_open_failed c.args.self.now (record c.args.self.now { tries = c.complete_tag-completed.new.tries }) c.answer.new.self elements refl refl refl failed h) c.answer.ensures.err
-
-pub returns-clause-limit_reported : goal.returns-clause-limit_reported
-returns-clause-limit_reported g c = λ limit s esi events tag pending rest.
-    let vm = c.args.self.now in
-    let ids = g.E.ElementData.ids in
-    let with_ids = g.E.ElementData.with_ids in
-    let lends = g.met.E.ElementData.ids_of_changed in
-    let request = (left_at c.args.ctx c.args.point) in
-    let stop = stop_at vm.program.entry_points (jumps_in vm.stack) request.point in
-    let left = ranges_left (ranges_to_run_in vm.program vm.stack) stop in
-    let all = vm.program.instructions.items in
-    let s_now = sight_in vm.stack request.ctx.stack_item.local_name in
-    let ctx : ExecutionCtx _ = record request.ctx { with_content = c.content_at.result } in
-    let new_ctx = c.complete_tag-completed.new.ctx in
-    let after = c.complete_tag-completed.new.tries in
-    let runnable = can_finish ids vm s esi events tag request pending c.complete_tag-completed.ensures.size in
-    let seen = c.new-matcher.ensures ∙ (λ i. record { attributes = sym rest.0 i; namespace = sym pending.named.1 i }) in
-    let done = subst (λ r. IfOk r (λ done. AreExecuted ids with_ids s_now all left ctx new_ctx vm.tries after c.new-matcher.result (tried_at stop))) c.in_default.is (c.complete_tag-completed.ensures.executed pending.stopped runnable) in
-    let executed = subst (λ b. AreExecuted ids with_ids s_now all left (record request.ctx { with_content = b }) new_ctx vm.tries after (tag_attributes tag) (tried_at stop)) c.content_at.ensures
-    (subst (λ a. AreExecuted ids with_ids s_now all left ctx new_ctx vm.tries after a (tried_at stop)) seen done) in
-    let failed = subst (λ r. OnErr r (IsFailedAs (record vm { tries = after }) c.answer.new.self)) limit c.answer.ensures.err in
-    (sym (has_content_still ids vm s esi events tag request pending with_ids lends c.args.aux_info.self_closing (sym rest.1) rest.2 new_ctx after executed) ∙ (c.answer.ensures.limited.0 limit).0, reported_with _ s esi events tag true c.args.match_handler.now c.answer.new.match_handler after c.answer.new.self.tries (ap (λ (v : Vm _). v.tries) failed.1) (has_reported ids vm s esi events tag request pending with_ids lends c.args.aux_info.self_closing (sym rest.1) rest.2 new_ctx after executed _ c.args.match_handler.now c.answer.new.match_handler c.answer.ensures.reported))
-
-pub returns-clause-unlimited : goal.returns-clause-unlimited
-returns-clause-unlimited g c =
-    on_ok_weaker c.answer.result (λ un s esi events tag pending rest opens limited.
-    let vm = c.args.self.now in
-    let ids = g.E.ElementData.ids in
-    let with_ids = g.E.ElementData.with_ids in
-    let lends = g.met.E.ElementData.ids_of_changed in
-    let request = (left_at c.args.ctx c.args.point) in
-    let stop = stop_at vm.program.entry_points (jumps_in vm.stack) request.point in
-    let left = ranges_left (ranges_to_run_in vm.program vm.stack) stop in
-    let all = vm.program.instructions.items in
-    let s_now = sight_in vm.stack request.ctx.stack_item.local_name in
-    let ctx : ExecutionCtx _ = record request.ctx { with_content = c.content_at.result } in
-    let new_ctx = c.complete_tag-completed.new.ctx in
-    let after = c.complete_tag-completed.new.tries in
-    let runnable = can_finish ids vm s esi events tag request pending c.complete_tag-completed.ensures.size in
-    let seen = c.new-matcher.ensures ∙ (λ i. record { attributes = sym rest.0 i; namespace = sym pending.named.1 i }) in
-    let done = subst (λ r. IfOk r (λ done. AreExecuted ids with_ids s_now all left ctx new_ctx vm.tries after c.new-matcher.result (tried_at stop))) c.in_default.is (c.complete_tag-completed.ensures.executed pending.stopped runnable) in
-    let executed = subst (λ b. AreExecuted ids with_ids s_now all left (record request.ctx { with_content = b }) new_ctx vm.tries after (tag_attributes tag) (tried_at stop)) c.content_at.ensures
-    (subst (λ a. AreExecuted ids with_ids s_now all left ctx new_ctx vm.tries after a (tried_at stop)) seen done) in
-    un (has_content_still ids vm s esi events tag request pending with_ids lends c.args.aux_info.self_closing (sym rest.1) rest.2 new_ctx after executed ∙ opens) limited)
-    c.answer.ensures.unlimited
-
 pub returns-in-Err-clause-free : goal.returns-in-Err-clause-free
 returns-in-Err-clause-free g c = λ s esi events tag pending takes.
     let vm = c.args.self.now in
-    let request = (left_at c.args.ctx c.args.point) in
-    let closed = finished_closed request.point vm.program.entry_points (jumps_in vm.stack) (has_content esi tag) request.ctx.with_content c.args.aux_info.self_closing pending.context tag.namespace
-    pending.goes_on takes.1 (void_is_closed esi tag takes.1 takes.2) in
+    let closed = finished_closed c.args.point (has_content esi tag) c.args.ctx.with_content c.args.aux_info.self_closing pending.context tag.namespace pending.goes_on takes.1 (void_is_closed esi tag takes.1 takes.2) in
     let free = is_closed_free s pending.paths vm pending.machine pending.shows pending.standing.program takes.0 c.content_at.result (c.content_at.ensures ∙ closed) in
-    absurd (err_is_not_ok c.complete_tag-completed.result c.in-Err.error c.in-Err.is (c.complete_tag-completed.ensures.free free))
-
-pub returns-clause-free : goal.returns-clause-free
-returns-clause-free g c = λ s esi events tag pending takes.
-    let vm = c.args.self.now in
-    let request = (left_at c.args.ctx c.args.point) in
-    let closed = finished_closed request.point vm.program.entry_points (jumps_in vm.stack) (has_content esi tag) request.ctx.with_content c.args.aux_info.self_closing pending.context tag.namespace
-    pending.goes_on takes.1 (void_is_closed esi tag takes.1 takes.2) in
-    c.answer.ensures.closed (c.complete_tag-completed.ensures.content ∙ (c.content_at.ensures ∙ closed))
-
-pub returns-clause-all_or_none : goal.returns-clause-all_or_none
-returns-clause-all_or_none g c = λ error is. inr (
-  λ s esi events tag pending rest.
-      let vm = c.args.self.now in
-      let ids = g.E.ElementData.ids in
-      let with_ids = g.E.ElementData.with_ids in
-      let lends = g.met.E.ElementData.ids_of_changed in
-      let request = (left_at c.args.ctx c.args.point) in
-      let stop = stop_at vm.program.entry_points (jumps_in vm.stack) request.point in
-      let left = ranges_left (ranges_to_run_in vm.program vm.stack) stop in
-      let all = vm.program.instructions.items in
-      let s_now = sight_in vm.stack request.ctx.stack_item.local_name in
-      let ctx : ExecutionCtx _ = record request.ctx { with_content = c.content_at.result } in
-      let new_ctx = c.complete_tag-completed.new.ctx in
-      let after = c.complete_tag-completed.new.tries in
-      let runnable = can_finish ids vm s esi events tag request pending c.complete_tag-completed.ensures.size in
-      let seen = c.new-matcher.ensures ∙ (λ i. record { attributes = sym rest.0 i; namespace = sym pending.named.1 i }) in
-      let done = subst (λ r. IfOk r (λ done. AreExecuted ids with_ids s_now all left ctx new_ctx vm.tries after c.new-matcher.result (tried_at stop))) c.in_default.is (c.complete_tag-completed.ensures.executed pending.stopped runnable) in
-      let executed = subst (λ b. AreExecuted ids with_ids s_now all left (record request.ctx { with_content = b }) new_ctx vm.tries after (tag_attributes tag) (tried_at stop)) c.content_at.ensures
-      (subst (λ a. AreExecuted ids with_ids s_now all left ctx new_ctx vm.tries after a (tried_at stop)) seen done) in
-      reported_with _ s esi events tag true c.args.match_handler.now c.answer.new.match_handler after c.answer.new.self.tries c.answer.ensures.tries (has_reported ids vm s esi events tag request pending with_ids lends c.args.aux_info.self_closing (sym rest.1) rest.2 new_ctx after executed _ c.args.match_handler.now c.answer.new.match_handler c.answer.ensures.reported),
-  λ due.
-      let opens = not_false c.complete_tag-completed.new.ctx.with_content (λ closed. err_is_not_ok c.answer.result (pushes.Memory error) is (c.answer.ensures.closed closed)) in
-      memory_instead c.answer.result error is (c.answer.ensures.limited.1 (opens, due)),
-)
+    absurd (err_is_not_ok c.complete.result c.in-Err.error c.in-Err.is (of_same (λ all ranges s. NeedNoMemory c.content_at.result all → IsOk c.complete.result) c.new-run.ensures.instructions c.new-run.ensures.ranges c.new-run.ensures.sight c.complete.ensures.free free))
 
 pub returns-in-Err-clause-tried : goal.returns-in-Err-clause-tried
 returns-in-Err-clause-tried g c = λ s esi events tag pending.
     let vm = c.args.self.now in
-    let runs = can_finish g.E.ElementData.ids vm s esi events tag (left_at c.args.ctx c.args.point) pending c.complete_tag-completed.ensures.size in
-    tried_at_most g.E.ElementData.ids vm s esi events tag (left_at c.args.ctx c.args.point) pending c.complete_tag-completed.new.tries (c.complete_tag-completed.ensures.within pending.stopped runs)
-
-pub returns-clause-tried : goal.returns-clause-tried
-returns-clause-tried g c = λ s esi events tag pending.
-    let vm = c.args.self.now in
-    let runs = can_finish g.E.ElementData.ids vm s esi events tag (left_at c.args.ctx c.args.point) pending c.complete_tag-completed.ensures.size in
-    subst (IsTriedAtMost s esi events tag) (sym c.answer.ensures.tries)
-    (tried_at_most g.E.ElementData.ids vm s esi events tag (left_at c.args.ctx c.args.point) pending c.complete_tag-completed.new.tries (c.complete_tag-completed.ensures.within pending.stopped runs))
+    let request = left_at c.args.ctx c.args.point in
+    let within = of_same (λ all ranges s. IsPointIn all ranges c.args.point → AreRunnable all (ranges_left ranges c.args.point) vm.tries → AreWithin s all (ranges_left ranges c.args.point) vm.tries c.complete.new.tries (tried_at c.args.point))
+    c.new-run.ensures.instructions c.new-run.ensures.ranges c.new-run.ensures.sight c.complete.ensures.within in
+    tried_at_most g.E.ElementData.ids vm s esi events tag request pending c.complete.new.tries (within pending.stopped (can_finish g.E.ElementData.ids vm s esi events tag request pending c.new-run.ensures.size))
 
 pub returns-in-Err-clause-due : goal.returns-in-Err-clause-due
 returns-in-Err-clause-due g c = λ error is due s esi events tag pending flat.
     let free = is_alone_free s pending.paths c.args.self.now pending.machine pending.shows pending.standing.program flat.small flat.alone c.content_at.result in
-    absurd (err_is_not_ok c.complete_tag-completed.result c.in-Err.error c.in-Err.is (c.complete_tag-completed.ensures.free free))
+    absurd (err_is_not_ok c.complete.result c.in-Err.error c.in-Err.is (of_same (λ all ranges s. NeedNoMemory c.content_at.result all → IsOk c.complete.result) c.new-run.ensures.instructions c.new-run.ensures.ranges c.new-run.ensures.sight c.complete.ensures.free free))
+
+-- 2. It was reported
+
+module _ (g : given.Over) (c : goal.After-answer g) (s : Selectors) (esi : Bool) (events : List Event) (tag : StartTag) (pending : IsPending g.E.ElementData.ids s esi events tag c.args.self.now (left_at c.args.ctx c.args.point)) where
+  executed : IsRestOf c.args.aux_info tag → AreExecuted g.E.ElementData.ids g.E.ElementData.with_ids (sight_in c.args.self.now.stack c.args.ctx.stack_item.local_name) c.args.self.now.program.instructions.items
+      (ranges_left (ranges_to_run_in c.args.self.now.program c.args.self.now.stack) c.args.point)
+      (record c.args.ctx { with_content = content_at c.args.point c.args.ctx.with_content c.args.aux_info.self_closing }) c.complete.new.ctx c.args.self.now.tries c.complete.new.tries (tag_attributes tag) (tried_at c.args.point)
+  executed rest =
+      let vm = c.args.self.now in
+      let point = c.args.point in
+      let ids = g.E.ElementData.ids in
+      let with_ids = g.E.ElementData.with_ids in
+      let ctx : ExecutionCtx _ = record c.args.ctx { with_content = c.content_at.result } in
+      let new_ctx = c.complete.new.ctx in
+      let after = c.complete.new.tries in
+      let left = ranges_left (ranges_to_run_in vm.program vm.stack) point in
+      let all = vm.program.instructions.items in
+      let s_now = sight_in vm.stack c.args.ctx.stack_item.local_name in
+      let seen = c.new-matcher.ensures ∙ (λ i. record { attributes = sym rest.0 i; namespace = sym pending.named.1 i }) in
+      let told = of_same (λ is ranges z. IsPointIn is ranges point → AreRunnable is (ranges_left ranges point) vm.tries → IfOk c.complete.result (λ done. AreExecuted ids with_ids z is (ranges_left ranges point) ctx new_ctx vm.tries after c.new-matcher.result (tried_at point)))
+      c.new-run.ensures.instructions c.new-run.ensures.ranges c.new-run.ensures.sight c.complete.ensures.executed in
+      let done = subst (λ r. IfOk r (λ done. AreExecuted ids with_ids s_now all left ctx new_ctx vm.tries after c.new-matcher.result (tried_at point))) c.in_default.is
+      (told pending.stopped (can_finish ids vm s esi events tag (left_at c.args.ctx point) pending c.new-run.ensures.size)) in
+      subst (λ b. AreExecuted ids with_ids s_now all left (record c.args.ctx { with_content = b }) new_ctx vm.tries after (tag_attributes tag) (tried_at point)) c.content_at.ensures
+      (subst (λ a. AreExecuted ids with_ids s_now all left ctx new_ctx vm.tries after a (tried_at point)) seen done)
+
+  content_is : IsRestOf c.args.aux_info tag → c.complete.new.ctx.with_content ≡ has_content esi tag
+  content_is rest =
+      has_content_still g.E.ElementData.ids c.args.self.now s esi events tag (left_at c.args.ctx c.args.point) pending g.E.ElementData.with_ids g.met.E.ElementData.ids_of_changed c.args.aux_info.self_closing (sym rest.1) rest.2
+      c.complete.new.ctx c.complete.new.tries (executed rest)
+
+  reported : IsRestOf c.args.aux_info tag → (last : Tries) → last ≡ c.complete.new.tries → {F : Type 0} (step : F → MatchInfo → Unit {0} → F → Type 0) (f h : F)
+      → IsCalledAtEach step f (reports c.complete.new.ctx.with_content (ascending (g.E.ElementData.ids c.complete.new.ctx.stack_item.element_data))) h → IsReported step s esi events tag true last f h
+  reported rest last same step f h called =
+      reported_with step s esi events tag true f h c.complete.new.tries last same
+      (has_reported g.E.ElementData.ids c.args.self.now s esi events tag (left_at c.args.ctx c.args.point) pending g.E.ElementData.with_ids g.met.E.ElementData.ids_of_changed c.args.aux_info.self_closing (sym rest.1) rest.2
+      c.complete.new.ctx c.complete.new.tries (executed rest) step f h called)
+
+pub returns-clause-answered : goal.returns-clause-answered
+returns-clause-answered g c =
+    on_ok_weaker c.answer.result
+    (λ entered s esi events tag pending rest. answered g.E.ElementData.ids c.args.self.now s esi events tag (left_at c.args.ctx c.args.point) pending g.E.ElementData.with_ids g.met.E.ElementData.ids_of_changed c.args.aux_info.self_closing
+    (sym rest.1) rest.2 c.complete.new.ctx c.complete.new.tries (executed g c s esi events tag pending rest) _ c.args.match_handler.now c.answer.new.match_handler c.answer.new.self c.answer.ensures.reported entered)
+    c.answer.ensures.ok
+
+pub returns-clause-still_open : goal.returns-clause-still_open
+returns-clause-still_open g c = on_err_weaker c.answer.result (λ failed elements h. has_open_failed c.args.self.now (record c.args.self.now { tries = c.complete.new.tries }) c.answer.new.self elements refl refl refl failed h) c.answer.ensures.err
+
+pub returns-clause-limit_reported : goal.returns-clause-limit_reported
+returns-clause-limit_reported g c = λ limit s esi events tag pending rest.
+    let failed = subst (λ r. OnErr r (IsFailedAs (record c.args.self.now { tries = c.complete.new.tries }) c.answer.new.self)) limit c.answer.ensures.err in
+    (sym (content_is g c s esi events tag pending rest) ∙ (c.answer.ensures.limited.0 limit).0, reported g c s esi events tag pending rest c.answer.new.self.tries (ap (λ (v : Vm _). v.tries) failed.1) _ _ _ c.answer.ensures.reported)
+
+pub returns-clause-unlimited : goal.returns-clause-unlimited
+returns-clause-unlimited g c = on_ok_weaker c.answer.result (λ un s esi events tag pending rest opens limited. un (content_is g c s esi events tag pending rest ∙ opens) limited) c.answer.ensures.unlimited
+
+pub returns-clause-free : goal.returns-clause-free
+returns-clause-free g c = λ s esi events tag pending takes.
+    let closed = finished_closed c.args.point (has_content esi tag) c.args.ctx.with_content c.args.aux_info.self_closing pending.context tag.namespace pending.goes_on takes.1 (void_is_closed esi tag takes.1 takes.2) in
+    c.answer.ensures.closed (c.complete.ensures.content ∙ (c.content_at.ensures ∙ closed))
+
+pub returns-clause-tried : goal.returns-clause-tried
+returns-clause-tried g c = λ s esi events tag pending.
+    let vm = c.args.self.now in
+    let request = left_at c.args.ctx c.args.point in
+    let within = of_same (λ all ranges s. IsPointIn all ranges c.args.point → AreRunnable all (ranges_left ranges c.args.point) vm.tries → AreWithin s all (ranges_left ranges c.args.point) vm.tries c.complete.new.tries (tried_at c.args.point))
+    c.new-run.ensures.instructions c.new-run.ensures.ranges c.new-run.ensures.sight c.complete.ensures.within in
+    subst (IsTriedAtMost s esi events tag) (sym c.answer.ensures.tries)
+    (tried_at_most g.E.ElementData.ids vm s esi events tag request pending c.complete.new.tries (within pending.stopped (can_finish g.E.ElementData.ids vm s esi events tag request pending c.new-run.ensures.size)))
 
 pub returns-clause-due : goal.returns-clause-due
 returns-clause-due g c = λ error is due s esi events tag pending flat.
-    let opens = not_false c.complete_tag-completed.new.ctx.with_content (λ closed. err_is_not_ok c.answer.result (pushes.Memory error) is (c.answer.ensures.closed closed)) in
+    let opens = not_false c.complete.new.ctx.with_content (λ closed. err_is_not_ok c.answer.result (pushes.Memory error) is (c.answer.ensures.closed closed)) in
     memory_instead c.answer.result error is (c.answer.ensures.limited.1 (opens, due))
 
-pub returns-in-Err-clause-charges : goal.returns-in-Err-clause-charges
-returns-in-Err-clause-charges g c = charges_none c.args.self.now _ c.args.limiter.now _ refl refl refl
-
-pub returns-clause-charges : goal.returns-clause-charges
-returns-clause-charges g c =
-    let tried = record c.args.self.now { tries = c.complete_tag-completed.new.tries } in
-    charges_both (charges_none c.args.self.now tried c.args.limiter.now c.args.limiter.now refl refl refl) c.answer.ensures.charges
+pub returns-clause-all_or_none : goal.returns-clause-all_or_none
+returns-clause-all_or_none g c = λ error is. inr (
+  λ s esi events tag pending rest. reported g c s esi events tag pending rest c.answer.new.self.tries c.answer.ensures.tries _ _ _ c.answer.ensures.reported,
+  λ due.
+      let opens = not_false c.complete.new.ctx.with_content (λ closed. err_is_not_ok c.answer.result (pushes.Memory error) is (c.answer.ensures.closed closed)) in
+      memory_instead c.answer.result error is (c.answer.ensures.limited.1 (opens, due)),
+)

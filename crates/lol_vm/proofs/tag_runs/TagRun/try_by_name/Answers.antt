@@ -1,0 +1,105 @@
+use Rattle.std.proofs.Common.{◌≡◌, ◌+◌, ◌<◌, length, take, drop, arith, sym, ap, Some, None, ◌∙◌, subst}
+use Rattle.lol_instructions.specs.Compiled.{sight}
+use Rattle.lol_instructions.specs.Tries.{names_counted}
+use Rattle.lol_vm.specs.InstructionRuns.{NeedNoMemory, AreRunnable, all_at, instructions_at, tried_until, first_open_from}
+use Rattle.lol_vm.specs.TagRuns.{ranges_of}
+use Rattle.lol_vm.proofs.TagRuns.{first_left, lent, runs_on, length_next, stops_next, stops_here, gathers_next, gathers_here, tried_within}
+use Rattle.lol_vm.proofs.VmRefusals.{err_is_not_ok}
+use Rattle.lol_vm.proofs.tag_runs.TagRun.try_by_name.Goals as goal
+
+pub loop-index-preserved : goal.loop-index-preserved
+loop-index-preserved g c =
+    let ids = g.E.ElementData.ids in
+    let with_ids = g.E.ElementData.with_ids in
+    let all = c.args.self.now.instructions.now in
+    let ranges = ranges_of c.args.self.now in
+    let now = c.loop-index.tries in
+    let k = c.loop-index.index in
+    let so_far = c.loop-index.invariant in
+    let part = c.instructions_in-part.result.now in
+    let told = c.in_ok-offset.ensures in
+    let t = sight c.args.self.now.state c.loop-index.ctx.stack_item.local_name in
+    let s = sight c.args.self.now.state c.args.ctx.now.stack_item.local_name in
+    let same : t ≡ s = ap (sight c.args.self.now.state) so_far.name in
+    let r = c.range.result.now in
+    let first = first_left ranges k r (subst (λ n. k < n) c.len-index-end.ensures c.loop-index-test.true) c.range.ensures in
+    let is : AreRunnable all ranges c.args.tries.now → part ≡ instructions_at all r =
+    λ runnable. lent all ranges k r first part now (so_far.runs runnable) c.instructions_in-part.ensures.value in
+    let passed : names_counted c.try_instructions.new.tries ≡ names_counted now + length part =
+    told.names ∙ ap (λ o. names_counted now + tried_until o (length part)) c.in_default.is in
+    let none : first_open_from t 0 part ≡ None = sym told.stop ∙ c.in_default.is in
+    record {
+      runs = λ runnable. runs_on all ranges k r first part now (so_far.runs runnable) (is runnable) c.try_instructions.new.tries (omega (arith, told.names_bound)) (omega (arith, told.attributes));
+      names = λ runnable. omega (arith, passed, so_far.names runnable, length_next all ranges k r first part (is runnable));
+      attributes = told.attributes ∙ so_far.attributes;
+      name = told.name ∙ so_far.name;
+      content = told.content ∙ so_far.content;
+      stop = λ runnable.
+          so_far.stop runnable
+          ∙ (stops_next all ranges k r first part (is runnable) s t same (length (all_at all (take k ranges))) none
+          ∙ ap (λ n. first_open_from s n (all_at all (drop (k + 1) ranges))) (sym (length_next all ranges k r first part (is runnable))));
+      rest = λ runnable. so_far.rest runnable ∙ gathers_next all ranges k r first part (is runnable) s t same ids with_ids c.loop-index.ctx c.try_instructions.new.ctx none told.ctx;
+    }
+
+-- 2. It stopped
+
+pub returns-in-Some-clause-tried : goal.returns-in-Some-clause-tried
+returns-in-Some-clause-tried g c = λ runnable.
+    let ids = g.E.ElementData.ids in
+    let with_ids = g.E.ElementData.with_ids in
+    let all = c.args.self.now.instructions.now in
+    let ranges = ranges_of c.args.self.now in
+    let now = c.loop-index.tries in
+    let k = c.loop-index.index in
+    let so_far = c.loop-index.invariant in
+    let part = c.instructions_in-part.result.now in
+    let told = c.in_ok-offset.ensures in
+    let t = sight c.args.self.now.state c.loop-index.ctx.stack_item.local_name in
+    let s = sight c.args.self.now.state c.args.ctx.now.stack_item.local_name in
+    let same : t ≡ s = ap (sight c.args.self.now.state) so_far.name in
+    let r = c.range.result.now in
+    let within : k < length ranges = subst (λ n. k < n) c.len-index-end.ensures c.loop-index-test.true in
+    let first = first_left ranges k r within c.range.ensures in
+    let is : part ≡ instructions_at all r = lent all ranges k r first part now (so_far.runs runnable) c.instructions_in-part.ensures.value in
+    let some : first_open_from t 0 part ≡ Some c.in-Some.offset = sym told.stop ∙ c.in-Some.is in
+    let before = length (all_at all (take k ranges)) in
+    let passed : names_counted c.try_instructions.new.tries ≡ names_counted now + (c.in-Some.offset + 1) = told.names ∙ ap (λ o. names_counted now + tried_until o (length part)) c.in-Some.is in
+    record {
+      stops = sym (so_far.stop runnable ∙ stops_here all ranges k r first part is s t same before c.in-Some.offset some);
+      within = (within, subst (λ q. c.in-Some.offset < length (instructions_at all q)) c.range.ensures (omega (arith, passed, told.names_bound, ap length is)));
+      gathered = gathers_here all ranges k r first part is s t same ids with_ids c.loop-index.ctx c.try_instructions.new.ctx c.in-Some.offset some told.ctx ∙ sym (so_far.rest runnable);
+      names = omega (arith, passed, so_far.names runnable);
+    }
+
+pub returns-in-Some-clause-within : goal.returns-in-Some-clause-within
+returns-in-Some-clause-within g c = λ runnable.
+    let all = c.args.self.now.instructions.now in
+    let ranges = ranges_of c.args.self.now in
+    let k = c.loop-index.index in
+    let so_far = c.loop-index.invariant in
+    let part = c.instructions_in-part.result.now in
+    let told = c.try_instructions.ensures in
+    let r = c.range.result.now in
+    let first = first_left ranges k r (subst (λ n. k < n) c.len-index-end.ensures c.loop-index-test.true) c.range.ensures in
+    tried_within all ranges k r first part (lent all ranges k r first part c.loop-index.tries (so_far.runs runnable) c.instructions_in-part.ensures.value) _ c.args.tries.now c.loop-index.tries _
+    (so_far.names runnable) so_far.attributes told.names_bound told.attributes
+
+-- 3. It was refused
+
+pub returns-in_err-offset-clause-within : goal.returns-in_err-offset-clause-within
+returns-in_err-offset-clause-within g c = λ runnable.
+    let all = c.args.self.now.instructions.now in
+    let ranges = ranges_of c.args.self.now in
+    let k = c.loop-index.index in
+    let so_far = c.loop-index.invariant in
+    let part = c.instructions_in-part.result.now in
+    let told = c.try_instructions.ensures in
+    let r = c.range.result.now in
+    let first = first_left ranges k r (subst (λ n. k < n) c.len-index-end.ensures c.loop-index-test.true) c.range.ensures in
+    tried_within all ranges k r first part (lent all ranges k r first part c.loop-index.tries (so_far.runs runnable) c.instructions_in-part.ensures.value) _ c.args.tries.now c.loop-index.tries _
+    (so_far.names runnable) so_far.attributes told.names_bound told.attributes
+
+pub returns-in_err-offset-clause-free : goal.returns-in_err-offset-clause-free
+returns-in_err-offset-clause-free g c = λ free.
+    let ok = c.try_instructions.ensures.free (subst (λ b. NeedNoMemory b c.instructions_in-part.result.now) (sym c.loop-index.invariant.content) (c.instructions_in-part.ensures.free c.args.ctx.now.with_content free)) in
+    absurd (err_is_not_ok c.try_instructions.result c.in_err-offset.field-0.0 c.in_err-offset.was ok)
