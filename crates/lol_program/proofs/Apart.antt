@@ -1,10 +1,11 @@
 -- The ranges of a program of selectors share no place.
 use Rattle.std.proofs.Common.{◌≡◌, ℕ, List, Some, sym, ap, ◌∙◌, subst, arith}
+use Rattle.std.specs.declared.ops.Range.{Range}
 use Rattle.std.proofs.lemmas.Option.{none-some}
 use Rattle.lol_css.specs.declared.selector.Combinator.{Combinator}
 use Rattle.lol_css.specs.declared.selector.Combinator.TheVariants.{Child, Descendant}
 use Rattle.lol_program.specs.Paths.{Path, Selectors}
-use Rattle.lol_program.specs.Programs.{Range, Instruction, Program, IsAt, HoldsPlaces, IsRangeOf, IsProgramOf, IsInstruction, above, range_by}
+use Rattle.lol_program.specs.Programs.{Instruction, Program, IsAt, HoldsPlaces, IsRangeOf, IsProgramOf, IsInstruction, above, range_by}
 use Rattle.lol_program.specs.Layouts.{RangesAreApart}
 use Rattle.lol_base.specs.MemberLaws.{distinct_from_pairs}
 use Rattle.lol_base.specs.PlaceLaws.{same_at, one_place, at_within, within_at}
@@ -27,6 +28,6 @@ ranges_are_apart s paths p program j k x y step step' r r' place at at' is is' i
           none-some _ (sym first.2 ∙ (ap above (same_at paths place first.0 under.0 first.1 under.1) ∙ under.2)),
     )
   where
-    range_there : (path : Path) (i : Instruction) (way : Combinator) (q : Range) → IsInstruction s paths path i → range_by way i ≡ Some q → HoldsPlaces paths q (Some (path, way))
+    range_there : (path : Path) (i : Instruction) (way : Combinator) (q : Range ℕ) → IsInstruction s paths path i → range_by way i ≡ Some q → HoldsPlaces paths q (Some (path, way))
     range_there path i Child q h e = (subst (λ o. IsRangeOf paths o (Some (path, Child))) e h.jumps).0
     range_there path i Descendant q h e = (subst (λ o. IsRangeOf paths o (Some (path, Descendant))) e h.hereditary_jumps).0

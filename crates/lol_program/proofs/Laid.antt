@@ -1,6 +1,7 @@
 -- The layout of a tree is a program of its selectors.
 use Rattle.std.proofs.Common.{◌≡◌, ℕ, zero, suc, ◌+◌, ◌<◌, ◌≤◌, List, [], ◌∷◌, ◌++◌, length, map, Option, Some, None, ◌⊎◌, inl, inr, refl, sym, ap, ◌∙◌, subst, arith, Contains}
 use Rattle.std.specs.List.{list_any}
+use Rattle.std.specs.declared.ops.Range.{Range}
 use Rattle.std.proofs.lemmas.List.{map-append, length-append, length-map}
 use Rattle.std.proofs.lemmas.Option.{none-some}
 use Rattle.lol_css.specs.declared.selector.Combinator.{Combinator}
@@ -12,7 +13,7 @@ use Rattle.lol_program.specs.NodeMemberLaws.{HasPair}
 use Rattle.lol_program.specs.NodeListLaws.{pairs_listed}
 use Rattle.lol_base.specs.MemberLaws.{Among, Distinct, among_front, among_back, among_either}
 use Rattle.lol_program.specs.NodeOnceLaws.{nodes_distinct, AllPairs-from_Distinct}
-use Rattle.lol_program.specs.Programs.{Range, Instruction, IsWithin, IsAt, HoldsPlaces, IsRangeOf, IsInstruction, IsProgramOf, above}
+use Rattle.lol_program.specs.Programs.{Instruction, IsWithin, IsAt, HoldsPlaces, IsRangeOf, IsInstruction, IsProgramOf, above}
 use Rattle.lol_program.specs.Layouts.{width, range_of, instruction_of, Entry, laid_tops, laid_below, laid, selectors_in, program_of, LayoutsArePrograms, WorkedLayout}
 use Rattle.lol_base.specs.PlaceLaws.{some_is, at_among, same_at, one_place, at_within}
 use Rattle.lol_program.specs.StepLaws.{one_front, one_step}
@@ -223,7 +224,7 @@ module _ (all : List Entry) where
 
 -- 5. What is under a node
 
-abbrev which : Combinator → Instruction → Option Range
+abbrev which : Combinator → Instruction → Option (Range ℕ)
 which Child i = i.jumps
 which Descendant i = i.hereditary_jumps
 
@@ -231,7 +232,7 @@ record HasParent (all : List Entry) (t : Entry) : Type 0 where
   parent : Entry
   among : Among all parent
   step : Combinator
-  range : Range
+  range : Range ℕ
   gives : which step parent.instruction ≡ Some range
   within : IsWithin t.place range
   under : above t.path ≡ Some (parent.path, step)
@@ -365,7 +366,7 @@ module _ (f : Forest) (differ : SiblingsDiffer f) where
   ]
 
   -- the parent's range holds what stands under a node
-  under_range : (t : Entry) → Among entries t → (step : Combinator) (k : ℕ) (q : Path) → IsAt paths k q → above q ≡ Some (t.path, step) → (r : Range) × (which step t.instruction ≡ Some r) × IsWithin k r
+  under_range : (t : Entry) → Among entries t → (step : Combinator) (k : ℕ) (q : Path) → IsAt paths k q → above q ≡ Some (t.path, step) → (r : Range ℕ) × (which step t.instruction ≡ Some r) × IsWithin k r
   under_range t a step k q at under =
       let u = entry_at k q at in
       elim (parent_entry u.0 u.1) [

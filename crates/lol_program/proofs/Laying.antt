@@ -2,7 +2,7 @@
 use Rattle.std.proofs.Common.{ℕ, zero, suc, ◌≡◌, ◌≢◌, ◌<◌, ◌≤◌, ◌+◌, Bool, true, ◌||◌, arith, length, List, [], ◌∷◌, map, Some, refl, ap, sym, subst, ◌∙◌}
 use Rattle.std.specs.Prelude.{slice_set, slice_get}
 use Rattle.std.specs.Option.{option_map}
-use Rattle.std.specs.declared.ops.Range as std
+use Rattle.std.specs.declared.ops.Range.{Range}
 use Rattle.std.proofs.lemmas.List.{length-set}
 use Rattle.lol_memory.specs.Ids.{ascending}
 use Rattle.lol_instructions.specs.Compounds.{Compound, has_test_by_type}
@@ -12,7 +12,7 @@ use Rattle.lol_instructions.specs.Compiled.{tests_in}
 use Rattle.lol_program.specs.Compiling.{Serves, AreCompiledTests}
 use Rattle.lol_program.specs.Programs.{Instruction}
 use Rattle.lol_program.specs.Layouts.{width, range_of, instruction_of, any_by_type}
-use Rattle.lol_program.specs.ProgramViews.{range_shown, instruction_shown, code_of}
+use Rattle.lol_program.specs.ProgramViews.{instruction_shown, code_of}
 use Rattle.lol_program.specs.Laying.{under, Laid, AreLaid, SameOutside, SameElsewhere}
 use Rattle.lol_program.specs.declared.ast_node.AstNode.{AstNode}
 use Rattle.lol_instructions.specs.declared.instruction.Instruction as code
@@ -139,8 +139,8 @@ half_step all start end old n left place free more_free instructions next h s e 
 -- an instruction means its node's compound, and has its ids and ranges
 pub instruction_right : (by_type : Bool) (c : Compound) (ids : List ℕ) (children descendants : Forest) (free : ℕ) (i : code.Instruction)
     → Serves by_type (has_test_by_type c) → AreCompiledTests (tests_in i.predicate) c → ascending i.associated_branch.matched_ids ≡ ids
-    → option_map range_shown i.associated_branch.jumps ≡ range_of children free
-    → option_map range_shown i.associated_branch.hereditary_jumps ≡ range_of descendants (free + size children)
+    → i.associated_branch.jumps ≡ range_of children free
+    → i.associated_branch.hereditary_jumps ≡ range_of descendants (free + size children)
     → instruction_shown by_type i ≡ instruction_of c ids children descendants free
 instruction_right by_type c ids children descendants free i serves compiled same_ids jumps hereditary_jumps =
     λ j. record {
@@ -192,7 +192,7 @@ pub width_is : (nodes : List AstNode) → width (forest_of nodes) ≡ length nod
 width_is [] = refl
 width_is (n ∷ nodes) = ap suc (width_is nodes)
 
-pub range_some : (nodes : List AstNode) (r : std.Range ℕ) (at : ℕ) → 0 < length nodes → r.start ≡ at → r.end ≡ at + length nodes → Some (range_shown r) ≡ range_of (forest_of nodes) at
+pub range_some : (nodes : List AstNode) (r : Range ℕ) (at : ℕ) → 0 < length nodes → r.start ≡ at → r.end ≡ at + length nodes → Some r ≡ range_of (forest_of nodes) at
 range_some [] r at h s e = absurd (omega (arith, h))
 range_some (n ∷ nodes) r at h s e =
     let end : r.end ≡ at + suc (width (forest_of nodes)) = omega (arith, e, width_is nodes) in
@@ -203,7 +203,7 @@ pub node_done : (n : Node) (place free start middle more_free : ℕ) (first seco
     → start ≡ free → middle ≡ start + size n.children → more_free ≡ middle + size n.descendants → place < free → place < length second
     → AreLaid first start (start + width n.children) n.children → AreLaid second middle (middle + width n.descendants) n.descendants → SameOutside middle more_free first second
     → AreCompiledTests (tests_in i.predicate) n.compound → ascending i.associated_branch.matched_ids ≡ n.ids
-    → option_map range_shown i.associated_branch.jumps ≡ range_of n.children start → option_map range_shown i.associated_branch.hereditary_jumps ≡ range_of n.descendants middle
+    → i.associated_branch.jumps ≡ range_of n.children start → i.associated_branch.hereditary_jumps ≡ range_of n.descendants middle
     → AreLaid (slice_set second place i) place free (link n none)
 node_done n place free start middle more_free first second i start_is middle_is more_is before within lc ld s compiled ids jumps hereditary_jumps =
     let at : middle ≡ free + size n.children = middle_is ∙ ap (λ k. k + size n.children) start_is in

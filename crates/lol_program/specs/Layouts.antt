@@ -1,11 +1,12 @@
 -- The layout of a tree of selectors: siblings stand in one range, and after them, node by node, what is under each.
 use Rattle.std.specs.Prelude.{ℕ, suc, ◌+◌, ◌≡◌, ◌||◌, Bool, false, List, [], ◌∷◌, ◌++◌, map, Option, Some, None}
+use Rattle.std.specs.declared.ops.Range.{Range}
 use Rattle.lol_css.specs.declared.selector.Combinator.{Combinator}
 use Rattle.lol_css.specs.declared.selector.Combinator.TheVariants.{Child, Descendant}
 use Rattle.lol_instructions.specs.Compounds.{Compound, all_hold, by_names, has_test_by_type}
 use Rattle.lol_program.specs.Paths.{Path, First, Then, Selectors}
 use Rattle.lol_program.specs.Forest.{Forest, none, more, size, nodes_in, pairs_in, SiblingsDiffer}
-use Rattle.lol_program.specs.Programs.{Range, Instruction, Program, IsProgramOf, IsAt, IsWithin, range_by}
+use Rattle.lol_program.specs.Programs.{Instruction, Program, IsProgramOf, IsAt, IsWithin, range_by}
 
 -- how many siblings a list has
 abbrev pub width : Forest → ℕ
@@ -13,7 +14,7 @@ width none = 0
 width (more c ids children descendants rest) = suc (width rest)
 
 -- the range of siblings that begin here
-abbrev pub range_of : Forest → ℕ → Option Range
+abbrev pub range_of : Forest → ℕ → Option (Range ℕ)
 range_of none at = None
 range_of (more c ids children descendants rest) at = Some (record { start = at; end = at + suc (width rest) })
 
@@ -70,7 +71,7 @@ LayoutsArePrograms = (f : Forest) → SiblingsDiffer f → IsProgramOf (selector
 abbrev pub RangesAreApart : Type 0
 RangesAreApart =
     (s : Selectors) (paths : List Path) (p : Program) → IsProgramOf s paths p
-    → (j k : ℕ) (x y : Instruction) (step step' : Combinator) (r r' : Range) (place : ℕ)
+    → (j k : ℕ) (x y : Instruction) (step step' : Combinator) (r r' : Range ℕ) (place : ℕ)
     → IsAt p.instructions j x → IsAt p.instructions k y → range_by step x ≡ Some r → range_by step' y ≡ Some r' → IsWithin place r → IsWithin place r'
     → (j ≡ k) × (step ≡ step') × (IsWithin place p.entry → ⊥)
 
@@ -78,10 +79,10 @@ RangesAreApart =
 abbrev pub div_p : Compound → Compound → Forest
 div_p div p = more div [] (more p (1 ∷ []) none none none) (more p (0 ∷ []) none none none) none
 
-abbrev pub shape : Instruction → List ℕ × Option Range × Option Range
+abbrev pub shape : Instruction → List ℕ × Option (Range ℕ) × Option (Range ℕ)
 shape i = (i.ids, i.jumps, i.hereditary_jumps)
 
-abbrev pub range : ℕ → ℕ → Range
+abbrev pub range : ℕ → ℕ → Range ℕ
 range start end = record { start = start; end = end }
 
 abbrev pub WorkedLayout : Type 0

@@ -1,18 +1,13 @@
 -- What the code's programs stand for.
-use Rattle.std.specs.Prelude.{ℕ, Bool, List, map}
+use Rattle.std.specs.Prelude.{Bool, List, map}
 use Rattle.std.specs.Global.{Global}
-use Rattle.std.specs.Option.{option_map}
-use Rattle.std.specs.declared.ops.Range as std
 use Rattle.lol_memory.specs.Ids.{ascending}
 use Rattle.lol_instructions.specs.Attributes.{tag_attributes}
 use Rattle.lol_instructions.specs.Compiled.{sight_of, predicate_value, predicate_holds}
-use Rattle.lol_program.specs.Programs.{Range, Instruction, Program}
+use Rattle.lol_program.specs.Programs.{Instruction, Program}
 use Rattle.lol_program.specs.declared.compiler.Compiler.{Compiler}
 use Rattle.lol_instructions.specs.declared.instruction.Instruction as code
 use Rattle.lol_program.specs.declared.program.Program as program
-
-abbrev pub range_shown : std.Range ℕ → Range
-range_shown r = record { start = r.start; end = r.end }
 
 -- an instruction by what it says of elements, where children are counted by type or aren't
 abbrev pub instruction_shown : Bool → code.Instruction → Instruction
@@ -21,8 +16,8 @@ instruction_shown by_type i =
       value = λ e. predicate_value i.predicate (sight_of by_type e);
       holds = λ e. predicate_holds i.predicate (sight_of by_type e) (tag_attributes e.tag);
       ids = ascending i.associated_branch.matched_ids;
-      jumps = option_map range_shown i.associated_branch.jumps;
-      hereditary_jumps = option_map range_shown i.associated_branch.hereditary_jumps;
+      jumps = i.associated_branch.jumps;
+      hereditary_jumps = i.associated_branch.hereditary_jumps;
     }
 
 abbrev pub code_of : Bool → List code.Instruction → List Instruction
@@ -32,7 +27,7 @@ code_of by_type instructions = map (instruction_shown by_type) instructions
 abbrev pub program_shown : program.Program → Program
 program_shown p =
     record {
-      entry = range_shown p.entry_points;
+      entry = p.entry_points;
       instructions = code_of p.enable_nth_of_type p.instructions.items;
       by_type = p.enable_nth_of_type;
     }

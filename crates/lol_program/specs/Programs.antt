@@ -1,5 +1,6 @@
 -- A program of instructions, and when it is one of selectors.
 use Rattle.std.specs.Prelude.{ℕ, ◌-◌, ◌<◌, ◌≤◌, ◌≡◌, ◌≢◌, ◌↔◌, Bool, List, length, flat_map, slice_get, Option, Some, None, Contains, AllPairs}
+use Rattle.std.specs.declared.ops.Range.{Range}
 use Rattle.std.specs.List.{range_with_len, list_any}
 use Rattle.lol_css.specs.declared.selector.Combinator.{Combinator}
 use Rattle.lol_css.specs.declared.selector.Combinator.TheVariants.{Child, Descendant}
@@ -10,19 +11,15 @@ use Rattle.lol_instructions.specs.declared.name_value.NameValue.{NameValue}
 
 -- 1. Ranges and instructions
 
--- Places from start up to end.
-pub record Range : Type 0 where
-  pub start : ℕ
-  pub end : ℕ
-
-abbrev pub IsWithin : ℕ → Range → Type 0
+-- A range has the places from its start up to its end.
+abbrev pub IsWithin : ℕ → Range ℕ → Type 0
 IsWithin place r = (r.start ≤ place) × (place < r.end)
 
-abbrev pub places : Range → List ℕ
+abbrev pub places : Range ℕ → List ℕ
 places r = range_with_len r.start (r.end - r.start)
 
 -- the places of ranges, one range after the other
-abbrev pub all_places : List Range → List ℕ
+abbrev pub all_places : List (Range ℕ) → List ℕ
 all_places ranges = flat_map places ranges
 
 -- An instruction by its meaning: its value by names at an element, whether it holds there with the attributes, its ids, and where the
@@ -31,11 +28,11 @@ pub record Instruction : Type 0 where
   pub value : Element → NameValue
   pub holds : Element → Bool
   pub ids : List ℕ
-  pub jumps : Option Range
-  pub hereditary_jumps : Option Range
+  pub jumps : Option (Range ℕ)
+  pub hereditary_jumps : Option (Range ℕ)
 
 pub record Program : Type 0 where
-  pub entry : Range
+  pub entry : Range ℕ
   pub instructions : List Instruction
   pub by_type : Bool
 
@@ -62,13 +59,13 @@ pub record AreClosed (s : Selectors) : Type 0 where
 -- 3. Programs
 
 -- a range lies within the places and holds exactly those of the paths under this
-pub record HoldsPlaces (paths : List Path) (r : Range) (under : Option (Path × Combinator)) : Type 0 where
+pub record HoldsPlaces (paths : List Path) (r : Range ℕ) (under : Option (Path × Combinator)) : Type 0 where
   pub ordered : r.start ≤ r.end
   pub inside : r.end ≤ length paths
   pub members : (place : ℕ) → IsWithin place r ↔ ((path : Path) × IsAt paths place path × (above path ≡ under))
 
 -- the range of the paths under this, which isn't empty; none where there is no such path
-abbrev pub IsRangeOf : List Path → Option Range → Option (Path × Combinator) → Type 0
+abbrev pub IsRangeOf : List Path → Option (Range ℕ) → Option (Path × Combinator) → Type 0
 IsRangeOf paths None under = (place : ℕ) (path : Path) → IsAt paths place path → above path ≡ under → ⊥
 IsRangeOf paths (Some r) under = HoldsPlaces paths r under × (r.start < r.end)
 
@@ -92,6 +89,6 @@ pub record IsProgramOf (s : Selectors) (paths : List Path) (p : Program) : Type 
   pub each : (place : ℕ) (path : Path) (i : Instruction) → IsAt paths place path → IsAt p.instructions place i → IsInstruction s paths path i
 
 -- the range of an instruction by a step
-abbrev pub range_by : Combinator → Instruction → Option Range
+abbrev pub range_by : Combinator → Instruction → Option (Range ℕ)
 range_by Child i = i.jumps
 range_by Descendant i = i.hereditary_jumps

@@ -1,7 +1,6 @@
 //! From a tree of selectors to their program.
 
 ghost use Rattle.std.specs.Prelude.{◌≡◌, ◌+◌, ◌<◌, ◌≤◌, ◌||◌, IfOk, OnOk, length};
-ghost use Rattle.std.specs.Option.{option_map};
 ghost use Rattle.lol_program.specs.Asts.{trees_of, nodes_of};
 ghost use Rattle.lol_program.specs.Views.{node_of, forest_of};
 ghost use Rattle.lol_program.specs.Forest.{none, link, size};
@@ -11,7 +10,7 @@ ghost use Rattle.lol_program.specs.Compiling.{AreCompiledTests};
 ghost use Rattle.lol_instructions.specs.Compiled.{tests_in};
 ghost use Rattle.lol_program.specs.Programs.{IsProgramOf};
 ghost use Rattle.lol_program.specs.Layouts.{width, range_of, any_by_type, selectors_in};
-ghost use Rattle.lol_program.specs.ProgramViews.{range_shown, program_shown, allocator_of};
+ghost use Rattle.lol_program.specs.ProgramViews.{program_shown, allocator_of};
 ghost use Rattle.lol_program.specs.Laying.{AreLaid, SameOutside, SameElsewhere};
 
 use crate::ast::Ast;
@@ -105,7 +104,7 @@ impl Layout {
     #[cycle(compile)]
     fn compile_list(&mut self, nodes: Vec<AstNode>) -> Result<Option<AddressRange>, AllocError>
         requires { self.old.free_space_start + size (forest_of nodes.items) ≤ length self.old.instructions.items }
-        ensures range { IfOk result (λ r. option_map range_shown r ≡ range_of (forest_of nodes.items) self.old.free_space_start) }
+        ensures range { IfOk result (λ r. r ≡ range_of (forest_of nodes.items) self.old.free_space_start) }
         ensures free { OnOk result (self.new.free_space_start ≡ self.old.free_space_start + size (forest_of nodes.items)) }
         ensures by_type { OnOk result (self.new.enable_nth_of_type ≡ (self.old.enable_nth_of_type || any_by_type (forest_of nodes.items))) }
         ensures laid { OnOk result (AreLaid self.new.instructions.items self.old.free_space_start (self.old.free_space_start + width (forest_of nodes.items)) (forest_of nodes.items)) }

@@ -1,6 +1,7 @@
 -- The places that ranges hold, counted.
 use Rattle.std.proofs.Common.{◌≡◌, ℕ, Bool, true, List, length, sym, ap, ◌∙◌}
 use Rattle.std.specs.Prelude.{count_by}
+use Rattle.std.specs.declared.ops.Range.{Range}
 use Rattle.std.specs.List.{list_any}
 use Rattle.std.proofs.lemmas.List.Concat.{length-flat_map}
 use Rattle.lol_instructions.specs.Tests.{Element}
@@ -12,7 +13,7 @@ use Rattle.lol_base.specs.BoolLaws.{and_parts, same_bool}
 use Rattle.lol_base.specs.PlaceLaws.{at_among, at_within}
 use Rattle.lol_vm.proofs.Bools.{and_true}
 use Rattle.lol_instructions.specs.Compounds.{is_open}
-use Rattle.lol_program.specs.Programs.{Range, Program, IsAt, IsProgramOf, AreClosed, places, all_places}
+use Rattle.lol_program.specs.Programs.{Program, IsAt, IsProgramOf, AreClosed, places, all_places}
 use Rattle.lol_vm.specs.Machines.{HoldOnce, LeftMatches}
 use Rattle.lol_vm.specs.PlaceRuns.{instruction_value, is_open_at}
 use Rattle.lol_vm.specs.MachineLaws.{PlacesCountTries, sum_of_lengths}
@@ -26,7 +27,7 @@ module _ (s : Selectors) (paths : List Path) (p : Program) (closed : AreClosed s
       (λ path h. to_among paths path ((program.same path).1 (to_contains s.nodes path h)))
       (λ path h. to_among s.nodes path ((program.same path).0 (to_contains paths path h)))
 
-  module _ (ranges : List Range) (outer : List Element) (held : HoldOnce paths ranges (LeftMatches outer)) where
+  module _ (ranges : List (Range ℕ)) (outer : List Element) (held : HoldOnce paths ranges (LeftMatches outer)) where
     abbrev all : List ℕ
     all = all_places ranges
 

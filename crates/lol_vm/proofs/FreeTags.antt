@@ -2,10 +2,10 @@
 use Rattle.std.proofs.Common.{◌≡◌, ℕ, suc, zero, ◌<◌, Bool, true, false, cond, true≢false, List, [], ◌∷◌, length, map, Option, Some, None, Result, Err, refl, sym, ap, ◌∙◌, subst, arith, inl, inr, get_or, Contains}
 use Rattle.std.specs.Prelude.{◌||◌, ◌⊎◌, slice_get, not, ◌&&◌}
 use Rattle.std.specs.List.{list_any, list_all}
-use Rattle.std.specs.Option.{IsNone, option_map}
+use Rattle.std.specs.Option.{IsNone}
 use Rattle.std.proofs.lemmas.List.{length-map}
 use Rattle.std.proofs.lemmas.Slice.Eq.{bytes_eq-Decides}
-use Rattle.std.specs.declared.ops.Range as std
+use Rattle.std.specs.declared.ops.Range.{Range}
 use Rattle.lol_base.specs.BoolLaws.{and_parts}
 use Rattle.lol_base.specs.LocalNames.{is_hash, local_name}
 use Rattle.lol_base.specs.MemberLaws.{Among}
@@ -18,7 +18,7 @@ use Rattle.lol_program.specs.IdSetLaws.{listed_if_held}
 use Rattle.lol_program.specs.Paths.{Path, Selectors, last_compound}
 use Rattle.lol_program.specs.Programs.{IsProgramOf}
 use Rattle.lol_program.specs.Programs as programs
-use Rattle.lol_program.specs.ProgramViews.{instruction_shown, program_shown, range_shown}
+use Rattle.lol_program.specs.ProgramViews.{instruction_shown, program_shown}
 use Rattle.lol_instructions.specs.Tests.{is_html}
 use Rattle.lol_instructions.specs.declared.instruction.Instruction.{Instruction}
 use Rattle.lol_program.specs.declared.program.Program.{Program}
@@ -118,7 +118,7 @@ module _ (s : Selectors) (paths : List Path) (prog : Program) (small : AreSmall 
   pub closed_free : (content : Bool) → content ≡ false → NeedNoMemory content all
   closed_free content closed = λ k d within. (ids_small k d within, λ opens. absurd (true≢false (sym opens ∙ closed)))
 
-  none_under : (range : Option (std.Range ℕ)) (under : Path × Combinator) → programs.IsRangeOf paths (option_map range_shown range) (Some under) → ((node : Path) → Contains s.nodes node → programs.above node ≡ None) → IsNone range
+  none_under : (range : Option (Range ℕ)) (under : Path × Combinator) → programs.IsRangeOf paths range (Some under) → ((node : Path) → Contains s.nodes node → programs.above node ≡ None) → IsNone range
   none_under None under is alone = refl
   none_under (Some r) under is alone =
       let found = (is.0.members r.start).0 (omega arith, is.1) in

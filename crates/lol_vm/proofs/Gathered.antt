@@ -1,6 +1,7 @@
 -- What running places gives.
 use Rattle.std.proofs.Common.{◌≡◌, ℕ, Bool, true, false, cond, List, [], Option, Some, None, ◌↔◌, inl, inr, refl, sym, ap, ◌∙◌, subst, arith, Contains}
 use Rattle.std.specs.Prelude.{slice_get, option_to_list}
+use Rattle.std.specs.declared.ops.Range.{Range}
 use Rattle.lol_css.specs.declared.selector.Combinator.{Combinator}
 use Rattle.lol_css.specs.declared.selector.Combinator.TheVariants.{Child, Descendant}
 use Rattle.lol_instructions.specs.Tests.{Element}
@@ -11,7 +12,7 @@ use Rattle.lol_vm.specs.Matching.{left_matches, matches}
 use Rattle.lol_vm.specs.Answers.{matching_ids}
 use Rattle.lol_vm.specs.ReportLaws.{among_matching_ids, matching_ids_among}
 use Rattle.lol_base.specs.BoolLaws.{and_parts, and_of}
-use Rattle.lol_program.specs.Programs.{Range, Instruction, Program, IsAt, IsRangeOf, IsProgramOf, AreClosed, all_places}
+use Rattle.lol_program.specs.Programs.{Instruction, Program, IsAt, IsRangeOf, IsProgramOf, AreClosed, all_places}
 use Rattle.lol_vm.specs.Machines.{HasRanges, Matches, HoldOnce, LeftMatches, jumps_of, hereditary_jumps_of}
 use Rattle.lol_vm.specs.PlaceRuns.{given_by, gathered_from_places, ids_list}
 use Rattle.lol_vm.specs.MachineLaws.{RunsGiveReports}
@@ -48,7 +49,7 @@ one_option true None = tt
 one_option true (Some x) = (λ h. h, tt)
 one_option false o = tt
 
-module _ (s : Selectors) (paths : List Path) (p : Program) (closed : AreClosed s) (program : IsProgramOf s paths p) (ranges : List Range) (outer : List Element) (held : HoldOnce paths ranges (LeftMatches outer)) (e : Element) where
+module _ (s : Selectors) (paths : List Path) (p : Program) (closed : AreClosed s) (program : IsProgramOf s paths p) (ranges : List (Range ℕ)) (outer : List Element) (held : HoldOnce paths ranges (LeftMatches outer)) (e : Element) where
   -- an instruction at a place that is run holds exactly if its path matches
   holds_matches : (place : ℕ) (path : Path) (i : Instruction) → IsAt paths place path → IsAt p.instructions place i → LeftMatches outer path → i.holds e ≡ true → matches path e outer ≡ true
   holds_matches place path i at at' left holds = and_of _ _ (sym ((program.each place path i at at').means e).1 ∙ holds) left
@@ -86,16 +87,16 @@ module _ (s : Selectors) (paths : List Path) (p : Program) (closed : AreClosed s
         to_contains _ id (gathered_at ids_list id place.0 m.0 i.0 place.1 i.1 m.2 (to_among i.0.ids id (((program.each place.0 m.0 i.0 place.1 i.1).ids id).1 pair))),
   )
 
-  module _ (which : Instruction → Option Range) (step : Combinator)
+  module _ (which : Instruction → Option (Range ℕ)) (step : Combinator)
       (has : (place : ℕ) (path : Path) (i : Instruction) → IsAt paths place path → IsAt p.instructions place i → IsRangeOf paths (which i) (Some (path, step))) where
-    abbrev list_of : Instruction → List Range
+    abbrev list_of : Instruction → List (Range ℕ)
     list_of i = option_to_list (which i)
 
     one_each : (o : Option Instruction) → Distinct (given_by list_of e o)
     one_each None = tt
     one_each (Some i) = one_option (i.holds e) (which i)
 
-    one_place_each : (j k : ℕ) (r : Range) → Among (all_places ranges) j → Among (all_places ranges) k → Among (given_by list_of e (slice_get p.instructions j)) r → Among (given_by list_of e (slice_get p.instructions k)) r → j ≡ k
+    one_place_each : (j k : ℕ) (r : Range ℕ) → Among (all_places ranges) j → Among (all_places ranges) k → Among (given_by list_of e (slice_get p.instructions j)) r → Among (given_by list_of e (slice_get p.instructions k)) r → j ≡ k
     one_place_each j k r a b in_j in_k =
         let x = path_held s paths p closed program ranges outer held j a in
         let y = path_held s paths p closed program ranges outer held k b in

@@ -1,9 +1,6 @@
 -- What an element gathers.
-use Rattle.std.proofs.Common.{◌≡◌, ℕ, Bool, true, false, List, [], ◌∷◌, ◌++◌, map, Option, Some, None, ◌↔◌, inl, inr, sym, ap, ◌∙◌, subst, Contains, true≢false}
+use Rattle.std.proofs.Common.{◌≡◌, ℕ, Bool, true, false, List, [], ◌++◌, ◌↔◌, inl, inr, sym, ap, ◌∙◌, subst, Contains, true≢false}
 use Rattle.std.specs.Prelude.{option_to_list}
-use Rattle.std.specs.Option.{option_map}
-use Rattle.std.specs.declared.ops.Range as std
-use Rattle.std.proofs.lemmas.List.{map-append}
 use Rattle.std.proofs.lemmas.List.Kept.{AllPairs-from_increasing}
 use Rattle.lol_base.specs.BoolLaws.{or_parts, or_of}
 use Rattle.lol_base.specs.MemberLaws.{contains-append, among_from_contains, contains_from_among}
@@ -11,13 +8,12 @@ use Rattle.lol_memory.specs.Ids.{Ids, has, no_ids, union}
 use Rattle.lol_memory.specs.Ids as sets
 use Rattle.lol_memory.specs.SetLaws.{has-no_ids, has-union}
 use Rattle.lol_memory.specs.AscendingLaws.{ascending_rises}
-use Rattle.lol_program.specs.ProgramViews.{range_shown, instruction_shown}
+use Rattle.lol_program.specs.ProgramViews.{instruction_shown}
 use Rattle.lol_instructions.specs.declared.instruction.Instruction as code
 use Rattle.lol_program.specs.IdSetLaws.{listed_if_held, held}
 use Rattle.lol_vm.specs.Answers.{ascending_once}
 use Rattle.lol_vm.specs.ReportLaws.{ascending_is_determined, ascending_ascends, pairs_from_ascends, among_ascending, ascending_among}
 use Rattle.lol_stack.specs.Contexts.{with_branch}
-use Rattle.lol_stack.specs.WithRange.{with_range}
 use Rattle.lol_vm.specs.PlaceRuns.{Context, branch}
 use Rattle.lol_vm.specs.Gathering.{Gathers, NewElementsGather, BranchesGather, GatheredIdsAscend}
 use Rattle.lol_stack.specs.declared.execution_ctx.ExecutionCtx.{ExecutionCtx}
@@ -28,13 +24,9 @@ new_elements_gather ids_of name item new = record {
     λ h. absurd (true≢false (sym h ∙ (ap (λ s. has s id) new.ids ∙ has-no_ids id))),
     λ c. absurd (among_from_contains [] id c),
   );
-  jumps = sym (ap (map range_shown) new.jumps);
-  hereditary_jumps = sym (ap (map range_shown) new.hereditary_jumps);
+  jumps = sym new.jumps;
+  hereditary_jumps = sym new.hereditary_jumps;
 }
-
-shown_more : (rs : List (std.Range ℕ)) (o : Option (std.Range ℕ)) → map range_shown rs ++ option_to_list (option_map range_shown o) ≡ map range_shown (with_range rs o)
-shown_more rs None = sym (map-append range_shown rs [])
-shown_more rs (Some r) = sym (map-append range_shown rs (r ∷ []))
 
 ids_more : (s t : Ids) (ids : List ℕ) → ((id : ℕ) → (has s id ≡ true) ↔ Contains ids id) → (id : ℕ) → (has (union s t) id ≡ true) ↔ Contains (ids ++ sets.ascending t) id
 ids_more s t ids same id = (
@@ -59,8 +51,8 @@ branches_gather ids_of with_ids keeps ctx context i by_type has_context = by_con
         record {
           ids = λ id. subst (λ s. (has s id ≡ true) ↔ Contains (context.ids ++ sets.ascending i.associated_branch.matched_ids) id) (sym data_ids)
               (ids_more (ids_of ctx.stack_item.element_data) i.associated_branch.matched_ids context.ids h.ids id);
-          jumps = ap (λ rs. rs ++ option_to_list (option_map range_shown i.associated_branch.jumps)) h.jumps ∙ shown_more ctx.stack_item.jumps i.associated_branch.jumps;
-          hereditary_jumps = ap (λ rs. rs ++ option_to_list (option_map range_shown i.associated_branch.hereditary_jumps)) h.hereditary_jumps ∙ shown_more ctx.stack_item.hereditary_jumps i.associated_branch.hereditary_jumps;
+          jumps = ap (λ rs. rs ++ option_to_list i.associated_branch.jumps) h.jumps;
+          hereditary_jumps = ap (λ rs. rs ++ option_to_list i.associated_branch.hereditary_jumps) h.hereditary_jumps;
         }
     by_content ids_of with_ids keeps ctx context i by_type h false =
         let data_ids = keeps ctx.stack_item.element_data (union (ids_of ctx.stack_item.element_data) i.associated_branch.matched_ids) in

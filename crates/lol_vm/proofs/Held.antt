@@ -1,6 +1,7 @@
 -- The places that ranges hold.
-use Rattle.std.proofs.Common.{◌≡◌, ℕ, ◌-◌, ◌<◌, ◌≤◌, Bool, true, not, List, [], ◌∷◌, ◌++◌, length, map, filter, Option, Some, None, ◌⊎◌, ◌↔◌, inl, inr, refl, sym, ap, ◌∙◌, subst, arith, Contains}
-use Rattle.std.specs.Prelude.{◌==◌}
+use Rattle.std.proofs.Common.{◌≡◌, ℕ, ◌-◌, ◌<◌, ◌≤◌, Bool, true, false, true≢false, List, [], ◌∷◌, ◌++◌, length, Option, Some, None, ◌⊎◌, ◌↔◌, inl, inr, refl, sym, ap, ◌∙◌, subst, arith, Contains}
+use Rattle.std.specs.Prelude.{◌==◌, if◌then◌else◌}
+use Rattle.std.specs.declared.ops.Range.{Range}
 use Rattle.std.proofs.lemmas.List.{map-append, append-nil}
 use Rattle.std.proofs.lemmas.Grind.{flat_map-append}
 use Rattle.std.proofs.lemmas.Bool.Decides.{Decides-eqb}
@@ -13,18 +14,18 @@ use Rattle.lol_vm.specs.Matching.{matches, left_matches, parent_passes, some_anc
 use Rattle.lol_base.specs.BoolLaws.{and_parts, and_of, or_parts, or_of}
 use Rattle.lol_base.specs.PlaceLaws.{some_is, at_among, same_at, one_place, at_within, within_at}
 use Rattle.lol_program.specs.StepLaws.{one_front, one_step}
-use Rattle.lol_vm.proofs.Bools.{not_both, true_or_not}
-use Rattle.lol_program.specs.Programs.{Range, Instruction, Program, IsWithin, IsAt, HoldsPlaces, IsRangeOf, IsProgramOf, AreClosed, above, places, all_places}
-use Rattle.lol_vm.specs.Machines.{OpenItem, ranges_to_run, IsReached, HasRanges, IsItem, AreItems, Matches, HoldOnce, LeftMatches, active_of, is_active, same_range, last_jumps, ranges_of_active, jumps_of, hereditary_jumps_of}
+use Rattle.lol_program.specs.Programs.{Instruction, Program, IsWithin, IsAt, HoldsPlaces, IsRangeOf, IsProgramOf, AreClosed, above, places, all_places}
+use Rattle.lol_vm.specs.Machines.{OpenItem, ranges_to_run, IsReached, HasRanges, IsItem, AreItems, Matches, HoldOnce, LeftMatches, active_of, last_jumps, ranges_of_active, jumps_of, hereditary_jumps_of}
+use Rattle.lol_stack.specs.Active.{activated, is_range_active, is_same_range}
 use Rattle.lol_vm.specs.MachineLaws.{ProgramsHaveEachNode, RangesHoldLeftMatches}
-use Rattle.lol_vm.proofs.Lists.{same_length, to_contains, to_among, to_once, to_distinct, distinct_append, among_at, among_flat_map, flat_map_among, distinct_flat_map, among_range, range_among, distinct_range, among_map, map_among, among_filter, filter_among, distinct_filter, any_among, among_any}
+use Rattle.lol_vm.proofs.Lists.{same_length, to_contains, to_among, to_once, to_distinct, distinct_append, among_at, among_flat_map, flat_map_among, distinct_flat_map, among_range, range_among, distinct_range, among_map, map_among, any_among, among_any}
 
 -- 1. Ranges and the places in them
 
-pub within_places : (r : Range) (place : ℕ) → Among (places r) place → IsWithin place r
+pub within_places : (r : Range ℕ) (place : ℕ) → Among (places r) place → IsWithin place r
 within_places r place h = let at = among_range r.start (r.end - r.start) place h in (at.0, omega (arith, at.0, at.1))
 
-pub places_within : (r : Range) (place : ℕ) → IsWithin place r → Among (places r) place
+pub places_within : (r : Range ℕ) (place : ℕ) → IsWithin place r → Among (places r) place
 places_within r place h = range_among r.start (r.end - r.start) place h.0 (omega (arith, h.0, h.1))
 
 not_child : Child ≡ Descendant → ⊥
@@ -54,13 +55,13 @@ module _ (s : Selectors) (paths : List Path) (p : Program) (program : IsProgramO
 
     -- 3. Ranges that instructions give hold their places once
 
-    module _ (which : Instruction → Option Range) (step : Combinator)
+    module _ (which : Instruction → Option (Range ℕ)) (step : Combinator)
         (has : (place : ℕ) (path : Path) (i : Instruction) → IsAt paths place path → IsAt p.instructions place i → IsRangeOf paths (which i) (Some (path, step))) where
-      pub range_of_reached : (place : ℕ) (path : Path) (i : Instruction) (r : Range) → IsAt paths place path → IsAt p.instructions place i → which i ≡ Some r → HoldsPlaces paths r (Some (path, step)) × (r.start < r.end)
+      pub range_of_reached : (place : ℕ) (path : Path) (i : Instruction) (r : Range ℕ) → IsAt paths place path → IsAt p.instructions place i → which i ≡ Some r → HoldsPlaces paths r (Some (path, step)) × (r.start < r.end)
       range_of_reached place path i r at at' is = subst (λ o. IsRangeOf paths o (Some (path, step))) is (has place path i at at')
 
       -- a range belongs to one place
-      pub one_owner : (j k : ℕ) (a b : Path) (x y : Instruction) (r r' : Range) (place : ℕ) → IsAt paths j a → IsAt paths k b → IsAt p.instructions j x → IsAt p.instructions k y → which x ≡ Some r → which y ≡ Some r'
+      pub one_owner : (j k : ℕ) (a b : Path) (x y : Instruction) (r r' : Range ℕ) (place : ℕ) → IsAt paths j a → IsAt paths k b → IsAt p.instructions j x → IsAt p.instructions k y → which x ≡ Some r → which y ≡ Some r'
           → IsWithin place r → IsWithin place r' → j ≡ k
       one_owner j k a b x y r r' place at_a at_b at_x at_y is_x is_y within_r within_r' =
           let under = ((range_of_reached j a x r at_a at_x is_x).0.members place).0 within_r in
@@ -69,11 +70,11 @@ module _ (s : Selectors) (paths : List Path) (p : Program) (program : IsProgramO
           let front : a ≡ b = one_front a b step step (sym under.2 ∙ (ap above same ∙ under'.2)) in
           one_place paths paths_once j k b (at_a ∙ ap Some front) at_b
 
-      module _ (P : Path → Type 0) (ranges : List Range) (h : HasRanges which paths p P ranges) where
-        reached : (r : Range) → Among ranges r → IsReached which paths p P r
+      module _ (P : Path → Type 0) (ranges : List (Range ℕ)) (h : HasRanges which paths p P ranges) where
+        reached : (r : Range ℕ) → Among ranges r → IsReached which paths p P r
         reached r a = (h.members r).0 (to_contains ranges r a)
 
-        apart : (r r' : Range) (place : ℕ) → Among ranges r → Among ranges r' → Among (places r) place → Among (places r') place → r ≡ r'
+        apart : (r r' : Range ℕ) (place : ℕ) → Among ranges r → Among ranges r' → Among (places r) place → Among (places r') place → r ≡ r'
         apart r r' place a a' in_r in_r' =
             let m = reached r a in
             let m' = reached r' a' in
@@ -96,7 +97,7 @@ module _ (s : Selectors) (paths : List Path) (p : Program) (program : IsProgramO
         }
           where
             found : (place : ℕ) (path front : Path) → IsAt paths place path → above path ≡ Some (front, step) → P front → (k : ℕ) (i : Instruction) → IsAt paths k front → IsAt p.instructions k i
-                → (o : Option Range) → which i ≡ o → IsRangeOf paths o (Some (front, step)) → Contains (all_places ranges) place
+                → (o : Option (Range ℕ)) → which i ≡ o → IsRangeOf paths o (Some (front, step)) → Contains (all_places ranges) place
             found place path front at under fits k i at_k at_i None is range = absurd (range place path at under)
             found place path front at under fits k i at_k at_i (Some r) is range =
                 let a : Among ranges r = to_among ranges r ((h.members r).1 (k, front, i, at_k, at_i, is, fits)) in
@@ -104,36 +105,88 @@ module _ (s : Selectors) (paths : List Path) (p : Program) (program : IsProgramO
 
 -- 4. The active ranges
 
-pub range_is : (a b : Range) → same_range a b ≡ true → a ≡ b
+pub range_is : (a b : Range ℕ) → is_same_range a b ≡ true → a ≡ b
 range_is a b h =
     let both = and_parts (a.start == b.start) (a.end == b.end) h in
     let start : a.start ≡ b.start = (Decides-eqb a.start b.start).0 both.0 in
     let end : a.end ≡ b.end = (Decides-eqb a.end b.end).0 both.1 in
     λ i. record { start = start i; end = end i }
 
-pub range_same : (a b : Range) → a ≡ b → same_range a b ≡ true
-range_same a b is = and_of (a.start == b.start) (a.end == b.end) ((Decides-eqb a.start b.start).1 (ap (λ (r : Range). r.start) is)) ((Decides-eqb a.end b.end).1 (ap (λ (r : Range). r.end) is))
+pub range_same : (a b : Range ℕ) → a ≡ b → is_same_range a b ≡ true
+range_same a b is = and_of (a.start == b.start) (a.end == b.end) ((Decides-eqb a.start b.start).1 (ap (λ (r : Range ℕ). r.start) is)) ((Decides-eqb a.end b.end).1 (ap (λ (r : Range ℕ). r.end) is))
 
-pub active_among : (active : List (Range × ℕ)) (r : Range) → is_active active r ≡ true → Among (ranges_of_active active) r
+pub active_among : (active : List (Range ℕ × ℕ)) (r : Range ℕ) → is_range_active active r ≡ true → Among (ranges_of_active active) r
 active_among active r h =
-    let at = among_any (λ (a : Range × ℕ). same_range a.0 r) active h in
-    subst (Among (ranges_of_active active)) (range_is at.0.0 r at.2) (map_among (λ (a : Range × ℕ). a.0) active at.0 at.1)
+    let at = among_any (λ (a : Range ℕ × ℕ). is_same_range a.0 r) active h in
+    subst (Among (ranges_of_active active)) (range_is at.0.0 r at.2) (map_among (λ (a : Range ℕ × ℕ). a.0) active at.0 at.1)
 
-pub among_active : (active : List (Range × ℕ)) (r : Range) → Among (ranges_of_active active) r → is_active active r ≡ true
+pub among_active : (active : List (Range ℕ × ℕ)) (r : Range ℕ) → Among (ranges_of_active active) r → is_range_active active r ≡ true
 among_active active r h =
-    let at = among_map (λ (a : Range × ℕ). a.0) active r h in
-    any_among (λ (a : Range × ℕ). same_range a.0 r) active at.0 at.1 (range_same at.0.0 r at.2)
+    let at = among_map (λ (a : Range ℕ × ℕ). a.0) active r h in
+    any_among (λ (a : Range ℕ × ℕ). is_same_range a.0 r) active at.0 at.1 (range_same at.0.0 r at.2)
 
-abbrev new_ranges : List (Range × ℕ) → List Range → List Range
-new_ranges active ranges = filter (λ r. not (is_active active r)) ranges
+-- an element's ranges join the active ones, each that isn't among them yet
+module _ (place : ℕ) where
+  with_one : (active : List (Range ℕ × ℕ)) (q : Range ℕ) → ranges_of_active (active ++ (q, place) ∷ []) ≡ ranges_of_active active ++ q ∷ []
+  with_one active q = map-append (λ (a : Range ℕ × ℕ). a.0) active ((q, place) ∷ [])
 
-placed : (place : ℕ) (ranges : List Range) → ranges_of_active (map (λ (r : Range). (r, place)) ranges) ≡ ranges
-placed place [] = refl
-placed place (r ∷ ranges) = ap (λ rs. r ∷ rs) (placed place ranges)
+  activated_distinct : (active : List (Range ℕ × ℕ)) (ranges : List (Range ℕ)) → Distinct (ranges_of_active active) → Distinct (ranges_of_active (activated active place ranges))
+  activated_distinct active [] d = d
+  activated_distinct active (q ∷ ranges) d = by_test (is_range_active active q) refl (activated_distinct active ranges d) (λ more. activated_distinct (active ++ (q, place) ∷ []) ranges more)
+    where
+      new_one : is_range_active active q ≡ false → (r : Range ℕ) → Among (ranges_of_active active) r → Among (q ∷ []) r → ⊥
+      new_one is r old (inl same) = true≢false (sym (among_active active q (subst (Among (ranges_of_active active)) (sym same) old)) ∙ is)
+      new_one is r old (inr a) = absurd a
 
-active_more : (item : OpenItem) (outer : List OpenItem) → ranges_of_active (active_of (item ∷ outer)) ≡ ranges_of_active (active_of outer) ++ new_ranges (active_of outer) item.hereditary_jumps
-active_more item outer =
-    map-append (λ (a : Range × ℕ). a.0) (active_of outer) _ ∙ ap (λ rs. ranges_of_active (active_of outer) ++ rs) (placed (length outer) _)
+      by_test : (b : Bool) → is_range_active active q ≡ b → Distinct (ranges_of_active (activated active place ranges))
+          → (Distinct (ranges_of_active (active ++ (q, place) ∷ [])) → Distinct (ranges_of_active (activated (active ++ (q, place) ∷ []) place ranges)))
+          → Distinct (ranges_of_active (activated (if b then active else active ++ (q, place) ∷ []) place ranges))
+      by_test true is kept added = kept
+      by_test false is kept added = added (subst Distinct (sym (with_one active q)) (distinct_append (ranges_of_active active) (q ∷ []) d (λ a. absurd a, tt) (new_one is)))
+
+  activated_from : (active : List (Range ℕ × ℕ)) (ranges : List (Range ℕ)) (r : Range ℕ) → Among (ranges_of_active (activated active place ranges)) r → Among (ranges_of_active active) r ⊎ Among ranges r
+  activated_from active [] r a = inl a
+  activated_from active (q ∷ ranges) r a = by_test (is_range_active active q) (activated_from active ranges r) (activated_from (active ++ (q, place) ∷ []) ranges r) a
+    where
+      later : Among (ranges_of_active active) r ⊎ Among ranges r → Among (ranges_of_active active) r ⊎ Among (q ∷ ranges) r
+      later (inl old) = inl old
+      later (inr new) = inr (inr new)
+
+      one : Among (ranges_of_active active) r ⊎ Among (q ∷ []) r → Among (ranges_of_active active) r ⊎ Among (q ∷ ranges) r
+      one (inl old) = inl old
+      one (inr (inl same)) = inr (inl same)
+      one (inr (inr a)) = absurd a
+
+      added : Among (ranges_of_active (active ++ (q, place) ∷ [])) r ⊎ Among ranges r → Among (ranges_of_active active) r ⊎ Among (q ∷ ranges) r
+      added (inl old) = one (among_either (ranges_of_active active) (q ∷ []) r (subst (λ rs. Among rs r) (with_one active q) old))
+      added (inr new) = inr (inr new)
+
+      by_test : (b : Bool) → (Among (ranges_of_active (activated active place ranges)) r → Among (ranges_of_active active) r ⊎ Among ranges r)
+          → (Among (ranges_of_active (activated (active ++ (q, place) ∷ []) place ranges)) r → Among (ranges_of_active (active ++ (q, place) ∷ [])) r ⊎ Among ranges r)
+          → Among (ranges_of_active (activated (if b then active else active ++ (q, place) ∷ []) place ranges)) r → Among (ranges_of_active active) r ⊎ Among (q ∷ ranges) r
+      by_test true kept more a = later (kept a)
+      by_test false kept more a = added (more a)
+
+  activated_has : (active : List (Range ℕ × ℕ)) (ranges : List (Range ℕ)) (r : Range ℕ) → Among (ranges_of_active active) r ⊎ Among ranges r → Among (ranges_of_active (activated active place ranges)) r
+  activated_has active [] r (inl old) = old
+  activated_has active [] r (inr new) = absurd new
+  activated_has active (q ∷ ranges) r h = by_test (is_range_active active q) refl (activated_has active ranges r) (activated_has (active ++ (q, place) ∷ []) ranges r)
+    where
+      kept : is_range_active active q ≡ true → Among (ranges_of_active active) r ⊎ Among (q ∷ ranges) r → Among (ranges_of_active active) r ⊎ Among ranges r
+      kept is (inl old) = inl old
+      kept is (inr (inl same)) = inl (subst (Among (ranges_of_active active)) same (active_among active q is))
+      kept is (inr (inr new)) = inr new
+
+      added : Among (ranges_of_active active) r ⊎ Among (q ∷ ranges) r → Among (ranges_of_active (active ++ (q, place) ∷ [])) r ⊎ Among ranges r
+      added (inl old) = inl (subst (λ rs. Among rs r) (sym (with_one active q)) (among_front (ranges_of_active active) (q ∷ []) r old))
+      added (inr (inl same)) = inl (subst (λ rs. Among rs r) (sym (with_one active q)) (among_back (ranges_of_active active) (q ∷ []) r (inl same)))
+      added (inr (inr new)) = inr new
+
+      by_test : (b : Bool) → is_range_active active q ≡ b → (Among (ranges_of_active active) r ⊎ Among ranges r → Among (ranges_of_active (activated active place ranges)) r)
+          → (Among (ranges_of_active (active ++ (q, place) ∷ [])) r ⊎ Among ranges r → Among (ranges_of_active (activated (active ++ (q, place) ∷ []) place ranges)) r)
+          → Among (ranges_of_active (activated (if b then active else active ++ (q, place) ∷ []) place ranges)) r
+      by_test true is has more = has (kept is h)
+      by_test false is has more = more (added h)
 
 abbrev SomeAncestorMatches : List Element → Path → Type 0
 SomeAncestorMatches elements path = some_ancestor_passes (matches path) elements ≡ true
@@ -143,9 +196,9 @@ ParentMatches elements path = parent_passes (matches path) elements ≡ true
 
 module _ (paths : List Path) (p : Program) where
   abbrev ActiveAre : List OpenItem → List Element → Type 0
-  ActiveAre items elements = Distinct (ranges_of_active (active_of items)) × ((r : Range) → Among (ranges_of_active (active_of items)) r ↔ IsReached hereditary_jumps_of paths p (SomeAncestorMatches elements) r)
+  ActiveAre items elements = Distinct (ranges_of_active (active_of items)) × ((r : Range ℕ) → Among (ranges_of_active (active_of items)) r ↔ IsReached hereditary_jumps_of paths p (SomeAncestorMatches elements) r)
 
-  reached_by : (which : Instruction → Option Range) (P Q : Path → Type 0) → ((path : Path) → P path → Q path) → (r : Range) → IsReached which paths p P r → IsReached which paths p Q r
+  reached_by : (which : Instruction → Option (Range ℕ)) (P Q : Path → Type 0) → ((path : Path) → P path → Q path) → (r : Range ℕ) → IsReached which paths p P r → IsReached which paths p Q r
   reached_by which P Q f r h = (h.0, h.1, h.2, h.3, h.4, h.5, f h.1 h.6)
 
   active_are : (items : List OpenItem) (elements : List Element) → AreItems paths p items elements → ActiveAre items elements
@@ -156,24 +209,16 @@ module _ (paths : List Path) (p : Program) where
     where
       more : (item : OpenItem) (items : List OpenItem) (e : Element) (outer : List Element) → IsItem paths p item e outer → ActiveAre items outer → ActiveAre (item ∷ items) (e ∷ outer)
       more item items e outer is before =
-          let old : List (Range × ℕ) = active_of items in
-          let test : Range → Bool = λ r. not (is_active old r) in (
-            subst Distinct (sym (active_more item items)) (distinct_append (ranges_of_active old) (filter test item.hereditary_jumps) before.0
-                (distinct_filter test item.hereditary_jumps (to_distinct item.hereditary_jumps is.hereditary_jumps.once))
-                (λ r in_old in_new. not_both (is_active old r) (among_filter test item.hereditary_jumps r in_new).1 (among_active old r in_old))),
+          let old : List (Range ℕ × ℕ) = active_of items in (
+            activated_distinct (length items) old item.hereditary_jumps before.0,
             λ r. (
-              λ h. elim (among_either (ranges_of_active old) (filter test item.hereditary_jumps) r (subst (λ rs. Among rs r) (active_more item items) h)) [
+              λ h. elim (activated_from (length items) old item.hereditary_jumps r h) [
                 | inl a ↦ reached_by hereditary_jumps_of (SomeAncestorMatches outer) (SomeAncestorMatches (e ∷ outer)) (λ path fits. or_of (matches path e outer) _ (inr fits)) r ((before.1 r).0 a)
-                | inr a ↦ reached_by hereditary_jumps_of (Matches e outer) (SomeAncestorMatches (e ∷ outer)) (λ path fits. or_of (matches path e outer) _ (inl fits)) r
-                    ((is.hereditary_jumps.members r).0 (to_contains item.hereditary_jumps r (among_filter test item.hereditary_jumps r a).0))
+                | inr a ↦ reached_by hereditary_jumps_of (Matches e outer) (SomeAncestorMatches (e ∷ outer)) (λ path fits. or_of (matches path e outer) _ (inl fits)) r ((is.hereditary_jumps.members r).0 (to_contains item.hereditary_jumps r a))
               ],
-              λ h. subst (λ rs. Among rs r) (sym (active_more item items)) (elim (or_parts (matches h.1 e outer) _ h.6) [
-                | inl fits ↦ elim (true_or_not (is_active old r)) [
-                  | inl is_old ↦ among_front (ranges_of_active old) (filter test item.hereditary_jumps) r (active_among old r is_old)
-                  | inr is_new ↦ among_back (ranges_of_active old) (filter test item.hereditary_jumps) r (filter_among test item.hereditary_jumps r
-                      (to_among item.hereditary_jumps r ((is.hereditary_jumps.members r).1 (h.0, h.1, h.2, h.3, h.4, h.5, fits))) is_new)
-                ]
-                | inr fits ↦ among_front (ranges_of_active old) (filter test item.hereditary_jumps) r ((before.1 r).1 (h.0, h.1, h.2, h.3, h.4, h.5, fits))
+              λ h. activated_has (length items) old item.hereditary_jumps r (elim (or_parts (matches h.1 e outer) _ h.6) [
+                | inl fits ↦ inr (to_among item.hereditary_jumps r ((is.hereditary_jumps.members r).1 (h.0, h.1, h.2, h.3, h.4, h.5, fits)))
+                | inr fits ↦ inl ((before.1 r).1 (h.0, h.1, h.2, h.3, h.4, h.5, fits))
               ]),
             ),
           )
@@ -224,7 +269,7 @@ module _ (elements : List Element) where
   descendant_left (Then front Descendant c) h = subst (SomeAncestorMatches elements) (sym (one_front front h.0 Descendant Descendant h.1)) h.2
 
 module _ (paths : List Path) where
-  entry_holds : (r : Range) → HoldsPlaces paths r None → HoldOnce paths (r ∷ []) (λ path. above path ≡ None)
+  entry_holds : (r : Range ℕ) → HoldsPlaces paths r None → HoldOnce paths (r ∷ []) (λ path. above path ≡ None)
   entry_holds r h = record {
     once = to_once (all_places (r ∷ [])) (subst Distinct (sym (append-nil (places r))) (distinct_range r.start (r.end - r.start)));
     members = λ place. (
@@ -234,7 +279,7 @@ module _ (paths : List Path) where
   }
 
   -- two lists of ranges that hold the places of different paths
-  joined : (rs qs : List Range) (P Q R : Path → Type 0) → HoldOnce paths rs P → HoldOnce paths qs Q → ((path : Path) → P path → Q path → ⊥) → ((path : Path) → R path ↔ (P path ⊎ Q path)) → HoldOnce paths (rs ++ qs) R
+  joined : (rs qs : List (Range ℕ)) (P Q R : Path → Type 0) → HoldOnce paths rs P → HoldOnce paths qs Q → ((path : Path) → P path → Q path → ⊥) → ((path : Path) → R path ↔ (P path ⊎ Q path)) → HoldOnce paths (rs ++ qs) R
   joined rs qs P Q R first second apart both =
       let whole : all_places (rs ++ qs) ≡ all_places rs ++ all_places qs = flat_map-append places rs qs in
       record {
@@ -275,9 +320,9 @@ ranges_hold_left_matches s paths p items elements closed program are =
 
 -- Each of them lies within the instructions.
 pub ranges_are_inside : (s : Selectors) (paths : List Path) (p : Program) (items : List OpenItem) (elements : List Element) → AreClosed s → IsProgramOf s paths p → AreItems paths p items elements
-    → (r : Range) → Among (ranges_to_run p items (active_of items)) r → (r.start ≤ r.end) × (r.end ≤ length p.instructions)
+    → (r : Range ℕ) → Among (ranges_to_run p items (active_of items)) r → (r.start ≤ r.end) × (r.end ≤ length p.instructions)
 ranges_are_inside s paths p items elements closed program are r (inl is) =
-    subst (λ (q : Range). (q.start ≤ q.end) × (q.end ≤ length p.instructions)) is (let inside = program.entry.inside in let count = program.count in (program.entry.ordered, omega (arith, inside, count)))
+    subst (λ (q : Range ℕ). (q.start ≤ q.end) × (q.end ≤ length p.instructions)) is (let inside = program.entry.inside in let count = program.count in (program.entry.ordered, omega (arith, inside, count)))
 ranges_are_inside s paths p items elements closed program are r (inr a) =
     elim (among_either (last_jumps items) (ranges_of_active (active_of items)) r a) [
       | inl j ↦

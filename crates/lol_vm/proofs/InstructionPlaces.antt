@@ -3,7 +3,7 @@ use Rattle.std.proofs.Common.{◌≡◌, ℕ, zero, suc, ◌+◌, ◌-◌, ◌�
 use Rattle.std.specs.Prelude.{slice_get, count_by, if◌then◌else◌}
 use Rattle.std.specs.List.{range_with_len, drop-map, take-map}
 use Rattle.std.specs.Option.{option_map}
-use Rattle.std.specs.declared.ops.Range as std
+use Rattle.std.specs.declared.ops.Range.{Range}
 use Rattle.std.proofs.lemmas.List.{map-append, length-map}
 use Rattle.lol_base.specs.MemberLaws.{Among, contains_from_among, count_by-cons}
 use Rattle.lol_memory.specs.Ids.{Ids}
@@ -11,7 +11,7 @@ use Rattle.lol_instructions.specs.Attributes.{tag_attributes}
 use Rattle.lol_instructions.specs.Compiled.{sight_of}
 use Rattle.lol_instructions.specs.Compounds.{is_open}
 use Rattle.lol_program.specs.Programs.{Instruction, Program, places, all_places}
-use Rattle.lol_program.specs.ProgramViews.{range_shown, instruction_shown, code_of}
+use Rattle.lol_program.specs.ProgramViews.{instruction_shown, code_of}
 use Rattle.lol_instructions.specs.Tests.{Element}
 use Rattle.lol_instructions.specs.declared.instruction.Instruction as code
 use Rattle.lol_instructions.specs.declared.name_value.NameValue.{NameValue}
@@ -43,7 +43,7 @@ module _ (p : Program) (by_type : Bool) (instructions : List code.Instruction) (
   abbrev stands : code.Instruction → Option Instruction
   stands i = Some (instruction_shown by_type i)
 
-  at_one : (r : std.Range ℕ) → IsInsideOf instructions r → map (slice_get p.instructions) (places (range_shown r)) ≡ map stands (instructions_at instructions r)
+  at_one : (r : Range ℕ) → IsInsideOf instructions r → map (slice_get p.instructions) (places r) ≡ map stands (instructions_at instructions r)
   at_one r inside =
       let count : length p.instructions ≡ length instructions = ap length shown ∙ length-map instructions (instruction_shown by_type) in
       at_range p.instructions r.start (r.end - r.start) (omega (arith, inside.0, inside.1, count))
@@ -55,10 +55,10 @@ module _ (p : Program) (by_type : Bool) (instructions : List code.Instruction) (
       mapped [] = refl
       mapped (x ∷ xs) = ap (λ more. stands x ∷ more) (mapped xs)
 
-  at_all : (ranges : List (std.Range ℕ)) → ((r : std.Range ℕ) → Among ranges r → IsInsideOf instructions r) → map (slice_get p.instructions) (all_places (map range_shown ranges)) ≡ map stands (all_at instructions ranges)
+  at_all : (ranges : List (Range ℕ)) → ((r : Range ℕ) → Among ranges r → IsInsideOf instructions r) → map (slice_get p.instructions) (all_places ranges) ≡ map stands (all_at instructions ranges)
   at_all [] inside = refl
   at_all (r ∷ ranges) inside =
-      map-append (slice_get p.instructions) (places (range_shown r)) (all_places (map range_shown ranges))
+      map-append (slice_get p.instructions) (places r) (all_places ranges)
       ∙ ((λ i. at_one r (inside r (inl refl)) i ++ at_all ranges (λ q a. inside q (inr a)) i) ∙ sym (map-append stands (instructions_at instructions r) (all_at instructions ranges)))
 
   -- 2. Runs over places and over instructions
@@ -139,16 +139,16 @@ module _ (p : Program) (by_type : Bool) (instructions : List code.Instruction) (
           by_value False passed failed = failed
           by_value Open passed failed = has
 
-inside_each : (instructions : List code.Instruction) (ranges : List (std.Range ℕ)) → All (IsInsideOf instructions) ranges → (r : std.Range ℕ) → Among ranges r → IsInsideOf instructions r
+inside_each : (instructions : List code.Instruction) (ranges : List (Range ℕ)) → All (IsInsideOf instructions) ranges → (r : Range ℕ) → Among ranges r → IsInsideOf instructions r
 inside_each instructions ranges all r a = let at = contains_from_among ranges r a in subst (IsInsideOf instructions) at.2 (all at.0 r at.1)
 
 pub instructions_are_as_open : InstructionsAreAsOpen
 instructions_are_as_open p by_type e instructions ranges are =
     let at = at_all p by_type instructions are.same_code ranges (inside_each instructions ranges are.inside) in
     record {
-      count = sym (length-map (all_at instructions ranges) (stands p by_type instructions are.same_code)) ∙ (sym (ap length at) ∙ length-map (all_places (map range_shown ranges)) (slice_get p.instructions));
-      stop = same_stop p by_type instructions are.same_code e 0 (all_places (map range_shown ranges)) (all_at instructions ranges) at ∙ as_it_is (first_open p e (all_places (map range_shown ranges)));
-      opens = same_opens p by_type instructions are.same_code e (all_places (map range_shown ranges)) (all_at instructions ranges) at;
+      count = sym (length-map (all_at instructions ranges) (stands p by_type instructions are.same_code)) ∙ (sym (ap length at) ∙ length-map (all_places ranges) (slice_get p.instructions));
+      stop = same_stop p by_type instructions are.same_code e 0 (all_places ranges) (all_at instructions ranges) at ∙ as_it_is (first_open p e (all_places ranges));
+      opens = same_opens p by_type instructions are.same_code e (all_places ranges) (all_at instructions ranges) at;
     }
   where
     as_it_is : (o : Option ℕ) → option_map (λ n. 0 + n) o ≡ o
@@ -159,6 +159,6 @@ pub instructions_gather : {E : Type 0} → InstructionsGather E
 instructions_gather ids_of with_ids keeps p by_type e instructions ranges ctx context are has =
     let at = at_all p by_type instructions are.same_code ranges (inside_each instructions ranges are.inside) in
     record {
-      attributes = gather_attributes p by_type instructions are.same_code e ids_of with_ids keeps (all_places (map range_shown ranges)) (all_at instructions ranges) ctx context at has;
-      names = gather_names p by_type instructions are.same_code e ids_of with_ids keeps (all_places (map range_shown ranges)) (all_at instructions ranges) ctx context at has;
+      attributes = gather_attributes p by_type instructions are.same_code e ids_of with_ids keeps (all_places ranges) (all_at instructions ranges) ctx context at has;
+      names = gather_names p by_type instructions are.same_code e ids_of with_ids keeps (all_places ranges) (all_at instructions ranges) ctx context at has;
     }

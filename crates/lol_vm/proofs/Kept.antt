@@ -1,9 +1,8 @@
 -- A machine that stands for events, one event on.
-use Rattle.std.proofs.Common.{◌≡◌, ℕ, zero, suc, ◌+◌, ◌<◌, ◌≤◌, Bool, true, false, cond, not, List, [], ◌∷◌, ◌++◌, length, map, filter, drop, position, Option, Some, None, refl, sym, ap, ◌∙◌, subst, arith}
-use Rattle.std.specs.Prelude.{nat_lt, nat_le, max, ◌&&◌, ◌==◌, if◌then◌else◌}
-use Rattle.std.proofs.lemmas.Bool.Decides.{Decides-eqb, Decides-ltb, nat_tests}
-use Rattle.std.proofs.lemmas.List.{append-nil, length-drop, drop-map}
-use Rattle.std.proofs.lemmas.List.Elements.{filter-append}
+use Rattle.std.proofs.Common.{◌≡◌, ℕ, zero, suc, ◌+◌, ◌<◌, ◌≤◌, Bool, true, false, cond, not, List, [], ◌∷◌, ◌++◌, length, map, drop, position, Option, Some, None, refl, sym, ap, ◌∙◌, subst, arith}
+use Rattle.std.specs.Prelude.{nat_le, max, ◌&&◌, ◌==◌, if◌then◌else◌}
+use Rattle.std.proofs.lemmas.Bool.Decides.{Decides-eqb, nat_tests}
+use Rattle.std.proofs.lemmas.List.{length-drop, drop-map}
 use Rattle.std.proofs.lemmas.Slice.Eq.{bytes_eq-Decides}
 use Rattle.std.specs.Str.{bytes_eq}
 use Rattle.lol_base.specs.Names.{same_name, lowercased}
@@ -20,8 +19,10 @@ use Rattle.lol_vm.specs.Refusals.{longest, longest_from}
 use Rattle.lol_vm.specs.DocumentLaws.{document_push, longest_push}
 use Rattle.lol_vm.proofs.Runs.{position-map}
 use Rattle.lol_base.specs.BoolLaws.{and-false, not_true}
-use Rattle.lol_program.specs.Programs.{Range, Program, AreClosed, all_places}
-use Rattle.lol_vm.specs.Machines.{OpenItem, AreItems, HasRanges, Matches, HoldOnce, LeftMatches, active_of, newly_active, is_active, ranges_to_run, jumps_of, hereditary_jumps_of}
+use Rattle.lol_program.specs.Programs.{Program, AreClosed, all_places}
+use Rattle.lol_stack.specs.Active.{activated}
+use Rattle.lol_stack.specs.SoundRangeLaws.{before, before-active_after, kept-active_after}
+use Rattle.lol_vm.specs.Machines.{OpenItem, AreItems, HasRanges, Matches, HoldOnce, LeftMatches, active_of, ranges_to_run, jumps_of, hereditary_jumps_of}
 use Rattle.lol_vm.specs.PlaceRuns.{Context, context_of, run}
 use Rattle.lol_vm.specs.Standing.{Machine, AreTyped, TypedStand, AreCounted, StandsOn, StandsFor, counted_root, counted_last, counted_typed, counted, opened, cut, closed_count, ended, started, machine_after, Descend, IsOrdered, DocumentsAreOrdered, NewStands, StandingIsKept, unfinished, finished, RequestsStand, FinishingIsKept, CountersArePlaces, or_root}
 use Rattle.lol_vm.proofs.Held.{ranges_hold_left_matches}
@@ -155,40 +156,17 @@ module _ (paths : List Path) (p : Program) where
 
 -- 4. Active ranges of fewer items
 
-abbrev kept_active : ℕ → List (Range × ℕ) → List (Range × ℕ)
-kept_active n active = filter (λ (a : Range × ℕ). nat_lt a.1 n) active
-
-place_below : (n place : ℕ) → n ≤ place → nat_lt place n ≡ false
-place_below n place h = not_true (nat_lt place n) (λ e. let below = (Decides-ltb place n).0 e in omega (arith, h, below))
-
-below_kept : (n place : ℕ) → place < n → nat_lt place n ≡ true
-below_kept n place h = (Decides-ltb place n).1 h
-
-none_kept : (n place : ℕ) (ranges : List Range) → n ≤ place → kept_active n (map (λ (r : Range). (r, place)) ranges) ≡ []
-none_kept n place [] h = refl
-none_kept n place (r ∷ ranges) h = λ i. cond (place_below n place h i) ((r, place) ∷ kept_active n (map (λ (r : Range). (r, place)) ranges)) (none_kept n place ranges h i)
-
-all_kept : (n place : ℕ) (ranges : List Range) → place < n → kept_active n (map (λ (r : Range). (r, place)) ranges) ≡ map (λ (r : Range). (r, place)) ranges
-all_kept n place [] h = refl
-all_kept n place (r ∷ ranges) h = λ i. cond (below_kept n place h i) ((r, place) ∷ all_kept n place ranges h i) (kept_active n (map (λ (r : Range). (r, place)) ranges))
-
-whole_kept : (n : ℕ) (items : List OpenItem) → length items ≤ n → kept_active n (active_of items) ≡ active_of items
+whole_kept : (n : ℕ) (items : List OpenItem) → length items ≤ n → before n (active_of items) ≡ active_of items
 whole_kept n [] h = refl
-whole_kept n (item ∷ items) h =
-    filter-append (λ (a : Range × ℕ). nat_lt a.1 n) (active_of items) (newly_active (active_of items) (length items) item.hereditary_jumps)
-    ∙ (λ i. whole_kept n items (omega (arith, h)) i ++ all_kept n (length items) (filter (λ r. not (is_active (active_of items) r)) item.hereditary_jumps) (omega (arith, h)) i)
+whole_kept n (item ∷ items) h = kept-active_after n (length items) (active_of items) (item.hereditary_jumps ∷ []) (omega (arith, h)) (whole_kept n items (omega (arith, h)))
 
 drop_shorter : {A : Type 0} (n : ℕ) (xs : List A) → length (drop n xs) ≤ length xs
 drop_shorter n xs = omega (arith, length-drop n xs)
 
-pub active_drop : (n : ℕ) (items : List OpenItem) → kept_active (length (drop n items)) (active_of items) ≡ active_of (drop n items)
+pub active_drop : (n : ℕ) (items : List OpenItem) → before (length (drop n items)) (active_of items) ≡ active_of (drop n items)
 active_drop zero items = whole_kept (length items) items (omega arith)
 active_drop (suc n) [] = refl
-active_drop (suc n) (item ∷ items) =
-    let m = length (drop n items) in
-    filter-append (λ (a : Range × ℕ). nat_lt a.1 m) (active_of items) (newly_active (active_of items) (length items) item.hereditary_jumps)
-    ∙ ((λ i. active_drop n items i ++ none_kept m (length items) (filter (λ r. not (is_active (active_of items) r)) item.hereditary_jumps) (drop_shorter n items) i)
-    ∙ append-nil (active_of (drop n items)))
+active_drop (suc n) (item ∷ items) = before-active_after (length (drop n items)) (length items) (active_of items) (item.hereditary_jumps ∷ []) (drop_shorter n items) ∙ active_drop n items
 
 -- 5. Counters
 
@@ -260,7 +238,7 @@ module _ (s : Selectors) (esi : Bool) (paths : List Path) (d : Document) (longes
       children = λ i. sym no_children i ∷ stands.counted.children i;
       typed = λ by_type. typed_stand (stands.counted.typed by_type);
     };
-    active = λ i. stands.active i ++ newly_active (stands.active i) (length m.items) context.hereditary_jumps;
+    active = λ i. activated (stands.active i) (length m.items) context.hereditary_jumps;
     charged = (λ i. slots_after m.item_bytes (stands.charged i) (items_length paths m.program m.items d.open_elements stands.items i)) ∙ (slots_grow m.item_bytes (length d.open_elements) most enough ∙ ap (slots m.item_bytes) sizes);
     switch = stands.switch;
     never_refused = stands.never_refused;
@@ -332,7 +310,7 @@ module _ (s : Selectors) (esi : Bool) (paths : List Path) (m : Machine) (d : Doc
       children = ap (drop n) stands.counted.children ∙ drop-map (λ (e : Element). children_of (Some e.number) d.children) n d.open_elements;
       typed = λ by_type. subst (λ level. TypedStand (cut_typed level) (record { events = d.events + 1; children = d.children; open_elements = drop n d.open_elements })) (sym fewer) (typed_stand (stands.counted.typed by_type));
     };
-    active = ap (kept_active (length (drop n m.items))) stands.active ∙ active_drop n m.items;
+    active = ap (before (length (drop n m.items))) stands.active ∙ active_drop n m.items;
     charged = same_slots (length (drop n d.open_elements)) (drop_shorter n d.open_elements);
     switch = stands.switch;
     never_refused = stands.never_refused;
@@ -422,11 +400,11 @@ counters_are_places m d tag are as_many = (
 -- 8. Requests
 
 module _ (s : Selectors) (esi : Bool) (events : List Event) (tag : StartTag) where
-  abbrev before : Document
-  before = document s esi events
+  abbrev earlier : Document
+  earlier = document s esi events
 
   abbrev asked_for : Type 0
-  asked_for = asks s (element_of before tag) before.open_elements ≡ true
+  asked_for = asks s (element_of earlier tag) earlier.open_elements ≡ true
 
   and_not : (a b : Bool) → a ≡ true → (b && not (a && true)) ≡ false
   and_not a b h = ap (λ c. b && not (c && true)) h ∙ and-false b
@@ -441,11 +419,11 @@ module _ (s : Selectors) (esi : Bool) (events : List Event) (tag : StartTag) whe
       not_dropped false false = refl
 
   -- the document after the event as dropped
-  pub after_unfinished : asked_for → document s esi (events ++ Start (unfinished tag) ∷ []) ≡ after_start before tag false
-  after_unfinished h = document_push s esi empty events (Start (unfinished tag)) ∙ ap (after_start before (unfinished tag)) (and_not (asks s (element_of before (unfinished tag)) before.open_elements) (has_content esi (unfinished tag)) (asks_by_names (element_of before tag) tag.attributes tag.self_closing false before.open_elements s ∙ h))
+  pub after_unfinished : asked_for → document s esi (events ++ Start (unfinished tag) ∷ []) ≡ after_start earlier tag false
+  after_unfinished h = document_push s esi empty events (Start (unfinished tag)) ∙ ap (after_start earlier (unfinished tag)) (and_not (asks s (element_of earlier (unfinished tag)) earlier.open_elements) (has_content esi (unfinished tag)) (asks_by_names (element_of earlier tag) tag.attributes tag.self_closing false earlier.open_elements s ∙ h))
 
-  after_finished : tag.finish ≡ true → document s esi (events ++ Start tag ∷ []) ≡ after_start before tag (has_content esi tag)
-  after_finished h = document_push s esi empty events (Start tag) ∙ ap (after_start before tag) (and_asked (asks s (element_of before tag) before.open_elements) (has_content esi tag) tag.finish h)
+  after_finished : tag.finish ≡ true → document s esi (events ++ Start tag ∷ []) ≡ after_start earlier tag (has_content esi tag)
+  after_finished h = document_push s esi empty events (Start tag) ∙ ap (after_start earlier tag) (and_asked (asks s (element_of earlier tag) earlier.open_elements) (has_content esi tag) tag.finish h)
 
   longest_after : (event : Event) → longest s esi (events ++ event ∷ []) ≡ max (longest s esi events) (length (document s esi (events ++ event ∷ [])).open_elements)
   longest_after event = longest_push s esi empty events event ∙ ap (λ (d : Document). max (longest s esi events) (length d.open_elements)) (sym (document_push s esi empty events event))

@@ -1,38 +1,31 @@
 -- Stacks that keep what a machine keeps.
-use Rattle.std.proofs.Common.{◌≡◌, ℕ, suc, ◌+◌, ◌-◌, ◌<◌, ◌≤◌, Bool, true, false, cond, not, List, [], ◌∷◌, ◌++◌, length, map, filter, reverse, take, drop, position, Option, Some, None, inl, inr, refl, sym, ap, ◌∙◌, subst, arith, append_assoc}
-use Rattle.std.specs.Prelude.{nat_lt, nat_le, if◌then◌else◌, ◌||◌}
+use Rattle.std.proofs.Common.{◌≡◌, ℕ, suc, ◌+◌, ◌-◌, ◌<◌, ◌≤◌, Bool, true, false, cond, List, [], ◌∷◌, ◌++◌, length, map, filter, reverse, take, drop, position, Option, Some, None, refl, sym, ap, ◌∙◌, subst, arith}
+use Rattle.std.specs.Prelude.{nat_lt, nat_le, if◌then◌else◌}
 use Rattle.std.specs.List.{drop-map, take-map}
 use Rattle.std.specs.Option.{option_map}
 use Rattle.std.proofs.lemmas.Bool.Decides.{nat_tests}
 use Rattle.std.proofs.lemmas.List.Quantifiers.{position-Some}
-use Rattle.std.proofs.lemmas.List.{length-drop, map-append, reverse-append, length-map, length-reverse, append-nil}
-use Rattle.std.specs.declared.ops.Range as std
-use Rattle.lol_base.specs.BoolLaws.{not_true, or-false}
-use Rattle.lol_base.specs.MemberLaws.{Among, Distinct}
+use Rattle.std.proofs.lemmas.List.{length-drop, map-append, reverse-append, length-map, length-reverse}
+use Rattle.std.specs.declared.ops.Range.{Range}
 use Rattle.lol_base.specs.Names.{same_name}
 use Rattle.lol_base.specs.LocalNames.{Name, local_name}
 use Rattle.lol_memory.specs.LimitedVec.{LimitedVec}
 use Rattle.lol_memory.specs.Slots.{slots_after}
 use Rattle.lol_memory.specs.SlotLaws.{slots_pushed}
-use Rattle.lol_program.specs.Programs.{Range}
-use Rattle.lol_program.specs.ProgramViews.{range_shown}
-use Rattle.lol_stack.specs.Active as active
 use Rattle.lol_stack.specs.Active.{activated}
-use Rattle.lol_vm.specs.Machines.{OpenItem, active_of, is_active, same_range, newly_active}
+use Rattle.lol_vm.specs.Machines.{OpenItem, active_of}
 use Rattle.lol_stack.specs.TypedCounts.{TypedCount, cut_to}
 use Rattle.lol_vm.specs.Standing.{Machine, cut, closed_count, ended}
 use Rattle.lol_stack.specs.TypedLaws.{levels_in}
 use Rattle.lol_stack.specs.ClimbLaws.{climb_lower, climb_cut}
-use Rattle.lol_stack.specs.Stacks.{items_in, active_in, typed_in, IsSame, IsClosed, IsEndedAt}
-use Rattle.lol_vm.specs.StackMachines.{item_shown, items_shown, children_shown, active_shown, in_lower_case, KeepsTyped, KeepsMachine, NewStackKeeps, SameStackKeeps, OpeningStackKeeps}
+use Rattle.lol_stack.specs.Stacks.{items_in, typed_in, IsSame, IsClosed, IsEndedAt}
+use Rattle.lol_vm.specs.StackMachines.{item_shown, items_shown, children_shown, in_lower_case, KeepsTyped, KeepsMachine, NewStackKeeps, SameStackKeeps, OpeningStackKeeps}
 use Rattle.lol_stack.specs.declared.stack_item.StackItemOf.{StackItemOf}
 use Rattle.lol_stack.specs.declared.stack.StackOf.{StackOf}
 use Rattle.lol_stack.specs.declared.stack.StackNames.{StackNames}
-use Rattle.lol_vm.proofs.Held.{range_is}
 use Rattle.lol_vm.proofs.Kept.{active_drop}
 use Rattle.lol_vm.proofs.Runs.{drop-reverse}
 use Rattle.lol_vm.proofs.TypedLevels.{cut_to-all, shown_cut as typed_cut}
-use Rattle.lol_vm.proofs.Lists.{to_distinct}
 
 -- 1. Lists, the last element first
 
@@ -42,68 +35,13 @@ shown_push f xs x = ap reverse (map-append f xs (x ∷ [])) ∙ reverse-append (
 pub shown_length : {A B : Type 0} (f : A → B) (xs : List A) → length (reverse (map f xs)) ≡ length xs
 shown_length f xs = length-reverse (map f xs) ∙ length-map xs f
 
--- 2. Active ranges
-
-active_same : (xs : List (std.Range ℕ × ℕ)) (r : std.Range ℕ) → is_active (active_shown xs) (range_shown r) ≡ active.is_range_active xs r
-active_same [] r = refl
-active_same (a ∷ xs) r = ap (λ b. active.is_same_range a.0 r || b) (active_same xs r)
-
--- one more active range makes no other range active
-active_push : (xs : List (Range × ℕ)) (a : Range × ℕ) (r : Range) → is_active (xs ++ a ∷ []) r ≡ (is_active xs r || same_range a.0 r)
-active_push [] a r = or-false (same_range a.0 r)
-active_push (x ∷ xs) a r = ap (λ b. same_range x.0 r || b) (active_push xs a r) ∙ or_assoc (same_range x.0 r) (is_active xs r) (same_range a.0 r)
-  where
-    or_assoc : (a b c : Bool) → (a || (b || c)) ≡ ((a || b) || c)
-    or_assoc true b c = refl
-    or_assoc false b c = refl
-
-new_others : (xs : List (Range × ℕ)) (r : Range) (place : ℕ) (rs : List Range) → (Among rs r → ⊥) → newly_active (xs ++ (r, place) ∷ []) place rs ≡ newly_active xs place rs
-new_others xs r place [] fresh = refl
-new_others xs r place (q ∷ rs) fresh =
-    let differ : same_range r q ≡ false = not_true (same_range r q) (λ same. fresh (inl (sym (range_is r q same)))) in
-    let same : is_active (xs ++ (r, place) ∷ []) q ≡ is_active xs q = active_push xs (r, place) q ∙ (ap (λ b. is_active xs q || b) differ ∙ or-false (is_active xs q)) in
-    let later = new_others xs r place rs (λ a. fresh (inr a)) in
-    by_test (is_active (xs ++ (r, place) ∷ []) q) (is_active xs q) same later
-  where
-    by_test : (a b : Bool) → a ≡ b → newly_active (xs ++ (r, place) ∷ []) place rs ≡ newly_active xs place rs
-        → map {B = Range × ℕ} (λ (q : Range). (q, place)) (cond (not a) (q ∷ filter (λ q. not (is_active (xs ++ (r, place) ∷ []) q)) rs) (filter (λ q. not (is_active (xs ++ (r, place) ∷ []) q)) rs))
-        ≡ map {B = Range × ℕ} (λ (q : Range). (q, place)) (cond (not b) (q ∷ filter (λ q. not (is_active xs q)) rs) (filter (λ q. not (is_active xs q)) rs))
-    by_test true true is later = later
-    by_test false false is later = ap (λ more. (q, place) ∷ more) later
-    by_test true false is later = cc
-    by_test false true is later = cc
-
-abbrev not_active : List (std.Range ℕ × ℕ) → List (std.Range ℕ) → List Range
-not_active xs rs = filter (λ q. not (is_active (active_shown xs) q)) (map range_shown rs)
-
-abbrev Shown : ℕ → List (std.Range ℕ) → List (std.Range ℕ × ℕ) → Type 0
-Shown place rs xs = active_shown (activated xs place rs) ≡ active_shown xs ++ newly_active (active_shown xs) place (map range_shown rs)
-
-pub activated_shown : (xs : List (std.Range ℕ × ℕ)) (place : ℕ) (rs : List (std.Range ℕ)) → Distinct (map range_shown rs)
-    → active_shown (activated xs place rs) ≡ active_shown xs ++ newly_active (active_shown xs) place (map range_shown rs)
-activated_shown xs place [] d = sym (append-nil (active_shown xs))
-activated_shown xs place (r ∷ rs) d =
-    by_test (active.is_range_active xs r) (is_active (active_shown xs) (range_shown r)) (active_same xs r) (activated_shown xs place rs d.1) (activated_shown (xs ++ (r, place) ∷ []) place rs d.1)
-  where
-    by_test : (a b : Bool) → b ≡ a → Shown place rs xs → Shown place rs (xs ++ (r, place) ∷ [])
-        → active_shown (activated (if a then xs else xs ++ (r, place) ∷ []) place rs) ≡ active_shown xs ++ map {B = Range × ℕ} (λ (q : Range). (q, place)) (cond (not b) (range_shown r ∷ not_active xs rs) (not_active xs rs))
-    by_test true true is kept added = kept
-    by_test false false is kept added =
-        let more : active_shown (xs ++ (r, place) ∷ []) ≡ active_shown xs ++ (range_shown r, place) ∷ [] = map-append (λ (a : std.Range ℕ × ℕ). (range_shown a.0, a.1)) xs ((r, place) ∷ []) in
-        added
-        ∙ ((λ i. more i ++ newly_active (more i) place (map range_shown rs))
-        ∙ (ap (λ new. (active_shown xs ++ (range_shown r, place) ∷ []) ++ new) (new_others (active_shown xs) (range_shown r) place (map range_shown rs) d.0)
-        ∙ append_assoc (active_shown xs) ((range_shown r, place) ∷ []) (newly_active (active_shown xs) place (map range_shown rs))))
-    by_test true false is kept added = cc
-    by_test false true is kept added = cc
-
--- 3. Counters by type
+-- 2. Counters by type
 
 keeps_typed_above : (typed : Option (List TypedCount)) (by_type : Bool) (a b : ℕ) (counts : ℕ → List ℕ → ℕ) → a ≤ b → KeepsTyped typed by_type a counts → KeepsTyped typed by_type b counts
 keeps_typed_above None by_type a b counts h keeps = keeps
 keeps_typed_above (Some ts) by_type a b counts h keeps = (keeps.0, climb_lower a b (levels_in ts) h keeps.1, keeps.2)
 
--- 4. Stacks
+-- 3. Stacks
 
 module _ {E : Type 0} where
   pub items_counted : (s : StackOf Name StackNames E) (m : Machine) → KeepsMachine s m → length m.items ≡ length (items_in s)
@@ -112,7 +50,7 @@ module _ {E : Type 0} where
   pub new_stack_keeps : NewStackKeeps E
   new_stack_keeps s p esi item_bytes new = record {
     items = sym (ap (λ (v : LimitedVec (StackItemOf Name E)). items_shown v.items) new.items);
-    active = sym (ap active_shown new.active);
+    active = sym new.active;
     root_children = sym new.root;
     children = sym (ap (λ (v : LimitedVec (StackItemOf Name E)). children_shown v.items) new.items);
     typed = subst (λ typed. KeepsTyped typed p.by_type 0 (λ level name. 0)) (sym new.typed) (by_test p.by_type);
@@ -127,7 +65,7 @@ module _ {E : Type 0} where
   pub same_stack_keeps : SameStackKeeps E
   same_stack_keeps old new m keeps same = record {
     items = keeps.items ∙ sym (ap (λ (v : LimitedVec (StackItemOf Name E)). items_shown v.items) same.items);
-    active = keeps.active ∙ sym (ap active_shown same.active);
+    active = keeps.active ∙ sym same.active;
     root_children = keeps.root_children ∙ sym same.root;
     children = keeps.children ∙ sym (ap (λ (v : LimitedVec (StackItemOf Name E)). children_shown v.items) same.items);
     typed = subst (λ typed. KeepsTyped typed m.program.by_type (length m.items) m.typed) (sym same.typed) keeps.typed;
@@ -142,9 +80,7 @@ module _ {E : Type 0} where
       record {
         items = (λ i. record { name = sym (ap (λ (n : Name). n.lowercased) is.named) i; jumps = is.jumps i; hereditary_jumps = is.hereditary_jumps i } ∷ keeps.items i)
             ∙ (sym (shown_push item_shown (items_in old) item) ∙ sym (ap items_shown items));
-        active = (λ i. keeps.active i ++ newly_active (keeps.active i) (count i) (is.hereditary_jumps i))
-            ∙ (sym (activated_shown (active_in old) (length (items_in old)) item.hereditary_jumps (subst Distinct is.hereditary_jumps (to_distinct context.hereditary_jumps is.once)))
-            ∙ sym (ap active_shown push.active));
+        active = (λ i. activated (keeps.active i) (count i) (is.hereditary_jumps i)) ∙ sym push.active;
         root_children = keeps.root_children ∙ sym push.root;
         children = (λ i. sym is.children i ∷ keeps.children i)
             ∙ (sym (shown_push (λ (x : StackItemOf Name E). x.child_counter) (items_in old) item) ∙ sym (ap children_shown items));
@@ -153,23 +89,13 @@ module _ {E : Type 0} where
         slots = (λ i. slots_after (keeps.item_bytes i) (keeps.slots i) (count i)) ∙ (sym (slots_pushed old.items item) ∙ sym (ap (λ (v : LimitedVec (StackItemOf Name E)). v.slots) push.items));
       }
 
--- 5. Closing
+-- 4. Closing
 
 shown_cut : {A B : Type 0} (f : A → B) (xs : List A) (n place : ℕ) → n + place ≡ length xs → drop n (reverse (map f xs)) ≡ reverse (map f (take place xs))
 shown_cut f xs n place sizes =
     let count = length-map xs f in
     let left : length (map f xs) - n ≡ place = omega (arith, sizes, count) in
     drop-reverse n (map f xs) (omega (arith, sizes, count)) ∙ ap reverse (ap (λ k. take k (map f xs)) left ∙ take-map f place xs)
-
-active_cut : (place : ℕ) (xs : List (std.Range ℕ × ℕ)) → filter (λ (a : Range × ℕ). nat_lt a.1 place) (active_shown xs) ≡ active_shown (filter (λ (a : std.Range ℕ × ℕ). nat_lt a.1 place) xs)
-active_cut place [] = refl
-active_cut place (a ∷ xs) = by_test (nat_lt a.1 place) (active_cut place xs)
-  where
-    by_test : (b : Bool) → filter (λ (a : Range × ℕ). nat_lt a.1 place) (active_shown xs) ≡ active_shown (filter (λ (a : std.Range ℕ × ℕ). nat_lt a.1 place) xs)
-        → cond b ((range_shown a.0, a.1) ∷ filter (λ (a : Range × ℕ). nat_lt a.1 place) (active_shown xs)) (filter (λ (a : Range × ℕ). nat_lt a.1 place) (active_shown xs))
-        ≡ active_shown (cond b (a ∷ filter (λ (a : std.Range ℕ × ℕ). nat_lt a.1 place) xs) (filter (λ (a : std.Range ℕ × ℕ). nat_lt a.1 place) xs))
-    by_test true later = ap (λ more. (range_shown a.0, a.1) ∷ more) later
-    by_test false later = later
 
 le_or_above : (level place k : ℕ) → cond (nat_le level place) k 0 ≡ cond (nat_lt place level) 0 k
 le_or_above level place k = grind (arith, nat_tests)
@@ -205,7 +131,7 @@ module _ {E : Type 0} (old new : StackOf Name StackNames E) (m : Machine) (keeps
       let left : length (drop n m.items) ≡ place = length-drop n m.items ∙ omega (arith, sizes, count) in
       record {
         items = sym (drop-map in_lower_case n m.items) ∙ (ap (drop n) keeps.items ∙ (shown_cut item_shown (items_in old) n place sizes ∙ sym (ap items_shown items)));
-        active = (λ i. filter (λ (a : Range × ℕ). nat_lt a.1 (left i)) (keeps.active i)) ∙ (active_cut place (active_in old) ∙ sym (ap active_shown closed.active));
+        active = (λ i. filter (λ (a : Range ℕ × ℕ). nat_lt a.1 (left i)) (keeps.active i)) ∙ sym closed.active;
         root_children = keeps.root_children ∙ sym closed.root;
         children = ap (drop n) keeps.children ∙ (shown_cut (λ (x : StackItemOf Name E). x.child_counter) (items_in old) n place sizes ∙ sym (ap children_shown items));
         typed = subst (λ typed. KeepsTyped typed m.program.by_type (length (drop n m.items)) (cut n m).typed) (sym closed.typed)
@@ -220,7 +146,7 @@ module _ {E : Type 0} (old new : StackOf Name StackNames E) (m : Machine) (keeps
       let kept = same_stack_keeps old new m keeps same in
       record {
         items = kept.items;
-        active = (ap (filter (λ (a : Range × ℕ). nat_lt a.1 (length m.items))) active ∙ (active_drop 0 m.items ∙ sym active)) ∙ kept.active;
+        active = (ap (filter (λ (a : Range ℕ × ℕ). nat_lt a.1 (length m.items))) active ∙ (active_drop 0 m.items ∙ sym active)) ∙ kept.active;
         root_children = kept.root_children;
         children = kept.children;
         typed = keeps_typed_stray (typed_in new) m.program.by_type (length m.items) m.typed kept.typed;

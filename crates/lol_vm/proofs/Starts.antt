@@ -1,7 +1,6 @@
 -- What the machine of the code runs for a start tag, and what that gives.
 use Rattle.std.proofs.Common.{◌≡◌, ℕ, suc, zero, ◌+◌, ◌-◌, ◌<◌, ◌≤◌, ◌^◌, Bool, true, false, cond, List, [], ◌∷◌, ◌++◌, length, map, drop, take, get_or, All, Option, Some, None, inl, inr, refl, sym, ap, ◌∙◌, subst, arith}
 use Rattle.std.specs.Prelude.{slice_get, if◌then◌else◌, count_by}
-use Rattle.std.proofs.lemmas.List.{map-append}
 use Rattle.std.proofs.lemmas.List.Concat.{length-flat_map}
 use Rattle.std.proofs.lemmas.List.Sums.{count_by-le-length}
 use Rattle.std.proofs.lemmas.List.{length-map, length-drop}
@@ -9,7 +8,7 @@ use Rattle.std.proofs.lemmas.List.FromFn.{length-range_with_len}
 use Rattle.std.proofs.lemmas.List.Elements.{All-take}
 use Rattle.std.specs.Option.{option_map}
 use Rattle.std.specs.List.{range_with_len}
-use Rattle.std.specs.declared.ops.Range as std
+use Rattle.std.specs.declared.ops.Range.{Range}
 use Rattle.lol_base.specs.LocalNames.{Name}
 use Rattle.lol_base.specs.MemberLaws.{Among}
 use Rattle.lol_memory.specs.Ids.{Ids}
@@ -17,9 +16,9 @@ use Rattle.lol_instructions.specs.Attributes.{TagAttributes}
 use Rattle.lol_instructions.specs.Compiled.{Sight, sight_of}
 use Rattle.lol_instructions.specs.Compounds.{is_open}
 use Rattle.lol_program.specs.Paths.{Path, Selectors}
-use Rattle.lol_program.specs.Programs.{Range, AreClosed, IsProgramOf, places, all_places}
+use Rattle.lol_program.specs.Programs.{AreClosed, IsProgramOf, places, all_places}
 use Rattle.lol_program.specs.Programs as programs
-use Rattle.lol_program.specs.ProgramViews.{range_shown, instruction_shown, code_of, program_shown}
+use Rattle.lol_program.specs.ProgramViews.{instruction_shown, code_of, program_shown}
 use Rattle.lol_instructions.specs.Tests.{Element}
 use Rattle.lol_instructions.specs.Tries.{names_counted, attributes_counted}
 use Rattle.lol_instructions.specs.declared.instruction.Instruction.{Instruction}
@@ -30,15 +29,15 @@ use Rattle.lol_instructions.specs.declared.tries.Tries.{Tries}
 use Rattle.lol_vm.specs.Answers.{name_tries, attribute_tries}
 use Rattle.lol_stack.specs.Contexts.{with_branch}
 use Rattle.lol_vm.specs.Gathering.{Gathers}
-use Rattle.lol_vm.specs.InstructionRuns.{AreRunnable, IsInsideOf, all_at, ranges_in, value_seen, is_true, holds_seen, first_open_from, with_branch_if, gathered_by_names, gathered_with_attributes}
+use Rattle.lol_vm.specs.InstructionRuns.{AreRunnable, IsInsideOf, all_at, value_seen, is_true, holds_seen, first_open_from, with_branch_if, gathered_by_names, gathered_with_attributes}
 use Rattle.lol_stack.specs.WithRange.{no_range}
 use Rattle.lol_vm.specs.InstructionLaws.{AreRangesOf, AreAsOpen}
 use Rattle.lol_vm.specs.MachineLaws.{WholeStart, started_by_names, starts_open, from_number}
 use Rattle.lol_vm.specs.Machines.{OpenItem, AreItems, HoldOnce, LeftMatches, active_of, last_jumps, ranges_of_active, ranges_to_run}
 use Rattle.lol_vm.specs.Matching as matching
 use Rattle.lol_vm.specs.PlaceRuns.{Context, no_context, context_of, branch, is_open_at, value_at, first_open, run, run_by_names, step_by_names, step_with_attributes}
-use Rattle.lol_vm.specs.StackMachines.{KeepsMachine, in_lower_case, item_shown, items_shown, active_shown}
-use Rattle.lol_stack.specs.Stacks.{items_in, active_in}
+use Rattle.lol_vm.specs.StackMachines.{KeepsMachine, in_lower_case, item_shown, items_shown}
+use Rattle.lol_stack.specs.Stacks.{items_in}
 use Rattle.lol_vm.specs.Standing.{Machine, ranges_of_machine}
 use Rattle.lol_vm.specs.TagRuns.{AreTried, number_of, ranges_from, jumps_in, jumps_of_item, ranges_to_run_in, sight_in}
 use Rattle.lol_vm.specs.Vms.{content_of}
@@ -51,7 +50,6 @@ use Rattle.lol_vm.proofs.Counted.{places_count_tries}
 use Rattle.lol_vm.proofs.Held.{ranges_are_inside, ranges_hold_left_matches, programs_have_each_node}
 use Rattle.lol_vm.proofs.InstructionLists.{offset_inside}
 use Rattle.lol_vm.proofs.InstructionPlaces.{instructions_are_as_open, instructions_gather}
-use Rattle.lol_vm.proofs.Lists.{map_among}
 use Rattle.lol_vm.proofs.StackCounting.{ends, last_at, last_place}
 use Rattle.lol_vm.proofs.StackMachines.{shown_push}
 use Rattle.lol_vm.proofs.Stops.{stopped_starts_are_whole, stops_leave, numbers_are_offsets}
@@ -78,38 +76,30 @@ last_in_lower : (items : List OpenItem) → last_jumps (map in_lower_case items)
 last_in_lower [] = refl
 last_in_lower (item ∷ items) = refl
 
-active_ranges_shown : (xs : List (std.Range ℕ × ℕ)) → ranges_of_active (active_shown xs) ≡ map range_shown (ranges_in xs)
-active_ranges_shown [] = refl
-active_ranges_shown (a ∷ xs) = ap (λ rs. range_shown a.0 ∷ rs) (active_ranges_shown xs)
-
-last_shown : {E : Type 0} (items : List (StackItemOf Name E)) → last_jumps (items_shown items) ≡ map range_shown (jumps_of_item (slice_get items (length items - 1)))
+last_shown : {E : Type 0} (items : List (StackItemOf Name E)) → last_jumps (items_shown items) ≡ jumps_of_item (slice_get items (length items - 1))
 last_shown [] = refl
 last_shown (x ∷ xs) =
     let end = ends x xs in
     ap (λ ys. last_jumps (items_shown ys)) end.whole
     ∙ (ap last_jumps (shown_push item_shown end.front end.last)
-    ∙ sym (ap (λ ys. map range_shown (jumps_of_item (slice_get ys (length ys - 1)))) end.whole
-    ∙ (ap (λ k. map range_shown (jumps_of_item (slice_get (end.front ++ end.last ∷ []) k))) (last_place end.front end.last) ∙ ap (λ o. map range_shown (jumps_of_item o)) (last_at end.front end.last))))
+    ∙ sym (ap (λ ys. jumps_of_item (slice_get ys (length ys - 1))) end.whole
+    ∙ (ap (λ k. jumps_of_item (slice_get (end.front ++ end.last ∷ []) k)) (last_place end.front end.last) ∙ ap jumps_of_item (last_at end.front end.last))))
 
 -- the ranges that the code runs are those of the machine
 pub ranges_shown : {E : Type 0} (stack : StackOf Name StackNames E) (m : Machine) (prog : Program) → KeepsMachine stack m → m.program ≡ program_shown prog
-    → map range_shown (ranges_to_run_in prog stack) ≡ ranges_of_machine m
+    → ranges_to_run_in prog stack ≡ ranges_of_machine m
 ranges_shown stack m prog keeps is =
-    let jumps : map range_shown (jumps_in stack) ≡ last_jumps m.items = sym (sym (last_in_lower m.items) ∙ (ap last_jumps keeps.items ∙ last_shown (items_in stack))) in
-    let active : map range_shown (ranges_in (active_in stack)) ≡ ranges_of_active m.active = sym (ap ranges_of_active keeps.active ∙ active_ranges_shown (active_in stack)) in
-    let front : range_shown prog.entry_points ≡ m.program.entry = sym (ap (λ (p : programs.Program). p.entry) is) in
-    let back : map range_shown (jumps_in stack ++ ranges_in (active_in stack)) ≡ last_jumps m.items ++ ranges_of_active m.active =
-    map-append range_shown (jumps_in stack) (ranges_in (active_in stack)) ∙ (λ i. jumps i ++ active i) in
-    λ i. front i ∷ back i
+    let jumps : jumps_in stack ≡ last_jumps m.items = sym (sym (last_in_lower m.items) ∙ (ap last_jumps keeps.items ∙ last_shown (items_in stack))) in
+    λ i. sym (ap (λ (p : programs.Program). p.entry) is) i ∷ (jumps i ++ ranges_of_active (sym keeps.active i))
 
 -- 3. What is run
 
 module _ {E : Type 0} (s : Selectors) (paths : List Path) (m : Machine) (outer : List Element) (closed : AreClosed s) (program : IsProgramOf s paths m.program) (items : AreItems paths m.program m.items outer) (active : m.active ≡ active_of m.items)
     (stack : StackOf Name StackNames E) (prog : Program) (keeps : KeepsMachine stack m) (is : m.program ≡ program_shown prog) where
-  abbrev ranges : List Range
+  abbrev ranges : List (Range ℕ)
   ranges = ranges_of_machine m
 
-  abbrev code_ranges : List (std.Range ℕ)
+  abbrev code_ranges : List (Range ℕ)
   code_ranges = ranges_to_run_in prog stack
 
   abbrev instructions : List Instruction
@@ -126,9 +116,9 @@ module _ {E : Type 0} (s : Selectors) (paths : List Path) (m : Machine) (outer :
 
   inside : All (IsInsideOf instructions) code_ranges
   inside = all_among (IsInsideOf instructions) code_ranges (λ r a.
-      let among : Among (ranges_to_run m.program m.items (active_of m.items)) (range_shown r) =
-      subst (λ xs. Among (ranges_to_run m.program m.items xs) (range_shown r)) active (subst (λ rs. Among rs (range_shown r)) (ranges_shown stack m prog keeps is) (map_among range_shown code_ranges r a)) in
-      let within = ranges_are_inside s paths m.program m.items outer closed program items (range_shown r) among in
+      let among : Among (ranges_to_run m.program m.items (active_of m.items)) r =
+      subst (λ xs. Among (ranges_to_run m.program m.items xs) r) active (subst (λ rs. Among rs r) (ranges_shown stack m prog keeps is) a) in
+      let within = ranges_are_inside s paths m.program m.items outer closed program items r among in
       (within.0, omega (arith, within.1, as_many)))
 
   pub are_ranges : AreRangesOf m.program m.program.by_type instructions code_ranges
@@ -138,7 +128,7 @@ module _ {E : Type 0} (s : Selectors) (paths : List Path) (m : Machine) (outer :
     pub as_open : AreAsOpen m.program m.program.by_type e instructions code_ranges
     as_open = instructions_are_as_open m.program m.program.by_type e instructions code_ranges are_ranges
 
-    pub all_shown : all_places (map range_shown code_ranges) ≡ all_places ranges
+    pub all_shown : all_places code_ranges ≡ all_places ranges
     all_shown = ap all_places (ranges_shown stack m prog keeps is)
 
     pub whole : (content : Bool) → WholeStart s m.program ranges e outer content
@@ -294,16 +284,16 @@ module _ {E : Type 0} (s : Selectors) (paths : List Path) (m : Machine) (outer :
   abbrev all : List Instruction
   all = prog.instructions.items
 
-  abbrev tag_code : List (std.Range ℕ)
+  abbrev tag_code : List (Range ℕ)
   tag_code = ranges_to_run_in prog stack
 
-  abbrev rs : List Range
+  abbrev rs : List (Range ℕ)
   rs = ranges_of_machine m
 
   are : AreRangesOf p p.by_type all tag_code
   are = are_ranges s paths m outer closed program items active stack prog keeps is
 
-  same_places : all_places (map range_shown tag_code) ≡ all_places rs
+  same_places : all_places tag_code ≡ all_places rs
   same_places = all_shown s paths m outer closed program items active stack prog keeps is e
 
   module _ (old new : ExecutionCtx E) (before after : Tries) (stop : Option Stop) (tried : AreTried ids with_ids (sight_in stack name) all tag_code old new before after stop) where
@@ -321,11 +311,11 @@ module _ {E : Type 0} (s : Selectors) (paths : List Path) (m : Machine) (outer :
     gathered none =
         let by_names = (instructions_gather ids with_ids lends p p.by_type e all tag_code old no_context are none).names in
         let is_new : gathered_by_names ids with_ids (sight_of p.by_type e) old (all_at all tag_code) ≡ new = sym (tried.gathered ∙ ap (λ z. gathered_by_names ids with_ids z old (all_at all tag_code)) seen) in
-        let context : (run_by_names p old.with_content e no_context (all_places (map range_shown tag_code))).context ≡ content_of old.with_content (started_by_names p true e rs).context =
+        let context : (run_by_names p old.with_content e no_context (all_places tag_code)).context ≡ content_of old.with_content (started_by_names p true e rs).context =
         ap (λ ps. (run_by_names p old.with_content e no_context ps).context) same_places
         ∙ (ap (λ x. (run_by_names p old.with_content e x (all_places rs)).context) (nothing_content old.with_content) ∙ by_names_content p old.with_content e no_context (all_places rs)) in
         subst (λ c. Gathers ids new.stack_item (content_of c (started_by_names p true e rs).context)) (sym stays.content)
-        (subst (Gathers ids new.stack_item) context (subst (λ (x : ExecutionCtx E). Gathers ids x.stack_item (run_by_names p old.with_content e no_context (all_places (map range_shown tag_code))).context) is_new by_names))
+        (subst (Gathers ids new.stack_item) context (subst (λ (x : ExecutionCtx E). Gathers ids x.stack_item (run_by_names p old.with_content e no_context (all_places tag_code)).context) is_new by_names))
 
   -- where no instruction needs attributes
   module _ (old new : ExecutionCtx E) (before after : Tries) (tried : AreTried ids with_ids (sight_in stack name) all tag_code old new before after None) where
@@ -350,7 +340,7 @@ module _ {E : Type 0} (s : Selectors) (paths : List Path) (m : Machine) (outer :
     abbrev number : ℕ
     number = number_of all tag_code stop
 
-    abbrev stopped : std.Range ℕ
+    abbrev stopped : Range ℕ
     stopped = get_or tag_code stop.range no_range
 
     found : first_open p e (all_places rs) ≡ Some number
@@ -360,22 +350,21 @@ module _ {E : Type 0} (s : Selectors) (paths : List Path) (m : Machine) (outer :
     needs = ap (starts_open p e) (stops_leave p true e no_context (all_places rs) ∙ ap (λ o. from_number o (all_places rs)) found) ∙ first_is_open p e (all_places rs) number found
 
     -- what is left are the places of the ranges from the stop on
-    pub left_places : (started_by_names p true e rs).left ≡ all_places (map range_shown (ranges_from tag_code stop))
+    pub left_places : (started_by_names p true e rs).left ≡ all_places (ranges_from tag_code stop)
     left_places =
         let within = tried.within in
         let front = take stop.range tag_code in
         let back = drop (stop.range + 1) tag_code in
         let parts = around tag_code stop.range no_range within.0 in
-        let shown_parts : map range_shown tag_code ≡ map range_shown front ++ range_shown stopped ∷ map range_shown back = ap (map range_shown) parts ∙ map-append range_shown front (stopped ∷ back) in
         let same_count = (instructions_are_as_open p p.by_type e all front (record { same_code = are.same_code; inside = All-take (IsInsideOf all) stop.range tag_code are.inside })).count in
         let inside = offset_inside all tag_code stop within in
         let sizes = length-range_with_len stopped.start (stopped.end - stopped.start) in
         stops_leave p true e no_context (all_places rs)
         ∙ (ap (λ o. from_number o (all_places rs)) found
-        ∙ (ap (drop number) (sym same_places ∙ ap all_places shown_parts)
-        ∙ (ap (λ n. drop (n + stop.offset) (all_places (map range_shown front ++ range_shown stopped ∷ map range_shown back))) same_count
-        ∙ (numbers_are_offsets (map range_shown front) (range_shown stopped) (map range_shown back) stop.offset (omega (arith, inside, sizes))
-        ∙ ap (λ ps. ps ++ all_places (map range_shown back)) (range_after stopped.start stopped.end stop.offset inside)))))
+        ∙ (ap (drop number) (sym same_places ∙ ap all_places parts)
+        ∙ (ap (λ n. drop (n + stop.offset) (all_places (front ++ stopped ∷ back))) same_count
+        ∙ (numbers_are_offsets front stopped back stop.offset (omega (arith, inside, sizes))
+        ∙ ap (λ ps. ps ++ all_places back) (range_after stopped.start stopped.end stop.offset inside)))))
 
     pub names_left : names_counted before ≡ 0 → names_counted after + length (started_by_names p true e rs).left ≡ length (all_places rs) + 1
     names_left none =

@@ -1,6 +1,7 @@
 -- Runs that stop and go on.
 use Rattle.std.proofs.Common.{◌≡◌, ℕ, suc, ◌+◌, Bool, true, false, cond, not, List, [], ◌∷◌, ◌++◌, length, drop, Option, Some, None, inl, inr, refl, sym, ap, ◌∙◌, subst, arith, append_assoc}
 use Rattle.std.specs.Prelude.{slice_get, count_by, option_to_list, ◌&&◌, ◌||◌}
+use Rattle.std.specs.declared.ops.Range.{Range}
 use Rattle.std.specs.List.{list_any}
 use Rattle.std.proofs.lemmas.List.{append-nil, append_cancel_right, length-append}
 use Rattle.std.proofs.lemmas.List.{drop-append-le}
@@ -16,7 +17,7 @@ use Rattle.lol_vm.specs.Matching.{left_matches}
 use Rattle.lol_vm.specs.Answers.{needs_attributes, asks}
 use Rattle.lol_base.specs.BoolLaws.{or_of}
 use Rattle.lol_instructions.specs.Compounds.{is_open, Decides, by_names, with_rest}
-use Rattle.lol_program.specs.Programs.{Range, Instruction, Program, IsAt, IsProgramOf, places, all_places}
+use Rattle.lol_program.specs.Programs.{Instruction, Program, IsAt, IsProgramOf, places, all_places}
 use Rattle.lol_instructions.specs.declared.name_value.NameValue.{NameValue}
 use Rattle.lol_instructions.specs.declared.name_value.NameValue.TheVariants.{True, False, Open}
 use Rattle.lol_program.specs.ValueLaws.{values_decide, values_are_by_names}
@@ -36,7 +37,7 @@ if_more true xs ys zs = append_assoc xs ys zs
 if_more false xs ys zs = refl
 
 -- one place more in front
-gather_one : (content : Bool) (e : Element) (context : Context) (o : Option Instruction) (ids : List ℕ) (jumps hereditary : List Range) →
+gather_one : (content : Bool) (e : Element) (context : Context) (o : Option Instruction) (ids : List ℕ) (jumps hereditary : List (Range ℕ)) →
     with_context (step_with_attributes content e context o) (record { ids = ids; jumps = cond content jumps []; hereditary_jumps = cond content hereditary [] })
     ≡ with_context context (record { ids = given_by ids_list e o ++ ids; jumps = cond content (given_by jumps_list e o ++ jumps) []; hereditary_jumps = cond content (given_by hereditary_jumps_list e o ++ hereditary) [] })
 gather_one content e context None ids jumps hereditary = refl

@@ -22,7 +22,7 @@ use Rattle.lol_vm.specs.Documents.{Document, after_start, element_of, empty}
 use Rattle.lol_vm.specs.Events.{Event, Start, has_content}
 use Rattle.lol_vm.specs.Follows.{Follows, Goes, IsCharged, IsDropped, IsTaken, opens}
 use Rattle.lol_vm.specs.Views.{match_of}
-use Rattle.lol_vm.specs.Standing.{StandsFor, unfinished}
+use Rattle.lol_vm.specs.Standing.{unfinished}
 use Rattle.lol_stack.specs.Stacks.{items_in, list_in, last_count}
 use Rattle.lol_vm.specs.Vms.{Vm, Stands, IsAnswered, IsPending, AreOpened, info_of, stack_in, tries_in, data_in, has_failed, slots_charged, slot_bytes}
 use Rattle.lol_vm.specs.declared.error.AuxStartTagInfoRequest.{AuxStartTagInfoRequest}
@@ -73,13 +73,7 @@ module _ (s : Selectors) (esi : Bool) (events : List Event) (tag : StartTag) whe
     pub dropped : (f g : F) → tag.finish ≡ false → g ≡ f → IsDropped s esi events tag old mid f g
     dropped f g none silent = record {
       dropped = left asked tag.finish pending.asks none;
-      stands = record {
-        paths = pending.paths;
-        machine = pending.machine;
-        closed = pending.closed;
-        shows = pending.shows;
-        standing = subst (λ t. StandsFor s esi pending.paths pending.machine (events ++ Start t ∷ [])) (unfinished_is none) pending.standing;
-      };
+      stands = subst (λ t. Stands s esi mid (events ++ Start t ∷ [])) (unfinished_is none) pending.stands;
       kept = kept;
       silent = silent;
     }

@@ -5,6 +5,7 @@ use Rattle.std.specs.Option.{option_map}
 use Rattle.std.proofs.lemmas.List.{length-append, length-map}
 use Rattle.lol_base.specs.LocalNames.{Name}
 use Rattle.lol_memory.specs.Slots.{slots}
+use Rattle.lol_vm.specs.Machines.{ranges_of_active}
 use Rattle.lol_vm.specs.Refusals.{longest}
 use Rattle.lol_stack.specs.Lending.{with_data}
 use Rattle.lol_stack.specs.SoundLaws.{set_keeps, data_keep_sound}
@@ -13,9 +14,8 @@ use Rattle.lol_vm.specs.VmLending.{with_current_in}
 use Rattle.lol_vm.specs.StackMachines.{KeepsMachine, item_shown}
 use Rattle.lol_stack.specs.Stacks.{items_in, active_in, count_or, typed_in, count_by_type}
 use Rattle.lol_program.specs.Programs.{all_places}
-use Rattle.lol_program.specs.ProgramViews.{range_shown}
-use Rattle.lol_vm.specs.InstructionRuns.{ranges_in}
-use Rattle.lol_vm.specs.Standing.{Machine}
+use Rattle.lol_vm.specs.Events.{Start}
+use Rattle.lol_vm.specs.Standing.{Machine, unfinished}
 use Rattle.lol_vm.specs.TagRuns.{jumps_of_item, jumps_in, sight_in, tag_ranges, ranges_left, IsPointIn}
 use Rattle.lol_vm.specs.VmLaws.{DataChangeNothing, DataKeepOpen, DataKeepRequests, LastDataAreLent, LastDataChange, PendingStands, SlotsAreOfDepth}
 use Rattle.lol_vm.specs.Vms.{Vm, Shows, instructions_in, data_in}
@@ -108,12 +108,9 @@ data_keep_open vm elements w h = record {
 }
 
 pub data_keep_requests : {E : Type 0} → DataKeepRequests E
+unfolding data_change_nothing
 data_keep_requests ids_of s esi events tag vm request w h = record {
-  paths = h.paths;
-  machine = h.machine;
-  closed = h.closed;
-  shows = shows_data w vm h.machine h.shows;
-  standing = h.standing;
+  stands = data_change_nothing s esi vm (events ++ Start (unfinished tag) ∷ []) w h.stands;
   asks = h.asks;
   context = h.context;
   left = h.left;
@@ -123,10 +120,10 @@ data_keep_requests ids_of s esi events tag vm request w h = record {
   childless = h.childless;
   gathered = h.gathered;
   goes_on = h.goes_on;
-  stopped = subst (λ js. IsPointIn (instructions_in vm) (tag_ranges vm.program.entry_points js (ranges_in (active_in vm.stack))) request.point) back h.stopped;
+  stopped = subst (λ js. IsPointIn (instructions_in vm) (tag_ranges vm.program.entry_points js (ranges_of_active (active_in vm.stack))) request.point) back h.stopped;
   places_left =
       subst
-      (λ js. h.left ≡ all_places (map range_shown (ranges_left (tag_ranges vm.program.entry_points js (ranges_in (active_in vm.stack))) request.point)))
+      (λ js. h.left ≡ all_places (ranges_left (tag_ranges vm.program.entry_points js (ranges_of_active (active_in vm.stack))) request.point))
       back
       h.places_left;
   names = h.names;
@@ -137,7 +134,7 @@ data_keep_requests ids_of s esi events tag vm request w h = record {
     back = sym (same_jumps w vm.stack)
 
 pub pending_stands : {E : Type 0} → PendingStands E
-pending_stands ids_of s esi events tag vm request h = record { paths = h.paths; machine = h.machine; closed = h.closed; shows = h.shows; standing = h.standing }
+pending_stands ids_of s esi events tag vm request h = h.stands
 
 pub slots_are_of_depth : {E : Type 0} → SlotsAreOfDepth E
 slots_are_of_depth s esi vm events h =

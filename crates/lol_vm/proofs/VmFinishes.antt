@@ -1,10 +1,10 @@
 -- Requests that are finished, and what the machine of the code answers to them.
-use Rattle.std.proofs.Common.{◌≡◌, ℕ, suc, zero, ◌+◌, ◌<◌, ◌≤◌, ◌^◌, Bool, true, false, not, List, [], ◌∷◌, ◌++◌, length, map, drop, get_or, All, refl, sym, ap, ◌∙◌, subst, arith}
+use Rattle.std.proofs.Common.{◌≡◌, ℕ, suc, zero, ◌+◌, ◌<◌, ◌≤◌, ◌^◌, Bool, true, false, not, List, [], ◌∷◌, ◌++◌, length, drop, get_or, All, refl, sym, ap, ◌∙◌, subst, arith}
 use Rattle.std.specs.Prelude.{◌&&◌, ◌||◌, if◌then◌else◌, count_by}
 use Rattle.std.proofs.lemmas.List.{length-append}
 use Rattle.std.proofs.lemmas.List.Concat.{length-flat_map}
 use Rattle.std.proofs.lemmas.List.Elements.{All-drop}
-use Rattle.std.specs.declared.ops.Range as std
+use Rattle.std.specs.declared.ops.Range.{Range}
 use Rattle.lol_base.specs.MemberLaws.{map-map, contains_from_among}
 use Rattle.lol_base.specs.StartTags.{StartTag}
 use Rattle.lol_base.specs.declared.namespace.Namespace.{Namespace}
@@ -13,8 +13,7 @@ use Rattle.lol_memory.specs.Ids.{Ids, ascending}
 use Rattle.lol_memory.specs.declared.match_info.MatchInfo.{MatchInfo}
 use Rattle.lol_instructions.specs.Attributes.{tag_attributes}
 use Rattle.lol_program.specs.Paths.{Selectors}
-use Rattle.lol_program.specs.Programs.{Range, places, all_places}
-use Rattle.lol_program.specs.ProgramViews.{range_shown}
+use Rattle.lol_program.specs.Programs.{places, all_places}
 use Rattle.lol_instructions.specs.Tests.{Element, is_html}
 use Rattle.lol_instructions.specs.Tries.{names_counted, attributes_counted}
 use Rattle.lol_instructions.specs.declared.instruction.Instruction.{Instruction}
@@ -48,7 +47,7 @@ use Rattle.lol_vm.proofs.InstructionPlaces.{instructions_are_as_open, instructio
 use Rattle.lol_vm.proofs.Kept.{after_unfinished, finishing_is_kept}
 use Rattle.lol_vm.proofs.Starts.{StaysThe, held, are_ranges, within_bounds, attributes_stay, run_content, content_ids}
 use Rattle.lol_vm.proofs.Stops.{left_counted, requests_finish}
-use Rattle.lol_vm.proofs.VmStarts.{opened_if, entered_stands, map-id, once_of, opened_as}
+use Rattle.lol_vm.proofs.VmStarts.{opened_if, entered_stands, map-id, opened_as}
 
 -- 1. Content
 
@@ -62,7 +61,7 @@ foreign_content tag esi foreign = by_namespace tag.namespace foreign
 
 -- 2. What is left
 
-module _ (instructions : List Instruction) (ranges : List (std.Range ℕ)) (inside : All (IsInsideOf instructions) ranges) where
+module _ (instructions : List Instruction) (ranges : List (Range ℕ)) (inside : All (IsInsideOf instructions) ranges) where
   left_inside : (point : RecoveryPoint) → IsPointIn instructions ranges point → All (IsInsideOf instructions) (ranges_left ranges point)
   left_inside AtOnce is = inside
   left_inside (At stop) is = one_more (IsInsideOf instructions) _ (drop (stop.range + 1) ranges) first (All-drop (IsInsideOf instructions) (stop.range + 1) ranges inside)
@@ -79,7 +78,7 @@ module _ (instructions : List Instruction) (ranges : List (std.Range ℕ)) (insi
 module _ {E : Type 0} (ids : E → Ids) (vm : Vm E) (s : Selectors) (esi : Bool) (events : List Event) (tag : StartTag) (request : AuxStartTagInfoRequest E)
     (pending : IsPending ids s esi events tag vm request) where
   abbrev m : Machine
-  m = pending.machine
+  m = pending.stands.machine
 
   abbrev d : Document
   d = document s esi events
@@ -87,20 +86,20 @@ module _ {E : Type 0} (ids : E → Ids) (vm : Vm E) (s : Selectors) (esi : Bool)
   abbrev e : Element
   e = element_of d tag
 
-  abbrev rs : List Range
+  abbrev rs : List (Range ℕ)
   rs = ranges_of_machine m
 
   abbrev all : List Instruction
   all = vm.program.instructions.items
 
-  abbrev left_code : List (std.Range ℕ)
+  abbrev left_code : List (Range ℕ)
   left_code = ranges_left (ranges_to_run_in vm.program vm.stack) request.point
 
-  items : AreItems pending.paths m.program m.items d.open_elements
-  items = subst (λ (x : Document). AreItems pending.paths m.program m.items x.open_elements) (after_unfinished s esi events tag pending.asks) pending.standing.items
+  items : AreItems pending.stands.paths m.program m.items d.open_elements
+  items = subst (λ (x : Document). AreItems pending.stands.paths m.program m.items x.open_elements) (after_unfinished s esi events tag pending.asks) pending.stands.standing.items
 
   are : AreRangesOf m.program m.program.by_type all (ranges_to_run_in vm.program vm.stack)
-  are = are_ranges s pending.paths m d.open_elements pending.closed pending.standing.program items pending.standing.active vm.stack vm.program pending.shows.stack pending.shows.program
+  are = are_ranges s pending.stands.paths m d.open_elements pending.stands.closed pending.stands.standing.program items pending.stands.standing.active vm.stack vm.program pending.stands.shows.stack pending.stands.shows.program
 
   are_left : AreRangesOf m.program m.program.by_type all left_code
   are_left = record {
@@ -114,12 +113,12 @@ module _ {E : Type 0} (ids : E → Ids) (vm : Vm E) (s : Selectors) (esi : Bool)
   all_count : length (all_places rs) ≡ name_tries s.nodes d.open_elements
   all_count =
       length-flat_map places rs
-      ∙ (places_count_tries s pending.paths m.program rs e d.open_elements pending.closed pending.standing.program
-      (held s pending.paths m d.open_elements pending.closed pending.standing.program items pending.standing.active vm.stack vm.program pending.shows.stack pending.shows.program)).names
+      ∙ (places_count_tries s pending.stands.paths m.program rs e d.open_elements pending.stands.closed pending.stands.standing.program
+      (held s pending.stands.paths m d.open_elements pending.stands.closed pending.stands.standing.program items pending.stands.standing.active vm.stack vm.program pending.stands.shows.stack pending.stands.shows.program)).names
 
   pub can_finish : length all < 2 ^ 63 → AreRunnable all left_code vm.tries
   can_finish size =
-      let bounds = within_bounds s pending.paths m d.open_elements pending.closed pending.standing.program items pending.standing.active vm.stack vm.program pending.shows.stack pending.shows.program e in
+      let bounds = within_bounds s pending.stands.paths m d.open_elements pending.stands.closed pending.stands.standing.program items pending.stands.standing.active vm.stack vm.program pending.stands.shows.stack pending.stands.shows.program e in
       let names = pending.names in
       let tried = at_most_one request.point in
       let parts = ap length pending.is_request.parts ∙ length-append pending.is_request.before pending.left in
@@ -134,8 +133,8 @@ module _ {E : Type 0} (ids : E → Ids) (vm : Vm E) (s : Selectors) (esi : Bool)
 
   tries_all : TriesAreExact s m.program rs e d.open_elements
   tries_all =
-      places_count_tries s pending.paths m.program rs e d.open_elements pending.closed pending.standing.program
-      (held s pending.paths m d.open_elements pending.closed pending.standing.program items pending.standing.active vm.stack vm.program pending.shows.stack pending.shows.program)
+      places_count_tries s pending.stands.paths m.program rs e d.open_elements pending.stands.closed pending.stands.standing.program
+      (held s pending.stands.paths m d.open_elements pending.stands.closed pending.stands.standing.program items pending.stands.standing.active vm.stack vm.program pending.stands.shows.stack pending.stands.shows.program)
 
   -- as many are open among those that are left as the definition tries by attributes
   opens_left : open_among (sight_in vm.stack request.ctx.stack_item.local_name) (all_at all left_code) ≡ attribute_tries s.nodes e d.open_elements
@@ -207,11 +206,11 @@ module _ {E : Type 0} (ids : E → Ids) (vm : Vm E) (s : Selectors) (esi : Bool)
       abbrev x : Context
       x = context_of m.program true e (all_places rs)
 
-      is_held : HoldOnce pending.paths rs (LeftMatches d.open_elements)
-      is_held = held s pending.paths m d.open_elements pending.closed pending.standing.program items pending.standing.active vm.stack vm.program pending.shows.stack pending.shows.program
+      is_held : HoldOnce pending.stands.paths rs (LeftMatches d.open_elements)
+      is_held = held s pending.stands.paths m d.open_elements pending.stands.closed pending.stands.standing.program items pending.stands.standing.active vm.stack vm.program pending.stands.shows.stack pending.stands.shows.program
 
-      given : GivesReport s pending.paths m.program x e d.open_elements
-      given = runs_give_reports s pending.paths m.program rs e d.open_elements pending.closed pending.standing.program is_held
+      given : GivesReport s pending.stands.paths m.program x e d.open_elements
+      given = runs_give_reports s pending.stands.paths m.program rs e d.open_elements pending.stands.closed pending.stands.standing.program is_held
 
       finishes : run m.program true e pending.context pending.left ≡ x
       finishes = requests_finish m.program true e rs pending.context pending.left pending.is_request tag.attributes tag.self_closing tag.finish
@@ -220,7 +219,7 @@ module _ {E : Type 0} (ids : E → Ids) (vm : Vm E) (s : Selectors) (esi : Bool)
       all_gathered =
           let gathers = (instructions_gather ids with_ids lends m.program m.program.by_type e all left_code ctx (content_of ctx.with_content pending.context) are_left (gathered_before self_closing)).attributes in
           let new_is = executed.gathered ∙ ap (λ z. gathered_with_attributes ids with_ids z (tag_attributes tag) ctx (all_at all left_code)) pending.sight in
-          let ran : run m.program ctx.with_content e (content_of ctx.with_content pending.context) (all_places (map range_shown left_code)) ≡ content_of (has_content esi tag) x =
+          let ran : run m.program ctx.with_content e (content_of ctx.with_content pending.context) (all_places left_code) ≡ content_of (has_content esi tag) x =
           ap (run m.program ctx.with_content e (content_of ctx.with_content pending.context)) (sym pending.places_left)
           ∙ (run_content m.program ctx.with_content e pending.context pending.left ∙ (λ i. content_of (content_now self_closing is_closing i) (finishes i))) in
           subst (λ (c : ExecutionCtx E). Gathers ids c.stack_item (content_of (has_content esi tag) x)) (sym new_is) (subst (Gathers ids _) ran gathers)
@@ -255,10 +254,9 @@ module _ {E : Type 0} (ids : E → Ids) (vm : Vm E) (s : Selectors) (esi : Bool)
             named = same.name ∙ pending.named.0;
             jumps = all_gathered.jumps;
             hereditary_jumps = all_gathered.hereditary_jumps;
-            once = once_of (has_content esi tag) x given.hereditary_jumps.once;
             children = same.children ∙ pending.childless;
           } in
-          let shown_now : Shows (record vm { tries = after }) m = record { stack = pending.shows.stack; sound = pending.shows.sound; program = pending.shows.program; switch = pending.shows.switch; refused = pending.shows.refused } in
+          let shown_now : Shows (record vm { tries = after }) m = record { stack = pending.stands.shows.stack; sound = pending.stands.shows.sound; program = pending.stands.shows.program; switch = pending.stands.shows.switch; refused = pending.stands.shows.refused } in
           let entering = entered_stands vm vm.stack after m shown_now tag.name x new_ctx.stack_item next (has_content esi tag) item
           (subst (λ b. IsEntered b new_ctx.stack_item (record vm { tries = after }) next) has_content_still entered) in
           record {
@@ -266,12 +264,12 @@ module _ {E : Type 0} (ids : E → Ids) (vm : Vm E) (s : Selectors) (esi : Bool)
             answered = told ∙ (λ i. Started (report s esi e d.open_elements) true (names_counted (sym entering.tries i)) (attributes_counted (sym entering.tries i)));
             reported = told_all.called;
             stands = record {
-              paths = pending.paths;
+              paths = pending.stands.paths;
               machine = opened_if (has_content esi tag) m tag.name x;
-              closed = pending.closed;
+              closed = pending.stands.closed;
               shows = entering.shows;
-              standing = subst (λ c. StandsFor s esi pending.paths (opened_if (has_content esi tag) m tag.name c) (events ++ Start tag ∷ [])) finishes
-                  (finishing_is_kept s esi pending.paths m events tag pending.context pending.left pending.closed finish pending.asks pending.standing pending.is_request);
+              standing = subst (λ c. StandsFor s esi pending.stands.paths (opened_if (has_content esi tag) m tag.name c) (events ++ Start tag ∷ [])) finishes
+                  (finishing_is_kept s esi pending.stands.paths m events tag pending.context pending.left pending.stands.closed finish pending.asks pending.stands.standing pending.is_request);
             };
             opened = opened_as ids (has_content esi tag) (report s esi e d.open_elements) new_ctx.stack_item (is_matched ∙ sym (map-map (λ (r : Match). r.id) (λ id. record { id = id; with_content = has_content esi tag }) (matching_ids s.pairs e d.open_elements) ∙ map-id (matching_ids s.pairs e d.open_elements)))
                 (data_in vm) (data_in next) (data_in vm) refl entering.has;

@@ -1,6 +1,7 @@
 -- Start tags that the machine of the code counted, and what it answers to them.
 use Rattle.std.proofs.Common.{◌≡◌, ℕ, Result, Err, suc, zero, ◌+◌, ◌-◌, ◌<◌, ◌^◌, Bool, true, false, not, List, [], ◌∷◌, ◌++◌, length, map, Option, Some, None, refl, sym, ap, ◌∙◌, subst, arith}
 use Rattle.std.specs.Prelude.{◌||◌, ◌&&◌, if◌then◌else◌, slice_get, slice_set}
+use Rattle.std.specs.declared.ops.Range.{Range}
 use Rattle.std.specs.List.{list_any}
 use Rattle.std.proofs.lemmas.List.{map-append}
 use Rattle.lol_base.specs.LocalNames.{Name, local_name}
@@ -13,7 +14,7 @@ use Rattle.lol_memory.specs.declared.match_info.MatchInfo.{MatchInfo}
 use Rattle.lol_instructions.specs.Compiled.{sight_of}
 use Rattle.lol_instructions.specs.Counters.{full_count}
 use Rattle.lol_program.specs.Paths.{Selectors}
-use Rattle.lol_program.specs.Programs.{Range, Once, all_places}
+use Rattle.lol_program.specs.Programs.{all_places}
 use Rattle.lol_instructions.specs.Tests.{Element, is_html}
 use Rattle.lol_instructions.specs.Tries.{names_counted, attributes_counted}
 use Rattle.lol_instructions.specs.declared.tries.Tries.{Tries}
@@ -29,7 +30,7 @@ use Rattle.lol_vm.specs.PlaceRuns.{Context, no_context, context_of}
 use Rattle.lol_stack.specs.SoundStacks.{IsSound}
 use Rattle.lol_vm.specs.StackMachines.{KeepsMachine, IsItemOf}
 use Rattle.lol_stack.specs.Stacks.{items_in, last_count, typed_count, counted_in, counted_item, counted_if, with_typed, element_data_of}
-use Rattle.lol_vm.specs.Standing.{Machine, StandsFor, AnswersStart, counted, opened, started, ranges_of_machine}
+use Rattle.lol_vm.specs.Standing.{Machine, StandsFor, AnswersStart, counted, opened, started, ranges_of_machine, unfinished}
 use Rattle.lol_vm.specs.TagRuns.{AreTried, AreWithin, ranges_to_run_in, sight_in}
 use Rattle.lol_vm.specs.TriedStarts.{OfStop}
 use Rattle.lol_vm.specs.Vms.{IsRequested, Vm, Shows, Stands, IsTagOf, IsAnswered, IsReported, IsTriedAtMost, IsPending, IsEntered, AreOpened, content_of, info_of, data_in}
@@ -44,15 +45,13 @@ use Rattle.lol_vm.specs.declared.tag_runs.RecoveryPoint.{RecoveryPoint}
 use Rattle.lol_vm.specs.declared.tag_runs.RecoveryPoint.TheVariants.{AtOnce, At}
 use Rattle.lol_vm.specs.declared.tag_runs.Stop.{Stop}
 use Rattle.lol_vm.proofs.Answered.{starts_answer}
-use Rattle.lol_vm.proofs.Gathered.{runs_give_reports}
 use Rattle.lol_vm.proofs.GatheringLemmas.{new_elements_gather, gathered_ids_ascend}
 use Rattle.lol_vm.proofs.Kept.{items_length, requests_stand, standing_is_kept}
 use Rattle.lol_stack.specs.SoundLaws.{counting_keeps_sound, opening_keeps_sound}
 use Rattle.lol_vm.proofs.StackCounting.{counting_stack_keeps, seen_children, seen_places, typed_counts_are_fewer}
 use Rattle.lol_vm.proofs.StackMachines.{opening_stack_keeps}
-use Rattle.lol_vm.proofs.Starts.{counted as run_count, StaysThe, held, stays, gathered, gathered_all, names_all, no_attributes, no_need, needs, left_places, names_left, runnable, content_ids, ranges_shown}
+use Rattle.lol_vm.proofs.Starts.{counted as run_count, StaysThe, stays, gathered, gathered_all, names_all, no_attributes, no_need, needs, left_places, names_left, runnable, content_ids, ranges_shown}
 use Rattle.lol_base.specs.BoolLaws.{and-true, or-right_true}
-use Rattle.lol_vm.proofs.Lists.{to_once}
 use Rattle.lol_vm.proofs.Stops.{foreign_tags_ask, stops_are_requests}
 
 -- 1. Data
@@ -72,10 +71,6 @@ pub counted_data : {E : Type 0} (s : StackOf Name StackNames E) (name : Name) �
 counted_data s name = data_if (with_typed s _) (slice_get (items_in s) (length (items_in s) - 1)) refl
 
 -- 2. Opening
-
-pub once_of : (content : Bool) (x : Context) → Once x.hereditary_jumps → Once (content_of content x).hereditary_jumps
-once_of true x once = once
-once_of false x once = to_once [] tt
 
 -- data to which those of an element with content were added
 abbrev pub data_with : {E : Type 0} → Bool → StackItemOf Name E → List E → List E
@@ -134,7 +129,7 @@ module _ {E : Type 0} (ids : E → Ids) (with_ids : E → Ids → E) (lends : (w
   abbrev e : Element
   e = element_of d tag
 
-  abbrev rs : List Range
+  abbrev rs : List (Range ℕ)
   rs = ranges_of_machine m
 
   sizes : length m.items ≡ length d.open_elements
@@ -165,6 +160,10 @@ module _ {E : Type 0} (ids : E → Ids) (with_ids : E → Ids → E) (lends : (w
 
   shown_now : (after : Tries) → Shows (record vm { stack = stack; tries = after }) (counted m tag.name)
   shown_now after = record { stack = keeps; sound = sound; program = st.shows.program; switch = st.shows.switch; refused = st.shows.refused }
+
+  -- once it asks for the rest, it stands for the events with this one dropped
+  abbrev request_stands : (after : Tries) → asks s e d.open_elements ≡ true → Stands s esi (record vm { stack = stack; tries = after }) (events ++ Start (unfinished tag) ∷ [])
+  request_stands after asked = record { paths = st.paths; machine = counted m tag.name; closed = st.closed; shows = shown_now after; standing = requests_stand s esi st.paths m events tag st.standing asked }
 
   -- what is run for it can be run
   pub can_run : (before : Tries) → names_counted before ≡ 0 → attributes_counted before ≡ 0 → length vm.program.instructions.items < 2 ^ 63 → AreRunnable vm.program.instructions.items (ranges_to_run_in vm.program stack) before
@@ -197,11 +196,7 @@ module _ {E : Type 0} (ids : E → Ids) (with_ids : E → Ids → E) (lends : (w
   pending_at_once foreign ctx before new namespace content no_names no_attributes =
       let asked : asks s e d.open_elements ≡ true = ap (λ b. not b || list_any (needs_attributes e d.open_elements) s.nodes) foreign in
       record {
-        paths = st.paths;
-        machine = counted m tag.name;
-        closed = st.closed;
-        shows = shown_now before;
-        standing = requests_stand s esi st.paths m events tag st.standing asked;
+        stands = request_stands before asked;
         asks = asked;
         context = no_context;
         left = all_places rs;
@@ -238,11 +233,7 @@ module _ {E : Type 0} (ids : E → Ids) (with_ids : E → Ids → E) (lends : (w
         let asked : asks s e d.open_elements ≡ true = sym answers.asked ∙ or-right_true (not (is_html tag.namespace)) _ open_there in
         let same = kept (Some stop) tried in
         record {
-          paths = st.paths;
-          machine = counted m tag.name;
-          closed = st.closed;
-          shows = shown_now after;
-          standing = requests_stand s esi st.paths m events tag st.standing asked;
+          stands = request_stands after asked;
           asks = asked;
           context = (started_by_names m.program true e rs).context;
           left = (started_by_names m.program true e rs).left;
@@ -308,8 +299,6 @@ module _ {E : Type 0} (ids : E → Ids) (with_ids : E → Ids → E) (lends : (w
             named = same.name ∙ (new.name ∙ named.0);
             jumps = all_gathered.jumps;
             hereditary_jumps = all_gathered.hereditary_jumps;
-            once = once_of (has_content esi tag) x (runs_give_reports s st.paths m.program rs e d.open_elements st.closed st.standing.program
-                (held s st.paths (counted m tag.name) d.open_elements st.closed st.standing.program st.standing.items st.standing.active stack vm.program keeps st.shows.program)).hereditary_jumps.once;
             children = same.children ∙ new.children;
           } in
           let entering = entered_stands vm stack after (counted m tag.name) (shown_now after) tag.name x new_ctx.stack_item next (has_content esi tag) item

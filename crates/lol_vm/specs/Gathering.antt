@@ -1,8 +1,8 @@
 -- When the element of a start tag has what running places gathers.
-use Rattle.std.specs.Prelude.{ℕ, ◌≡◌, ◌↔◌, Bool, true, map, Contains}
+use Rattle.std.specs.Prelude.{ℕ, ◌≡◌, ◌↔◌, Bool, true, Contains}
 use Rattle.lol_memory.specs.Ids.{Ids, has}
 use Rattle.lol_memory.specs.Ids as sets
-use Rattle.lol_program.specs.ProgramViews.{range_shown, instruction_shown}
+use Rattle.lol_program.specs.ProgramViews.{instruction_shown}
 use Rattle.lol_instructions.specs.declared.instruction.Instruction as code
 use Rattle.lol_vm.specs.Answers.{ascending_once}
 use Rattle.lol_stack.specs.Contexts.{IsNewItem, with_branch}
@@ -13,8 +13,8 @@ use Rattle.lol_stack.specs.declared.execution_ctx.ExecutionCtx.{ExecutionCtx}
 -- The ids of the element's data are those that were gathered, and its ranges too; `ids_of` is what the data mean.
 pub record Gathers {N E : Type 0} (ids_of : E → Ids) (item : StackItemOf N E) (context : Context) : Type 0 where
   pub ids : (id : ℕ) → (has (ids_of item.element_data) id ≡ true) ↔ Contains context.ids id
-  pub jumps : context.jumps ≡ map range_shown item.jumps
-  pub hereditary_jumps : context.hereditary_jumps ≡ map range_shown item.hereditary_jumps
+  pub jumps : context.jumps ≡ item.jumps
+  pub hereditary_jumps : context.hereditary_jumps ≡ item.hereditary_jumps
 
 -- A new element has gathered nothing.
 abbrev pub NewElementsGather : (N E : Type 0) → Type 0

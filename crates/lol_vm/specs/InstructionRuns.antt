@@ -1,5 +1,5 @@
 -- What instructions give that are run one after the other.
-use Rattle.std.specs.Prelude.{ℕ, ◌+◌, Bool, true, false, if◌then◌else◌, ◌≤◌, List, [], ◌∷◌, map, length, All, flat_map, ◌<◌, ◌^◌, count_by, Option, Some, None}
+use Rattle.std.specs.Prelude.{ℕ, ◌+◌, Bool, true, false, if◌then◌else◌, ◌≤◌, List, [], ◌∷◌, length, All, flat_map, ◌<◌, ◌^◌, count_by, Option, Some, None}
 use Rattle.std.specs.List.{slice_range}
 use Rattle.std.specs.declared.ops.Range.{Range}
 use Rattle.lol_memory.specs.Ids.{Ids}
@@ -47,10 +47,6 @@ instructions_at instructions r = slice_range instructions r.start r.end
 -- the instructions of ranges, one range after the other
 abbrev pub all_at : List Instruction → List (Range ℕ) → List Instruction
 all_at instructions ranges = flat_map (instructions_at instructions) ranges
-
--- active ranges, without the places that they stand for
-abbrev pub ranges_in : List (Range ℕ × ℕ) → List (Range ℕ)
-ranges_in active = map (λ a. a.0) active
 
 abbrev pub IsInsideOf : List Instruction → Range ℕ → Type 0
 IsInsideOf instructions r = (r.start ≤ r.end) × (r.end ≤ length instructions)

@@ -1,11 +1,12 @@
 -- What a program of selectors does when it is run for a start tag.
 use Rattle.std.specs.Prelude.{ℕ, ◌+◌, ◌<◌, ◌≤◌, ◌≡◌, ◌↔◌, ◌||◌, not, Bool, true, false, List, [], ◌∷◌, ◌++◌, length, drop, count_by, Option, Some, None, Contains}
+use Rattle.std.specs.declared.ops.Range.{Range}
 use Rattle.std.specs.List.{list_any, sum_by}
 use Rattle.lol_base.specs.StartTags.{Attribute}
 use Rattle.lol_instructions.specs.Tests.{Element, is_html}
 use Rattle.lol_instructions.specs.Compounds.{Decides, with_rest}
 use Rattle.lol_program.specs.Paths.{Path, Selectors}
-use Rattle.lol_program.specs.Programs.{Range, Program, Instruction, AreClosed, IsProgramOf, IsAt, places, all_places}
+use Rattle.lol_program.specs.Programs.{Program, Instruction, AreClosed, IsProgramOf, IsAt, places, all_places}
 use Rattle.lol_vm.specs.Answers.{name_tries, attribute_tries, needs_attributes, matching_ids}
 use Rattle.lol_vm.specs.Machines.{OpenItem, AreItems, HasRanges, Matches, HoldOnce, LeftMatches, active_of, ranges_to_run, jumps_of, hereditary_jumps_of}
 use Rattle.lol_vm.specs.PlaceRuns.{Context, Stop, no_context, is_open_at, context_of, run, run_by_names, first_open, places_from}
@@ -28,19 +29,19 @@ RangesHoldLeftMatches =
     → AreClosed s → IsProgramOf s paths p → AreItems paths p items elements
     → HoldOnce paths (ranges_to_run p items (active_of items)) (LeftMatches elements)
 
-abbrev pub sum_of_lengths : List Range → ℕ
+abbrev pub sum_of_lengths : List (Range ℕ) → ℕ
 sum_of_lengths ranges = sum_by (λ r. length (places r)) ranges
 
 -- The sum of the ranges' lengths is the number of tries by names, the number of their open places that of tries by attributes; a place
 -- is open exactly if some node needs attributes.
-pub record TriesAreExact (s : Selectors) (p : Program) (ranges : List Range) (e : Element) (outer : List Element) : Type 0 where
+pub record TriesAreExact (s : Selectors) (p : Program) (ranges : List (Range ℕ)) (e : Element) (outer : List Element) : Type 0 where
   pub names : sum_of_lengths ranges ≡ name_tries s.nodes outer
   pub attributes : count_by (is_open_at p e) (all_places ranges) ≡ attribute_tries s.nodes e outer
   pub asks : list_any (is_open_at p e) (all_places ranges) ≡ list_any (needs_attributes e outer) s.nodes
 
 abbrev pub PlacesCountTries : Type 0
 PlacesCountTries =
-    (s : Selectors) (paths : List Path) (p : Program) (ranges : List Range) (e : Element) (outer : List Element)
+    (s : Selectors) (paths : List Path) (p : Program) (ranges : List (Range ℕ)) (e : Element) (outer : List Element)
     → AreClosed s → IsProgramOf s paths p → HoldOnce paths ranges (LeftMatches outer) → TriesAreExact s p ranges e outer
 
 -- 2. What they give
@@ -53,7 +54,7 @@ pub record GivesReport (s : Selectors) (paths : List Path) (p : Program) (contex
 
 abbrev pub RunsGiveReports : Type 0
 RunsGiveReports =
-    (s : Selectors) (paths : List Path) (p : Program) (ranges : List Range) (e : Element) (outer : List Element)
+    (s : Selectors) (paths : List Path) (p : Program) (ranges : List (Range ℕ)) (e : Element) (outer : List Element)
     → AreClosed s → IsProgramOf s paths p → HoldOnce paths ranges (LeftMatches outer)
     → GivesReport s paths p (context_of p true e (all_places ranges)) e outer
 
@@ -108,7 +109,7 @@ StopsLeave =
 -- The places of ranges without those before an offset in one of them are those from that offset on.
 abbrev pub NumbersAreOffsets : Type 0
 NumbersAreOffsets =
-    (front : List Range) (r : Range) (back : List Range) (offset : ℕ) → offset ≤ length (places r)
+    (front : List (Range ℕ)) (r : Range ℕ) (back : List (Range ℕ)) (offset : ℕ) → offset ≤ length (places r)
     → drop (length (all_places front) + offset) (all_places (front ++ r ∷ back)) ≡ places_from offset (r ∷ back)
 
 -- A run by names of a program of selectors doesn't depend on the rest of the tag.
@@ -120,11 +121,11 @@ RunsDontSeeTheRest =
     ≡ run_by_names p content e context ps
 
 -- the run by names of a start tag over these ranges
-abbrev pub started_by_names : Program → Bool → Element → List Range → Stop
+abbrev pub started_by_names : Program → Bool → Element → List (Range ℕ) → Stop
 started_by_names p content e ranges = run_by_names p content e no_context (all_places ranges)
 
 -- A start tag that stops and goes on: it stops exactly if some node needs attributes, and gives what a run with attributes gives.
-pub record WholeStart (s : Selectors) (p : Program) (ranges : List Range) (e : Element) (outer : List Element) (content : Bool) : Type 0 where
+pub record WholeStart (s : Selectors) (p : Program) (ranges : List (Range ℕ)) (e : Element) (outer : List Element) (content : Bool) : Type 0 where
   pub stop : IsStop p content e no_context (all_places ranges) (started_by_names p content e ranges)
   pub asks : starts_open p e (started_by_names p content e ranges).left ≡ list_any (needs_attributes e outer) s.nodes
   pub whole : run p content e (started_by_names p content e ranges).context (started_by_names p content e ranges).left ≡ context_of p content e (all_places ranges)
@@ -134,7 +135,7 @@ pub record WholeStart (s : Selectors) (p : Program) (ranges : List Range) (e : E
 
 abbrev pub StoppedStartsAreWhole : Type 0
 StoppedStartsAreWhole =
-    (s : Selectors) (paths : List Path) (p : Program) (ranges : List Range) (e : Element) (outer : List Element)
+    (s : Selectors) (paths : List Path) (p : Program) (ranges : List (Range ℕ)) (e : Element) (outer : List Element)
     (content : Bool) → AreClosed s → IsProgramOf s paths p → HoldOnce paths ranges (LeftMatches outer)
     → WholeStart s p ranges e outer content
 
@@ -142,7 +143,7 @@ StoppedStartsAreWhole =
 
 -- A request for the rest of a tag: what is left to run, and the context so far, which is what the places before give, whatever that rest
 -- is. None of those is open; the first that is left is open, or the tag isn't of HTML.
-pub record IsRequest (p : Program) (content : Bool) (e : Element) (ranges : List Range) (context : Context) (left : List ℕ) : Type 0 where
+pub record IsRequest (p : Program) (content : Bool) (e : Element) (ranges : List (Range ℕ)) (context : Context) (left : List ℕ) : Type 0 where
   pub before : List ℕ
   pub parts : all_places ranges ≡ before ++ left
   pub closed : (place : ℕ) → Contains before place → is_open_at p e place ≡ false
@@ -152,7 +153,7 @@ pub record IsRequest (p : Program) (content : Bool) (e : Element) (ranges : List
 -- A run by names that stops gives a request.
 abbrev pub StopsAreRequests : Type 0
 StopsAreRequests =
-    (s : Selectors) (paths : List Path) (p : Program) (content : Bool) (e : Element) (ranges : List Range)
+    (s : Selectors) (paths : List Path) (p : Program) (content : Bool) (e : Element) (ranges : List (Range ℕ))
     → IsProgramOf s paths p → starts_open p e (started_by_names p content e ranges).left ≡ true
     → IsRequest p content e ranges (started_by_names p content e ranges).context
     (started_by_names p content e ranges).left
@@ -160,13 +161,13 @@ StopsAreRequests =
 -- Outside HTML a request is made before any place is run.
 abbrev pub ForeignTagsAsk : Type 0
 ForeignTagsAsk =
-    (p : Program) (content : Bool) (e : Element) (ranges : List Range) → is_html e.tag.namespace ≡ false
+    (p : Program) (content : Bool) (e : Element) (ranges : List (Range ℕ)) → is_html e.tag.namespace ≡ false
     → IsRequest p content e ranges no_context (all_places ranges)
 
 -- A request that is finished, with whatever rest of the tag, gives what a whole run gives.
 abbrev pub RequestsFinish : Type 0
 RequestsFinish =
-    (p : Program) (content : Bool) (e : Element) (ranges : List Range) (context : Context) (left : List ℕ)
+    (p : Program) (content : Bool) (e : Element) (ranges : List (Range ℕ)) (context : Context) (left : List ℕ)
     → IsRequest p content e ranges context left → (attributes : List Attribute) (self_closing finish : Bool)
     → run p content (with_rest e attributes self_closing finish) context left
     ≡ context_of p content (with_rest e attributes self_closing finish) (all_places ranges)

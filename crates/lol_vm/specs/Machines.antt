@@ -1,35 +1,36 @@
 -- What a machine keeps of the open elements.
-use Rattle.std.specs.Prelude.{ℕ, ◌≡◌, ◌↔◌, ◌&&◌, ◌==◌, not, Bool, true, List, [], ◌∷◌, ◌++◌, map, filter, length, Option, Some, Contains}
-use Rattle.std.specs.List.{list_any}
+use Rattle.std.specs.Prelude.{ℕ, ◌≡◌, ◌↔◌, true, List, [], ◌∷◌, ◌++◌, map, length, Option, Some, Contains}
+use Rattle.std.specs.declared.ops.Range.{Range}
 use Rattle.lol_base.specs.Names.{same_name}
 use Rattle.lol_instructions.specs.Tests.{Element}
 use Rattle.lol_program.specs.Paths.{Path}
 use Rattle.lol_vm.specs.Matching.{matches, left_matches}
-use Rattle.lol_program.specs.Programs.{Range, Instruction, Program, IsAt, Once, all_places}
+use Rattle.lol_stack.specs.Active.{activated}
+use Rattle.lol_program.specs.Programs.{Instruction, Program, IsAt, Once, all_places}
 
 -- An open element: its name, and the ranges that it gives to elements right inside it, and to all inside it.
 pub record OpenItem : Type 0 where
   pub name : List ℕ
-  pub jumps : List Range
-  pub hereditary_jumps : List Range
+  pub jumps : List (Range ℕ)
+  pub hereditary_jumps : List (Range ℕ)
 
 -- some place has a path with P, and an instruction with this range
-abbrev pub IsReached : (Instruction → Option Range) → List Path → Program → (Path → Type 0) → Range → Type 0
+abbrev pub IsReached : (Instruction → Option (Range ℕ)) → List Path → Program → (Path → Type 0) → Range ℕ → Type 0
 IsReached which paths p P r =
     (place : ℕ) × (path : Path) × (i : Instruction) × IsAt paths place path × IsAt p.instructions place i × (which i ≡ Some r) × P path
 
 -- the ranges of the paths with P, each once
-pub record HasRanges (which : Instruction → Option Range) (paths : List Path) (p : Program) (P : Path → Type 0) (ranges : List Range) : Type 0 where
+pub record HasRanges (which : Instruction → Option (Range ℕ)) (paths : List Path) (p : Program) (P : Path → Type 0) (ranges : List (Range ℕ)) : Type 0 where
   pub once : Once ranges
-  pub members : (r : Range) → Contains ranges r ↔ IsReached which paths p P r
+  pub members : (r : Range ℕ) → Contains ranges r ↔ IsReached which paths p P r
 
 abbrev pub Matches : Element → List Element → Path → Type 0
 Matches e outer path = matches path e outer ≡ true
 
-abbrev pub jumps_of : Instruction → Option Range
+abbrev pub jumps_of : Instruction → Option (Range ℕ)
 jumps_of i = i.jumps
 
-abbrev pub hereditary_jumps_of : Instruction → Option Range
+abbrev pub hereditary_jumps_of : Instruction → Option (Range ℕ)
 hereditary_jumps_of i = i.hereditary_jumps
 
 -- the item of an element inside these ones
@@ -47,36 +48,26 @@ AreItems paths p (item ∷ items) [] = ⊥
 
 -- The active ranges
 
-abbrev pub same_range : Range → Range → Bool
-same_range a b = (a.start == b.start) && (a.end == b.end)
-
-abbrev pub is_active : List (Range × ℕ) → Range → Bool
-is_active active r = list_any (λ a. same_range a.0 r) active
-
--- ranges that one more item makes active, at its place
-abbrev pub newly_active : List (Range × ℕ) → ℕ → List Range → List (Range × ℕ)
-newly_active active place ranges = map (λ r. (r, place)) (filter (λ r. not (is_active active r)) ranges)
-
 -- The distinct hereditary ranges of the items by first appearance, from the outermost item on, each with the place of the first
 -- item that has it, counted from the outermost, which is 0.
-abbrev pub active_of : List OpenItem → List (Range × ℕ)
+abbrev pub active_of : List OpenItem → List (Range ℕ × ℕ)
 active_of [] = []
-active_of (item ∷ outer) = active_of outer ++ newly_active (active_of outer) (length outer) item.hereditary_jumps
+active_of (item ∷ outer) = activated (active_of outer) (length outer) item.hereditary_jumps
 
 -- What is run for a start tag: the entry points, the last open item's jumps, the active ranges.
 
-abbrev pub last_jumps : List OpenItem → List Range
+abbrev pub last_jumps : List OpenItem → List (Range ℕ)
 last_jumps [] = []
 last_jumps (item ∷ outer) = item.jumps
 
-abbrev pub ranges_of_active : List (Range × ℕ) → List Range
+abbrev pub ranges_of_active : List (Range ℕ × ℕ) → List (Range ℕ)
 ranges_of_active active = map (λ a. a.0) active
 
-abbrev pub ranges_to_run : Program → List OpenItem → List (Range × ℕ) → List Range
+abbrev pub ranges_to_run : Program → List OpenItem → List (Range ℕ × ℕ) → List (Range ℕ)
 ranges_to_run p items active = p.entry ∷ (last_jumps items ++ ranges_of_active active)
 
 -- ranges that hold the place of each path with P once, and no other place
-pub record HoldOnce (paths : List Path) (ranges : List Range) (P : Path → Type 0) : Type 0 where
+pub record HoldOnce (paths : List Path) (ranges : List (Range ℕ)) (P : Path → Type 0) : Type 0 where
   pub once : Once (all_places ranges)
   pub members : (place : ℕ) → Contains (all_places ranges) place ↔ ((path : Path) × IsAt paths place path × P path)
 

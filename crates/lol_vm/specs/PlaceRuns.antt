@@ -1,9 +1,10 @@
 -- What the places of a program give, run for a start tag.
 use Rattle.std.specs.Prelude.{ℕ, Bool, if◌then◌else◌, List, [], ◌∷◌, ◌++◌, flat_map, drop, slice_get, Option, Some, None, option_to_list, suc}
+use Rattle.std.specs.declared.ops.Range.{Range}
 use Rattle.std.specs.Option.{option_map}
 use Rattle.lol_instructions.specs.Tests.{Element}
 use Rattle.lol_instructions.specs.Compounds.{is_open}
-use Rattle.lol_program.specs.Programs.{Range, Instruction, Program, places, all_places}
+use Rattle.lol_program.specs.Programs.{Instruction, Program, places, all_places}
 use Rattle.lol_instructions.specs.declared.name_value.NameValue.{NameValue}
 use Rattle.lol_instructions.specs.declared.name_value.NameValue.TheVariants.{True, False}
 
@@ -12,8 +13,8 @@ use Rattle.lol_instructions.specs.declared.name_value.NameValue.TheVariants.{Tru
 -- What a start tag has gathered: ids, and ranges for the elements inside.
 pub record Context : Type 0 where
   pub ids : List ℕ
-  pub jumps : List Range
-  pub hereditary_jumps : List Range
+  pub jumps : List (Range ℕ)
+  pub hereditary_jumps : List (Range ℕ)
 
 abbrev pub no_context : Context
 no_context = record { ids = []; jumps = []; hereditary_jumps = [] }
@@ -29,10 +30,10 @@ gathered_from_places what p e ps = flat_map (λ place. given_by what e (slice_ge
 abbrev pub ids_list : Instruction → List ℕ
 ids_list i = i.ids
 
-abbrev pub jumps_list : Instruction → List Range
+abbrev pub jumps_list : Instruction → List (Range ℕ)
 jumps_list i = option_to_list i.jumps
 
-abbrev pub hereditary_jumps_list : Instruction → List Range
+abbrev pub hereditary_jumps_list : Instruction → List (Range ℕ)
 hereditary_jumps_list i = option_to_list i.hereditary_jumps
 
 -- What is gathered from places, in their order; ranges only for an element with content.
@@ -92,7 +93,7 @@ run_by_names p content e context (place ∷ ps) =
 
 -- 3. The rest of ranges from an offset in the first of them
 
-abbrev pub places_from : ℕ → List Range → List ℕ
+abbrev pub places_from : ℕ → List (Range ℕ) → List ℕ
 places_from offset [] = []
 places_from offset (r ∷ ranges) = drop offset (places r) ++ all_places ranges
 

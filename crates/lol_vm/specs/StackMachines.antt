@@ -1,14 +1,12 @@
 -- When a stack keeps what a machine keeps of the open elements.
 use Rattle.std.specs.Prelude.{ℕ, ◌<◌, ◌≤◌, ◌≡◌, Bool, true, false, if◌then◌else◌, List, [], map, reverse, length, Option, Some, None, unwrap_or}
 use Rattle.std.specs.Option.{option_copied}
-use Rattle.std.specs.declared.ops.Range as std
 use Rattle.lol_base.specs.Names.{lowercased}
 use Rattle.lol_base.specs.StartTags.{StartTag}
 use Rattle.lol_base.specs.LocalNames.{Name, local_name}
 use Rattle.lol_instructions.specs.Compiled.{sight, sight_of}
 use Rattle.lol_instructions.specs.Counters.{full_count}
-use Rattle.lol_program.specs.Programs.{Range, Program, Once}
-use Rattle.lol_program.specs.ProgramViews.{range_shown}
+use Rattle.lol_program.specs.Programs.{Program}
 use Rattle.lol_instructions.specs.declared.selector_state.SelectorState.{SelectorState}
 use Rattle.lol_vm.specs.Documents.{Document, element_of}
 use Rattle.lol_vm.specs.Machines.{OpenItem, active_of}
@@ -28,7 +26,7 @@ use Rattle.lol_stack.specs.declared.stack.StackNames.{StackNames}
 module _ {E : Type 0} where
   abbrev pub item_shown : StackItemOf Name E → OpenItem
   item_shown item =
-      record { name = item.local_name.lowercased; jumps = map range_shown item.jumps; hereditary_jumps = map range_shown item.hereditary_jumps }
+      record { name = item.local_name.lowercased; jumps = item.jumps; hereditary_jumps = item.hereditary_jumps }
 
   -- the open elements, the innermost first
   abbrev pub items_shown : List (StackItemOf Name E) → List OpenItem
@@ -37,9 +35,6 @@ module _ {E : Type 0} where
   -- how many children each of them had
   abbrev pub children_shown : List (StackItemOf Name E) → List ℕ
   children_shown items = reverse (map (λ item. item.child_counter) items)
-
-abbrev pub active_shown : List (std.Range ℕ × ℕ) → List (Range × ℕ)
-active_shown active = map (λ a. (range_shown a.0, a.1)) active
 
 -- an item with its name in ASCII lower case
 abbrev pub in_lower_case : OpenItem → OpenItem
@@ -62,7 +57,7 @@ KeepsTyped (Some ts) by_type top typed =
 -- A stack keeps the items, active ranges, counters and slots of a machine.
 pub record KeepsMachine {E : Type 0} (s : StackOf Name StackNames E) (m : Machine) : Type 0 where
   pub items : map in_lower_case m.items ≡ items_shown (items_in s)
-  pub active : m.active ≡ active_shown (active_in s)
+  pub active : m.active ≡ active_in s
   pub root_children : m.root_children ≡ root_count s
   pub children : m.children ≡ children_shown (items_in s)
   pub typed : KeepsTyped (typed_in s) m.program.by_type (length m.items) m.typed
@@ -87,9 +82,8 @@ SameStackKeeps E = (old new : StackOf Name StackNames E) (m : Machine) → Keeps
 -- an element that has what was gathered, and no children yet
 pub record IsItemOf {E : Type 0} (item : StackItemOf Name E) (name : List ℕ) (context : Context) : Type 0 where
   pub named : item.local_name ≡ local_name name
-  pub jumps : context.jumps ≡ map range_shown item.jumps
-  pub hereditary_jumps : context.hereditary_jumps ≡ map range_shown item.hereditary_jumps
-  pub once : Once context.hereditary_jumps
+  pub jumps : context.jumps ≡ item.jumps
+  pub hereditary_jumps : context.hereditary_jumps ≡ item.hereditary_jumps
   pub children : item.child_counter ≡ 0
 
 abbrev pub OpeningStackKeeps : Type 0 → Type 0

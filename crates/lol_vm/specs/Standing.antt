@@ -1,5 +1,6 @@
 -- When a machine stands for events.
 use Rattle.std.specs.Prelude.{ℕ, suc, ◌+◌, ◌≡◌, ◌≤◌, ◌<◌, ◌&&◌, ◌||◌, count_by, ◌==◌, not, Bool, true, false, if◌then◌else◌, nat_lt, nat_le, max, List, [], ◌∷◌, ◌++◌, map, filter, drop, length, position, Option, Some, None}
+use Rattle.std.specs.declared.ops.Range.{Range}
 use Rattle.lol_base.specs.Names.{same_name}
 use Rattle.lol_base.specs.StartTags.{StartTag}
 use Rattle.lol_memory.specs.Slots.{slots, slots_after}
@@ -9,8 +10,9 @@ use Rattle.lol_vm.specs.Events.{Event, Start, End, has_content}
 use Rattle.lol_vm.specs.Documents.{Document, Child, element_of, children_of, typed_children_of}
 use Rattle.lol_vm.specs.Answers.{document, is_dropped, asks, ascending_once, matching_ids, name_tries, attribute_tries}
 use Rattle.lol_vm.specs.Refusals.{longest}
-use Rattle.lol_program.specs.Programs.{Range, Program, IsProgramOf, AreClosed, all_places}
-use Rattle.lol_vm.specs.Machines.{OpenItem, AreItems, active_of, newly_active, ranges_to_run}
+use Rattle.lol_program.specs.Programs.{Program, IsProgramOf, AreClosed, all_places}
+use Rattle.lol_vm.specs.Machines.{OpenItem, AreItems, active_of, ranges_to_run}
+use Rattle.lol_stack.specs.Active.{activated}
 use Rattle.lol_vm.specs.PlaceRuns.{Context, context_of, is_open_at, run}
 use Rattle.lol_vm.specs.MachineLaws.{IsRequest, starts_open, started_by_names, sum_of_lengths}
 
@@ -21,7 +23,7 @@ pub record Machine : Type 0 where
   pub program : Program
   pub esi : Bool
   pub items : List OpenItem
-  pub active : List (Range × ℕ)
+  pub active : List (Range ℕ × ℕ)
   pub root_children : ℕ
   pub children : List ℕ
   pub typed : ℕ → List ℕ → ℕ
@@ -93,7 +95,7 @@ abbrev pub opened : Machine → List ℕ → Context → Machine
 opened m name context =
     record m {
       items = record { name = name; jumps = context.jumps; hereditary_jumps = context.hereditary_jumps } ∷ m.items;
-      active = m.active ++ newly_active m.active (length m.items) context.hereditary_jumps;
+      active = activated m.active (length m.items) context.hereditary_jumps;
       children = 0 ∷ m.children;
       slots = slots_after m.item_bytes m.slots (length m.items);
     }
@@ -118,7 +120,7 @@ abbrev pub ended : Machine → List ℕ → Machine
 ended m name = cut (closed_count (position (λ item. same_name item.name name) m.items)) m
 
 -- the ranges that are run for a start tag
-abbrev pub ranges_of_machine : Machine → List Range
+abbrev pub ranges_of_machine : Machine → List (Range ℕ)
 ranges_of_machine m = ranges_to_run m.program m.items m.active
 
 -- a start tag, which is counted; where it opens an element, that has all that the ranges give

@@ -10,7 +10,8 @@ use Rattle.lol_instructions.specs.Tries.{names_counted, attributes_counted}
 use Rattle.lol_instructions.specs.declared.instruction.Instruction.{Instruction}
 use Rattle.lol_program.specs.declared.program.Program.{Program}
 use Rattle.lol_instructions.specs.declared.tries.Tries.{Tries}
-use Rattle.lol_vm.specs.InstructionRuns.{all_at, instructions_at, open_among, first_open_from, tried_until, ranges_in, gathered_by_names, gathered_with_attributes}
+use Rattle.lol_vm.specs.Machines.{ranges_of_active}
+use Rattle.lol_vm.specs.InstructionRuns.{all_at, instructions_at, open_among, first_open_from, tried_until, gathered_by_names, gathered_with_attributes}
 use Rattle.lol_stack.specs.WithRange.{no_range}
 use Rattle.lol_stack.specs.Stacks.{items_in, active_in, last_count, typed_count}
 use Rattle.lol_stack.specs.declared.execution_ctx.ExecutionCtx.{ExecutionCtx}
@@ -28,7 +29,7 @@ tag_ranges entry jumps active = entry ∷ (jumps ++ active)
 
 -- those of what the code runs
 abbrev pub ranges_of : TagRun → List (Range ℕ)
-ranges_of r = tag_ranges r.entry_points.now r.jumps.now (ranges_in r.hereditary_jumps.now)
+ranges_of r = tag_ranges r.entry_points.now r.jumps.now (ranges_of_active r.hereditary_jumps.now)
 
 -- the number of a stop's instruction among all instructions of ranges
 abbrev pub number_of : List Instruction → List (Range ℕ) → Stop → ℕ
@@ -100,7 +101,7 @@ module _ {E : Type 0} where
 
   -- what a start tag is run through
   abbrev pub ranges_to_run_in : Program → StackOf Name StackNames E → List (Range ℕ)
-  ranges_to_run_in p s = tag_ranges p.entry_points (jumps_in s) (ranges_in (active_in s))
+  ranges_to_run_in p s = tag_ranges p.entry_points (jumps_in s) (ranges_of_active (active_in s))
 
   -- what tests see of a child of this name that was counted
   abbrev pub sight_in : StackOf Name StackNames E → Name → Sight

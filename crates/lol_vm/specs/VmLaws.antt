@@ -1,5 +1,5 @@
 -- What those who go tag by tag rely on.
-use Rattle.std.specs.Prelude.{◌≡◌, ◌≤◌, ◌-◌, Bool, List, [], ◌∷◌, ◌++◌, length, map, slice_get, slice_set}
+use Rattle.std.specs.Prelude.{◌≡◌, ◌≤◌, ◌-◌, Bool, List, [], ◌∷◌, ◌++◌, length, slice_get, slice_set}
 use Rattle.std.specs.Option.{option_map}
 use Rattle.lol_base.specs.StartTags.{StartTag}
 use Rattle.lol_memory.specs.Ids.{Ids}
@@ -7,7 +7,7 @@ use Rattle.lol_memory.specs.Slots.{slots}
 use Rattle.lol_stack.specs.Stacks.{items_in}
 use Rattle.lol_program.specs.Paths.{Path, Selectors}
 use Rattle.lol_program.specs.Programs.{IsProgramOf}
-use Rattle.lol_program.specs.ProgramViews.{program_shown, range_shown}
+use Rattle.lol_program.specs.ProgramViews.{program_shown}
 use Rattle.lol_instructions.specs.Tests.{Element}
 use Rattle.lol_vm.specs.Answers.{attribute_tries, document, name_tries}
 use Rattle.lol_vm.specs.Events.{Event, Start}
@@ -78,7 +78,7 @@ SlotsAreOfDepth E =
 pub record RunsEachOnce {E : Type 0} (s : Selectors) (vm : Vm E) (outer : List Element) : Type 0 where
   pub paths : List Path
   pub program : IsProgramOf s paths (program_shown (program_in vm))
-  pub held : HoldOnce paths (map range_shown (ranges_to_try vm)) (LeftMatches outer)
+  pub held : HoldOnce paths (ranges_to_try vm) (LeftMatches outer)
 
 abbrev pub RangesHoldOnce : Type 0 → Type 0
 RangesHoldOnce E =

@@ -1,6 +1,6 @@
 -- When a machine stands for the events that it was told of, and how it answers one more.
 use Rattle.std.specs.Prelude.{ℕ, ◌+◌, ◌-◌, ◌*◌, ◌≤◌, ◌≡◌, Bool, true, false, not, List, [], ◌∷◌, ◌++◌, map, length, Result, Ok, Err}
-use Rattle.std.specs.declared.ops.Range as std
+use Rattle.std.specs.declared.ops.Range.{Range}
 use Rattle.lol_base.specs.LocalNames.{Name, local_name}
 use Rattle.lol_base.specs.StartTags.{StartTag, attributes_of}
 use Rattle.lol_base.specs.declared.namespace.Namespace.{Namespace}
@@ -11,7 +11,7 @@ use Rattle.lol_memory.specs.declared.match_info.MatchInfo.{MatchInfo}
 use Rattle.lol_instructions.specs.Compiled.{sight_of}
 use Rattle.lol_program.specs.Paths.{Path, Selectors}
 use Rattle.lol_program.specs.Programs.{AreClosed, all_places}
-use Rattle.lol_program.specs.ProgramViews.{range_shown, program_shown}
+use Rattle.lol_program.specs.ProgramViews.{program_shown}
 use Rattle.lol_instructions.specs.Tests.{Element, is_html}
 use Rattle.lol_instructions.specs.Tries.{names_counted, attributes_counted}
 use Rattle.lol_program.specs.declared.program.Program.{Program}
@@ -74,7 +74,7 @@ module _ {E : Type 0} where
   instructions_in vm = vm.program.instructions.items
 
   -- what a start tag is run through
-  abbrev pub ranges_to_try : Vm E → List (std.Range ℕ)
+  abbrev pub ranges_to_try : Vm E → List (Range ℕ)
   ranges_to_try vm = ranges_to_run_in vm.program vm.stack
 
 -- 2. Standing
@@ -217,23 +217,19 @@ module _ {E : Type 0} (ids_of : E → Ids) where
 
   -- The request for the rest of a tag, made by the machine that now stands for the events with the tag dropped.
   pub record IsPending (s : Selectors) (esi : Bool) (events : List Event) (tag : StartTag) (vm : Vm E) (request : AuxStartTagInfoRequest E) : Type 0 where
-    pub paths : List Path
-    pub machine : Machine
-    pub closed : AreClosed s
-    pub shows : Shows vm machine
-    pub standing : StandsFor s esi paths machine (events ++ Start (unfinished tag) ∷ [])
+    pub stands : Stands s esi vm (events ++ Start (unfinished tag) ∷ [])
     pub asks : asks s (element_of (document s esi events) tag) (document s esi events).open_elements ≡ true
     pub context : Context
     pub left : List ℕ
-    pub is_request : IsRequest machine.program true (element_of (document s esi events) tag) (ranges_of_machine machine) context left
+    pub is_request : IsRequest stands.machine.program true (element_of (document s esi events) tag) (ranges_of_machine stands.machine) context left
     pub named : IsTagOf request.ctx.stack_item.local_name request.ctx.ns tag
-    pub sight : sight_in vm.stack request.ctx.stack_item.local_name ≡ sight_of machine.program.by_type (element_of (document s esi events) tag)
+    pub sight : sight_in vm.stack request.ctx.stack_item.local_name ≡ sight_of stands.machine.program.by_type (element_of (document s esi events) tag)
     pub childless : request.ctx.stack_item.child_counter ≡ 0
     pub gathered : Gathers ids_of request.ctx.stack_item (content_of request.ctx.with_content context)
     pub goes_on : GoesOnAt (is_html tag.namespace) (has_content esi tag) context request.point request.ctx.with_content
     pub stopped : IsPointIn (instructions_in vm) (ranges_to_try vm) request.point
-    pub places_left : left ≡ all_places (map range_shown (ranges_left (ranges_to_try vm) request.point))
-    pub names : names_counted vm.tries + length left ≡ length (all_places (ranges_of_machine machine)) + tried_at request.point
+    pub places_left : left ≡ all_places (ranges_left (ranges_to_try vm) request.point)
+    pub names : names_counted vm.tries + length left ≡ length (all_places (ranges_of_machine stands.machine)) + tried_at request.point
     pub attributes : attributes_counted vm.tries ≡ 0
 
 -- 6. Charges

@@ -80,14 +80,14 @@ impl<'p> TagRun<'p> {
         requires { index < length (ranges_of self.now) }
         ensures { result.now ≡ get_or (ranges_of self.now) index no_range }
     {
-        if index == 0 {
-            return self.entry_points;
+        let hereditary = 1 + self.jumps.len();
+        if index >= hereditary {
+            return &self.hereditary_jumps[index - hereditary].0;
         }
-        let index = index - 1;
-        if index < self.jumps.len() {
-            return &self.jumps[index];
+        match index.checked_sub(1) {
+            None => self.entry_points,
+            Some(index) => &self.jumps[index],
         }
-        &self.hereditary_jumps[index - self.jumps.len()].0
     }
 
     /// Runs without attributes, up to the first instruction that needs them.
@@ -108,9 +108,10 @@ impl<'p> TagRun<'p> {
         ensures content { ctx.new.with_content ≡ ctx.old.with_content }
         ensures free { NeedNoMemory ctx.old.with_content self.now.instructions.now → IsOk result }
     {
+        let state = self.state;
         for index in 0..self.len() {
             let part = instructions_in(self.instructions, self.range(index), tries);
-            if let Some(offset) = try_instructions(part, &self.state, self.alloc, ctx, tries)? {
+            if let Some(offset) = try_instructions(part, &state, self.alloc, ctx, tries)? {
                 return Ok(Some(Stop {
                     range: index,
                     offset,
@@ -140,9 +141,10 @@ impl<'p> TagRun<'p> {
         ensures content { ctx.new.with_content ≡ ctx.old.with_content }
         ensures free { NeedNoMemory ctx.old.with_content self.now.instructions.now → IsOk result }
     {
+        let state = self.state;
         for index in first..self.len() {
             let part = instructions_in(self.instructions, self.range(index), tries);
-            exec_instructions(part, &self.state, matcher, self.alloc, ctx, tries)?;
+            exec_instructions(part, &state, matcher, self.alloc, ctx, tries)?;
         }
         Ok(())
     }
@@ -203,7 +205,8 @@ impl<'p> TagRun<'p> {
         }
         let left = range_from(self.range(stop.range), stop.offset);
         let part = instructions_in(self.instructions, &left, tries);
-        complete_instructions(part, &self.state, matcher, self.alloc, ctx, tries)?;
+        let state = self.state;
+        complete_instructions(part, &state, matcher, self.alloc, ctx, tries)?;
         self.exec_from(stop.range + 1, matcher, ctx, tries)
     }
 }

@@ -2,13 +2,11 @@ use Rattle.std.proofs.Common.{rules, arith, Bool, ◌||◌, ◌≡◌, ◌+◌, 
 use Rattle.std.specs.Prelude.{slice_set}
 use Rattle.std.specs.Vec.Iter.{into_iter_items}
 use Rattle.std.specs.Global.{Vec}
-use Rattle.std.specs.Option.{option_map}
 use Rattle.lol_memory.specs.Ids.{ascending}
 use Rattle.lol_instructions.specs.Compounds.{has_test_by_type}
 use Rattle.lol_program.specs.Predicates.{tests_of}
 use Rattle.lol_instructions.specs.Compiled.{tests_in}
 use Rattle.lol_program.specs.Compiling.{AreCompiledTests}
-use Rattle.lol_program.specs.ProgramViews.{range_shown}
 use Rattle.lol_instructions.specs.declared.execution_branch.ExecutionBranch.{ExecutionBranch}
 use Rattle.lol_instructions.specs.declared.compiled_predicate.CompiledPredicate.{CompiledPredicate}
 use Rattle.lol_program.specs.Views.{node_of, forest_of}
@@ -49,8 +47,8 @@ compile_node-returns-clause-laid t c =
     p.free a.free b.free c.requires.place within a.laid b.laid b.same
     (subst (λ (q : CompiledPredicate). AreCompiledTests (tests_in q) (tests_of x.predicate)) (sym c.new.ensures.predicate) p.tests)
     (ap (λ (given : ExecutionBranch). ascending given.matched_ids) branch)
-    (ap (λ (given : ExecutionBranch). option_map range_shown given.jumps) branch ∙ a.range)
-    (ap (λ (given : ExecutionBranch). option_map range_shown given.hereditary_jumps) branch ∙ b.range))
+    (ap (λ (given : ExecutionBranch). given.jumps) branch ∙ a.range)
+    (ap (λ (given : ExecutionBranch). given.hereditary_jumps) branch ∙ b.range))
 
 pub compile_node-returns-clause-same : goal.compile_node-returns-clause-same
 compile_node-returns-clause-same t c =

@@ -31,7 +31,7 @@ pub returns-in-Err-clause-free : goal.returns-in-Err-clause-free
 returns-in-Err-clause-free g c = λ s esi events tag pending takes.
     let vm = c.args.self.now in
     let closed = finished_closed c.args.point (has_content esi tag) c.args.ctx.with_content c.args.aux_info.self_closing pending.context tag.namespace pending.goes_on takes.1 (void_is_closed esi tag takes.1 takes.2) in
-    let free = is_closed_free s pending.paths vm pending.machine pending.shows pending.standing.program takes.0 c.content_at.result (c.content_at.ensures ∙ closed) in
+    let free = is_closed_free s pending.stands.paths vm pending.stands.machine pending.stands.shows pending.stands.standing.program takes.0 c.content_at.result (c.content_at.ensures ∙ closed) in
     absurd (err_is_not_ok c.complete.result c.in-Err.error c.in-Err.is (of_same (λ all ranges s. NeedNoMemory c.content_at.result all → IsOk c.complete.result) c.new-run.ensures.instructions c.new-run.ensures.ranges c.new-run.ensures.sight c.complete.ensures.free free))
 
 pub returns-in-Err-clause-tried : goal.returns-in-Err-clause-tried
@@ -44,7 +44,7 @@ returns-in-Err-clause-tried g c = λ s esi events tag pending.
 
 pub returns-in-Err-clause-due : goal.returns-in-Err-clause-due
 returns-in-Err-clause-due g c = λ error is due s esi events tag pending flat.
-    let free = is_alone_free s pending.paths c.args.self.now pending.machine pending.shows pending.standing.program flat.small flat.alone c.content_at.result in
+    let free = is_alone_free s pending.stands.paths c.args.self.now pending.stands.machine pending.stands.shows pending.stands.standing.program flat.small flat.alone c.content_at.result in
     absurd (err_is_not_ok c.complete.result c.in-Err.error c.in-Err.is (of_same (λ all ranges s. NeedNoMemory c.content_at.result all → IsOk c.complete.result) c.new-run.ensures.instructions c.new-run.ensures.ranges c.new-run.ensures.sight c.complete.ensures.free free))
 
 -- 2. It was reported
