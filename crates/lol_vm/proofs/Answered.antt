@@ -1,15 +1,17 @@
 -- What a machine that stands for events answers.
+use Rattle.lol_vm.specs.Events.{Event}
+use Rattle.lol_base.specs.StartTags.{StartTag}
 use Rattle.std.proofs.Common.{◌≡◌, ℕ, true, List, ◌↔◌, sym, ap, subst, Contains}
-use Rattle.std.specs.Prelude.{◌||◌, not}
+use Rattle.std.specs.Prelude.{◌||◌, not, Bool}
 use Rattle.lol_instructions.specs.Tests.{Element, is_html}
-use Rattle.lol_program.specs.Paths.{Selectors}
+use Rattle.lol_program.specs.Paths.{Selectors, Path}
 use Rattle.lol_vm.specs.Documents.{element_of}
 use Rattle.lol_vm.specs.Answers.{document, ascending_once, matching_ids}
 use Rattle.lol_vm.specs.ReportLaws.{ascending_is_determined, ascending_ascends, pairs_from_ascends, matching_ids_ascend, among_ascending, ascending_among}
-use Rattle.lol_program.specs.Programs.{all_places}
+use Rattle.lol_program.specs.Programs.{all_places, AreClosed}
 use Rattle.lol_vm.specs.Machines.{HoldOnce, LeftMatches, ranges_to_run}
 use Rattle.lol_vm.specs.PlaceRuns.{context_of}
-use Rattle.lol_vm.specs.Standing.{StartsAnswer}
+use Rattle.lol_vm.specs.Standing.{AnswersStart, Machine, StandsFor}
 use Rattle.lol_vm.proofs.Lists.{to_contains, to_among}
 use Rattle.lol_vm.proofs.Held.{ranges_hold_left_matches}
 use Rattle.lol_vm.proofs.Counted.{places_count_tries}
@@ -25,7 +27,9 @@ in_order ids s e outer same =
       λ h. to_contains (ascending_once ids) id (ascending_among ids id (to_among ids id ((same id).1 h))),
     ))
 
-pub starts_answer : StartsAnswer
+pub starts_answer : (s : Selectors) (esi : Bool) (paths : List Path) (m : Machine) (events : List Event) (tag : StartTag) → AreClosed s
+    → StandsFor s esi paths m events
+    → AnswersStart s m (element_of (document s esi events) tag) (document s esi events).open_elements
 starts_answer s esi paths m events tag closed stands =
     let d = document s esi events in
     let e = element_of d tag in

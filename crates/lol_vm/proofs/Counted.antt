@@ -16,7 +16,7 @@ use Rattle.lol_instructions.specs.Compounds.{is_open}
 use Rattle.lol_program.specs.Programs.{Program, IsAt, IsProgramOf, AreClosed, places, all_places}
 use Rattle.lol_vm.specs.Machines.{HoldOnce, LeftMatches}
 use Rattle.lol_vm.specs.PlaceRuns.{instruction_value, is_open_at}
-use Rattle.lol_vm.specs.MachineLaws.{PlacesCountTries, sum_of_lengths}
+use Rattle.lol_vm.specs.MachineLaws.{sum_of_lengths, TriesAreExact}
 use Rattle.lol_vm.proofs.Lists.{to_contains, to_among, to_distinct, is_at, is_at_of, is_at_is, below, among_below, distinct_below, count_by_places, count_same, count_all, same_passing, any_among, among_any}
 use Rattle.lol_vm.proofs.Held.{instruction_at, place_of_node}
 
@@ -81,7 +81,8 @@ module _ (s : Selectors) (paths : List Path) (p : Program) (closed : AreClosed s
           let left = left_of_needing node.0 node.2 in
           any_among (is_open_at p e) all place.0 (held_at place.0 node.0 place.1 left) (open_at place.0 node.0 place.1 left ∙ node.2))
 
-pub places_count_tries : PlacesCountTries
+pub places_count_tries : (s : Selectors) (paths : List Path) (p : Program) (ranges : List (Range ℕ)) (e : Element) (outer : List Element)
+    → AreClosed s → IsProgramOf s paths p → HoldOnce paths ranges (LeftMatches outer) → TriesAreExact s p ranges e outer
 places_count_tries s paths p ranges e outer closed program held = record {
   names = names_counted s paths p closed program ranges outer held;
   attributes = attributes_counted s paths p closed program ranges outer held e;

@@ -14,8 +14,8 @@ use Rattle.lol_vm.specs.ReportLaws.{among_matching_ids, matching_ids_among}
 use Rattle.lol_base.specs.BoolLaws.{and_parts, and_of}
 use Rattle.lol_program.specs.Programs.{Instruction, Program, IsAt, IsRangeOf, IsProgramOf, AreClosed, all_places}
 use Rattle.lol_vm.specs.Machines.{HasRanges, Matches, HoldOnce, LeftMatches, jumps_of, hereditary_jumps_of}
-use Rattle.lol_vm.specs.PlaceRuns.{given_by, gathered_from_places, ids_list}
-use Rattle.lol_vm.specs.MachineLaws.{RunsGiveReports}
+use Rattle.lol_vm.specs.PlaceRuns.{given_by, gathered_from_places, ids_list, context_of}
+use Rattle.lol_vm.specs.MachineLaws.{GivesReport}
 use Rattle.lol_vm.proofs.Lists.{to_contains, to_among, to_once, to_distinct, among_flat_map, flat_map_among, distinct_flat_map}
 use Rattle.lol_vm.proofs.Held.{instruction_at, place_of_node, range_of_reached, one_owner}
 use Rattle.lol_vm.proofs.Counted.{path_held, held_at}
@@ -117,7 +117,9 @@ module _ (s : Selectors) (paths : List Path) (p : Program) (closed : AreClosed s
       );
     }
 
-pub runs_give_reports : RunsGiveReports
+pub runs_give_reports : (s : Selectors) (paths : List Path) (p : Program) (ranges : List (Range ℕ)) (e : Element) (outer : List Element)
+    → AreClosed s → IsProgramOf s paths p → HoldOnce paths ranges (LeftMatches outer)
+    → GivesReport s paths p (context_of p true e (all_places ranges)) e outer
 runs_give_reports s paths p ranges e outer closed program held = record {
   ids = ids_reported s paths p closed program ranges outer held e;
   jumps = ranges_had s paths p closed program ranges outer held e jumps_of Child (λ place path i at at'. (program.each place path i at at').jumps);

@@ -1,4 +1,5 @@
 -- What an element gathers.
+use Rattle.lol_stack.specs.declared.stack_item.StackItemOf.{StackItemOf}
 use Rattle.std.proofs.Common.{◌≡◌, ℕ, Bool, true, false, List, [], ◌++◌, ◌↔◌, inl, inr, sym, ap, ◌∙◌, subst, Contains, true≢false}
 use Rattle.std.specs.Prelude.{option_to_list}
 use Rattle.std.proofs.lemmas.List.Kept.{AllPairs-from_increasing}
@@ -13,12 +14,13 @@ use Rattle.lol_instructions.specs.declared.instruction.Instruction as code
 use Rattle.lol_program.specs.IdSetLaws.{listed_if_held, held}
 use Rattle.lol_vm.specs.Answers.{ascending_once}
 use Rattle.lol_vm.specs.ReportLaws.{ascending_is_determined, ascending_ascends, pairs_from_ascends, among_ascending, ascending_among}
-use Rattle.lol_stack.specs.Contexts.{with_branch}
-use Rattle.lol_vm.specs.PlaceRuns.{Context, branch}
-use Rattle.lol_vm.specs.Gathering.{Gathers, NewElementsGather, BranchesGather, GatheredIdsAscend}
+use Rattle.lol_stack.specs.Contexts.{with_branch, IsNewItem}
+use Rattle.lol_vm.specs.PlaceRuns.{Context, branch, no_context}
+use Rattle.lol_vm.specs.Gathering.{Gathers}
 use Rattle.lol_stack.specs.declared.execution_ctx.ExecutionCtx.{ExecutionCtx}
 
-pub new_elements_gather : {N E : Type 0} → NewElementsGather N E
+-- A new element has gathered nothing.
+pub new_elements_gather : {N E : Type 0} → (ids_of : E → Ids) (name : N) (item : StackItemOf N E) → IsNewItem ids_of name item → Gathers ids_of item no_context
 new_elements_gather ids_of name item new = record {
   ids = λ id. (
     λ h. absurd (true≢false (sym h ∙ (ap (λ s. has s id) new.ids ∙ has-no_ids id))),
@@ -40,7 +42,10 @@ ids_more s t ids same id = (
   ]),
 )
 
-pub branches_gather : {E : Type 0} → BranchesGather E
+-- What an instruction gives is gathered with the rest.
+pub branches_gather : {E : Type 0} → (ids_of : E → Ids) (with_ids : E → Ids → E) → ((e : E) (w : Ids) → ids_of (with_ids e w) ≡ w)
+    → (ctx : ExecutionCtx E) (context : Context) (i : code.Instruction) (by_type : Bool) → Gathers ids_of ctx.stack_item context
+    → Gathers ids_of (with_branch ids_of with_ids ctx i.associated_branch).stack_item (branch ctx.with_content context (instruction_shown by_type i))
 branches_gather ids_of with_ids keeps ctx context i by_type has_context = by_content ids_of with_ids keeps ctx context i by_type has_context ctx.with_content
   where
     by_content : {E : Type 0} (ids_of : E → Ids) (with_ids : E → Ids → E) → ((e : E) (w : Ids) → ids_of (with_ids e w) ≡ w) → (ctx : ExecutionCtx E) (context : Context) (i : code.Instruction) (by_type : Bool)
@@ -63,7 +68,8 @@ branches_gather ids_of with_ids keeps ctx context i by_type has_context = by_con
           hereditary_jumps = h.hereditary_jumps;
         }
 
-pub gathered_ids_ascend : {N E : Type 0} → GatheredIdsAscend N E
+-- The ids of the data, in ascending order, are those that were gathered, each once.
+pub gathered_ids_ascend : {N E : Type 0} → (ids_of : E → Ids) (item : StackItemOf N E) (context : Context) → Gathers ids_of item context → sets.ascending (ids_of item.element_data) ≡ ascending_once context.ids
 gathered_ids_ascend ids_of item context h =
     let s = ids_of item.element_data in
     ascending_is_determined (sets.ascending s) (ascending_once context.ids) (AllPairs-from_increasing (sets.ascending s) (ascending_rises s)) (pairs_from_ascends (ascending_once context.ids) (ascending_ascends context.ids))

@@ -17,7 +17,7 @@ use Rattle.lol_instructions.specs.declared.instruction.Instruction as code
 use Rattle.lol_instructions.specs.declared.name_value.NameValue.{NameValue}
 use Rattle.lol_instructions.specs.declared.name_value.NameValue.TheVariants.{True, False, Open}
 use Rattle.lol_vm.specs.Gathering.{Gathers}
-use Rattle.lol_vm.specs.InstructionLaws.{InstructionsAreAsOpen, InstructionsGather}
+use Rattle.lol_vm.specs.InstructionLaws.{AreAsOpen, AreRangesOf, GatherAlike}
 use Rattle.lol_vm.specs.InstructionRuns.{IsInsideOf, instructions_at, all_at, value_seen, is_true, holds_seen, open_among, first_open_from, with_branch_if, gathered_by_names, gathered_with_attributes}
 use Rattle.lol_vm.specs.PlaceRuns.{Context, instruction_value, value_at, is_open_at, first_open, branch, step_with_attributes, step_by_names, run, run_by_names}
 use Rattle.lol_stack.specs.declared.execution_ctx.ExecutionCtx.{ExecutionCtx}
@@ -142,7 +142,8 @@ module _ (p : Program) (by_type : Bool) (instructions : List code.Instruction) (
 inside_each : (instructions : List code.Instruction) (ranges : List (Range ℕ)) → All (IsInsideOf instructions) ranges → (r : Range ℕ) → Among ranges r → IsInsideOf instructions r
 inside_each instructions ranges all r a = let at = contains_from_among ranges r a in subst (IsInsideOf instructions) at.2 (all at.0 r at.1)
 
-pub instructions_are_as_open : InstructionsAreAsOpen
+pub instructions_are_as_open : (p : Program) (by_type : Bool) (e : Element) (instructions : List code.Instruction) (ranges : List (Range ℕ)) → AreRangesOf p by_type instructions ranges
+    → AreAsOpen p by_type e instructions ranges
 instructions_are_as_open p by_type e instructions ranges are =
     let at = at_all p by_type instructions are.same_code ranges (inside_each instructions ranges are.inside) in
     record {
@@ -155,7 +156,9 @@ instructions_are_as_open p by_type e instructions ranges are =
     as_it_is None = refl
     as_it_is (Some n) = let same : 0 + n ≡ n = omega arith in ap Some same
 
-pub instructions_gather : {E : Type 0} → InstructionsGather E
+pub instructions_gather : {E : Type 0} → (ids_of : E → Ids) (with_ids : E → Ids → E) → ((e : E) (w : Ids) → ids_of (with_ids e w) ≡ w)
+    → (p : Program) (by_type : Bool) (e : Element) (instructions : List code.Instruction) (ranges : List (Range ℕ)) (ctx : ExecutionCtx E) (context : Context)
+    → AreRangesOf p by_type instructions ranges → Gathers ids_of ctx.stack_item context → GatherAlike ids_of with_ids p by_type e instructions ranges ctx context
 instructions_gather ids_of with_ids keeps p by_type e instructions ranges ctx context are has =
     let at = at_all p by_type instructions are.same_code ranges (inside_each instructions ranges are.inside) in
     record {

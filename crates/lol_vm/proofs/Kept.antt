@@ -1,4 +1,5 @@
 -- A machine that stands for events, one event on.
+use Rattle.lol_vm.specs.MachineLaws.{IsRequest}
 use Rattle.std.proofs.Common.{◌≡◌, ℕ, zero, suc, ◌+◌, ◌<◌, ◌≤◌, Bool, true, false, cond, not, List, [], ◌∷◌, ◌++◌, length, map, drop, position, Option, Some, None, refl, sym, ap, ◌∙◌, subst, arith}
 use Rattle.std.specs.Prelude.{nat_le, max, ◌&&◌, ◌==◌, if◌then◌else◌}
 use Rattle.std.proofs.lemmas.Bool.Decides.{Decides-eqb, nat_tests}
@@ -19,12 +20,12 @@ use Rattle.lol_vm.specs.Refusals.{longest, longest_from}
 use Rattle.lol_vm.specs.DocumentLaws.{document_push, longest_push}
 use Rattle.lol_vm.proofs.Runs.{position-map}
 use Rattle.lol_base.specs.BoolLaws.{and-false, not_true}
-use Rattle.lol_program.specs.Programs.{Program, AreClosed, all_places}
+use Rattle.lol_program.specs.Programs.{Program, AreClosed, all_places, IsProgramOf}
 use Rattle.lol_stack.specs.Active.{activated}
 use Rattle.lol_stack.specs.SoundRangeLaws.{before, before-active_after, kept-active_after}
 use Rattle.lol_vm.specs.Machines.{OpenItem, AreItems, HasRanges, Matches, HoldOnce, LeftMatches, active_of, ranges_to_run, jumps_of, hereditary_jumps_of}
 use Rattle.lol_vm.specs.PlaceRuns.{Context, context_of, run}
-use Rattle.lol_vm.specs.Standing.{Machine, AreTyped, TypedStand, AreCounted, StandsOn, StandsFor, counted_root, counted_last, counted_typed, counted, opened, cut, closed_count, ended, started, machine_after, Descend, IsOrdered, DocumentsAreOrdered, NewStands, StandingIsKept, unfinished, finished, RequestsStand, FinishingIsKept, CountersArePlaces, or_root}
+use Rattle.lol_vm.specs.Standing.{Machine, AreTyped, TypedStand, AreCounted, StandsOn, StandsFor, counted_root, counted_last, counted_typed, counted, opened, cut, closed_count, ended, started, machine_after, Descend, IsOrdered, DocumentsAreOrdered, unfinished, finished, CountersArePlaces, or_root, new_machine, ranges_of_machine}
 use Rattle.lol_vm.proofs.Held.{ranges_hold_left_matches}
 use Rattle.lol_vm.proofs.Gathered.{runs_give_reports}
 use Rattle.lol_vm.proofs.Stops.{requests_finish, asks_by_names}
@@ -359,7 +360,9 @@ module _ (s : Selectors) (esi : Bool) (paths : List Path) (m : Machine) (d : Doc
       subst (λ switch. StandsOn s esi paths (started m (opens switch) (element_of d tag)) (after_start d tag (opens esi)) (max most (length (after_start d tag (opens esi)).open_elements))) (sym stands.switch)
       (started_stands closed tag (opens esi))
 
-pub new_stands : NewStands
+-- The new machine stands for no events.
+pub new_stands : (s : Selectors) (esi : Bool) (paths : List Path) (p : Program) (item_bytes : ℕ) → IsProgramOf s paths p
+    → StandsFor s esi paths (new_machine p esi item_bytes) []
 new_stands s esi paths p item_bytes program = record {
   program = program;
   items = tt;
@@ -370,7 +373,10 @@ new_stands s esi paths p item_bytes program = record {
   never_refused = refl;
 }
 
-pub standing_is_kept : StandingIsKept
+-- A machine that stands for events stands for them with one more, whichever it is.
+pub standing_is_kept : (s : Selectors) (esi : Bool) (paths : List Path) (m : Machine) (events : List Event) (event : Event) → AreClosed s
+    → StandsFor s esi paths m events
+    → StandsFor s esi paths (machine_after s m (document s esi events) event) (events ++ event ∷ [])
 standing_is_kept s esi paths m events event closed stands =
     let d = document s esi events in
     let m' = machine_after s m d event in
@@ -442,12 +448,24 @@ module _ (s : Selectors) (esi : Bool) (events : List Event) (tag : StartTag) whe
       subst (λ d'. StandsOn s esi paths m d' (max (longest s esi events) (length d.open_elements))) is
       (subst (StandsOn s esi paths m (document s esi (events ++ event ∷ []))) (longest_as event d is) h)
 
-pub requests_stand : RequestsStand
+-- A call that answers a request has counted the tag, and leaves the machine standing for the list with the event as dropped.
+pub requests_stand : (s : Selectors) (esi : Bool) (paths : List Path) (m : Machine) (events : List Event) (tag : StartTag)
+    → StandsFor s esi paths m events
+    → asks s (element_of (document s esi events) tag) (document s esi events).open_elements ≡ true
+    → StandsFor s esi paths (counted m tag.name) (events ++ Start (unfinished tag) ∷ [])
 requests_stand s esi paths m events tag stands h =
     for_on s esi events tag paths (counted m tag.name) (Start (unfinished tag)) (after_start (document s esi events) tag false) (after_unfinished s esi events tag h)
     (counted_stands s esi paths m (document s esi events) (longest s esi events) (documents_are_ordered s esi events) stands tag)
 
-pub finishing_is_kept : FinishingIsKept
+-- Finishing a request on that machine puts the finished event in its place.
+pub finishing_is_kept : (s : Selectors) (esi : Bool) (paths : List Path) (m : Machine) (events : List Event) (tag : StartTag)
+    (context : Context) (left : List ℕ) → AreClosed s → tag.finish ≡ true
+    → asks s (element_of (document s esi events) tag) (document s esi events).open_elements ≡ true
+    → StandsFor s esi paths m (events ++ Start (unfinished tag) ∷ [])
+    → IsRequest m.program true (element_of (document s esi events) tag) (ranges_of_machine m) context left
+    → StandsFor s esi paths
+    (finished m (has_content esi tag) tag.name (run m.program true (element_of (document s esi events) tag) context left))
+    (events ++ Start tag ∷ [])
 finishing_is_kept s esi paths m events tag context left closed finish h stands request =
     let d = document s esi events in
     let e = element_of d tag in

@@ -17,7 +17,7 @@ use Rattle.lol_vm.specs.Standing as standing
 use Rattle.lol_stack.specs.TypedCounts as typed
 use Rattle.lol_stack.specs.TypedCounts.{TypedCount, count_at}
 use Rattle.lol_stack.specs.Stacks.{items_in, typed_in, last_count, typed_count, count_or, counted_in, counted_if, counted_item, with_typed, count_by_type}
-use Rattle.lol_vm.specs.StackMachines.{item_shown, items_shown, children_shown, typed_shown, KeepsTyped, KeepsMachine, CountingStackKeeps, CountersAreSeen, StatesShowElements, TypedCountsAreFewer}
+use Rattle.lol_vm.specs.StackMachines.{item_shown, items_shown, children_shown, typed_shown, KeepsTyped, KeepsMachine, AreSeen}
 use Rattle.lol_stack.specs.declared.stack_item.StackItemOf.{StackItemOf}
 use Rattle.lol_stack.specs.declared.stack.StackOf.{StackOf}
 use Rattle.lol_stack.specs.declared.stack.StackNames.{StackNames}
@@ -130,7 +130,9 @@ module _ {E : Type 0} where
         slots = keeps.slots;
       })
 
-  pub counting_stack_keeps : CountingStackKeeps E
+  -- A child is counted, where no count by type is full.
+  pub counting_stack_keeps : (s : StackOf Name StackNames E) (m : Machine) (name : List ℕ)
+      → KeepsMachine s m → (m.program.by_type ≡ true → m.typed (length m.items) name < full_count) → KeepsMachine (counted_in s (local_name name)) (counted m name)
   counting_stack_keeps s m name keeps free = counting s m name keeps free (items_in s) refl
 
   -- 4. What is seen
@@ -146,7 +148,8 @@ module _ {E : Type 0} where
       ∙ (ap (λ k. count_or s.root_child_counter (slice_get (end.front ++ end.last ∷ []) k)) (last_place end.front end.last)
       ∙ (ap (count_or s.root_child_counter) (last_at end.front end.last) ∙ sym (ap (λ cs. or_root cs m.root_children) (children_end s m keeps end.front end.last whole))))
 
-  pub counters_are_seen : CountersAreSeen E
+  -- They are seen once a child of that name is counted.
+  pub counters_are_seen : (s : StackOf Name StackNames E) (m : Machine) (name : List ℕ) → KeepsMachine s m → (m.program.by_type ≡ true → 0 < m.typed (length m.items) name) → AreSeen s m name
   counters_are_seen s m name keeps some = record {
     cumulative = seen_children s m keeps (items_in s) refl;
     typed = subst (λ top. count_by_type (typed_in s) top (local_name name) ≡ (if m.program.by_type then Some (m.typed (length m.items) name) else None)) (items_counted s m keeps)
@@ -165,13 +168,6 @@ module _ {E : Type 0} where
       by_test : (b : Bool) (x y : ℕ) → (b ≡ true → x ≡ y) → (if b then Some x else None) ≡ (if b then Some y else None)
       by_test true x y same = ap Some (same refl)
       by_test false x y same = refl
-
-  pub states_show_elements : StatesShowElements E
-  states_show_elements s m d tag state counts sizes keeps cumulative typed_is =
-      let places = seen_places s m d tag counts sizes keeps in
-      let position = cumulative ∙ places.0 in
-      let typed_position = typed_is ∙ places.1 in
-      λ i. record { name = lowercased tag.name; position = position i; typed_position = typed_position i }
 
 -- 5. Children of a name are children
 
@@ -195,7 +191,9 @@ typed_fewer parent name cs =
     fewer (λ (c : Child). same_parent parent c.parent && same_name name c.name) (λ (c : Child). same_parent parent c.parent)
     (λ c h. (and_parts (same_parent parent c.parent) (same_name name c.name) h).0) cs
 
-pub typed_counts_are_fewer : TypedCountsAreFewer
+-- No more children of a name are counted than children.
+pub typed_counts_are_fewer : (m : Machine) (d : Document) (name : List ℕ) → AreCounted m d → length m.items ≡ length d.open_elements → m.program.by_type ≡ true
+    → m.typed (length m.items) name ≤ standing.innermost_count m
 typed_counts_are_fewer m d name counted sizes by_type = by_elements d.open_elements refl
   where
     by_elements : (elements : List Element) → d.open_elements ≡ elements → m.typed (length m.items) name ≤ standing.innermost_count m

@@ -8,11 +8,11 @@ use Rattle.std.proofs.lemmas.Iterator.Adapters.{position_from-zero}
 use Rattle.std.proofs.lemmas.List.{reverse-append}
 use Rattle.lol_base.specs.Names.{lowercased}
 use Rattle.lol_base.specs.LocalNames.{Name, local_name}
-use Rattle.lol_vm.specs.Machines.{OpenItem}
+use Rattle.lol_vm.specs.Machines.{OpenItem, active_of}
 use Rattle.lol_vm.specs.Standing.{Machine, ended}
-use Rattle.lol_stack.specs.Stacks.{items_in, place_to_close, IsEndedAt}
-use Rattle.lol_stack.specs.SoundStacks.{last_place_from, last_place}
-use Rattle.lol_vm.specs.StackMachines.{item_shown, items_shown, in_lower_case, KeepsMachine, EndingStackKeeps}
+use Rattle.lol_stack.specs.Stacks.{items_in, place_to_close, IsEndedAt, IsEnded}
+use Rattle.lol_stack.specs.SoundStacks.{last_place_from, last_place, IsSound}
+use Rattle.lol_vm.specs.StackMachines.{item_shown, items_shown, in_lower_case, KeepsMachine}
 use Rattle.lol_stack.specs.declared.stack_item.StackItemOf.{StackItemOf}
 use Rattle.lol_stack.specs.declared.stack.StackOf.{StackOf}
 use Rattle.lol_stack.specs.declared.stack.StackNames.{StackNames}
@@ -84,7 +84,9 @@ module _ (name : List ℕ) where
       ∙ (ap (option_map (from_last 0 (length (items_in s)))) (sym (position-map is_named in_lower_case m.items) ∙ (ap (position is_named) keeps.items ∙ position_from-zero is_named (items_shown (items_in s))))
       ∙ last_is 0 (items_in s))
 
-pub ending_stack_keeps : {E : Type 0} → EndingStackKeeps E
+-- An end tag closes what it closes on the machine, where the stack's lists are those of its elements.
+pub ending_stack_keeps : {E : Type 0} → (old new : StackOf Name StackNames E) (m : Machine) (name : List ℕ)
+    → KeepsMachine old m → m.active ≡ active_of m.items → IsSound old → IsEnded old (local_name name) new → KeepsMachine new (ended m name)
 ending_stack_keeps old new m name keeps active sound ended =
     let place : place_to_close old (local_name name) ≡ place_of_last m name = ends_at_last old (local_name name) sound ∙ sym (place_is_last name old m keeps) in
     ended_at_last_keeps old new m name keeps active (subst (λ o. IsEndedAt o old new) place ended)

@@ -1,4 +1,6 @@
 -- Stacks that keep what a machine keeps.
+use Rattle.lol_vm.specs.PlaceRuns.{Context}
+use Rattle.lol_program.specs.Programs.{Program}
 use Rattle.std.proofs.Common.{◌≡◌, ℕ, suc, ◌+◌, ◌-◌, ◌<◌, ◌≤◌, Bool, true, false, cond, List, [], ◌∷◌, ◌++◌, length, map, filter, reverse, take, drop, position, Option, Some, None, refl, sym, ap, ◌∙◌, subst, arith}
 use Rattle.std.specs.Prelude.{nat_lt, nat_le, if◌then◌else◌}
 use Rattle.std.specs.List.{drop-map, take-map}
@@ -15,11 +17,11 @@ use Rattle.lol_memory.specs.SlotLaws.{slots_pushed}
 use Rattle.lol_stack.specs.Active.{activated}
 use Rattle.lol_vm.specs.Machines.{OpenItem, active_of}
 use Rattle.lol_stack.specs.TypedCounts.{TypedCount, cut_to}
-use Rattle.lol_vm.specs.Standing.{Machine, cut, closed_count, ended}
+use Rattle.lol_vm.specs.Standing.{Machine, cut, closed_count, ended, new_machine, opened}
 use Rattle.lol_stack.specs.TypedLaws.{levels_in}
 use Rattle.lol_stack.specs.ClimbLaws.{climb_lower, climb_cut}
-use Rattle.lol_stack.specs.Stacks.{items_in, typed_in, IsSame, IsClosed, IsEndedAt}
-use Rattle.lol_vm.specs.StackMachines.{item_shown, items_shown, children_shown, in_lower_case, KeepsTyped, KeepsMachine, NewStackKeeps, SameStackKeeps, OpeningStackKeeps}
+use Rattle.lol_stack.specs.Stacks.{items_in, typed_in, IsSame, IsClosed, IsEndedAt, IsPushed}
+use Rattle.lol_vm.specs.StackMachines.{item_shown, items_shown, children_shown, in_lower_case, KeepsTyped, KeepsMachine, IsNew, IsItemOf}
 use Rattle.lol_stack.specs.declared.stack_item.StackItemOf.{StackItemOf}
 use Rattle.lol_stack.specs.declared.stack.StackOf.{StackOf}
 use Rattle.lol_stack.specs.declared.stack.StackNames.{StackNames}
@@ -47,7 +49,7 @@ module _ {E : Type 0} where
   pub items_counted : (s : StackOf Name StackNames E) (m : Machine) → KeepsMachine s m → length m.items ≡ length (items_in s)
   items_counted s m keeps = sym (length-map m.items in_lower_case) ∙ (ap length keeps.items ∙ shown_length item_shown (items_in s))
 
-  pub new_stack_keeps : NewStackKeeps E
+  pub new_stack_keeps : (s : StackOf Name StackNames E) (p : Program) (esi : Bool) (item_bytes : ℕ) → IsNew s p.by_type item_bytes → KeepsMachine s (new_machine p esi item_bytes)
   new_stack_keeps s p esi item_bytes new = record {
     items = sym (ap (λ (v : LimitedVec (StackItemOf Name E)). items_shown v.items) new.items);
     active = sym new.active;
@@ -62,7 +64,7 @@ module _ {E : Type 0} where
       by_test true = (refl, tt, λ level name. refl)
       by_test false = refl
 
-  pub same_stack_keeps : SameStackKeeps E
+  pub same_stack_keeps : (old new : StackOf Name StackNames E) (m : Machine) → KeepsMachine old m → IsSame old new → KeepsMachine new m
   same_stack_keeps old new m keeps same = record {
     items = keeps.items ∙ sym (ap (λ (v : LimitedVec (StackItemOf Name E)). items_shown v.items) same.items);
     active = keeps.active ∙ sym same.active;
@@ -73,7 +75,8 @@ module _ {E : Type 0} where
     slots = keeps.slots ∙ sym (ap (λ (v : LimitedVec (StackItemOf Name E)). v.slots) same.items);
   }
 
-  pub opening_stack_keeps : OpeningStackKeeps E
+  pub opening_stack_keeps : (old new : StackOf Name StackNames E) (m : Machine) (item : StackItemOf Name E) (name : List ℕ) (context : Context)
+      → KeepsMachine old m → IsPushed old item new → IsItemOf item name context → KeepsMachine new (opened m name context)
   opening_stack_keeps old new m item name context keeps push is =
       let items : items_in new ≡ items_in old ++ item ∷ [] = ap (λ (v : LimitedVec (StackItemOf Name E)). v.items) push.items in
       let count = items_counted old m keeps in

@@ -1,6 +1,7 @@
 -- Runs that stop and go on.
+use Rattle.lol_vm.specs.Machines.{HoldOnce, LeftMatches}
 use Rattle.std.proofs.Common.{◌≡◌, ℕ, suc, ◌+◌, Bool, true, false, cond, not, List, [], ◌∷◌, ◌++◌, length, drop, Option, Some, None, inl, inr, refl, sym, ap, ◌∙◌, subst, arith, append_assoc}
-use Rattle.std.specs.Prelude.{slice_get, count_by, option_to_list, ◌&&◌, ◌||◌}
+use Rattle.std.specs.Prelude.{slice_get, count_by, option_to_list, ◌&&◌, ◌||◌, ◌≤◌}
 use Rattle.std.specs.declared.ops.Range.{Range}
 use Rattle.std.specs.List.{list_any}
 use Rattle.std.proofs.lemmas.List.{append-nil, append_cancel_right, length-append}
@@ -17,14 +18,14 @@ use Rattle.lol_vm.specs.Matching.{left_matches}
 use Rattle.lol_vm.specs.Answers.{needs_attributes, asks}
 use Rattle.lol_base.specs.BoolLaws.{or_of}
 use Rattle.lol_instructions.specs.Compounds.{is_open, Decides, by_names, with_rest}
-use Rattle.lol_program.specs.Programs.{Instruction, Program, IsAt, IsProgramOf, places, all_places}
+use Rattle.lol_program.specs.Programs.{Instruction, Program, IsAt, IsProgramOf, places, all_places, AreClosed}
 use Rattle.lol_instructions.specs.declared.name_value.NameValue.{NameValue}
 use Rattle.lol_instructions.specs.declared.name_value.NameValue.TheVariants.{True, False, Open}
 use Rattle.lol_program.specs.ValueLaws.{values_decide, values_are_by_names}
-use Rattle.lol_vm.specs.PlaceRuns.{Context, no_context, Stop, given_by, gathered_from_places, context_of, branch, step_with_attributes, step_by_names, run, run_by_names, instruction_value, value_at, is_open_at, first_open, ids_list, jumps_list, hereditary_jumps_list}
+use Rattle.lol_vm.specs.PlaceRuns.{Context, no_context, Stop, given_by, gathered_from_places, context_of, branch, step_with_attributes, step_by_names, run, run_by_names, instruction_value, value_at, is_open_at, first_open, ids_list, jumps_list, hereditary_jumps_list, places_from}
 use Rattle.lol_vm.proofs.Held.{path_at}
 use Rattle.lol_vm.proofs.Counted.{places_count_tries}
-use Rattle.lol_vm.specs.MachineLaws.{RunsDontSeeTheRest, StoppedStartsAreWhole, StopsAreRequests, ForeignTagsAsk, RequestsFinish, RunsGather, StopsLeave, NumbersAreOffsets, from_number, with_context, ValuesDecideAt, IsStop, starts_open, RunsStopWhereAsked}
+use Rattle.lol_vm.specs.MachineLaws.{from_number, with_context, ValuesDecideAt, IsStop, starts_open, WholeStart, IsRequest, started_by_names}
 
 -- 1. Runs gather
 
@@ -56,7 +57,9 @@ none_if : {A : Type 0} (b : Bool) (xs : List A) → xs ≡ xs ++ cond b [] []
 none_if true xs = sym (append-nil xs)
 none_if false xs = sym (append-nil xs)
 
-pub runs_gather : RunsGather
+-- A run place by place gathers what its places give, in their order.
+pub runs_gather : (p : Program) (content : Bool) (e : Element) (context : Context) (ps : List ℕ)
+    → run p content e context ps ≡ with_context context (context_of p content e ps)
 runs_gather p content e context [] = λ k. record {
   ids = sym (append-nil context.ids) k;
   jumps = none_if content context.jumps k;
@@ -118,7 +121,8 @@ module _ (p : Program) (content : Bool) (e : Element) (context : Context) (place
       shut k (inl at) = subst (λ n. is_open_at p e n ≡ false) at is
       shut k (inr a) = later.closed k (contains_from_among later.before k a)
 
-pub runs_stop_where_asked : RunsStopWhereAsked
+pub runs_stop_where_asked : (p : Program) (content : Bool) (e : Element) (context : Context) (ps : List ℕ) → ValuesDecideAt p e ps
+    → IsStop p content e context ps (run_by_names p content e context ps)
 runs_stop_where_asked p content e context [] decides = record {
   before = [];
   parts = refl;
@@ -133,7 +137,8 @@ runs_stop_where_asked p content e context (place ∷ ps) decides =
 
 -- 3. Stops as offsets
 
-pub stops_leave : StopsLeave
+pub stops_leave : (p : Program) (content : Bool) (e : Element) (context : Context) (ps : List ℕ)
+    → (run_by_names p content e context ps).left ≡ from_number (first_open p e ps) ps
 stops_leave p content e context [] = refl
 stops_leave p content e context (place ∷ ps) = by_test (is_open_at p e place) (first_open p e ps) (stops_leave p content e (next p content e context place) ps)
   where
@@ -143,7 +148,9 @@ stops_leave p content e context (place ∷ ps) = by_test (is_open_at p e place) 
     by_test false None later = later
     by_test false (Some n) later = later
 
-pub numbers_are_offsets : NumbersAreOffsets
+-- The places of ranges without those before an offset in one of them are those from that offset on.
+pub numbers_are_offsets : (front : List (Range ℕ)) (r : Range ℕ) (back : List (Range ℕ)) (offset : ℕ) → offset ≤ length (places r)
+    → drop (length (all_places front) + offset) (all_places (front ++ r ∷ back)) ≡ places_from offset (r ∷ back)
 numbers_are_offsets front r back offset within =
     ap (drop (length (all_places front) + offset)) (flat_map-append places front (r ∷ back))
     ∙ (drop-append-add (all_places front) (all_places (r ∷ back)) offset ∙ drop-append-le offset (places r) (all_places back) within)
@@ -175,16 +182,15 @@ module _ (s : Selectors) (paths : List Path) (p : Program) (program : IsProgramO
         (λ i. cond (is_open (same i)) (record { context = context; left = place ∷ ps }) (run_by_names p content other (step_by_names content context (same i) (slice_get p.instructions place)) ps))
         ∙ ap (λ later. cond (is_open_at p e place) (record { context = context; left = place ∷ ps }) later) (same_stop content (next p content e context place) ps)
 
-pub runs_dont_see_the_rest : RunsDontSeeTheRest
-runs_dont_see_the_rest s paths p e attributes self_closing finish content context ps program = same_stop s paths p program e attributes self_closing finish content context ps
-
 pub left_counted : (test : ℕ → Bool) (before left : List ℕ) → ((place : ℕ) → Among before place → test place ≡ false) → count_by test left ≡ count_by test (before ++ left)
 left_counted test [] left h = refl
 left_counted test (place ∷ before) left h =
     left_counted test before left (λ k a. h k (inr a))
     ∙ sym (count_by-cons test place (before ++ left) ∙ (ap (λ b. cond b 1 0 + count_by test (before ++ left)) (h place (inl refl)) ∙ omega arith))
 
-pub stopped_starts_are_whole : StoppedStartsAreWhole
+pub stopped_starts_are_whole : (s : Selectors) (paths : List Path) (p : Program) (ranges : List (Range ℕ)) (e : Element) (outer : List Element)
+    (content : Bool) → AreClosed s → IsProgramOf s paths p → HoldOnce paths ranges (LeftMatches outer)
+    → WholeStart s p ranges e outer content
 stopped_starts_are_whole s paths p ranges e outer content closed program held =
     let stop = runs_stop_where_asked p content e no_context (all_places ranges) (λ place i h at. decides_at s paths p program e place i at) in
     let tries = places_count_tries s paths p ranges e outer closed program held in
@@ -198,7 +204,11 @@ stopped_starts_are_whole s paths p ranges e outer content closed program held =
       attributes = left_counted (is_open_at p e) stop.before left (λ place a. stop.closed place (contains_from_among stop.before place a)) ∙ (ap (count_by (is_open_at p e)) (sym stop.parts) ∙ tries.attributes);
     }
 
-pub stops_are_requests : StopsAreRequests
+-- A run by names that stops gives a request.
+pub stops_are_requests : (s : Selectors) (paths : List Path) (p : Program) (content : Bool) (e : Element) (ranges : List (Range ℕ))
+    → IsProgramOf s paths p → starts_open p e (started_by_names p content e ranges).left ≡ true
+    → IsRequest p content e ranges (started_by_names p content e ranges).context
+    (started_by_names p content e ranges).left
 stops_are_requests s paths p content e ranges program asks =
     let stop = λ (x : Element). runs_stop_where_asked p content x no_context (all_places ranges) (λ place i h at. decides_at s paths p program x place i at) in
     let here = stop e in
@@ -214,7 +224,9 @@ stops_are_requests s paths p content e ranges program asks =
           sym (ap (λ (y : Stop). y.context) same) ∙ ((stop x).ran ∙ (runs_gather p content x no_context (stop x).before ∙ ap (context_of p content x) fronts));
     }
 
-pub foreign_tags_ask : ForeignTagsAsk
+-- Outside HTML a request is made before any place is run.
+pub foreign_tags_ask : (p : Program) (content : Bool) (e : Element) (ranges : List (Range ℕ)) → is_html e.tag.namespace ≡ false
+    → IsRequest p content e ranges no_context (all_places ranges)
 foreign_tags_ask p content e ranges foreign = record {
   before = [];
   parts = refl;
@@ -227,7 +239,11 @@ foreign_tags_ask p content e ranges foreign = record {
     nothing true = refl
     nothing false = refl
 
-pub requests_finish : RequestsFinish
+-- A request that is finished, with whatever rest of the tag, gives what a whole run gives.
+pub requests_finish : (p : Program) (content : Bool) (e : Element) (ranges : List (Range ℕ)) (context : Context) (left : List ℕ)
+    → IsRequest p content e ranges context left → (attributes : List Attribute) (self_closing finish : Bool)
+    → run p content (with_rest e attributes self_closing finish) context left
+    ≡ context_of p content (with_rest e attributes self_closing finish) (all_places ranges)
 requests_finish p content e ranges context left request attributes self_closing finish =
     let x = with_rest e attributes self_closing finish in
     let before : context ≡ run p content x no_context request.before = request.gathered attributes self_closing finish ∙ sym (runs_gather p content x no_context request.before) in

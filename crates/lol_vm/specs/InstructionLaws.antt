@@ -24,11 +24,6 @@ pub record AreAsOpen (p : Program) (by_type : Bool) (e : Element) (instructions 
   pub stop : first_open_from (sight_of by_type e) 0 (all_at instructions ranges) ≡ first_open p e (all_places ranges)
   pub opens : open_among (sight_of by_type e) (all_at instructions ranges) ≡ count_by (is_open_at p e) (all_places ranges)
 
-abbrev pub InstructionsAreAsOpen : Type 0
-InstructionsAreAsOpen =
-    (p : Program) (by_type : Bool) (e : Element) (instructions : List code.Instruction) (ranges : List (Range ℕ)) → AreRangesOf p by_type instructions ranges
-    → AreAsOpen p by_type e instructions ranges
-
 -- what is gathered with attributes, and what by names up to a stop
 pub record GatherAlike {E : Type 0} (ids_of : E → Ids) (with_ids : E → Ids → E) (p : Program) (by_type : Bool) (e : Element) (instructions : List code.Instruction) (ranges : List (Range ℕ)) (ctx : ExecutionCtx E) (context : Context) : Type 0 where
   pub attributes :

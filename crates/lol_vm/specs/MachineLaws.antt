@@ -1,5 +1,5 @@
 -- What a program of selectors does when it is run for a start tag.
-use Rattle.std.specs.Prelude.{ℕ, ◌+◌, ◌<◌, ◌≤◌, ◌≡◌, ◌↔◌, ◌||◌, not, Bool, true, false, List, [], ◌∷◌, ◌++◌, length, drop, count_by, Option, Some, None, Contains}
+use Rattle.std.specs.Prelude.{ℕ, ◌+◌, ◌<◌, ◌≡◌, ◌↔◌, ◌||◌, not, Bool, true, false, List, [], ◌∷◌, ◌++◌, length, drop, count_by, Option, Some, None, Contains}
 use Rattle.std.specs.declared.ops.Range.{Range}
 use Rattle.std.specs.List.{list_any, sum_by}
 use Rattle.lol_base.specs.StartTags.{Attribute}
@@ -9,7 +9,7 @@ use Rattle.lol_program.specs.Paths.{Path, Selectors}
 use Rattle.lol_program.specs.Programs.{Program, Instruction, AreClosed, IsProgramOf, IsAt, places, all_places}
 use Rattle.lol_vm.specs.Answers.{name_tries, attribute_tries, needs_attributes, matching_ids}
 use Rattle.lol_vm.specs.Machines.{OpenItem, AreItems, HasRanges, Matches, HoldOnce, LeftMatches, active_of, ranges_to_run, jumps_of, hereditary_jumps_of}
-use Rattle.lol_vm.specs.PlaceRuns.{Context, Stop, no_context, is_open_at, context_of, run, run_by_names, first_open, places_from}
+use Rattle.lol_vm.specs.PlaceRuns.{Context, Stop, no_context, is_open_at, context_of, run, run_by_names}
 
 -- 1. Which places are run
 
@@ -39,11 +39,6 @@ pub record TriesAreExact (s : Selectors) (p : Program) (ranges : List (Range ℕ
   pub attributes : count_by (is_open_at p e) (all_places ranges) ≡ attribute_tries s.nodes e outer
   pub asks : list_any (is_open_at p e) (all_places ranges) ≡ list_any (needs_attributes e outer) s.nodes
 
-abbrev pub PlacesCountTries : Type 0
-PlacesCountTries =
-    (s : Selectors) (paths : List Path) (p : Program) (ranges : List (Range ℕ)) (e : Element) (outer : List Element)
-    → AreClosed s → IsProgramOf s paths p → HoldOnce paths ranges (LeftMatches outer) → TriesAreExact s p ranges e outer
-
 -- 2. What they give
 
 -- the ids of the report, and the ranges of the element's item
@@ -52,21 +47,9 @@ pub record GivesReport (s : Selectors) (paths : List Path) (p : Program) (contex
   pub jumps : HasRanges jumps_of paths p (Matches e outer) context.jumps
   pub hereditary_jumps : HasRanges hereditary_jumps_of paths p (Matches e outer) context.hereditary_jumps
 
-abbrev pub RunsGiveReports : Type 0
-RunsGiveReports =
-    (s : Selectors) (paths : List Path) (p : Program) (ranges : List (Range ℕ)) (e : Element) (outer : List Element)
-    → AreClosed s → IsProgramOf s paths p → HoldOnce paths ranges (LeftMatches outer)
-    → GivesReport s paths p (context_of p true e (all_places ranges)) e outer
-
 -- what one context gathered, and then the other
 abbrev pub with_context : Context → Context → Context
 with_context a b = record { ids = a.ids ++ b.ids; jumps = a.jumps ++ b.jumps; hereditary_jumps = a.hereditary_jumps ++ b.hereditary_jumps }
-
--- A run place by place gathers what its places give, in their order.
-abbrev pub RunsGather : Type 0
-RunsGather =
-    (p : Program) (content : Bool) (e : Element) (context : Context) (ps : List ℕ)
-    → run p content e context ps ≡ with_context context (context_of p content e ps)
 
 -- 3. Runs by names, which stop
 
@@ -90,35 +73,10 @@ pub record IsStop (p : Program) (content : Bool) (e : Element) (context : Contex
   pub stops : list_any (is_open_at p e) ps ≡ starts_open p e stop.left
   pub goes_on : run p content e stop.context stop.left ≡ run p content e context ps
 
-abbrev pub RunsStopWhereAsked : Type 0
-RunsStopWhereAsked =
-    (p : Program) (content : Bool) (e : Element) (context : Context) (ps : List ℕ) → ValuesDecideAt p e ps
-    → IsStop p content e context ps (run_by_names p content e context ps)
-
 -- the places without so many at the front; none at all where there is no number
 abbrev pub from_number : Option ℕ → List ℕ → List ℕ
 from_number None ps = []
 from_number (Some n) ps = drop n ps
-
--- What is left by names are the places from the first open one on.
-abbrev pub StopsLeave : Type 0
-StopsLeave =
-    (p : Program) (content : Bool) (e : Element) (context : Context) (ps : List ℕ)
-    → (run_by_names p content e context ps).left ≡ from_number (first_open p e ps) ps
-
--- The places of ranges without those before an offset in one of them are those from that offset on.
-abbrev pub NumbersAreOffsets : Type 0
-NumbersAreOffsets =
-    (front : List (Range ℕ)) (r : Range ℕ) (back : List (Range ℕ)) (offset : ℕ) → offset ≤ length (places r)
-    → drop (length (all_places front) + offset) (all_places (front ++ r ∷ back)) ≡ places_from offset (r ∷ back)
-
--- A run by names of a program of selectors doesn't depend on the rest of the tag.
-abbrev pub RunsDontSeeTheRest : Type 0
-RunsDontSeeTheRest =
-    (s : Selectors) (paths : List Path) (p : Program) (e : Element) (attributes : List Attribute)
-    (self_closing finish : Bool) (content : Bool) (context : Context) (ps : List ℕ) → IsProgramOf s paths p
-    → run_by_names p content (with_rest e attributes self_closing finish) context ps
-    ≡ run_by_names p content e context ps
 
 -- the run by names of a start tag over these ranges
 abbrev pub started_by_names : Program → Bool → Element → List (Range ℕ) → Stop
@@ -133,12 +91,6 @@ pub record WholeStart (s : Selectors) (p : Program) (ranges : List (Range ℕ)) 
   pub names : length stop.before + length (started_by_names p content e ranges).left ≡ name_tries s.nodes outer
   pub attributes : count_by (is_open_at p e) (started_by_names p content e ranges).left ≡ attribute_tries s.nodes e outer
 
-abbrev pub StoppedStartsAreWhole : Type 0
-StoppedStartsAreWhole =
-    (s : Selectors) (paths : List Path) (p : Program) (ranges : List (Range ℕ)) (e : Element) (outer : List Element)
-    (content : Bool) → AreClosed s → IsProgramOf s paths p → HoldOnce paths ranges (LeftMatches outer)
-    → WholeStart s p ranges e outer content
-
 -- 4. Requests
 
 -- A request for the rest of a tag: what is left to run, and the context so far, which is what the places before give, whatever that rest
@@ -149,20 +101,6 @@ pub record IsRequest (p : Program) (content : Bool) (e : Element) (ranges : List
   pub closed : (place : ℕ) → Contains before place → is_open_at p e place ≡ false
   pub asks : (not (is_html e.tag.namespace) || starts_open p e left) ≡ true
   pub gathered : (attributes : List Attribute) (self_closing finish : Bool) → context ≡ context_of p content (with_rest e attributes self_closing finish) before
-
--- A run by names that stops gives a request.
-abbrev pub StopsAreRequests : Type 0
-StopsAreRequests =
-    (s : Selectors) (paths : List Path) (p : Program) (content : Bool) (e : Element) (ranges : List (Range ℕ))
-    → IsProgramOf s paths p → starts_open p e (started_by_names p content e ranges).left ≡ true
-    → IsRequest p content e ranges (started_by_names p content e ranges).context
-    (started_by_names p content e ranges).left
-
--- Outside HTML a request is made before any place is run.
-abbrev pub ForeignTagsAsk : Type 0
-ForeignTagsAsk =
-    (p : Program) (content : Bool) (e : Element) (ranges : List (Range ℕ)) → is_html e.tag.namespace ≡ false
-    → IsRequest p content e ranges no_context (all_places ranges)
 
 -- A request that is finished, with whatever rest of the tag, gives what a whole run gives.
 abbrev pub RequestsFinish : Type 0

@@ -1,22 +1,19 @@
 -- When a stack keeps what a machine keeps of the open elements.
-use Rattle.std.specs.Prelude.{ℕ, ◌<◌, ◌≤◌, ◌≡◌, Bool, true, false, if◌then◌else◌, List, [], map, reverse, length, Option, Some, None, unwrap_or}
+use Rattle.std.specs.Prelude.{ℕ, ◌≡◌, Bool, true, false, if◌then◌else◌, List, [], map, reverse, length, Option, Some, None, unwrap_or}
 use Rattle.std.specs.Option.{option_copied}
 use Rattle.lol_base.specs.Names.{lowercased}
 use Rattle.lol_base.specs.StartTags.{StartTag}
 use Rattle.lol_base.specs.LocalNames.{Name, local_name}
 use Rattle.lol_instructions.specs.Compiled.{sight, sight_of}
-use Rattle.lol_instructions.specs.Counters.{full_count}
-use Rattle.lol_program.specs.Programs.{Program}
 use Rattle.lol_instructions.specs.declared.selector_state.SelectorState.{SelectorState}
 use Rattle.lol_vm.specs.Documents.{Document, element_of}
-use Rattle.lol_vm.specs.Machines.{OpenItem, active_of}
+use Rattle.lol_vm.specs.Machines.{OpenItem}
 use Rattle.lol_vm.specs.PlaceRuns.{Context}
 use Rattle.lol_vm.specs.Standing.{Machine, AreCounted, new_machine, counted, opened, ended}
 use Rattle.lol_vm.specs.Standing as standing
 use Rattle.lol_stack.specs.TypedCounts.{TypedCount, count_at, cut_to}
 use Rattle.lol_stack.specs.TypedLaws.{levels_in, Climb}
-use Rattle.lol_stack.specs.Stacks.{items_in, slots_in, active_in, typed_in, last_count, typed_count, counted_in, root_count, item_bytes_in, list_in, IsSame, IsPushed, IsEnded}
-use Rattle.lol_stack.specs.SoundStacks.{IsSound}
+use Rattle.lol_stack.specs.Stacks.{items_in, slots_in, active_in, typed_in, last_count, typed_count, root_count, item_bytes_in, list_in}
 use Rattle.lol_stack.specs.declared.stack_item.StackItemOf.{StackItemOf}
 use Rattle.lol_stack.specs.declared.stack.StackOf.{StackOf}
 use Rattle.lol_stack.specs.declared.stack.StackNames.{StackNames}
@@ -73,12 +70,6 @@ pub record IsNew {E : Type 0} (s : StackOf Name StackNames E) (by_type : Bool) (
   pub active : active_in s ≡ []
   pub typed : typed_in s ≡ (if by_type then Some [] else None)
 
-abbrev pub NewStackKeeps : Type 0 → Type 0
-NewStackKeeps E = (s : StackOf Name StackNames E) (p : Program) (esi : Bool) (item_bytes : ℕ) → IsNew s p.by_type item_bytes → KeepsMachine s (new_machine p esi item_bytes)
-
-abbrev pub SameStackKeeps : Type 0 → Type 0
-SameStackKeeps E = (old new : StackOf Name StackNames E) (m : Machine) → KeepsMachine old m → IsSame old new → KeepsMachine new m
-
 -- an element that has what was gathered, and no children yet
 pub record IsItemOf {E : Type 0} (item : StackItemOf Name E) (name : List ℕ) (context : Context) : Type 0 where
   pub named : item.local_name ≡ local_name name
@@ -86,38 +77,10 @@ pub record IsItemOf {E : Type 0} (item : StackItemOf Name E) (name : List ℕ) (
   pub hereditary_jumps : context.hereditary_jumps ≡ item.hereditary_jumps
   pub children : item.child_counter ≡ 0
 
-abbrev pub OpeningStackKeeps : Type 0 → Type 0
-OpeningStackKeeps E =
-    (old new : StackOf Name StackNames E) (m : Machine) (item : StackItemOf Name E) (name : List ℕ) (context : Context)
-    → KeepsMachine old m → IsPushed old item new → IsItemOf item name context → KeepsMachine new (opened m name context)
-
--- An end tag closes what it closes on the machine, where the stack's lists are those of its elements.
-abbrev pub EndingStackKeeps : Type 0 → Type 0
-EndingStackKeeps E =
-    (old new : StackOf Name StackNames E) (m : Machine) (name : List ℕ)
-    → KeepsMachine old m → m.active ≡ active_of m.items → IsSound old → IsEnded old (local_name name) new → KeepsMachine new (ended m name)
-
--- A child is counted, where no count by type is full.
-abbrev pub CountingStackKeeps : Type 0 → Type 0
-CountingStackKeeps E =
-    (s : StackOf Name StackNames E) (m : Machine) (name : List ℕ)
-    → KeepsMachine s m → (m.program.by_type ≡ true → m.typed (length m.items) name < full_count) → KeepsMachine (counted_in s (local_name name)) (counted m name)
-
 -- the counters of the innermost open element, or of the root, for a child of this name
 pub record AreSeen {E : Type 0} (s : StackOf Name StackNames E) (m : Machine) (name : List ℕ) : Type 0 where
   pub cumulative : last_count s ≡ standing.innermost_count m
   pub typed : typed_count s (local_name name) ≡ (if m.program.by_type then Some (m.typed (length m.items) name) else None)
-
--- They are seen once a child of that name is counted.
-abbrev pub CountersAreSeen : Type 0 → Type 0
-CountersAreSeen E =
-    (s : StackOf Name StackNames E) (m : Machine) (name : List ℕ) → KeepsMachine s m → (m.program.by_type ≡ true → 0 < m.typed (length m.items) name) → AreSeen s m name
-
--- No more children of a name are counted than children.
-abbrev pub TypedCountsAreFewer : Type 0
-TypedCountsAreFewer =
-    (m : Machine) (d : Document) (name : List ℕ) → AreCounted m d → length m.items ≡ length d.open_elements → m.program.by_type ≡ true
-    → m.typed (length m.items) name ≤ standing.innermost_count m
 
 -- What tests see through a state of these counters, once a start tag is counted, is what they see of its element.
 abbrev pub StatesShowElements : Type 0 → Type 0

@@ -1,5 +1,5 @@
 -- When a machine stands for events.
-use Rattle.std.specs.Prelude.{ℕ, suc, ◌+◌, ◌≡◌, ◌≤◌, ◌<◌, ◌&&◌, ◌||◌, count_by, ◌==◌, not, Bool, true, false, if◌then◌else◌, nat_lt, nat_le, max, List, [], ◌∷◌, ◌++◌, map, filter, drop, length, position, Option, Some, None}
+use Rattle.std.specs.Prelude.{ℕ, suc, ◌+◌, ◌≡◌, ◌≤◌, ◌<◌, ◌&&◌, ◌||◌, count_by, ◌==◌, not, Bool, true, false, if◌then◌else◌, nat_lt, nat_le, List, [], ◌∷◌, ◌++◌, map, filter, drop, length, position, Option, Some, None}
 use Rattle.std.specs.declared.ops.Range.{Range}
 use Rattle.lol_base.specs.Names.{same_name}
 use Rattle.lol_base.specs.StartTags.{StartTag}
@@ -150,24 +150,6 @@ abbrev pub DocumentsAreOrdered : Type 0
 DocumentsAreOrdered =
     (s : Selectors) (esi : Bool) (events : List Event) → IsOrdered (document s esi events) (longest s esi events)
 
-abbrev pub SlotsGrow : Type 0
-SlotsGrow =
-    (item_bytes items most : ℕ) → items ≤ most
-    → slots_after item_bytes (slots item_bytes most) items ≡ slots item_bytes (max most (items + 1))
-
--- The new machine stands for no events.
-abbrev pub NewStands : Type 0
-NewStands =
-    (s : Selectors) (esi : Bool) (paths : List Path) (p : Program) (item_bytes : ℕ) → IsProgramOf s paths p
-    → StandsFor s esi paths (new_machine p esi item_bytes) []
-
--- A machine that stands for events stands for them with one more, whichever it is.
-abbrev pub StandingIsKept : Type 0
-StandingIsKept =
-    (s : Selectors) (esi : Bool) (paths : List Path) (m : Machine) (events : List Event) (event : Event) → AreClosed s
-    → StandsFor s esi paths m events
-    → StandsFor s esi paths (machine_after s m (document s esi events) event) (events ++ event ∷ [])
-
 abbrev pub or_root : List ℕ → ℕ → ℕ
 or_root [] root = root
 or_root (c ∷ children) root = c
@@ -193,25 +175,11 @@ pub record AnswersStart (s : Selectors) (m : Machine) (e : Element) (outer : Lis
   pub names : sum_of_lengths (ranges_of_machine m) ≡ name_tries s.nodes outer
   pub attributes : count_by (is_open_at m.program e) (all_places (ranges_of_machine m)) ≡ attribute_tries s.nodes e outer
 
-abbrev pub StartsAnswer : Type 0
-StartsAnswer =
-    (s : Selectors) (esi : Bool) (paths : List Path) (m : Machine) (events : List Event) (tag : StartTag) → AreClosed s
-    → StandsFor s esi paths m events
-    → AnswersStart s m (element_of (document s esi events) tag) (document s esi events).open_elements
-
 -- 5. Requests
 
 -- the tag as the event of a request that isn't finished
 abbrev pub unfinished : StartTag → StartTag
 unfinished tag = record { name = tag.name; namespace = tag.namespace; attributes = tag.attributes; self_closing = tag.self_closing; finish = false }
-
--- A call that answers a request has counted the tag, and leaves the machine standing for the list with the event as dropped.
-abbrev pub RequestsStand : Type 0
-RequestsStand =
-    (s : Selectors) (esi : Bool) (paths : List Path) (m : Machine) (events : List Event) (tag : StartTag)
-    → StandsFor s esi paths m events
-    → asks s (element_of (document s esi events) tag) (document s esi events).open_elements ≡ true
-    → StandsFor s esi paths (counted m tag.name) (events ++ Start (unfinished tag) ∷ [])
 
 abbrev pub finished : Machine → Bool → List ℕ → Context → Machine
 finished m opens name context = if opens then opened m name context else m

@@ -9,7 +9,6 @@ pub mod machine_laws;
 pub mod rows;
 mod run;
 pub mod run_laws;
-pub mod stack_machine_laws;
 mod started;
 mod tag_runs;
 mod vm;
