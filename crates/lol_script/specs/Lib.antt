@@ -6,3 +6,4 @@ pub mod Script
 pub mod Scripts
 pub mod Readings
 pub mod ExitStatus
+pub mod WorkedRows

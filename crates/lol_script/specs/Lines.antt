@@ -1,8 +1,9 @@
 -- What the code's lines and tags say.
-use Rattle.std.specs.Prelude.{ℕ, map, List, [], Option, Some, None}
+use Rattle.std.specs.Prelude.{ℕ, ◌≡◌, map, List, [], Option, Some, None}
 use Rattle.std.specs.Borrow.{Bor}
 use Rattle.std.specs.List.{slice_split}
-use Rattle.lol_base.specs.StartTags.{StartTag}
+use Rattle.lol_base.specs.StartTags.{StartTag, attribute_of}
+use Rattle.lol_base.specs.declared.start_tag.AttributeOutline.{AttributeOutline}
 use Rattle.lol_script.specs.Script as script
 use Rattle.lol_script.specs.Script.{is_tab, attribute_at}
 use Rattle.lol_script.specs.declared.lines.Line.{Line}
@@ -15,6 +16,10 @@ use Rattle.lol_script.specs.declared.lines.StartLine.{StartLine}
 abbrev pub fields_of : Option (Bor (List ℕ)) → List (List ℕ)
 fields_of None = []
 fields_of (Some rest) = slice_split is_tab rest.now
+
+-- Outlines of a text are those of its attributes, which tabs part, in order.
+abbrev pub AreOutlinesOf : List ℕ → List AttributeOutline → Type 0
+AreOutlinesOf text outlines = map (attribute_of text) outlines ≡ map attribute_at (slice_split is_tab text)
 
 -- the start tag of a line
 abbrev pub start_tag_of : StartLine → StartTag

@@ -24,6 +24,10 @@ pub record IsReading (code : Code) (s : Script) : Type 0 where
   pub events : map event_of code.tags.items ≡ s.events
   pub inside : All HasRangesInside code.tags.items
 
+-- For each script of the definition that the code has read so far.
+abbrev pub ForReading : Code → (Script → Type 0) → Type 0
+ForReading code holds = (s : Script) → IsReading code s → holds s
+
 -- what was read stands for what the definition gives
 abbrev pub ReadsScript : Code → Result Script BadLine → Type 0
 ReadsScript code defined = (s : Script) × IsReading code s × (defined ≡ Ok s)

@@ -46,7 +46,8 @@ fn variant_name(error: SelectorError) -> &'static str
 }
 
 fn push_sign(text: &mut Vec<u8>, sign: char) -> Result<(), AllocError>
-    ensures { OnOk result (text.new.items ≡ text.old.items ++ combinator_sign (SelectorError.UnsupportedCombinator sign)) }
+    ensures { OnOk result (text.new.items
+        ≡ text.old.items ++ combinator_sign (SelectorError.UnsupportedCombinator sign)) }
 {
     let mut buffer = [0u8; 4];
     text.push(b'(')?;

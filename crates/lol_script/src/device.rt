@@ -1,8 +1,8 @@
 //! Readers and writers whose failures are counted.
 
 ghost use Rattle.std.specs.Prelude.{◌≡◌, ◌≢◌, ◌<◌, ◌≤◌, ◌+◌, length, IfOk, IfErr, OnOk, OnErr, IsErrOf};
-ghost use Rattle.std.specs.Io.KnownBytes.{Consumes, Appends, IsAtEnd, ReadConsumes, WriteAppends};
-ghost use Rattle.lol_script.specs.Devices.{device_of, failures_of, AppendsBeginning};
+ghost use Rattle.std.specs.Io.KnownBytes.{IsAtEnd, ReadConsumes, WriteAppends};
+ghost use Rattle.lol_script.specs.Devices.{FailsWith, Reads, Writes, WritesBeginning, device_of, failures_of};
 
 use std::alloc::Global;
 use std::io::{Read, Write};
@@ -66,10 +66,11 @@ impl<R: Read> Counted<R> {
     /// Reads once, as `Read::read` does.
     fn read(&mut self, buffer: &mut [u8]) -> Result<usize, RunFault>
         requires { failures_of self.old < u64.MAX }
-        ensures bytes { ReadConsumes (R.remaining (device_of self.old)) (R.remaining (device_of self.new)) result buffer.new }
+        ensures bytes { ReadConsumes (R.remaining (device_of self.old)) (R.remaining (device_of self.new))
+            result buffer.new }
         ensures count { IfOk result (λ count. count ≤ length buffer.new) }
         ensures unchanged { OnOk result (failures_of self.new ≡ failures_of self.old) }
-        ensures failed { IfErr result (λ fault. (fault ≡ RunFault.Read) × (failures_of self.new ≡ failures_of self.old + 1)) }
+        ensures failed { IfErr result (λ fault. FailsWith RunFault.Read self.old self.new fault) }
     {
         match self.device.read(buffer) {
             Ok(count) => Ok(count),
@@ -85,11 +86,12 @@ impl<W: Write> Counted<W> {
     /// Writes once, as `Write::write` does; a write that takes no bytes counts as failed.
     fn write(&mut self, bytes: &[u8]) -> Result<usize, RunFault>
         requires { failures_of self.old < u64.MAX }
-        ensures bytes { WriteAppends (W.contents (device_of self.old)) (W.contents (device_of self.new)) result bytes.now }
+        ensures bytes { WriteAppends (W.contents (device_of self.old)) (W.contents (device_of self.new))
+            result bytes.now }
         ensures some { IfOk result (λ count. 0 < count) }
         ensures count { IfOk result (λ count. count ≤ length bytes.now) }
         ensures unchanged { OnOk result (failures_of self.new ≡ failures_of self.old) }
-        ensures failed { IfErr result (λ fault. (fault ≡ RunFault.Write) × (failures_of self.new ≡ failures_of self.old + 1)) }
+        ensures failed { IfErr result (λ fault. FailsWith RunFault.Write self.old self.new fault) }
     {
         match self.device.write(bytes) {
             Ok(count) if count > 0 => Ok(count),
@@ -107,13 +109,14 @@ impl<W: Write> Counted<W> {
 /// `Read` where a read failed, an interrupted one too, and `Memory` where a growth was refused.
 pub fn read_all<R: Read>(alloc: Global, reader: &mut Counted<R>) -> Result<Vec<u8>, RunFault>
     requires { failures_of reader.old < u64.MAX }
-    ensures bytes { IfOk result (λ text. Consumes (R.remaining (device_of reader.old)) (R.remaining (device_of reader.new)) text.items) }
+    ensures bytes { IfOk result (λ text. Reads R.remaining reader.old reader.new text.items) }
     ensures end { OnOk result (IsAtEnd (R.remaining (device_of reader.new))) }
     ensures unchanged { OnOk result (failures_of reader.new ≡ failures_of reader.old) }
 
     // Only a read that failed is answered as such, and any other fault is out of memory.
     ensures read { IsErrOf result RunFault.Read → failures_of reader.new ≡ failures_of reader.old + 1 }
-    ensures memory { IfErr result (λ fault. fault ≢ RunFault.Read → (fault ≡ RunFault.Memory) × (failures_of reader.new ≡ failures_of reader.old)) }
+    ensures memory { IfErr result (λ fault. fault ≢ RunFault.Read
+        → (fault ≡ RunFault.Memory) × (failures_of reader.new ≡ failures_of reader.old)) }
 {
     let mut text = Vec::new(alloc);
     let mut buffer = [0u8; 65536];
@@ -134,10 +137,10 @@ pub fn read_all<R: Read>(alloc: Global, reader: &mut Counted<R>) -> Result<Vec<u
 /// `Write` where a write failed, an interrupted one too, or took no bytes. Then a beginning of the text is out.
 pub fn write_text<W: Write>(writer: &mut Counted<W>, text: &[u8]) -> Result<(), RunFault>
     requires { failures_of writer.old < u64.MAX }
-    ensures whole { OnOk result (Appends (W.contents (device_of writer.old)) (W.contents (device_of writer.new)) text.now) }
+    ensures whole { OnOk result (Writes W.contents writer.old writer.new text.now) }
     ensures unchanged { OnOk result (failures_of writer.new ≡ failures_of writer.old) }
-    ensures failed { IfErr result (λ fault. (fault ≡ RunFault.Write) × (failures_of writer.new ≡ failures_of writer.old + 1)) }
-    ensures beginning { OnErr result (AppendsBeginning (W.contents (device_of writer.old)) (W.contents (device_of writer.new)) text.now) }
+    ensures failed { IfErr result (λ fault. FailsWith RunFault.Write writer.old writer.new fault) }
+    ensures beginning { OnErr result (WritesBeginning W.contents writer.old writer.new text.now) }
 {
     let mut rest = text;
     while !rest.is_empty() {

@@ -1,9 +1,10 @@
 //! Lines and scripts whose meaning is computed from the definition.
 
-ghost use Rattle.std.specs.Prelude.{◌≡◌, [], ◌∷◌, Some, None, true, false, codes};
+ghost use Rattle.std.specs.Prelude.{◌≡◌, [], ◌∷◌, ◌++◌, Some, None, true, false, codes};
 ghost use Rattle.lol_base.specs.declared.namespace.Namespace.TheVariants.{Html, Svg};
-ghost use Rattle.lol_script.specs.Script.{line_at, number_up_to, SetLimit, TurnEsiOn, ShowTries, Select, StartLine, EndLine};
+ghost use Rattle.lol_script.specs.Script.{line_at, number_up_to, SetLimit, TurnEsiOn, ShowTries, Select, EndLine};
 ghost use Rattle.lol_script.specs.Scripts.{output};
+ghost use Rattle.lol_script.specs.WorkedRows.{attribute, start_line, written};
 ghost use Rattle.lol_script.specs.declared.program.Status.TheVariants.{Good, BadLine, Refused};
 
 /// Numbers: one or more digits, up to a greatest one.
@@ -35,9 +36,10 @@ pub fn worked_settings()
 
 /// Tag lines.
 pub fn worked_tags()
-    ensures plain { line_at (codes "start\thtml\tdiv") ≡ Some (StartLine (record { name = codes "div"; namespace = Html; attributes = []; self_closing = false; finish = true })) }
-    ensures dropped { line_at (codes "drop\thtml\tdiv") ≡ Some (StartLine (record { name = codes "div"; namespace = Html; attributes = []; self_closing = false; finish = false })) }
-    ensures attributes { line_at (codes "start\tsvg/\tcircle\ta=b=c\td") ≡ Some (StartLine (record { name = codes "circle"; namespace = Svg; attributes = record { name = codes "a"; value = Some (codes "b=c") } ∷ record { name = codes "d"; value = None } ∷ []; self_closing = true; finish = true })) }
+    ensures plain { line_at (codes "start\thtml\tdiv") ≡ Some (start_line (codes "div") Html [] false true) }
+    ensures dropped { line_at (codes "drop\thtml\tdiv") ≡ Some (start_line (codes "div") Html [] false false) }
+    ensures attributes { line_at (codes "start\tsvg/\tcircle\ta=b=c\td") ≡ Some (start_line (codes "circle") Svg
+        (attribute (codes "a") (Some (codes "b=c")) ∷ attribute (codes "d") None ∷ []) true true) }
     ensures no_name { line_at (codes "start\thtml") ≡ None }
     ensures empty_name { line_at (codes "start\thtml\t") ≡ None }
     ensures tab { line_at (codes "start\thtml\tdiv\t") ≡ None }
@@ -51,20 +53,39 @@ pub fn worked_tags()
 
 /// Whole scripts: what is written, and how the run ends.
 pub fn worked_outputs()
-    ensures nothing { output [] ≡ record { text = []; status = Good } }
-    ensures descendant_and_child { output (codes "select\t0\tdiv p\nselect\t1\tdiv > p\nstart\thtml\tdiv\nstart\thtml\tsection\nstart\thtml\tp\nend\tdiv") ≡ record { text = codes "start\t-\nstart\t-\nstart\t0\nend\t0,1,2\n"; status = Good } }
-    ensures tries { output (codes "tries\nselect\t0\tdiv p\nselect\t1\tdiv > p\nstart\thtml\tdiv\nstart\thtml\tsection\nstart\thtml\tp\nend\tdiv\n") ≡ record { text = codes "start\t-\ttries 1 0\nstart\t-\ttries 3 0\nstart\t0\ttries 2 0\nend\t0,1,2\n"; status = Good } }
-    ensures without_content { output (codes "select\t4\t* > br, P\nselect\t2\tp\nstart\thtml\tp\nstart\thtml\tBR\nstart\thtml\tp\nend\tP\nend\tP\n") ≡ record { text = codes "start\t2,4\nstart\t4/\nstart\t2,4\nend\t2\nend\t0\n"; status = Good } }
-    ensures dropped { output (codes "select\t0\t*\ndrop\tsvg\tg\nstart\thtml\tp\nend\tg\n") ≡ record { text = codes "dropped\nstart\t0\nend\t-\n"; status = Good } }
-    ensures foreign { output (codes "tries\nselect\t0\tcircle\nstart\tsvg/\tcircle\nend\tcircle\n") ≡ record { text = codes "start\t0/\tasked\ttries 1 0\nend\t-\n"; status = Good } }
-    ensures limit { output (codes "limit\t512\nselect\t0\t*\nstart\thtml\ta\nstart\thtml\tb\nstart\thtml\tc\nstart\thtml\td\nstart\thtml\te\nstart\thtml\tf\nstart\thtml\tg\nstart\thtml\th\nstart\thtml\ti\n") ≡ record { text = codes "start\t0\nstart\t0\nstart\t0\nstart\t0\nstart\t0\nstart\t0\nstart\t0\nstart\t0\nrefused limit\n"; status = Refused } }
-    ensures last_limit { output (codes "limit\t512\nlimit\t511\nstart\thtml\ta\n") ≡ record { text = codes "refused limit\n"; status = Refused } }
-    ensures attributes { output (codes "tries\nselect\t0\t.a p\nselect\t1\tp\nstart\thtml\tdiv\tclass=a\nstart\thtml\tp\n") ≡ record { text = codes "start\t-\tasked\ttries 2 1\nstart\t0,1\tasked\ttries 3 1\n"; status = Good } }
-    ensures attribute_with_equals { output (codes "select\t0\t[b=\"c=d\"]\nstart\tmathml/\tmi\tb=c=d\n") ≡ record { text = codes "start\t0/\tasked\n"; status = Good } }
-    ensures esi { output (codes "esi\nselect\t0\t*\nstart\thtml\tesi:include\nstart\thtml\tp\nend\tesi:include\n") ≡ record { text = codes "start\t0/\nstart\t0\nend\t-\n"; status = Good } }
-    ensures bad_selector { output (codes "select\t0\tdiv + span") ≡ record { text = codes "bad line 1: UnsupportedCombinator(+)\n"; status = BadLine } }
-    ensures empty_selector { output (codes "select\t0\t") ≡ record { text = codes "bad line 1: EmptySelector\n"; status = BadLine } }
-    ensures bad_form { output (codes "start\thtml\n") ≡ record { text = codes "bad line 1: form\n"; status = BadLine } }
-    ensures late_setting { output (codes "end\tp\nesi\n") ≡ record { text = codes "bad line 2: form\n"; status = BadLine } }
-    ensures late_bad_line { output (codes "start\thtml\tp\n\nselect\t0\tdiv + span") ≡ record { text = codes "bad line 3: form\n"; status = BadLine } }
+    ensures nothing { output [] ≡ written [] Good }
+    ensures descendant_and_child { output (codes "select\t0\tdiv p\nselect\t1\tdiv > p\n"
+        ++ codes "start\thtml\tdiv\nstart\thtml\tsection\nstart\thtml\tp\nend\tdiv")
+        ≡ written (codes "start\t-\nstart\t-\nstart\t0\nend\t0,1,2\n") Good }
+    ensures tries { output (codes "tries\nselect\t0\tdiv p\nselect\t1\tdiv > p\n"
+        ++ codes "start\thtml\tdiv\nstart\thtml\tsection\nstart\thtml\tp\nend\tdiv\n")
+        ≡ written (codes "start\t-\ttries 1 0\nstart\t-\ttries 3 0\nstart\t0\ttries 2 0\nend\t0,1,2\n") Good }
+    ensures without_content { output (codes "select\t4\t* > br, P\nselect\t2\tp\n"
+        ++ codes "start\thtml\tp\nstart\thtml\tBR\nstart\thtml\tp\nend\tP\nend\tP\n")
+        ≡ written (codes "start\t2,4\nstart\t4/\nstart\t2,4\nend\t2\nend\t0\n") Good }
+    ensures dropped { output (codes "select\t0\t*\ndrop\tsvg\tg\nstart\thtml\tp\nend\tg\n")
+        ≡ written (codes "dropped\nstart\t0\nend\t-\n") Good }
+    ensures foreign { output (codes "tries\nselect\t0\tcircle\nstart\tsvg/\tcircle\nend\tcircle\n")
+        ≡ written (codes "start\t0/\tasked\ttries 1 0\nend\t-\n") Good }
+    ensures limit { output (codes "limit\t512\nselect\t0\t*\n"
+        ++ codes "start\thtml\ta\nstart\thtml\tb\nstart\thtml\tc\nstart\thtml\td\nstart\thtml\te\n"
+        ++ codes "start\thtml\tf\nstart\thtml\tg\nstart\thtml\th\nstart\thtml\ti\n")
+        ≡ written (codes "start\t0\nstart\t0\nstart\t0\nstart\t0\nstart\t0\nstart\t0\nstart\t0\nstart\t0\n"
+        ++ codes "refused limit\n") Refused }
+    ensures last_limit { output (codes "limit\t512\nlimit\t511\nstart\thtml\ta\n")
+        ≡ written (codes "refused limit\n") Refused }
+    ensures attributes { output (codes "tries\nselect\t0\t.a p\nselect\t1\tp\n"
+        ++ codes "start\thtml\tdiv\tclass=a\nstart\thtml\tp\n")
+        ≡ written (codes "start\t-\tasked\ttries 2 1\nstart\t0,1\tasked\ttries 3 1\n") Good }
+    ensures attribute_with_equals { output (codes "select\t0\t[b=\"c=d\"]\nstart\tmathml/\tmi\tb=c=d\n")
+        ≡ written (codes "start\t0/\tasked\n") Good }
+    ensures esi { output (codes "esi\nselect\t0\t*\nstart\thtml\tesi:include\nstart\thtml\tp\nend\tesi:include\n")
+        ≡ written (codes "start\t0/\nstart\t0\nend\t-\n") Good }
+    ensures bad_selector { output (codes "select\t0\tdiv + span")
+        ≡ written (codes "bad line 1: UnsupportedCombinator(+)\n") BadLine }
+    ensures empty_selector { output (codes "select\t0\t") ≡ written (codes "bad line 1: EmptySelector\n") BadLine }
+    ensures bad_form { output (codes "start\thtml\n") ≡ written (codes "bad line 1: form\n") BadLine }
+    ensures late_setting { output (codes "end\tp\nesi\n") ≡ written (codes "bad line 2: form\n") BadLine }
+    ensures late_bad_line { output (codes "start\thtml\tp\n\nselect\t0\tdiv + span")
+        ≡ written (codes "bad line 3: form\n") BadLine }
 {}

@@ -62,7 +62,8 @@ pub fn tab_place(bytes: &[u8]) -> Option<usize>
 /// A line or the rest of one, cut at its first TAB.
 #[tactic(auto, using(crate::proofs::Fields::split_none, crate::proofs::Fields::split_some, crate::proofs::Fields::within_some))]
 fn cut(bytes: &[u8]) -> Option<(&[u8], &[u8])>
-    ensures fields { MatchOption result (slice_split is_tab bytes.now ≡ bytes.now ∷ []) (λ parts. slice_split is_tab bytes.now ≡ parts.0.now ∷ slice_split is_tab parts.1.now) }
+    ensures fields { MatchOption result (slice_split is_tab bytes.now ≡ bytes.now ∷ [])
+        (λ parts. slice_split is_tab bytes.now ≡ parts.0.now ∷ slice_split is_tab parts.1.now) }
     ensures shorter { IfSome result (λ parts. length parts.1.now < length bytes.now) }
 {
     let place = tab_place(bytes)?;

@@ -69,7 +69,8 @@ pub fn push_match(text: &mut Vec<u8>, found: MatchInfo) -> Result<(), AllocError
 
 /// Adds ids, separated by commas, or `-` where there are none.
 pub fn push_matches(text: &mut Vec<u8>, matched: &[MatchInfo]) -> Result<(), AllocError>
-    ensures { OnOk result (text.new.items ≡ text.old.items ++ comma_list (map shown_match (map match_of matched.now))) }
+    ensures { OnOk result (text.new.items
+        ≡ text.old.items ++ comma_list (map shown_match (map match_of matched.now))) }
 {
     let Some((first, others)) = matched.split_first() else {
         return Ok(text.push(b'-')?);
@@ -99,7 +100,8 @@ pub fn push_numbers(text: &mut Vec<u8>, numbers: &[usize]) -> Result<(), AllocEr
 
 /// Adds the field of the tries.
 fn push_tries(text: &mut Vec<u8>, tries: Tries) -> Result<(), AllocError>
-    ensures { OnOk result (text.new.items ≡ text.old.items ++ tries_field true (names_counted tries) (attributes_counted tries)) }
+    ensures { OnOk result (text.new.items
+        ≡ text.old.items ++ tries_field true (names_counted tries) (attributes_counted tries)) }
 {
     text.extend_from_slice(b"\ttries ")?;
     push_number(text, tries.names())?;
@@ -109,7 +111,8 @@ fn push_tries(text: &mut Vec<u8>, tries: Tries) -> Result<(), AllocError>
 
 /// Adds the line of a report.
 fn push_report(text: &mut Vec<u8>, report: &TagReport, shows_tries: bool) -> Result<(), AllocError>
-    ensures { OnOk result (text.new.items ≡ text.old.items ++ (shown_answer shows_tries (answer_of report.now) ++ 10 ∷ [])) }
+    ensures { OnOk result (text.new.items
+        ≡ text.old.items ++ (shown_answer shows_tries (answer_of report.now) ++ 10 ∷ [])) }
 {
     match report {
         TagReport::Started {

@@ -1,15 +1,14 @@
 //! The program over a script.
 
 ghost use Rattle.std.specs.Prelude.{◌≡◌, ◌≢◌, ◌<◌, List, ℕ, Option, Ok, IfOk, IfErr, IsErrOf, take};
-ghost use Rattle.std.specs.Io.KnownBytes.{Consumes, Appends, Keeps, IsAtEnd};
-ghost use Rattle.lol_script.specs.Devices.{device_of, failures_of, AppendsBeginning};
+ghost use Rattle.lol_script.specs.Devices.{ReadsToEnd, Writes, WritesBeginning, WritesNothing, failures_of};
 ghost use Rattle.lol_script.specs.Scripts as scripts;
 ghost use Rattle.lol_script.specs.Output.{bad_line, lines_of};
 ghost use Rattle.lol_script.specs.Adding.{AddsLine};
 ghost use Rattle.lol_vm.specs.Refusals.{Cause};
 ghost use Rattle.lol_vm.specs.RunRefusals.{StopsFor};
 ghost use Rattle.lol_script.specs.Scripts.{output, output_of, run_output};
-ghost use Rattle.lol_script.specs.Readings.{IsReading};
+ghost use Rattle.lol_script.specs.Readings.{ForReading, IsReading};
 
 use crate::bad_line::{BadLine, push_bad_line};
 use crate::device::{Counted, RunFault, read_all, write_text};
@@ -50,14 +49,14 @@ pub fn run<R: Read, W: Write>(
     requires writes { failures_of writer.old < u64.MAX }
 
     // The script is read to its end, and exactly its output is written.
-    ensures ok { IfOk result (λ status. (script : List ℕ) × Consumes (R.remaining (device_of reader.old)) (R.remaining (device_of reader.new)) script
-        × IsAtEnd (R.remaining (device_of reader.new)) × (status ≡ (output script).status)
-        × Appends (W.contents (device_of writer.old)) (W.contents (device_of writer.new)) (output script).text) }
+    ensures ok { IfOk result (λ status. ReadsToEnd R.remaining reader.old reader.new (λ script.
+        (status ≡ (output script).status) × Writes W.contents writer.old writer.new (output script).text)) }
 
     // Unless a write failed nothing is written, and else a beginning of the output.
-    ensures unwritten { IfErr result (λ fault. fault ≢ RunFault.Write → Keeps (W.contents (device_of writer.old)) (W.contents (device_of writer.new))) }
-    ensures beginning { IsErrOf result RunFault.Write → (script : List ℕ) × Consumes (R.remaining (device_of reader.old)) (R.remaining (device_of reader.new)) script
-        × IsAtEnd (R.remaining (device_of reader.new)) × AppendsBeginning (W.contents (device_of writer.old)) (W.contents (device_of writer.new)) (output script).text }
+    ensures unwritten { IfErr result (λ fault. fault ≢ RunFault.Write
+        → WritesNothing W.contents writer.old writer.new) }
+    ensures beginning { IsErrOf result RunFault.Write → ReadsToEnd R.remaining reader.old reader.new (λ script.
+        WritesBeginning W.contents writer.old writer.new (output script).text) }
     ensures read_failed { IsErrOf result RunFault.Read → failures_of reader.old < failures_of reader.new }
     ensures write_failed { IsErrOf result RunFault.Write → failures_of writer.old < failures_of writer.new }
 {
@@ -92,7 +91,8 @@ fn bad_text(alloc: Global, bad: BadLine) -> Result<Vec<u8>, AllocError>
 /// What is written for a script whose lines are good.
 fn good_output(alloc: Global, script: Script) -> Result<(Vec<u8>, Status), AllocError>
     requires { (s : scripts.Script) × IsReading script s }
-    ensures { IfOk result (λ made. (s : scripts.Script) → IsReading script.entry s → output_of (Ok s) ≡ record { text = made.0.items; status = made.1 }) }
+    ensures { IfOk result (λ made. ForReading script.entry (λ s.
+        output_of (Ok s) ≡ record { text = made.0.items; status = made.1 })) }
 {
     let Script {
         limit,
@@ -126,8 +126,9 @@ fn good_output(alloc: Global, script: Script) -> Result<(Vec<u8>, Status), Alloc
 
 /// The lines of a refused run, and after them that of its cause. There are none where the cause is memory.
 fn refused_text(mut text: Vec<u8>, cause: RunCause) -> Result<Vec<u8>, AllocError>
-    ensures { IfOk result (λ all. (lines written : List (List ℕ)) (event : ℕ) (first : Option (ℕ × Cause)) → text.items ≡ lines_of written
-        → written ≡ take event lines → StopsFor cause event first → run_output lines first ≡ record { text = all.items; status = Status.Refused }) }
+    ensures { IfOk result (λ all. (lines written : List (List ℕ)) (event : ℕ) (first : Option (ℕ × Cause))
+        → text.items ≡ lines_of written → written ≡ take event lines → StopsFor cause event first
+        → run_output lines first ≡ record { text = all.items; status = Status.Refused }) }
 {
     let line = match cause {
         RunCause::MemoryLimitExceeded => b"refused limit\n".as_slice(),

@@ -6,7 +6,7 @@ ghost use Rattle.lol_vm.specs.Views.{event_of, HasRangesInside};
 ghost use Rattle.lol_script.specs.Lines.{set_by};
 ghost use Rattle.lol_script.specs.Scripts as scripts;
 ghost use Rattle.lol_script.specs.Scripts.{with_bytes, with_line, with_event, with_selector, read_script};
-ghost use Rattle.lol_script.specs.Readings.{IsReading, ReadsScript, AddsSelectors, Stops};
+ghost use Rattle.lol_script.specs.Readings.{AddsSelectors, ForReading, IsReading, ReadsScript, Stops};
 ghost use Rattle.lol_script.specs.declared.script.Stop.TheVariants.{Memory};
 
 use crate::bad_line::{BadLine, Cause};
@@ -84,8 +84,9 @@ fn take_line<'s>(
     line: &'s [u8],
 ) -> Result<(), Stop>
     requires { buffers.none.now.items ≡ [] }
-    ensures taken { OnOk result ((s : scripts.Script) → IsReading script.old s → ReadsScript script.new (with_bytes number s line.now)) }
-    ensures stop { IfErr result (λ stop. (s : scripts.Script) → IsReading script.old s → Stops stop (with_bytes number s line.now)) }
+    ensures taken { OnOk result (ForReading script.old (λ s.
+        ReadsScript script.new (with_bytes number s line.now))) }
+    ensures stop { IfErr result (λ stop. ForReading script.old (λ s. Stops stop (with_bytes number s line.now))) }
 {
     if line.is_empty() {
         return Ok(());
@@ -112,7 +113,8 @@ fn malformed(number: usize) -> Stop
 
 fn take_tag<'s>(script: &mut Script<'s>, tag: TagEvent<'s>) -> Result<(), Stop>
     requires { HasRangesInside tag }
-    ensures taken { OnOk result ((s : scripts.Script) → IsReading script.old s → IsReading script.new (with_event s (event_of tag.entry))) }
+    ensures taken { OnOk result (ForReading script.old (λ s.
+        IsReading script.new (with_event s (event_of tag.entry)))) }
     ensures stop { IfErr result (λ stop. stop ≡ Memory) }
 {
     if script.tags.push(tag).is_err() {
@@ -128,8 +130,10 @@ fn take_setting(
     number: usize,
     setting: Setting<'_>,
 ) -> Result<(), Stop>
-    ensures taken { OnOk result ((s : scripts.Script) → IsReading script.old s → ReadsScript script.new (with_line number s (set_by setting.entry))) }
-    ensures stop { IfErr result (λ stop. (s : scripts.Script) → IsReading script.old s → Stops stop (with_line number s (set_by setting.entry))) }
+    ensures taken { OnOk result (ForReading script.old (λ s.
+        ReadsScript script.new (with_line number s (set_by setting.entry)))) }
+    ensures stop { IfErr result (λ stop. ForReading script.old (λ s.
+        Stops stop (with_line number s (set_by setting.entry)))) }
 {
     if !script.tags.is_empty() {
         return Err(malformed(number));
@@ -152,7 +156,8 @@ fn take_selector(
     text: &str,
 ) -> Result<(), Stop>
     ensures added { OnOk result (AddsSelectors text.now id ast.old ast.new) }
-    ensures stop { IfErr result (λ stop. (s : scripts.Script) → Stops stop (with_selector number s id (accept text.now))) }
+    ensures stop { IfErr result (λ stop. (s : scripts.Script)
+        → Stops stop (with_selector number s id (accept text.now))) }
 {
     match Selector::from_str(alloc, text) {
         Err(SelectorError::Memory) => Err(Stop::Memory),

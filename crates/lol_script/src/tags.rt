@@ -1,12 +1,11 @@
 //! The tags of a script.
 
-ghost use Rattle.std.specs.Prelude.{◌≡◌, ◌≤◌, [], IfOk, All, map, length, position, slice_range};
-ghost use Rattle.std.specs.List.{slice_split};
+ghost use Rattle.std.specs.Prelude.{◌≡◌, ◌≤◌, [], IfOk, All, length, position, slice_range};
 ghost use Rattle.lol_base.specs.StartTags.{attribute_of, OutlineIsInside};
 ghost use Rattle.lol_vm.specs.Events.{Start};
 ghost use Rattle.lol_vm.specs.Views.{HasRangesInside, event_of};
-ghost use Rattle.lol_script.specs.Script.{is_tab, is_equals, attribute_at};
-ghost use Rattle.lol_script.specs.Lines.{start_tag_of};
+ghost use Rattle.lol_script.specs.Script.{is_equals, attribute_at};
+ghost use Rattle.lol_script.specs.Lines.{AreOutlinesOf, start_tag_of};
 
 use crate::lines::{StartLine, tab_place};
 use bumpalo::Bump;
@@ -51,7 +50,7 @@ fn outline_of(text: &[u8], start: usize, end: usize) -> AttributeOutline
 
 /// The outlines of attributes that are separated by TAB.
 fn outlines_of(alloc: Global, text: &[u8]) -> Result<AttributeBuffer, AllocError>
-    ensures attributes { IfOk result (λ outlines. map (attribute_of text.now) outlines.items ≡ map attribute_at (slice_split is_tab text.now)) }
+    ensures attributes { IfOk result (λ outlines. AreOutlinesOf text.now outlines.items) }
     ensures inside { IfOk result (λ outlines. All (OutlineIsInside text.now) outlines.items) }
 {
     let mut outlines = AttributeBuffer::new(alloc);
@@ -77,7 +76,7 @@ fn kept_outlines<'s>(
     arena: &'s Bump,
     text: &[u8],
 ) -> Result<&'s AttributeBuffer, AllocError>
-    ensures attributes { IfOk result (λ buffer. map (attribute_of text.now) buffer.now.items ≡ map attribute_at (slice_split is_tab text.now)) }
+    ensures attributes { IfOk result (λ buffer. AreOutlinesOf text.now buffer.now.items) }
     ensures inside { IfOk result (λ buffer. All (OutlineIsInside text.now) buffer.now.items) }
 {
     let outlines = outlines_of(alloc, text)?;
