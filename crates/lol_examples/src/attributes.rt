@@ -10,7 +10,9 @@ use std::alloc::{AllocError, Global};
 /// # Errors
 /// Out of memory.
 pub fn download_link(alloc: Global, href: &[u8]) -> Result<Attributes, AllocError>
-    ensures { IfOk result (λ attributes. attributes ≡ record { name = codes "download"; value = None } ∷ record { name = codes "href"; value = Some href.now } ∷ []) }
+    ensures { IfOk result (λ attributes. attributes
+        ≡ record { name = codes "download"; value = None }
+        ∷ record { name = codes "href"; value = Some href.now } ∷ []) }
 {
     let mut attributes = Attributes::new(alloc);
     attributes.push(b"download", None)?;

@@ -37,7 +37,8 @@ pub fn answer_to_break<F: FnMut(MatchInfo)>(
     handler: &mut F,
 ) -> Option<Result<(), VmError<ElementValue<()>>>>
     requires { F.IsAlwaysCallable handler.old }
-    ensures { IfSome result (λ answer. (error : VmError (ElementValue (Unit {0}))) → answer ≡ Err error → IsAskedOrFull error) }
+    ensures { IfSome result (λ answer.
+        (error : VmError (ElementValue (Unit {0}))) → answer ≡ Err error → IsAskedOrFull error) }
 {
     let Ok(ast) = line_breaks(alloc) else {
         return None;

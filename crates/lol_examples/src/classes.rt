@@ -12,7 +12,8 @@ use lol_instructions::AttributeMatcher;
 /// Whether a word of the attribute `class` of an HTML element is this, with case.
 pub fn has_class(aux_info: AuxStartTagInfo<'_>, word: &[u8]) -> bool
     requires { RangesAreInside aux_info }
-    ensures { result ≡ has_value (value_among (codes "class") (attributes_of aux_info.entry)) (λ value. operator_holds Includes value word.now) }
+    ensures { result ≡ has_value (value_among (codes "class") (attributes_of aux_info.entry))
+        (λ value. operator_holds Includes value word.now) }
 {
     AttributeMatcher::new(aux_info.input, aux_info.attr_buffer, Namespace::Html).has_class(word)
 }

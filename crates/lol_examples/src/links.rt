@@ -14,8 +14,9 @@ use std::alloc::Global;
 const ELEMENT_BYTES: usize = 64;
 
 /// The links that lead to other hosts: their address begins with a scheme, or with a host right away.
-const LINKS_AWAY: &str =
-    "a[href^='http:' i], a[href^='https:' i], a[href^='//'], area[href^='http:' i], area[href^='https:' i], area[href^='//'], link[href^='http:' i], link[href^='https:' i], link[href^='//']";
+const LINKS_AWAY: &str = "a[href^='http:' i], a[href^='https:' i], a[href^='//'], \
+    area[href^='http:' i], area[href^='https:' i], area[href^='//'], \
+    link[href^='http:' i], link[href^='https:' i], link[href^='//']";
 
 /// A tag of a page.
 #[derive(Clone, Copy)]

@@ -22,7 +22,8 @@ pub fn open<E: ElementData>(
     name: LocalName<'static>,
     limiter: &mut SharedMemoryLimiter,
 ) -> Result<(), PushError>
-    ensures opened { OnOk result ((item : StackItemOf Name E) × IsNewItem E.ids name.entry item × IsPushed stack.old item stack.new) }
+    ensures opened { OnOk result ((item : StackItemOf Name E)
+        × IsNewItem E.ids name.entry item × IsPushed stack.old item stack.new) }
     ensures limited { IsErrOf result (PushError.Limit (record {})) ↔ IsLimited (list_in stack.old) limiter.old }
     ensures refused { OnErr result (IsSame stack.old stack.new) }
 {

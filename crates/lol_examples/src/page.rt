@@ -1,15 +1,16 @@
 //! A page, tag by tag: a machine is told of each tag, and keeps data of the caller's own for each open element.
 
-ghost use Rattle.std.specs.Prelude.{◌≡◌, ◌++◌, ◌∷◌, [], Bool, true, false, List, IfOk, OnOk, map, drop, length, All};
-ghost use Rattle.lol_base.specs.StartTags.{StartTag, RangesAreInside};
+ghost use Rattle.std.specs.Prelude.{◌≡◌, [], Bool, true, false, Some, IfOk, OnOk, map, drop, length, All};
+ghost use Rattle.lol_base.specs.StartTags.{RangesAreInside};
 ghost use Rattle.lol_memory.specs.Limiter.{Limiter};
 ghost use Rattle.lol_program.specs.Paths.{Selectors};
-ghost use Rattle.lol_examples.specs.Pages.{HasAttributesInside, IsTold, KeepsItem, event_of_tag};
-ghost use Rattle.lol_examples.specs.Reported.{ids_of, reported_ids};
-ghost use Rattle.lol_vm.specs.Answers.{answer, document};
-ghost use Rattle.lol_vm.specs.Events.{Event, Start, End};
+ghost use Rattle.lol_examples.specs.Pages.{AreReported, HasAttributesInside, IsTold, KeepsItem, StandsForMore, event_of_tag};
+ghost use Rattle.lol_examples.specs.Reported.{reported_ids};
+ghost use Rattle.lol_vm.specs.Answers.{document};
+ghost use Rattle.lol_vm.specs.Events.{Start, End};
+ghost use Rattle.lol_vm.specs.Premises.{ForEvents, ForHandedOf};
 ghost use Rattle.lol_vm.specs.Views.{selectors, tag_of};
-ghost use Rattle.lol_vm.specs.Vms.{Stands, ChargesSlots, IsTagOf, IsRestOf, data_in, open_after};
+ghost use Rattle.lol_vm.specs.Vms.{Stands, ChargesSlots, data_in, open_after};
 
 use lol_base::{AuxStartTagInfo, LocalName, Namespace};
 use lol_memory::{MatchId, MatchInfo, SharedMemoryLimiter};
@@ -95,7 +96,8 @@ fn ids_of_tags(
     limiter: &mut SharedMemoryLimiter,
 ) -> Result<Vec<MatchId>, Refused>
     requires { All HasAttributesInside page.now }
-    ensures ids { IfOk result (λ ids. (s : Selectors) (esi : Bool) → Stands s esi vm.old [] → ids.items ≡ reported_ids s esi (map event_of_tag page.now)) }
+    ensures ids { IfOk result (λ ids. (s : Selectors) (esi : Bool) → Stands s esi vm.old []
+        → ids.items ≡ reported_ids s esi (map event_of_tag page.now)) }
     ensures charges { ChargesSlots vm.old vm.new limiter.old limiter.new }
 {
     let mut ids = Vec::new(alloc);
@@ -116,8 +118,8 @@ fn ids_of_tag(
     limiter: &mut SharedMemoryLimiter,
 ) -> Result<Vec<MatchId>, Refused>
     requires { HasAttributesInside tag.now }
-    ensures reported { IfOk result (λ ids. (s : Selectors) (esi : Bool) (events : List Event) → Stands s esi vm.old events → ids.items ≡ ids_of (answer s esi (document s esi events) (event_of_tag tag.now))) }
-    ensures stands { OnOk result ((s : Selectors) (esi : Bool) (events : List Event) → Stands s esi vm.old events → Stands s esi vm.new (events ++ event_of_tag tag.now ∷ [])) }
+    ensures reported { IfOk result (λ ids. AreReported (event_of_tag tag.now) vm.old ids.items) }
+    ensures stands { OnOk result (StandsForMore (event_of_tag tag.now) vm.old vm.new) }
     ensures charges { ChargesSlots vm.old vm.new limiter.old limiter.new }
 {
     match tag {
@@ -144,8 +146,9 @@ pub fn start_tag(
     aux_info: AuxStartTagInfo<'_>,
 ) -> Result<Vec<MatchId>, Refused>
     requires { RangesAreInside aux_info }
-    ensures reported { IfOk result (λ ids. (s : Selectors) (esi : Bool) (events : List Event) → Stands s esi vm.old events → ids.items ≡ ids_of (answer s esi (document s esi events) (Start (tag_of name.now ns aux_info.entry true)))) }
-    ensures stands { OnOk result ((s : Selectors) (esi : Bool) (events : List Event) → Stands s esi vm.old events → Stands s esi vm.new (events ++ Start (tag_of name.now ns aux_info.entry true) ∷ [])) }
+    ensures reported { IfOk result (λ ids.
+        AreReported (Start (tag_of name.now ns aux_info.entry true)) vm.old ids.items) }
+    ensures stands { OnOk result (StandsForMore (Start (tag_of name.now ns aux_info.entry true)) vm.old vm.new) }
     ensures charges { ChargesSlots vm.old vm.new limiter.old limiter.new }
 {
     let mut kept = Kept::new(alloc);
@@ -180,8 +183,8 @@ fn match_start<F: FnMut(MatchInfo)>(
 ) -> Result<(), Refused>
     requires ranges { RangesAreInside aux_info }
     requires callable { F.IsAlwaysCallable handler.old }
-    ensures told { OnOk result ((s : Selectors) (esi : Bool) (events : List Event) (tag : StartTag) → Stands s esi vm.old events → IsTagOf local_name.entry ns tag → IsRestOf aux_info.entry tag
-        → IsTold F.step s esi events tag vm.new handler.old handler.new) }
+    ensures told { OnOk result (ForHandedOf vm.old local_name.entry ns (Some aux_info.entry) (λ s esi events tag.
+        IsTold F.step s esi events tag vm.new handler.old handler.new)) }
     ensures charges { ChargesSlots vm.old vm.new limiter.old limiter.new }
 {
     let request = match vm.exec_for_start_tag(local_name, ns, limiter, handler) {
@@ -204,8 +207,9 @@ pub fn end_tag(
     vm: &mut SelectorMatchingVm<ElementValue<()>>,
     name: &[u8],
 ) -> Result<Vec<ElementValue<()>>, AllocError>
-    ensures closed { IfOk result (λ closed. (s : Selectors) (esi : Bool) (events : List Event) → Stands s esi vm.old events → closed.items ≡ drop (length (open_after name.now (document s esi events).open_elements)) (data_in vm.old)) }
-    ensures stands { (s : Selectors) (esi : Bool) (events : List Event) → Stands s esi vm.old events → Stands s esi vm.new (events ++ End name.now ∷ []) }
+    ensures closed { IfOk result (λ closed. ForEvents vm.old (λ s esi events.
+        closed.items ≡ drop (length (open_after name.now (document s esi events).open_elements)) (data_in vm.old))) }
+    ensures stands { StandsForMore (End name.now) vm.old vm.new }
     ensures charges { (limiter : Limiter) → ChargesSlots vm.old vm.new limiter limiter }
 {
     standing_has_open::<ElementValue<()>>();

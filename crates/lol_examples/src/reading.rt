@@ -16,7 +16,8 @@ use std::alloc::Global;
 /// Why a text is no selector; none where it is one.
 pub fn refusal_of(alloc: Global, text: &str) -> Option<SelectorError>
     ensures accepted { result ≡ None → IsOk (accept text.now) }
-    ensures refused { (cause : SelectorError) → result ≡ Some cause → (cause ≡ Memory) ⊎ (accept text.now ≡ Err cause) }
+    ensures refused { (cause : SelectorError) → result ≡ Some cause
+        → (cause ≡ Memory) ⊎ (accept text.now ≡ Err cause) }
 {
     match SelectorsParser::parse(alloc, text) {
         Ok(_) => None,
@@ -34,8 +35,10 @@ pub fn add_text(
     text: &str,
     match_id: MatchId,
 ) -> Result<(), SelectorError>
-    ensures added { OnOk result ((items : Items) × (accept text.now ≡ Ok items) × Joins (pairs_of ast.old) (pairs_of ast.new) (pairs_under match_id items)) }
-    ensures refused { IfErr result (λ cause. ((cause ≡ Memory) ⊎ (accept text.now ≡ Err cause)) × SameMembers (pairs_of ast.old) (pairs_of ast.new)) }
+    ensures added { OnOk result ((items : Items) × (accept text.now ≡ Ok items)
+        × Joins (pairs_of ast.old) (pairs_of ast.new) (pairs_under match_id items)) }
+    ensures refused { IfErr result (λ cause. ((cause ≡ Memory) ⊎ (accept text.now ≡ Err cause))
+        × SameMembers (pairs_of ast.old) (pairs_of ast.new)) }
 {
     let selector = Selector::from_str(alloc, text)?;
     ast.add_selector(&selector, match_id)?;

@@ -19,8 +19,10 @@ pub fn report_each<F: FnMut(TagReport)>(
 ) -> Result<(), RunStop>
     requires ranges { All HasRangesInside events.now }
     requires callable { F.IsAlwaysCallable handler.old }
-    ensures answered { OnOk result (IsCalledWithAnswers F.step (selectors ast) false (map event_of events.now) handler.old handler.new) }
-    ensures refused { IfErr result (λ stop. IsCalledWithAnswers F.step (selectors ast) false (map event_of (take stop.event events.now)) handler.old handler.new) }
+    ensures answered { OnOk result (IsCalledWithAnswers F.step (selectors ast) false (map event_of events.now)
+        handler.old handler.new) }
+    ensures refused { IfErr result (λ stop. IsCalledWithAnswers F.step (selectors ast) false
+        (map event_of (take stop.event events.now)) handler.old handler.new) }
 {
     let mut limiter = SharedMemoryLimiter::new(1_000_000);
     match_each_event(alloc, ast, 64, false, events, &mut limiter, handler)
