@@ -6,7 +6,7 @@ ghost use Rattle.lol_vm.specs.Vms.{ChargesSlots};
 use crate::page::Refused;
 use lol_vm::{
     Ast, Attributes, ElementValue, LocalName, MatchInfo, Namespace, Selector, SelectorError,
-    SelectorMatchingVm, SharedMemoryLimiter, VmError,
+    SelectorMatchingVm, SharedMemoryLimiter,
 };
 use std::alloc::Global;
 
@@ -105,12 +105,9 @@ fn count_start(
         *count = count.saturating_add(1);
     };
     let name = LocalName::new(name);
-    let request = match vm.exec_for_start_tag(name, Namespace::Html, limiter, &mut handler) {
-        Ok(()) => return Ok(()),
-        Err(VmError::InfoRequest(request)) => request,
-        Err(_) => return Err(Refused),
-    };
     let rest = attributes.aux_info(false);
-    vm.finish_start_tag(request, rest, limiter, &mut handler)
-        .map_err(|_| Refused)
+    match vm.exec_for_whole_start_tag(name, Namespace::Html, rest, limiter, &mut handler) {
+        Ok(_asked) => Ok(()),
+        Err(_) => Err(Refused),
+    }
 }
