@@ -11,8 +11,8 @@ use Rattle.lol_vm.specs.Documents.{element_of}
 use Rattle.lol_vm.specs.Events.{Event, Start, has_content}
 use Rattle.lol_vm.specs.Refusals.{Allowance}
 use Rattle.lol_vm.specs.Views.{match_of}
-use Rattle.lol_vm.specs.Vms.{Vm, data_in, tries_in}
-use Rattle.lol_matcher.specs.Answering.{GrowsBy, IsReported, Kept, KeepsOne, asks_after, reported_after, with_told}
+use Rattle.lol_vm.specs.Vms.{Vm, data_in, is_asked_for, tries_in}
+use Rattle.lol_matcher.specs.Answering.{GrowsBy, IsReported, Kept, KeepsOne, reported_after, with_told}
 use Rattle.lol_vm.specs.AskedRuns.{bare_tag, told_of}
 use Rattle.lol_matcher.specs.Keeping.{IsFinished, IsHanded, IsHandedAs, IsHandedUnreported, IsToldAs, IsUnreported, Runs}
 use Rattle.lol_matcher.specs.Refusing.{refusal_after}
@@ -32,7 +32,7 @@ same_report true reported other asked whether m n k l is = cc
 same_report false reported other asked whether m n k l is = record { report = cc; asks = cc }
 
 report_is : (s : Selectors) (esi : Bool) (events : List Event) (tag : StartTag) (asked : Bool) (matched : List MatchInfo) (tries : Tries) → IsReported s esi events tag asked matched tries
-    → SameReport (reported_after s esi events tag) (map match_of matched) (asks_after s esi events tag) asked
+    → SameReport (reported_after s esi events tag) (map match_of matched) (is_asked_for s esi events tag) asked
 report_is s esi events tag asked matched tries is = same_report (is_dropped s (element_of (document s esi events) tag) (document s esi events).open_elements) _ _ _ _ _ _ _ _ is
 
 -- 2. What is told of it
@@ -40,13 +40,13 @@ report_is s esi events tag asked matched tries is = same_report (is_dropped s (e
 module _ {E : Type 0} (s : Selectors) (esi : Bool) (events : List Event) (tag : StartTag) (vm : Vm E) (limiter : Limiter) where
   told_either : Runs s esi (events ++ Start tag ∷ []) vm limiter → Runs s esi (events ++ Start (bare_tag tag.name tag.namespace) ∷ []) vm limiter
       → Runs s esi (events ++ told_of s (document s esi events) (Start tag) ∷ []) vm limiter
-  told_either whole bare = by_test (asks_after s esi events tag && tag.finish)
+  told_either whole bare = by_test (is_asked_for s esi events tag && tag.finish)
     where
       by_test : (b : Bool) → Runs s esi (events ++ (if b then Start tag else Start (bare_tag tag.name tag.namespace)) ∷ []) vm limiter
       by_test true = whole
       by_test false = bare
 
-  told_whole : asks_after s esi events tag ≡ true → tag.finish ≡ true → Runs s esi (events ++ Start tag ∷ []) vm limiter
+  told_whole : is_asked_for s esi events tag ≡ true → tag.finish ≡ true → Runs s esi (events ++ Start tag ∷ []) vm limiter
       → Runs s esi (events ++ told_of s (document s esi events) (Start tag) ∷ []) vm limiter
   told_whole is finish whole = subst (λ e. Runs s esi (events ++ e ∷ []) vm limiter) (λ i. if sym is i && sym finish i then Start tag else Start (bare_tag tag.name tag.namespace)) whole
 
@@ -67,7 +67,7 @@ module _ {E : Type 0} (s : Selectors) (esi : Bool) (events : List Event) (tag : 
 -- 4. One whose attributes are asked for, or not
 
 pub asks_are : (s : Selectors) (esi : Bool) (events : List Event) (tag : StartTag) (matched : List Match) (asked : Bool) (m n : ℕ) → answer s esi (document s esi events) (Start tag) ≡ Started matched asked m n
-    → asks_after s esi events tag ≡ asked
+    → is_asked_for s esi events tag ≡ asked
 asks_are s esi events tag matched asked m n is = (same_report (is_dropped s (element_of (document s esi events) tag) (document s esi events).open_elements) _ _ _ _ _ _ _ _ is).asks
 
 module _ {E : Type 0} (s : Selectors) (esi : Bool) (events : List Event) (tag : StartTag) (a : Allowance) (vm : Vm E) (limiter : Limiter) (finish : tag.finish ≡ true) where
@@ -82,16 +82,16 @@ module _ {E : Type 0} (s : Selectors) (esi : Bool) (events : List Event) (tag : 
       }
   handed_as false items whole bare = handed_unasked s esi events tag a vm limiter items whole (bare refl)
 
-  pub handed_unreported_as : (asked : Bool) → asks_after s esi events tag ≡ asked → IsUnreported s esi events tag a vm limiter → (asked ≡ false → IsUnreported s esi events (bare_tag tag.name tag.namespace) a vm limiter)
+  pub handed_unreported_as : (asked : Bool) → is_asked_for s esi events tag ≡ asked → IsUnreported s esi events tag a vm limiter → (asked ≡ false → IsUnreported s esi events (bare_tag tag.name tag.namespace) a vm limiter)
       → IsHandedUnreported s esi events tag a vm limiter
   handed_unreported_as true asks whole bare = record { fits = whole.fits; runs = told_whole s esi events tag vm limiter asks finish whole.runs }
   handed_unreported_as false asks whole bare = handed_unreported s esi events tag a vm limiter whole (bare refl)
 
 -- 5. What a matcher reported of one
 
-pub answered_report : (s : Selectors) (esi : Bool) (events : List Event) (tag : StartTag) (items : List MatchInfo) (tries : Tries) → IsReported s esi events tag (asks_after s esi events tag) items tries
+pub answered_report : (s : Selectors) (esi : Bool) (events : List Event) (tag : StartTag) (items : List MatchInfo) (tries : Tries) → IsReported s esi events tag (is_asked_for s esi events tag) items tries
     → map match_of items ≡ reported_after s esi events tag
-answered_report s esi events tag items tries is = (report_is s esi events tag (asks_after s esi events tag) items tries is).report
+answered_report s esi events tag items tries is = (report_is s esi events tag (is_asked_for s esi events tag) items tries is).report
 
 -- 6. What a matcher shows that was told one
 

@@ -11,14 +11,14 @@ use Rattle.lol_memory.specs.Limiter.{Limiter}
 use Rattle.lol_memory.specs.declared.match_info.MatchInfo.{MatchInfo}
 use Rattle.lol_program.specs.Paths.{Selectors}
 use Rattle.lol_stack.specs.Stacks.{list_in, last_count}
-use Rattle.lol_vm.specs.Answers.{Match, Started, answer, asks, document}
+use Rattle.lol_vm.specs.Answers.{Match, Started, answer, document}
 use Rattle.lol_vm.specs.Documents.{children_of, element_of, parent_of}
 use Rattle.lol_vm.specs.Events.{Event, Start, has_content}
 use Rattle.lol_vm.specs.Refusals.{greatest_count, longest}
 use Rattle.lol_vm.specs.Standing.{CountersArePlaces, DocumentsAreOrdered, unfinished}
 use Rattle.lol_vm.specs.Views.{match_of}
 use Rattle.lol_vm.specs.VmLaws.{PendingStands, SlotsAreOfDepth}
-use Rattle.lol_vm.specs.Vms.{Vm, Stands, IsAnswered, IsPending, data_in, info_of, tries_in, stack_in, slot_bytes}
+use Rattle.lol_vm.specs.Vms.{Vm, Stands, IsAnswered, IsPending, data_in, info_of, is_asked_for, tries_in, stack_in, slot_bytes}
 use Rattle.lol_vm.specs.declared.error.AuxStartTagInfoRequest.{AuxStartTagInfoRequest}
 use Rattle.lol_vm.proofs.CallerLemmas.{position_is}
 use Rattle.lol_matcher.specs.Answering.{GrowsBy, Kept, KeepsOne}
@@ -37,14 +37,11 @@ same_matches (m ∷ matched) = ap (λ ms. m ∷ ms) (same_matches matched)
 -- 2. Whether a tag opens an element
 
 module _ (s : Selectors) (esi : Bool) (events : List Event) (tag : StartTag) where
-  abbrev asked_now : Bool
-  asked_now = asks s (element_of (document s esi events) tag) (document s esi events).open_elements
-
   abbrev opening : Bool
   opening = opens_in s esi (document s esi events) tag
 
   pub has_content_if : opening ≡ true → has_content esi tag ≡ true
-  has_content_if h = (and_parts (has_content esi tag) (not (asked_now && not tag.finish)) h).0
+  has_content_if h = (and_parts (has_content esi tag) (not (is_asked_for s esi events tag && not tag.finish)) h).0
 
   opens_with : (content a finish : Bool) → content ≡ true → (a && not finish) ≡ false → (content && not (a && not finish)) ≡ true
   opens_with content a finish has kept = (λ i. has i && not (kept i))
@@ -56,20 +53,20 @@ module _ (s : Selectors) (esi : Bool) (events : List Event) (tag : StartTag) whe
   handed true finish is = ap not is
   handed false finish is = refl
 
-  pub opens_unasked : has_content esi tag ≡ true → asked_now ≡ false → opening ≡ true
-  opens_unasked has none = opens_with (has_content esi tag) asked_now tag.finish has (not_asked asked_now tag.finish none)
+  pub opens_unasked : has_content esi tag ≡ true → is_asked_for s esi events tag ≡ false → opening ≡ true
+  opens_unasked has none = opens_with (has_content esi tag) (is_asked_for s esi events tag) tag.finish has (not_asked (is_asked_for s esi events tag) tag.finish none)
 
   pub opens_handed : has_content esi tag ≡ true → tag.finish ≡ true → opening ≡ true
-  opens_handed has is = opens_with (has_content esi tag) asked_now tag.finish has (handed asked_now tag.finish is)
+  opens_handed has is = opens_with (has_content esi tag) (is_asked_for s esi events tag) tag.finish has (handed (is_asked_for s esi events tag) tag.finish is)
 
   left : (a finish : Bool) → a ≡ true → finish ≡ false → (a && not finish) ≡ true
   left a finish is none = λ i. is i && not (none i)
 
-  pub is_left : asked_now ≡ true → tag.finish ≡ false → (asked_now && not tag.finish) ≡ true
-  is_left is none = left asked_now tag.finish is none
+  pub is_left : is_asked_for s esi events tag ≡ true → tag.finish ≡ false → (is_asked_for s esi events tag && not tag.finish) ≡ true
+  is_left is none = left (is_asked_for s esi events tag) tag.finish is none
 
-  pub opens_nothing : asked_now ≡ true → tag.finish ≡ false → opening ≡ true → ⊥
-  opens_nothing is none opens = cc_of (is_left is none) (and_parts (has_content esi tag) (not (asked_now && not tag.finish)) opens).1
+  pub opens_nothing : is_asked_for s esi events tag ≡ true → tag.finish ≡ false → opening ≡ true → ⊥
+  opens_nothing is none opens = cc_of (is_left is none) (and_parts (has_content esi tag) (not (is_asked_for s esi events tag && not tag.finish)) opens).1
     where
       cc_of : {b : Bool} → b ≡ true → not b ≡ true → ⊥
       cc_of {b = true} is kept = cc

@@ -9,11 +9,11 @@ use Rattle.lol_memory.specs.Ids.{ascending}
 use Rattle.lol_memory.specs.declared.match_info.MatchInfo.{MatchInfo}
 use Rattle.lol_program.specs.Paths.{Selectors}
 use Rattle.lol_stack.specs.declared.element_value.ElementValue.{ElementValue}
-use Rattle.lol_vm.specs.Answers.{Match, answer, asks, document, report, Started}
+use Rattle.lol_vm.specs.Answers.{Match, answer, document, report, Started}
 use Rattle.lol_vm.specs.Documents.{element_of}
 use Rattle.lol_vm.specs.Events.{Event, Start, has_content}
 use Rattle.lol_vm.specs.Views.{selectors, match_of}
-use Rattle.lol_vm.specs.Vms.{open_after}
+use Rattle.lol_vm.specs.Vms.{is_asked_for, open_after}
 use Rattle.lol_matcher.specs.Told.{Told, Matching, elements_of, heard}
 use Rattle.lol_matcher.specs.Noted.{handed, started_told, asked_told, ended_told}
 use Rattle.lol_matcher.specs.declared.error.MatcherError.{MatcherError}
@@ -25,10 +25,6 @@ use Rattle.lol_matcher.specs.declared.matcher.Started.TheVariants.{Reported, Nee
 abbrev pub IsReported : Selectors → Bool → List Event → StartTag → Bool → List MatchInfo → Tries → Type 0
 IsReported s esi events tag asked matched tries =
     answer s esi (document s esi events) (Start tag) ≡ Started (map match_of matched) asked (names_counted tries) (attributes_counted tries)
-
--- whether the attributes of a start tag after events are asked for
-abbrev pub asks_after : Selectors → Bool → List Event → StartTag → Bool
-asks_after s esi events tag = asks s (element_of (document s esi events) tag) (document s esi events).open_elements
 
 -- what a start tag after events is reported under, in order
 abbrev pub reported_after : Selectors → Bool → List Event → StartTag → List Match
@@ -48,7 +44,7 @@ abbrev pub Answers : started.Started → Told → List ℕ → Namespace → Lis
 Answers Reported t name ns matched tries =
     (tag : StartTag) → tag.name ≡ name → tag.namespace ≡ ns → IsReported (selectors t.ast) t.esi (heard t) tag false matched tries
 Answers NeedsAttributes t name ns matched tries =
-    (matched ≡ []) × ((tag : StartTag) → tag.name ≡ name → tag.namespace ≡ ns → asks_after (selectors t.ast) t.esi (heard t) tag ≡ true)
+    (matched ≡ []) × ((tag : StartTag) → tag.name ≡ name → tag.namespace ≡ ns → is_asked_for (selectors t.ast) t.esi (heard t) tag ≡ true)
 
 -- what is kept of an open element
 abbrev pub Kept : Type 0 → Type 0
@@ -91,7 +87,7 @@ IsFinishedAs t tag new = IsReported (selectors t.ast) t.esi t.events tag true ne
 
 -- A start tag with its attributes was answered as the definition says, after what was told.
 abbrev pub IsAnsweredAfter : {T : Type 0} → Told → StartTag → Matching T → Type 0
-IsAnsweredAfter t tag new = IsReported (selectors t.ast) t.esi (heard t) tag (asks_after (selectors t.ast) t.esi (heard t) tag) new.matched new.tries
+IsAnsweredAfter t tag new = IsReported (selectors t.ast) t.esi (heard t) tag (is_asked_for (selectors t.ast) t.esi (heard t) tag) new.matched new.tries
 
 -- A matcher that was told a tag: nothing else changed but for what is reported and what is open.
 abbrev pub with_told : {T : Type 0} → Told → Matching T → Matching T → Matching T

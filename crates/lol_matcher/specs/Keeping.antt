@@ -13,9 +13,9 @@ use Rattle.lol_vm.specs.Documents.{children_of, element_of}
 use Rattle.lol_vm.specs.Events.{Event, Start, has_content}
 use Rattle.lol_vm.specs.Refusals.{Allowance, greatest_count}
 use Rattle.lol_vm.specs.Views.{selectors}
-use Rattle.lol_vm.specs.Vms.{Vm, Stands, HasOpen, IsPending, IsRestOf, data_in, slots_charged, slot_bytes, tries_in}
+use Rattle.lol_vm.specs.Vms.{Vm, Stands, HasOpen, IsPending, IsRestOf, data_in, is_asked_for, slots_charged, slot_bytes, tries_in}
 use Rattle.lol_vm.specs.declared.error.AuxStartTagInfoRequest.{AuxStartTagInfoRequest}
-use Rattle.lol_matcher.specs.Answering.{GrowsBy, IsReported, Kept, KeepsOne, asks_after, with_value}
+use Rattle.lol_matcher.specs.Answering.{GrowsBy, IsReported, Kept, KeepsOne, with_value}
 use Rattle.lol_vm.specs.AskedRuns.{told_of}
 use Rattle.lol_matcher.specs.Refusing.{allowance, refusal_after}
 use Rattle.lol_matcher.specs.Told.{History, elements_of, heard}
@@ -72,7 +72,7 @@ pub record RunsPast {E : Type 0} (s : Selectors) (esi : Bool) (events : List Eve
 -- A start tag whose attributes are at hand was answered: it is reported under these, wasn't to be refused, and the machine runs on over what
 -- it was told of it.
 pub record IsHandedAs {E : Type 0} (s : Selectors) (esi : Bool) (events : List Event) (tag : StartTag) (matched : List MatchInfo) (a : Allowance) (vm : Vm E) (limiter : Limiter) : Type 0 where
-  pub reported : IsReported s esi events tag (asks_after s esi events tag) matched (tries_in vm)
+  pub reported : IsReported s esi events tag (is_asked_for s esi events tag) matched (tries_in vm)
   pub fits : refusal_after s esi a events tag ≡ None
   pub runs : Runs s esi (events ++ told_of s (document s esi events) (Start tag) ∷ []) vm limiter
 
@@ -135,10 +135,14 @@ ForRequest vm limiter request aux holds =
     (s : Selectors) (esi : Bool) (events : List Event) (tag : StartTag)
     → RunsPast s esi events vm limiter → IsPending ids_of s esi events tag vm request → IsRestOf aux tag → holds s esi events tag
 
+-- The elements that were open are open.
+abbrev pub KeepsOpen : {E : Type 0} → Vm E → Vm E → Type 0
+KeepsOpen old new = (elements : List Element) → HasOpen old elements → HasOpen new elements
+
 -- Only what is kept of the open elements changes: the machine stands for the same events, and goes on alike.
 pub record KeepsRunning {E : Type 0} (old new : Vm E) : Type 0 where
   pub stands : (s : Selectors) (esi : Bool) (events : List Event) → Stands s esi old events → Stands s esi new events
-  pub has_open : (elements : List Element) → HasOpen old elements → HasOpen new elements
+  pub has_open : KeepsOpen old new
   pub tries : tries_in new ≡ tries_in old
   pub slots : slots_charged new ≡ slots_charged old
   pub bytes : slot_bytes new ≡ slot_bytes old

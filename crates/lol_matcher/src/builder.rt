@@ -31,7 +31,12 @@ impl Model for MatcherBuilder {
 
     ghost coded = { Prim.hlevel (codes, tree.the_row.coded) };
 
-    ghost view = { λ b. record { ast = b.ast; max_memory = b.max_memory; element_bytes = b.element_bytes; esi = b.enable_esi_tags } };
+    ghost view = { λ b. record {
+      ast = b.ast;
+      max_memory = b.max_memory;
+      element_bytes = b.element_bytes;
+      esi = b.enable_esi_tags;
+    } };
 
     ghost invariant = { λ b. 1 ≤ b.element_bytes };
 }

@@ -28,7 +28,8 @@ pub(crate) fn hand_tag<T: Drop>(
     requires { RangesAreInside aux_info }
     ensures told { IfOk result (λ finished.
         ForHandedTag vm.old limiter.old name.now ns aux_info.entry (λ s esi events tag.
-        IsHanded s esi events tag finished matches.new.items.items (allowed vm.old limiter.old) vm.old vm.new limiter.new)) }
+        IsHanded s esi events tag finished matches.new.items.items (allowed vm.old limiter.old)
+        vm.old vm.new limiter.new)) }
     ensures refused { IfErr result (λ error.
         ForHandedTag vm.old limiter.old name.now ns aux_info.entry (λ s esi events tag.
         IsRefusedFor error (AreFlat s) (refusal_after s esi (allowed vm.old limiter.old) events tag))) }

@@ -51,7 +51,17 @@ impl<T> Model for Matcher<T> {
 
     ghost coded = { Prim.hlevel (codes, tree.the_row.coded, ids_code, T.code) };
 
-    ghost view = { λ m. record { told = m.past.history.told; max_memory = m.limiter.maximum; element_bytes = slot_bytes m.vm; failed = m.failed; matched = m.matches.items.items; tries = tries_in m.vm; opened = m.opened; open_elements = m.past.history.open_elements; kept = data_in m.vm } };
+    ghost view = { λ m. record {
+      told = m.past.history.told;
+      max_memory = m.limiter.maximum;
+      element_bytes = slot_bytes m.vm;
+      failed = m.failed;
+      matched = m.matches.items.items;
+      tries = tries_in m.vm;
+      opened = m.opened;
+      open_elements = m.past.history.open_elements;
+      kept = data_in m.vm;
+    } };
 
     ghost invariant = { λ m. Keeps m.past.history m.failed m.vm m.request m.limiter };
 }
@@ -114,7 +124,8 @@ impl<T: Drop> Matcher<T> {
         ensures tries { IfOk result (λ matcher.
             (names_counted matcher.tries ≡ 0) × (attributes_counted matcher.tries ≡ 0)) }
         ensures told { IfOk result (λ matcher. matcher ≡ started_with
-            (record { ast = ast; max_memory = max_memory; element_bytes = element_bytes; esi = enable_esi_tags }) matcher.tries) }
+            (record { ast = ast; max_memory = max_memory; element_bytes = element_bytes; esi = enable_esi_tags })
+            matcher.tries) }
     {
         run_laws::<Kept<T>>();
         let past = Past::new(&ast, &enable_esi_tags);
@@ -171,11 +182,14 @@ impl<T: Drop> Matcher<T> {
         ensures fits { IfOk result (λ started. (self.old.failed ≡ false) × Fits started self.old name.now ns) }
         ensures failed { (result ≡ Err MatcherError.Failed) ↔ (self.old.failed ≡ true) }
         ensures stuck { self.old.failed ≡ true → self.new ≡ self.old }
-        ensures refused { IfErr result (λ error. self.old.failed ≡ false → RefusesStart error self.old name.now ns) }
-        ensures after { IfErr result (λ error. self.old.failed ≡ false → self.new ≡ refused_with self.old self.new) }
+        ensures refused { IfErr result (λ error. self.old.failed ≡ false
+            → RefusesStart error self.old name.now ns) }
+        ensures after { IfErr result (λ error. self.old.failed ≡ false
+            → self.new ≡ refused_with self.old self.new) }
         ensures left { IfErr result (λ error. self.old.failed ≡ false
             → LeavesOpen error (started_told self.old.told name.now ns) (bare_tag name.now ns) self.old self.new) }
-        ensures tried { self.old.failed ≡ false → (tag : StartTag) → tag.name ≡ name.now → tag.namespace ≡ ns
+        ensures tried { self.old.failed ≡ false
+            → (tag : StartTag) → tag.name ≡ name.now → tag.namespace ≡ ns
             → IsTriedAtMost (selectors self.old.told.ast) self.old.told.esi (heard self.old.told) tag self.new.tries }
     {
         if self.failed {
@@ -222,7 +236,8 @@ impl<T: Drop> Matcher<T> {
         ensures reported { OnOk result (IfWaits self.old.told aux_info.entry (λ tag.
             IsFinishedAs self.old.told tag self.new)) }
         ensures opens { OnOk result (IfWaits self.old.told aux_info.entry (λ tag. OpensFor tag self.old self.new)) }
-        ensures ok { OnOk result (self.new ≡ with_told (finished_told self.old.told aux_info.entry) self.old self.new) }
+        ensures ok { OnOk result (self.new
+            ≡ with_told (finished_told self.old.told aux_info.entry) self.old self.new) }
         ensures fits { OnOk result (IfWaits self.old.told aux_info.entry (λ tag.
             refusal_of self.old self.old.told.events tag ≡ None)) }
         ensures well { OnOk result ((self.old.failed ≡ false) × RangesAreInside aux_info.entry
@@ -307,7 +322,8 @@ impl<T: Drop> Matcher<T> {
             IsRefusal error → RefusesStartWith error self.old (handed name.now ns aux_info.entry)) }
         ensures after { IfErr result (λ error. IsRefusal error → self.new ≡ refused_with self.old self.new) }
         ensures left { IfErr result (λ error. IsRefusal error → LeavesOpen error
-            (handed_told self.old.told (handed name.now ns aux_info.entry)) (handed name.now ns aux_info.entry) self.old self.new) }
+            (handed_told self.old.told (handed name.now ns aux_info.entry)) (handed name.now ns aux_info.entry)
+            self.old self.new) }
         ensures tried { IfErr result (λ error.
             IsRefusal error → IsTriedAtMost (selectors self.old.told.ast) self.old.told.esi
             (heard self.old.told) (handed name.now ns aux_info.entry) self.new.tries) }

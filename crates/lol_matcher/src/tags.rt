@@ -6,7 +6,7 @@ ghost use Rattle.lol_instructions.specs.Tests.{Element};
 ghost use Rattle.lol_memory.specs.Limiter.{Limiter};
 ghost use Rattle.lol_program.specs.Paths.{Selectors};
 ghost use Rattle.lol_stack.specs.Calls.{IsCalledAtEach};
-ghost use Rattle.lol_matcher.specs.Keeping.{ClearsOpened, ForRequest, ForTag, KeepsItem, KeepsRunning, Leaves, Runs, Tells, IsFinished, IsCharged, allowed, ids_of};
+ghost use Rattle.lol_matcher.specs.Keeping.{ClearsOpened, ForRequest, ForTag, KeepsItem, KeepsOpen, KeepsRunning, Leaves, Runs, Tells, IsFinished, IsCharged, allowed, ids_of};
 ghost use Rattle.lol_matcher.specs.Answering.{last_value, with_value};
 ghost use Rattle.lol_matcher.specs.Refusing.{IsRefusedFor, refusal_after};
 ghost use Rattle.lol_vm.specs.Events.{Event, End, has_content};
@@ -48,9 +48,10 @@ pub(crate) fn start_tag<T: Drop>(
     ensures leaves { IfOk result (λ answered. ForTag vm.old limiter.old name.now ns (λ s esi events tag.
         Leaves (has_content esi tag) answered matches.new.items.items (data_in vm.old) (data_in vm.new))) }
     ensures refused { IfErr result (λ error. ForTag vm.old limiter.old name.now ns (λ s esi events tag.
-        IsRefusedFor error (RunsWithoutMemory s esi events tag) (refusal_after s esi (allowed vm.old limiter.old) events tag))) }
+        IsRefusedFor error (RunsWithoutMemory s esi events tag)
+        (refusal_after s esi (allowed vm.old limiter.old) events tag))) }
     ensures unchanged { OnErr result (data_in vm.new ≡ data_in vm.old) }
-    ensures still_open { OnErr result ((elements : List Element) → HasOpen vm.old elements → HasOpen vm.new elements) }
+    ensures still_open { OnErr result (KeepsOpen vm.old vm.new) }
     ensures tried { ForTag vm.old limiter.old name.now ns (λ s esi events tag.
         IsTriedAtMost s esi events tag (tries_in vm.new)) }
     ensures charged { IsCharged vm.old limiter.old → IsCharged vm.new limiter.new }
@@ -100,11 +101,12 @@ pub(crate) fn finish_tag<T: Drop>(
 ) -> Result<Finished, MatcherError>
     requires { RangesAreInside aux_info }
     ensures told { IfOk result (λ finished. ForRequest vm.old limiter.old request aux_info.entry (λ s esi events tag.
-        IsFinished s esi events tag finished matches.new.items.items (allowed vm.old limiter.old) vm.old vm.new limiter.new)) }
+        IsFinished s esi events tag finished matches.new.items.items (allowed vm.old limiter.old)
+        vm.old vm.new limiter.new)) }
     ensures refused { IfErr result (λ error. ForRequest vm.old limiter.old request aux_info.entry (λ s esi events tag.
         IsRefusedFor error (AreFlat s) (refusal_after s esi (allowed vm.old limiter.old) events tag))) }
     ensures unchanged { OnErr result (data_in vm.new ≡ data_in vm.old) }
-    ensures still_open { OnErr result ((elements : List Element) → HasOpen vm.old elements → HasOpen vm.new elements) }
+    ensures still_open { OnErr result (KeepsOpen vm.old vm.new) }
     ensures tried { (s : Selectors) (esi : Bool) (events : List Event) (tag : StartTag)
         → IsPending ids_of s esi events tag vm.old request → IsTriedAtMost s esi events tag (tries_in vm.new) }
     ensures charged { IsCharged vm.old limiter.old → IsCharged vm.new limiter.new }
