@@ -1,11 +1,13 @@
 """Answers to scripts: of the port, of the model, and of programs beside."""
 
+import functools
 import importlib.util
 import os
 import re
 import signal
 import subprocess
 import sys
+from typing import Callable
 
 ROOT = os.path.dirname(os.path.dirname(os.path.abspath(__file__)))
 PORT = os.path.join(ROOT, "crates", "lol_match", "out", "lol_match")
@@ -31,8 +33,20 @@ def find_model() -> None:
         sys.exit("diff/model.py isn't there: leave it out with --no-model.")
 
 
+@functools.cache
+def answer_of(path: str) -> Callable[[bytes], tuple]:
+    """The function `answer` of a program in Python, which needs no process of its own."""
+    found = importlib.util.spec_from_file_location(os.path.basename(path).removesuffix(".py"), path)
+    module = importlib.util.module_from_spec(found)
+    sys.modules[found.name] = module
+    found.loader.exec_module(module)
+    return module.answer
+
+
 def run_program(program: str, script: bytes) -> tuple:
     """Standard output and exit status; -1 stands for no answer in time."""
+    if program.endswith(".py"):
+        return run_answer(answer_of(program), script)
     try:
         done = subprocess.run([program], input=script, stdout=subprocess.PIPE, stderr=subprocess.DEVNULL,
                               timeout=SECONDS)
@@ -42,8 +56,14 @@ def run_program(program: str, script: bytes) -> tuple:
 
 
 def run_model(script: bytes) -> tuple:
-    """As run_program, by diff/model.py; -2 stands for an exception."""
+    """As run_program, by diff/model.py."""
     from model import answer
+
+    return run_answer(answer, script)
+
+
+def run_answer(answer: Callable[[bytes], tuple], script: bytes) -> tuple:
+    """As run_program, by a function; -2 stands for an exception."""
 
     def stop(*_):
         raise NoAnswer

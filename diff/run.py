@@ -4,18 +4,22 @@
     python3 diff/run.py 20000 --seed 1 --beside PROGRAM     compares N random cases
     python3 diff/run.py 20000 --seed 1 --store              and stores some of those on which all agree
     python3 diff/run.py --stored                            replays the stored cases
+    python3 diff/run.py --stored --lines                    and tells which lines of the model they reach
 """
 
 import argparse
 import collections
+import contextlib
 import functools
 import itertools
 import multiprocessing
 import sys
 import time
+from typing import Iterator
 
 import gen
 import known
+import lines
 import stored
 from programs import PORT, Peer, find_model, find_program, run_model, run_program
 from shrinking import shrink
@@ -144,21 +148,30 @@ def compare(options) -> int:
     return 1 if differing else 0
 
 
+def answers_again(options, port: str, found: set[int]) -> Iterator[tuple]:
+    """Where each stored case is, its script, its answer, and those of the port and, if it is wanted, of the model."""
+    for place, script, answer in stored.cases():
+        others = [("port", run_program(port, script))]
+        if not options.no_model:
+            with lines.reached() if options.lines else contextlib.nullcontext(set()) as some:
+                others.append(("model", run_model(script)))
+            found |= some
+        yield place, script, answer, others
+
+
 def replay(options) -> int:
     """Compares the port, and the model if it is wanted, with the stored answers."""
-    port, began, wrong, count = find_program(options.port), time.monotonic(), 0, 0
-    for place, script, answer in stored.cases():
-        count += 1
-        others = [("port", run_program(port, script))] + ([] if options.no_model else [("model", run_model(script))])
+    began, wrong, count, found = time.monotonic(), 0, 0, set()
+    for place, script, answer, others in answers_again(options, find_program(options.port), found):
         differing = [(name, other) for name, other in others if other != answer]
-        wrong += bool(differing)
+        count, wrong = count + 1, wrong + bool(differing)
         for name, other in differing:
             if wrong <= options.differences:
                 print(f"{place}: the {name} answers otherwise")
                 show("  script:", script)
                 show_answers(other, "stored", answer, name)
     print(f"{count - wrong} of {count} stored cases are answered as stored; {time.monotonic() - began:.0f} seconds")
-    return 1 if wrong or not count else 0
+    return 1 if options.lines and lines.report(found) or wrong or not count else 0
 
 
 def main() -> int:
@@ -174,9 +187,12 @@ def main() -> int:
     parser.add_argument("--differences", type=int, default=20, help="stop after so many cases that differ")
     parser.add_argument("--store", action="store_true", help="store cases on which all agree")
     parser.add_argument("--stored", action="store_true", help="replay the stored cases")
+    parser.add_argument("--lines", action="store_true", help="tell which lines of the model the stored cases reach")
     options = parser.parse_args()
     if known.untold():
         sys.exit(f"docs/DIFFERENCES.md doesn't tell of these classes as known.py says: {', '.join(known.untold())}")
+    if options.lines and (options.no_model or not options.stored):
+        parser.error("--lines is of the model and of the stored cases")
     if not options.no_model:
         find_model()
     if options.stored:

@@ -41,6 +41,13 @@ class Shrinking:
         """Puts a line in the place of each that is like the old one."""
         return self.try_lines([new if line == old else line for line in self.lines])
 
+    def replace_some(self, old: bytes, new: bytes) -> bool:
+        """Puts a line in the place of each that is like the old one, or of each but the first or the last."""
+        places = [place for place, line in enumerate(self.lines) if line == old]
+        kept = [None] if len(places) < 3 else [None, places[0], places[-1]]
+        return any(self.try_lines([new if line == old and place != one else line
+                                   for place, line in enumerate(self.lines)]) for one in kept)
+
     def drop_lines(self, least: int):
         """Drops rows of lines, long ones first."""
         count = max(len(self.lines) // 2, 1)
@@ -78,9 +85,9 @@ class Shrinking:
     def join_lines(self):
         """Makes tags equal to others."""
         for kinds in ((b"start", b"drop"), (b"end",)):
-            lines = self.distinct(*kinds)[:12]
-            for old in lines:
-                any(self.replace(old, new) for new in lines if old != new and (len(new), new) < (len(old), old))
+            for old in self.distinct(*kinds)[:12]:
+                others = sorted(self.distinct(*kinds)[:12], key=lambda line: (len(line), line))
+                any(self.replace_some(old, new) for new in others if old != new)
 
     def drop_attributes(self):
         for line in self.distinct(b"start", b"drop"):

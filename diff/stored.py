@@ -11,6 +11,8 @@ import glob
 import os
 import re
 
+import lines
+
 FOLDER = os.path.join(os.path.dirname(os.path.abspath(__file__)), "cases")
 NO_END = "‹no line end›"
 AGAIN = re.compile(r"([^‹›]{1,16}?)\1{9,}")
@@ -164,13 +166,14 @@ def chosen(pool: list, kept: dict) -> dict:
     """The kept cases, and small ones of the pool: as many as are wanted, and each that shows what none shows yet."""
     out, seen, size = dict(kept), collections.Counter(), 0
     for script, answer in kept.items():
-        seen.update(features_of(script, answer))
+        seen.update(features_of(script, answer) | lines.lines_of_script(script))
         size += len(block_of(script, answer).encode())
     fitting = []
     for script, answer in sorted(pool, key=size_of):
         block = block_of(script, answer) if len(script) < 20000 else " " * 20000
         if len(block) < 6000 and max(map(len, block.split("\n"))) <= COLUMNS:
-            fitting.append((script, answer, features_of(script, answer), len(block.encode())))
+            features = features_of(script, answer) | lines.lines_of_script(script)
+            fitting.append((script, answer, features, len(block.encode())))
     for times in range(1, 40):
         for script, answer, features, count in fitting:
             if len(out) >= WANTED and times > 1 or size + count > BYTES:
