@@ -43,9 +43,9 @@ ESCAPE = r"\\(?:[0-9A-Fa-f]{1,6}+[ \t\n]?+|[^\n0-9A-Fa-f]|\Z)"
 ESCAPE_IN_STRING = rf"\\\n|{ESCAPE}"
 NAME_START = rf"(?:[A-Za-z_\u0080-\U0010FFFF]|{ESCAPE})"
 NAME_POINT = rf"(?:[A-Za-z0-9_\-\u0080-\U0010FFFF]|{ESCAPE})"
-NAME = rf"(?:--|-?{NAME_START}){NAME_POINT}*+"
+NAME = rf"(?:--|-?{NAME_START}){NAME_POINT}*"
 NUMBER = r"(?P<number>(?>[+-]?(?:[0-9]*\.[0-9]+|[0-9]+)(?:[Ee][+-]?[0-9]+)?))"
-STRING = rf"(?P<quote>[\"'])(?P<value>(?:(?!(?P=quote))[^\\\n]|{ESCAPE_IN_STRING})*+)"
+STRING = rf"(?P<quote>[\"'])(?P<value>(?:(?!(?P=quote))[^\\\n]|{ESCAPE_IN_STRING})*)"
 
 # The rows of docs/SELECTORS.md ("Text and tokens"), some of them parted in two or three.
 ROWS = [
@@ -53,8 +53,8 @@ ROWS = [
     ("white space", r"[ \t\n]+"),
     ("string", rf"{STRING}(?:(?P=quote)|\Z)"),
     ("bad string", STRING),
-    ("id", rf"#(?={NAME})(?P<value>{NAME_POINT}++)"),
-    ("hash", rf"#{NAME_POINT}++"),
+    ("id", rf"#(?={NAME})(?P<value>{NAME_POINT}+)"),
+    ("hash", rf"#{NAME_POINT}+"),
     ("dimension", rf"{NUMBER}(?P<value>{NAME})"),
     ("percentage", rf"{NUMBER}%"),
     ("number", NUMBER),
