@@ -146,4 +146,4 @@ module _ {E : Type 0} (s : Selectors) (esi : Bool) (vm : Vm E) (events : List Ev
 
   -- no tag was refused
   pub hasnt_failed : vm.failed ≡ false
-  hasnt_failed = sym stands.shows.refused ∙ stands.standing.never_refused
+  hasnt_failed = stands.unfailed

@@ -226,11 +226,11 @@ typed_same typed typed' cs (e ∷ outer) same h = (λ n. same (suc (length outer
 -- 6. One event
 
 -- A machine that has counted an element opens it.
-module _ (s : Selectors) (esi : Bool) (paths : List Path) (d : Document) (longest_so_far : ℕ) (ordered : IsOrdered d longest_so_far) where
-  opened_on : (m : Machine) (most : ℕ) → length d.open_elements ≤ most → (tag : StartTag) → StandsOn s esi paths m (after_start d tag false) most → (context : Context)
+module _ (s : Selectors) (paths : List Path) (d : Document) (longest_so_far : ℕ) (ordered : IsOrdered d longest_so_far) where
+  opened_on : (m : Machine) (most : ℕ) → length d.open_elements ≤ most → (tag : StartTag) → StandsOn s paths m (after_start d tag false) most → (context : Context)
       → HasRanges jumps_of paths m.program (Matches (element_of d tag) d.open_elements) context.jumps
       → HasRanges hereditary_jumps_of paths m.program (Matches (element_of d tag) d.open_elements) context.hereditary_jumps
-      → StandsOn s esi paths (opened m tag.name context) (after_start d tag true) (max most (length (element_of d tag ∷ d.open_elements)))
+      → StandsOn s paths (opened m tag.name context) (after_start d tag true) (max most (length (element_of d tag ∷ d.open_elements)))
   opened_on m most enough tag stands context jumps hereditary = record {
     program = stands.program;
     items = (record { name = (bytes_eq-Decides (lowercased tag.name) (lowercased tag.name)).1 refl; jumps = jumps; hereditary_jumps = hereditary }, stands.items);
@@ -241,8 +241,6 @@ module _ (s : Selectors) (esi : Bool) (paths : List Path) (d : Document) (longes
     };
     active = λ i. activated (stands.active i) (length m.items) context.hereditary_jumps;
     charged = (λ i. slots_after m.item_bytes (stands.charged i) (items_length paths m.program m.items d.open_elements stands.items i)) ∙ (slots_grow m.item_bytes (length d.open_elements) most enough ∙ ap (slots m.item_bytes) sizes);
-    switch = stands.switch;
-    never_refused = stands.never_refused;
   }
     where
       fresh_parent : same_parent (Some d.events) (parent_of d.open_elements) ≡ false
@@ -264,7 +262,7 @@ module _ (s : Selectors) (esi : Bool) (paths : List Path) (d : Document) (longes
         above = λ l n high. h.above l n (omega (arith, high));
       }
 
-module _ (s : Selectors) (esi : Bool) (paths : List Path) (m : Machine) (d : Document) (most : ℕ) (ordered : IsOrdered d most) (stands : StandsOn s esi paths m d most) where
+module _ (s : Selectors) (paths : List Path) (m : Machine) (d : Document) (most : ℕ) (ordered : IsOrdered d most) (stands : StandsOn s paths m d most) where
   as_many : length m.items ≡ length d.open_elements
   as_many = items_length paths m.program m.items d.open_elements stands.items
 
@@ -284,25 +282,23 @@ module _ (s : Selectors) (esi : Bool) (paths : List Path) (m : Machine) (d : Doc
   same_slots : (n : ℕ) → n ≤ length d.open_elements → m.slots ≡ slots m.item_bytes (max most n)
   same_slots n h = let within = ordered.enough in let sizes : most ≡ max most n = omega (arith, h, within) in stands.charged ∙ ap (slots m.item_bytes) sizes
 
-  pub counted_stands : (tag : StartTag) → StandsOn s esi paths (counted m tag.name) (after_start d tag false) (max most (length d.open_elements))
+  pub counted_stands : (tag : StartTag) → StandsOn s paths (counted m tag.name) (after_start d tag false) (max most (length d.open_elements))
   counted_stands tag = record {
     program = stands.program;
     items = stands.items;
     counted = counted_stand tag;
     active = stands.active;
     charged = same_slots (length d.open_elements) (omega arith);
-    switch = stands.switch;
-    never_refused = stands.never_refused;
   }
 
   opened_stands : (tag : StartTag) (context : Context)
       → HasRanges jumps_of paths m.program (Matches (element_of d tag) d.open_elements) context.jumps
       → HasRanges hereditary_jumps_of paths m.program (Matches (element_of d tag) d.open_elements) context.hereditary_jumps
-      → StandsOn s esi paths (opened (counted m tag.name) tag.name context) (after_start d tag true) (max (max most (length d.open_elements)) (length (element_of d tag ∷ d.open_elements)))
+      → StandsOn s paths (opened (counted m tag.name) tag.name context) (after_start d tag true) (max (max most (length d.open_elements)) (length (element_of d tag ∷ d.open_elements)))
   opened_stands tag context jumps hereditary =
-      opened_on s esi paths d most ordered (counted m tag.name) (max most (length d.open_elements)) (omega arith) tag (counted_stands tag) context jumps hereditary
+      opened_on s paths d most ordered (counted m tag.name) (max most (length d.open_elements)) (omega arith) tag (counted_stands tag) context jumps hereditary
 
-  cut_stands : (n : ℕ) → StandsOn s esi paths (cut n m) (record { events = d.events + 1; children = d.children; open_elements = drop n d.open_elements }) (max most (length (drop n d.open_elements)))
+  cut_stands : (n : ℕ) → StandsOn s paths (cut n m) (record { events = d.events + 1; children = d.children; open_elements = drop n d.open_elements }) (max most (length (drop n d.open_elements)))
   cut_stands n = record {
     program = stands.program;
     items = items_drop paths m.program n m.items d.open_elements stands.items;
@@ -313,8 +309,6 @@ module _ (s : Selectors) (esi : Bool) (paths : List Path) (m : Machine) (d : Doc
     };
     active = ap (before (length (drop n m.items))) stands.active ∙ active_drop n m.items;
     charged = same_slots (length (drop n d.open_elements)) (drop_shorter n d.open_elements);
-    switch = stands.switch;
-    never_refused = stands.never_refused;
   }
     where
       fewer : length (drop n m.items) ≡ length (drop n d.open_elements)
@@ -336,53 +330,48 @@ module _ (s : Selectors) (esi : Bool) (paths : List Path) (m : Machine) (d : Doc
         above = λ l name high. too_high l (length (drop n d.open_elements)) (m.typed l name) high;
       }
 
-  pub ended_stands : (name : List ℕ) → StandsOn s esi paths (ended m name) (after_end d name) (max most (length (after_end d name).open_elements))
+  pub ended_stands : (name : List ℕ) → StandsOn s paths (ended m name) (after_end d name) (max most (length (after_end d name).open_elements))
   ended_stands name =
       let place = position (λ (item : OpenItem). same_name item.name name) m.items in
       let rest : drop (closed_count place) d.open_elements ≡ outer_part (place_of name d.open_elements) d.open_elements =
       ap (λ o. drop (closed_count o) d.open_elements) (same_place paths m.program name m.items d.open_elements stands.items) ∙ sym (outer_is (place_of name d.open_elements) d.open_elements) in
-      subst (λ xs. StandsOn s esi paths (ended m name) (record { events = d.events + 1; children = d.children; open_elements = xs }) (max most (length xs))) rest (cut_stands (closed_count place))
+      subst (λ xs. StandsOn s paths (ended m name) (record { events = d.events + 1; children = d.children; open_elements = xs }) (max most (length xs))) rest (cut_stands (closed_count place))
 
-  started_stands : AreClosed s → (tag : StartTag) (opens : Bool) → StandsOn s esi paths (started m opens (element_of d tag)) (after_start d tag opens) (max most (length (after_start d tag opens).open_elements))
+  started_stands : AreClosed s → (tag : StartTag) (opens : Bool) → StandsOn s paths (started m opens (element_of d tag)) (after_start d tag opens) (max most (length (after_start d tag opens).open_elements))
   started_stands closed tag false = counted_stands tag
   started_stands closed tag true =
       let held = subst (λ active. HoldOnce paths (ranges_to_run m.program m.items active) (LeftMatches d.open_elements)) (sym stands.active)
       (ranges_hold_left_matches s paths m.program m.items d.open_elements closed stands.program stands.items) in
       let report = runs_give_reports s paths m.program (ranges_to_run m.program m.items m.active) (element_of d tag) d.open_elements closed stands.program held in
       let sizes : max (max most (length d.open_elements)) (suc (length d.open_elements)) ≡ max most (suc (length d.open_elements)) = omega arith in
-      subst (StandsOn s esi paths (opened (counted m tag.name) tag.name (context_of m.program true (element_of d tag) (all_places (ranges_to_run m.program m.items m.active)))) (after_start d tag true)) sizes
+      subst (StandsOn s paths (opened (counted m tag.name) tag.name (context_of m.program true (element_of d tag) (all_places (ranges_to_run m.program m.items m.active)))) (after_start d tag true)) sizes
       (opened_stands tag (context_of m.program true (element_of d tag) (all_places (ranges_to_run m.program m.items m.active))) report.jumps report.hereditary_jumps)
 
-  one_more : AreClosed s → (event : Event) → StandsOn s esi paths (machine_after s m d event) (after s esi d event) (max most (length (after s esi d event).open_elements))
-  one_more closed (End name) = ended_stands name
-  one_more closed (Start tag) =
-      let opens : Bool → Bool = λ switch. has_content switch tag && not (is_dropped s (element_of d tag) d.open_elements) in
-      subst (λ switch. StandsOn s esi paths (started m (opens switch) (element_of d tag)) (after_start d tag (opens esi)) (max most (length (after_start d tag (opens esi)).open_elements))) (sym stands.switch)
-      (started_stands closed tag (opens esi))
+  one_more : (esi : Bool) → AreClosed s → (event : Event) → StandsOn s paths (machine_after s esi m d event) (after s esi d event) (max most (length (after s esi d event).open_elements))
+  one_more esi closed (End name) = ended_stands name
+  one_more esi closed (Start tag) = started_stands closed tag (has_content esi tag && not (is_dropped s (element_of d tag) d.open_elements))
 
 -- The new machine stands for no events.
 pub new_stands : (s : Selectors) (esi : Bool) (paths : List Path) (p : Program) (item_bytes : ℕ) → IsProgramOf s paths p
-    → StandsFor s esi paths (new_machine p esi item_bytes) []
+    → StandsFor s esi paths (new_machine p item_bytes) []
 new_stands s esi paths p item_bytes program = record {
   program = program;
   items = tt;
   counted = record { root = refl; children = refl; typed = λ by_type. record { levels = λ name. refl; above = λ level name high. refl } };
   active = refl;
   charged = refl;
-  switch = refl;
-  never_refused = refl;
 }
 
 -- A machine that stands for events stands for them with one more, whichever it is.
 pub standing_is_kept : (s : Selectors) (esi : Bool) (paths : List Path) (m : Machine) (events : List Event) (event : Event) → AreClosed s
     → StandsFor s esi paths m events
-    → StandsFor s esi paths (machine_after s m (document s esi events) event) (events ++ event ∷ [])
+    → StandsFor s esi paths (machine_after s esi m (document s esi events) event) (events ++ event ∷ [])
 standing_is_kept s esi paths m events event closed stands =
     let d = document s esi events in
-    let m' = machine_after s m d event in
-    subst (StandsOn s esi paths m' (document s esi (events ++ event ∷ []))) (sym (longest_push s esi empty events event))
-    (subst (λ d'. StandsOn s esi paths m' d' (max (longest s esi events) (length (after s esi d event).open_elements))) (sym (document_push s esi empty events event))
-    (one_more s esi paths m d (longest s esi events) (documents_are_ordered s esi events) stands closed event))
+    let m' = machine_after s esi m d event in
+    subst (StandsOn s paths m' (document s esi (events ++ event ∷ []))) (sym (longest_push s esi empty events event))
+    (subst (λ d'. StandsOn s paths m' d' (max (longest s esi events) (length (after s esi d event).open_elements))) (sym (document_push s esi empty events event))
+    (one_more s paths m d (longest s esi events) (documents_are_ordered s esi events) stands esi closed event))
 
 -- 7. Counters as places
 
@@ -438,15 +427,15 @@ module _ (s : Selectors) (esi : Bool) (events : List Event) (tag : StartTag) whe
   longest_as event d is = longest_after event ∙ ap (λ (d : Document). max (longest s esi events) (length d.open_elements)) is
 
   -- standing for one event more is standing on its document
-  for_on : (paths : List Path) (m : Machine) (event : Event) (d : Document) → document s esi (events ++ event ∷ []) ≡ d → StandsOn s esi paths m d (max (longest s esi events) (length d.open_elements)) → StandsFor s esi paths m (events ++ event ∷ [])
+  for_on : (paths : List Path) (m : Machine) (event : Event) (d : Document) → document s esi (events ++ event ∷ []) ≡ d → StandsOn s paths m d (max (longest s esi events) (length d.open_elements)) → StandsFor s esi paths m (events ++ event ∷ [])
   for_on paths m event d is h =
-      subst (StandsOn s esi paths m (document s esi (events ++ event ∷ []))) (sym (longest_as event d is))
-      (subst (λ d'. StandsOn s esi paths m d' (max (longest s esi events) (length d.open_elements))) (sym is) h)
+      subst (StandsOn s paths m (document s esi (events ++ event ∷ []))) (sym (longest_as event d is))
+      (subst (λ d'. StandsOn s paths m d' (max (longest s esi events) (length d.open_elements))) (sym is) h)
 
-  on_for : (paths : List Path) (m : Machine) (event : Event) (d : Document) → document s esi (events ++ event ∷ []) ≡ d → StandsFor s esi paths m (events ++ event ∷ []) → StandsOn s esi paths m d (max (longest s esi events) (length d.open_elements))
+  on_for : (paths : List Path) (m : Machine) (event : Event) (d : Document) → document s esi (events ++ event ∷ []) ≡ d → StandsFor s esi paths m (events ++ event ∷ []) → StandsOn s paths m d (max (longest s esi events) (length d.open_elements))
   on_for paths m event d is h =
-      subst (λ d'. StandsOn s esi paths m d' (max (longest s esi events) (length d.open_elements))) is
-      (subst (StandsOn s esi paths m (document s esi (events ++ event ∷ []))) (longest_as event d is) h)
+      subst (λ d'. StandsOn s paths m d' (max (longest s esi events) (length d.open_elements))) is
+      (subst (StandsOn s paths m (document s esi (events ++ event ∷ []))) (longest_as event d is) h)
 
 -- A call that answers a request has counted the tag, and leaves the machine standing for the list with the event as dropped.
 pub requests_stand : (s : Selectors) (esi : Bool) (paths : List Path) (m : Machine) (events : List Event) (tag : StartTag)
@@ -455,7 +444,7 @@ pub requests_stand : (s : Selectors) (esi : Bool) (paths : List Path) (m : Machi
     → StandsFor s esi paths (counted m tag.name) (events ++ Start (unfinished tag) ∷ [])
 requests_stand s esi paths m events tag stands h =
     for_on s esi events tag paths (counted m tag.name) (Start (unfinished tag)) (after_start (document s esi events) tag false) (after_unfinished s esi events tag h)
-    (counted_stands s esi paths m (document s esi events) (longest s esi events) (documents_are_ordered s esi events) stands tag)
+    (counted_stands s paths m (document s esi events) (longest s esi events) (documents_are_ordered s esi events) stands tag)
 
 -- Finishing a request on that machine puts the finished event in its place.
 pub finishing_is_kept : (s : Selectors) (esi : Bool) (paths : List Path) (m : Machine) (events : List Event) (tag : StartTag)
@@ -478,15 +467,15 @@ finishing_is_kept s esi paths m events tag context left closed finish h stands r
     requests_finish m.program true e (ranges_to_run m.program m.items m.active) context left request tag.attributes tag.self_closing tag.finish in
     let enough = ordered.enough in
     for_on s esi events tag paths (finished m (has_content esi tag) tag.name (run m.program true e context left)) (Start tag) (after_start d tag (has_content esi tag)) (after_finished s esi events tag finish)
-    (subst (λ c. StandsOn s esi paths (finished m (has_content esi tag) tag.name c) (after_start d tag (has_content esi tag)) (max (longest s esi events) (length (after_start d tag (has_content esi tag)).open_elements))) (sym whole)
-    (by_content s esi paths d (longest s esi events) ordered m tag here (context_of m.program true e (all_places (ranges_to_run m.program m.items m.active))) report.jumps report.hereditary_jumps (has_content esi tag)))
+    (subst (λ c. StandsOn s paths (finished m (has_content esi tag) tag.name c) (after_start d tag (has_content esi tag)) (max (longest s esi events) (length (after_start d tag (has_content esi tag)).open_elements))) (sym whole)
+    (by_content s paths d (longest s esi events) ordered m tag here (context_of m.program true e (all_places (ranges_to_run m.program m.items m.active))) report.jumps report.hereditary_jumps (has_content esi tag)))
   where
-    by_content : (s : Selectors) (esi : Bool) (paths : List Path) (d : Document) (most : ℕ) (ordered : IsOrdered d most) (m : Machine) (tag : StartTag) (here : StandsOn s esi paths m (after_start d tag false) (max most (length d.open_elements))) (c : Context)
+    by_content : (s : Selectors) (paths : List Path) (d : Document) (most : ℕ) (ordered : IsOrdered d most) (m : Machine) (tag : StartTag) (here : StandsOn s paths m (after_start d tag false) (max most (length d.open_elements))) (c : Context)
         → HasRanges jumps_of paths m.program (Matches (element_of d tag) d.open_elements) c.jumps
         → HasRanges hereditary_jumps_of paths m.program (Matches (element_of d tag) d.open_elements) c.hereditary_jumps
-        → (b : Bool) → StandsOn s esi paths (finished m b tag.name c) (after_start d tag b) (max most (length (after_start d tag b).open_elements))
-    by_content s esi paths d most ordered m tag here c jumps hereditary false = here
-    by_content s esi paths d most ordered m tag here c jumps hereditary true =
+        → (b : Bool) → StandsOn s paths (finished m b tag.name c) (after_start d tag b) (max most (length (after_start d tag b).open_elements))
+    by_content s paths d most ordered m tag here c jumps hereditary false = here
+    by_content s paths d most ordered m tag here c jumps hereditary true =
         let sizes : max (max most (length d.open_elements)) (suc (length d.open_elements)) ≡ max most (suc (length d.open_elements)) = omega arith in
-        subst (StandsOn s esi paths (opened m tag.name c) (after_start d tag true)) sizes
-        (opened_on s esi paths d most ordered m (max most (length d.open_elements)) (omega arith) tag here c jumps hereditary)
+        subst (StandsOn s paths (opened m tag.name c) (after_start d tag true)) sizes
+        (opened_on s paths d most ordered m (max most (length d.open_elements)) (omega arith) tag here c jumps hereditary)

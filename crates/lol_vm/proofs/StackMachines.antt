@@ -49,8 +49,8 @@ module _ {E : Type 0} where
   pub items_counted : (s : StackOf Name StackNames E) (m : Machine) → KeepsMachine s m → length m.items ≡ length (items_in s)
   items_counted s m keeps = sym (length-map m.items in_lower_case) ∙ (ap length keeps.items ∙ shown_length item_shown (items_in s))
 
-  pub new_stack_keeps : (s : StackOf Name StackNames E) (p : Program) (esi : Bool) (item_bytes : ℕ) → IsNew s p.by_type item_bytes → KeepsMachine s (new_machine p esi item_bytes)
-  new_stack_keeps s p esi item_bytes new = record {
+  pub new_stack_keeps : (s : StackOf Name StackNames E) (p : Program) (item_bytes : ℕ) → IsNew s p.by_type item_bytes → KeepsMachine s (new_machine p item_bytes)
+  new_stack_keeps s p item_bytes new = record {
     items = sym (ap (λ (v : LimitedVec (StackItemOf Name E)). items_shown v.items) new.items);
     active = sym new.active;
     root_children = sym new.root;

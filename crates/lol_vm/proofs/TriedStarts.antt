@@ -71,7 +71,7 @@ module _ {E R : Type 0} (ids : E → Ids) (with_ids : E → Ids → E) (lends : 
   is_tried = tried (item.name ∙ named.0, named.1 ∙ sym namespace)
 
   opens_is : opens ≡ has_content esi tag
-  opens_is = ap (λ b. has_content b tag) (sym st.shows.switch ∙ st.standing.switch)
+  opens_is = ap (λ b. has_content b tag) st.switch
 
   -- one of HTML was tried by its name
   pub of_html : is_html tag.namespace ≡ true → IsTriedByName ids with_ids start new ctx next result opens
@@ -193,7 +193,7 @@ module _ {E : Type 0} {ids : E → Ids} {with_ids : E → Ids → E} {vm new : V
   module _ (s : Selectors) (esi : Bool) (events : List Event) (tag : StartTag) (st : Stands s esi vm events) (named : IsTagOf name ns tag) where
     -- a machine that was refused answers no more
     pub begun_unfailed : new.failed ≡ false
-    begun_unfailed = ap (λ (v : Vm E). v.failed) b.begun.kept ∙ (sym st.shows.refused ∙ st.standing.never_refused)
+    begun_unfailed = ap (λ (v : Vm E). v.failed) b.begun.kept ∙ st.unfailed
 
     pub begun_pending : (point : RecoveryPoint) → stopped ≡ Some point → IsPending ids s esi events tag new (left_at next point)
     begun_pending point at =

@@ -88,15 +88,14 @@ module _ {E : Type 0} (w : E) where
     }
 
   shows_data : (vm : Vm E) (m : Machine) → Shows vm m → Shows (with_current_in vm w) m
-  shows_data vm m h = record { stack = keeps_data vm.stack m h.stack; sound = data_keep_sound vm.stack w h.sound; program = h.program; switch = h.switch; refused = h.refused }
+  shows_data vm m h = record { stack = keeps_data vm.stack m h.stack; sound = data_keep_sound vm.stack w h.sound; program = h.program }
 
 pub data_change_nothing : {E : Type 0} → DataChangeNothing E
-data_change_nothing s esi vm events w h = record { paths = h.paths; machine = h.machine; closed = h.closed; shows = shows_data w vm h.machine h.shows; standing = h.standing }
+data_change_nothing s esi vm events w h = record { paths = h.paths; machine = h.machine; closed = h.closed; shows = shows_data w vm h.machine h.shows; standing = h.standing; switch = h.switch; unfailed = h.unfailed }
 
 pub data_keep_open : {E : Type 0} → DataKeepOpen E
 data_keep_open vm elements w h = record {
   selectors = h.selectors;
-  esi = h.esi;
   paths = h.paths;
   machine = h.machine;
   document = h.document;

@@ -256,7 +256,7 @@ module _ {E : Type 0} (ids : E → Ids) (vm : Vm E) (s : Selectors) (esi : Bool)
             hereditary_jumps = all_gathered.hereditary_jumps;
             children = same.children ∙ pending.childless;
           } in
-          let shown_now : Shows (record vm { tries = after }) m = record { stack = pending.stands.shows.stack; sound = pending.stands.shows.sound; program = pending.stands.shows.program; switch = pending.stands.shows.switch; refused = pending.stands.shows.refused } in
+          let shown_now : Shows (record vm { tries = after }) m = record { stack = pending.stands.shows.stack; sound = pending.stands.shows.sound; program = pending.stands.shows.program } in
           let entering = entered_stands vm vm.stack after m shown_now tag.name x new_ctx.stack_item next (has_content esi tag) item
           (subst (λ b. IsEntered b new_ctx.stack_item (record vm { tries = after }) next) has_content_still entered) in
           record {
@@ -270,6 +270,8 @@ module _ {E : Type 0} (ids : E → Ids) (vm : Vm E) (s : Selectors) (esi : Bool)
               shows = entering.shows;
               standing = subst (λ c. StandsFor s esi pending.stands.paths (opened_if (has_content esi tag) m tag.name c) (events ++ Start tag ∷ [])) finishes
                   (finishing_is_kept s esi pending.stands.paths m events tag pending.context pending.left pending.stands.closed finish pending.asks pending.stands.standing pending.is_request);
+              switch = entering.switch ∙ pending.stands.switch;
+              unfailed = entering.failed ∙ pending.stands.unfailed;
             };
             opened = opened_as ids (has_content esi tag) (report s esi e d.open_elements) new_ctx.stack_item (is_matched ∙ sym (map-map (λ (r : Match). r.id) (λ id. record { id = id; with_content = has_content esi tag }) (matching_ids s.pairs e d.open_elements) ∙ map-id (matching_ids s.pairs e d.open_elements)))
                 (data_in vm) (data_in next) (data_in vm) refl entering.has;

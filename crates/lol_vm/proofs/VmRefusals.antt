@@ -17,7 +17,7 @@ use Rattle.lol_instructions.specs.Counters.{full_count}
 use Rattle.lol_program.specs.Programs.{IsProgramOf}
 use Rattle.lol_program.specs.declared.ast.Ast.{Ast}
 use Rattle.lol_program.specs.declared.program.Program.{Program}
-use Rattle.lol_program.specs.Paths.{Path, Selectors}
+use Rattle.lol_program.specs.Paths.{Selectors}
 use Rattle.lol_program.specs.ProgramViews.{program_shown}
 use Rattle.lol_instructions.specs.Tests.{Element}
 use Rattle.lol_instructions.specs.declared.tries.Tries.{Tries}
@@ -27,7 +27,7 @@ use Rattle.lol_vm.specs.Events.{Event, End}
 use Rattle.lol_stack.specs.SoundStacks.{IsSound}
 use Rattle.lol_vm.specs.StackMachines.{KeepsMachine, IsNew}
 use Rattle.lol_stack.specs.Stacks.{items_in, list_in, slots_in, places_in, last_count, counted_in, counted_if, counted_item, with_typed, closed_from, element_data_of, place_to_close, last_below, IsSame, IsEnded, IsEndedAt}
-use Rattle.lol_vm.specs.Standing.{Machine, new_machine, AreCounted, StandsOn, IsOrdered, counted, ended}
+use Rattle.lol_vm.specs.Standing.{Machine, new_machine, AreCounted, IsOrdered, counted, ended}
 use Rattle.lol_vm.specs.Views.{selectors}
 use Rattle.lol_memory.specs.declared.limited_vec.PushError.{PushError}
 use Rattle.lol_memory.specs.declared.limited_vec.PushError.TheVariants as pushes
@@ -54,19 +54,15 @@ use Rattle.lol_vm.proofs.StackMachines.{new_stack_keeps, items_counted, same_sta
 
 -- 1. Machines that stand
 
-unrefused : (s : Selectors) (esi : Bool) (paths : List Path) (m : Machine) (d : Document) (most : ℕ) → StandsOn s esi paths m d most → StandsOn s esi paths (record m { refused = false }) d most
-unrefused s esi paths m d most h = record { program = h.program; items = h.items; counted = record { root = h.counted.root; children = h.counted.children; typed = h.counted.typed }; active = h.active; charged = h.charged; switch = h.switch; never_refused = refl }
-
 pub stands_has_open : {E : Type 0} (s : Selectors) (esi : Bool) (vm : Vm E) (events : List Event) → Stands s esi vm events → HasOpen vm (document s esi events).open_elements
 stands_has_open s esi vm events h = record {
   selectors = s;
-  esi = esi;
   paths = h.paths;
   machine = h.machine;
   document = document s esi events;
   most = _;
   shows = h.shows;
-  standing = unrefused s esi h.paths h.machine (document s esi events) _ h.standing;
+  standing = h.standing;
   ordered = documents_are_ordered s esi events;
   same = refl;
 }
@@ -75,29 +71,18 @@ wider : (d : Document) (a b : ℕ) → a ≤ b → IsOrdered d a → IsOrdered d
 wider d a b le h = let enough = h.enough in record { numbers = h.numbers; fresh = h.fresh; enough = omega (arith, le, enough) }
 
 module _ {E : Type 0} where
-  keeps_as : (stack : StackOf Name StackNames E) (m : Machine) (refused : Bool) → KeepsMachine stack m → KeepsMachine stack (record m { refused = refused })
-  keeps_as stack m refused k = record { items = k.items; active = k.active; root_children = k.root_children; children = k.children; typed = k.typed; item_bytes = k.item_bytes; slots = k.slots }
-
   -- what a machine shows with another stack
-  shows_as : (vm new : Vm E) (m next : Machine) → Shows vm m → KeepsMachine new.stack next → IsSound new.stack → next.program ≡ m.program → next.esi ≡ m.esi → new.program ≡ vm.program → new.enable_esi_tags ≡ vm.enable_esi_tags
-      → Shows new (record next { refused = new.failed })
-  shows_as vm new m next shown keeps sound program switch same_program same_switch = record {
-    stack = keeps_as new.stack next new.failed keeps;
-    sound = sound;
-    program = program ∙ (shown.program ∙ sym (ap program_shown same_program));
-    switch = switch ∙ (shown.switch ∙ sym same_switch);
-    refused = refl;
-  }
+  shows_as : (vm new : Vm E) (m next : Machine) → Shows vm m → KeepsMachine new.stack next → IsSound new.stack → next.program ≡ m.program → new.program ≡ vm.program → Shows new next
+  shows_as vm new m next shown keeps sound program same_program = record { stack = keeps; sound = sound; program = program ∙ (shown.program ∙ sym (ap program_shown same_program)) }
 
   pub has_open_same : (vm new : Vm E) (elements : List Element) → IsSame vm.stack new.stack → new.program ≡ vm.program → new.enable_esi_tags ≡ vm.enable_esi_tags → HasOpen vm elements → HasOpen new elements
   has_open_same vm new elements same same_program same_switch h = record {
     selectors = h.selectors;
-    esi = h.esi;
     paths = h.paths;
-    machine = record h.machine { refused = new.failed };
+    machine = h.machine;
     document = h.document;
     most = h.most;
-    shows = shows_as vm new h.machine h.machine h.shows (same_stack_keeps vm.stack new.stack h.machine h.shows.stack same) (same_is_sound vm.stack new.stack h.shows.sound same) refl refl same_program same_switch;
+    shows = shows_as vm new h.machine h.machine h.shows (same_stack_keeps vm.stack new.stack h.machine h.shows.stack same) (same_is_sound vm.stack new.stack h.shows.sound same) refl same_program;
     standing = h.standing;
     ordered = h.ordered;
     same = h.same;
@@ -116,14 +101,13 @@ module _ {E : Type 0} where
       let keeps = counting_stack_keeps vm.stack m bytes h.shows.stack (λ by_type. let fewer = typed_counts_are_fewer m d bytes are sizes by_type in omega (arith, fewer, last, room)) in
       record {
         selectors = h.selectors;
-        esi = h.esi;
         paths = h.paths;
-        machine = record (counted m bytes) { refused = new.failed };
+        machine = counted m bytes;
         document = after_start d tag false;
         most = max h.most (length d.open_elements);
         shows = shows_as vm new m (counted m bytes) h.shows (subst (λ x. KeepsMachine x (counted m bytes)) (sym is) keeps)
-            (subst (λ (x : StackOf Name StackNames E). IsSound x) (sym is) (counting_keeps_sound vm.stack (local_name bytes) h.shows.sound)) refl refl same_program same_switch;
-        standing = counted_stands h.selectors h.esi h.paths (record m { refused = false }) d h.most h.ordered h.standing tag;
+            (subst (λ (x : StackOf Name StackNames E). IsSound x) (sym is) (counting_keeps_sound vm.stack (local_name bytes) h.shows.sound)) refl same_program;
+        standing = counted_stands h.selectors h.paths m d h.most h.ordered h.standing tag;
         ordered = wider (after_start d tag false) (length d.open_elements) (max h.most (length d.open_elements)) (omega arith) (ordered_start d h.most tag false h.ordered);
         same = h.same;
       }
@@ -154,14 +138,13 @@ module _ {E : Type 0} where
       let d = h.document in
       record {
         selectors = h.selectors;
-        esi = h.esi;
         paths = h.paths;
-        machine = record (ended m name) { refused = new.failed };
+        machine = ended m name;
         document = after_end d name;
         most = max h.most (length (after_end d name).open_elements);
         shows = shows_as vm new m (ended m name) h.shows (ending_stack_keeps vm.stack new.stack m name h.shows.stack h.standing.active h.shows.sound is) (sound_after vm.stack new.stack (local_name name) is h.shows.sound)
-            refl refl same_program same_switch;
-        standing = ended_stands h.selectors h.esi h.paths (record m { refused = false }) d h.most h.ordered h.standing name;
+            refl same_program;
+        standing = ended_stands h.selectors h.paths m d h.most h.ordered h.standing name;
         ordered = wider (after_end d name) (length (after_end d name).open_elements) (max h.most (length (after_end d name).open_elements)) (omega arith) (ordered_end d h.most name h.ordered);
         same = ap (open_after name) h.same;
       }
@@ -171,13 +154,15 @@ module _ {E : Type 0} where
   stands_ended s esi vm new events name is same_program same_switch same_failed h =
       let m = h.machine in
       let shown = shows_as vm new m (ended m name) h.shows (ending_stack_keeps vm.stack new.stack m name h.shows.stack h.standing.active h.shows.sound is) (sound_after vm.stack new.stack (local_name name) is h.shows.sound)
-      refl refl same_program same_switch in
+      refl same_program in
       record {
         paths = h.paths;
         machine = ended m name;
         closed = h.closed;
-        shows = record { stack = keeps_as new.stack _ m.refused shown.stack; sound = shown.sound; program = shown.program; switch = shown.switch; refused = h.shows.refused ∙ sym same_failed };
+        shows = shown;
         standing = standing_is_kept s esi h.paths m events (End name) h.closed h.standing;
+        switch = same_switch ∙ h.switch;
+        unfailed = same_failed ∙ h.unfailed;
       }
 
   record EndsAt (vm new : Vm E) (n : ℕ) (o : Option ℕ) : Type 0 where
@@ -229,16 +214,16 @@ pub new_vm_stands : {E : Type 0} (ast : Ast) (prog : Program) (stack : StackOf N
     → vm.program ≡ prog → vm.stack ≡ stack → vm.enable_esi_tags ≡ esi → vm.failed ≡ false → Stands (selectors ast) esi vm []
 new_vm_stands ast prog stack vm esi item_bytes is new places program has switch failed = record {
   paths = nodes_of ast;
-  machine = new_machine (program_shown prog) esi item_bytes;
+  machine = new_machine (program_shown prog) item_bytes;
   closed = trees_are_closed ast;
   shows = record {
-    stack = subst (λ s. KeepsMachine s (new_machine (program_shown prog) esi item_bytes)) (sym has) (new_stack_keeps stack (program_shown prog) esi item_bytes new);
+    stack = subst (λ s. KeepsMachine s (new_machine (program_shown prog) item_bytes)) (sym has) (new_stack_keeps stack (program_shown prog) item_bytes new);
     sound = subst (λ (s : StackOf Name StackNames _). IsSound s) (sym has) (new_is_sound stack (ap (λ (v : LimitedVec (StackItemOf Name _)). v.items) new.items) new.active places);
     program = ap program_shown (sym program);
-    switch = sym switch;
-    refused = sym failed;
   };
   standing = new_stands (selectors ast) esi (nodes_of ast) (program_shown prog) item_bytes is;
+  switch = switch;
+  unfailed = failed;
 }
 
 -- 5. Refused start tags

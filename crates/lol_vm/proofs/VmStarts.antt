@@ -81,29 +81,33 @@ data_with false item old = old
 abbrev pub opened_if : Bool → Machine → List ℕ → Context → Machine
 opened_if opens m name context = if opens then opened m name context else m
 
-pub record Enters {E : Type 0} (after : Tries) (before : List E) (m : Machine) (name : List ℕ) (x : Context) (item : StackItemOf Name E) (next : Vm E) (content : Bool) : Type 0 where
+pub record Enters {E : Type 0} (vm : Vm E) (after : Tries) (before : List E) (m : Machine) (name : List ℕ) (x : Context) (item : StackItemOf Name E) (next : Vm E) (content : Bool) : Type 0 where
   pub shows : Shows next (opened_if content m name x)
   pub tries : next.tries ≡ after
+  pub switch : next.enable_esi_tags ≡ vm.enable_esi_tags
+  pub failed : next.failed ≡ vm.failed
   pub has : data_in next ≡ data_with content item before
 
 pub entered_stands : {E : Type 0} (vm : Vm E) (stack : StackOf Name StackNames E) (after : Tries) (m : Machine) → Shows (record vm { stack = stack; tries = after }) m → (name : List ℕ) (x : Context) (item : StackItemOf Name E) (next : Vm E) (content : Bool)
-    → IsItemOf item name (content_of content x) → IsEntered content item (record vm { stack = stack; tries = after }) next → Enters after (element_data_of (items_in stack)) m name x item next content
+    → IsItemOf item name (content_of content x) → IsEntered content item (record vm { stack = stack; tries = after }) next → Enters vm after (element_data_of (items_in stack)) m name x item next content
 entered_stands vm stack after m shown name x item next true is entered =
     let opened_now : Shows (record vm { stack = next.stack; tries = after }) (opened m name x) = record {
       stack = opening_stack_keeps stack next.stack m item name x shown.stack entered.0 is;
       sound = opening_keeps_sound stack next.stack item shown.sound entered.0;
       program = shown.program;
-      switch = shown.switch;
-      refused = shown.refused;
     } in
     record {
       shows = subst (λ v. Shows v (opened m name x)) (sym entered.1) opened_now;
       tries = ap (λ (v : Vm _). v.tries) entered.1;
+      switch = ap (λ (v : Vm _). v.enable_esi_tags) entered.1;
+      failed = ap (λ (v : Vm _). v.failed) entered.1;
       has = ap (λ (v : LimitedVec (StackItemOf Name _)). element_data_of v.items) entered.0.items ∙ map-append (λ (i : StackItemOf Name _). i.element_data) (items_in stack) (item ∷ []);
     }
 entered_stands vm stack after m shown name x item next false is entered = record {
   shows = subst (λ v. Shows v m) (sym entered) shown;
   tries = ap (λ (v : Vm _). v.tries) entered;
+  switch = ap (λ (v : Vm _). v.enable_esi_tags) entered;
+  failed = ap (λ (v : Vm _). v.failed) entered;
   has = ap data_in entered;
 }
 
@@ -159,11 +163,11 @@ module _ {E : Type 0} (ids : E → Ids) (with_ids : E → Ids → E) (lends : (w
   answers = starts_answer s esi st.paths m events tag st.closed st.standing
 
   shown_now : (after : Tries) → Shows (record vm { stack = stack; tries = after }) (counted m tag.name)
-  shown_now after = record { stack = keeps; sound = sound; program = st.shows.program; switch = st.shows.switch; refused = st.shows.refused }
+  shown_now after = record { stack = keeps; sound = sound; program = st.shows.program }
 
   -- once it asks for the rest, it stands for the events with this one dropped
   abbrev request_stands : (after : Tries) → asks s e d.open_elements ≡ true → Stands s esi (record vm { stack = stack; tries = after }) (events ++ Start (unfinished tag) ∷ [])
-  request_stands after asked = record { paths = st.paths; machine = counted m tag.name; closed = st.closed; shows = shown_now after; standing = requests_stand s esi st.paths m events tag st.standing asked }
+  request_stands after asked = record { paths = st.paths; machine = counted m tag.name; closed = st.closed; shows = shown_now after; standing = requests_stand s esi st.paths m events tag st.standing asked; switch = st.switch; unfailed = st.unfailed }
 
   -- what is run for it can be run
   pub can_run : (before : Tries) → names_counted before ≡ 0 → attributes_counted before ≡ 0 → length vm.program.instructions.items < 2 ^ 63 → AreRunnable vm.program.instructions.items (ranges_to_run_in vm.program stack) before
@@ -293,8 +297,8 @@ module _ {E : Type 0} (ids : E → Ids) (with_ids : E → Ids → E) (lends : (w
           let told : answer s esi d (Start tag) ≡ Started (report s esi e d.open_elements) false (names_counted after) (attributes_counted after) =
           ap (λ b. if (b && not tag.finish) then Dropped else Started (report s esi e d.open_elements) b (name_tries s.nodes d.open_elements) (attribute_tries s.nodes e d.open_elements)) no_ask
           ∙ (λ i. Started (report s esi e d.open_elements) false (sym told_all.names i) (sym told_all.attributes i)) in
-          let opens : (has_content m.esi tag && not (is_dropped s e d.open_elements)) ≡ has_content esi tag =
-          (λ i. has_content (st.standing.switch i) tag && not (no_ask i && not tag.finish)) ∙ and-true (has_content esi tag) in
+          let opens : (has_content esi tag && not (is_dropped s e d.open_elements)) ≡ has_content esi tag =
+          (λ i. has_content esi tag && not (no_ask i && not tag.finish)) ∙ and-true (has_content esi tag) in
           let item : IsItemOf new_ctx.stack_item tag.name (content_of (has_content esi tag) x) = record {
             named = same.name ∙ (new.name ∙ named.0);
             jumps = all_gathered.jumps;
@@ -313,6 +317,8 @@ module _ {E : Type 0} (ids : E → Ids) (with_ids : E → Ids → E) (lends : (w
               closed = st.closed;
               shows = entering.shows;
               standing = subst (λ b. StandsFor s esi st.paths (started m b e) (events ++ Start tag ∷ [])) opens (standing_is_kept s esi st.paths m events (Start tag) st.closed st.standing);
+              switch = entering.switch ∙ st.switch;
+              unfailed = entering.failed ∙ st.unfailed;
             };
             opened = opened_as ids (has_content esi tag) (report s esi e d.open_elements) new_ctx.stack_item (is_matched ∙ sym (map-map (λ (r : Match). r.id) (λ id. record { id = id; with_content = has_content esi tag }) (matching_ids s.pairs e d.open_elements) ∙ map-id (matching_ids s.pairs e d.open_elements)))
                 (data_in vm) (data_in next) (element_data_of (items_in stack)) same_data entering.has;

@@ -1,8 +1,6 @@
 -- When the element of a start tag has what running places gathers.
 use Rattle.std.specs.Prelude.{ℕ, ◌≡◌, ◌↔◌, true, Contains}
 use Rattle.lol_memory.specs.Ids.{Ids, has}
-use Rattle.lol_memory.specs.Ids as sets
-use Rattle.lol_vm.specs.Answers.{ascending_once}
 use Rattle.lol_vm.specs.PlaceRuns.{Context}
 use Rattle.lol_stack.specs.declared.stack_item.StackItemOf.{StackItemOf}
 
@@ -11,8 +9,3 @@ pub record Gathers {N E : Type 0} (ids_of : E → Ids) (item : StackItemOf N E) 
   pub ids : (id : ℕ) → (has (ids_of item.element_data) id ≡ true) ↔ Contains context.ids id
   pub jumps : context.jumps ≡ item.jumps
   pub hereditary_jumps : context.hereditary_jumps ≡ item.hereditary_jumps
-
--- The ids of the data, in ascending order, are those that were gathered, each once.
-abbrev pub GatheredIdsAscend : (N E : Type 0) → Type 0
-GatheredIdsAscend N E =
-    (ids_of : E → Ids) (item : StackItemOf N E) (context : Context) → Gathers ids_of item context → sets.ascending (ids_of item.element_data) ≡ ascending_once context.ids

@@ -32,9 +32,3 @@ pub record GatherAlike {E : Type 0} (ids_of : E → Ids) (with_ids : E → Ids �
   pub names :
       Gathers ids_of (gathered_by_names ids_of with_ids (sight_of by_type e) ctx (all_at instructions ranges)).stack_item
       (run_by_names p ctx.with_content e context (all_places ranges)).context
-
-abbrev pub InstructionsGather : Type 0 → Type 0
-InstructionsGather E =
-    (ids_of : E → Ids) (with_ids : E → Ids → E) → ((e : E) (w : Ids) → ids_of (with_ids e w) ≡ w)
-    → (p : Program) (by_type : Bool) (e : Element) (instructions : List code.Instruction) (ranges : List (Range ℕ)) (ctx : ExecutionCtx E) (context : Context)
-    → AreRangesOf p by_type instructions ranges → Gathers ids_of ctx.stack_item context → GatherAlike ids_of with_ids p by_type e instructions ranges ctx context

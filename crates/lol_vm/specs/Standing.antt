@@ -16,12 +16,10 @@ use Rattle.lol_stack.specs.Active.{activated}
 use Rattle.lol_vm.specs.PlaceRuns.{Context, context_of, is_open_at, run}
 use Rattle.lol_vm.specs.MachineLaws.{IsRequest, starts_open, started_by_names, sum_of_lengths}
 
--- A machine: its program, the ESI switch, its open items, the innermost first, with the active ranges; how many children the root and
--- each open element had, and of each name, by level (0 is the root's, then from the outermost element on); the size and number of its
--- slots; whether an event was refused.
+-- A machine: its program, its open items, the innermost first, with the active ranges; how many children the root and each open
+-- element had, and of each name, by level (0 is the root's, then from the outermost element on); the size and number of its slots.
 pub record Machine : Type 0 where
   pub program : Program
-  pub esi : Bool
   pub items : List OpenItem
   pub active : List (Range ℕ × ℕ)
   pub root_children : ℕ
@@ -29,7 +27,6 @@ pub record Machine : Type 0 where
   pub typed : ℕ → List ℕ → ℕ
   pub item_bytes : ℕ
   pub slots : ℕ
-  pub refused : Bool
 
 -- 1. Counters
 
@@ -51,24 +48,22 @@ pub record AreCounted (m : Machine) (d : Document) : Type 0 where
 -- 2. Standing, part by part
 
 -- A machine stands on a document; `most` is the most elements that were open at a time.
-pub record StandsOn (s : Selectors) (esi : Bool) (paths : List Path) (m : Machine) (d : Document) (most : ℕ) : Type 0 where
+pub record StandsOn (s : Selectors) (paths : List Path) (m : Machine) (d : Document) (most : ℕ) : Type 0 where
   pub program : IsProgramOf s paths m.program
   pub items : AreItems paths m.program m.items d.open_elements
   pub counted : AreCounted m d
   pub active : m.active ≡ active_of m.items
   pub charged : m.slots ≡ slots m.item_bytes most
-  pub switch : m.esi ≡ esi
-  pub never_refused : m.refused ≡ false
 
 -- A machine stands for events, where the places of its program are those of these paths.
 abbrev pub StandsFor : Selectors → Bool → List Path → Machine → List Event → Type 0
-StandsFor s esi paths m events = StandsOn s esi paths m (document s esi events) (longest s esi events)
+StandsFor s esi paths m events = StandsOn s paths m (document s esi events) (longest s esi events)
 
 -- 3. What a machine does
 
-abbrev pub new_machine : Program → Bool → ℕ → Machine
-new_machine p esi item_bytes =
-    record { program = p; esi = esi; items = []; active = []; root_children = 0; children = []; typed = λ level name. 0; item_bytes = item_bytes; slots = 0; refused = false }
+abbrev pub new_machine : Program → ℕ → Machine
+new_machine p item_bytes =
+    record { program = p; items = []; active = []; root_children = 0; children = []; typed = λ level name. 0; item_bytes = item_bytes; slots = 0 }
 
 abbrev pub counted_root : List ℕ → ℕ → ℕ
 counted_root [] root = root + 1
@@ -129,9 +124,9 @@ started m opens e =
     if opens then opened (counted m e.tag.name) e.tag.name (context_of m.program true e (all_places (ranges_of_machine m)))
     else counted m e.tag.name
 
-abbrev pub machine_after : Selectors → Machine → Document → Event → Machine
-machine_after s m d (Start tag) = started m (has_content m.esi tag && not (is_dropped s (element_of d tag) d.open_elements)) (element_of d tag)
-machine_after s m d (End name) = ended m name
+abbrev pub machine_after : Selectors → Bool → Machine → Document → Event → Machine
+machine_after s esi m d (Start tag) = started m (has_content esi tag && not (is_dropped s (element_of d tag) d.open_elements)) (element_of d tag)
+machine_after s esi m d (End name) = ended m name
 
 -- 4. Over events
 

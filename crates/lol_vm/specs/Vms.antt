@@ -79,13 +79,11 @@ module _ {E : Type 0} where
 
 -- 2. Standing
 
--- A machine of the code is one of the definitions.
+-- A machine of the code keeps what one of the definitions does.
 pub record Shows {E : Type 0} (vm : Vm E) (m : Machine) : Type 0 where
   pub stack : KeepsMachine vm.stack m
   pub sound : IsSound vm.stack
   pub program : m.program ≡ program_shown vm.program
-  pub switch : m.esi ≡ vm.enable_esi_tags
-  pub refused : m.refused ≡ vm.failed
 
 -- It stands for events: with selectors and the ESI switch.
 pub record Stands {E : Type 0} (s : Selectors) (esi : Bool) (vm : Vm E) (events : List Event) : Type 0 where
@@ -94,17 +92,18 @@ pub record Stands {E : Type 0} (s : Selectors) (esi : Bool) (vm : Vm E) (events 
   pub closed : AreClosed s
   pub shows : Shows vm machine
   pub standing : StandsFor s esi paths machine events
+  pub switch : vm.enable_esi_tags ≡ esi
+  pub unfailed : vm.failed ≡ false
 
--- It has these open elements, the innermost first: but for a refusal it stands on a document that has them. This survives a refusal.
+-- It has these open elements, the innermost first: what it keeps stands on a document that has them. This survives a refusal.
 pub record HasOpen {E : Type 0} (vm : Vm E) (elements : List Element) : Type 0 where
   pub selectors : Selectors
-  pub esi : Bool
   pub paths : List Path
   pub machine : Machine
   pub document : Document
   pub most : ℕ
   pub shows : Shows vm machine
-  pub standing : StandsOn selectors esi paths (record machine { refused = false }) document most
+  pub standing : StandsOn selectors paths machine document most
   pub ordered : IsOrdered document most
   pub same : document.open_elements ≡ elements
 
