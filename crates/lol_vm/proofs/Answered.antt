@@ -1,7 +1,7 @@
 -- What a machine that stands for events answers.
 use Rattle.lol_vm.specs.Events.{Event}
 use Rattle.lol_base.specs.StartTags.{StartTag}
-use Rattle.std.proofs.Common.{◌≡◌, ℕ, true, List, ◌↔◌, sym, ap, subst, Contains}
+use Rattle.std.proofs.Common.{◌≡◌, ℕ, true, List, ◌↔◌, ap, Contains}
 use Rattle.std.specs.Prelude.{◌||◌, not, Bool}
 use Rattle.lol_instructions.specs.Tests.{Element, is_html}
 use Rattle.lol_program.specs.Paths.{Selectors, Path}
@@ -9,7 +9,7 @@ use Rattle.lol_vm.specs.Documents.{element_of}
 use Rattle.lol_vm.specs.Answers.{document, ascending_once, matching_ids}
 use Rattle.lol_vm.specs.ReportLaws.{ascending_is_determined, ascending_ascends, pairs_from_ascends, matching_ids_ascend, among_ascending, ascending_among}
 use Rattle.lol_program.specs.Programs.{all_places, AreClosed}
-use Rattle.lol_vm.specs.Machines.{HoldOnce, LeftMatches, ranges_to_run}
+use Rattle.lol_vm.specs.Machines.{ranges_to_run}
 use Rattle.lol_vm.specs.PlaceRuns.{context_of}
 use Rattle.lol_vm.specs.Standing.{AnswersStart, Machine, StandsFor}
 use Rattle.lol_vm.proofs.Lists.{to_contains, to_among}
@@ -33,9 +33,8 @@ pub starts_answer : (s : Selectors) (esi : Bool) (paths : List Path) (m : Machin
 starts_answer s esi paths m events tag closed stands =
     let d = document s esi events in
     let e = element_of d tag in
-    let ranges = ranges_to_run m.program m.items m.active in
-    let held = subst (λ active. HoldOnce paths (ranges_to_run m.program m.items active) (LeftMatches d.open_elements)) (sym stands.active)
-    (ranges_hold_left_matches s paths m.program m.items d.open_elements closed stands.program stands.items) in
+    let ranges = ranges_to_run m.program m.items in
+    let held = ranges_hold_left_matches s paths m.program m.items d.open_elements closed stands.program stands.items in
     let tries = places_count_tries s paths m.program ranges e d.open_elements closed stands.program held in
     let report = runs_give_reports s paths m.program ranges e d.open_elements closed stands.program held in
     let whole = stopped_starts_are_whole s paths m.program ranges e d.open_elements true closed stands.program held in

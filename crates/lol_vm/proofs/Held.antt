@@ -320,7 +320,7 @@ ranges_hold_left_matches s paths p items elements closed program are =
 
 -- Each of them lies within the instructions.
 pub ranges_are_inside : (s : Selectors) (paths : List Path) (p : Program) (items : List OpenItem) (elements : List Element) → AreClosed s → IsProgramOf s paths p → AreItems paths p items elements
-    → (r : Range ℕ) → Among (ranges_to_run p items (active_of items)) r → (r.start ≤ r.end) × (r.end ≤ length p.instructions)
+    → (r : Range ℕ) → Among (ranges_to_run p items) r → (r.start ≤ r.end) × (r.end ≤ length p.instructions)
 ranges_are_inside s paths p items elements closed program are r (inl is) =
     subst (λ (q : Range ℕ). (q.start ≤ q.end) × (q.end ≤ length p.instructions)) is (let inside = program.entry.inside in let count = program.count in (program.entry.ordered, omega (arith, inside, count)))
 ranges_are_inside s paths p items elements closed program are r (inr a) =

@@ -21,9 +21,7 @@ use Rattle.lol_vm.specs.DocumentLaws.{document_push, longest_push}
 use Rattle.lol_vm.proofs.Runs.{position-map}
 use Rattle.lol_base.specs.BoolLaws.{and-false, not_true}
 use Rattle.lol_program.specs.Programs.{Program, AreClosed, all_places, IsProgramOf}
-use Rattle.lol_stack.specs.Active.{activated}
-use Rattle.lol_stack.specs.SoundRangeLaws.{before, before-active_after, kept-active_after}
-use Rattle.lol_vm.specs.Machines.{OpenItem, AreItems, HasRanges, Matches, HoldOnce, LeftMatches, active_of, ranges_to_run, jumps_of, hereditary_jumps_of}
+use Rattle.lol_vm.specs.Machines.{OpenItem, AreItems, HasRanges, Matches, ranges_to_run, jumps_of, hereditary_jumps_of}
 use Rattle.lol_vm.specs.PlaceRuns.{Context, context_of, run}
 use Rattle.lol_vm.specs.Standing.{Machine, AreTyped, TypedStand, AreCounted, StandsOn, StandsFor, counted_root, counted_last, counted_typed, counted, opened, cut, closed_count, ended, started, machine_after, Descend, IsOrdered, DocumentsAreOrdered, unfinished, finished, CountersArePlaces, or_root, new_machine, ranges_of_machine}
 use Rattle.lol_vm.proofs.Held.{ranges_hold_left_matches}
@@ -143,33 +141,22 @@ module _ (paths : List Path) (p : Program) where
   items_drop (suc n) (item ∷ items) [] h = absurd h
   items_drop (suc n) (item ∷ items) (e ∷ outer) h = items_drop n items outer h.1
 
-  same_names : (items : List OpenItem) (elements : List Element) → AreItems paths p items elements → map (λ (item : OpenItem). lowercased item.name) items ≡ map (λ (e : Element). lowercased e.tag.name) elements
+  same_names : (items : List OpenItem) (elements : List Element) → AreItems paths p items elements → map (λ (item : OpenItem). item.name) items ≡ map (λ (e : Element). lowercased e.tag.name) elements
   same_names [] [] h = refl
   same_names [] (e ∷ outer) h = absurd h
   same_names (item ∷ items) [] h = absurd h
-  same_names (item ∷ items) (e ∷ outer) h = λ i. (bytes_eq-Decides (lowercased item.name) (lowercased e.tag.name)).0 h.0.name i ∷ same_names items outer h.1 i
+  same_names (item ∷ items) (e ∷ outer) h = λ i. h.0.name i ∷ same_names items outer h.1 i
 
-  same_place : (name : List ℕ) (items : List OpenItem) (elements : List Element) → AreItems paths p items elements → position (λ (item : OpenItem). same_name item.name name) items ≡ place_of name elements
+  same_place : (name : List ℕ) (items : List OpenItem) (elements : List Element) → AreItems paths p items elements → position (λ (item : OpenItem). bytes_eq item.name (lowercased name)) items ≡ place_of name elements
   same_place name items elements h =
-      sym (position-map (λ n. bytes_eq n (lowercased name)) (λ (item : OpenItem). lowercased item.name) items)
+      sym (position-map (λ n. bytes_eq n (lowercased name)) (λ (item : OpenItem). item.name) items)
       ∙ (ap (position (λ n. bytes_eq n (lowercased name))) (same_names items elements h)
       ∙ position-map (λ n. bytes_eq n (lowercased name)) (λ (e : Element). lowercased e.tag.name) elements)
 
--- 4. Active ranges of fewer items
-
-whole_kept : (n : ℕ) (items : List OpenItem) → length items ≤ n → before n (active_of items) ≡ active_of items
-whole_kept n [] h = refl
-whole_kept n (item ∷ items) h = kept-active_after n (length items) (active_of items) (item.hereditary_jumps ∷ []) (omega (arith, h)) (whole_kept n items (omega (arith, h)))
+-- 4. Counters
 
 drop_shorter : {A : Type 0} (n : ℕ) (xs : List A) → length (drop n xs) ≤ length xs
 drop_shorter n xs = omega (arith, length-drop n xs)
-
-pub active_drop : (n : ℕ) (items : List OpenItem) → before (length (drop n items)) (active_of items) ≡ active_of (drop n items)
-active_drop zero items = whole_kept (length items) items (omega arith)
-active_drop (suc n) [] = refl
-active_drop (suc n) (item ∷ items) = before-active_after (length (drop n items)) (length items) (active_of items) (item.hereditary_jumps ∷ []) (drop_shorter n items) ∙ active_drop n items
-
--- 5. Counters
 
 abbrev counts : List Child → List Element → List ℕ
 counts cs outer = map (λ (e : Element). children_of (Some e.number) cs) outer
@@ -223,7 +210,7 @@ typed_same : (typed typed' : ℕ → List ℕ → ℕ) (cs : List Child) (outer 
 typed_same typed typed' cs [] same h = λ n. same 0 n (omega arith) ∙ h n
 typed_same typed typed' cs (e ∷ outer) same h = (λ n. same (suc (length outer)) n (omega arith) ∙ h.0 n, typed_same typed typed' cs outer (λ l n within. same l n (omega (arith, within))) h.1)
 
--- 6. One event
+-- 5. One event
 
 -- A machine that has counted an element opens it.
 module _ (s : Selectors) (paths : List Path) (d : Document) (longest_so_far : ℕ) (ordered : IsOrdered d longest_so_far) where
@@ -233,13 +220,12 @@ module _ (s : Selectors) (paths : List Path) (d : Document) (longest_so_far : �
       → StandsOn s paths (opened m tag.name context) (after_start d tag true) (max most (length (element_of d tag ∷ d.open_elements)))
   opened_on m most enough tag stands context jumps hereditary = record {
     program = stands.program;
-    items = (record { name = (bytes_eq-Decides (lowercased tag.name) (lowercased tag.name)).1 refl; jumps = jumps; hereditary_jumps = hereditary }, stands.items);
+    items = (record { name = refl; jumps = jumps; hereditary_jumps = hereditary }, stands.items);
     counted = record {
       root = stands.counted.root;
       children = λ i. sym no_children i ∷ stands.counted.children i;
       typed = λ by_type. typed_stand (stands.counted.typed by_type);
     };
-    active = λ i. activated (stands.active i) (length m.items) context.hereditary_jumps;
     charged = (λ i. slots_after m.item_bytes (stands.charged i) (items_length paths m.program m.items d.open_elements stands.items i)) ∙ (slots_grow m.item_bytes (length d.open_elements) most enough ∙ ap (slots m.item_bytes) sizes);
   }
     where
@@ -287,7 +273,6 @@ module _ (s : Selectors) (paths : List Path) (m : Machine) (d : Document) (most 
     program = stands.program;
     items = stands.items;
     counted = counted_stand tag;
-    active = stands.active;
     charged = same_slots (length d.open_elements) (omega arith);
   }
 
@@ -307,7 +292,6 @@ module _ (s : Selectors) (paths : List Path) (m : Machine) (d : Document) (most 
       children = ap (drop n) stands.counted.children ∙ drop-map (λ (e : Element). children_of (Some e.number) d.children) n d.open_elements;
       typed = λ by_type. subst (λ level. TypedStand (cut_typed level) (record { events = d.events + 1; children = d.children; open_elements = drop n d.open_elements })) (sym fewer) (typed_stand (stands.counted.typed by_type));
     };
-    active = ap (before (length (drop n m.items))) stands.active ∙ active_drop n m.items;
     charged = same_slots (length (drop n d.open_elements)) (drop_shorter n d.open_elements);
   }
     where
@@ -332,7 +316,7 @@ module _ (s : Selectors) (paths : List Path) (m : Machine) (d : Document) (most 
 
   pub ended_stands : (name : List ℕ) → StandsOn s paths (ended m name) (after_end d name) (max most (length (after_end d name).open_elements))
   ended_stands name =
-      let place = position (λ (item : OpenItem). same_name item.name name) m.items in
+      let place = position (λ (item : OpenItem). bytes_eq item.name (lowercased name)) m.items in
       let rest : drop (closed_count place) d.open_elements ≡ outer_part (place_of name d.open_elements) d.open_elements =
       ap (λ o. drop (closed_count o) d.open_elements) (same_place paths m.program name m.items d.open_elements stands.items) ∙ sym (outer_is (place_of name d.open_elements) d.open_elements) in
       subst (λ xs. StandsOn s paths (ended m name) (record { events = d.events + 1; children = d.children; open_elements = xs }) (max most (length xs))) rest (cut_stands (closed_count place))
@@ -340,12 +324,11 @@ module _ (s : Selectors) (paths : List Path) (m : Machine) (d : Document) (most 
   started_stands : AreClosed s → (tag : StartTag) (opens : Bool) → StandsOn s paths (started m opens (element_of d tag)) (after_start d tag opens) (max most (length (after_start d tag opens).open_elements))
   started_stands closed tag false = counted_stands tag
   started_stands closed tag true =
-      let held = subst (λ active. HoldOnce paths (ranges_to_run m.program m.items active) (LeftMatches d.open_elements)) (sym stands.active)
-      (ranges_hold_left_matches s paths m.program m.items d.open_elements closed stands.program stands.items) in
-      let report = runs_give_reports s paths m.program (ranges_to_run m.program m.items m.active) (element_of d tag) d.open_elements closed stands.program held in
+      let held = ranges_hold_left_matches s paths m.program m.items d.open_elements closed stands.program stands.items in
+      let report = runs_give_reports s paths m.program (ranges_to_run m.program m.items) (element_of d tag) d.open_elements closed stands.program held in
       let sizes : max (max most (length d.open_elements)) (suc (length d.open_elements)) ≡ max most (suc (length d.open_elements)) = omega arith in
-      subst (StandsOn s paths (opened (counted m tag.name) tag.name (context_of m.program true (element_of d tag) (all_places (ranges_to_run m.program m.items m.active)))) (after_start d tag true)) sizes
-      (opened_stands tag (context_of m.program true (element_of d tag) (all_places (ranges_to_run m.program m.items m.active))) report.jumps report.hereditary_jumps)
+      subst (StandsOn s paths (opened (counted m tag.name) tag.name (context_of m.program true (element_of d tag) (all_places (ranges_to_run m.program m.items)))) (after_start d tag true)) sizes
+      (opened_stands tag (context_of m.program true (element_of d tag) (all_places (ranges_to_run m.program m.items))) report.jumps report.hereditary_jumps)
 
   one_more : (esi : Bool) → AreClosed s → (event : Event) → StandsOn s paths (machine_after s esi m d event) (after s esi d event) (max most (length (after s esi d event).open_elements))
   one_more esi closed (End name) = ended_stands name
@@ -358,7 +341,6 @@ new_stands s esi paths p item_bytes program = record {
   program = program;
   items = tt;
   counted = record { root = refl; children = refl; typed = λ by_type. record { levels = λ name. refl; above = λ level name high. refl } };
-  active = refl;
   charged = refl;
 }
 
@@ -373,7 +355,7 @@ standing_is_kept s esi paths m events event closed stands =
     (subst (λ d'. StandsOn s paths m' d' (max (longest s esi events) (length (after s esi d event).open_elements))) (sym (document_push s esi empty events event))
     (one_more s paths m d (longest s esi events) (documents_are_ordered s esi events) stands esi closed event))
 
--- 7. Counters as places
+-- 6. Counters as places
 
 position_counted : (name : List ℕ) (cs : List Child) (outer : List Element) → or_root (counted_last (counts cs outer)) (counted_root (counts cs outer) (children_of None cs)) ≡ children_of (parent_of outer) cs + 1
 position_counted name cs [] = refl
@@ -392,7 +374,7 @@ counters_are_places m d tag are as_many = (
       ∙ ap (λ n. n + 1) (typed_here m.typed d.children d.open_elements tag.name (are.typed by_type).levels)),
 )
 
--- 8. Requests
+-- 7. Requests
 
 module _ (s : Selectors) (esi : Bool) (events : List Event) (tag : StartTag) where
   abbrev earlier : Document
@@ -460,15 +442,14 @@ finishing_is_kept s esi paths m events tag context left closed finish h stands r
     let e = element_of d tag in
     let ordered = documents_are_ordered s esi events in
     let here = on_for s esi events tag paths m (Start (unfinished tag)) (after_start d tag false) (after_unfinished s esi events tag h) stands in
-    let held = subst (λ active. HoldOnce paths (ranges_to_run m.program m.items active) (LeftMatches d.open_elements)) (sym here.active)
-    (ranges_hold_left_matches s paths m.program m.items d.open_elements closed here.program here.items) in
-    let report = runs_give_reports s paths m.program (ranges_to_run m.program m.items m.active) e d.open_elements closed here.program held in
-    let whole : run m.program true e context left ≡ context_of m.program true e (all_places (ranges_to_run m.program m.items m.active)) =
-    requests_finish m.program true e (ranges_to_run m.program m.items m.active) context left request tag.attributes tag.self_closing tag.finish in
+    let held = ranges_hold_left_matches s paths m.program m.items d.open_elements closed here.program here.items in
+    let report = runs_give_reports s paths m.program (ranges_to_run m.program m.items) e d.open_elements closed here.program held in
+    let whole : run m.program true e context left ≡ context_of m.program true e (all_places (ranges_to_run m.program m.items)) =
+    requests_finish m.program true e (ranges_to_run m.program m.items) context left request tag.attributes tag.self_closing tag.finish in
     let enough = ordered.enough in
     for_on s esi events tag paths (finished m (has_content esi tag) tag.name (run m.program true e context left)) (Start tag) (after_start d tag (has_content esi tag)) (after_finished s esi events tag finish)
     (subst (λ c. StandsOn s paths (finished m (has_content esi tag) tag.name c) (after_start d tag (has_content esi tag)) (max (longest s esi events) (length (after_start d tag (has_content esi tag)).open_elements))) (sym whole)
-    (by_content s paths d (longest s esi events) ordered m tag here (context_of m.program true e (all_places (ranges_to_run m.program m.items m.active))) report.jumps report.hereditary_jumps (has_content esi tag)))
+    (by_content s paths d (longest s esi events) ordered m tag here (context_of m.program true e (all_places (ranges_to_run m.program m.items))) report.jumps report.hereditary_jumps (has_content esi tag)))
   where
     by_content : (s : Selectors) (paths : List Path) (d : Document) (most : ℕ) (ordered : IsOrdered d most) (m : Machine) (tag : StartTag) (here : StandsOn s paths m (after_start d tag false) (max most (length d.open_elements))) (c : Context)
         → HasRanges jumps_of paths m.program (Matches (element_of d tag) d.open_elements) c.jumps

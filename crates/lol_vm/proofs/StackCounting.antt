@@ -100,7 +100,6 @@ module _ {E : Type 0} where
       let after = with_typed s (option_map (λ ts. typed.counted_by_type ts (length (items_in s)) (local_name name)) (typed_in s)) in
       subst (λ o. KeepsMachine (counted_if after o) (counted m name)) (sym none_last) (record {
         items = keeps.items;
-        active = keeps.active;
         root_children = (λ i. counted_root (no_children i) (keeps.root_children i));
         children = ap counted_last no_children ∙ (sym no_children ∙ keeps.children);
         typed = subst (λ top. KeepsTyped (option_map (λ ts. typed.counted_by_type ts top (local_name name)) (typed_in s)) m.program.by_type (length m.items) (counted_typed m.typed (length m.items) name)) count
@@ -121,7 +120,6 @@ module _ {E : Type 0} where
       let after = with_typed s (option_map (λ ts. typed.counted_by_type ts (length (items_in s)) (local_name name)) (typed_in s)) in
       subst (λ o. KeepsMachine (counted_if after o) (counted m name)) (sym here) (record {
         items = keeps.items ∙ (ap items_shown whole ∙ (shown_push item_shown end.front end.last ∙ (sym (shown_push item_shown end.front (counted_item end.last)) ∙ sym (ap items_shown set))));
-        active = keeps.active;
         root_children = ap (λ cs. counted_root cs m.root_children) children ∙ keeps.root_children;
         children = ap counted_last children ∙ (sym (shown_push (λ (y : StackItemOf Name E). y.child_counter) end.front (counted_item end.last)) ∙ sym (ap children_shown set));
         typed = subst (λ top. KeepsTyped (option_map (λ ts. typed.counted_by_type ts top (local_name name)) (typed_in s)) m.program.by_type (length m.items) (counted_typed m.typed (length m.items) name)) count

@@ -8,15 +8,14 @@ use Rattle.std.proofs.lemmas.Iterator.Adapters.{position_from-zero}
 use Rattle.std.proofs.lemmas.List.{reverse-append}
 use Rattle.lol_base.specs.Names.{lowercased}
 use Rattle.lol_base.specs.LocalNames.{Name, local_name}
-use Rattle.lol_vm.specs.Machines.{OpenItem, active_of}
+use Rattle.lol_vm.specs.Machines.{OpenItem}
 use Rattle.lol_vm.specs.Standing.{Machine, ended}
 use Rattle.lol_stack.specs.Stacks.{items_in, place_to_close, IsEndedAt, IsEnded}
 use Rattle.lol_stack.specs.SoundStacks.{last_place_from, last_place, IsSound}
-use Rattle.lol_vm.specs.StackMachines.{item_shown, items_shown, in_lower_case, KeepsMachine}
+use Rattle.lol_vm.specs.StackMachines.{item_shown, items_shown, KeepsMachine}
 use Rattle.lol_stack.specs.declared.stack_item.StackItemOf.{StackItemOf}
 use Rattle.lol_stack.specs.declared.stack.StackOf.{StackOf}
 use Rattle.lol_stack.specs.declared.stack.StackNames.{StackNames}
-use Rattle.lol_vm.proofs.Runs.{position-map}
 use Rattle.lol_stack.specs.SoundLaws.{ends_at_last}
 use Rattle.lol_vm.proofs.StackMachines.{shown_length, items_counted, place_of_last, ended_at_last_keeps}
 
@@ -80,13 +79,13 @@ module _ (name : List ℕ) where
   pub place_is_last : {E : Type 0} (s : StackOf Name StackNames E) (m : Machine) → KeepsMachine s m → place_of_last m name ≡ last_place (items_in s) (local_name name)
   place_is_last s m keeps =
       let count = items_counted s m keeps in
-      same_option (λ k. length m.items - (k + 1)) (from_last 0 (length (items_in s))) (λ k. omega (arith, count)) (position (λ item. is_named (in_lower_case item)) m.items)
-      ∙ (ap (option_map (from_last 0 (length (items_in s)))) (sym (position-map is_named in_lower_case m.items) ∙ (ap (position is_named) keeps.items ∙ position_from-zero is_named (items_shown (items_in s))))
+      same_option (λ k. length m.items - (k + 1)) (from_last 0 (length (items_in s))) (λ k. omega (arith, count)) (position is_named m.items)
+      ∙ (ap (option_map (from_last 0 (length (items_in s)))) (ap (position is_named) keeps.items ∙ position_from-zero is_named (items_shown (items_in s)))
       ∙ last_is 0 (items_in s))
 
 -- An end tag closes what it closes on the machine, where the stack's lists are those of its elements.
 pub ending_stack_keeps : {E : Type 0} → (old new : StackOf Name StackNames E) (m : Machine) (name : List ℕ)
-    → KeepsMachine old m → m.active ≡ active_of m.items → IsSound old → IsEnded old (local_name name) new → KeepsMachine new (ended m name)
-ending_stack_keeps old new m name keeps active sound ended =
+    → KeepsMachine old m → IsSound old → IsEnded old (local_name name) new → KeepsMachine new (ended m name)
+ending_stack_keeps old new m name keeps sound ended =
     let place : place_to_close old (local_name name) ≡ place_of_last m name = ends_at_last old (local_name name) sound ∙ sym (place_is_last name old m keeps) in
-    ended_at_last_keeps old new m name keeps active (subst (λ o. IsEndedAt o old new) place ended)
+    ended_at_last_keeps old new m name keeps (subst (λ o. IsEndedAt o old new) place ended)

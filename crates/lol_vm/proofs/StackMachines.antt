@@ -1,31 +1,29 @@
 -- Stacks that keep what a machine keeps.
 use Rattle.lol_vm.specs.PlaceRuns.{Context}
 use Rattle.lol_program.specs.Programs.{Program}
-use Rattle.std.proofs.Common.{◌≡◌, ℕ, suc, ◌+◌, ◌-◌, ◌<◌, ◌≤◌, Bool, true, false, cond, List, [], ◌∷◌, ◌++◌, length, map, filter, reverse, take, drop, position, Option, Some, None, refl, sym, ap, ◌∙◌, subst, arith}
+use Rattle.std.proofs.Common.{◌≡◌, ℕ, suc, ◌+◌, ◌-◌, ◌<◌, ◌≤◌, Bool, true, false, cond, List, [], ◌∷◌, ◌++◌, length, map, reverse, take, drop, position, Option, Some, None, refl, sym, ap, ◌∙◌, subst, arith}
 use Rattle.std.specs.Prelude.{nat_lt, nat_le, if◌then◌else◌}
-use Rattle.std.specs.List.{drop-map, take-map}
+use Rattle.std.specs.List.{take-map}
 use Rattle.std.specs.Option.{option_map}
 use Rattle.std.proofs.lemmas.Bool.Decides.{nat_tests}
 use Rattle.std.proofs.lemmas.List.Quantifiers.{position-Some}
 use Rattle.std.proofs.lemmas.List.{length-drop, map-append, reverse-append, length-map, length-reverse}
-use Rattle.std.specs.declared.ops.Range.{Range}
-use Rattle.lol_base.specs.Names.{same_name}
+use Rattle.std.specs.Str.{bytes_eq}
+use Rattle.lol_base.specs.Names.{lowercased}
 use Rattle.lol_base.specs.LocalNames.{Name, local_name}
 use Rattle.lol_memory.specs.LimitedVec.{LimitedVec}
 use Rattle.lol_memory.specs.Slots.{slots_after}
 use Rattle.lol_memory.specs.SlotLaws.{slots_pushed}
-use Rattle.lol_stack.specs.Active.{activated}
-use Rattle.lol_vm.specs.Machines.{OpenItem, active_of}
+use Rattle.lol_vm.specs.Machines.{OpenItem}
 use Rattle.lol_stack.specs.TypedCounts.{TypedCount, cut_to}
 use Rattle.lol_vm.specs.Standing.{Machine, cut, closed_count, ended, new_machine, opened}
 use Rattle.lol_stack.specs.TypedLaws.{levels_in}
 use Rattle.lol_stack.specs.ClimbLaws.{climb_lower, climb_cut}
 use Rattle.lol_stack.specs.Stacks.{items_in, typed_in, IsSame, IsClosed, IsEndedAt, IsPushed}
-use Rattle.lol_vm.specs.StackMachines.{item_shown, items_shown, children_shown, in_lower_case, KeepsTyped, KeepsMachine, IsNew, IsItemOf}
+use Rattle.lol_vm.specs.StackMachines.{item_shown, items_shown, children_shown, KeepsTyped, KeepsMachine, IsNew, IsItemOf}
 use Rattle.lol_stack.specs.declared.stack_item.StackItemOf.{StackItemOf}
 use Rattle.lol_stack.specs.declared.stack.StackOf.{StackOf}
 use Rattle.lol_stack.specs.declared.stack.StackNames.{StackNames}
-use Rattle.lol_vm.proofs.Kept.{active_drop}
 use Rattle.lol_vm.proofs.Runs.{drop-reverse}
 use Rattle.lol_vm.proofs.TypedLevels.{cut_to-all, shown_cut as typed_cut}
 
@@ -47,12 +45,11 @@ keeps_typed_above (Some ts) by_type a b counts h keeps = (keeps.0, climb_lower a
 
 module _ {E : Type 0} where
   pub items_counted : (s : StackOf Name StackNames E) (m : Machine) → KeepsMachine s m → length m.items ≡ length (items_in s)
-  items_counted s m keeps = sym (length-map m.items in_lower_case) ∙ (ap length keeps.items ∙ shown_length item_shown (items_in s))
+  items_counted s m keeps = ap length keeps.items ∙ shown_length item_shown (items_in s)
 
   pub new_stack_keeps : (s : StackOf Name StackNames E) (p : Program) (item_bytes : ℕ) → IsNew s p.by_type item_bytes → KeepsMachine s (new_machine p item_bytes)
   new_stack_keeps s p item_bytes new = record {
     items = sym (ap (λ (v : LimitedVec (StackItemOf Name E)). items_shown v.items) new.items);
-    active = sym new.active;
     root_children = sym new.root;
     children = sym (ap (λ (v : LimitedVec (StackItemOf Name E)). children_shown v.items) new.items);
     typed = subst (λ typed. KeepsTyped typed p.by_type 0 (λ level name. 0)) (sym new.typed) (by_test p.by_type);
@@ -67,7 +64,6 @@ module _ {E : Type 0} where
   pub same_stack_keeps : (old new : StackOf Name StackNames E) (m : Machine) → KeepsMachine old m → IsSame old new → KeepsMachine new m
   same_stack_keeps old new m keeps same = record {
     items = keeps.items ∙ sym (ap (λ (v : LimitedVec (StackItemOf Name E)). items_shown v.items) same.items);
-    active = keeps.active ∙ sym same.active;
     root_children = keeps.root_children ∙ sym same.root;
     children = keeps.children ∙ sym (ap (λ (v : LimitedVec (StackItemOf Name E)). children_shown v.items) same.items);
     typed = subst (λ typed. KeepsTyped typed m.program.by_type (length m.items) m.typed) (sym same.typed) keeps.typed;
@@ -83,8 +79,7 @@ module _ {E : Type 0} where
       record {
         items = (λ i. record { name = sym (ap (λ (n : Name). n.lowercased) is.named) i; jumps = is.jumps i; hereditary_jumps = is.hereditary_jumps i } ∷ keeps.items i)
             ∙ (sym (shown_push item_shown (items_in old) item) ∙ sym (ap items_shown items));
-        active = (λ i. activated (keeps.active i) (count i) (is.hereditary_jumps i)) ∙ sym push.active;
-        root_children = keeps.root_children ∙ sym push.root;
+            root_children = keeps.root_children ∙ sym push.root;
         children = (λ i. sym is.children i ∷ keeps.children i)
             ∙ (sym (shown_push (λ (x : StackItemOf Name E). x.child_counter) (items_in old) item) ∙ sym (ap children_shown items));
         typed = subst (λ typed. KeepsTyped typed m.program.by_type (suc (length m.items)) m.typed) (sym push.typed) (keeps_typed_above (typed_in old) m.program.by_type (length m.items) (suc (length m.items)) m.typed (omega arith) keeps.typed);
@@ -121,7 +116,7 @@ keeps_typed_stray (Some ts) by_type top counts keeps =
 
 -- the place, from the outermost on, of the innermost item of a name
 abbrev pub place_of_last : Machine → List ℕ → Option ℕ
-place_of_last m name = option_map (λ k. length m.items - (k + 1)) (position (λ (item : OpenItem). same_name item.name name) m.items)
+place_of_last m name = option_map (λ k. length m.items - (k + 1)) (position (λ (item : OpenItem). bytes_eq item.name (lowercased name)) m.items)
 
 found_within : (p : OpenItem → Bool) (xs : List OpenItem) (k : ℕ) → position p xs ≡ Some k → k < length xs
 found_within p xs k is = (position-Some p xs k (record { name = []; jumps = []; hereditary_jumps = [] }) is).0
@@ -133,9 +128,8 @@ module _ {E : Type 0} (old new : StackOf Name StackNames E) (m : Machine) (keeps
       let count = items_counted old m keeps in
       let left : length (drop n m.items) ≡ place = length-drop n m.items ∙ omega (arith, sizes, count) in
       record {
-        items = sym (drop-map in_lower_case n m.items) ∙ (ap (drop n) keeps.items ∙ (shown_cut item_shown (items_in old) n place sizes ∙ sym (ap items_shown items)));
-        active = (λ i. filter (λ (a : Range ℕ × ℕ). nat_lt a.1 (left i)) (keeps.active i)) ∙ sym closed.active;
-        root_children = keeps.root_children ∙ sym closed.root;
+        items = ap (drop n) keeps.items ∙ (shown_cut item_shown (items_in old) n place sizes ∙ sym (ap items_shown items));
+            root_children = keeps.root_children ∙ sym closed.root;
         children = ap (drop n) keeps.children ∙ (shown_cut (λ (x : StackItemOf Name E). x.child_counter) (items_in old) n place sizes ∙ sym (ap children_shown items));
         typed = subst (λ typed. KeepsTyped typed m.program.by_type (length (drop n m.items)) (cut n m).typed) (sym closed.typed)
             (subst (λ top. KeepsTyped (option_map (cut_to place) (typed_in old)) m.program.by_type top (λ level name. if nat_le level top then m.typed level name else 0)) (sym left)
@@ -144,26 +138,25 @@ module _ {E : Type 0} (old new : StackOf Name StackNames E) (m : Machine) (keeps
         slots = keeps.slots ∙ sym (ap (λ (v : LimitedVec (StackItemOf Name E)). v.slots) closed.items);
       }
 
-  stray_keeps : m.active ≡ active_of m.items → IsSame old new → KeepsMachine new (cut 0 m)
-  stray_keeps active same =
+  stray_keeps : IsSame old new → KeepsMachine new (cut 0 m)
+  stray_keeps same =
       let kept = same_stack_keeps old new m keeps same in
       record {
         items = kept.items;
-        active = (ap (filter (λ (a : Range ℕ × ℕ). nat_lt a.1 (length m.items))) active ∙ (active_drop 0 m.items ∙ sym active)) ∙ kept.active;
-        root_children = kept.root_children;
+            root_children = kept.root_children;
         children = kept.children;
         typed = keeps_typed_stray (typed_in new) m.program.by_type (length m.items) m.typed kept.typed;
         item_bytes = kept.item_bytes;
         slots = kept.slots;
       }
 
-  by_place : m.active ≡ active_of m.items → (o : Option ℕ) → ((k : ℕ) → o ≡ Some k → k < length m.items) → IsEndedAt (option_map (λ k. length m.items - (k + 1)) o) old new → KeepsMachine new (cut (closed_count o) m)
-  by_place active None within ended = stray_keeps active ended
-  by_place active (Some k) within ended =
+  by_place : (o : Option ℕ) → ((k : ℕ) → o ≡ Some k → k < length m.items) → IsEndedAt (option_map (λ k. length m.items - (k + 1)) o) old new → KeepsMachine new (cut (closed_count o) m)
+  by_place None within ended = stray_keeps ended
+  by_place (Some k) within ended =
       let below = within k refl in
       let count = items_counted old m keeps in
       cut_keeps (k + 1) (length m.items - (k + 1)) (omega (arith, below, count)) ended
 
-pub ended_at_last_keeps : {E : Type 0} (old new : StackOf Name StackNames E) (m : Machine) (name : List ℕ) → KeepsMachine old m → m.active ≡ active_of m.items → IsEndedAt (place_of_last m name) old new → KeepsMachine new (ended m name)
-ended_at_last_keeps old new m name keeps active ended =
-    by_place old new m keeps active (position (λ (item : OpenItem). same_name item.name name) m.items) (λ k is. found_within (λ (item : OpenItem). same_name item.name name) m.items k is) ended
+pub ended_at_last_keeps : {E : Type 0} (old new : StackOf Name StackNames E) (m : Machine) (name : List ℕ) → KeepsMachine old m → IsEndedAt (place_of_last m name) old new → KeepsMachine new (ended m name)
+ended_at_last_keeps old new m name keeps ended =
+    by_place old new m keeps (position (λ (item : OpenItem). bytes_eq item.name (lowercased name)) m.items) (λ k is. found_within (λ (item : OpenItem). bytes_eq item.name (lowercased name)) m.items k is) ended

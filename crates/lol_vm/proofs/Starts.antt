@@ -1,9 +1,9 @@
 -- What the machine of the code runs for a start tag, and what that gives.
-use Rattle.std.proofs.Common.{◌≡◌, ℕ, suc, zero, ◌+◌, ◌-◌, ◌<◌, ◌≤◌, ◌^◌, Bool, true, false, cond, List, [], ◌∷◌, ◌++◌, length, map, drop, take, get_or, All, Option, Some, None, inl, inr, refl, sym, ap, ◌∙◌, subst, arith}
+use Rattle.std.proofs.Common.{◌≡◌, ℕ, suc, zero, reverse, ◌+◌, ◌-◌, ◌<◌, ◌≤◌, ◌^◌, Bool, true, false, cond, List, [], ◌∷◌, ◌++◌, length, map, drop, take, get_or, All, Option, Some, None, inl, inr, refl, sym, ap, ◌∙◌, subst, arith}
 use Rattle.std.specs.Prelude.{slice_get, if◌then◌else◌, count_by}
 use Rattle.std.proofs.lemmas.List.Concat.{length-flat_map}
 use Rattle.std.proofs.lemmas.List.Sums.{count_by-le-length}
-use Rattle.std.proofs.lemmas.List.{length-map, length-drop}
+use Rattle.std.proofs.lemmas.List.{length-map, length-drop, length-reverse, map-append, reverse-append, reverse-reverse}
 use Rattle.std.proofs.lemmas.List.FromFn.{length-range_with_len}
 use Rattle.std.proofs.lemmas.List.Elements.{All-take}
 use Rattle.std.specs.Option.{option_map}
@@ -33,11 +33,15 @@ use Rattle.lol_vm.specs.InstructionRuns.{AreRunnable, IsInsideOf, all_at, value_
 use Rattle.lol_stack.specs.WithRange.{no_range}
 use Rattle.lol_vm.specs.InstructionLaws.{AreRangesOf, AreAsOpen}
 use Rattle.lol_vm.specs.MachineLaws.{WholeStart, started_by_names, starts_open, from_number}
-use Rattle.lol_vm.specs.Machines.{OpenItem, AreItems, HoldOnce, LeftMatches, active_of, last_jumps, ranges_of_active, ranges_to_run}
+use Rattle.lol_base.specs.ListLaws.{reverse-map}
+use Rattle.lol_stack.specs.Active.{activated, active_ranges_of}
+use Rattle.lol_stack.specs.SoundRangeLaws.{active_after-append}
+use Rattle.lol_stack.specs.SoundStacks.{IsSound, hereditary_jumps_in}
+use Rattle.lol_vm.specs.Machines.{AreItems, HoldOnce, LeftMatches, active_of, last_jumps, ranges_of_active, ranges_to_run}
 use Rattle.lol_vm.specs.Matching as matching
 use Rattle.lol_vm.specs.PlaceRuns.{Context, no_context, context_of, branch, is_open_at, value_at, first_open, run, run_by_names, step_by_names, step_with_attributes}
-use Rattle.lol_vm.specs.StackMachines.{KeepsMachine, in_lower_case, item_shown, items_shown}
-use Rattle.lol_stack.specs.Stacks.{items_in}
+use Rattle.lol_vm.specs.StackMachines.{KeepsMachine, item_shown, items_shown}
+use Rattle.lol_stack.specs.Stacks.{items_in, active_in}
 use Rattle.lol_vm.specs.Standing.{Machine, ranges_of_machine}
 use Rattle.lol_vm.specs.TagRuns.{AreTried, number_of, ranges_from, jumps_in, jumps_of_item, ranges_to_run_in, sight_in}
 use Rattle.lol_vm.specs.Vms.{content_of}
@@ -72,10 +76,6 @@ around (x ∷ xs) (suc k) d within =
 
 -- 2. What a stack shows
 
-last_in_lower : (items : List OpenItem) → last_jumps (map in_lower_case items) ≡ last_jumps items
-last_in_lower [] = refl
-last_in_lower (item ∷ items) = refl
-
 last_shown : {E : Type 0} (items : List (StackItemOf Name E)) → last_jumps (items_shown items) ≡ jumps_of_item (slice_get items (length items - 1))
 last_shown [] = refl
 last_shown (x ∷ xs) =
@@ -85,17 +85,36 @@ last_shown (x ∷ xs) =
     ∙ sym (ap (λ ys. jumps_of_item (slice_get ys (length ys - 1))) end.whole
     ∙ (ap (λ k. jumps_of_item (slice_get (end.front ++ end.last ∷ []) k)) (last_place end.front end.last) ∙ ap jumps_of_item (last_at end.front end.last))))
 
+-- active ranges from the innermost item on
+active_turned : {E : Type 0} (items : List (StackItemOf Name E)) → active_of (map item_shown items) ≡ active_ranges_of (hereditary_jumps_in (reverse items))
+active_turned [] = refl
+active_turned (item ∷ items) =
+    let more : hereditary_jumps_in (reverse (item ∷ items)) ≡ hereditary_jumps_in (reverse items) ++ item.hereditary_jumps ∷ [] =
+    ap hereditary_jumps_in (reverse-append (item ∷ []) items) ∙ map-append (λ (x : StackItemOf Name _). x.hereditary_jumps) (reverse items) (item ∷ []) in
+    let count : length (map item_shown items) ≡ 0 + length (hereditary_jumps_in (reverse items)) =
+    omega (arith, length-map items item_shown, length-map (reverse items) (λ (x : StackItemOf Name _). x.hereditary_jumps), length-reverse items) in
+    (λ i. activated (active_turned items i) (count i) item.hereditary_jumps)
+    ∙ (sym (active_after-append [] 0 (hereditary_jumps_in (reverse items)) (item.hereditary_jumps ∷ [])) ∙ sym (ap active_ranges_of more))
+
+-- those of a machine's items are those of a sound stack
+active_kept : {E : Type 0} (stack : StackOf Name StackNames E) (m : Machine) → KeepsMachine stack m → IsSound stack → active_in stack ≡ active_of m.items
+active_kept stack m keeps sound =
+    sound.active
+    ∙ (ap (λ xs. active_ranges_of (hereditary_jumps_in xs)) (sym (reverse-reverse (items_in stack)))
+    ∙ (sym (active_turned (reverse (items_in stack)))
+    ∙ (ap active_of (sym (reverse-map item_shown (items_in stack))) ∙ sym (ap active_of keeps.items))))
+
 -- the ranges that the code runs are those of the machine
-pub ranges_shown : {E : Type 0} (stack : StackOf Name StackNames E) (m : Machine) (prog : Program) → KeepsMachine stack m → m.program ≡ program_shown prog
+pub ranges_shown : {E : Type 0} (stack : StackOf Name StackNames E) (m : Machine) (prog : Program) → KeepsMachine stack m → IsSound stack → m.program ≡ program_shown prog
     → ranges_to_run_in prog stack ≡ ranges_of_machine m
-ranges_shown stack m prog keeps is =
-    let jumps : jumps_in stack ≡ last_jumps m.items = sym (sym (last_in_lower m.items) ∙ (ap last_jumps keeps.items ∙ last_shown (items_in stack))) in
-    λ i. sym (ap (λ (p : programs.Program). p.entry) is) i ∷ (jumps i ++ ranges_of_active (sym keeps.active i))
+ranges_shown stack m prog keeps sound is =
+    let jumps : jumps_in stack ≡ last_jumps m.items = sym (ap last_jumps keeps.items ∙ last_shown (items_in stack)) in
+    λ i. sym (ap (λ (p : programs.Program). p.entry) is) i ∷ (jumps i ++ ranges_of_active (active_kept stack m keeps sound i))
 
 -- 3. What is run
 
-module _ {E : Type 0} (s : Selectors) (paths : List Path) (m : Machine) (outer : List Element) (closed : AreClosed s) (program : IsProgramOf s paths m.program) (items : AreItems paths m.program m.items outer) (active : m.active ≡ active_of m.items)
-    (stack : StackOf Name StackNames E) (prog : Program) (keeps : KeepsMachine stack m) (is : m.program ≡ program_shown prog) where
+module _ {E : Type 0} (s : Selectors) (paths : List Path) (m : Machine) (outer : List Element) (closed : AreClosed s) (program : IsProgramOf s paths m.program) (items : AreItems paths m.program m.items outer)
+    (stack : StackOf Name StackNames E) (sound : IsSound stack) (prog : Program) (keeps : KeepsMachine stack m) (is : m.program ≡ program_shown prog) where
   abbrev ranges : List (Range ℕ)
   ranges = ranges_of_machine m
 
@@ -106,7 +125,7 @@ module _ {E : Type 0} (s : Selectors) (paths : List Path) (m : Machine) (outer :
   instructions = prog.instructions.items
 
   pub held : HoldOnce paths ranges (LeftMatches outer)
-  held = subst (λ a. HoldOnce paths (ranges_to_run m.program m.items a) (LeftMatches outer)) (sym active) (ranges_hold_left_matches s paths m.program m.items outer closed program items)
+  held = ranges_hold_left_matches s paths m.program m.items outer closed program items
 
   shown : m.program.instructions ≡ code_of m.program.by_type instructions
   shown = ap (λ (p : programs.Program). p.instructions) is ∙ ap (λ b. code_of b instructions) (sym (ap (λ (p : programs.Program). p.by_type) is))
@@ -116,8 +135,7 @@ module _ {E : Type 0} (s : Selectors) (paths : List Path) (m : Machine) (outer :
 
   inside : All (IsInsideOf instructions) code_ranges
   inside = all_among (IsInsideOf instructions) code_ranges (λ r a.
-      let among : Among (ranges_to_run m.program m.items (active_of m.items)) r =
-      subst (λ xs. Among (ranges_to_run m.program m.items xs) r) active (subst (λ rs. Among rs r) (ranges_shown stack m prog keeps is) a) in
+      let among : Among (ranges_to_run m.program m.items) r = subst (λ rs. Among rs r) (ranges_shown stack m prog keeps sound is) a in
       let within = ranges_are_inside s paths m.program m.items outer closed program items r among in
       (within.0, omega (arith, within.1, as_many)))
 
@@ -129,7 +147,7 @@ module _ {E : Type 0} (s : Selectors) (paths : List Path) (m : Machine) (outer :
     as_open = instructions_are_as_open m.program m.program.by_type e instructions code_ranges are_ranges
 
     pub all_shown : all_places code_ranges ≡ all_places ranges
-    all_shown = ap all_places (ranges_shown stack m prog keeps is)
+    all_shown = ap all_places (ranges_shown stack m prog keeps sound is)
 
     pub whole : (content : Bool) → WholeStart s m.program ranges e outer content
     whole content = stopped_starts_are_whole s paths m.program ranges e outer content closed program held
@@ -275,8 +293,8 @@ module _ (p : programs.Program) (e : Element) where
       by_test false None later n h = cc
       by_test false (Some k) later n h = let next : suc k ≡ n = cc in let within = later k refl in omega (arith, next, within)
 
-module _ {E : Type 0} (s : Selectors) (paths : List Path) (m : Machine) (outer : List Element) (closed : AreClosed s) (program : IsProgramOf s paths m.program) (items : AreItems paths m.program m.items outer) (active : m.active ≡ active_of m.items)
-    (stack : StackOf Name StackNames E) (prog : Program) (keeps : KeepsMachine stack m) (is : m.program ≡ program_shown prog)
+module _ {E : Type 0} (s : Selectors) (paths : List Path) (m : Machine) (outer : List Element) (closed : AreClosed s) (program : IsProgramOf s paths m.program) (items : AreItems paths m.program m.items outer)
+    (stack : StackOf Name StackNames E) (sound : IsSound stack) (prog : Program) (keeps : KeepsMachine stack m) (is : m.program ≡ program_shown prog)
     (ids : E → Ids) (with_ids : E → Ids → E) (lends : (w : E) (more : Ids) → ids (with_ids w more) ≡ more) (e : Element) (name : Name) (seen : sight_in stack name ≡ sight_of m.program.by_type e) where
   abbrev p : programs.Program
   p = m.program
@@ -291,10 +309,10 @@ module _ {E : Type 0} (s : Selectors) (paths : List Path) (m : Machine) (outer :
   rs = ranges_of_machine m
 
   are : AreRangesOf p p.by_type all tag_code
-  are = are_ranges s paths m outer closed program items active stack prog keeps is
+  are = are_ranges s paths m outer closed program items stack sound prog keeps is
 
   same_places : all_places tag_code ≡ all_places rs
-  same_places = all_shown s paths m outer closed program items active stack prog keeps is e
+  same_places = all_shown s paths m outer closed program items stack sound prog keeps is e
 
   module _ (old new : ExecutionCtx E) (before after : Tries) (stop : Option Stop) (tried : AreTried ids with_ids (sight_in stack name) all tag_code old new before after stop) where
     pub stays : StaysThe old new
@@ -304,7 +322,7 @@ module _ {E : Type 0} (s : Selectors) (paths : List Path) (m : Machine) (outer :
     stop_shown =
         tried.stops
         ∙ (ap (λ z. first_open_from z 0 (all_at all tag_code)) seen
-        ∙ ((as_open s paths m outer closed program items active stack prog keeps is e).stop ∙ ap (first_open p e) same_places))
+        ∙ ((as_open s paths m outer closed program items stack sound prog keeps is e).stop ∙ ap (first_open p e) same_places))
 
     -- what was gathered is what the run by names gathers
     pub gathered : Gathers ids old.stack_item no_context → Gathers ids new.stack_item (content_of new.with_content (started_by_names p true e rs).context)
@@ -324,13 +342,13 @@ module _ {E : Type 0} (s : Selectors) (paths : List Path) (m : Machine) (outer :
 
     pub gathered_all : (started_by_names p true e rs).context ≡ context_of p true e (all_places rs)
     gathered_all =
-        ap (λ ps. run p true e (started_by_names p true e rs).context ps) (sym none_left) ∙ (whole s paths m outer closed program items active stack prog keeps is e true).whole
+        ap (λ ps. run p true e (started_by_names p true e rs).context ps) (sym none_left) ∙ (whole s paths m outer closed program items stack sound prog keeps is e true).whole
 
     pub names_all : names_counted before ≡ 0 → names_counted after ≡ name_tries s.nodes outer
-    names_all none = omega (arith, none, tried.names, counted s paths m outer closed program items active stack prog keeps is e)
+    names_all none = omega (arith, none, tried.names, counted s paths m outer closed program items stack sound prog keeps is e)
 
     pub no_attributes : 0 ≡ attribute_tries s.nodes e outer
-    no_attributes = ap (count_by (is_open_at p e)) (sym none_left) ∙ (whole s paths m outer closed program items active stack prog keeps is e true).attributes
+    no_attributes = ap (count_by (is_open_at p e)) (sym none_left) ∙ (whole s paths m outer closed program items stack sound prog keeps is e true).attributes
 
     pub no_need : starts_open p e (started_by_names p true e rs).left ≡ false
     no_need = ap (starts_open p e) none_left

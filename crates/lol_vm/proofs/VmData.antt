@@ -45,7 +45,6 @@ module _ {E : Type 0} (w : E) where
     keeps_data : (m : Machine) → KeepsMachine s m → KeepsMachine (with_current s w) m
     keeps_data m k = record {
       items = k.items ∙ sym (ap reverse (same_map item_shown (λ item. refl) last refl));
-      active = k.active;
       root_children = k.root_children;
       children = k.children ∙ sym (ap reverse (same_map (λ (x : StackItemOf Name E). x.child_counter) (λ item. refl) last refl));
       typed = k.typed;

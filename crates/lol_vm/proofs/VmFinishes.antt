@@ -99,7 +99,7 @@ module _ {E : Type 0} (ids : E → Ids) (vm : Vm E) (s : Selectors) (esi : Bool)
   items = subst (λ (x : Document). AreItems pending.stands.paths m.program m.items x.open_elements) (after_unfinished s esi events tag pending.asks) pending.stands.standing.items
 
   are : AreRangesOf m.program m.program.by_type all (ranges_to_run_in vm.program vm.stack)
-  are = are_ranges s pending.stands.paths m d.open_elements pending.stands.closed pending.stands.standing.program items pending.stands.standing.active vm.stack vm.program pending.stands.shows.stack pending.stands.shows.program
+  are = are_ranges s pending.stands.paths m d.open_elements pending.stands.closed pending.stands.standing.program items vm.stack pending.stands.shows.sound vm.program pending.stands.shows.stack pending.stands.shows.program
 
   are_left : AreRangesOf m.program m.program.by_type all left_code
   are_left = record {
@@ -114,11 +114,11 @@ module _ {E : Type 0} (ids : E → Ids) (vm : Vm E) (s : Selectors) (esi : Bool)
   all_count =
       length-flat_map places rs
       ∙ (places_count_tries s pending.stands.paths m.program rs e d.open_elements pending.stands.closed pending.stands.standing.program
-      (held s pending.stands.paths m d.open_elements pending.stands.closed pending.stands.standing.program items pending.stands.standing.active vm.stack vm.program pending.stands.shows.stack pending.stands.shows.program)).names
+      (held s pending.stands.paths m d.open_elements pending.stands.closed pending.stands.standing.program items vm.stack pending.stands.shows.sound vm.program pending.stands.shows.stack pending.stands.shows.program)).names
 
   pub can_finish : length all < 2 ^ 63 → AreRunnable all left_code vm.tries
   can_finish size =
-      let bounds = within_bounds s pending.stands.paths m d.open_elements pending.stands.closed pending.stands.standing.program items pending.stands.standing.active vm.stack vm.program pending.stands.shows.stack pending.stands.shows.program e in
+      let bounds = within_bounds s pending.stands.paths m d.open_elements pending.stands.closed pending.stands.standing.program items vm.stack pending.stands.shows.sound vm.program pending.stands.shows.stack pending.stands.shows.program e in
       let names = pending.names in
       let tried = at_most_one request.point in
       let parts = ap length pending.is_request.parts ∙ length-append pending.is_request.before pending.left in
@@ -134,7 +134,7 @@ module _ {E : Type 0} (ids : E → Ids) (vm : Vm E) (s : Selectors) (esi : Bool)
   tries_all : TriesAreExact s m.program rs e d.open_elements
   tries_all =
       places_count_tries s pending.stands.paths m.program rs e d.open_elements pending.stands.closed pending.stands.standing.program
-      (held s pending.stands.paths m d.open_elements pending.stands.closed pending.stands.standing.program items pending.stands.standing.active vm.stack vm.program pending.stands.shows.stack pending.stands.shows.program)
+      (held s pending.stands.paths m d.open_elements pending.stands.closed pending.stands.standing.program items vm.stack pending.stands.shows.sound vm.program pending.stands.shows.stack pending.stands.shows.program)
 
   -- as many are open among those that are left as the definition tries by attributes
   opens_left : open_among (sight_in vm.stack request.ctx.stack_item.local_name) (all_at all left_code) ≡ attribute_tries s.nodes e d.open_elements
@@ -207,7 +207,7 @@ module _ {E : Type 0} (ids : E → Ids) (vm : Vm E) (s : Selectors) (esi : Bool)
       x = context_of m.program true e (all_places rs)
 
       is_held : HoldOnce pending.stands.paths rs (LeftMatches d.open_elements)
-      is_held = held s pending.stands.paths m d.open_elements pending.stands.closed pending.stands.standing.program items pending.stands.standing.active vm.stack vm.program pending.stands.shows.stack pending.stands.shows.program
+      is_held = held s pending.stands.paths m d.open_elements pending.stands.closed pending.stands.standing.program items vm.stack pending.stands.shows.sound vm.program pending.stands.shows.stack pending.stands.shows.program
 
       given : GivesReport s pending.stands.paths m.program x e d.open_elements
       given = runs_give_reports s pending.stands.paths m.program rs e d.open_elements pending.stands.closed pending.stands.standing.program is_held

@@ -142,7 +142,7 @@ module _ {E : Type 0} where
         machine = ended m name;
         document = after_end d name;
         most = max h.most (length (after_end d name).open_elements);
-        shows = shows_as vm new m (ended m name) h.shows (ending_stack_keeps vm.stack new.stack m name h.shows.stack h.standing.active h.shows.sound is) (sound_after vm.stack new.stack (local_name name) is h.shows.sound)
+        shows = shows_as vm new m (ended m name) h.shows (ending_stack_keeps vm.stack new.stack m name h.shows.stack h.shows.sound is) (sound_after vm.stack new.stack (local_name name) is h.shows.sound)
             refl same_program;
         standing = ended_stands h.selectors h.paths m d h.most h.ordered h.standing name;
         ordered = wider (after_end d name) (length (after_end d name).open_elements) (max h.most (length (after_end d name).open_elements)) (omega arith) (ordered_end d h.most name h.ordered);
@@ -153,7 +153,7 @@ module _ {E : Type 0} where
       → Stands s esi vm events → Stands s esi new (events ++ End name ∷ [])
   stands_ended s esi vm new events name is same_program same_switch same_failed h =
       let m = h.machine in
-      let shown = shows_as vm new m (ended m name) h.shows (ending_stack_keeps vm.stack new.stack m name h.shows.stack h.standing.active h.shows.sound is) (sound_after vm.stack new.stack (local_name name) is h.shows.sound)
+      let shown = shows_as vm new m (ended m name) h.shows (ending_stack_keeps vm.stack new.stack m name h.shows.stack h.shows.sound is) (sound_after vm.stack new.stack (local_name name) is h.shows.sound)
       refl same_program in
       record {
         paths = h.paths;

@@ -172,7 +172,7 @@ module _ {E : Type 0} (ids : E → Ids) (with_ids : E → Ids → E) (lends : (w
   -- what is run for it can be run
   pub can_run : (before : Tries) → names_counted before ≡ 0 → attributes_counted before ≡ 0 → length vm.program.instructions.items < 2 ^ 63 → AreRunnable vm.program.instructions.items (ranges_to_run_in vm.program stack) before
   can_run before no_names no_attributes size =
-      runnable s st.paths (counted m tag.name) d.open_elements st.closed st.standing.program st.standing.items st.standing.active stack vm.program keeps st.shows.program e before no_names no_attributes size
+      runnable s st.paths (counted m tag.name) d.open_elements st.closed st.standing.program st.standing.items stack sound vm.program keeps st.shows.program e before no_names no_attributes size
 
   -- and no more nodes are tried than the definition tries
   pub tried_at_most : (before after next : Tries) → names_counted before ≡ 0 → attributes_counted before ≡ 0 → attributes_counted after ≡ attributes_counted before → next ≡ after → length vm.program.instructions.items < 2 ^ 63
@@ -180,7 +180,7 @@ module _ {E : Type 0} (ids : E → Ids) (with_ids : E → Ids → E) (lends : (w
       → (AreRunnable vm.program.instructions.items (ranges_to_run_in vm.program stack) before → AreWithin (sight_in stack own) vm.program.instructions.items (ranges_to_run_in vm.program stack) before after 0)
       → IsTriedAtMost s esi events tag next
   tried_at_most before after next no_names no_attributes same kept size own is within =
-      let run = run_count s st.paths (counted m tag.name) d.open_elements st.closed st.standing.program st.standing.items st.standing.active stack vm.program keeps st.shows.program e in
+      let run = run_count s st.paths (counted m tag.name) d.open_elements st.closed st.standing.program st.standing.items stack sound vm.program keeps st.shows.program e in
       let most = within (can_run before no_names no_attributes size) in
       record { names = omega (arith, most.names, no_names, run, ap names_counted kept); attributes = omega (arith, same, no_attributes, ap attributes_counted kept) }
 
@@ -211,7 +211,7 @@ module _ {E : Type 0} (ids : E → Ids) (with_ids : E → Ids → E) (lends : (w
         gathered = subst (λ c. Gathers ids ctx.stack_item (content_of c no_context)) (sym content) (new_elements_gather ids name ctx.stack_item new);
         goes_on = (foreign, refl, content);
         stopped = tt;
-        places_left = ap all_places (sym (ranges_shown stack (counted m tag.name) vm.program keeps st.shows.program));
+        places_left = ap all_places (sym (ranges_shown stack (counted m tag.name) vm.program keeps sound st.shows.program));
         names = ap (λ n. n + length (all_places rs)) no_names ∙ omega arith;
         attributes = no_attributes;
       }
@@ -224,16 +224,16 @@ module _ {E : Type 0} (ids : E → Ids) (with_ids : E → Ids → E) (lends : (w
     Tried stop = AreTried ids with_ids (sight_in stack name) vm.program.instructions.items (ranges_to_run_in vm.program stack) ctx new_ctx before after stop
 
     kept : (stop : Option Stop) → Tried stop → StaysThe ctx new_ctx
-    kept stop tried = stays s st.paths (counted m tag.name) d.open_elements st.closed st.standing.program st.standing.items st.standing.active stack vm.program keeps st.shows.program ids with_ids lends e name seen ctx new_ctx before after stop tried
+    kept stop tried = stays s st.paths (counted m tag.name) d.open_elements st.closed st.standing.program st.standing.items stack sound vm.program keeps st.shows.program ids with_ids lends e name seen ctx new_ctx before after stop tried
 
     has_gathered : (stop : Option Stop) → Tried stop → Gathers ids new_ctx.stack_item (content_of new_ctx.with_content (started_by_names m.program true e rs).context)
-    has_gathered stop tried = gathered s st.paths (counted m tag.name) d.open_elements st.closed st.standing.program st.standing.items st.standing.active stack vm.program keeps st.shows.program ids with_ids lends e name seen ctx new_ctx before after stop tried
+    has_gathered stop tried = gathered s st.paths (counted m tag.name) d.open_elements st.closed st.standing.program st.standing.items stack sound vm.program keeps st.shows.program ids with_ids lends e name seen ctx new_ctx before after stop tried
         (new_elements_gather ids name ctx.stack_item new)
 
     -- it stopped
     pub pending_stop : (stop : Stop) → Tried (Some stop) → IsPending ids s esi events tag (record vm { stack = stack; tries = after }) (record { ctx = new_ctx; point = At stop })
     pending_stop stop tried =
-        let open_there = needs s st.paths (counted m tag.name) d.open_elements st.closed st.standing.program st.standing.items st.standing.active stack vm.program keeps st.shows.program ids with_ids lends e name seen ctx new_ctx before after stop tried in
+        let open_there = needs s st.paths (counted m tag.name) d.open_elements st.closed st.standing.program st.standing.items stack sound vm.program keeps st.shows.program ids with_ids lends e name seen ctx new_ctx before after stop tried in
         let asked : asks s e d.open_elements ≡ true = sym answers.asked ∙ or-right_true (not (is_html tag.namespace)) _ open_there in
         let same = kept (Some stop) tried in
         record {
@@ -248,8 +248,8 @@ module _ {E : Type 0} (ids : E → Ids) (with_ids : E → Ids → E) (lends : (w
           gathered = has_gathered (Some stop) tried;
           goes_on = (html, same.content ∙ content);
           stopped = tried.within;
-          places_left = left_places s st.paths (counted m tag.name) d.open_elements st.closed st.standing.program st.standing.items st.standing.active stack vm.program keeps st.shows.program ids with_ids lends e name seen ctx new_ctx before after stop tried;
-          names = names_left s st.paths (counted m tag.name) d.open_elements st.closed st.standing.program st.standing.items st.standing.active stack vm.program keeps st.shows.program ids with_ids lends e name seen ctx new_ctx before after stop tried no_names;
+          places_left = left_places s st.paths (counted m tag.name) d.open_elements st.closed st.standing.program st.standing.items stack sound vm.program keeps st.shows.program ids with_ids lends e name seen ctx new_ctx before after stop tried;
+          names = names_left s st.paths (counted m tag.name) d.open_elements st.closed st.standing.program st.standing.items stack sound vm.program keeps st.shows.program ids with_ids lends e name seen ctx new_ctx before after stop tried no_names;
           attributes = no_tries;
         }
 
@@ -257,12 +257,12 @@ module _ {E : Type 0} (ids : E → Ids) (with_ids : E → Ids → E) (lends : (w
     module _ (tried : Tried None) where
       no_ask : asks s e d.open_elements ≡ false
       no_ask =
-          let closed_all = no_need s st.paths (counted m tag.name) d.open_elements st.closed st.standing.program st.standing.items st.standing.active stack vm.program keeps st.shows.program ids with_ids lends e name seen ctx new_ctx before after tried in
+          let closed_all = no_need s st.paths (counted m tag.name) d.open_elements st.closed st.standing.program st.standing.items stack sound vm.program keeps st.shows.program ids with_ids lends e name seen ctx new_ctx before after tried in
           sym answers.asked ∙ (λ i. not (html i) || closed_all i)
 
       all_gathered : Gathers ids new_ctx.stack_item (content_of (has_content esi tag) (context_of m.program true e (all_places rs)))
       all_gathered =
-          let context = gathered_all s st.paths (counted m tag.name) d.open_elements st.closed st.standing.program st.standing.items st.standing.active stack vm.program keeps st.shows.program ids with_ids lends e name seen ctx new_ctx before after tried in
+          let context = gathered_all s st.paths (counted m tag.name) d.open_elements st.closed st.standing.program st.standing.items stack sound vm.program keeps st.shows.program ids with_ids lends e name seen ctx new_ctx before after tried in
           let here = (kept None tried).content ∙ content in
           subst (λ x. Gathers ids new_ctx.stack_item x) (λ i. content_of (here i) (context i)) (has_gathered None tried)
 
@@ -279,8 +279,8 @@ module _ {E : Type 0} (ids : E → Ids) (with_ids : E → Ids → E) (lends : (w
             asks = no_ask;
             called = subst (λ infos. IsCalledAtEach step f infos g)
                 ((λ i. reports (here i) (is_matched i)) ∙ sym (map-map info_of (λ id. record { id = id; with_content = has_content esi tag }) (matching_ids s.pairs e d.open_elements))) called;
-            names = names_all s st.paths (counted m tag.name) d.open_elements st.closed st.standing.program st.standing.items st.standing.active stack vm.program keeps st.shows.program ids with_ids lends e name seen ctx new_ctx before after tried no_names;
-            attributes = no_tries ∙ no_attributes s st.paths (counted m tag.name) d.open_elements st.closed st.standing.program st.standing.items st.standing.active stack vm.program keeps st.shows.program ids with_ids lends e name seen ctx new_ctx before after tried;
+            names = names_all s st.paths (counted m tag.name) d.open_elements st.closed st.standing.program st.standing.items stack sound vm.program keeps st.shows.program ids with_ids lends e name seen ctx new_ctx before after tried no_names;
+            attributes = no_tries ∙ no_attributes s st.paths (counted m tag.name) d.open_elements st.closed st.standing.program st.standing.items stack sound vm.program keeps st.shows.program ids with_ids lends e name seen ctx new_ctx before after tried;
           }
 
       pub has_content_still : new_ctx.with_content ≡ has_content esi tag

@@ -8,7 +8,7 @@ use Rattle.lol_program.specs.Paths.{last_compound}
 use Rattle.lol_program.specs.Programs.{IsProgramOf}
 use Rattle.lol_vm.specs.Answers.{document}
 use Rattle.lol_vm.specs.Matching.{left_matches}
-use Rattle.lol_vm.specs.Machines.{HoldOnce, LeftMatches, ranges_to_run}
+use Rattle.lol_vm.specs.Machines.{HoldOnce, LeftMatches}
 use Rattle.lol_vm.specs.VmLaws.{RangesHoldOnce, TriesAreFew}
 use Rattle.lol_vm.proofs.Held.{ranges_hold_left_matches}
 use Rattle.lol_vm.proofs.Starts.{ranges_shown}
@@ -19,11 +19,10 @@ ranges_hold_once s esi vm events h =
     let m = h.machine in
     let outer = (document s esi events).open_elements in
     let held = ranges_hold_left_matches s h.paths m.program m.items outer h.closed h.standing.program h.standing.items in
-    let now = subst (λ active. HoldOnce h.paths (ranges_to_run m.program m.items active) (LeftMatches outer)) (sym h.standing.active) held in
     record {
       paths = h.paths;
       program = subst (IsProgramOf s h.paths) h.shows.program h.standing.program;
-      held = subst (λ ranges. HoldOnce h.paths ranges (LeftMatches outer)) (sym (ranges_shown vm.stack m vm.program h.shows.stack h.shows.program)) now;
+      held = subst (λ ranges. HoldOnce h.paths ranges (LeftMatches outer)) (sym (ranges_shown vm.stack m vm.program h.shows.stack h.shows.sound h.shows.program)) held;
     }
 
 fewer : {A : Type 0} (p q : A → Bool) (xs : List A) → count_by (λ x. p x && q x) xs ≤ count_by p xs

@@ -8,7 +8,7 @@ use Rattle.lol_instructions.specs.Compounds.{Decides, with_rest}
 use Rattle.lol_program.specs.Paths.{Path, Selectors}
 use Rattle.lol_program.specs.Programs.{Program, Instruction, AreClosed, IsProgramOf, IsAt, places, all_places}
 use Rattle.lol_vm.specs.Answers.{name_tries, attribute_tries, needs_attributes, matching_ids}
-use Rattle.lol_vm.specs.Machines.{OpenItem, AreItems, HasRanges, Matches, HoldOnce, LeftMatches, active_of, ranges_to_run, jumps_of, hereditary_jumps_of}
+use Rattle.lol_vm.specs.Machines.{OpenItem, AreItems, HasRanges, Matches, HoldOnce, LeftMatches, ranges_to_run, jumps_of, hereditary_jumps_of}
 use Rattle.lol_vm.specs.PlaceRuns.{Context, Stop, no_context, is_open_at, context_of, run, run_by_names}
 
 -- 1. Which places are run
@@ -27,7 +27,7 @@ abbrev pub RangesHoldLeftMatches : Type 0
 RangesHoldLeftMatches =
     (s : Selectors) (paths : List Path) (p : Program) (items : List OpenItem) (elements : List Element)
     → AreClosed s → IsProgramOf s paths p → AreItems paths p items elements
-    → HoldOnce paths (ranges_to_run p items (active_of items)) (LeftMatches elements)
+    → HoldOnce paths (ranges_to_run p items) (LeftMatches elements)
 
 abbrev pub sum_of_lengths : List (Range ℕ) → ℕ
 sum_of_lengths ranges = sum_by (λ r. length (places r)) ranges

@@ -1,14 +1,14 @@
 -- What a machine keeps of the open elements.
 use Rattle.std.specs.Prelude.{ℕ, ◌≡◌, ◌↔◌, true, List, [], ◌∷◌, ◌++◌, map, length, Option, Some, Contains}
 use Rattle.std.specs.declared.ops.Range.{Range}
-use Rattle.lol_base.specs.Names.{same_name}
+use Rattle.lol_base.specs.Names.{lowercased}
 use Rattle.lol_instructions.specs.Tests.{Element}
 use Rattle.lol_program.specs.Paths.{Path}
 use Rattle.lol_vm.specs.Matching.{matches, left_matches}
 use Rattle.lol_stack.specs.Active.{activated}
 use Rattle.lol_program.specs.Programs.{Instruction, Program, IsAt, Once, all_places}
 
--- An open element: its name, and the ranges that it gives to elements right inside it, and to all inside it.
+-- An open element: its name in ASCII lower case, and the ranges that it gives to elements right inside it, and to all inside it.
 pub record OpenItem : Type 0 where
   pub name : List ℕ
   pub jumps : List (Range ℕ)
@@ -35,7 +35,7 @@ hereditary_jumps_of i = i.hereditary_jumps
 
 -- the item of an element inside these ones
 pub record IsItem (paths : List Path) (p : Program) (item : OpenItem) (e : Element) (outer : List Element) : Type 0 where
-  pub name : same_name item.name e.tag.name ≡ true
+  pub name : item.name ≡ lowercased e.tag.name
   pub jumps : HasRanges jumps_of paths p (Matches e outer) item.jumps
   pub hereditary_jumps : HasRanges hereditary_jumps_of paths p (Matches e outer) item.hereditary_jumps
 
@@ -63,8 +63,8 @@ last_jumps (item ∷ outer) = item.jumps
 abbrev pub ranges_of_active : List (Range ℕ × ℕ) → List (Range ℕ)
 ranges_of_active active = map (λ a. a.0) active
 
-abbrev pub ranges_to_run : Program → List OpenItem → List (Range ℕ × ℕ) → List (Range ℕ)
-ranges_to_run p items active = p.entry ∷ (last_jumps items ++ ranges_of_active active)
+abbrev pub ranges_to_run : Program → List OpenItem → List (Range ℕ)
+ranges_to_run p items = p.entry ∷ (last_jumps items ++ ranges_of_active (active_of items))
 
 -- ranges that hold the place of each path with P once, and no other place
 pub record HoldOnce (paths : List Path) (ranges : List (Range ℕ)) (P : Path → Type 0) : Type 0 where

@@ -1,7 +1,6 @@
 -- When a stack keeps what a machine keeps of the open elements.
 use Rattle.std.specs.Prelude.{ℕ, ◌≡◌, Bool, true, false, if◌then◌else◌, List, [], map, reverse, length, Option, Some, None, unwrap_or}
 use Rattle.std.specs.Option.{option_copied}
-use Rattle.lol_base.specs.Names.{lowercased}
 use Rattle.lol_base.specs.StartTags.{StartTag}
 use Rattle.lol_base.specs.LocalNames.{Name, local_name}
 use Rattle.lol_instructions.specs.Compiled.{sight, sight_of}
@@ -33,10 +32,6 @@ module _ {E : Type 0} where
   abbrev pub children_shown : List (StackItemOf Name E) → List ℕ
   children_shown items = reverse (map (λ item. item.child_counter) items)
 
--- an item with its name in ASCII lower case
-abbrev pub in_lower_case : OpenItem → OpenItem
-in_lower_case item = record { name = lowercased item.name; jumps = item.jumps; hereditary_jumps = item.hereditary_jumps }
-
 -- 2. Counts by type
 
 -- what was counted of a name at a level: by its last counter, once those above the level are dropped
@@ -53,8 +48,7 @@ KeepsTyped (Some ts) by_type top typed =
 
 -- A stack keeps the items, active ranges, counters and slots of a machine.
 pub record KeepsMachine {E : Type 0} (s : StackOf Name StackNames E) (m : Machine) : Type 0 where
-  pub items : map in_lower_case m.items ≡ items_shown (items_in s)
-  pub active : m.active ≡ active_in s
+  pub items : m.items ≡ items_shown (items_in s)
   pub root_children : m.root_children ≡ root_count s
   pub children : m.children ≡ children_shown (items_in s)
   pub typed : KeepsTyped (typed_in s) m.program.by_type (length m.items) m.typed

@@ -1,7 +1,8 @@
 -- When a machine stands for events.
-use Rattle.std.specs.Prelude.{ℕ, suc, ◌+◌, ◌≡◌, ◌≤◌, ◌<◌, ◌&&◌, ◌||◌, count_by, ◌==◌, not, Bool, true, false, if◌then◌else◌, nat_lt, nat_le, List, [], ◌∷◌, ◌++◌, map, filter, drop, length, position, Option, Some, None}
+use Rattle.std.specs.Prelude.{ℕ, suc, ◌+◌, ◌≡◌, ◌≤◌, ◌<◌, ◌&&◌, ◌||◌, count_by, ◌==◌, not, Bool, true, false, if◌then◌else◌, nat_le, List, [], ◌∷◌, ◌++◌, map, drop, length, position, Option, Some, None}
 use Rattle.std.specs.declared.ops.Range.{Range}
-use Rattle.lol_base.specs.Names.{same_name}
+use Rattle.std.specs.Str.{bytes_eq}
+use Rattle.lol_base.specs.Names.{lowercased, same_name}
 use Rattle.lol_base.specs.StartTags.{StartTag}
 use Rattle.lol_memory.specs.Slots.{slots, slots_after}
 use Rattle.lol_instructions.specs.Tests.{Element, is_html}
@@ -11,17 +12,15 @@ use Rattle.lol_vm.specs.Documents.{Document, Child, element_of, children_of, typ
 use Rattle.lol_vm.specs.Answers.{document, is_dropped, asks, ascending_once, matching_ids, name_tries, attribute_tries}
 use Rattle.lol_vm.specs.Refusals.{longest}
 use Rattle.lol_program.specs.Programs.{Program, IsProgramOf, AreClosed, all_places}
-use Rattle.lol_vm.specs.Machines.{OpenItem, AreItems, active_of, ranges_to_run}
-use Rattle.lol_stack.specs.Active.{activated}
+use Rattle.lol_vm.specs.Machines.{OpenItem, AreItems, ranges_to_run}
 use Rattle.lol_vm.specs.PlaceRuns.{Context, context_of, is_open_at, run}
 use Rattle.lol_vm.specs.MachineLaws.{IsRequest, starts_open, started_by_names, sum_of_lengths}
 
--- A machine: its program, its open items, the innermost first, with the active ranges; how many children the root and each open
+-- A machine: its program, its open items, the innermost first; how many children the root and each open
 -- element had, and of each name, by level (0 is the root's, then from the outermost element on); the size and number of its slots.
 pub record Machine : Type 0 where
   pub program : Program
   pub items : List OpenItem
-  pub active : List (Range ℕ × ℕ)
   pub root_children : ℕ
   pub children : List ℕ
   pub typed : ℕ → List ℕ → ℕ
@@ -52,7 +51,6 @@ pub record StandsOn (s : Selectors) (paths : List Path) (m : Machine) (d : Docum
   pub program : IsProgramOf s paths m.program
   pub items : AreItems paths m.program m.items d.open_elements
   pub counted : AreCounted m d
-  pub active : m.active ≡ active_of m.items
   pub charged : m.slots ≡ slots m.item_bytes most
 
 -- A machine stands for events, where the places of its program are those of these paths.
@@ -63,7 +61,7 @@ StandsFor s esi paths m events = StandsOn s paths m (document s esi events) (lon
 
 abbrev pub new_machine : Program → ℕ → Machine
 new_machine p item_bytes =
-    record { program = p; items = []; active = []; root_children = 0; children = []; typed = λ level name. 0; item_bytes = item_bytes; slots = 0 }
+    record { program = p; items = []; root_children = 0; children = []; typed = λ level name. 0; item_bytes = item_bytes; slots = 0 }
 
 abbrev pub counted_root : List ℕ → ℕ → ℕ
 counted_root [] root = root + 1
@@ -89,8 +87,7 @@ counted m name =
 abbrev pub opened : Machine → List ℕ → Context → Machine
 opened m name context =
     record m {
-      items = record { name = name; jumps = context.jumps; hereditary_jumps = context.hereditary_jumps } ∷ m.items;
-      active = activated m.active (length m.items) context.hereditary_jumps;
+      items = record { name = lowercased name; jumps = context.jumps; hereditary_jumps = context.hereditary_jumps } ∷ m.items;
       children = 0 ∷ m.children;
       slots = slots_after m.item_bytes m.slots (length m.items);
     }
@@ -100,7 +97,6 @@ abbrev pub cut : ℕ → Machine → Machine
 cut n m =
     record m {
       items = drop n m.items;
-      active = filter (λ a. nat_lt a.1 (length (drop n m.items))) m.active;
       children = drop n m.children;
       typed = λ level name. if nat_le level (length (drop n m.items)) then m.typed level name else 0;
     }
@@ -112,11 +108,11 @@ closed_count (Some place) = place + 1
 
 -- an end tag closes the innermost item of its name and all inside it
 abbrev pub ended : Machine → List ℕ → Machine
-ended m name = cut (closed_count (position (λ item. same_name item.name name) m.items)) m
+ended m name = cut (closed_count (position (λ item. bytes_eq item.name (lowercased name)) m.items)) m
 
 -- the ranges that are run for a start tag
 abbrev pub ranges_of_machine : Machine → List (Range ℕ)
-ranges_of_machine m = ranges_to_run m.program m.items m.active
+ranges_of_machine m = ranges_to_run m.program m.items
 
 -- a start tag, which is counted; where it opens an element, that has all that the ranges give
 abbrev pub started : Machine → Bool → Element → Machine
