@@ -79,7 +79,7 @@ module _ {E : Type 0} where
       record {
         items = (λ i. record { name = sym (ap (λ (n : Name). n.lowercased) is.named) i; jumps = is.jumps i; hereditary_jumps = is.hereditary_jumps i } ∷ keeps.items i)
             ∙ (sym (shown_push item_shown (items_in old) item) ∙ sym (ap items_shown items));
-            root_children = keeps.root_children ∙ sym push.root;
+        root_children = keeps.root_children ∙ sym push.root;
         children = (λ i. sym is.children i ∷ keeps.children i)
             ∙ (sym (shown_push (λ (x : StackItemOf Name E). x.child_counter) (items_in old) item) ∙ sym (ap children_shown items));
         typed = subst (λ typed. KeepsTyped typed m.program.by_type (suc (length m.items)) m.typed) (sym push.typed) (keeps_typed_above (typed_in old) m.program.by_type (length m.items) (suc (length m.items)) m.typed (omega arith) keeps.typed);
@@ -129,7 +129,7 @@ module _ {E : Type 0} (old new : StackOf Name StackNames E) (m : Machine) (keeps
       let left : length (drop n m.items) ≡ place = length-drop n m.items ∙ omega (arith, sizes, count) in
       record {
         items = ap (drop n) keeps.items ∙ (shown_cut item_shown (items_in old) n place sizes ∙ sym (ap items_shown items));
-            root_children = keeps.root_children ∙ sym closed.root;
+        root_children = keeps.root_children ∙ sym closed.root;
         children = ap (drop n) keeps.children ∙ (shown_cut (λ (x : StackItemOf Name E). x.child_counter) (items_in old) n place sizes ∙ sym (ap children_shown items));
         typed = subst (λ typed. KeepsTyped typed m.program.by_type (length (drop n m.items)) (cut n m).typed) (sym closed.typed)
             (subst (λ top. KeepsTyped (option_map (cut_to place) (typed_in old)) m.program.by_type top (λ level name. if nat_le level top then m.typed level name else 0)) (sym left)
@@ -143,7 +143,7 @@ module _ {E : Type 0} (old new : StackOf Name StackNames E) (m : Machine) (keeps
       let kept = same_stack_keeps old new m keeps same in
       record {
         items = kept.items;
-            root_children = kept.root_children;
+        root_children = kept.root_children;
         children = kept.children;
         typed = keeps_typed_stray (typed_in new) m.program.by_type (length m.items) m.typed kept.typed;
         item_bytes = kept.item_bytes;

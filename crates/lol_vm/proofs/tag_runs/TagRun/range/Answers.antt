@@ -14,5 +14,5 @@ returns-then-index-hereditary c =
     let k = c.args.index - (1 + length run.jumps.now) in
     let at : c.args.index ≡ length front + k = omega (arith, c.if-index-hereditary.true) in
     sym (
-      ap (λ n. get_or (ranges_of run) n no_range) at
-      ∙ (get_or-append-add front (ranges_of_active run.hereditary_jumps.now) k no_range ∙ get_or-map (λ (a : Range ℕ × ℕ). a.0) run.hereditary_jumps.now k (no_range, 0)))
+    ap (λ n. get_or (ranges_of run) n no_range) at
+    ∙ (get_or-append-add front (ranges_of_active run.hereditary_jumps.now) k no_range ∙ get_or-map (λ (a : Range ℕ × ℕ). a.0) run.hereditary_jumps.now k (no_range, 0)))
