@@ -1,6 +1,6 @@
 """Draws the figures of bench/results as SVG, one file for each question: needs python3-matplotlib.
 
-    python3 bench/plot.py bench/results/DATE-COMMIT.json bench/results/DATE-COMMIT-scale.json
+    python3 bench/plot.py bench/results/DATE-COMMIT.json bench/results/DATE-COMMIT-scale.json ..
 """
 import json
 import pathlib
@@ -10,10 +10,11 @@ import matplotlib
 
 matplotlib.use("svg")
 from matplotlib import pyplot as plt  # after the choice of its output
+from workloads import LISTS
 
 FOLDER = pathlib.Path(__file__).resolve().parent / "plots"
 GREY = "#808080"
-COLOURS = ["#2a8fd6", "#d9822b", "#3aa657", "#b065c9"]
+COLOURS = ["#2a8fd6", "#d9822b", "#3aa657", "#b065c9", "#d0516b", "#8c7b3f", "#20a0a0"]
 
 # Grey text and lines on no ground of their own are read on light and on dark ones.
 plt.rcParams.update({
@@ -62,24 +63,42 @@ def lines(rows, by, field, names, axes):
 
 
 def growth(recorded):
-    """The time of a start tag by the number of selectors, and the memory by the number of tags."""
-    lists = ["classes", "names", "mixed", "ad list"]
+    """The cost of a start tag by the number of selectors, and the memory by the number of tags."""
+    plots = [
+        ("selectors", "microseconds", list(LISTS), "selectors", "microseconds a start tag"),
+        ("instructions", "instructions", list(LISTS), "selectors", "instructions a start tag"),
+        ("memory", "megabytes", ["tags of a page, 50 selectors", "open elements", "siblings"], "tags", "megabytes"),
+    ]
+    for name, field, kinds, across, up in plots:
+        figure, axes = plt.subplots(figsize=(6, 4))
+        lines(recorded["rows"], "by", field, kinds, axes)
+        axes.set_xlabel(across)
+        axes.set_ylabel(up)
+        kept(figure, name)
+
+
+def peers(recorded):
+    """The tags that each engine searches a second, by the number of selectors."""
     figure, axes = plt.subplots(figsize=(6, 4))
-    lines(recorded["rows"], "by", "microseconds", lists, axes)
+    for colour, name in zip(COLOURS, dict.fromkeys(row["engine"] for row in recorded["peers"])):
+        points = [(row["selectors"], recorded["tags"] / row["later"]) for row in recorded["peers"] if row["engine"] == name]
+        axes.plot(*zip(*points), color=colour, marker="o", markersize=3, label=name)
+    axes.set_xscale("log")
+    axes.set_yscale("log")
+    axes.grid(True, linewidth=0.3)
+    axes.legend(frameon=False, fontsize=8)
     axes.set_xlabel("selectors")
-    axes.set_ylabel("microseconds a start tag")
-    kept(figure, "selectors")
-    figure, axes = plt.subplots(figsize=(6, 4))
-    lines(recorded["rows"], "by", "megabytes", ["open elements", "siblings"], axes)
-    axes.set_xlabel("start tags")
-    axes.set_ylabel("megabytes")
-    kept(figure, "memory")
+    axes.set_ylabel("start tags a second")
+    kept(figure, "peers")
+
+
+KINDS = {"workloads": ratios, "rows": growth, "peers": peers}
 
 
 def main():
     for file in sys.argv[1:]:
         recorded = json.loads(pathlib.Path(file).read_text(encoding="utf-8"))
-        (growth if "rows" in recorded else ratios)(recorded)
+        next(draw for name, draw in KINDS.items() if name in recorded)(recorded)
     print(f"drawn in {FOLDER.name}/")
 
 

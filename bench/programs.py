@@ -24,10 +24,11 @@ def port(given):
 
 
 def run(program, script):
-    """What it writes, and the seconds of one run."""
+    """What it writes, and the seconds of one run. A program may be a list of its words."""
+    words = program if isinstance(program, list) else [program]
     begin = time.perf_counter()
     with open(script, "rb") as file:
-        done = subprocess.run([program], stdin=file, stdout=subprocess.PIPE, env={}, timeout=LIMIT_SECONDS, check=False)
+        done = subprocess.run(words, stdin=file, stdout=subprocess.PIPE, env={}, timeout=LIMIT_SECONDS, check=False)
     return done.stdout, time.perf_counter() - begin
 
 

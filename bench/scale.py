@@ -1,55 +1,61 @@
-"""Measures how the cost of a start tag grows: with selectors, open elements, siblings and attributes.
+"""Measures how the cost of a start tag grows: with selectors, tags, open elements, siblings and attributes.
 
     python3 bench/scale.py [--port PROGRAM] [--beside PROGRAM] [--counts 10,100,..] [--runs N] [--record]
 
-The cost of a start tag is the time of a page less that of a page of one tag, over its start tags.
+The cost of a start tag is that of a page less that of a page of one tag, over its start tags; of a row, that of a script
+less that of an empty one. Instructions are counted where a run takes less than two seconds.
 """
 import argparse
 import json
 import os
 import tempfile
 
-from programs import TOP, circumstances, memory, port, run
-from workloads import LISTS, depth, listed, script, siblings, start, wide
+from programs import TOP, circumstances, instructions, memory, port, run
+from workloads import LISTS, depth, listed, mixed, script, siblings, start, wide
 
 COUNTS = "10,100,1000,10000,100000"
+COUNTED_SECONDS = 2
 
 
-def best(program, text, runs):
-    """The best time of so many runs of a script, and the memory of one."""
+def costs(program, text, runs, count):
+    """The best time of so many runs of a script, the instructions of one if it is short, and its memory."""
     with tempfile.TemporaryDirectory() as folder:
         file = os.path.join(folder, "script")
         with open(file, "wb") as out:
             out.write(text)
-        return min(run(program, file)[1] for _ in range(runs)), memory(program, file)
+        seconds = min(run(program, file)[1] for _ in range(runs))
+        counted = instructions(program, file) if count and seconds < COUNTED_SECONDS else None
+        return seconds, counted, memory(program, file)
 
 
-def by_selectors(programs, kind, count, runs):
-    """Seconds to read a list of selectors, microseconds for a start tag, and megabytes, of each program."""
-    selectors, tags = listed(kind, count)
+def each(whole, less, number):
+    """Microseconds and instructions for each of a number of things, and megabytes: the whole's costs less others."""
+    counted = None if None in (whole[1], less[1]) else round((whole[1] - less[1]) / number)
+    microseconds = round((whole[0] - less[0]) / number * 1e6, 3)
+    return {"microseconds": microseconds, "instructions": counted, "megabytes": whole[2]}
+
+
+def by_selectors(program, kind, number, runs, count):
+    """Seconds to read a list of selectors, and the costs of a start tag."""
+    selectors, tags = listed(kind, number)
     starts = sum(tag.startswith("start") for tag in tags)
-    figures = []
-    for program in programs:
-        read, _ = best(program, script(selectors, [start("br")]), runs)
-        whole, megabytes = best(program, script(selectors, tags), runs)
-        tag = (whole - read) / starts * 1e6
-        figures.append({"read": round(read, 4), "microseconds": round(tag, 3), "megabytes": megabytes})
-    return figures
+    read = costs(program, script(selectors, [start("br")]), runs, count)
+    whole = costs(program, script(selectors, tags), runs, count)
+    return {"read": round(read[0], 4), **each(whole, read, starts)}
 
 
-def by_size(programs, make, size, runs):
-    """Microseconds for each of so many (tags, or attributes of 200 tags), of each program."""
-    figures = []
-    for program in programs:
-        seconds, megabytes = best(program, make(size), runs)
-        figures.append({"microseconds": round(seconds / size * 1e6, 3), "megabytes": megabytes})
-    return figures
+def by_size(program, kind, size, runs, count):
+    """The costs of each of so many."""
+    make, _, times = SIZES[kind]
+    return each(costs(program, make(size), runs, count), costs(program, b"", runs, count), size * times)
 
 
+# What makes a script of a size, the sizes, and how many times it has so many.
 SIZES = {
-    "open elements": (depth, [1000, 10_000, 100_000]),
-    "siblings": (siblings, [1000, 10_000, 100_000]),
-    "attributes of a tag, 200 times": (wide, [10, 100, 1000]),
+    "tags of a page, 50 selectors": (lambda size: mixed(50, size), [1000, 10_000, 100_000, 1_000_000], 1),
+    "open elements": (depth, [1000, 10_000, 100_000], 1),
+    "siblings": (siblings, [1000, 10_000, 100_000], 1),
+    "attributes of a tag": (wide, [10, 100, 1000], 200),
 }
 
 
@@ -57,9 +63,10 @@ def said(name, size, figures):
     parts = [f"{name:32} {size:7d}"]
     for figure, whose in zip(figures, ("", "beside: ")):
         read = f"{figure['read']:.3f} s to read, " if "read" in figure else ""
-        each = "a start tag" if read else "each"
+        unit = "a start tag" if read else "each"
         memory_words = "" if figure["megabytes"] is None else f", {figure['megabytes']:.0f} MB"
-        parts.append(f"{whose}{read}{figure['microseconds']:.2f} us {each}{memory_words}")
+        counted = "" if figure["instructions"] is None else f", {figure['instructions']:,} instructions"
+        parts.append(f"{whose}{read}{figure['microseconds']:.2f} us {unit}{counted}{memory_words}")
     return "; ".join(parts)
 
 
@@ -69,15 +76,16 @@ def main():
     words.add_argument("--beside")
     words.add_argument("--counts", default=COUNTS, help=f"numbers of selectors ({COUNTS})")
     words.add_argument("--runs", type=int, default=3)
+    words.add_argument("--no-instructions", action="store_true", help="leave out valgrind, which takes most of the time")
     words.add_argument("--record", action="store_true", help="keep the figures in bench/results")
     asked = words.parse_args()
     programs = [port(asked.port), *([asked.beside] if asked.beside else [])]
     conditions, rows = circumstances(), []
     print(", ".join(f"{name} {value}" for name, value in conditions.items() if value != ""))
-    cases = [(kind, int(count), None) for kind in LISTS for count in asked.counts.split(",")]
-    cases += [(name, size, make) for name, (make, sizes) in SIZES.items() for size in sizes]
-    for name, size, make in cases:
-        figures = by_size(programs, make, size, asked.runs) if make else by_selectors(programs, name, size, asked.runs)
+    cases = [(kind, int(count), by_selectors) for kind in LISTS for count in asked.counts.split(",")]
+    cases += [(kind, size, by_size) for kind, (_, sizes, _) in SIZES.items() for size in sizes]
+    for name, size, measure in cases:
+        figures = [measure(program, name, size, asked.runs, not asked.no_instructions) for program in programs]
         print(said(name, size, figures), flush=True)
         rows.append({"by": name, "size": size, **dict(zip(("port", "beside"), figures))})
     if asked.record:

@@ -1,7 +1,7 @@
-"""Writes the table of ratios in docs/TESTED.md and the span in README.md from recorded figures, or checks that they are those.
+"""Writes the tables of recorded figures in docs/TESTED.md and bench/README.md and the span in README.md, or checks them.
 
-    python3 bench/table.py bench/results/FILE.json     writes both
-    python3 bench/table.py --check                     compares both with the file that the table names
+    python3 bench/table.py bench/results/FILE.json     writes the table of this file's kind, in the place of the one there
+    python3 bench/table.py --check                     compares each table with the file that it names
 """
 import json
 import pathlib
@@ -9,7 +9,7 @@ import re
 import sys
 
 TOP = pathlib.Path(__file__).resolve().parent.parent
-PAGE = TOP / "docs" / "TESTED.md"
+PAGES = [TOP / "docs" / "TESTED.md", TOP / "bench" / "README.md"]
 README = TOP / "README.md"
 TABLE = re.compile(r"<!-- (bench/results/[\w.-]+\.json) -->\n(.*?)<!-- end -->\n", re.S)
 SPAN = re.compile(r"takes \d\.\d\d to \d\.\d\d of the time of lol_html's own machine")
@@ -20,9 +20,39 @@ def rounded(figures):
     return f"{figures['port']['seconds'] / figures['beside']['seconds']:.2f}"
 
 
-def table(recorded):
+def ratios(recorded):
     rows = [f"| {name} | {rounded(figures)} |\n" for name, figures in recorded["workloads"].items()]
     return "".join(["| Workload | Ratio of time |\n", "|---|---|\n", *rows])
+
+
+def peers(recorded):
+    """Milliseconds to read a page, and to search it the first time and later; the tags that are searched a second."""
+    head = "| Engine | Selectors | Page read, ms | First search, ms | Later search, ms | Tags a second | Found |\n"
+    rows = []
+    for row in recorded["peers"]:
+        times = " | ".join(f"{row[name] * 1e3:,.1f}" for name in ("parse", "first", "later"))
+        found = "" if row["found"] is None else f"{row['found']:,}"
+        rows.append(f"| {row['engine']} | {row['selectors']:,} | {times} | {recorded['tags'] / row['later']:,.0f} | {found} |\n")
+    return "".join([head, "|---|---|---|---|---|---|---|\n", *rows])
+
+
+TABLES = {"workloads": ratios, "peers": peers}
+
+
+def kind(file):
+    """What a recorded file has, and it."""
+    recorded = json.loads((TOP / file).read_text(encoding="utf-8"))
+    return next((name for name in TABLES if name in recorded), None), recorded
+
+
+def with_tables(page, new=None):
+    """The text of a page with its tables made anew: from the new file if it is of their kind, else from those they name."""
+    def made(found):
+        file = new if new and kind(new)[0] == kind(found[1])[0] else found[1]
+        name, recorded = kind(file)
+        return f"<!-- {file} -->\n{TABLES[name](recorded)}<!-- end -->\n"
+
+    return TABLE.sub(made, page)
 
 
 def span(recorded):
@@ -30,20 +60,22 @@ def span(recorded):
     return f"takes {ratios[0]} to {ratios[-1]} of the time of lol_html's own machine"
 
 
+def files_of_ratios(pages):
+    return [file for page in pages for file, _ in TABLE.findall(page) if kind(file)[0] == "workloads"]
+
+
 def main():
-    page, readme = PAGE.read_text(encoding="utf-8"), README.read_text(encoding="utf-8")
-    named = TABLE.search(page)
     check = sys.argv[1:] == ["--check"]
-    file = named[1] if check else sys.argv[1]
-    recorded = json.loads((TOP / file).read_text(encoding="utf-8"))
-    new_page = page.replace(named[0], f"<!-- {file} -->\n{table(recorded)}<!-- end -->\n")
-    new_readme = SPAN.sub(span(recorded), readme)
+    texts = {page: page.read_text(encoding="utf-8") for page in [*PAGES, README]}
+    new = {page: with_tables(texts[page], None if check else sys.argv[1]) for page in PAGES}
+    recorded = kind(files_of_ratios(new.values())[0])[1]
+    new[README] = SPAN.sub(span(recorded), texts[README])
     if check:
-        same = (new_page, new_readme) == (page, readme)
-        print(f"the table and README's span {'are' if same else 'are NOT'} those of {file}")
-        return 0 if same else 1
-    PAGE.write_text(new_page, encoding="utf-8")
-    README.write_text(new_readme, encoding="utf-8")
+        files = [file for page in PAGES for file, _ in TABLE.findall(texts[page])]
+        print(f"the tables and README's span {'are' if new == texts else 'are NOT'} those of {', '.join(files)}")
+        return 0 if new == texts else 1
+    for page, text in new.items():
+        page.write_text(text, encoding="utf-8")
     return 0
 
 

@@ -73,10 +73,10 @@ def mixed_tag(draw):
     return name, attributes
 
 
-def mixed(count):
+def mixed(count, tags=PAGE_TAGS):
     draw = random.Random(5)
     selectors = [complex_selector(draw) for _ in range(count)]
-    return script(selectors, nested(draw, PAGE_TAGS, 20, 0.44, lambda: mixed_tag(draw)))
+    return script(selectors, nested(draw, tags, 20, 0.44, lambda: mixed_tag(draw)))
 
 
 # One thing each.
