@@ -4,12 +4,14 @@
 Run it at the top of the repository once lol_match is built:
 
     (cd crates/lol_match && rt run < /dev/null)
-    python3 hostile/growth.py [ROW ..]
+    python3 hostile/growth.py [--instructions] [ROW ..]
 
-Each size is twice the one before; the times are processor seconds, the least of three runs. A word picks the rows whose name has it.
+Each size is twice the one before; the times are processor seconds, the least of three runs. With --instructions there are
+millions of instructions in their place, counted by valgrind. A word picks the rows whose name has it.
 """
 
 import os
+import re
 import resource
 import subprocess
 import sys
@@ -135,7 +137,15 @@ def seconds(path):
     return best
 
 
-def main(words_wanted):
+def millions(path):
+    """The instructions of a run by valgrind's callgrind, in millions."""
+    with tempfile.TemporaryDirectory() as folder, open(path, "rb") as source:
+        words = ["valgrind", "--tool=callgrind", f"--callgrind-out-file={folder}/out", PROGRAM]
+        ended = subprocess.run(words, stdin=source, stdout=subprocess.DEVNULL, stderr=subprocess.PIPE, check=False)
+    return int(re.search(rb"Collected : (\d+)", ended.stderr)[1]) / 1e6
+
+
+def main(words_wanted, cost):
     print("| Input | Size | Twice | Four times | Growth |")
     print("|---|---|---|---|---|")
     with tempfile.TemporaryDirectory() as folder:
@@ -147,11 +157,12 @@ def main(words_wanted):
             for factor in (1, 2, 4):
                 with open(path, "w", encoding="utf-8") as target:
                     target.write(make(size * factor))
-                times.append(seconds(path))
+                times.append(cost(path))
             growth = ", ".join(f"{after / max(before, 0.001):.1f}" for before, after in zip(times, times[1:]))
             cells = " | ".join(f"{time:.3f}" for time in times)
             shown = name.replace("|", "\\|")
             print(f"| {shown}, {size:,} | {cells} | {growth} |", flush=True)
 
 
-main(sys.argv[1:])
+asked = [word for word in sys.argv[1:] if word != "--instructions"]
+main(asked, seconds if asked == sys.argv[1:] else millions)
