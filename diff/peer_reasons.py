@@ -16,8 +16,6 @@ CASELESS = {name.decode() for name in CASELESS_NAMES}
 WORDS_OF = {"*": ["class", "accesskey", "dropzone"], "a": ["rel", "rev"], "link": ["rel", "rev"], "area": ["rel"],
             "td": ["headers"], "th": ["headers"], "form": ["accept-charset"], "object": ["archive"],
             "icon": ["sizes"], "iframe": ["sandbox"], "output": ["for"]}
-
-
 Compound, Elements = list[tuple], list[Element]
 
 
@@ -136,9 +134,8 @@ def without_xlink(element: Element) -> Element:
 
 def in_document(elements: Elements) -> Elements:
     """The elements inside one more, which stands for the document."""
-    outside = Element(None, "", "document", [])._replace(namespace=HTML)
-    return [outside] + [element._replace(parent=0 if element.parent is None else element.parent + 1)
-                        for element in elements]
+    return [Element(None, HTML, "document", [])] + [
+        element._replace(parent=0 if element.parent is None else element.parent + 1) for element in elements]
 
 
 def with_counts(elements: Elements) -> Elements:
@@ -167,7 +164,7 @@ def nth_without(missed: Callable[[str, str], list[Compound]]):
 
 def missed_by_soupsieve(_: str, progression: str) -> list[Compound]:
     step, offset = step_and_offset(progression)
-    count = {True: offset, False: 1}[step > 0]
+    count = offset if step > 0 else 1
     return [[("compare", "n\u00b7child", "=", f"{count}", "s")]] if step and offset > 0 else []
 
 
@@ -218,10 +215,15 @@ def names_alone(part: tuple) -> Compound:
     return [("not", [one[:1] if one[0][0] in ("name", "any") else one for one in part[1]])]
 
 
-def spaces(name: str) -> list[Compound]:
-    """What holds of values that have an empty word between, before or after spaces."""
+def between_spaces(name: str, blank: str) -> list[Compound]:
+    """What holds of values that have this blank for a word."""
     return [[("compare", name, operator, value, "s")]
-            for operator, value in (("=", ""), ("^=", " "), ("$=", " "), ("*=", "  "))]
+            for operator, value in (("=", blank), ("^=", blank + " "), ("$=", " " + blank), ("*=", f" {blank} "))]
+
+
+def blank_word(part: tuple) -> Compound:
+    is_blank = part[0] == "compare" and part[2] == "~=" and not part[3].strip(" ")
+    return [("is", between_spaces(part[1], part[3]))] if is_blank else [part]
 
 
 def has_escape(part: tuple) -> bool:
@@ -241,8 +243,6 @@ EXACT_ATTRIBUTES = Reason("names of attributes are compared with case", names(ma
 VALUES_WITH_CASE = Reason("values of the 46 names are compared with case", flagged("s", lambda name: True))
 EMPTY_HOLDS = Reason("an empty operand of ^=, $= or *= holds of each value",
                      empty_operand(("^=", "$=", "*="), lambda name: [[("has", name)]]))
-EMPTY_WORD_HOLDS = Reason("an empty operand of ~= holds where there is no word beside a space",
-                          empty_operand(("~=",), spaces))
 XLINK_UNSEEN = Reason("attributes of XLink aren't found by their prefix", elements=each_element(without_xlink))
 NO_BREAK_SPACE = Reason("a no-break space parts words", each_part(operand_with_spaces), each_element(no_break_is_space))
 
@@ -262,7 +262,9 @@ REASONS = {
         Reason(":is and :where are choices beside the conditions before them", chosen_or_before),
     ],
     "css-select": [
-        LOWER_NAMES, LOWER_ATTRIBUTES, NO_BREAK_SPACE, EMPTY_WORD_HOLDS,
+        LOWER_NAMES, LOWER_ATTRIBUTES, NO_BREAK_SPACE,
+        Reason("an empty operand of ~= is a word beside a space",
+               empty_operand(("~=",), lambda name: between_spaces(name, ""))),
         Reason("values of the 46 names are compared without case on all elements", flagged("i", lambda name: True)),
         Reason("an An+B that holds of each place wants a parent",
                each_part(lambda part: [part] + NOT_ROOT * (part[0] == "nth" and part[1].endswith("(n)")))),
@@ -270,7 +272,7 @@ REASONS = {
                left_out=lambda part: part[0] == "id" and "\u00a0" in part[1]),
     ],
     "Nokogiri": [
-        EXACT_NAMES, EXACT_ATTRIBUTES, VALUES_WITH_CASE, XLINK_UNSEEN,
+        EXACT_NAMES, EXACT_ATTRIBUTES, VALUES_WITH_CASE,
         Reason("an empty operand of ^=, $=, *= or ~= holds without the attribute too",
                empty_operand(("^=", "$=", "*=", "~="), lambda name: [[("any",)]])),
         Reason("escapes in an id aren't read", each_part(lambda part: NEVER if has_escape(part) else [part])),
@@ -283,7 +285,8 @@ REASONS = {
                left_out=lambda part: part[0] == "nth" and "of-type" in part[1]),
     ],
     "Mojo::DOM": [
-        EXACT_NAMES, EXACT_ATTRIBUTES, VALUES_WITH_CASE, EMPTY_HOLDS, EMPTY_WORD_HOLDS, NO_BREAK_SPACE,
+        EXACT_NAMES, EXACT_ATTRIBUTES, VALUES_WITH_CASE, EMPTY_HOLDS, NO_BREAK_SPACE,
+        Reason("an operand of ~= that is empty or a space is a word beside a space", each_part(blank_word)),
         Reason(":where isn't known, and never holds",
                each_part(lambda part: NEVER if part[0] == "where" else [part])),
         Reason("attributes are found without their prefix too",
