@@ -3,7 +3,8 @@
     python3 bench/scale.py [--port PROGRAM] [--beside PROGRAM] [--counts 10,100,..] [--runs N] [--record]
 
 The cost of a start tag is that of a page less that of a page of one tag, over its start tags; of a row, that of a script
-less that of an empty one. Instructions are counted where a run takes less than two seconds.
+less that of an empty one. Instructions are counted where a run takes less than five seconds, and no run is repeated once
+all took more than ten.
 """
 import argparse
 import json
@@ -14,18 +15,20 @@ from programs import TOP, circumstances, instructions, memory, port, run
 from workloads import LISTS, depth, listed, mixed, script, siblings, start, wide
 
 COUNTS = "10,100,1000,10000,100000"
-COUNTED_SECONDS = 2
+COUNTED_SECONDS, LONG_SECONDS = 5, 10
 
 
-def costs(program, text, runs, count):
-    """The best time of so many runs of a script, the instructions of one if it is short, and its memory."""
+def costs(program, text, runs, count, with_memory=False):
+    """The best time of so many runs of a script, the instructions of one, and its memory."""
     with tempfile.TemporaryDirectory() as folder:
         file = os.path.join(folder, "script")
         with open(file, "wb") as out:
             out.write(text)
-        seconds = min(run(program, file)[1] for _ in range(runs))
-        counted = instructions(program, file) if count and seconds < COUNTED_SECONDS else None
-        return seconds, counted, memory(program, file)
+        times = [run(program, file)[1]]
+        while len(times) < runs and sum(times) < LONG_SECONDS:
+            times.append(run(program, file)[1])
+        counted = instructions(program, file) if count and min(times) < COUNTED_SECONDS else None
+        return min(times), counted, memory(program, file) if with_memory else None
 
 
 def each(whole, less, number):
@@ -40,14 +43,15 @@ def by_selectors(program, kind, number, runs, count):
     selectors, tags = listed(kind, number)
     starts = sum(tag.startswith("start") for tag in tags)
     read = costs(program, script(selectors, [start("br")]), runs, count)
-    whole = costs(program, script(selectors, tags), runs, count)
+    whole = costs(program, script(selectors, tags), runs, count, with_memory=True)
     return {"read": round(read[0], 4), **each(whole, read, starts)}
 
 
 def by_size(program, kind, size, runs, count):
     """The costs of each of so many."""
     make, _, times = SIZES[kind]
-    return each(costs(program, make(size), runs, count), costs(program, b"", runs, count), size * times)
+    whole = costs(program, make(size), runs, count, with_memory=True)
+    return each(whole, costs(program, b"", runs, count), size * times)
 
 
 # What makes a script of a size, the sizes, and how many times it has so many.

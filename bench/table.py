@@ -15,14 +15,19 @@ TABLE = re.compile(r"<!-- (bench/results/[\w.-]+\.json) -->\n(.*?)<!-- end -->\n
 SPAN = re.compile(r"takes \d\.\d\d to \d\.\d\d of the time of lol_html's own machine")
 
 
-def rounded(figures):
-    """The ratio of time, as the table has it."""
-    return f"{figures['port']['seconds'] / figures['beside']['seconds']:.2f}"
+def rounded(figures, field="seconds"):
+    """The ratio of time, or of another cost, as the table has it."""
+    return f"{figures['port'][field] / figures['beside'][field]:.2f}"
 
 
 def ratios(recorded):
-    rows = [f"| {name} | {rounded(figures)} |\n" for name, figures in recorded["workloads"].items()]
-    return "".join(["| Workload | Ratio of time |\n", "|---|---|\n", *rows])
+    """A row for each workload; with instructions if they were counted."""
+    rows = recorded["workloads"].items()
+    counted = all(figures[whose]["instructions"] for _, figures in rows for whose in ("port", "beside"))
+    fields = ["seconds", "instructions"] if counted else ["seconds"]
+    heads = ["Workload", "Ratio of time", "Ratio of instructions"][:len(fields) + 1]
+    lines = [heads, ["---"] * len(heads), *([name, *(rounded(figures, one) for one in fields)] for name, figures in rows)]
+    return "".join("|" + "|".join(line) + "|\n" if line[0] == "---" else f"| {' | '.join(line)} |\n" for line in lines)
 
 
 def peers(recorded):
