@@ -9,6 +9,15 @@ const SCRIPT: &[u8] =
 
 const OUTPUT: &[u8] = b"start\t-\nstart\t-\nstart\t0\nend\t0,1,2\n";
 
+const BAD_SCRIPT: &[u8] = b"select\t0\ta + b\n";
+
+const BAD_LINE: &[u8] = b"bad line 1: UnsupportedCombinator(+)\n";
+
+/// A paragraph, for which there is no room.
+const LIMITED_SCRIPT: &[u8] = b"limit\t0\nselect\t0\tp\nstart\thtml\tp\n";
+
+const REFUSED: &[u8] = b"refused limit\n";
+
 #[test]
 fn writes_whole_where_it_fits(rt: HostRuntime) -> Result<(), Fail> {
     let (mut out, mut written) = ([b'.'; 64], 0);
@@ -29,14 +38,19 @@ fn writes_the_beginning_that_fits(rt: HostRuntime) -> Result<(), Fail> {
 }
 
 #[test]
-fn tells_bad_lines_and_refused_tags(rt: HostRuntime) -> Result<(), Fail> {
+fn tells_a_bad_line(rt: HostRuntime) -> Result<(), Fail> {
     let (mut out, mut written) = ([b'.'; 64], 0);
-    let bad = zugrenja_run_script(rt.alloc(), b"select\t0\ta + b\n", &mut out, &mut written);
-    assert!(rt; bad == 2);
-    assert!(rt; &out[..written] == b"bad line 1: UnsupportedCombinator(+)\n".as_slice());
-    let limited = b"limit\t0\nselect\t0\tp\nstart\thtml\tp\n";
-    let refused = zugrenja_run_script(rt.alloc(), limited, &mut out, &mut written);
-    assert!(rt; refused == 3);
-    assert!(rt; &out[..written] == b"refused limit\n".as_slice());
+    let status = zugrenja_run_script(rt.alloc(), BAD_SCRIPT, &mut out, &mut written);
+    assert!(rt; (status, written) == (2, BAD_LINE.len()));
+    assert!(rt; &out[..written] == BAD_LINE);
+    Ok(())
+}
+
+#[test]
+fn tells_a_refused_tag(rt: HostRuntime) -> Result<(), Fail> {
+    let (mut out, mut written) = ([b'.'; 64], 0);
+    let status = zugrenja_run_script(rt.alloc(), LIMITED_SCRIPT, &mut out, &mut written);
+    assert!(rt; (status, written) == (3, REFUSED.len()));
+    assert!(rt; &out[..written] == REFUSED);
     Ok(())
 }
