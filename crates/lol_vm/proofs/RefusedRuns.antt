@@ -10,7 +10,7 @@ use Rattle.lol_base.specs.StartTags.{StartTag}
 use Rattle.lol_vm.specs.Events.{Event, Start, End}
 use Rattle.lol_vm.specs.FreeTags.{RunsWithoutMemory}
 use Rattle.lol_vm.specs.Refusals.{Allowance, Cause, Limit, Counter, exceeds, longest, longest_from, or_later, refusal, refused, refused_from}
-use Rattle.lol_vm.specs.Follows.{IsRunWithoutMemory, Stops}
+use Rattle.lol_vm.specs.Follows.{IsRunWithoutMemory, Stops, refusal_after}
 use Rattle.lol_vm.specs.RunRefusals.{IsUntil, StopsBeforeLimit, StopsFor, allowance_of}
 use Rattle.lol_vm.specs.declared.events.RunCause.{RunCause}
 use Rattle.lol_vm.specs.declared.events.RunCause.TheVariants.{MemoryLimitExceeded, CounterFull, Memory}
@@ -134,6 +134,15 @@ stops_at_once s esi a events = λ n cause first. by_cause n cause first
 
 pub limits_not_at_once : (s : Selectors) (esi : Bool) (a : Allowance) (events : List Event) → StopsBeforeLimit s esi events Memory 0 (refused s esi a events)
 limits_not_at_once s esi a events = λ before later tag split runs first. inr refl
+
+-- an event that a run goes on after isn't refused
+pub none_refused : (s : Selectors) (esi : Bool) (item_bytes : ℕ) (limiter : Limiter) (before : List Event) → refused s esi (allowance_of item_bytes limiter) before ≡ None → (event : Event)
+    → refused s esi (allowance_of item_bytes limiter) (before ++ event ∷ []) ≡ None → refusal_after s esi item_bytes limiter before event ≡ None
+none_refused s esi item_bytes limiter before fits event on = by_refusal (refusal_after s esi item_bytes limiter before event) refl
+  where
+    by_refusal : (r : Option Cause) → refusal_after s esi item_bytes limiter before event ≡ r → r ≡ None
+    by_refusal None is = refl
+    by_refusal (Some cause) is = let stops = stops_at s esi (allowance_of item_bytes limiter) before fits event [] cause is in cc
 
 -- 2. Why a run stops
 

@@ -7,7 +7,7 @@ use Rattle.lol_program.specs.Paths.{Selectors}
 use Rattle.lol_vm.specs.Events as events
 use Rattle.lol_vm.specs.Events.{Event, has_content, has_content_in}
 use Rattle.lol_vm.specs.Documents.{Document}
-use Rattle.lol_vm.specs.Answers.{answer, after, answers_from, document_from}
+use Rattle.lol_vm.specs.Answers.{after, document_from}
 
 -- 1. Lists
 
@@ -40,10 +40,6 @@ module _ {A B : Type 0} (p : B → Bool) (f : A → B) where
 -- 2. One more event
 
 module _ (s : Selectors) (esi : Bool) where
-  pub answers_push : (d : Document) (before : List Event) (event : Event) → answers_from s esi d (before ++ event ∷ []) ≡ answers_from s esi d before ++ answer s esi (document_from s esi d before) event ∷ []
-  answers_push d [] event = refl
-  answers_push d (e ∷ before) event = ap (λ told. answer s esi d e ∷ told) (answers_push (after s esi d e) before event)
-
   pub events_after : (d : Document) (event : Event) → (after s esi d event).events ≡ d.events + 1
   events_after d (events.Start tag) = refl
   events_after d (events.End name) = refl

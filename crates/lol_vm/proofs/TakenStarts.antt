@@ -1,7 +1,6 @@
 -- A start tag, and its rest if that is handed over.
-use Rattle.std.proofs.Common.{◌≡◌, ℕ, ◌+◌, ◌-◌, ◌≤◌, ◌<◌, ◌*◌, Bool, true, false, not, List, [], ◌∷◌, ◌++◌, length, map, reverse, Vec, Option, Some, None, refl, sym, ap, ◌∙◌, subst, arith}
+use Rattle.std.proofs.Common.{◌≡◌, ℕ, ◌+◌, ◌-◌, ◌≤◌, ◌<◌, ◌*◌, Bool, true, false, not, List, [], ◌∷◌, ◌++◌, length, map, reverse, Option, Some, None, refl, sym, ap, ◌∙◌, subst, arith}
 use Rattle.std.specs.Prelude.{max, ◌&&◌, if◌then◌else◌, ◌↔◌, ◌^◌, ◌⊎◌}
-use Rattle.std.specs.Global.{Global}
 use Rattle.std.proofs.lemmas.List.{length-append, length-map, map_push, reverse-append}
 use Rattle.lol_base.specs.BoolLaws.{and_parts}
 use Rattle.lol_base.specs.LocalNames.{Name}
@@ -20,13 +19,14 @@ use Rattle.lol_vm.specs.Answers.{Answer, Match, answer, asks, attribute_tries, d
 use Rattle.lol_stack.specs.Calls.{IsCalledAtEach}
 use Rattle.lol_vm.specs.Documents.{Document, after_start, element_of, empty}
 use Rattle.lol_vm.specs.Events.{Event, Start, has_content}
-use Rattle.lol_vm.specs.Follows.{Follows, Goes, IsCharged, IsDropped, IsTaken, opens}
+use Rattle.lol_vm.specs.EventRuns.{GoesByStart, IsRunOf, machine_of}
+use Rattle.lol_vm.specs.Follows.{Follows, IsCharged, IsDropped, IsTaken, opens}
 use Rattle.lol_vm.specs.Views.{match_of}
 use Rattle.lol_vm.specs.Standing.{unfinished}
 use Rattle.lol_stack.specs.Stacks.{items_in, list_in, last_count}
 use Rattle.lol_vm.specs.Vms.{Vm, Stands, IsAnswered, IsPending, AreOpened, info_of, stack_in, tries_in, data_in, has_failed, slots_charged, slot_bytes}
 use Rattle.lol_vm.specs.declared.error.AuxStartTagInfoRequest.{AuxStartTagInfoRequest}
-use Rattle.lol_vm.specs.declared.events.TagReport.TheVariants as reports
+use Rattle.lol_vm.specs.declared.event_run.EventRun.{EventRun}
 use Rattle.lol_stack.specs.declared.stack_item.StackItemOf.{StackItemOf}
 use Rattle.lol_vm.specs.Follows.{StartedElement}
 use Rattle.lol_vm.proofs.CallerLemmas.{hasnt_failed}
@@ -112,17 +112,6 @@ module _ {E : Type 0} where
       (subst (λ n. Limits n (slots_charged old) (slot_bytes old) now) many h)))
 
 module _ {E F : Type 0} (ids_of : E → Ids) (step : F → MatchInfo → Unit {0} → F → Type 0) (s : Selectors) (esi : Bool) (events : List Event) (tag : StartTag) (old new : Vm E) (f g : F) where
-  pub taken_none : (taken : Option Bool) → taken ≡ None → IsTaken ids_of step s esi events tag taken old new f g → IsDropped s esi events tag old new f g
-  taken_none None is h = h
-  taken_none (Some b) is h = cc
-
-  pub taken_some : (taken : Option Bool) (a : Bool) → taken ≡ Some a → IsTaken ids_of step s esi events tag taken old new f g → IsAnswered ids_of step s esi events tag a old new f g
-  taken_some None a is h = cc
-  taken_some (Some b) a is h = subst (λ b. IsAnswered ids_of step s esi events tag b old new f g) (same b a is) h
-    where
-      same : (b a : Bool) → Some b ≡ Some a → b ≡ a
-      same b a is = cc
-
   pub taken_stands : (taken : Option Bool) → IsTaken ids_of step s esi events tag taken old new f g → Stands s esi new (events ++ Start tag ∷ [])
   taken_stands None h = h.stands
   taken_stands (Some b) h = h.stands
@@ -175,14 +164,11 @@ module _ (s : Selectors) (esi : Bool) (item_bytes : ℕ) (before : Limiter) (vm 
     pub start_charged : IsCharged item_bytes before new later
     start_charged = charged_later s esi item_bytes before vm events now f (Start tag) (not_refused s esi item_bytes before vm events now f tag room unlimited) new later stands bytes charge
 
-    pub goes_dropped : {F : Type 0} (g h : F) → IsDropped s esi events tag vm new g h → Goes s esi item_bytes before new events (Start tag) later reports.Dropped
-    goes_dropped g h is = record {
-      answered = sym (told true is.dropped);
-      follows = goes_on false (opens_nothing (has_content esi tag) drops is.dropped) (ap events_of is.kept ∙ f.numbers);
-    }
+    follows_dropped : {F : Type 0} (g h : F) → IsDropped s esi events tag vm new g h → Follows s esi item_bytes before new (events ++ Start tag ∷ []) later
+    follows_dropped g h is = goes_on false (opens_nothing (has_content esi tag) drops is.dropped) (ap events_of is.kept ∙ f.numbers)
 
-    module _ {F : Type 0} (ids_of : StartedElement → Ids) (step : F → MatchInfo → Unit {0} → F → Type 0) (asked : Bool) (mid : Vm StartedElement) (g h : F) (a : IsAnswered ids_of step s esi events tag asked vm mid g h) (matched : Vec MatchInfo Global)
-        (kept : matched.items ≡ map info_of a.matched) (tries : tries_in new ≡ tries_in mid) (number open_before : ℕ) (place : length events ≡ number) (open_is : open_before ≡ length (data_in vm))
+    module _ {F : Type 0} (ids_of : StartedElement → Ids) (step : F → MatchInfo → Unit {0} → F → Type 0) (asked : Bool) (mid : Vm StartedElement) (g h : F) (a : IsAnswered ids_of step s esi events tag asked vm mid g h)
+        (number open_before : ℕ) (place : number ≡ length events) (open_is : open_before ≡ length (data_in vm))
         (numbered : open_before < length (data_in mid) → (outer : List StartedElement) (last : StartedElement) → data_in mid ≡ outer ++ last ∷ [] → data_in new ≡ outer ++ (record last { value = number }) ∷ [])
         (unchanged : length (data_in mid) ≤ open_before → data_in new ≡ data_in mid) where
       isnt_dropped : drops ≡ false
@@ -201,8 +187,45 @@ module _ (s : Selectors) (esi : Bool) (item_bytes : ℕ) (before : Limiter) (vm 
           ∙ (map_push (λ (x : StartedElement). x.value) (data_in vm) (record w { value = number })
           ∙ ((λ i. f.numbers i ++ sym events_before i ∷ []) ∙ sym (reverse-append (d.events ∷ []) (numbers_of d.open_elements))))
 
-      pub goes_started : Goes s esi item_bytes before new events (Start tag) later (reports.Started asked matched (tries_in new))
-      goes_started = record {
-        answered = (λ i. answers.Started ((ap (map match_of) kept ∙ shown a.matched) i) asked (names_counted (tries i)) (attributes_counted (tries i))) ∙ sym a.answered;
-        follows = goes_on (has_content esi tag) (opens_content (has_content esi tag) drops isnt_dropped) (numbers (has_content esi tag) a.opened);
+      follows_started : Follows s esi item_bytes before new (events ++ Start tag ∷ []) later
+      follows_started = goes_on (has_content esi tag) (opens_content (has_content esi tag) drops isnt_dropped) (numbers (has_content esi tag) a.opened)
+
+-- A tag that was taken, its element numbered, is one more that the run has answered.
+module _ (s : Selectors) (esi : Bool) (item_bytes : ℕ) (before : Limiter) (run : EventRun) (events : List Event) (now : Limiter) (r : IsRunOf s esi item_bytes before run events now) (tag : StartTag)
+    (later_run : EventRun) (later : Limiter) (stands : Stands s esi (machine_of later_run) (events ++ Start tag ∷ [])) (bytes : slot_bytes (machine_of later_run) ≡ slot_bytes (machine_of run))
+    (charge : later ≡ charged now ((slots_charged (machine_of later_run) - slots_charged (machine_of run)) * slot_bytes (machine_of run)))
+    (room : last_count (stack_in (machine_of run)) ≡ full_count → ⊥) (unlimited : opens s esi events tag ≡ true → IsLimited (list_in (stack_in (machine_of run))) now → ⊥)
+    {F : Type 0} (ids_of : StartedElement → Ids) (step : F → MatchInfo → Unit {0} → F → Type 0) (mid : Vm StartedElement) (g h : F) (tries : tries_in (machine_of later_run) ≡ tries_in mid)
+    (counted : later_run.count ≡ run.count + 1) (open_before : ℕ) (open_is : open_before ≡ length (data_in (machine_of run)))
+    (numbered : open_before < length (data_in mid) → (outer : List StartedElement) (last : StartedElement) → data_in mid ≡ outer ++ last ∷ [] → data_in (machine_of later_run) ≡ outer ++ (record last { value = run.count }) ∷ [])
+    (unchanged : length (data_in mid) ≤ open_before → data_in (machine_of later_run) ≡ data_in mid) where
+  count_is : later_run.count ≡ length (events ++ Start tag ∷ [])
+  count_is =
+      let size = length-append events (Start tag ∷ []) in
+      let c = r.counted in
+      omega (arith, counted, size, c)
+
+  pub goes_taken : (taken : Option Bool) → IsTaken ids_of step s esi events tag taken (machine_of run) mid g h → GoesByStart step s esi item_bytes before later_run events tag later taken g h
+  goes_taken None is =
+      let same = unchanged (let size = ap length is.kept in omega (arith, size, open_is)) in
+      record {
+        infos = [];
+        called = sym is.silent;
+        answered = sym (told s esi item_bytes before (machine_of run) events now r.follows tag true is.dropped);
+        goes_on = record {
+          follows = follows_dropped s esi item_bytes before (machine_of run) events now r.follows tag (machine_of later_run) later stands bytes charge room unlimited g h
+              (record { dropped = is.dropped; stands = stands; kept = same ∙ is.kept; silent = is.silent });
+          counted = count_is;
+        };
       }
+  goes_taken (Some asked) is = record {
+    infos = map info_of is.matched;
+    called = is.reported;
+    answered =
+        (λ i. answers.Started (shown s esi item_bytes before (machine_of run) events now r.follows tag is.matched i) asked (names_counted (tries i)) (attributes_counted (tries i)))
+        ∙ sym is.answered;
+    goes_on = record {
+      follows = follows_started s esi item_bytes before (machine_of run) events now r.follows tag (machine_of later_run) later stands bytes charge room unlimited ids_of step asked mid g h is run.count open_before r.counted open_is numbered unchanged;
+      counted = count_is;
+    };
+  }

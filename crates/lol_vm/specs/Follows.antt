@@ -8,18 +8,16 @@ use Rattle.lol_memory.specs.Limiter.{Limiter}
 use Rattle.lol_memory.specs.declared.match_info.MatchInfo.{MatchInfo}
 use Rattle.lol_instructions.specs.Counters.{full_count}
 use Rattle.lol_program.specs.Paths.{Selectors}
-use Rattle.lol_vm.specs.Answers.{document, answer, is_dropped}
+use Rattle.lol_vm.specs.Answers.{document, is_dropped}
 use Rattle.lol_vm.specs.Documents.{element_of, children_of}
 use Rattle.lol_vm.specs.Events.{Event, Start, End, has_content}
 use Rattle.lol_vm.specs.FreeTags.{RunsWithoutMemory}
 use Rattle.lol_vm.specs.Refusals.{Cause, Limit, Counter, refusal, refused, longest, greatest_count}
 use Rattle.lol_vm.specs.RunRefusals.{allowance_of}
 use Rattle.lol_stack.specs.Stacks.{list_in, last_count}
-use Rattle.lol_vm.specs.Views.{answer_of}
 use Rattle.lol_vm.specs.Vms.{Vm, Stands, IsAnswered, IsRestOf, stack_in, data_in, slots_charged, slot_bytes}
 use Rattle.lol_vm.specs.declared.events.RunCause.{RunCause}
 use Rattle.lol_vm.specs.declared.events.RunCause.TheVariants.{MemoryLimitExceeded, CounterFull, Memory}
-use Rattle.lol_vm.specs.declared.events.TagReport.{TagReport}
 use Rattle.lol_stack.specs.declared.element_value.ElementValue.{ElementValue}
 
 -- what a run keeps of an open element: the ids that it was reported under, and the number of its start tag
@@ -77,11 +75,6 @@ pub record Follows (s : Selectors) (esi : Bool) (item_bytes : ℕ) (before : Lim
   pub within : before.usage + slots_charged vm * item_bytes ≤ before.maximum
   pub countable : (parent : Option ℕ) → children_of parent (document s esi events).children ≤ greatest_count
   pub fits : refused s esi (allowance_of item_bytes before) events ≡ None
-
--- One event more was answered.
-pub record Goes (s : Selectors) (esi : Bool) (item_bytes : ℕ) (before : Limiter) (vm : Vm StartedElement) (events : List Event) (event : Event) (now : Limiter) (report : TagReport) : Type 0 where
-  pub answered : answer_of report ≡ answer s esi (document s esi events) event
-  pub follows : Follows s esi item_bytes before vm (events ++ event ∷ []) now
 
 -- whether an event is refused, after events
 abbrev pub refusal_after : Selectors → Bool → ℕ → Limiter → List Event → Event → Option Cause

@@ -13,6 +13,7 @@ pub mod TriedStarts
 pub mod VmLending
 pub mod Collecting
 pub mod Follows
+pub mod EventRuns
 pub mod Premises
 pub mod Handlers
 pub mod FreeTags

@@ -1,19 +1,16 @@
--- What the clauses of a call are said for: the events, tags and runs that it may be a call for.
-use Rattle.std.specs.Prelude.{ℕ, ◌≡◌, Bool, true, List, [], Option}
+-- What the clauses of a call are said for: the events and tags that it may be a call for.
+use Rattle.std.specs.Prelude.{ℕ, ◌≡◌, Bool, true, List, Option}
 use Rattle.lol_base.specs.LocalNames.{Name}
 use Rattle.lol_base.specs.StartTags.{StartTag}
 use Rattle.lol_base.specs.declared.namespace.Namespace.{Namespace}
 use Rattle.lol_base.specs.declared.start_tag.AuxStartTagInfo.{AuxStartTagInfo}
 use Rattle.lol_memory.specs.Ids.{Ids}
-use Rattle.lol_memory.specs.Limiter.{Limiter}
 use Rattle.lol_program.specs.Paths.{Selectors}
 use Rattle.lol_instructions.specs.Tests.{Element}
 use Rattle.lol_vm.specs.Events.{Event}
-use Rattle.lol_vm.specs.Follows.{Follows, IsHandedOver, StartedElement}
+use Rattle.lol_vm.specs.Follows.{IsHandedOver}
 use Rattle.lol_vm.specs.Vms.{Vm, Stands, HasOpen, IsNameOf, IsTagOf, IsPending, IsRestOf}
 use Rattle.lol_vm.specs.declared.error.AuxStartTagInfoRequest.{AuxStartTagInfoRequest}
-
--- 1. A machine
 
 module _ {E : Type 0} (vm : Vm E) where
   -- For all events that the machine stands for, with their selectors and ESI switch.
@@ -57,27 +54,3 @@ module _ {E : Type 0} (vm : Vm E) where
     ForRestOf aux holds =
         (s : Selectors) (esi : Bool) (events : List Event) (tag : StartTag)
         → IsPending ids_of s esi events tag vm request → IsRestOf aux tag → holds s esi events tag
-
--- 2. A run: its selectors and ESI switch, the bytes that an element is charged for, and the limiter before it
-
-module _ (vm : Vm StartedElement) (now : Limiter) where
-  -- For each run that has answered nothing yet.
-  abbrev pub ForRun : (Selectors → Bool → ℕ → Limiter → Type 0) → Type 0
-  ForRun holds =
-      (s : Selectors) (esi : Bool) (item_bytes : ℕ) (before : Limiter)
-      → Follows s esi item_bytes before vm [] now → holds s esi item_bytes before
-
-  -- For each run, and the events that it has answered.
-  abbrev pub ForRunSoFar : (Selectors → Bool → ℕ → Limiter → List Event → Type 0) → Type 0
-  ForRunSoFar holds =
-      (s : Selectors) (esi : Bool) (item_bytes : ℕ) (before : Limiter) (events : List Event)
-      → Follows s esi item_bytes before vm events now → holds s esi item_bytes before events
-
-  -- The same, and each start tag of this name and namespace, whose attributes are handed over if there is a rest.
-  abbrev pub ForTagInRun :
-      Name → Namespace → Option AuxStartTagInfo
-      → (Selectors → Bool → ℕ → Limiter → List Event → StartTag → Type 0) → Type 0
-  ForTagInRun name ns rest holds =
-      (s : Selectors) (esi : Bool) (item_bytes : ℕ) (before : Limiter) (events : List Event) (tag : StartTag)
-      → Follows s esi item_bytes before vm events now → IsTagOf name ns tag → IsHandedOver rest tag
-      → holds s esi item_bytes before events tag

@@ -2,6 +2,7 @@
 #![tactic(auto)]
 
 mod error;
+mod event_run;
 mod events;
 mod instruction_runs;
 pub mod laws;
@@ -15,6 +16,7 @@ mod vm;
 pub mod vm_laws;
 
 pub use error::{AuxStartTagInfoRequest, StartTagError, VmError};
+pub use event_run::EventRun;
 pub use events::{RunCause, RunRefusal, RunStop, TagEvent, TagReport};
 pub use lol_base::{
     AttributeBuffer, AttributeOutline, Attributes, AuxStartTagInfo, Bytes, LocalName, Namespace,

@@ -1,13 +1,9 @@
-//! What a run keeps of its tags.
+//! What a handler was called with.
 
 ghost use Rattle.std.specs.Prelude.{◌≡◌, [], false, IfOk};
 ghost use Rattle.lol_vm.specs.Collecting.{Collects};
 
-use lol_stack::ElementValue;
 use std::alloc::{AllocError, Global};
-
-/// What a run keeps of an open element: the ids that it was reported under, and the number of its start tag.
-pub(crate) type Started = ElementValue<usize>;
 
 /// What a handler was called with, up to the first that memory was refused for.
 #[derive(Drop)]

@@ -1,7 +1,8 @@
 use Rattle.std.proofs.Common.{refl, sym, ap, subst}
 use Rattle.std.proofs.lemmas.Result.{IfOk-weaker, on_err_weaker}
 use Rattle.lol_base.specs.StartTags.{StartTag}
-use Rattle.lol_vm.specs.Follows.{Goes, IsHandedOver}
+use Rattle.lol_vm.specs.EventRuns.{Goes}
+use Rattle.lol_vm.specs.Follows.{IsHandedOver}
 use Rattle.lol_vm.specs.Views.{event_of, tag_of}
 use Rattle.lol_vm.proofs.run.answer_event.Goals.{then-finish, else-finish}
 use Rattle.lol_vm.proofs.run.answer_event.Goals as goal
@@ -17,18 +18,18 @@ handed c = elim c.if-finish.branch [
 
 pub returns-after-finish-clause-goes : goal.returns-after-finish-clause-goes
 returns-after-finish-clause-goes c = IfOk-weaker c.answer_start.result _ _
-    (λ report goes s esi item_bytes before events f place.
-    subst (λ event. Goes s esi item_bytes before c.answer_start.new.vm events event c.answer_start.new.limiter report) (sym (ap event_of c.in-Start.is))
-    (goes s esi item_bytes before events (tag_in c) f (c.new.ensures, refl) (handed c) place))
+    (λ report goes s esi item_bytes before events r.
+    subst (λ event. Goes s esi item_bytes before c.answer_start.new.run events event c.answer_start.new.limiter report) (sym (ap event_of c.in-Start.is))
+    (goes s esi item_bytes before events (tag_in c) r (c.new.ensures, refl) (handed c)))
     c.answer_start.ensures.goes
 
 pub returns-after-finish-clause-charged : goal.returns-after-finish-clause-charged
 returns-after-finish-clause-charged c =
-    on_err_weaker c.answer_start.result (λ charged s esi item_bytes before events f. charged s esi item_bytes before events (tag_in c) f (c.new.ensures, refl) (handed c)) c.answer_start.ensures.charged
+    on_err_weaker c.answer_start.result (λ charged s esi item_bytes before events r. charged s esi item_bytes before events (tag_in c) r (c.new.ensures, refl) (handed c)) c.answer_start.ensures.charged
 
 pub returns-in-End-clause-goes : goal.returns-in-End-clause-goes
 returns-in-End-clause-goes c = IfOk-weaker c.answer_end.result _ _
-    (λ report goes s esi item_bytes before events f place.
-    subst (λ event. Goes s esi item_bytes before c.answer_end.new.vm events event c.args.limiter.now report) (sym (ap event_of c.in-End.is))
-    (goes s esi item_bytes before events c.args.limiter.now c.in-End.name.now f c.new-in-End.ensures))
+    (λ report goes s esi item_bytes before events r.
+    subst (λ event. Goes s esi item_bytes before c.answer_end.new.run events event c.args.limiter.now report) (sym (ap event_of c.in-End.is))
+    (goes s esi item_bytes before events c.args.limiter.now c.in-End.name.now r c.new-in-End.ensures))
     c.answer_end.ensures.goes

@@ -2,15 +2,15 @@ use Rattle.std.proofs.Common.{of_calls, ◌≡◌, ℕ, ◌+◌, ◌<◌, List, 
 use Rattle.std.proofs.lemmas.Fn.{FoldsTo-push}
 use Rattle.std.proofs.lemmas.List.{map_push, map-append, append_assoc, take_more, take_all, take-append-drop, length-map, length-take-le}
 use Rattle.lol_vm.specs.Answers.{answers}
+use Rattle.lol_vm.specs.DocumentLaws.{answers_append}
 use Rattle.lol_vm.specs.Documents.{empty}
 use Rattle.lol_vm.specs.Events.{Event}
-use Rattle.lol_vm.specs.Follows.{Follows}
+use Rattle.lol_vm.specs.EventRuns.{IsRunOf}
 use Rattle.lol_vm.specs.Refusals.{refused}
 use Rattle.lol_vm.specs.RunRefusals.{allowance_of, StopsBeforeLimit, StopsFor}
 use Rattle.lol_vm.specs.Views.{event_of, answer_of}
 use Rattle.lol_vm.specs.declared.events.TagEvent.{TagEvent}
 use Rattle.lol_vm.proofs.RefusedRuns.{stops_before_limit, stops_for}
-use Rattle.lol_vm.proofs.Runs.{answers_push}
 use Rattle.lol_vm.proofs.run.answer_events.Goals as goal
 
 module _ (all : List TagEvent) (n : ℕ) (event : TagEvent) (within : n < length all) (read : event ≡ get_or all n event) where
@@ -33,36 +33,36 @@ module _ (all : List TagEvent) (n : ℕ) (event : TagEvent) (within : n < length
   before_counts = length-map (take n all) event_of ∙ length-take-le n all (omega (arith, within))
 
 pub returns-in-Err-clause-cause : goal.returns-in-Err-clause-cause
-returns-in-Err-clause-cause g c = λ s esi item_bytes limiter f.
+returns-in-Err-clause-cause g c = λ s esi item_bytes limiter r.
     let all = c.args.events.now in
     let n = c.loop-number.number in
     let event = c.index-events-number.result in
     let within = c.loop-number-test.true in
     let read = c.index-events-number.is in
-    let now = c.loop-number.invariant.follows s esi item_bytes limiter f in
+    let now = c.loop-number.invariant.runs s esi item_bytes limiter r in
     let a = allowance_of item_bytes limiter in
     let stops = c.in-Err.ensures.stops s esi item_bytes limiter (before all n event within read) now in
-    let is = stops_for s esi item_bytes limiter (before all n event within read) (later all n event within read) (event_of event) now.fits c.in-Err.cause stops in
+    let is = stops_for s esi item_bytes limiter (before all n event within read) (later all n event within read) (event_of event) now.follows.fits c.in-Err.cause stops in
     subst (λ k. StopsFor c.in-Err.cause k (refused s esi a (map event_of all))) (before_counts all n event within read)
     (subst (λ es. StopsFor c.in-Err.cause (length (before all n event within read)) (refused s esi a es)) (sym (all_are all n event within read)) is)
 
 pub returns-in-Err-clause-due : goal.returns-in-Err-clause-due
-returns-in-Err-clause-due g c = λ s esi item_bytes limiter f.
+returns-in-Err-clause-due g c = λ s esi item_bytes limiter r.
     let all = c.args.events.now in
     let n = c.loop-number.number in
     let event = c.index-events-number.result in
     let within = c.loop-number-test.true in
     let read = c.index-events-number.is in
-    let now = c.loop-number.invariant.follows s esi item_bytes limiter f in
+    let now = c.loop-number.invariant.runs s esi item_bytes limiter r in
     let a = allowance_of item_bytes limiter in
     let stops = c.in-Err.ensures.stops s esi item_bytes limiter (before all n event within read) now in
-    let is = stops_before_limit s esi item_bytes limiter (before all n event within read) (later all n event within read) (event_of event) now.fits c.in-Err.cause stops in
+    let is = stops_before_limit s esi item_bytes limiter (before all n event within read) (later all n event within read) (event_of event) now.follows.fits c.in-Err.cause stops in
     subst (λ k. StopsBeforeLimit s esi (map event_of all) c.in-Err.cause k (refused s esi a (map event_of all))) (before_counts all n event within read)
     (subst (λ es. StopsBeforeLimit s esi es c.in-Err.cause (length (before all n event within read)) (refused s esi a es)) (sym (all_are all n event within read)) is)
 
 pub returns-in-Err-clause-charged : goal.returns-in-Err-clause-charged
-returns-in-Err-clause-charged g c = λ s esi item_bytes before f.
-    c.in-Err.ensures.charged s esi item_bytes before (map event_of (take c.loop-number.number c.args.events.now)) (c.loop-number.invariant.follows s esi item_bytes before f)
+returns-in-Err-clause-charged g c = λ s esi item_bytes before r.
+    c.in-Err.ensures.charged s esi item_bytes before (map event_of (take c.loop-number.number c.args.events.now)) (c.loop-number.invariant.runs s esi item_bytes before r)
 
 pub loop-number-preserved : goal.loop-number-preserved
 loop-number-preserved g c =
@@ -71,33 +71,32 @@ loop-number-preserved g c =
     let event = c.index-events-number.result in
     let within = c.loop-number-test.true in
     let read = c.index-events-number.is in
-    let counts = before_counts all n event within read in
     let front = front_more all n event within read in
     record {
       callable = search of_calls;
-      told = λ s esi item_bytes limiter f.
-          let now = c.loop-number.invariant.follows s esi item_bytes limiter f in
-          let told = c.loop-number.invariant.told s esi item_bytes limiter f in
-          let goes = c.in-Ok.ensures.goes s esi item_bytes limiter (before all n event within read) now counts in
+      told = λ s esi item_bytes limiter r.
+          let now = c.loop-number.invariant.runs s esi item_bytes limiter r in
+          let told = c.loop-number.invariant.told s esi item_bytes limiter r in
+          let goes = c.in-Ok.ensures.goes s esi item_bytes limiter (before all n event within read) now in
           record {
             reports = told.reports ++ c.in-Ok.report ∷ [];
             answered =
                 map_push answer_of told.reports c.in-Ok.report
                 ∙ ((λ i. told.answered i ++ goes.answered i ∷ [])
-                ∙ sym (ap (answers s esi) front ∙ answers_push s esi empty (before all n event within read) (event_of event)));
+                ∙ sym (ap (answers s esi) front ∙ answers_append s esi empty (before all n event within read) (event_of event ∷ [])));
             called = FoldsTo-push _ _ _ _ _ _ told.called c.handler.ensures;
           };
-      follows = λ s esi item_bytes limiter f.
-          let now = c.loop-number.invariant.follows s esi item_bytes limiter f in
-          let goes = c.in-Ok.ensures.goes s esi item_bytes limiter (before all n event within read) now counts in
-          subst (λ es. Follows s esi item_bytes limiter c.answer_event.new.vm es c.answer_event.new.limiter) (sym front) goes.follows;
+      runs = λ s esi item_bytes limiter r.
+          let now = c.loop-number.invariant.runs s esi item_bytes limiter r in
+          let goes = c.in-Ok.ensures.goes s esi item_bytes limiter (before all n event within read) now in
+          subst (λ es. IsRunOf s esi item_bytes limiter c.answer_event.new.run es c.answer_event.new.limiter) (sym front) goes.goes_on;
     }
 
 pub returns-clause-ok : goal.returns-clause-ok
-returns-clause-ok g c = λ s esi item_bytes before f.
+returns-clause-ok g c = λ s esi item_bytes before r.
     let whole = take_all c.loop-number.number c.args.events.now (omega (arith, c.loop-number-test.false)) in
-    let told = c.loop-number.invariant.told s esi item_bytes before f in
+    let told = c.loop-number.invariant.told s esi item_bytes before r in
     record { reports = told.reports; answered = told.answered ∙ ap (λ es. answers s esi (map event_of es)) whole; called = told.called }
 
 pub returns-clause-charged : goal.returns-clause-charged
-returns-clause-charged g c = λ s esi item_bytes before f. (c.loop-number.invariant.follows s esi item_bytes before f).charged
+returns-clause-charged g c = λ s esi item_bytes before r. (c.loop-number.invariant.runs s esi item_bytes before r).follows.charged

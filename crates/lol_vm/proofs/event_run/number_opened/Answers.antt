@@ -2,7 +2,7 @@ use Rattle.std.proofs.Common.{◌≡◌, ◌++◌, ◌∷◌, [], ℕ, Some, sym
 use Rattle.std.specs.Option.{option_copied_mut}
 use Rattle.lol_vm.specs.Follows.{StartedElement}
 use Rattle.lol_vm.proofs.VmData.{data_change_nothing, data_with, last_data}
-use Rattle.lol_vm.proofs.run.number_opened.Goals as goal
+use Rattle.lol_vm.proofs.event_run.number_opened.Goals as goal
 
 pub returns-in-Some-clause-stands : goal.returns-in-Some-clause-stands
 returns-in-Some-clause-stands c = λ s esi events stands. data_change_nothing s esi c.args.vm.now events _ stands

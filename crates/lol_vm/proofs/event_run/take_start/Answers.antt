@@ -8,7 +8,7 @@ use Rattle.lol_vm.specs.declared.error.VmError.TheVariants.{InfoRequest, MemoryL
 use Rattle.std.specs.declared.alloc.AllocError.{AllocError}
 use Rattle.lol_vm.proofs.CallerLemmas.{hasnt_failed}
 use Rattle.lol_vm.proofs.TakenStarts.{has_content_if, is_left, opens_unasked, opens_handed, dropped, has_room}
-use Rattle.lol_vm.proofs.run.take_start.Goals as goal
+use Rattle.lol_vm.proofs.event_run.take_start.Goals as goal
 
 -- 1. Its attributes are at hand
 
