@@ -1,7 +1,8 @@
+pub mod AnswerLines
 pub mod Fields
-pub mod Lists
+pub mod LineCuts
+pub mod ListedFields
 pub mod Numbers
 pub mod Outlines
-pub mod Runs
+pub mod ReadOn
 pub mod Scripts
-pub mod Texts

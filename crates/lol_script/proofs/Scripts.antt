@@ -9,8 +9,8 @@ use Rattle.lol_script.specs.Script.{Line, line_at}
 use Rattle.lol_script.specs.Scripts.{Script, with_bytes, with_meaning, unless_begun, and_then, read_lines}
 use Rattle.lol_script.specs.declared.bad_line.BadLine.{BadLine}
 use Rattle.lol_script.specs.Readings.{Stops}
-use Rattle.lol_script.specs.declared.script.Stop.{Stop}
-use Rattle.lol_script.specs.declared.script.Stop.TheVariants.{Memory, Bad}
+use Rattle.lol_script.specs.declared.settings.Stop.{Stop}
+use Rattle.lol_script.specs.declared.settings.Stop.TheVariants.{Fault, Bad}
 use Rattle.lol_script.proofs.Fields.{parts_none, parts_some}
 
 -- what a nonempty line says is taken
@@ -44,5 +44,5 @@ module _ (number : ℕ) (s : Script) (rest : List ℕ) where
 
 -- a line at which reading stops
 pub stop_then : (stop : Stop) (read : Result Script BadLine) (f : Script → Result Script BadLine) → Stops stop read → Stops stop (and_then read f)
-stop_then Memory read f h = tt
+stop_then (Fault fault) read f h = h
 stop_then (Bad bad) read f h = ap (λ r. and_then r f) h

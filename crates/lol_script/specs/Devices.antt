@@ -1,8 +1,9 @@
 -- Counted devices: what is read of a reader, and what is written where a write may stop early.
-use Rattle.std.specs.Prelude.{ℕ, ◌≡◌, ◌+◌, List, ◌++◌, Option}
+use Rattle.std.specs.Prelude.{ℕ, ◌≡◌, ◌≢◌, ◌<◌, ◌+◌, List, ◌++◌, Option}
 use Rattle.std.specs.Io.KnownBytes.{Appends, Consumes, IsAtEnd, Keeps}
 use Rattle.lol_script.specs.declared.device.Counted.{Counted}
 use Rattle.lol_script.specs.declared.device.RunFault.{RunFault}
+use Rattle.lol_script.specs.declared.device.RunFault.TheVariants.{Read, Write}
 
 abbrev pub device_of : {D : Type 0} → Counted D → D
 device_of counted = counted.device
@@ -14,6 +15,10 @@ failures_of counted = counted.failures
 -- One call more failed, with this fault.
 abbrev pub FailsWith : {D : Type 0} → RunFault → Counted D → Counted D → RunFault → Type 0
 FailsWith wanted old new fault = (fault ≡ wanted) × (failures_of new ≡ failures_of old + 1)
+
+-- Reading failed for want of memory, or one call more failed.
+abbrev pub IsReadFault : {D : Type 0} → Counted D → Counted D → RunFault → Type 0
+IsReadFault old new fault = (fault ≢ Write) × (fault ≡ Read → failures_of old < failures_of new)
 
 -- a beginning of a text was written, and this is the rest
 abbrev pub AppendsFront : Option (List ℕ) → Option (List ℕ) → List ℕ → List ℕ → Type 0

@@ -1,9 +1,11 @@
-pub mod Adding
+pub mod FieldLists
 pub mod Devices
+pub mod ReadLines
 pub mod Lines
 pub mod Output
 pub mod Script
 pub mod Scripts
 pub mod Readings
+pub mod Answering
 pub mod ExitStatus
 pub mod WorkedRows

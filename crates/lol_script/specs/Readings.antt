@@ -1,5 +1,6 @@
 -- What the code has read of a script.
-use Rattle.std.specs.Prelude.{◌≡◌, ℕ, List, map, All, Result, Ok, Err}
+use Rattle.std.specs.Prelude.{◌≡◌, ℕ, true, List, [], ◌++◌, Option, Some, Result, Ok, Err}
+use Rattle.std.specs.Io.KnownBytes.{IsAtEnd}
 use Rattle.lol_css.specs.Accepting.{accept}
 use Rattle.lol_css.specs.Trees.{Items}
 use Rattle.lol_program.specs.Paths.{all_beginnings}
@@ -7,29 +8,34 @@ use Rattle.lol_program.specs.Asts.{pairs_of, nodes_of}
 use Rattle.lol_program.specs.Conditions.{pairs_under}
 use Rattle.lol_program.specs.Sets.{Joins, SameMembers}
 use Rattle.lol_program.specs.declared.ast.Ast.{Ast}
-use Rattle.lol_vm.specs.Views.{event_of, HasRangesInside}
-use Rattle.lol_script.specs.Scripts.{Script}
+use Rattle.lol_script.specs.Devices.{IsReadFault, Reads, device_of, failures_of}
+use Rattle.lol_script.specs.ReadLines.{ReadLines, later_lines}
+use Rattle.lol_script.specs.Script.{Line, StartLine, EndLine}
+use Rattle.lol_script.specs.Scripts.{Script, read_lines, read_script}
 use Rattle.lol_script.specs.declared.bad_line.BadLine.{BadLine}
-use Rattle.lol_script.specs.declared.script.Script.{Script as Code}
-use Rattle.lol_script.specs.declared.script.Stop.{Stop}
-use Rattle.lol_script.specs.declared.script.Stop.TheVariants.{Memory, Bad}
+use Rattle.lol_script.specs.declared.device.Counted.{Counted}
+use Rattle.lol_script.specs.declared.device.RunFault.TheVariants.{Memory}
+use Rattle.lol_script.specs.declared.settings.Settings.{Settings}
+use Rattle.lol_script.specs.declared.settings.Stop.{Stop}
+use Rattle.lol_script.specs.declared.settings.Stop.TheVariants.{Fault, Bad}
 
--- The code has these settings, its tree has these pairs and their beginnings, as sets, and its tags are these events.
-pub record IsReading (code : Code) (s : Script) : Type 0 where
+-- 1. Settings
+
+-- The code has these settings, and its tree has these pairs and their beginnings, as sets; no tag was read.
+pub record IsReading (code : Settings) (s : Script) : Type 0 where
   pub limit : code.limit ≡ s.limit
   pub esi : code.esi ≡ s.esi
   pub shows_tries : code.shows_tries ≡ s.shows_tries
   pub pairs : SameMembers s.pairs (pairs_of code.ast)
   pub nodes : SameMembers (all_beginnings s.pairs) (nodes_of code.ast)
-  pub events : map event_of code.tags.items ≡ s.events
-  pub inside : All HasRangesInside code.tags.items
+  pub none : s.events ≡ []
 
 -- For each script of the definition that the code has read so far.
-abbrev pub ForReading : Code → (Script → Type 0) → Type 0
+abbrev pub ForReading : Settings → (Script → Type 0) → Type 0
 ForReading code holds = (s : Script) → IsReading code s → holds s
 
 -- what was read stands for what the definition gives
-abbrev pub ReadsScript : Code → Result Script BadLine → Type 0
+abbrev pub ReadsScript : Settings → Result Script BadLine → Type 0
 ReadsScript code defined = (s : Script) × IsReading code s × (defined ≡ Ok s)
 
 -- the selectors of a text are added to those of a tree, under an id
@@ -39,7 +45,39 @@ pub record AddsSelectors (text : List ℕ) (id : ℕ) (old new : Ast) : Type 0 w
   pub pairs : Joins (pairs_of old) (pairs_of new) (pairs_under id items)
   pub nodes : Joins (nodes_of old) (nodes_of new) (all_beginnings (pairs_under id items))
 
--- a bad line is that of the definition
+-- a bad line is that of the definition; else memory was refused
 abbrev pub Stops : Stop → Result Script BadLine → Type 0
-Stops Memory defined = Unit {0}
+Stops (Fault fault) defined = fault ≡ Memory
 Stops (Bad bad) defined = defined ≡ Err bad
+
+-- a line of a tag
+abbrev pub IsTagLine : Option Line → Type 0
+IsTagLine (Some (StartLine tag)) = Unit {0}
+IsTagLine (Some (EndLine name)) = Unit {0}
+IsTagLine other = ⊥
+
+-- 2. Lines
+
+module _ {D : Type 0} (remaining : D → Option (List ℕ)) (old new : Counted D) (lines : ReadLines) where
+  -- Bytes were read. Whatever is read later, unless the line is the last: these lines and those that come after them say what the
+  -- whole script does, read on with this one from this number.
+  pub record IsReadTo (number : ℕ) (s : Script) (left : List (List ℕ)) : Type 0 where
+    pub bytes : List ℕ
+    pub read : Reads remaining old new bytes
+    pub says : (later : List ℕ) → (lines.is_last ≡ true → later ≡ [])
+        → read_lines number s (left ++ later_lines lines later) ≡ read_script (bytes ++ later)
+    pub end : lines.is_last ≡ true → IsAtEnd (remaining (device_of new))
+    pub failures : failures_of new ≡ failures_of old
+
+  -- Bytes were read, and with them the script is bad, whatever is read later.
+  pub record IsBad (bad : BadLine) : Type 0 where
+    pub bytes : List ℕ
+    pub read : Reads remaining old new bytes
+    pub says : (later : List ℕ) → (lines.is_last ≡ true → later ≡ []) → read_script (bytes ++ later) ≡ Err bad
+    pub end : lines.is_last ≡ true → IsAtEnd (remaining (device_of new))
+    pub failures : failures_of new ≡ failures_of old
+
+  -- why reading stopped
+  abbrev pub IsStop : Stop → Type 0
+  IsStop (Fault fault) = IsReadFault old new fault
+  IsStop (Bad bad) = IsBad bad

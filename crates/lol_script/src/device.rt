@@ -1,10 +1,9 @@
 //! Readers and writers whose failures are counted.
 
 ghost use Rattle.std.specs.Prelude.{◌≡◌, ◌≢◌, ◌<◌, ◌≤◌, ◌+◌, length, IfOk, IfErr, OnOk, OnErr, IsErrOf};
-ghost use Rattle.std.specs.Io.KnownBytes.{IsAtEnd, ReadConsumes, WriteAppends};
-ghost use Rattle.lol_script.specs.Devices.{FailsWith, Reads, Writes, WritesBeginning, device_of, failures_of};
+ghost use Rattle.std.specs.Io.KnownBytes.{ReadConsumes, WriteAppends};
+ghost use Rattle.lol_script.specs.Devices.{FailsWith, Writes, WritesBeginning, device_of, failures_of};
 
-use std::alloc::Global;
 use std::io::{Read, Write};
 use thiserror::Error;
 
@@ -64,7 +63,7 @@ impl<D> Counted<D> {
 
 impl<R: Read> Counted<R> {
     /// Reads once, as `Read::read` does.
-    fn read(&mut self, buffer: &mut [u8]) -> Result<usize, RunFault>
+    pub fn read(&mut self, buffer: &mut [u8]) -> Result<usize, RunFault>
         requires { failures_of self.old < u64.MAX }
         ensures bytes { ReadConsumes (R.remaining (device_of self.old)) (R.remaining (device_of self.new))
             result buffer.new }
@@ -99,34 +98,6 @@ impl<W: Write> Counted<W> {
                 self.failures += 1;
                 Err(RunFault::Write)
             }
-        }
-    }
-}
-
-/// Reads to the end. Each turn appends at least one byte, so a reader that neither ends nor fails is answered as out of memory.
-///
-/// # Errors
-/// `Read` where a read failed, an interrupted one too, and `Memory` where a growth was refused.
-pub fn read_all<R: Read>(alloc: Global, reader: &mut Counted<R>) -> Result<Vec<u8>, RunFault>
-    requires { failures_of reader.old < u64.MAX }
-    ensures bytes { IfOk result (λ text. Reads R.remaining reader.old reader.new text.items) }
-    ensures end { OnOk result (IsAtEnd (R.remaining (device_of reader.new))) }
-    ensures unchanged { OnOk result (failures_of reader.new ≡ failures_of reader.old) }
-
-    // Only a read that failed is answered as such, and any other fault is out of memory.
-    ensures read { IsErrOf result RunFault.Read → failures_of reader.new ≡ failures_of reader.old + 1 }
-    ensures memory { IfErr result (λ fault. fault ≢ RunFault.Read
-        → (fault ≡ RunFault.Memory) × (failures_of reader.new ≡ failures_of reader.old)) }
-{
-    let mut text = Vec::new(alloc);
-    let mut buffer = [0u8; 65536];
-    loop {
-        let count = reader.read(&mut buffer)?;
-        if count == 0 {
-            return Ok(text);
-        }
-        if text.extend_from_slice(&buffer[..count]).is_err() {
-            return Err(RunFault::Memory);
         }
     }
 }

@@ -7,10 +7,12 @@ ghost use Rattle.lol_script.specs.ExitStatus.{exit_status_of};
 mod bad_line;
 mod device;
 pub mod laws;
+mod line_reader;
 mod lines;
 mod output;
 mod program;
-mod script;
+mod script_run;
+mod settings;
 mod tags;
 
 pub use device::{Counted, RunFault};

@@ -222,16 +222,16 @@ fn bare_line(kind: &[u8]) -> Option<Line<'static>>
 fn line_of_kind<'s>(kind: &[u8], rest: &'s [u8]) -> Option<Line<'s>>
     ensures { option_map said_by result ≡ of_kind kind.now (slice_split is_tab rest.now) }
 {
-    if kind == b"limit".as_slice() {
-        limit_of(rest)
-    } else if kind == b"select".as_slice() {
-        select_of(rest)
-    } else if kind == b"start".as_slice() {
+    if kind == b"start".as_slice() {
         start_of(rest, true)
-    } else if kind == b"drop".as_slice() {
-        start_of(rest, false)
     } else if kind == b"end".as_slice() {
         end_of(rest)
+    } else if kind == b"drop".as_slice() {
+        start_of(rest, false)
+    } else if kind == b"select".as_slice() {
+        select_of(rest)
+    } else if kind == b"limit".as_slice() {
+        limit_of(rest)
     } else {
         None
     }

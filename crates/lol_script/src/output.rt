@@ -1,50 +1,96 @@
 //! The lines of a run as they are written.
 
-ghost use Rattle.std.specs.Prelude.{◌≡◌, ◌∷◌, [], ◌++◌, IfOk, OnOk, map, decimal, Bool, true, false};
-ghost use Rattle.lol_vm.specs.Views.{match_of, answer_of};
+ghost use Rattle.std.specs.Prelude.{◌≡◌, ◌∷◌, [], ◌++◌, OnOk, decimal, false, true};
+ghost use Rattle.lol_base.specs.CodePoints.{line_feed};
+ghost use Rattle.lol_vm.specs.Views.{match_of};
 ghost use Rattle.lol_instructions.specs.Tries.{names_counted, attributes_counted};
-ghost use Rattle.lol_script.specs.Output.{comma_list, shown_match, tries_field, shown_answer};
-ghost use Rattle.lol_script.specs.Adding.{AddsLine};
+ghost use Rattle.lol_script.specs.Output.{shown_match, tries_field};
+ghost use Rattle.lol_script.specs.FieldLists.{AddsField, IsEmptyList, IsFieldAdded, ended_text, list_text, started_text};
 
 use itoa::Buffer;
-use lol_vm::{MatchInfo, TagReport, Tries};
+use lol_vm::{MatchInfo, Tries};
 use std::alloc::{AllocError, Global};
 
-/// The lines of the reports that came, up to the first that memory was refused for.
+/// The fields of a list, as they come, up to the first that memory was refused for.
 #[derive(Drop)]
-pub struct ReportLines {
-    text: Vec<u8>,
+pub struct FieldList {
+    bytes: Vec<u8>,
+    any: bool,
     refused: bool,
 }
 
-impl ReportLines {
-    pub fn new(alloc: Global) -> Self
-        ensures text { result.text.items ≡ [] }
-        ensures refused { result.refused ≡ false }
-    {
-        ReportLines {
-            text: Vec::new(alloc),
+impl FieldList {
+    pub fn new(alloc: Global) -> Self {
+        FieldList {
+            bytes: Vec::new(alloc),
+            any: false,
             refused: false,
         }
     }
 
-    /// Adds the line of a report. After a refusal nothing is added.
-    pub fn add(&mut self, report: &TagReport, shows_tries: bool)
-        ensures { AddsLine shows_tries self.old report.now self.new }
+    /// Forgets all fields.
+    pub fn clear(&mut self)
+        ensures { IsEmptyList self.new }
     {
-        if !self.refused && push_report(&mut self.text, report, shows_tries).is_err() {
+        self.bytes.clear();
+        self.any = false;
+        self.refused = false;
+    }
+
+    /// Adds an id, with `/` after it where the element has no content.
+    pub fn add_match(&mut self, found: MatchInfo)
+        ensures { AddsField (shown_match (match_of found)) self.old self.new }
+    {
+        if !self.refused && self.push_match(found).is_err() {
             self.refused = true;
         }
     }
 
-    /// All lines, unless memory was refused.
-    pub fn into_text(self) -> Result<Vec<u8>, AllocError>
-        ensures { IfOk result (λ text. (self.refused ≡ false) × (text ≡ self.text)) }
+    /// Adds a number.
+    pub fn add_number(&mut self, number: usize)
+        ensures { AddsField (decimal number) self.old self.new }
+    {
+        if !self.refused && self.push_number(number as u64).is_err() {
+            self.refused = true;
+        }
+    }
+
+    fn push_match(&mut self, found: MatchInfo) -> Result<(), AllocError>
+        ensures added { OnOk result (IsFieldAdded (shown_match (match_of found)) self.old self.new) }
+        ensures refused { self.new.refused ≡ self.old.refused }
+    {
+        self.push_number(u64::from(found.match_id))?;
+        if !found.with_content {
+            self.bytes.push(b'/')?;
+        }
+        Ok(())
+    }
+
+    fn push_number(&mut self, number: u64) -> Result<(), AllocError>
+        ensures added { OnOk result (IsFieldAdded (decimal number) self.old self.new) }
+        ensures refused { self.new.refused ≡ self.old.refused }
+    {
+        if self.any {
+            self.bytes.push(b',')?;
+        }
+        self.any = true;
+        push_number(&mut self.bytes, number)
+    }
+
+    /// Appends the fields, separated by commas, or `-` where there are none, unless memory was refused for them.
+    pub fn append_to(&self, text: &mut Vec<u8>) -> Result<(), AllocError>
+        ensures refused { OnOk result (self.now.refused ≡ false) }
+        ensures appended { OnOk result (text.new.items ≡ text.old.items ++ list_text self.now) }
     {
         if self.refused {
             return Err(AllocError);
         }
-        Ok(self.text)
+        if self.any {
+            text.extend_from_slice(&self.bytes)
+        } else {
+            text.push(b'-')?;
+            Ok(())
+        }
     }
 }
 
@@ -54,48 +100,6 @@ pub fn push_number(text: &mut Vec<u8>, number: u64) -> Result<(), AllocError>
 {
     let mut buffer = Buffer::new();
     text.extend_from_slice(buffer.format(number).as_bytes())
-}
-
-/// Adds an id, with `/` after it where the element has no content.
-pub fn push_match(text: &mut Vec<u8>, found: MatchInfo) -> Result<(), AllocError>
-    ensures { OnOk result (text.new.items ≡ text.old.items ++ shown_match (match_of found)) }
-{
-    push_number(text, u64::from(found.match_id))?;
-    if !found.with_content {
-        text.push(b'/')?;
-    }
-    Ok(())
-}
-
-/// Adds ids, separated by commas, or `-` where there are none.
-pub fn push_matches(text: &mut Vec<u8>, matched: &[MatchInfo]) -> Result<(), AllocError>
-    ensures { OnOk result (text.new.items
-        ≡ text.old.items ++ comma_list (map shown_match (map match_of matched.now))) }
-{
-    let Some((first, others)) = matched.split_first() else {
-        return Ok(text.push(b'-')?);
-    };
-    push_match(text, *first)?;
-    for found in others {
-        text.push(b',')?;
-        push_match(text, *found)?;
-    }
-    Ok(())
-}
-
-/// Adds numbers, separated by commas, or `-` where there are none.
-pub fn push_numbers(text: &mut Vec<u8>, numbers: &[usize]) -> Result<(), AllocError>
-    ensures { OnOk result (text.new.items ≡ text.old.items ++ comma_list (map decimal numbers.now)) }
-{
-    let Some((first, others)) = numbers.split_first() else {
-        return Ok(text.push(b'-')?);
-    };
-    push_number(text, *first as u64)?;
-    for number in others {
-        text.push(b',')?;
-        push_number(text, *number as u64)?;
-    }
-    Ok(())
 }
 
 /// Adds the field of the tries.
@@ -109,32 +113,44 @@ fn push_tries(text: &mut Vec<u8>, tries: Tries) -> Result<(), AllocError>
     push_number(text, tries.attributes())
 }
 
-/// Adds the line of a report.
-fn push_report(text: &mut Vec<u8>, report: &TagReport, shows_tries: bool) -> Result<(), AllocError>
-    ensures { OnOk result (text.new.items
-        ≡ text.old.items ++ (shown_answer shows_tries (answer_of report.now) ++ 10 ∷ [])) }
+/// Adds a line.
+pub fn push_line(text: &mut Vec<u8>, line: &[u8]) -> Result<(), AllocError>
+    ensures { OnOk result (text.new.items ≡ text.old.items ++ (line.now ++ line_feed ∷ [])) }
 {
-    match report {
-        TagReport::Started {
-            matched,
-            asked,
-            tries,
-        } => {
-            text.extend_from_slice(b"start\t")?;
-            push_matches(text, matched)?;
-            if *asked {
-                text.extend_from_slice(b"\tasked")?;
-            }
-            if shows_tries {
-                push_tries(text, *tries)?;
-            }
-        }
-        TagReport::Dropped => text.extend_from_slice(b"dropped")?,
-        TagReport::Ended { closed } => {
-            text.extend_from_slice(b"end\t")?;
-            push_numbers(text, closed)?;
-        }
+    text.extend_from_slice(line)?;
+    text.push(b'\n')?;
+    Ok(())
+}
+
+/// Adds the line of a start tag that was reported so.
+pub fn push_started(
+    text: &mut Vec<u8>,
+    matched: &FieldList,
+    asked: bool,
+    tries: Option<Tries>,
+) -> Result<(), AllocError>
+    ensures { OnOk result ((matched.now.refused ≡ false) × (text.new.items
+        ≡ text.old.items ++ (started_text (list_text matched.now) asked tries ++ line_feed ∷ []))) }
+{
+    text.extend_from_slice(b"start\t")?;
+    matched.append_to(text)?;
+    if asked {
+        text.extend_from_slice(b"\tasked")?;
     }
+    if let Some(tries) = tries {
+        push_tries(text, tries)?;
+    }
+    text.push(b'\n')?;
+    Ok(())
+}
+
+/// Adds the line of an end tag that closed these.
+pub fn push_ended(text: &mut Vec<u8>, closed: &FieldList) -> Result<(), AllocError>
+    ensures { OnOk result ((closed.now.refused ≡ false) × (text.new.items
+        ≡ text.old.items ++ (ended_text (list_text closed.now) ++ line_feed ∷ []))) }
+{
+    text.extend_from_slice(b"end\t")?;
+    closed.append_to(text)?;
     text.push(b'\n')?;
     Ok(())
 }

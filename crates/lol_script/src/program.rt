@@ -1,26 +1,20 @@
 //! The program over a script.
 
-ghost use Rattle.std.specs.Prelude.{◌≡◌, ◌≢◌, ◌<◌, List, ℕ, Option, Ok, IfOk, IfErr, IsErrOf, take};
-ghost use Rattle.lol_script.specs.Devices.{ReadsToEnd, Writes, WritesBeginning, WritesNothing, failures_of};
-ghost use Rattle.lol_script.specs.Scripts as scripts;
-ghost use Rattle.lol_script.specs.Output.{bad_line, lines_of};
-ghost use Rattle.lol_script.specs.Adding.{AddsLine};
-ghost use Rattle.lol_vm.specs.Refusals.{Cause};
-ghost use Rattle.lol_vm.specs.RunRefusals.{StopsFor};
-ghost use Rattle.lol_script.specs.Scripts.{output, output_of, run_output};
-ghost use Rattle.lol_script.specs.Readings.{ForReading, IsReading};
+ghost use Rattle.std.specs.Prelude.{◌≡◌, ◌≢◌, ◌<◌, IfOk, IfErr, IsErrOf, OnOk};
+ghost use Rattle.lol_script.specs.Answering.{ForTagLines, IsReadWhole};
+ghost use Rattle.lol_script.specs.Devices.{IsReadFault, ReadsToEnd, Writes, WritesBeginning, WritesNothing, failures_of};
+ghost use Rattle.lol_script.specs.Output.{bad_line};
+ghost use Rattle.lol_script.specs.ReadLines.{no_lines};
+ghost use Rattle.lol_script.specs.Readings.{IsStop};
+ghost use Rattle.lol_script.specs.Scripts.{output};
 
 use crate::bad_line::{BadLine, push_bad_line};
-use crate::device::{Counted, RunFault, read_all, write_text};
-use crate::output::ReportLines;
-use crate::script::{Script, Stop, read_script};
-use bumpalo::Bump;
-use lol_vm::{RunCause, SharedMemoryLimiter, TagReport, match_each_event};
+use crate::device::{Counted, RunFault, write_text};
+use crate::line_reader::{LineReader, read_to_end};
+use crate::script_run::ScriptRun;
+use crate::settings::{Stop, read_settings};
 use std::alloc::{AllocError, Global};
 use std::io::{Read, Write};
-
-/// The size that an open element is charged for.
-const ITEM_BYTES: usize = 64;
 
 /// How a run ended.
 #[derive(Debug, Clone, Copy, PartialEq, Eq)]
@@ -35,7 +29,8 @@ pub enum Status {
     Refused,
 }
 
-/// Reads a script whole, and writes its output whole (docs/SCRIPT.md).
+/// Reads a script to its end, answering each tag as its line is read, and writes its output whole (docs/SCRIPT.md). It takes the memory of
+/// the output, of the open elements, and of 64 KB or the longest line.
 ///
 /// # Errors
 /// `Memory` where memory was refused, `Read` where a read failed: then nothing is written. `Write` where a write failed: then a
@@ -60,23 +55,31 @@ pub fn run<R: Read, W: Write>(
     ensures read_failed { IsErrOf result RunFault.Read → failures_of reader.old < failures_of reader.new }
     ensures write_failed { IsErrOf result RunFault.Write → failures_of writer.old < failures_of writer.new }
 {
-    let script = read_all(alloc, reader)?;
-    let Ok((text, status)) = output(alloc, &script) else {
-        return Err(RunFault::Memory);
-    };
+    let (text, status) = output(alloc, reader)?;
     write_text(writer, &text)?;
     Ok(status)
 }
 
-/// What is written for a script, and how its run ends.
-fn output(alloc: Global, bytes: &[u8]) -> Result<(Vec<u8>, Status), AllocError>
-    ensures { IfOk result (λ made. output bytes.now ≡ record { text = made.0.items; status = made.1 }) }
+/// Reads a script whole: what is written for it, and how its run ends.
+fn output<R: Read>(alloc: Global, reader: &mut Counted<R>) -> Result<(Vec<u8>, Status), RunFault>
+    requires { failures_of reader.old < u64.MAX }
+    ensures ok { IfOk result (λ made. ReadsToEnd R.remaining reader.old reader.new (λ script.
+        output script ≡ record { text = made.0.items; status = made.1 })) }
+    ensures fault { IfErr result (λ fault. IsReadFault reader.old reader.new fault) }
 {
-    let arena = Bump::new(alloc);
-    match read_script(alloc, &arena, bytes) {
-        Err(Stop::Memory) => Err(AllocError),
-        Err(Stop::Bad(bad)) => Ok((bad_text(alloc, bad)?, Status::BadLine)),
-        Ok(script) => good_output(alloc, script),
+    let mut lines = LineReader::new(alloc);
+    match answer_lines(alloc, reader, &mut lines) {
+        Ok(made) => Ok(made),
+        Err(Stop::Fault(fault)) => Err(fault),
+        Err(Stop::Bad(bad)) => {
+            if !lines.is_last() {
+                read_to_end(reader)?;
+            }
+            match bad_text(alloc, bad) {
+                Ok(text) => Ok((text, Status::BadLine)),
+                Err(_) => Err(RunFault::Memory),
+            }
+        }
     }
 }
 
@@ -88,53 +91,49 @@ fn bad_text(alloc: Global, bad: BadLine) -> Result<Vec<u8>, AllocError>
     Ok(text)
 }
 
-/// What is written for a script whose lines are good.
-fn good_output(alloc: Global, script: Script) -> Result<(Vec<u8>, Status), AllocError>
-    requires { (s : scripts.Script) × IsReading script s }
-    ensures { IfOk result (λ made. ForReading script.entry (λ s.
-        output_of (Ok s) ≡ record { text = made.0.items; status = made.1 })) }
+/// Answers the lines of a script up to the first that is bad.
+fn answer_lines<R: Read>(
+    alloc: Global,
+    reader: &mut Counted<R>,
+    lines: &mut LineReader,
+) -> Result<(Vec<u8>, Status), Stop>
+    requires failures { failures_of reader.old < u64.MAX }
+    requires new { lines.old ≡ no_lines }
+    ensures ok { IfOk result (λ made. ReadsToEnd R.remaining reader.old reader.new (λ script.
+        output script ≡ record { text = made.0.items; status = made.1 })) }
+    ensures stop { IfErr result (λ stop. IsStop R.remaining reader.old reader.new lines.new stop) }
 {
-    let Script {
-        limit,
-        esi,
-        shows_tries,
-        ast,
-        tags,
-    } = script;
-    let mut limiter = SharedMemoryLimiter::new(limit as usize);
-    let mut lines = ReportLines::new(alloc);
-    let mut handler = |report: TagReport|
-        ensures { AddsLine shows_tries lines.entry report lines.exit }
-    {
-        lines.add(&report, shows_tries);
+    let Some(settings) = read_settings(alloc, reader, lines)? else {
+        return Ok((Vec::new(alloc), Status::Good));
     };
-    let answered = match_each_event(
-        alloc,
-        ast,
-        ITEM_BYTES,
-        esi,
-        &tags,
-        &mut limiter,
-        &mut handler,
-    );
-    let text = lines.into_text()?;
-    match answered {
-        Ok(()) => Ok((text, Status::Good)),
-        Err(stop) => Ok((refused_text(text, stop.cause)?, Status::Refused)),
-    }
+    let Ok(mut run) = ScriptRun::new(alloc, settings) else {
+        return Err(Stop::Fault(RunFault::Memory));
+    };
+    let answered = answer_tags(reader, lines, &mut run);
+    let made = run.finish();
+    answered?;
+    Ok(made)
 }
 
-/// The lines of a refused run, and after them that of its cause. There are none where the cause is memory.
-fn refused_text(mut text: Vec<u8>, cause: RunCause) -> Result<Vec<u8>, AllocError>
-    ensures { IfOk result (λ all. (lines written : List (List ℕ)) (event : ℕ) (first : Option (ℕ × Cause))
-        → text.items ≡ lines_of written → written ≡ take event lines → StopsFor cause event first
-        → run_output lines first ≡ record { text = all.items; status = Status.Refused }) }
+/// Answers the line that the reader stands at and those after it, up to the first that is bad.
+fn answer_tags<R: Read>(
+    reader: &mut Counted<R>,
+    lines: &mut LineReader,
+    run: &mut ScriptRun,
+) -> Result<(), Stop>
+    requires { failures_of reader.old < u64.MAX }
+    ensures whole { OnOk result (ForTagLines R.remaining reader.old lines.old run.old (λ start.
+        IsReadWhole R.remaining start reader.new run.new)) }
+    ensures stop { IfErr result (λ stop. ForTagLines R.remaining reader.old lines.old run.old (λ start.
+        IsStop R.remaining start reader.new lines.new stop)) }
 {
-    let line = match cause {
-        RunCause::MemoryLimitExceeded => b"refused limit\n".as_slice(),
-        RunCause::CounterFull => b"refused counter\n".as_slice(),
-        RunCause::Memory => return Err(AllocError),
-    };
-    text.extend_from_slice(line)?;
-    Ok(text)
+    loop {
+        run.take_line(lines.number(), lines.line())?;
+        if lines.is_last() {
+            return Ok(());
+        }
+        if let Err(fault) = lines.advance(reader) {
+            return Err(Stop::Fault(fault));
+        }
+    }
 }

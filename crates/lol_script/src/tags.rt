@@ -1,17 +1,15 @@
 //! The tags of a script.
 
-ghost use Rattle.std.specs.Prelude.{◌≡◌, ◌≤◌, [], IfOk, All, length, position, slice_range};
-ghost use Rattle.lol_base.specs.StartTags.{attribute_of, OutlineIsInside};
-ghost use Rattle.lol_vm.specs.Events.{Start};
-ghost use Rattle.lol_vm.specs.Views.{HasRangesInside, event_of};
+ghost use Rattle.std.specs.Prelude.{◌≡◌, ◌≤◌, IfOk, IfSome, OnOk, All, length, position, slice_range};
+ghost use Rattle.lol_base.specs.StartTags.{attribute_of, OutlineIsInside, RangesAreInside};
+ghost use Rattle.lol_vm.specs.Follows.{IsHandedOver};
 ghost use Rattle.lol_script.specs.Script.{is_equals, attribute_at};
 ghost use Rattle.lol_script.specs.Lines.{AreOutlinesOf, start_tag_of};
 
 use crate::lines::{StartLine, tab_place};
-use bumpalo::Bump;
-use lol_vm::{AttributeBuffer, AttributeOutline, AuxStartTagInfo, Bytes, Range, TagEvent};
+use lol_vm::{AttributeBuffer, AttributeOutline, AuxStartTagInfo, Bytes, Range};
 use memchr::memchr;
-use std::alloc::{AllocError, Global};
+use std::alloc::AllocError;
 
 /// The place of the first `=`.
 fn equals_place(bytes: &[u8]) -> Option<usize>
@@ -48,66 +46,44 @@ fn outline_of(text: &[u8], start: usize, end: usize) -> AttributeOutline
     }
 }
 
-/// The outlines of attributes that are separated by TAB.
-fn outlines_of(alloc: Global, text: &[u8]) -> Result<AttributeBuffer, AllocError>
-    ensures attributes { IfOk result (λ outlines. AreOutlinesOf text.now outlines.items) }
-    ensures inside { IfOk result (λ outlines. All (OutlineIsInside text.now) outlines.items) }
+/// Writes the outlines of attributes that are separated by TAB in the place of those that are there.
+pub fn fill_outlines(outlines: &mut AttributeBuffer, text: &[u8]) -> Result<(), AllocError>
+    ensures attributes { OnOk result (AreOutlinesOf text.now outlines.new.items) }
+    ensures inside { OnOk result (All (OutlineIsInside text.now) outlines.new.items) }
 {
-    let mut outlines = AttributeBuffer::new(alloc);
+    outlines.clear();
     let mut start = 0;
     while let Some(place) = tab_place(&text[start..]) {
         outlines.push(outline_of(text, start, start + place))?;
         start += place + 1;
     }
-    outlines.push(outline_of(text, start, text.len()))?;
-    Ok(outlines)
+    Ok(outlines.push(outline_of(text, start, text.len()))?)
 }
 
-/// Where the attributes of tags are kept, and what a tag without attributes has.
-#[derive(Clone, Copy)]
-pub struct Buffers<'s> {
-    pub arena: &'s Bump,
-    pub none: &'s AttributeBuffer,
-}
-
-/// The outlines of attributes, kept in the arena.
-fn kept_outlines<'s>(
-    alloc: Global,
-    arena: &'s Bump,
-    text: &[u8],
-) -> Result<&'s AttributeBuffer, AllocError>
-    ensures attributes { IfOk result (λ buffer. AreOutlinesOf text.now buffer.now.items) }
-    ensures inside { IfOk result (λ buffer. All (OutlineIsInside text.now) buffer.now.items) }
+/// What is handed over of a start line, if its attributes are: they are cut into the outlines.
+pub fn handed_over<'l: 't, 't>(
+    line: StartLine<'l>,
+    outlines: &'t mut AttributeBuffer,
+) -> Result<Option<AuxStartTagInfo<'t>>, AllocError>
+    ensures handed { IfOk result (λ rest. IsHandedOver rest (start_tag_of line.entry)) }
+    ensures inside { IfOk result (λ rest. IfSome rest RangesAreInside) }
 {
-    let outlines = outlines_of(alloc, text)?;
-    let Ok(buffer) = arena.try_alloc(outlines) else {
-        return Err(AllocError);
+    if !line.finish {
+        return Ok(None);
+    }
+    let input = match line.attributes {
+        Some(text) => {
+            fill_outlines(outlines, text)?;
+            Bytes::new(text)
+        }
+        None => {
+            outlines.clear();
+            Bytes::new(b"")
+        }
     };
-    Ok(buffer)
-}
-
-/// The event of a start line.
-pub fn start_tag<'s>(
-    alloc: Global,
-    buffers: Buffers<'s>,
-    line: StartLine<'s>,
-) -> Result<TagEvent<'s>, AllocError>
-    requires { buffers.none.now.items ≡ [] }
-    ensures event { IfOk result (λ tag. event_of tag ≡ Start (start_tag_of line.entry)) }
-    ensures inside { IfOk result (λ tag. HasRangesInside tag) }
-{
-    let attr_buffer = match line.attributes {
-        Some(text) => kept_outlines(alloc, buffers.arena, text)?,
-        None => buffers.none,
-    };
-    Ok(TagEvent::Start {
-        name: line.name,
-        ns: line.ns,
-        aux_info: AuxStartTagInfo {
-            input: Bytes::new(line.attributes.unwrap_or_default()),
-            attr_buffer,
-            self_closing: line.self_closing,
-        },
-        finish: line.finish,
-    })
+    Ok(Some(AuxStartTagInfo {
+        input,
+        attr_buffer: outlines,
+        self_closing: line.self_closing,
+    }))
 }

@@ -1,0 +1,33 @@
+use Rattle.std.proofs.Common.{rules, ◌≡◌, List, refl, ap, ◌∙◌, subst}
+use Rattle.std.proofs.lemmas.Fn.{chained_keeps}
+use Rattle.std.proofs.lemmas.Result.{IfOk-weaker, IfErr-weaker}
+use Rattle.lol_memory.specs.declared.match_info.MatchInfo.{MatchInfo}
+use Rattle.lol_vm.specs.Views.{match_of}
+use Rattle.lol_script.specs.Lines.{start_tag_of}
+use Rattle.lol_script.specs.Output.{comma_list, shown_match}
+use Rattle.lol_script.proofs.ListedFields.{HasListed, list_is, listed_more, map_through}
+use Rattle.lol_script.proofs.script_run.answer_start.Goals as goal
+
+pub returns-in_default-clause-refused : goal.returns-in_default-clause-refused
+returns-in_default-clause-refused c = λ other. absurd (other refl)
+
+pub returns-clause-goes : goal.returns-clause-goes
+returns-clause-goes c = IfOk-weaker c.start.result _ _
+    (λ taken goes s esi item_bytes before events r.
+    let gone = goes s esi item_bytes before events (start_tag_of c.args.line) r (c.new.ensures, refl) c.in-Ok.ensures.handed in
+    let shown = λ (info : MatchInfo). shown_match (match_of info) in
+    let listed = chained_keeps _ (λ (xs : List MatchInfo) q. (q.0.ghost_name ≡ c.handler-1.given) × HasListed shown xs q.0.now)
+    (λ xs q x v j k. (k.met.1.0 ∙ j.0, listed_more shown xs x q.0.now v.0.now j.1 k.met.1.1)) _ _ _ (refl, λ _. (c.clear.ensures.0, c.clear.ensures.1)) gone.called in
+    let same : c.start.new.match_handler.0.now ≡ c.matched-1.given.0 = search (rules, listed.0) in
+    record {
+      infos = gone.infos;
+      listed = λ unrefused. list_is shown gone.infos c.matched-1.given.0 (subst (HasListed shown gone.infos) same listed.1) unrefused ∙ ap comma_list (map_through shown_match match_of gone.infos);
+      answered = gone.answered;
+      goes_on = gone.goes_on;
+    })
+    c.start.ensures.goes
+
+pub returns-clause-refused : goal.returns-clause-refused
+returns-clause-refused c = IfErr-weaker c.start.result _ _
+    (λ cause refused other s esi item_bytes before events r later. refused s esi item_bytes before events (start_tag_of c.args.line) r (c.new.ensures, refl) c.in-Ok.ensures.handed later)
+    c.start.ensures.refused

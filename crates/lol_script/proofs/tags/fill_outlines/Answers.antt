@@ -1,0 +1,34 @@
+use Rattle.std.proofs.Common.{◌≡◌, ◌+◌, ◌++◌, Some, None, All, map, drop, length-drop, subst, ap, sym, ◌∙◌, position, arith}
+use Rattle.std.specs.List.{slice_split}
+use Rattle.std.proofs.lemmas.List.{take_rest}
+use Rattle.std.proofs.lemmas.List.Elements.{All-push}
+use Rattle.lol_base.specs.StartTags.{attribute_of, OutlineIsInside}
+use Rattle.lol_script.specs.Script.{is_tab, attribute_at}
+use Rattle.lol_script.proofs.Fields.{within_some}
+use Rattle.lol_script.proofs.Outlines.{attributes_more, attributes_last}
+use Rattle.lol_script.proofs.tags.fill_outlines.Goals as goal
+
+pub loop-place-preserved : goal.loop-place-preserved
+loop-place-preserved c =
+    let text = c.args.text.now in
+    let start = c.loop-place.start in
+    let place = c.in-Some.place in
+    let found : position is_tab (drop start text) ≡ Some place = sym (c.in-Some.ensures ∙ ap (position is_tab) (take_rest text start)) in
+    let items = c.in_ok-push.ensures.items in
+    record {
+      within = omega (arith, within_some (drop start text) place found, length-drop start text, c.loop-place.invariant.within);
+      attributes =
+          ap (λ outlines. map (attribute_of text) outlines ++ map attribute_at (slice_split is_tab (drop (start + (place + 1)) text))) items
+          ∙ (attributes_more text c.loop-place.outlines.items c.outline_of.result start place found c.outline_of.ensures.attribute ∙ c.loop-place.invariant.attributes);
+      inside =
+          subst (All (OutlineIsInside text)) (sym items)
+          (All-push (OutlineIsInside text) c.loop-place.outlines.items c.outline_of.result c.loop-place.invariant.inside c.outline_of.ensures.inside);
+    }
+
+pub returns-clause-attributes : goal.returns-clause-attributes
+returns-clause-attributes c =
+    let text = c.args.text.now in
+    let start = c.loop-place.start in
+    let none : position is_tab (drop start text) ≡ None = sym (c.in_default.ensures ∙ ap (position is_tab) (take_rest text start)) in
+    ap (map (attribute_of text)) c.in_ok-push-2.ensures.items
+    ∙ (attributes_last text c.loop-place.outlines.items c.outline_of-2.result start none c.outline_of-2.ensures.attribute ∙ c.loop-place.invariant.attributes)

@@ -1,0 +1,16 @@
+use Rattle.std.proofs.Common.{◌≡◌, ◌-◌, ◌≤◌, ◌++◌, map, length, drop, All}
+use Rattle.std.specs.List.{slice_split}
+use Rattle.lol_base.specs.StartTags.{attribute_of, OutlineIsInside}
+use Rattle.lol_script.specs.Script.{is_tab, attribute_at}
+use Rattle.lol_script.proofs.tags.fill_outlines.Given as goal
+
+abbrev pub invariant-loop-place : goal.invariant-loop-place
+invariant-loop-place l =
+    record {
+      within : l.start ≤ length l.text;
+      attributes : map (attribute_of l.text) l.outlines.items ++ map attribute_at (slice_split is_tab (drop l.start l.text)) ≡ map attribute_at (slice_split is_tab l.text);
+      inside : All (OutlineIsInside l.text) l.outlines.items;
+    }
+
+abbrev pub decreases-loop-place : goal.decreases-loop-place
+decreases-loop-place l = length l.text - l.start

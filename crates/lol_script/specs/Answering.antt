@@ -1,0 +1,94 @@
+-- Tags that are answered as their lines are read.
+use Rattle.std.specs.Prelude.{◌≡◌, ℕ, Bool, true, false, List, [], ◌∷◌, ◌++◌, map, Option, Ok, decimal}
+use Rattle.lol_base.specs.StartTags.{StartTag}
+use Rattle.lol_memory.specs.Limiter.{Limiter}
+use Rattle.lol_memory.specs.declared.match_info.MatchInfo.{MatchInfo}
+use Rattle.lol_program.specs.Nodes.{selectors_of}
+use Rattle.lol_program.specs.Paths.{Selectors}
+use Rattle.lol_vm.specs.Answers.{answer, answers, document}
+use Rattle.lol_vm.specs.Documents.{closed}
+use Rattle.lol_vm.specs.EventRuns.{IsRunOf, answer_taken, machine_of}
+use Rattle.lol_vm.specs.Events.{Event, Start, End}
+use Rattle.lol_vm.specs.Laws.{SameSelectors}
+use Rattle.lol_vm.specs.Refusals.{refused}
+use Rattle.lol_vm.specs.RunRefusals.{allowance_of}
+use Rattle.lol_vm.specs.Views.{match_of}
+use Rattle.lol_vm.specs.Vms.{tries_in}
+use Rattle.lol_vm.specs.declared.event_run.EventRun.{EventRun}
+use Rattle.lol_script.specs.Devices.{ReadsToEnd}
+use Rattle.lol_script.specs.FieldLists.{list_text}
+use Rattle.lol_script.specs.Output.{comma_list, lines_of, shown_answer, shown_match}
+use Rattle.lol_script.specs.ReadLines.{ReadLines}
+use Rattle.lol_script.specs.Readings.{IsReadTo, IsTagLine}
+use Rattle.lol_script.specs.Script.{line_at}
+use Rattle.lol_script.specs.Scripts.{Output, Script, output, output_of, run_output}
+use Rattle.lol_script.specs.declared.device.Counted.{Counted}
+use Rattle.lol_script.specs.declared.output.FieldList.{FieldList}
+use Rattle.lol_script.specs.declared.program.Status.TheVariants.{Refused}
+use Rattle.lol_script.specs.declared.script_run.ScriptRun.{ScriptRun}
+
+-- 1. One tag
+
+-- A start tag was answered; if memory wasn't refused for the list, it says what the tag is reported under.
+pub record IsStarted (s : Selectors) (esi : Bool) (item_bytes : ℕ) (before : Limiter) (run : EventRun) (events : List Event) (tag : StartTag) (now : Limiter) (taken : Option Bool) (matched : FieldList) : Type 0 where
+  pub infos : List MatchInfo
+  pub listed : matched.refused ≡ false → list_text matched ≡ comma_list (map shown_match (map match_of infos))
+  pub answered : answer_taken taken infos (tries_in (machine_of run)) ≡ answer s esi (document s esi events) (Start tag)
+  pub goes_on : IsRunOf s esi item_bytes before run (events ++ Start tag ∷ []) now
+
+-- An end tag was answered; if memory wasn't refused for the list, it says what the tag closes.
+pub record IsEnded (s : Selectors) (esi : Bool) (item_bytes : ℕ) (before : Limiter) (run : EventRun) (events : List Event) (name : List ℕ) (now : Limiter) (list : FieldList) : Type 0 where
+  pub listed : list.refused ≡ false → list_text list ≡ comma_list (map decimal (closed name (document s esi events)))
+  pub goes_on : IsRunOf s esi item_bytes before run (events ++ End name ∷ []) now
+
+-- 2. The tags so far
+
+-- the limiter before a script's run
+abbrev pub limiter_of : Script → Limiter
+limiter_of s = record { usage = 0; maximum = s.limit }
+
+-- what is written for these events
+abbrev pub output_for : Selectors → Script → List Event → Output
+output_for selectors s events =
+    run_output (map (shown_answer s.shows_tries) (answers selectors s.esi events))
+    (refused selectors s.esi (allowance_of 64 (limiter_of s)) events)
+
+-- What was written for a script's events: the line of each answer, where none was refused; else the whole output, whatever comes later.
+abbrev pub IsWritten : Selectors → Script → ScriptRun → Bool → Type 0
+IsWritten selectors s code false =
+    IsRunOf selectors s.esi 64 (limiter_of s) code.run s.events code.limiter
+    × (code.text.items ≡ lines_of (map (shown_answer s.shows_tries) (answers selectors s.esi s.events)))
+IsWritten selectors s code true =
+    (later : List Event) → output_for selectors s (s.events ++ later) ≡ record { text = code.text.items; status = Refused }
+
+-- The code has answered the events of a script.
+pub record Answers (code : ScriptRun) (s : Script) : Type 0 where
+  pub selectors : Selectors
+  pub same : SameSelectors selectors (selectors_of s.pairs)
+  pub shows_tries : code.shows_tries ≡ s.shows_tries
+  pub written : IsWritten selectors s code code.refused
+
+-- For each script whose events the code has answered.
+abbrev pub ForAnswers : ScriptRun → (Script → Type 0) → Type 0
+ForAnswers code holds = (s : Script) → Answers code s → holds s
+
+abbrev pub HasTags : Script → Type 0
+HasTags s = s.events ≡ [] → ⊥
+
+-- the line is that of a tag, if none was read
+abbrev pub IsTagIfFirst : List ℕ → Script → Type 0
+IsTagIfFirst line s = s.events ≡ [] → IsTagLine (line_at line)
+
+-- 3. All tags
+
+module _ {D : Type 0} (remaining : D → Option (List ℕ)) where
+  -- For each start of the reading, and the script read from it up to a line, whose events the code has answered.
+  abbrev pub ForTagLines : Counted D → ReadLines → ScriptRun → (Counted D → Type 0) → Type 0
+  ForTagLines reader lines code holds =
+      (start : Counted D) (s : Script) → IsReadTo remaining start reader lines lines.number s (lines.line ∷ [])
+      → Answers code s → IsTagIfFirst lines.line s → holds start
+
+  -- The whole script was read, and its events are answered.
+  abbrev pub IsReadWhole : Counted D → Counted D → ScriptRun → Type 0
+  IsReadWhole start reader code =
+      ReadsToEnd remaining start reader (λ script. (s : Script) × Answers code s × (output script ≡ output_of (Ok s)))

@@ -1,0 +1,37 @@
+-- Lists whose fields come one by one.
+use Rattle.std.specs.Prelude.{◌≡◌, ℕ, Bool, true, false, List, [], ◌∷◌, ◌++◌, Option, Some, None, codes, if◌then◌else◌}
+use Rattle.std.specs.Str.{byte}
+use Rattle.lol_base.specs.CodePoints.{tab}
+use Rattle.lol_instructions.specs.Tries.{names_counted, attributes_counted}
+use Rattle.lol_instructions.specs.declared.tries.Tries.{Tries}
+use Rattle.lol_script.specs.Output.{tries_field}
+use Rattle.lol_script.specs.declared.output.FieldList.{FieldList}
+
+-- no field was added, and memory wasn't refused
+abbrev pub IsEmptyList : FieldList → Type 0
+IsEmptyList list = (list.bytes.items ≡ []) × (list.any ≡ false) × (list.refused ≡ false)
+
+-- A field comes last, after a comma unless it is the first.
+abbrev pub IsFieldAdded : List ℕ → FieldList → FieldList → Type 0
+IsFieldAdded field old new = (new.any ≡ true) × (new.bytes.items ≡ old.bytes.items ++ (if old.any then byte "," ∷ field else field))
+
+-- The same, or memory was refused; after a refusal nothing is added.
+abbrev pub AddsField : List ℕ → FieldList → FieldList → Type 0
+AddsField field old new = (new.refused ≡ false) → (old.refused ≡ false) × IsFieldAdded field old new
+
+-- what stands for the list
+abbrev pub list_text : FieldList → List ℕ
+list_text list = if list.any then list.bytes.items else codes "-"
+
+-- the field of the tries, if they are shown
+abbrev pub tries_shown : Option Tries → List ℕ
+tries_shown None = []
+tries_shown (Some tries) = tries_field true (names_counted tries) (attributes_counted tries)
+
+-- the line of a start tag, by what stands for its matches
+abbrev pub started_text : List ℕ → Bool → Option Tries → List ℕ
+started_text matched asked tries = codes "start" ++ (tab ∷ matched ++ ((if asked then tab ∷ codes "asked" else []) ++ tries_shown tries))
+
+-- the line of an end tag, by what stands for the elements that it closed
+abbrev pub ended_text : List ℕ → List ℕ
+ended_text closed = codes "end" ++ tab ∷ closed
