@@ -27,8 +27,8 @@ enum {
    written: the length of the whole output. If it is greater than `out_len` the rest is lost: call again with so many bytes.
 
    Returns one of the statuses above. Out of memory, `out` stays as it was and `written` is 0.
-   No two of the three may overlap. No call depends on another, and threads may call at once. But each call loses some memory:
-   224 bytes for each start tag with up to four attributes (docs/BINDINGS.md). */
+   No two of the three may overlap. No call depends on another, and threads may call at once. Each call gives back what memory it
+   took. */
 uint32_t zugrenja_run_script(const uint8_t *script, size_t script_len, uint8_t *out, size_t out_len, size_t *written);
 
 #ifdef __cplusplus
