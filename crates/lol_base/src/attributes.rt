@@ -51,7 +51,8 @@ impl Attributes {
     /// # Errors
     /// `AllocError`, out of memory: then the attributes are as before.
     pub fn push(&mut self, name: &[u8], value: Option<&[u8]>) -> Result<(), AllocError>
-        ensures ok { OnOk result (self.new ≡ self.old ++ (record { name = name.now; value = option_copied value.entry }) ∷ []) }
+        ensures ok { OnOk result
+            (self.new ≡ self.old ++ (record { name = name.now; value = option_copied value.entry }) ∷ []) }
         ensures err { OnErr result (self.new ≡ self.old) }
     {
         push_outline(&mut self.input, &mut self.outlines, name, value)
