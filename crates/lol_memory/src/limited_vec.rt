@@ -166,8 +166,10 @@ impl<T> LimitedVec<T> {
 
     /// How many slots come when the list is full, and their charge; none if either passes usize.
     fn growth(&self) -> Option<(usize, usize)>
-        ensures some { IfSome result (λ g. (g.0 ≡ more_slots self.now) × (g.1 ≡ more_slots self.now * self.now.item_bytes)) }
-        ensures none { IsNone result ↔ (2 ^ 64 ≤ more_slots self.now * self.now.item_bytes) ⊎ (2 ^ 64 ≤ self.now.slots + more_slots self.now) }
+        ensures some { IfSome result
+            (λ g. (g.0 ≡ more_slots self.now) × (g.1 ≡ more_slots self.now * self.now.item_bytes)) }
+        ensures none { IsNone result ↔ (2 ^ 64 ≤ more_slots self.now * self.now.item_bytes)
+            ⊎ (2 ^ 64 ≤ self.now.slots + more_slots self.now) }
     {
         let slots = self.vec.capacity();
         let additional = slots.max(minimum_slots(self.item_bytes));

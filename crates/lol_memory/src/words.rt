@@ -49,7 +49,8 @@ impl Words {
     /// Sets these bits of the word at `place`.
     pub(crate) fn mark(&mut self, place: usize, bits: u32)
         requires { place < length (words_of self.old) }
-        ensures { words_of self.new ≡ slice_set (words_of self.old) place (bit_or (get_or (words_of self.old) place 0) bits) }
+        ensures { words_of self.new
+            ≡ slice_set (words_of self.old) place (bit_or (get_or (words_of self.old) place 0) bits) }
     {
         match self {
             Words::Inline(word) => *word |= bits,
@@ -60,7 +61,8 @@ impl Words {
     /// Sets the bits that are set in `more`.
     pub(crate) fn join(&mut self, more: &[u32])
         requires { length more.now ≤ length (words_of self.old) }
-        ensures joined { (j : ℕ) → get_or (words_of self.new) j 0 ≡ bit_or (get_or (words_of self.old) j 0) (get_or more.now j 0) }
+        ensures joined { (j : ℕ) → get_or (words_of self.new) j 0
+            ≡ bit_or (get_or (words_of self.old) j 0) (get_or more.now j 0) }
         ensures len { length (words_of self.new) ≡ length (words_of self.old) }
     {
         match self {
