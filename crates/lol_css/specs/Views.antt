@@ -4,14 +4,19 @@ use Rattle.std.specs.Option.{option_map}
 use Rattle.lol_css.specs.Points.{decimal, name}
 use Rattle.lol_css.specs.Tokens as tokens
 use Rattle.lol_css.specs.Tokens.{string_text}
+use Rattle.lol_css.specs.Trees.{Item}
 use Rattle.lol_css.specs.Rules as rules
-use Rattle.lol_css.specs.Rules.{Read, refused, at_end}
+use Rattle.lol_css.specs.Rules.{Read, refused, giving, at_end}
+use Rattle.lol_css.specs.Reading.{inner_list}
+use Rattle.lol_css.specs.Reading as reading
+use Rattle.lol_css.specs.Accepting.{judged_item}
 use Rattle.lol_css.specs.declared.selector.Combinator.{Combinator}
 use Rattle.lol_css.specs.declared.error.SelectorError.{SelectorError}
 use Rattle.lol_css.specs.declared.error.SelectorError.TheVariants.{UnexpectedEnd, Memory}
 use Rattle.lol_css.specs.declared.selectors.refusals.RefusedItem.{RefusedItem}
 use Rattle.lol_css.specs.declared.selectors.judged.Judged.{Judged}
 use Rattle.lol_css.specs.declared.selectors.judged.Judged.TheVariants.{Kept, Refused}
+use Rattle.lol_css.specs.declared.selectors.parser.Context.{Context}
 use Rattle.lol_css.specs.declared.syntax.reader.Nesting.{Nesting}
 use Rattle.lol_css.specs.declared.syntax.reader.Nesting.TheVariants.{Outside, InFunction, InBrackets}
 use Rattle.lol_css.specs.declared.syntax.texts.Name.{Name}
@@ -93,6 +98,12 @@ nesting_of InBrackets = rules.InBrackets
 abbrev pub is_inside : Nesting → Bool
 is_inside InFunction = true
 is_inside _ = false
+
+-- what reading an item gives under what is open, with the item judged
+abbrev pub judged_item_in : Context → List tokens.Token → Read (Result Item SelectorError)
+judged_item_in context tokens =
+    giving (judged_item (is_inside context.nesting))
+    (reading.item (inner_list context.depth_left) (nesting_of context.nesting) tokens)
 
 -- what is kept, seen by view, or the cause for which it is refused late
 abbrev pub judgement : {X Y : Type 0} → (X → Y) → Judged X → Result Y SelectorError

@@ -24,5 +24,7 @@ pub fn locations_lie_in_the_text()
 
 /// Where a token is refused as the text is read, the location is that token's: the first of those that are left of the text there.
 pub fn refused_tokens_are_located()
-    ensures { (text : List ℕ) → IfErr (selector (tokens (chars text))) (λ refusal. IsSomeAnd (error_location text) (λ location. location.offset ≡ token_offset text (length (tokens (chars text)) - length refusal.left))) }
+    ensures { (text : List ℕ) → IfErr (selector (tokens (chars text))) (λ refusal.
+        IsSomeAnd (error_location text) (λ location.
+        location.offset ≡ token_offset text (length (tokens (chars text)) - length refusal.left))) }
 {}

@@ -14,7 +14,8 @@ pub fn accepted()
 
 /// Causes, and texts that are refused with each.
 pub fn refused()
-    ensures { map (λ row. map accept row.texts) refused_rows ≡ map (λ row. map (λ text. Err row.cause) row.texts) refused_rows }
+    ensures { map (λ row. map accept row.texts) refused_rows
+        ≡ map (λ row. map (λ text. Err row.cause) row.texts) refused_rows }
 {}
 
 /// Pseudo-classes and pseudo-elements that the machine doesn't know.
@@ -34,16 +35,20 @@ pub fn locations_of_accepted()
 
 /// Past the bounds: after the parenthesis of a combination too many, and at the compound that is one too many.
 pub fn locations_past_bounds()
-    ensures combinations { error_location (times 129 (codes ":not(") ++ codes "a") ≡ Some (record { item = 0; offset = 645 }) }
+    ensures combinations { error_location (times 129 (codes ":not(") ++ codes "a")
+        ≡ Some (record { item = 0; offset = 645 }) }
     ensures compounds { error_location (times 1025 (codes "a ")) ≡ Some (record { item = 0; offset = 2048 }) }
 {}
 
 /// The bounds: 128 of `:not`, `:is` and `:where` one inside the other, and 1,024 compounds an item.
 pub fn bounds()
-    ensures negations { accept (times 128 (codes ":not(") ++ codes "a") ≡ Ok (one_part (negated 128 (type (codes "a")))) }
+    ensures negations { accept (times 128 (codes ":not(") ++ codes "a")
+        ≡ Ok (one_part (negated 128 (type (codes "a")))) }
     ensures negations_past { accept (times 129 (codes ":not(") ++ codes "a") ≡ Err UnsupportedSyntax }
-    ensures combinations { accept (times 64 (codes ":is(:not(") ++ codes "a") ≡ Ok (one_part (alternated 64 (type (codes "a")))) }
-    ensures combinations_past { accept (codes ":where(" ++ times 64 (codes ":is(:not(") ++ codes "a") ≡ Err UnsupportedSyntax }
+    ensures combinations { accept (times 64 (codes ":is(:not(") ++ codes "a")
+        ≡ Ok (one_part (alternated 64 (type (codes "a")))) }
+    ensures combinations_past { accept (codes ":where(" ++ times 64 (codes ":is(:not(") ++ codes "a")
+        ≡ Err UnsupportedSyntax }
     ensures compounds { accept (times 1024 (codes "a ")) ≡ Ok (And NoItems (inside 1023 (item (type (codes "a"))))) }
     ensures compounds_past { accept (times 1025 (codes "a ")) ≡ Err UnsupportedSyntax }
     ensures step_past { accept (times 1024 (codes "a ") ++ codes " >") ≡ Err UnsupportedSyntax }

@@ -38,7 +38,8 @@ fn name_after_bar<'a>(
 /// The bar after a `*`.
 #[tactic(auto, unfolding(crate::specs::Rules::required_token))]
 fn bar(reader: &mut Reader<'_>) -> Result<(), SelectorError>
-    ensures { Reads (λ _. byte "|") result reader.new (required_token InBrackets bar_of UnexpectedTokenInAttribute reader.old) }
+    ensures { Reads (λ _. byte "|") result reader.new
+        (required_token InBrackets bar_of UnexpectedTokenInAttribute reader.old) }
 {
     match reader.expect(Nesting::InBrackets)? {
         Token::Delim('|') => {
@@ -77,7 +78,8 @@ fn attribute_name<'a>(reader: &mut Reader<'a>) -> Result<(Name<'a>, bool), Selec
 
 #[tactic(auto, unfolding(crate::specs::Rules::required_token))]
 fn operator(reader: &mut Reader<'_>) -> Result<AttrSelectorOperator, SelectorError>
-    ensures { Reads (λ x. x) result reader.new (required_token InBrackets operator_of UnexpectedTokenInAttribute reader.old) }
+    ensures { Reads (λ x. x) result reader.new
+        (required_token InBrackets operator_of UnexpectedTokenInAttribute reader.old) }
 {
     let operator = match reader.expect(Nesting::InBrackets)? {
         Token::Delim('=') => AttrSelectorOperator::Equal,
@@ -211,7 +213,8 @@ impl Parser<'_> {
     /// The value that is compared with, a name or a quoted text.
     #[tactic(auto, unfolding(crate::specs::Rules::required_token))]
     fn value(&mut self) -> Result<CssString, SelectorError>
-        ensures reads { ReadsUnlessMemory (λ s. s) result self.new.reader (giving utf8 (required_token InBrackets written_value UnexpectedTokenInAttribute self.old.reader)) }
+        ensures reads { ReadsUnlessMemory (λ s. s) result self.new.reader
+            (giving utf8 (required_token InBrackets written_value UnexpectedTokenInAttribute self.old.reader)) }
         ensures context { self.new.context ≡ self.old.context }
     {
         let value = match self.reader.expect(Nesting::InBrackets)? {
@@ -226,7 +229,8 @@ impl Parser<'_> {
     /// What stands after the name.
     #[tactic(auto, unfolding(crate::specs::Reading::comparison))]
     fn comparison(&mut self, name: CssString) -> Result<SimpleSelector, SelectorError>
-        ensures reads { ReadsUnlessMemory part_of result self.new.reader (giving trees.Plain (comparison name self.old.reader)) }
+        ensures reads { ReadsUnlessMemory part_of result self.new.reader
+            (giving trees.Plain (comparison name self.old.reader)) }
         ensures context { self.new.context ≡ self.old.context }
     {
         if self.reader.is_at_end(Nesting::InBrackets) {
@@ -249,7 +253,8 @@ impl Parser<'_> {
     /// An attribute, after the `[`.
     #[tactic(auto, unfolding(crate::specs::Reading::attribute, crate::specs::Accepting::judged_part))]
     pub(crate) fn attribute(&mut self) -> Result<Judged<SimpleSelector>, SelectorError>
-        ensures reads { ReadsUnlessMemory (judgement part_of) result self.new.reader (giving judged_part (attribute self.old.reader)) }
+        ensures reads { ReadsUnlessMemory (judgement part_of) result self.new.reader
+            (giving judged_part (attribute self.old.reader)) }
         ensures context { self.new.context ≡ self.old.context }
     {
         self.reader.skip_space();

@@ -21,7 +21,8 @@ use std::alloc::{AllocError, Global};
 impl Parser<'_> {
     #[tactic(auto, unfolding(crate::specs::Reading::class_name))]
     pub(crate) fn class_name(&mut self) -> Result<SimpleSelector, SelectorError>
-        ensures reads { ReadsUnlessMemory part_of result self.new.reader (giving trees.Plain (class_name (nesting_of self.old.context.nesting) self.old.reader)) }
+        ensures reads { ReadsUnlessMemory part_of result self.new.reader
+            (giving trees.Plain (class_name (nesting_of self.old.context.nesting) self.old.reader)) }
         ensures context { self.new.context ≡ self.old.context }
     {
         if self.reader.is_at_stop(self.context.nesting) {
@@ -36,7 +37,8 @@ impl Parser<'_> {
     /// A name or `*`, directly after a bar; nothing where the item ends.
     #[tactic(auto, unfolding(crate::specs::Reading::after_bar))]
     fn after_bar(&mut self) -> Result<Option<SimpleSelector>, SelectorError>
-        ensures reads { ReadsUnlessMemory (option_map part_of) result self.new.reader (giving (option_map trees.Plain) (after_bar (nesting_of self.old.context.nesting) self.old.reader)) }
+        ensures reads { ReadsUnlessMemory (option_map part_of) result self.new.reader
+            (giving (option_map trees.Plain) (after_bar (nesting_of self.old.context.nesting) self.old.reader)) }
         ensures context { self.new.context ≡ self.old.context }
     {
         if self.reader.is_at_stop(self.context.nesting) {
@@ -54,7 +56,9 @@ impl Parser<'_> {
     /// A compound that begins after `*|`; nothing where the item ends.
     #[tactic(auto, unfolding(crate::specs::Accepting::judged_compound, crate::specs::Accepting::judged_part))]
     fn any_namespace(&mut self) -> Result<Option<Compound>, SelectorError>
-        ensures reads { ReadsUnlessMemory (option_map (λ start. Ok (compound_of start))) result self.new.reader (giving (option_map judged_compound) (giving (option_map any_namespace) (after_bar (nesting_of self.old.context.nesting) self.old.reader))) }
+        ensures reads { ReadsUnlessMemory (option_map (λ start. Ok (compound_of start))) result self.new.reader
+            (giving (option_map judged_compound)
+            (giving (option_map any_namespace) (after_bar (nesting_of self.old.context.nesting) self.old.reader))) }
         ensures context { self.new.context ≡ self.old.context }
     {
         match self.after_bar()? {
@@ -64,9 +68,11 @@ impl Parser<'_> {
     }
 
     /// A compound that begins after `|`; nothing where the item ends.
-    #[tactic(auto, unfolding(crate::specs::Accepting::judged_compound, crate::specs::Accepting::judged_part), using(crate::proofs::TreeRows::push_steps))]
+    #[tactic(auto, unfolding(crate::specs::Accepting::judged_compound), using(crate::proofs::TreeRows::push_steps))]
     fn no_namespace(&mut self) -> Result<Option<Compound>, SelectorError>
-        ensures reads { ReadsUnlessMemory (option_map (λ start. Ok (compound_of start))) result self.new.reader (giving (option_map judged_compound) (giving (option_map no_namespace) (after_bar (nesting_of self.old.context.nesting) self.old.reader))) }
+        ensures reads { ReadsUnlessMemory (option_map (λ start. Ok (compound_of start))) result self.new.reader
+            (giving (option_map judged_compound)
+            (giving (option_map no_namespace) (after_bar (nesting_of self.old.context.nesting) self.old.reader))) }
         ensures context { self.new.context ≡ self.old.context }
     {
         match self.after_bar()? {
@@ -80,9 +86,10 @@ impl Parser<'_> {
     }
 
     /// A compound that begins with its type part, where one stands; nothing where a bar ends the item.
-    #[tactic(auto, unfolding(crate::specs::Reading::type_part, crate::specs::Accepting::judged_compound, crate::specs::Accepting::judged_part))]
+    #[tactic(auto, unfolding(crate::specs::Reading::type_part, crate::specs::Accepting::judged_compound))]
     pub(crate) fn type_part(&mut self) -> Result<Option<Compound>, SelectorError>
-        ensures reads { ReadsUnlessMemory (option_map (λ start. Ok (compound_of start))) result self.new.reader (giving (option_map judged_compound) (type_part (nesting_of self.old.context.nesting) self.old.reader)) }
+        ensures reads { ReadsUnlessMemory (option_map (λ start. Ok (compound_of start))) result self.new.reader
+            (giving (option_map judged_compound) (type_part (nesting_of self.old.context.nesting) self.old.reader)) }
         ensures context { self.new.context ≡ self.old.context }
     {
         match self.reader.peek() {
@@ -129,7 +136,8 @@ pub(crate) fn with_part(
     front: Judged<Compound>,
     part: Judged<SimpleSelector>,
 ) -> Result<Judged<Compound>, AllocError>
-    ensures { IfOk result (λ r. judgement compound_of r ≡ judging.with_part (judgement compound_of front) (judgement part_of part)) }
+    ensures { IfOk result (λ r. judgement compound_of r
+        ≡ judging.with_part (judgement compound_of front) (judgement part_of part)) }
 {
     let mut compound = match front {
         Judged::Kept(compound) => compound,

@@ -21,7 +21,9 @@ impl Parser<'_> {
     /// The step after a compound; nothing where the item ends.
     #[tactic(auto, unfolding(crate::specs::Reading::next_step, crate::specs::Reading::step))]
     pub(crate) fn next_step(&mut self) -> Result<Option<Judged<Combinator>>, SelectorError>
-        ensures reads { Reads (option_map step_judgement) result self.new.reader (giving (option_map (judged_step (is_inside self.old.context.nesting))) (next_step (nesting_of self.old.context.nesting) self.old.reader)) }
+        ensures reads { Reads (option_map step_judgement) result self.new.reader
+            (giving (option_map (judged_step (is_inside self.old.context.nesting)))
+            (next_step (nesting_of self.old.context.nesting) self.old.reader)) }
         ensures context { self.new.context ≡ self.old.context }
     {
         let after_space = matches!(self.reader.peek(), Some(Token::Space));
@@ -73,7 +75,8 @@ pub(crate) fn with_compound(
     step: Judged<Combinator>,
     compound: Judged<Compound>,
 ) -> Result<Judged<ComplexSelector>, AllocError>
-    ensures { IfOk result (λ r. judgement item_of r ≡ judging.with_compound (judgement item_of front) (step_judgement step) (judgement compound_of compound)) }
+    ensures { IfOk result (λ r. judgement item_of r
+        ≡ judging.with_compound (judgement item_of front) (step_judgement step) (judgement compound_of compound)) }
 {
     let compound = match compound {
         Judged::Kept(compound) => compound,
@@ -98,7 +101,8 @@ pub(crate) fn with_item(
     front: Judged<SelectorList>,
     item: Judged<ComplexSelector>,
 ) -> Result<Judged<SelectorList>, AllocError>
-    ensures { IfOk result (λ r. judgement list_of r ≡ judging.with_item (judgement list_of front) (judgement item_of item)) }
+    ensures { IfOk result (λ r. judgement list_of r
+        ≡ judging.with_item (judgement list_of front) (judgement item_of item)) }
 {
     let mut list = match front {
         Judged::Kept(list) => list,

@@ -31,7 +31,8 @@ fn is_late_word(name: Name<'_>) -> bool
 /// A pseudo-class of this name without an argument.
 #[tactic(auto, unfolding(crate::specs::Reading::ident_part, crate::specs::Accepting::judged_part))]
 pub(crate) fn ident_part(name: Name<'_>) -> Result<Judged<SimpleSelector>, SelectorError>
-    ensures { (tokens : List tokens.Token) → ReadsFirst (judgement part_of) result tokens (giving judged_part (ident_part (points_of name.entry) tokens)) }
+    ensures { (tokens : List tokens.Token) → ReadsFirst (judgement part_of) result tokens
+        (giving judged_part (ident_part (points_of name.entry) tokens)) }
 {
     let first = NthChild::new(0, 1);
     if name.is_word("first-child") {
@@ -58,7 +59,8 @@ pub(crate) fn function_part(
     name: Name<'_>,
     reader: &mut Reader<'_>,
 ) -> Result<Judged<SimpleSelector>, SelectorError>
-    ensures { Reads (judgement part_of) result reader.new (giving judged_part (function_part (points_of name.entry) reader.old)) }
+    ensures { Reads (judgement part_of) result reader.new
+        (giving judged_part (function_part (points_of name.entry) reader.old)) }
 {
     if name.is_word("nth-child") {
         reader.advance();

@@ -4,11 +4,9 @@ ghost use Rattle.std.specs.Prelude.{◌≡◌, ◌-◌, length, IfOk};
 ghost use Rattle.std.specs.Option.{option_map};
 ghost use Rattle.lol_css.specs.Points.{◌or◌};
 ghost use Rattle.lol_css.specs.Tokens.{tokens_of};
-ghost use Rattle.lol_css.specs.Rules.{giving, skip_space};
-ghost use Rattle.lol_css.specs.Reading.{item, inner_list};
-ghost use Rattle.lol_css.specs.Accepting.{judged_item};
+ghost use Rattle.lol_css.specs.Rules.{skip_space};
 ghost use Rattle.lol_css.specs.Locating.{refused_token};
-ghost use Rattle.lol_css.specs.Views.{nesting_of, is_inside, judgement, read_of, left_of, numbers, late_place};
+ghost use Rattle.lol_css.specs.Views.{judgement, judged_item_in, read_of, left_of, numbers, late_place};
 ghost use Rattle.lol_css.specs.TreeViews.{item_of};
 
 use crate::error::SelectorError;
@@ -30,8 +28,9 @@ pub(crate) struct RefusedItem {
 impl Parser<'_> {
     /// An item; nothing where it is refused as it is read, which leaves the reader at the first token that is refused.
     fn item_if_read(&mut self) -> Result<Option<Judged<ComplexSelector>>, AllocError>
-        ensures read { IfOk result (λ found. option_map (judgement item_of) found ≡ read_of (giving (judged_item (is_inside self.old.context.nesting)) (item (inner_list self.old.context.depth_left) (nesting_of self.old.context.nesting) self.old.reader))) }
-        ensures left { IfOk result (λ _. self.new.reader ≡ left_of (giving (judged_item (is_inside self.old.context.nesting)) (item (inner_list self.old.context.depth_left) (nesting_of self.old.context.nesting) self.old.reader))) }
+        ensures read { IfOk result (λ found. option_map (judgement item_of) found
+            ≡ read_of (judged_item_in self.old.context self.old.reader)) }
+        ensures left { IfOk result (λ _. self.new.reader ≡ left_of (judged_item_in self.old.context self.old.reader)) }
         ensures context { self.new.context ≡ self.old.context }
     {
         match self.item() {
@@ -50,7 +49,8 @@ fn first_late(
     mut start: Reader<'_>,
     all: usize,
 ) -> Option<RefusedItem>
-    ensures { option_map numbers result ≡ (option_map numbers found or late_place (judgement item_of item) (number, all - length (skip_space start.entry))) }
+    ensures { option_map numbers result ≡ (option_map numbers found
+        or late_place (judgement item_of item) (number, all - length (skip_space start.entry))) }
 {
     if found.is_some() {
         return found;

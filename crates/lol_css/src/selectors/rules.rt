@@ -4,10 +4,10 @@ ghost use Rattle.std.specs.Prelude.{◌≡◌, Ok};
 ghost use Rattle.std.specs.Option.{option_map};
 ghost use Rattle.lol_css.specs.Drafts as drafts;
 ghost use Rattle.lol_css.specs.Rules.{giving};
-ghost use Rattle.lol_css.specs.Reading.{pseudo, part, compound, item, list, inner_list};
-ghost use Rattle.lol_css.specs.Accepting.{judged_part, judged_compound, judged_item, judged};
+ghost use Rattle.lol_css.specs.Reading.{pseudo, part, compound, list, inner_list};
+ghost use Rattle.lol_css.specs.Accepting.{judged_part, judged_compound, judged};
 ghost use Rattle.lol_css.specs.Judging.{judged_parts};
-ghost use Rattle.lol_css.specs.Views.{ReadsUnlessMemory, nesting_of, is_inside, judgement};
+ghost use Rattle.lol_css.specs.Views.{ReadsUnlessMemory, nesting_of, is_inside, judgement, judged_item_in};
 ghost use Rattle.lol_css.specs.TreeViews.{part_of, compound_of, item_of, list_of};
 
 use crate::error::SelectorError;
@@ -29,7 +29,9 @@ impl Parser<'_> {
     #[tactic(auto, unfolding(crate::specs::Reading::part, crate::specs::Accepting::judged_part))]
     #[cycle(rules)]
     fn part(&mut self) -> Result<Option<Judged<SimpleSelector>>, SelectorError>
-        ensures reads { ReadsUnlessMemory (option_map (judgement part_of)) result self.new.reader (giving (option_map judged_part) (part (inner_list self.old.context.depth_left) (nesting_of self.old.context.nesting) self.old.reader)) }
+        ensures reads { ReadsUnlessMemory (option_map (judgement part_of)) result self.new.reader
+            (giving (option_map judged_part)
+            (part (inner_list self.old.context.depth_left) (nesting_of self.old.context.nesting) self.old.reader)) }
         ensures context { self.new.context ≡ self.old.context }
     {
         match self.reader.peek() {
@@ -57,7 +59,9 @@ impl Parser<'_> {
     #[tactic(auto, unfolding(crate::specs::Reading::pseudo))]
     #[cycle(rules)]
     fn pseudo(&mut self) -> Result<Judged<SimpleSelector>, SelectorError>
-        ensures reads { ReadsUnlessMemory (judgement part_of) result self.new.reader (giving judged_part (pseudo (inner_list self.old.context.depth_left) (nesting_of self.old.context.nesting) self.old.reader)) }
+        ensures reads { ReadsUnlessMemory (judgement part_of) result self.new.reader
+            (giving judged_part
+            (pseudo (inner_list self.old.context.depth_left) (nesting_of self.old.context.nesting) self.old.reader)) }
         ensures context { self.new.context ≡ self.old.context }
     {
         if self.reader.is_at_stop(self.context.nesting) {
@@ -94,7 +98,9 @@ impl Parser<'_> {
         &mut self,
         combination: LogicalCombination,
     ) -> Result<Judged<SimpleSelector>, SelectorError>
-        ensures reads { ReadsUnlessMemory (judgement part_of) result self.new.reader (giving judged_part (giving (drafts.Logical combination) (inner_list self.old.context.depth_left self.old.reader))) }
+        ensures reads { ReadsUnlessMemory (judgement part_of) result self.new.reader
+            (giving judged_part
+            (giving (drafts.Logical combination) (inner_list self.old.context.depth_left self.old.reader))) }
         ensures context { self.new.context ≡ self.old.context }
     {
         if self.context.depth_left == 0 {
@@ -116,7 +122,9 @@ impl Parser<'_> {
     /// The parts of a compound after those that it begins with.
     #[cycle(rules)]
     fn more_parts(&mut self, start: Compound) -> Result<Judged<Compound>, SelectorError>
-        ensures reads { ReadsUnlessMemory (judgement compound_of) result self.new.reader (judged_parts (inner_list self.old.context.depth_left) (nesting_of self.old.context.nesting) (Ok (compound_of start)) self.old.reader) }
+        ensures reads { ReadsUnlessMemory (judgement compound_of) result self.new.reader
+            (judged_parts (inner_list self.old.context.depth_left) (nesting_of self.old.context.nesting)
+            (Ok (compound_of start)) self.old.reader) }
         ensures context { self.new.context ≡ self.old.context }
     {
         let mut parts = Judged::Kept(start);
@@ -129,7 +137,9 @@ impl Parser<'_> {
     /// A compound; one that reads nothing is refused with the cause `empty`.
     #[cycle(rules)]
     fn compound(&mut self, empty: SelectorError) -> Result<Judged<Compound>, SelectorError>
-        ensures reads { ReadsUnlessMemory (judgement compound_of) result self.new.reader (giving judged_compound (compound (inner_list self.old.context.depth_left) (nesting_of self.old.context.nesting) empty self.old.reader)) }
+        ensures reads { ReadsUnlessMemory (judgement compound_of) result self.new.reader
+            (giving judged_compound (compound (inner_list self.old.context.depth_left)
+            (nesting_of self.old.context.nesting) empty self.old.reader)) }
         ensures context { self.new.context ≡ self.old.context }
     {
         let Some(start) = self.type_part()? else {
@@ -145,7 +155,8 @@ impl Parser<'_> {
     /// An item: compounds, each a step from the one before it.
     #[cycle(rules)]
     pub(crate) fn item(&mut self) -> Result<Judged<ComplexSelector>, SelectorError>
-        ensures reads { ReadsUnlessMemory (judgement item_of) result self.new.reader (giving (judged_item (is_inside self.old.context.nesting)) (item (inner_list self.old.context.depth_left) (nesting_of self.old.context.nesting) self.old.reader)) }
+        ensures reads { ReadsUnlessMemory (judgement item_of) result self.new.reader
+            (judged_item_in self.old.context self.old.reader) }
         ensures context { self.new.context ≡ self.old.context }
     {
         self.reader.skip_space();
@@ -166,7 +177,9 @@ impl Parser<'_> {
     /// A list of items separated by commas, and its end.
     #[cycle(rules)]
     pub(crate) fn list(&mut self) -> Result<Judged<SelectorList>, SelectorError>
-        ensures reads { ReadsUnlessMemory (judgement list_of) result self.new.reader (giving (judged (is_inside self.old.context.nesting)) (list (inner_list self.old.context.depth_left) (nesting_of self.old.context.nesting) self.old.reader)) }
+        ensures reads { ReadsUnlessMemory (judgement list_of) result self.new.reader
+            (giving (judged (is_inside self.old.context.nesting))
+            (list (inner_list self.old.context.depth_left) (nesting_of self.old.context.nesting) self.old.reader)) }
         ensures context { self.new.context ≡ self.old.context }
     {
         let first = self.item()?;

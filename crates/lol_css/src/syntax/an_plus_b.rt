@@ -42,7 +42,8 @@ fn magnitude(digits: &[char]) -> u64
 /// The number that a name of decimal digits writes, or `TOO_LARGE`.
 #[tactic(auto, using(crate::proofs::Digits::capped_steps))]
 fn name_magnitude(name: Name<'_>) -> Option<u64>
-    ensures { result ≡ (if list_all is_decimal (points_of name.entry) then Some (min (decimal (points_of name.entry)) TOO_LARGE) else None) }
+    ensures { result ≡ (if list_all is_decimal (points_of name.entry)
+        then Some (min (decimal (points_of name.entry)) TOO_LARGE) else None) }
 {
     let mut number = 0;
     let mut rest = name;
@@ -60,7 +61,8 @@ fn name_magnitude(name: Name<'_>) -> Option<u64>
 #[tactic(auto, unfolding(crate::specs::AnPlusB::bounded_integer))]
 fn bounded_integer(sign: Sign, magnitude: u64) -> Result<i32, SelectorError>
     requires { magnitude ≤ TOO_LARGE }
-    ensures { (tokens : List tokens.Token) → ReadsFirst (λ x. x) result tokens (bounded_integer (with_sign sign magnitude) tokens) }
+    ensures { (tokens : List tokens.Token)
+        → ReadsFirst (λ x. x) result tokens (bounded_integer (with_sign sign magnitude) tokens) }
 {
     let magnitude = magnitude as i64;
     let number = match sign {
@@ -75,7 +77,8 @@ fn bounded_integer(sign: Sign, magnitude: u64) -> Result<i32, SelectorError>
 
 /// The value of a number of these digits: `UnexpectedToken` outside `i32`.
 fn value(sign: Sign, digits: &[char]) -> Result<i32, SelectorError>
-    ensures { (tokens : List tokens.Token) → ReadsFirst (λ x. x) result tokens (bounded_integer (with_sign sign (decimal digits.now)) tokens) }
+    ensures { (tokens : List tokens.Token)
+        → ReadsFirst (λ x. x) result tokens (bounded_integer (with_sign sign (decimal digits.now)) tokens) }
 {
     bounded_integer(sign, magnitude(digits))
 }
@@ -133,7 +136,9 @@ fn after_n(reader: &mut Reader<'_>) -> Result<i32, SelectorError>
 
 /// What follows `n-` in a name.
 fn after_n_minus(name: Name<'_>) -> Option<Name<'_>>
-    ensures { MatchOption result (says (codes "n-") (take 2 (points_of name.entry)) ≡ false) (λ rest. (says (codes "n-") (take 2 (points_of name.entry)) ≡ true) × (points_of rest ≡ drop 2 (points_of name.entry))) }
+    ensures { MatchOption result (says (codes "n-") (take 2 (points_of name.entry)) ≡ false)
+        (λ rest. (says (codes "n-") (take 2 (points_of name.entry)) ≡ true)
+        × (points_of rest ≡ drop 2 (points_of name.entry))) }
 {
     let (n, rest) = name.split_first()?;
     let (minus, rest) = rest.split_first()?;
@@ -146,7 +151,8 @@ fn after_n_minus(name: Name<'_>) -> Option<Name<'_>>
 
 /// The digits after `n-` in a name, as their number or `TOO_LARGE`.
 fn digits_after_n(name: Name<'_>) -> Option<u64>
-    ensures value { result ≡ (if is_n_and_digits (points_of name.entry) then Some (min (decimal (drop 2 (points_of name.entry))) TOO_LARGE) else None) }
+    ensures value { result ≡ (if is_n_and_digits (points_of name.entry)
+        then Some (min (decimal (drop 2 (points_of name.entry))) TOO_LARGE) else None) }
     ensures small { IfSome result (λ n. n ≤ TOO_LARGE) }
 {
     name_magnitude(after_n_minus(name)?)
@@ -178,7 +184,9 @@ fn rest_of(name: Name<'_>, reader: &mut Reader<'_>) -> Result<i32, SelectorError
 
 /// What follows `-` in a name.
 fn after_minus(name: Name<'_>) -> Option<Name<'_>>
-    ensures { MatchOption result (first_passes (is (byte "-")) (points_of name.entry) ≡ false) (λ rest. (first_passes (is (byte "-")) (points_of name.entry) ≡ true) × (points_of rest ≡ drop 1 (points_of name.entry))) }
+    ensures { MatchOption result (first_passes (is (byte "-")) (points_of name.entry) ≡ false)
+        (λ rest. (first_passes (is (byte "-")) (points_of name.entry) ≡ true)
+        × (points_of rest ≡ drop 1 (points_of name.entry))) }
 {
     match name.split_first() {
         Some(('-', rest)) => Some(rest),
@@ -208,7 +216,8 @@ fn named(name: Name<'_>, reader: &mut Reader<'_>) -> Result<(i32, i32), Selector
 /// The value of an integer: `UnexpectedToken` where it has a fraction or an exponent, or lies outside `i32`.
 #[tactic(auto, unfolding(crate::specs::AnPlusB::integer))]
 fn integer(number: Numeral<'_>) -> Result<i32, SelectorError>
-    ensures { (tokens : List tokens.Token) → ReadsFirst (λ x. x) result tokens (integer (numeral_of number.entry) tokens) }
+    ensures { (tokens : List tokens.Token)
+        → ReadsFirst (λ x. x) result tokens (integer (numeral_of number.entry) tokens) }
 {
     match number.integer {
         Some(digits) => value(number.sign.unwrap_or(Sign::Plus), digits),
@@ -223,7 +232,8 @@ fn an_plus_b_of_dimension(
     unit: Name<'_>,
     reader: &mut Reader<'_>,
 ) -> Result<(i32, i32), SelectorError>
-    ensures { Reads (λ x. x) result reader.new (an_plus_b_of_dimension (numeral_of number.entry) (points_of unit.entry) reader.old) }
+    ensures { Reads (λ x. x) result reader.new
+        (an_plus_b_of_dimension (numeral_of number.entry) (points_of unit.entry) reader.old) }
 {
     let step = integer(number)?;
     Ok((step, rest_of(unit, reader)?))
