@@ -62,7 +62,8 @@ impl<'i> AttributeMatcher<'i> {
     /// inside the input. They are walked over once.
     pub fn new(input: Bytes<'i>, attributes: &'i AttributeBuffer, ns: Namespace) -> Self
         requires { All (OutlineIsInside (bytes_of input)) attributes.now.items }
-        ensures { result ≡ record { attributes = map (attribute_of (bytes_of input.entry)) attributes.now.items; namespace = ns } }
+        ensures { result
+            ≡ record { attributes = map (attribute_of (bytes_of input.entry)) attributes.now.items; namespace = ns } }
     {
         let input = input.as_slice();
         let mut marks = Marks::none();
@@ -103,7 +104,8 @@ impl<'i> AttributeMatcher<'i> {
 
     /// Whether a word of `class` is this, with case. The words are the pieces between white space, so they may be empty.
     pub fn has_class(&self, name: &[u8]) -> bool
-        ensures { result ≡ has_value (value_in (codes "class") self.now) (λ value. operator_holds Includes value name.now) }
+        ensures { result
+            ≡ has_value (value_in (codes "class") self.now) (λ value. operator_holds Includes value name.now) }
     {
         match self.class {
             Some(value) => has_word(value, name, CaseSensitivity::CaseSensitive),
@@ -227,7 +229,8 @@ fn first_value<'i>(
     name: &[u8],
 ) -> Option<&'i [u8]>
     requires { OutlineIsInside input.now outline.now }
-    ensures { option_copied result ≡ option_or (option_copied found.entry) (value_among name.now (attribute_of input.now outline.now ∷ [])) }
+    ensures { option_copied result
+        ≡ option_or (option_copied found.entry) (value_among name.now (attribute_of input.now outline.now ∷ [])) }
 {
     if found.is_none() && is_lowercased(&input[outline.name.start..outline.name.end], name) {
         Some(value_at(input, outline))

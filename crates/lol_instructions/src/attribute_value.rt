@@ -98,7 +98,8 @@ fn is_word_before(value: &[u8], operand: &[u8], end: usize, case: CaseSensitivit
 // The end of a letter's first place from another place on.
 fn letter_end(value: &[u8], from: usize, letter: u8, case: CaseSensitivity) -> Option<usize>
     requires { from ≤ length value.now }
-    ensures { MatchOption result (NoLetter case value.now letter from (length value.now)) (IsLetterEnd case value.now letter from) }
+    ensures { MatchOption result (NoLetter case value.now letter from (length value.now))
+        (IsLetterEnd case value.now letter from) }
 {
     let place = next_letter(&value[from..], letter, case)?;
     Some(from + place + 1)

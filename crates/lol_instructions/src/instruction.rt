@@ -79,7 +79,8 @@ impl Instruction {
     ) -> TryExecResult<'_>
         requires names_fit { names_counted tries.old < u64.MAX }
         requires attributes_fit { attributes_counted tries.old < u64.MAX }
-        ensures answer { Answers result (predicate_value self.now.predicate (sight state.now local_name.now)) self.now.associated_branch }
+        ensures answer { Answers result (predicate_value self.now.predicate (sight state.now local_name.now))
+            self.now.associated_branch }
         ensures names { names_counted tries.new ≡ names_counted tries.old + 1 }
         ensures attributes { attributes_counted tries.new ≡ attributes_counted tries.old }
     {
@@ -103,9 +104,12 @@ impl Instruction {
     ) -> Option<&ExecutionBranch>
         requires names_fit { names_counted tries.old < u64.MAX }
         requires attributes_fit { attributes_counted tries.old < u64.MAX }
-        ensures answer { option_copied result ≡ branch_if (predicate_holds self.now.predicate (sight state.now local_name.now) matcher.now) self.now.associated_branch }
+        ensures answer { option_copied result
+            ≡ branch_if (predicate_holds self.now.predicate (sight state.now local_name.now) matcher.now)
+            self.now.associated_branch }
         ensures names { names_counted tries.new ≡ names_counted tries.old }
-        ensures attributes { attributes_counted tries.new ≡ attributes_counted tries.old + tries_of_attributes (predicate_value self.now.predicate (sight state.now local_name.now)) }
+        ensures attributes { attributes_counted tries.new ≡ attributes_counted tries.old
+            + tries_of_attributes (predicate_value self.now.predicate (sight state.now local_name.now)) }
     {
         match self.by_names(state, local_name) {
             NameValue::True => Some(&self.associated_branch),
@@ -133,9 +137,12 @@ impl Instruction {
     ) -> Option<&ExecutionBranch>
         requires names_fit { names_counted tries.old < u64.MAX }
         requires attributes_fit { attributes_counted tries.old < u64.MAX }
-        ensures answer { option_copied result ≡ branch_if (predicate_holds self.now.predicate (sight state.now local_name.now) matcher.now) self.now.associated_branch }
+        ensures answer { option_copied result
+            ≡ branch_if (predicate_holds self.now.predicate (sight state.now local_name.now) matcher.now)
+            self.now.associated_branch }
         ensures names { names_counted tries.new ≡ names_counted tries.old + 1 }
-        ensures attributes { attributes_counted tries.new ≡ attributes_counted tries.old + tries_of_attributes (predicate_value self.now.predicate (sight state.now local_name.now)) }
+        ensures attributes { attributes_counted tries.new ≡ attributes_counted tries.old
+            + tries_of_attributes (predicate_value self.now.predicate (sight state.now local_name.now)) }
     {
         let branch = self.complete_exec_with_attrs(state, local_name, matcher, tries);
         tries.add_name();

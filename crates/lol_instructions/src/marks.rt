@@ -98,7 +98,8 @@ impl Marks {
     /// These marks and those of the words of a value of `class`, where there is one.
     pub(crate) fn with_words(self, class: Option<&[u8]>) -> Self
         ensures before { KeepsMarks self result }
-        ensures words { IfSome (option_copied class.entry) (λ value. All (λ word. is_marked result (mark_of (HasClass word)) ≡ true) (words value)) }
+        ensures words { IfSome (option_copied class.entry) (λ value.
+            All (λ word. is_marked result (mark_of (HasClass word)) ≡ true) (words value)) }
     {
         match class {
             Some(value) => self.with(Marks::of_words(value)),

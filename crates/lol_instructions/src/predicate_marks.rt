@@ -46,7 +46,8 @@ impl Shape {
 
     /// What two shapes say together. Of two places none is kept.
     fn and(&self, other: &Shape) -> Self
-        ensures { (position : ℕ) (typed : Option ℕ) (v : NameValue) → shape_value result position typed ≡ Some v → AreBoth (shape_value self.now position typed) (shape_value other.now position typed) v }
+        ensures { (position : ℕ) (typed : Option ℕ) (v : NameValue) → shape_value result position typed ≡ Some v
+            → AreBoth (shape_value self.now position typed) (shape_value other.now position typed) v }
     {
         match (self, other) {
             (Shape::Anywhere(a), Shape::Anywhere(b)) => Shape::Anywhere(a.and(*b)),
@@ -155,7 +156,8 @@ impl PredicateMarks {
     }
 
     fn of_name(test: &LocalNameExprTest) -> Self
-        ensures value { (s : Sight) (v : NameValue) → marks_value result s ≡ Some v → value_of_bool (name_expr_holds test.now s) ≡ v }
+        ensures value { (s : Sight) (v : NameValue) → marks_value result s ≡ Some v
+            → value_of_bool (name_expr_holds test.now s) ≡ v }
         ensures needs { (bit : ℕ) → is_marked result.needs bit ≡ false }
     {
         match test {
@@ -192,7 +194,8 @@ impl PredicateMarks {
 
     /// The marks of some tests and others. Of two names the first is kept.
     fn and(self, others: PredicateMarks) -> Self
-        ensures { (tests more : List CompiledTest) → AreMarksOf self tests → AreMarksOf others more → AreMarksOf result (tests ++ more) }
+        ensures { (tests more : List CompiledTest) → AreMarksOf self tests → AreMarksOf others more
+            → AreMarksOf result (tests ++ more) }
     {
         let head = self.head.or(others.head);
         let needs = self.needs.with(others.needs);
@@ -215,7 +218,8 @@ impl PredicateMarks {
 /// What names and places say of whether elements pass some of these, if that is one value.
 #[cycle(marking)]
 fn value_of_some(predicates: &[CompiledPredicate]) -> Option<NameValue>
-    ensures { (v : NameValue) → result ≡ Some v → (s : Sight) → some_values (λ predicate. predicate_value predicate s) predicates.now ≡ v }
+    ensures { (v : NameValue) → result ≡ Some v → (s : Sight)
+        → some_values (λ predicate. predicate_value predicate s) predicates.now ≡ v }
 {
     let mut value = NameValue::False;
     for predicate in predicates {
