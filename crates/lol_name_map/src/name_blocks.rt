@@ -157,7 +157,8 @@ impl<V> NameBlocks<V> {
 
     /// The value at a place, and none where no name stands there.
     pub fn value_at(&self, place: BlockPlace) -> Option<&V>
-        ensures { (name : Name) → StandsInBlocks self.now name place → option_copied result ≡ value_in_blocks self.now name }
+        ensures { (name : Name) → StandsInBlocks self.now name place
+            → option_copied result ≡ value_in_blocks self.now name }
     {
         let (_, value) = self.blocks.get(place.block)?.get(place.at)?;
         Some(value)
@@ -168,7 +169,8 @@ impl<V> NameBlocks<V> {
 #[inline]
 fn block_for<'i, V>(blocks: &[Vec<(LocalName<'i>, V)>], name: &LocalName<'i>) -> usize
     ensures inside { 0 < length blocks.now → result < length blocks.now }
-    ensures sought { (p : ℕ) × (result ≡ p - 1) × ((d : _) → 0 < p → begins_above name.now (slice_index_or blocks.now (p - 1) d).items ≡ false)
+    ensures sought { (p : ℕ) × (result ≡ p - 1)
+        × ((d : _) → 0 < p → begins_above name.now (slice_index_or blocks.now (p - 1) d).items ≡ false)
         × ((d : _) → p < length blocks.now → begins_above name.now (slice_index_or blocks.now p d).items ≡ true) }
 {
     if blocks.len() <= 1 {
@@ -180,8 +182,10 @@ fn block_for<'i, V>(blocks: &[Vec<(LocalName<'i>, V)>], name: &LocalName<'i>) ->
 /// How many blocks don't begin above a name, up to the first that does.
 fn blocks_up_to<'i, V>(blocks: &[Vec<(LocalName<'i>, V)>], name: &LocalName<'i>) -> usize
     ensures bound { result ≤ length blocks.now }
-    ensures before { (d : _) → 0 < result → begins_above name.now (slice_index_or blocks.now (result - 1) d).items ≡ false }
-    ensures after { (d : _) → result < length blocks.now → begins_above name.now (slice_index_or blocks.now result d).items ≡ true }
+    ensures before { (d : _) → 0 < result
+        → begins_above name.now (slice_index_or blocks.now (result - 1) d).items ≡ false }
+    ensures after { (d : _) → result < length blocks.now
+        → begins_above name.now (slice_index_or blocks.now result d).items ≡ true }
 {
     let mut low = 0;
     let mut high = blocks.len();
@@ -210,7 +214,8 @@ fn begins_above<'i, V>(block: &[(LocalName<'i>, V)], name: &LocalName<'i>) -> bo
 fn names_below<'i, V>(names: &[(LocalName<'i>, V)], name: &LocalName<'i>) -> usize
     ensures bound { result ≤ length names.now }
     ensures before { (d : _) → 0 < result → local_name_cmp (slice_index_or names.now (result - 1) d).0 name.now ≡ Less }
-    ensures after { (d : _) → result < length names.now → is_lt (local_name_cmp (slice_index_or names.now result d).0 name.now) ≡ false }
+    ensures after { (d : _) → result < length names.now
+        → is_lt (local_name_cmp (slice_index_or names.now result d).0 name.now) ≡ false }
 {
     let mut low = 0;
     let mut high = names.len();
