@@ -88,7 +88,8 @@ pub(crate) fn compile_tests(
     enable_nth_of_type: &mut bool,
 ) -> Result<Vec<CompiledTest>, AllocError>
     ensures tests { IfOk result (λ compiled. AreCompiledTests compiled.items (all_of (map test_shown tests.items))) }
-    ensures flag { OnOk result (enable_nth_of_type.new ≡ (enable_nth_of_type.old || has_test_by_type (all_of (map test_shown tests.items)))) }
+    ensures flag { OnOk result (enable_nth_of_type.new
+        ≡ (enable_nth_of_type.old || has_test_by_type (all_of (map test_shown tests.items)))) }
     ensures stays { IsTrue enable_nth_of_type.old → IsTrue enable_nth_of_type.new }
 {
     let mut compiled = Vec::new(alloc);
@@ -105,8 +106,10 @@ fn compile_predicates(
     predicates: Vec<Predicate>,
     enable_nth_of_type: &mut bool,
 ) -> Result<Vec<CompiledPredicate>, AllocError>
-    ensures predicates { IfOk result (λ compiled. AreCompiledPredicates compiled.items (any_of (map tests_of predicates.items))) }
-    ensures flag { OnOk result (enable_nth_of_type.new ≡ (enable_nth_of_type.old || some_has_type (any_of (map tests_of predicates.items)))) }
+    ensures predicates { IfOk result
+        (λ compiled. AreCompiledPredicates compiled.items (any_of (map tests_of predicates.items))) }
+    ensures flag { OnOk result (enable_nth_of_type.new
+        ≡ (enable_nth_of_type.old || some_has_type (any_of (map tests_of predicates.items)))) }
     ensures stays { IsTrue enable_nth_of_type.old → IsTrue enable_nth_of_type.new }
 {
     let mut compiled = Vec::new(alloc);
@@ -147,7 +150,8 @@ fn compile_attribute(expr: OnAttributesExpr) -> AttributeExprTest
 }
 
 fn compile_comparison(expr: AttributeComparisonExpr) -> AttributeExprTest
-    ensures { IsCompiledAttribute result (Compares (string_bytes expr.name) expr.operator (string_bytes expr.value) expr.case_sensitivity) }
+    ensures { IsCompiledAttribute result
+        (Compares (string_bytes expr.name) expr.operator (string_bytes expr.value) expr.case_sensitivity) }
 {
     let AttributeComparisonExpr {
         mut name,

@@ -39,7 +39,8 @@ impl Compiler {
     /// and its descendants' list are laid out the same way. Names, operands and sets of ids move out of the tree, and nothing is cloned.
     /// It is refused where memory is.
     pub fn compile(self, ast: Ast) -> Result<Program, AllocError>
-        ensures { IfOk result (λ program. IsProgramOf (selectors_in (trees_of ast)) (nodes_of ast) (program_shown program)) }
+        ensures { IfOk result (λ program.
+            IsProgramOf (selectors_in (trees_of ast)) (nodes_of ast) (program_shown program)) }
     {
         let mut layout = Layout {
             alloc: self.alloc,
@@ -84,10 +85,14 @@ impl Layout {
         requires { self.old.free_space_start + size (forest_of nodes.items) ≤ length self.old.instructions.items }
         ensures start { IfOk result (λ r. r.start ≡ self.old.free_space_start) }
         ensures end { IfOk result (λ r. r.end ≡ self.old.free_space_start + length nodes.items) }
-        ensures free { OnOk result (self.new.free_space_start ≡ self.old.free_space_start + size (forest_of nodes.items)) }
-        ensures by_type { OnOk result (self.new.enable_nth_of_type ≡ (self.old.enable_nth_of_type || any_by_type (forest_of nodes.items))) }
-        ensures laid { OnOk result (AreLaid self.new.instructions.items self.old.free_space_start (self.old.free_space_start + width (forest_of nodes.items)) (forest_of nodes.items)) }
-        ensures same { OnOk result (SameOutside self.old.free_space_start self.new.free_space_start self.old.instructions.items self.new.instructions.items) }
+        ensures free { OnOk result (self.new.free_space_start
+            ≡ self.old.free_space_start + size (forest_of nodes.items)) }
+        ensures by_type { OnOk result (self.new.enable_nth_of_type
+            ≡ (self.old.enable_nth_of_type || any_by_type (forest_of nodes.items))) }
+        ensures laid { OnOk result (AreLaid self.new.instructions.items self.old.free_space_start
+            (self.old.free_space_start + width (forest_of nodes.items)) (forest_of nodes.items)) }
+        ensures same { OnOk result (SameOutside self.old.free_space_start self.new.free_space_start
+            self.old.instructions.items self.new.instructions.items) }
     {
         let start = self.free_space_start;
         let end = start + nodes.len();
@@ -105,10 +110,14 @@ impl Layout {
     fn compile_list(&mut self, nodes: Vec<AstNode>) -> Result<Option<AddressRange>, AllocError>
         requires { self.old.free_space_start + size (forest_of nodes.items) ≤ length self.old.instructions.items }
         ensures range { IfOk result (λ r. r ≡ range_of (forest_of nodes.items) self.old.free_space_start) }
-        ensures free { OnOk result (self.new.free_space_start ≡ self.old.free_space_start + size (forest_of nodes.items)) }
-        ensures by_type { OnOk result (self.new.enable_nth_of_type ≡ (self.old.enable_nth_of_type || any_by_type (forest_of nodes.items))) }
-        ensures laid { OnOk result (AreLaid self.new.instructions.items self.old.free_space_start (self.old.free_space_start + width (forest_of nodes.items)) (forest_of nodes.items)) }
-        ensures same { OnOk result (SameOutside self.old.free_space_start self.new.free_space_start self.old.instructions.items self.new.instructions.items) }
+        ensures free { OnOk result (self.new.free_space_start
+            ≡ self.old.free_space_start + size (forest_of nodes.items)) }
+        ensures by_type { OnOk result (self.new.enable_nth_of_type
+            ≡ (self.old.enable_nth_of_type || any_by_type (forest_of nodes.items))) }
+        ensures laid { OnOk result (AreLaid self.new.instructions.items self.old.free_space_start
+            (self.old.free_space_start + width (forest_of nodes.items)) (forest_of nodes.items)) }
+        ensures same { OnOk result (SameOutside self.old.free_space_start self.new.free_space_start
+            self.old.instructions.items self.new.instructions.items) }
     {
         if nodes.is_empty() {
             Ok(None)
@@ -120,12 +129,17 @@ impl Layout {
     /// Lays out what is under a node, and the node at its place.
     #[cycle(compile)]
     fn compile_node(&mut self, node: AstNode, place: usize) -> Result<(), AllocError>
-        requires room { self.old.free_space_start + (size (node_of node).children + size (node_of node).descendants) ≤ length self.old.instructions.items }
+        requires room { self.old.free_space_start + (size (node_of node).children + size (node_of node).descendants)
+            ≤ length self.old.instructions.items }
         requires place { place < self.old.free_space_start }
-        ensures free { OnOk result (self.new.free_space_start ≡ self.old.free_space_start + (size (node_of node).children + size (node_of node).descendants)) }
-        ensures by_type { OnOk result (self.new.enable_nth_of_type ≡ (self.old.enable_nth_of_type || any_by_type (link (node_of node) none))) }
-        ensures laid { OnOk result (AreLaid self.new.instructions.items place self.old.free_space_start (link (node_of node) none)) }
-        ensures same { OnOk result (SameElsewhere place self.old.free_space_start self.new.free_space_start self.old.instructions.items self.new.instructions.items) }
+        ensures free { OnOk result (self.new.free_space_start
+            ≡ self.old.free_space_start + (size (node_of node).children + size (node_of node).descendants)) }
+        ensures by_type { OnOk result (self.new.enable_nth_of_type
+            ≡ (self.old.enable_nth_of_type || any_by_type (link (node_of node) none))) }
+        ensures laid { OnOk result
+            (AreLaid self.new.instructions.items place self.old.free_space_start (link (node_of node) none)) }
+        ensures same { OnOk result (SameElsewhere place self.old.free_space_start self.new.free_space_start
+            self.old.instructions.items self.new.instructions.items) }
     {
         let AstNode {
             predicate,
@@ -147,7 +161,8 @@ impl Layout {
 
     fn compile_predicate(&mut self, predicate: Predicate) -> Result<CompiledPredicate, AllocError>
         ensures tests { IfOk result (λ compiled. AreCompiledTests (tests_in compiled) (tests_of predicate)) }
-        ensures by_type { OnOk result (self.new.enable_nth_of_type ≡ (self.old.enable_nth_of_type || has_test_by_type (tests_of predicate))) }
+        ensures by_type { OnOk result (self.new.enable_nth_of_type
+            ≡ (self.old.enable_nth_of_type || has_test_by_type (tests_of predicate))) }
         ensures free { self.new.free_space_start ≡ self.old.free_space_start }
         ensures instructions { self.new.instructions ≡ self.old.instructions }
     {

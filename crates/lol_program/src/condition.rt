@@ -122,7 +122,8 @@ impl AttributeComparisonExpr {
         case_sensitivity: ParsedCaseSensitivity,
         operator: AttrSelectorOperator,
     ) -> Self
-        ensures { result ≡ record { name = name; value = value; case_sensitivity = case_sensitivity; operator = operator } }
+        ensures { result
+            ≡ record { name = name; value = value; case_sensitivity = case_sensitivity; operator = operator } }
     {
         AttributeComparisonExpr {
             name,

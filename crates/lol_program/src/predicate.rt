@@ -176,7 +176,8 @@ fn are_of_written(tests: &[Test], parts: &[SimpleSelector]) -> bool
 /// Whether these are the compounds of some items.
 #[cycle(comparing)]
 fn are_of_items(predicates: &[Predicate], items: &[ComplexSelector]) -> bool
-    ensures { IsTrue result ↔ (any_of (map tests_of predicates.now) ≡ items_compounds (with_item_list NoItems items.now)) }
+    ensures { IsTrue result
+        ↔ (any_of (map tests_of predicates.now) ≡ items_compounds (with_item_list NoItems items.now)) }
 {
     if predicates.len() != items.len() {
         return false;
