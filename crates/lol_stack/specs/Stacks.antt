@@ -85,6 +85,11 @@ abbrev pub count_by_type : Option (List TypedCount) → ℕ → Name → Option 
 count_by_type None level name = None
 count_by_type (Some ts) level name = count_at ts level name
 
+-- what is kept by names, with one more child of a name counted by type at a level if children are counted so
+abbrev pub counted_if_kept : StackNames → ℕ → Name → StackNames
+counted_if_kept names level name =
+    record names { typed_child_counters = option_map (λ ts. counted_by_type ts level name) names.typed_child_counters }
+
 -- the children of a name of the last open element, or of the root
 abbrev pub typed_count : {E : Type 0} → StackOf Name StackNames E → Name → Option ℕ
 typed_count s name = count_by_type (typed_in s) (length (items_in s)) name

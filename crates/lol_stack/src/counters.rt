@@ -46,7 +46,8 @@ impl CounterList {
     /// Counts one more at the last level, if that is `index`; answers whether it is. A full counter stays.
     fn count(&mut self, index: usize) -> bool
         ensures is { result ≡ is_at_level index (list_levels self.old) }
-        ensures counted { list_levels self.new ≡ (if result then counted_at_last (list_levels self.old) else list_levels self.old) }
+        ensures counted { list_levels self.new
+            ≡ (if result then counted_at_last (list_levels self.old) else list_levels self.old) }
     {
         let CounterItem {
             counter,
@@ -89,7 +90,8 @@ impl CounterList {
 
     /// Drops the last counter, unless it is the only one; answers whether it was dropped.
     fn pop(&mut self) -> bool
-        ensures { MatchBool result (list_levels self.new ≡ without_last (list_levels self.old)) (without_last (list_levels self.old) ≡ []) }
+        ensures { MatchBool result (list_levels self.new ≡ without_last (list_levels self.old))
+            (without_last (list_levels self.old) ≡ []) }
     {
         match self.items.pop() {
             Some(outer) => {
@@ -121,7 +123,9 @@ impl CounterLists {
     /// Counts one more at the name's last level, if that is `index`; answers whether it is.
     fn count(&mut self, name: &LocalName<'_>, index: usize) -> bool
         ensures is { result ≡ is_at_level index (counters_of self.old name.now) }
-        ensures counted { (q : Name) → counters_of self.new q ≡ (if same_local_name name.now q then (if result then counted_at_last (counters_of self.old q) else counters_of self.old q) else counters_of self.old q) }
+        ensures counted { (q : Name) → counters_of self.new q ≡ (if same_local_name name.now q
+            then (if result then counted_at_last (counters_of self.old q) else counters_of self.old q)
+            else counters_of self.old q) }
     {
         let Ok(at) = self.map.search(name) else {
             return false;
@@ -134,7 +138,8 @@ impl CounterLists {
 
     /// Starts a counter of the name at one more level, which has counted one.
     fn start(&mut self, name: &LocalName<'static>, index: usize) -> Result<(), AllocError>
-        ensures ok { (q : Name) → OnOk result (counters_of self.new q ≡ (if same_local_name name.now q then counters_of self.old q ++ (index, 1) ∷ [] else counters_of self.old q)) }
+        ensures ok { (q : Name) → OnOk result (counters_of self.new q ≡ (if same_local_name name.now q
+            then counters_of self.old q ++ (index, 1) ∷ [] else counters_of self.old q)) }
         ensures err { (q : Name) → OnErr result (counters_of self.new q ≡ counters_of self.old q) }
     {
         let started = CounterList::new(self.alloc, index);
@@ -154,7 +159,8 @@ impl CounterLists {
 
     /// Drops the name's last counter.
     fn stop(&mut self, name: &LocalName<'static>)
-        ensures { (q : Name) → counters_of self.new q ≡ (if same_local_name name.now q then without_last (counters_of self.old q) else counters_of self.old q) }
+        ensures { (q : Name) → counters_of self.new q ≡ (if same_local_name name.now q
+            then without_last (counters_of self.old q) else counters_of self.old q) }
     {
         let Ok(at) = self.map.search(name) else {
             return;

@@ -71,7 +71,8 @@ impl<'i, E: ElementData> ExecutionCtx<'i, E> {
     pub fn handle_matched_ids<F: FnMut(MatchInfo)>(&mut self, handler: &mut F)
         requires { F.IsAlwaysCallable handler.old }
         ensures again { F.IsAlwaysCallable handler.new }
-        ensures called { IsCalledAtEach F.step handler.old (reports self.old.with_content (ascending (E.ids self.old.stack_item.element_data))) handler.new }
+        ensures called { IsCalledAtEach F.step handler.old
+            (reports self.old.with_content (ascending (E.ids self.old.stack_item.element_data))) handler.new }
         ensures same { self.new ≡ self.old }
     {
         let with_content = self.with_content;

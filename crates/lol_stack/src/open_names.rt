@@ -47,7 +47,8 @@ impl Places {
 
     /// Takes the last place off, and answers true; or answers false, where no other place is left.
     fn pop(&mut self) -> bool
-        ensures { MatchBool result (places_listed self.new ≡ without_last (places_listed self.old)) (without_last (places_listed self.old) ≡ []) }
+        ensures { MatchBool result (places_listed self.new ≡ without_last (places_listed self.old))
+            (without_last (places_listed self.old) ≡ []) }
     {
         match self {
             Places::One(_) => false,
@@ -88,7 +89,8 @@ impl OpenNames {
 
     /// Adds a place of a name. The first of a name takes memory only where names do, a second one for the list.
     pub(crate) fn add(&mut self, name: &LocalName<'static>, place: usize) -> Result<(), AllocError>
-        ensures ok { (q : Name) → OnOk result (places_of self.new q ≡ (if same_local_name name.now q then places_of self.old q ++ place ∷ [] else places_of self.old q)) }
+        ensures ok { (q : Name) → OnOk result (places_of self.new q ≡ (if same_local_name name.now q
+            then places_of self.old q ++ place ∷ [] else places_of self.old q)) }
         ensures err { (q : Name) → OnErr result (places_of self.new q ≡ places_of self.old q) }
     {
         match self.map.search(name) {
@@ -124,7 +126,8 @@ impl OpenNames {
 
     /// Takes the last place of a name off.
     pub(crate) fn remove(&mut self, name: &LocalName<'static>)
-        ensures { (q : Name) → places_of self.new q ≡ (if same_local_name name.now q then without_last (places_of self.old q) else places_of self.old q) }
+        ensures { (q : Name) → places_of self.new q ≡ (if same_local_name name.now q
+            then without_last (places_of self.old q) else places_of self.old q) }
     {
         if let Ok(at) = self.map.search(name) {
             self.remove_at(at);
@@ -139,7 +142,8 @@ impl OpenNames {
         at: NamePlace,
     )
         requires { StandsInMap self.old.map found.now at }
-        ensures { (q : Name) → places_of self.new q ≡ (if same_local_name name.now q then without_last (places_of self.old q) else places_of self.old q) }
+        ensures { (q : Name) → places_of self.new q ≡ (if same_local_name name.now q
+            then without_last (places_of self.old q) else places_of self.old q) }
     {
         if name == found {
             self.remove_at(at);
@@ -151,7 +155,8 @@ impl OpenNames {
     /// Takes the last place of the name that stands there off.
     fn remove_at(&mut self, at: NamePlace)
         requires { IsTaken self.old.map at }
-        ensures { (name q : Name) → StandsInMap self.old.map name at → places_of self.new q ≡ (if same_local_name name q then without_last (places_of self.old q) else places_of self.old q) }
+        ensures { (name q : Name) → StandsInMap self.old.map name at → places_of self.new q
+            ≡ (if same_local_name name q then without_last (places_of self.old q) else places_of self.old q) }
     {
         let mut places = self.map.replace(at, Places::One(0));
         if places.pop() {

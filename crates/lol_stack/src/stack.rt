@@ -12,7 +12,7 @@ ghost use Rattle.lol_stack.specs.Calls.{IsCalledAtEach};
 ghost use Rattle.lol_stack.specs.StackLending.{lends_current};
 ghost use Rattle.lol_stack.specs.Directives.{directive_in};
 ghost use Rattle.lol_stack.specs.OpenPlaces.{places_of};
-ghost use Rattle.lol_stack.specs.Stacks.{items_in, list_in, slots_in, item_bytes_in, root_count, active_in, last_count, child_counted, typed_in, places_in, typed_count, counted_in, element_data_of, closed_from, place_to_close, IsSame, IsPushed, IsEnded, KeepsSlots, without_places};
+ghost use Rattle.lol_stack.specs.Stacks.{items_in, list_in, slots_in, item_bytes_in, root_count, active_in, last_count, child_counted, typed_in, places_in, typed_count, counted_in, counted_if_kept, element_data_of, closed_from, place_to_close, IsSame, IsPushed, IsEnded, KeepsSlots, without_places};
 
 use crate::active_ranges::ActiveRanges;
 use crate::counters::TypedChildCounterMap;
@@ -61,7 +61,8 @@ impl<N, M, E> StackOf<N, M, E> {
     /// The data of the last open element, to be changed in place; none exactly if no element is open.
     pub fn current_element_data_mut(&mut self) -> Option<&mut E>
         ensures* lends { sem 𝓛 (lends_current N.row M.row E.row self.entry result) }
-        ensures value { option_copied_mut result ≡ option_map (λ item. item.element_data) (slice_get (items_in self.old) (length (items_in self.old) - 1)) }
+        ensures value { option_copied_mut result
+            ≡ option_map (λ item. item.element_data) (slice_get (items_in self.old) (length (items_in self.old) - 1)) }
         ensures some { IsSome result ↔ (0 < length (items_in self.old)) }
     {
         match self.items.last_mut() {
@@ -183,7 +184,8 @@ impl<E> StackOf<LocalName<'static>, StackNames, E> {
     where
         E: Drop,
         ensures ok { OnOk result (IsPushed self.old item.entry self.new) }
-        ensures charged { OnOk result (limiter.new ≡ charged limiter.old (grown_slots (list_in self.old) * item_bytes_in self.old)) }
+        ensures charged { OnOk result (limiter.new
+            ≡ charged limiter.old (grown_slots (list_in self.old) * item_bytes_in self.old)) }
         ensures limited { IsErrOf result (PushError.Limit (record {})) ↔ IsLimited (list_in self.old) limiter.old }
         ensures unlimited { OnOk result (IsLimited (list_in self.old) limiter.old → ⊥) }
         ensures err { OnErr result (IsSame self.old self.new) }
@@ -238,7 +240,8 @@ impl<E> StackOf<LocalName<'static>, StackNames, E> {
         ensures again { F.IsAlwaysCallable handler.new }
         ensures ended { IsEnded self.old local_name.entry self.new }
         ensures slots { KeepsSlots self.old self.new }
-        ensures called { IsCalledAtEach F.step handler.old (element_data_of (closed_from (place_to_close self.old local_name.entry) (items_in self.old))) handler.new }
+        ensures called { IsCalledAtEach F.step handler.old
+            (element_data_of (closed_from (place_to_close self.old local_name.entry) (items_in self.old))) handler.new }
     {
         let Some((at, place)) = self.element_to_close(&local_name) else {
             return;
@@ -268,7 +271,8 @@ impl<E> StackOf<LocalName<'static>, StackNames, E> {
     where
         E: Drop,
         requires { slots_in self * item_bytes_in self ≤ limiter.old.usage }
-        ensures { limiter.new ≡ record limiter.old { usage = limiter.old.usage - slots_in self.entry * item_bytes_in self.entry } }
+        ensures { limiter.new
+            ≡ record limiter.old { usage = limiter.old.usage - slots_in self.entry * item_bytes_in self.entry } }
     {
         let StackOf {
             root_child_counter: _,
@@ -285,7 +289,8 @@ impl<E> StackOf<LocalName<'static>, StackNames, E> {
         ns: Namespace,
         enable_esi_tags: bool,
     ) -> StackDirective
-        ensures { (bytes : List ℕ) → item.now.local_name ≡ local_name bytes → result ≡ directive_in ns enable_esi_tags bytes }
+        ensures { (bytes : List ℕ) → item.now.local_name ≡ local_name bytes
+            → result ≡ directive_in ns enable_esi_tags bytes }
     {
         directive_of(&item.local_name, ns, enable_esi_tags)
     }
@@ -300,7 +305,7 @@ impl<E> StackOf<LocalName<'static>, StackNames, E> {
 
 impl StackNames {
     ghost use Rattle.std.specs.Prelude.{OnOk};
-    ghost use Rattle.lol_stack.specs.TypedCounts.{counted_by_type, cut_to};
+    ghost use Rattle.lol_stack.specs.TypedCounts.{cut_to};
     ghost use Rattle.lol_stack.specs.Stacks.{count_by_type};
     ghost use Rattle.lol_stack.specs.OpenPlaces.{places_of};
     ghost use Rattle.lol_name_map.specs.NameMaps.{StandsInMap};
@@ -323,7 +328,7 @@ impl StackNames {
 
     /// Counts a child by type at a level, where children are counted so.
     fn count_child(&mut self, name: &LocalName<'_>, level: usize) -> Result<(), AllocError>
-        ensures ok { OnOk result (self.new ≡ record self.old { typed_child_counters = option_map (λ ts. counted_by_type ts level name.now) self.old.typed_child_counters }) }
+        ensures ok { OnOk result (self.new ≡ counted_if_kept self.old level name.now) }
         ensures free { IsNone self.old.typed_child_counters → IsOk result }
         ensures err { OnErr result (self.new ≡ self.old) }
     {
@@ -344,7 +349,8 @@ impl StackNames {
     )
         requires { StandsInMap self.old.open_names.map name.now at }
         ensures typed { self.new.typed_child_counters ≡ option_map (cut_to place) self.old.typed_child_counters }
-        ensures places { (q : Name) → places_of self.new.open_names q ≡ without_places closed.now q (places_of self.old.open_names q) }
+        ensures places { (q : Name) → places_of self.new.open_names q
+            ≡ without_places closed.now q (places_of self.old.open_names q) }
     {
         if let Some(counters) = &mut self.typed_child_counters {
             counters.pop_to(place);
