@@ -254,7 +254,8 @@ fn answer_end(
     run: &mut EventRun,
     local_name: LocalName<'_>,
 ) -> Result<TagReport, RunCause>
-    ensures goes { IfOk result (λ report. ForEndInRun run.old local_name.entry (λ s esi item_bytes before events now name.
+    ensures goes { IfOk result (λ report.
+        ForEndInRun run.old local_name.entry (λ s esi item_bytes before events now name.
         Goes s esi item_bytes before run.new events (End name) now report)) }
     ensures memory { IfErr result (λ cause. cause ≡ RunCause.Memory) }
     ensures slots { slots_charged (machine_of run.new) ≡ slots_charged (machine_of run.old) }
