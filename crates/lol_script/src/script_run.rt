@@ -174,7 +174,8 @@ fn answer_start(
     ensures goes { IfOk result (λ taken. ForRunOfEvents run.old limiter.old (λ s esi item_bytes before events.
         IsStarted s esi item_bytes before run.new events (start_tag_of line.entry) limiter.new taken matched.new)) }
     ensures refused { IfErr result (λ cause. cause ≢ RunCause.Memory
-        → ForRunOfEvents run.old limiter.old (λ s esi item_bytes before events. (later : List Event) → StopsFor cause (length events)
+        → ForRunOfEvents run.old limiter.old (λ s esi item_bytes before events.
+        (later : List Event) → StopsFor cause (length events)
         (refused s esi (allowance_of item_bytes before) (events ++ Start (start_tag_of line.entry) ∷ later)))) }
 {
     matched.clear();
