@@ -1,6 +1,6 @@
 //! Names of elements.
 
-ghost use Rattle.std.specs.Prelude.{◌≡◌, ◌↔◌, IsTrue, IsNone, IfSome, IfOk, IsOk};
+ghost use Rattle.std.specs.Prelude.{◌≡◌, ◌≢◌, ◌↔◌, IsTrue, IsNone, IfNone, IfSome, IfOk, IsOk};
 ghost use Rattle.std.specs.Option.{option_copied};
 ghost use Rattle.std.specs.Char.{to_ascii_lowercase};
 ghost use Rattle.lol_base.specs.Names.{lowercased};
@@ -50,6 +50,7 @@ impl<'i> Model for LocalName<'i> {
 }
 
 impl<'i> LocalName<'i> {
+    ghost use Rattle.lol_base.specs.declared.tag.Tag.{Tag};
     ghost use Rattle.lol_base.specs.Tags.{tag_name};
 
     /// The name that these bytes spell. It borrows them where it isn't a hash, and takes no memory.
@@ -130,10 +131,20 @@ impl<'i> LocalName<'i> {
     }
 
     /// Whether this is the tag's name.
+    #[inline]
     pub fn is_tag(&self, tag: Tag) -> bool
         ensures { IsTrue result ↔ (self.now.lowercased ≡ tag_name tag) }
     {
         self.code() == Some(tag.code())
+    }
+
+    /// The tag whose name this is, if it is one that has a meaning of its own. (lol_html's names are such a tag or their bytes.)
+    #[inline]
+    pub fn tag(&self) -> Option<Tag>
+        ensures some { IfSome result (λ tag. self.now.lowercased ≡ tag_name tag) }
+        ensures none { IfNone result ((tag : Tag) → self.now.lowercased ≢ tag_name tag) }
+    {
+        Tag::of_code(self.code()?)
     }
 
     /// The same name, which borrows nothing. A hash, and a name that owns its bytes, takes no memory.
