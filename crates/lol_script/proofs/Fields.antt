@@ -1,14 +1,21 @@
 -- Fields of a line.
-use Rattle.std.proofs.Common.{◌≡◌, ℕ, ◌+◌, ◌<◌, ◌≤◌, Bool, true, false, cond, List, [], ◌∷◌, length, take, drop, position, Some, None, refl, sym, ap, ◌∙◌, arith}
+use Rattle.std.proofs.Common.{◌≡◌, ◌≢◌, ℕ, suc, ◌++◌, ◌+◌, ◌-◌, ◌<◌, ◌≤◌, Bool, true, false, cond, List, [], ◌∷◌, length, get_or, take, drop, position, Some, None, refl, sym, ap, ◌∙◌, arith}
 use Rattle.std.specs.Prelude.{nat_lt, Option, option_map, if◌then◌else◌, codes}
 use Rattle.std.specs.Str.{is_utf8, bytes_eq}
 use Rattle.std.specs.List.{slice_split, onto_first, position_or_len, join_with_byte}
 use Rattle.std.proofs.lemmas.Bool.Decides.{nat_tests}
 use Rattle.std.proofs.lemmas.List.Splits.{slice_split_none, slice_split_first, join_with_byte-slice_split}
-use Rattle.std.proofs.lemmas.List.Sums.{fails_before_first, position_or_len_is}
+use Rattle.std.proofs.Math.Decide.{dec_le}
+use Rattle.std.proofs.Math.Nat.{lt_of_not-le}
+use Rattle.std.proofs.Math.Seq.{drop-cons}
+use Rattle.std.specs.Cmp.{unsigned_Decides}
+use Rattle.std.proofs.lemmas.Slice.Eq.{bytes_eq-Decides}
+use Rattle.std.proofs.lemmas.List.{get_or-drop, length-drop, take-append-drop}
+use Rattle.std.proofs.lemmas.List.Sums.{fails_before_first, passes_at_first, position_or_len_is}
 use Rattle.lol_base.specs.BoolLaws.{not_true}
-use Rattle.memchr.specs.Find.{IsFirstByte}
-use Rattle.lol_script.specs.Script.{Line, Select, is_tab, limit_at, select_at, end_at, of_kind, number_up_to}
+use Rattle.lol_base.specs.CodePoints.{tab}
+use Rattle.memchr.specs.Find.{IsFirstByte, Nowhere, Passes}
+use Rattle.lol_script.specs.Script.{Line, Select, is_tab, limit_at, select_at, end_at, of_kind, from_fields, line_at, number_up_to}
 
 pub pos_in : (n m : ℕ) → cond (nat_lt n m) (Some n) None ≡ None → m ≤ n
 pos_in n m h = grind (arith, nat_tests)
@@ -31,6 +38,9 @@ split_none xs h = parts_none is_tab xs h
 
 pub split_some : (xs : List ℕ) (n : ℕ) → position is_tab xs ≡ Some n → slice_split is_tab xs ≡ take n xs ∷ slice_split is_tab (drop (n + 1) xs)
 split_some xs n h = parts_some is_tab xs n h
+
+later : (p : ℕ → Bool) (xs : List ℕ) (n k : ℕ) → n ≤ k → p (get_or (drop n xs) (k - n) 0) ≡ p (get_or xs k 0)
+later p xs n k past = ap p (get_or-drop n xs (k - n) 0 ∙ ap (λ i. get_or xs i 0) (let same : n + (k - n) ≡ k = omega (arith, past) in same))
 
 -- the first place that a search of bytes finds
 pub first_place : (p : ℕ → Bool) (xs : List ℕ) (found : Option ℕ) → IsFirstByte p xs found → found ≡ position p xs
@@ -89,3 +99,68 @@ none_of_kind kind rest limit select start drops end =
     neither true b = refl
     neither false true = refl
     neither false false = refl
+
+-- the first place that a search finds after n bytes that don't pass
+pub far_first : (p : ℕ → Bool) (xs : List ℕ) (n : ℕ) (found : Option ℕ) → n ≤ length xs → Nowhere (Passes p xs) 0 n → IsFirstByte p (drop n xs) found
+    → option_map (λ place. n + place) found ≡ position p xs
+far_first p xs n None within near far =
+    first_place p xs None (λ k low high passes. elim (dec_le n k) [
+      | yes past ↦ far (k - n) (omega arith) (omega (arith, past, high, length-drop n xs)) (later p xs n k past ∙ passes)
+      | no short ↦ near k low (lt_of_not-le short) passes
+    ])
+far_first p xs n (Some place) within near far =
+    first_place p xs (Some (n + place)) (
+      record {
+        low = omega arith;
+        high = omega (arith, far.0.high, length-drop n xs);
+        before = λ k low high passes. elim (dec_le n k) [
+          | yes past ↦ far.0.before (k - n) (omega arith) (omega (arith, past, high)) (later p xs n k past ∙ passes)
+          | no short ↦ near k low (lt_of_not-le short) passes
+        ];
+      },
+      ap p (sym (get_or-drop n xs place 0)) ∙ far.1,
+    )
+
+-- a line with a tab is its first field, the tab and the rest
+cut_at : (xs : List ℕ) (n : ℕ) → position is_tab xs ≡ Some n → xs ≡ take n xs ++ tab ∷ drop (n + 1) xs
+cut_at xs n h =
+    let at = pos_at (position_or_len is_tab xs) (length xs) n h in
+    let here : is_tab (get_or xs n 0) ≡ true = ap (λ i. is_tab (get_or xs i 0)) (sym at.1) ∙ passes_at_first is_tab xs 0 at.0 in
+    let rest : drop n xs ≡ get_or xs n 0 ∷ drop (n + 1) xs = drop-cons xs n 0 (within_some xs n h) ∙ ap (λ k. get_or xs n 0 ∷ drop k xs) (let more : suc n ≡ n + 1 = omega arith in more) in
+    sym (take-append-drop n xs) ∙ ap (λ end. take n xs ++ end) (rest ∙ ap (λ b. b ∷ drop (n + 1) xs) ((unsigned_Decides (get_or xs n 0) tab).0 here))
+
+isnt_kind : (bytes kind rest word : List ℕ) → bytes ≡ kind ++ tab ∷ rest → ((after : List ℕ) → bytes ≢ word ++ tab ∷ after) → bytes_eq kind word ≡ false
+isnt_kind bytes kind rest word is none =
+    not_true _ (λ same. none rest (is ∙ ap (λ k. k ++ tab ∷ rest) ((bytes_eq-Decides kind word).0 same)))
+
+without_tab : (bytes word : List ℕ) (n : ℕ) → position is_tab bytes ≡ Some n → position is_tab word ≡ None → bytes_eq bytes word ≡ false
+without_tab bytes word n some none =
+    not_true _ (λ same. let absent : Some n ≡ None = sym some ∙ (ap (position is_tab) ((bytes_eq-Decides bytes word).0 same) ∙ none) in cc)
+
+none_bare : (bytes : List ℕ) → bytes_eq bytes (codes "esi") ≡ false → bytes_eq bytes (codes "tries") ≡ false → of_kind bytes [] ≡ None
+none_bare bytes esi tries = rw esi (rw tries (all_none (bytes_eq bytes (codes "limit")) (bytes_eq bytes (codes "select")) (bytes_eq bytes (codes "start")) (bytes_eq bytes (codes "drop")) (bytes_eq bytes (codes "end"))))
+  where
+    all_none : (a b c d e : Bool) → (if a then nothing else (if b then nothing else (if c then nothing else (if d then nothing else (if e then nothing else nothing))))) ≡ nothing
+    all_none true b c d e = refl
+    all_none false true c d e = refl
+    all_none false false true d e = refl
+    all_none false false false true e = refl
+    all_none false false false false true = refl
+    all_none false false false false false = refl
+
+-- A line that begins with none of the kinds that have fields is a bare one, or of none of the forms.
+pub bare_or_none : (bytes : List ℕ) → ((rest : List ℕ) → bytes ≢ codes "start" ++ tab ∷ rest) → ((rest : List ℕ) → bytes ≢ codes "end" ++ tab ∷ rest)
+    → ((rest : List ℕ) → bytes ≢ codes "drop" ++ tab ∷ rest) → ((rest : List ℕ) → bytes ≢ codes "select" ++ tab ∷ rest)
+    → ((rest : List ℕ) → bytes ≢ codes "limit" ++ tab ∷ rest) → of_kind bytes [] ≡ line_at bytes
+bare_or_none bytes start end drops select limit = by_tab (position is_tab bytes) refl
+  where
+    by_tab : (found : Option ℕ) → position is_tab bytes ≡ found → of_kind bytes [] ≡ line_at bytes
+    by_tab None h = sym (ap from_fields (split_none bytes h))
+    by_tab (Some n) h =
+        let kind = take n bytes in
+        let rest = drop (n + 1) bytes in
+        let is = cut_at bytes n h in
+        none_bare bytes (without_tab bytes (codes "esi") n h refl) (without_tab bytes (codes "tries") n h refl)
+        ∙ sym (ap from_fields (split_some bytes n h)
+        ∙ none_of_kind kind rest (isnt_kind bytes kind rest _ is limit) (isnt_kind bytes kind rest _ is select)
+        (isnt_kind bytes kind rest _ is start) (isnt_kind bytes kind rest _ is drops) (isnt_kind bytes kind rest _ is end))

@@ -122,11 +122,15 @@ impl LineReader {
     }
 }
 
-/// The place of the first LF.
+/// The place of the first LF. Empty lines are found without a call.
+#[inline]
 fn line_feed_place(bytes: &[u8]) -> Option<usize>
     ensures { result ≡ position is_line_feed bytes.now }
 {
-    memchr(b'\n', bytes)
+    match bytes {
+        [b'\n', ..] => Some(0),
+        _ => memchr(b'\n', bytes),
+    }
 }
 
 /// Forgets the first bytes.

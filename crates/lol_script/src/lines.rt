@@ -1,8 +1,9 @@
 //! The lines of a script.
 
-ghost use Rattle.std.specs.Prelude.{◌≡◌, ◌<◌, ◌∷◌, [], MatchOption, IfSome, Some, None, Bool, true, false, map, length, option_map, position, if◌then◌else◌};
+ghost use Rattle.std.specs.Prelude.{◌≡◌, ◌≢◌, ◌<◌, ◌∷◌, ◌++◌, ◌==◌, [], List, ℕ, MatchOption, IfSome, IfNone, Some, None, Bool, true, false, map, length, option_map, position, if◌then◌else◌};
 ghost use Rattle.std.specs.Str.{is_utf8};
 ghost use Rattle.std.specs.List.{slice_split, list_all};
+ghost use Rattle.lol_base.specs.CodePoints.{tab};
 ghost use Rattle.lol_script.specs.Script.{is_tab, is_named, attribute_at, namespace_at, number_up_to, limit_at, select_at, start_at, end_at, of_kind, line_at};
 ghost use Rattle.lol_script.specs.Lines.{fields_of, said_by};
 
@@ -52,11 +53,22 @@ pub struct StartLine<'s> {
     pub finish: bool,
 }
 
-/// The place of the first TAB.
-pub fn tab_place(bytes: &[u8]) -> Option<usize>
-    ensures { result ≡ position is_tab bytes.now }
+/// How many bytes are looked at one by one. Most fields are shorter, and a call of `memchr` costs more than these.
+const NEAR: usize = 16;
+
+/// The place of the first such byte.
+#[inline]
+pub fn byte_place(byte: u8, bytes: &[u8]) -> Option<usize>
+    ensures { result ≡ position (λ b. b == byte) bytes.now }
 {
-    memchr(b'\t', bytes)
+    let near = bytes.len().min(NEAR);
+    for place in 0..near {
+        if bytes[place] == byte {
+            return Some(place);
+        }
+    }
+    let place = memchr(byte, &bytes[near..])?;
+    Some(near + place)
 }
 
 /// A line or the rest of one, cut at its first TAB.
@@ -66,7 +78,7 @@ fn cut(bytes: &[u8]) -> Option<(&[u8], &[u8])>
         (λ parts. slice_split is_tab bytes.now ≡ parts.0.now ∷ slice_split is_tab parts.1.now) }
     ensures shorter { IfSome result (λ parts. length parts.1.now < length bytes.now) }
 {
-    let place = tab_place(bytes)?;
+    let place = byte_place(b'\t', bytes)?;
     Some((&bytes[..place], &bytes[place + 1..]))
 }
 
@@ -205,6 +217,18 @@ fn end_of(rest: &[u8]) -> Option<Line<'_>>
     Some(Line::End { name: rest })
 }
 
+/// What follows a line's kind, if it is this one.
+#[inline(always)]
+fn after_kind<'s>(bytes: &'s [u8], kind: &[u8]) -> Option<&'s [u8]>
+    ensures some { IfSome result (λ rest. bytes.now ≡ kind.now ++ tab ∷ rest.now) }
+    ensures none { IfNone result ((rest : List ℕ) → bytes.now ≢ kind.now ++ tab ∷ rest) }
+{
+    match bytes.strip_prefix(kind)? {
+        [b'\t', rest @ ..] => Some(rest),
+        _ => None,
+    }
+}
+
 /// A line of one field.
 fn bare_line(kind: &[u8]) -> Option<Line<'static>>
     ensures { option_map said_by result ≡ of_kind kind.now [] }
@@ -218,31 +242,21 @@ fn bare_line(kind: &[u8]) -> Option<Line<'static>>
     }
 }
 
-/// A line of several fields.
-fn line_of_kind<'s>(kind: &[u8], rest: &'s [u8]) -> Option<Line<'s>>
-    ensures { option_map said_by result ≡ of_kind kind.now (slice_split is_tab rest.now) }
-{
-    if kind == b"start".as_slice() {
-        start_of(rest, true)
-    } else if kind == b"end".as_slice() {
-        end_of(rest)
-    } else if kind == b"drop".as_slice() {
-        start_of(rest, false)
-    } else if kind == b"select".as_slice() {
-        select_of(rest)
-    } else if kind == b"limit".as_slice() {
-        limit_of(rest)
-    } else {
-        None
-    }
-}
-
 /// What a line says, or nothing where it has none of the forms.
 pub fn line_of(bytes: &[u8]) -> Option<Line<'_>>
     ensures { option_map said_by result ≡ line_at bytes.now }
 {
-    match cut(bytes) {
-        Some((kind, rest)) => line_of_kind(kind, rest),
-        None => bare_line(bytes),
+    if let Some(rest) = after_kind(bytes, b"start") {
+        start_of(rest, true)
+    } else if let Some(rest) = after_kind(bytes, b"end") {
+        end_of(rest)
+    } else if let Some(rest) = after_kind(bytes, b"drop") {
+        start_of(rest, false)
+    } else if let Some(rest) = after_kind(bytes, b"select") {
+        select_of(rest)
+    } else if let Some(rest) = after_kind(bytes, b"limit") {
+        limit_of(rest)
+    } else {
+        bare_line(bytes)
     }
 }

@@ -6,17 +6,9 @@ ghost use Rattle.lol_vm.specs.Follows.{IsHandedOver};
 ghost use Rattle.lol_script.specs.Script.{is_equals, attribute_at};
 ghost use Rattle.lol_script.specs.Lines.{AreOutlinesOf, start_tag_of};
 
-use crate::lines::{StartLine, tab_place};
+use crate::lines::{StartLine, byte_place};
 use lol_vm::{AttributeBuffer, AttributeOutline, AuxStartTagInfo, Bytes, Range};
-use memchr::memchr;
 use std::alloc::AllocError;
-
-/// The place of the first `=`.
-fn equals_place(bytes: &[u8]) -> Option<usize>
-    ensures { result ≡ position is_equals bytes.now }
-{
-    memchr(b'=', bytes)
-}
 
 /// The outline of the attribute that stands from `start` up to `end`.
 fn outline_of(text: &[u8], start: usize, end: usize) -> AttributeOutline
@@ -26,7 +18,7 @@ fn outline_of(text: &[u8], start: usize, end: usize) -> AttributeOutline
     ensures inside { OutlineIsInside text.now result }
 {
     let raw_range = Range { start, end };
-    match equals_place(&text[start..end]) {
+    match byte_place(b'=', &text[start..end]) {
         Some(place) => AttributeOutline {
             name: Range {
                 start,
@@ -53,7 +45,7 @@ pub fn fill_outlines(outlines: &mut AttributeBuffer, text: &[u8]) -> Result<(), 
 {
     outlines.clear();
     let mut start = 0;
-    while let Some(place) = tab_place(&text[start..]) {
+    while let Some(place) = byte_place(b'\t', &text[start..]) {
         outlines.push(outline_of(text, start, start + place))?;
         start += place + 1;
     }
