@@ -144,6 +144,8 @@ fn forget_first(bytes: &mut Vec<u8>, count: usize)
 }
 
 /// Appends what is read, up to the first LF or the end, and returns the place of that LF. Where one comes, more may be appended after it.
+// Inlined, its 64 KB would be stepped through on the stack for each line.
+#[inline(never)]
 fn read_to_line_feed<R: Read>(
     bytes: &mut Vec<u8>,
     reader: &mut Counted<R>,
