@@ -57,7 +57,7 @@ pub struct StartLine<'s> {
 const NEAR: usize = 16;
 
 /// The place of the first such byte.
-#[inline]
+#[inline(always)]
 pub fn byte_place(byte: u8, bytes: &[u8]) -> Option<usize>
     ensures { result ≡ position (λ b. b == byte) bytes.now }
 {
@@ -73,6 +73,7 @@ pub fn byte_place(byte: u8, bytes: &[u8]) -> Option<usize>
 
 /// A line or the rest of one, cut at its first TAB.
 #[tactic(auto, using(crate::proofs::Fields::split_none, crate::proofs::Fields::split_some, crate::proofs::Fields::within_some))]
+#[inline(always)]
 fn cut(bytes: &[u8]) -> Option<(&[u8], &[u8])>
     ensures fields { MatchOption result (slice_split is_tab bytes.now ≡ bytes.now ∷ [])
         (λ parts. slice_split is_tab bytes.now ≡ parts.0.now ∷ slice_split is_tab parts.1.now) }
@@ -83,6 +84,7 @@ fn cut(bytes: &[u8]) -> Option<(&[u8], &[u8])>
 }
 
 /// The first field, and the rest if there are more.
+#[inline(always)]
 fn first_field(bytes: &[u8]) -> (&[u8], Option<&[u8]>)
     ensures { slice_split is_tab bytes.now ≡ result.0.now ∷ fields_of result.1 }
 {
@@ -147,6 +149,7 @@ fn select_of(rest: &[u8]) -> Option<Line<'_>>
 }
 
 /// A namespace, and whether the tag closes itself.
+#[inline(always)]
 fn namespace_of(field: &[u8]) -> Option<(Namespace, bool)>
     ensures { result ≡ namespace_at field.now }
 {
@@ -189,6 +192,7 @@ fn have_names(attributes: &[u8]) -> bool
 }
 
 /// A start tag, by what follows the kind of its line.
+#[inline(always)]
 fn start_of(rest: &[u8], finish: bool) -> Option<Line<'_>>
     ensures { option_map said_by result ≡ start_at finish (slice_split is_tab rest.now) }
 {
@@ -208,6 +212,7 @@ fn start_of(rest: &[u8], finish: bool) -> Option<Line<'_>>
 }
 
 #[tactic(auto, using(crate::proofs::Fields::end_too_long))]
+#[inline(always)]
 fn end_of(rest: &[u8]) -> Option<Line<'_>>
     ensures { option_map said_by result ≡ end_at (slice_split is_tab rest.now) }
 {
@@ -243,6 +248,7 @@ fn bare_line(kind: &[u8]) -> Option<Line<'static>>
 }
 
 /// What a line says, or nothing where it has none of the forms.
+#[inline(always)]
 pub fn line_of(bytes: &[u8]) -> Option<Line<'_>>
     ensures { option_map said_by result ≡ line_at bytes.now }
 {
