@@ -54,7 +54,7 @@ pub struct StartLine<'s> {
 }
 
 /// How many bytes are looked at one by one. Most fields are shorter, and a call of `memchr` costs more than these.
-const NEAR: usize = 16;
+const NEAR: usize = 8;
 
 /// The place of the first such byte.
 #[inline(always)]
