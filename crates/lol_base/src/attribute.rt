@@ -3,6 +3,8 @@
 ghost use Rattle.std.specs.Prelude.{◌↔◌, IsTrue};
 ghost use Rattle.lol_base.specs.SameText.{SameText};
 
+use crate::caseless::eq_ignore_ascii_case;
+
 /// An operator that compares an attribute's value with an operand (Selectors 4, sections 6.1 and 6.2), as in `selectors::attr`.
 #[derive(Debug, Clone, Copy, PartialEq, Eq)]
 pub enum AttrSelectorOperator {
@@ -50,7 +52,7 @@ impl CaseSensitivity {
     {
         match self {
             CaseSensitivity::CaseSensitive => a == b,
-            CaseSensitivity::AsciiCaseInsensitive => a.eq_ignore_ascii_case(b),
+            CaseSensitivity::AsciiCaseInsensitive => eq_ignore_ascii_case(a, b),
         }
     }
 }

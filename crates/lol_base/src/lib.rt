@@ -5,6 +5,7 @@
 mod attribute;
 mod attributes;
 mod bytes;
+mod caseless;
 pub mod laws;
 mod local_name;
 mod namespace;

@@ -1,4 +1,4 @@
-use Rattle.std.proofs.Common.{◌≡◌, ◌≢◌, ◌∙◌, ap, sym, refl, subst, IfNone, IsSome, is_some, Some, None, ℕ, true≢false}
+use Rattle.std.proofs.Common.{◌≡◌, ◌≢◌, ◌∙◌, ap, sym, refl, subst, IfNone, IsSome, is_some, None, true≢false}
 use Rattle.std.proofs.lemmas.Option.{IfSome_then}
 use Rattle.lol_base.specs.LocalNames.{name_code}
 use Rattle.lol_base.specs.declared.tag.Tag.{Tag}
