@@ -5,6 +5,8 @@
 #[cfg(test)]
 mod attributes;
 #[cfg(test)]
+mod cases;
+#[cfg(test)]
 mod limits;
 #[cfg(test)]
 mod name_maps;

@@ -32,6 +32,56 @@ fn are_those_of_tags(rt: HostRuntime) {
     assert!(rt; !LocalName::new(b"basefontfonts").is_tag(Tag::Basefont));
 }
 
+/// The void elements of the HTML Standard (13.1.2), and the obsolete ones that its parser closes at once (13.2.6.4.7).
+const VOID: [&[u8]; 17] = [
+    b"area",
+    b"base",
+    b"basefont",
+    b"bgsound",
+    b"br",
+    b"col",
+    b"embed",
+    b"hr",
+    b"IMG",
+    b"input",
+    b"keygen",
+    b"link",
+    b"meta",
+    b"param",
+    b"Source",
+    b"track",
+    b"wbr",
+];
+
+/// Names of elements with content; the standard's parser renames `image`.
+const NOT_VOID: [&[u8]; 8] = [
+    b"a",
+    b"div",
+    b"li",
+    b"span",
+    b"image",
+    b"command",
+    b"b",
+    b"custom-element",
+];
+
+/// Whether a name is that of a tag without content.
+fn is_void(name: &[u8]) -> bool {
+    LocalName::new(name).tag().is_some_and(|tag| tag.is_void())
+}
+
+#[test]
+fn are_void_as_the_standard_says(rt: HostRuntime) {
+    for name in VOID {
+        assert!(rt; is_void(name), "{name:?}");
+    }
+    for name in NOT_VOID {
+        assert!(rt; !is_void(name), "{name:?}");
+    }
+    assert!(rt; LocalName::new(b"SPAN").tag() == Some(Tag::Span));
+    assert!(rt; LocalName::new(b"spans").tag().is_none());
+}
+
 /// Names without a code, each with another spelling of it.
 const COPIED: [(&[u8], &[u8]); 1] = [(b"Abcdefghijklm", b"aBCDEFGHIJKLM")];
 
