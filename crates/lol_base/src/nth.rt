@@ -30,6 +30,20 @@ impl NthChild {
         NthChild { step, offset }
     }
 
+    /// A.
+    pub fn step(self) -> i32
+        ensures { result ≡ self.step }
+    {
+        self.step
+    }
+
+    /// B.
+    pub fn offset(self) -> i32
+        ensures { result ≡ self.offset }
+    {
+        self.offset
+    }
+
     /// Whether some whole `n` at least 0 has `index = step * n + offset`, in numbers that don't wrap.
     pub fn has_index(self, index: i32) -> bool
         ensures member { IsTrue result ↔ Has self index }
