@@ -1,6 +1,8 @@
 pub mod Tests
+pub mod Keys
 pub mod Grown
 pub mod Placed
+pub mod Indexing
 pub mod Standing
 pub mod Joining
 pub mod Adding

@@ -5,6 +5,8 @@ pub mod Conditions
 pub mod Predicates
 pub mod Forest
 pub mod Growth
+pub mod NodeKeys
+pub mod Indexed
 pub mod Places
 pub mod Views
 pub mod IdsForNodes

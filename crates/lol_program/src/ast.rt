@@ -2,10 +2,13 @@
 
 ghost use Rattle.std.specs.Prelude.{◌≡◌};
 ghost use Rattle.lol_program.specs.Forest.{size, SiblingsDiffer, SiblingsDiffer-prop};
+ghost use Rattle.lol_program.specs.Indexed.{IsIndexOf, IsIndexOf-prop};
 ghost use Rattle.lol_program.specs.Views.{forest_of};
 
 use crate::ast_node::{self, AstNode};
 use crate::id_for_node::IdForNode;
+use crate::node_index::NodeIndex;
+use crate::node_key::ROOT_LIST;
 use crate::reserved_id::ReservedId;
 use lol_css::{ComplexSelector, Selector, SelectorList};
 use lol_memory::MatchId;
@@ -17,9 +20,10 @@ use std::alloc::{AllocError, Global};
 pub struct Ast {
     alloc: Global,
     root: Vec<AstNode>,
-    cumulative_node_count: usize,
-    ghost counted: { cumulative_node_count ≡ size (forest_of root.items) },
+    index: NodeIndex,
+    ghost counted: { index.node_count ≡ size (forest_of root.items) },
     ghost siblings: { SiblingsDiffer (forest_of root.items) } by { SiblingsDiffer-prop (forest_of root.items) },
+    ghost indexed: { IsIndexOf index (forest_of root.items) } by { IsIndexOf-prop index (forest_of root.items) },
 }
 
 impl Ast {
@@ -40,7 +44,7 @@ impl Ast {
         Ast {
             alloc,
             root: Vec::new(alloc),
-            cumulative_node_count: 0,
+            index: NodeIndex::new(alloc),
         }
     }
 
@@ -48,7 +52,7 @@ impl Ast {
     pub fn root(&self) -> &[AstNode]
         ensures { forest_of result.now ≡ trees_of self.now }
     {
-        &self.root
+        self.root.as_slice()
     }
 
     /// The nodes that no other stands above, moved out.
@@ -63,7 +67,7 @@ impl Ast {
         ensures count { result ≡ length (nodes_of self.now) }
         ensures each_once { AllPairs (λ a b. a ≢ b) (nodes_of self.now) }
     {
-        self.cumulative_node_count
+        self.index.node_count
     }
 
     /// Adds each item of a selector's list under an id: its compounds from the left, each step under the node of the one before it. A
@@ -72,19 +76,25 @@ impl Ast {
     /// It is refused where memory is, and where there would be more nodes than a `usize` counts. Then the ids are as they were, and so
     /// are the nodes but for some without ids, which are beginnings of the items.
     pub fn add_selector(&mut self, selector: &Selector, match_id: MatchId) -> Result<(), AllocError>
-        ensures pairs { OnOk result (Joins (pairs_of self.old) (pairs_of self.new) (pairs_under match_id (list_of selector.now))) }
-        ensures nodes { OnOk result (Joins (nodes_of self.old) (nodes_of self.new) (all_beginnings (pairs_under match_id (list_of selector.now)))) }
+        ensures pairs { OnOk result
+            (Joins (pairs_of self.old) (pairs_of self.new) (pairs_under match_id (list_of selector.now))) }
+        ensures nodes { OnOk result (Joins (nodes_of self.old) (nodes_of self.new)
+            (all_beginnings (pairs_under match_id (list_of selector.now)))) }
         ensures refused_pairs { OnErr result (SameMembers (pairs_of self.old) (pairs_of self.new)) }
-        ensures refused_nodes { OnErr result (IsBetween (nodes_of self.old) (nodes_of self.new) (all_beginnings (pairs_under match_id (list_of selector.now)))) }
+        ensures refused_nodes { OnErr result (IsBetween (nodes_of self.old) (nodes_of self.new)
+            (all_beginnings (pairs_under match_id (list_of selector.now)))) }
     {
         self.add_list(selector.list(), match_id)
     }
 
     fn add_list(&mut self, list: &SelectorList, match_id: MatchId) -> Result<(), AllocError>
-        ensures pairs { OnOk result (Joins (pairs_of self.old) (pairs_of self.new) (pairs_under match_id (list_of list.now))) }
-        ensures nodes { OnOk result (Joins (nodes_of self.old) (nodes_of self.new) (all_beginnings (pairs_under match_id (list_of list.now)))) }
+        ensures pairs { OnOk result
+            (Joins (pairs_of self.old) (pairs_of self.new) (pairs_under match_id (list_of list.now))) }
+        ensures nodes { OnOk result
+            (Joins (nodes_of self.old) (nodes_of self.new) (all_beginnings (pairs_under match_id (list_of list.now)))) }
         ensures refused_pairs { OnErr result (SameMembers (pairs_of self.old) (pairs_of self.new)) }
-        ensures refused_nodes { OnErr result (IsBetween (nodes_of self.old) (nodes_of self.new) (all_beginnings (pairs_under match_id (list_of list.now)))) }
+        ensures refused_nodes { OnErr result (IsBetween (nodes_of self.old) (nodes_of self.new)
+            (all_beginnings (pairs_under match_id (list_of list.now)))) }
     {
         match list.items.as_slice() {
             [item] => self.add_path(item, IdForNode::Id(match_id)),
@@ -96,19 +106,23 @@ impl Ast {
     }
 
     fn add_path(&mut self, item: &ComplexSelector, id: IdForNode) -> Result<(), AllocError>
-        ensures pairs { OnOk result (Joins (pairs_of self.old) (pairs_of self.new) (pairs_with (id_in id) (path_shown item.now))) }
+        ensures pairs { OnOk result
+            (Joins (pairs_of self.old) (pairs_of self.new) (pairs_with (id_in id) (path_shown item.now))) }
         ensures nodes { OnOk result (Joins (nodes_of self.old) (nodes_of self.new) (beginnings (path_shown item.now))) }
         ensures stands { OnOk result (IsIn (trees_of self.new) item.now) }
         ensures refused_pairs { OnErr result (SameMembers (pairs_of self.old) (pairs_of self.new)) }
-        ensures refused_nodes { OnErr result (IsBetween (nodes_of self.old) (nodes_of self.new) (beginnings (path_shown item.now))) }
-        ensures keeps { (items : List ComplexSelector) → AllIn (trees_of self.old) items → AllIn (trees_of self.new) items }
-        ensures keeps_enough { (match_id : ℕ) (items : List ComplexSelector) (count : ℕ) → AreEnough match_id (trees_of self.old) items count → AreEnough match_id (trees_of self.new) items count }
+        ensures refused_nodes { OnErr result
+            (IsBetween (nodes_of self.old) (nodes_of self.new) (beginnings (path_shown item.now))) }
+        ensures keeps { (items : List ComplexSelector)
+            → AllIn (trees_of self.old) items → AllIn (trees_of self.new) items }
+        ensures keeps_enough { (match_id : ℕ) (items : List ComplexSelector) (count : ℕ)
+            → AreEnough match_id (trees_of self.old) items count → AreEnough match_id (trees_of self.new) items count }
         ensures free { IsInWith (Fits id) (trees_of self.old) item.now → IsOk result }
     {
         ast_node::add_path(
-            self.alloc,
+            &mut self.index,
             &mut self.root,
-            &mut self.cumulative_node_count,
+            ROOT_LIST,
             &item.first,
             &item.rest,
             id,
@@ -118,9 +132,11 @@ impl Ast {
     /// Makes the nodes of paths that aren't there.
     fn add_nodes(&mut self, items: &[ComplexSelector]) -> Result<(), AllocError>
         ensures pairs { SameMembers (pairs_of self.old) (pairs_of self.new) }
-        ensures nodes { OnOk result (Joins (nodes_of self.old) (nodes_of self.new) (flat_map beginnings (map path_shown items.now))) }
+        ensures nodes { OnOk result
+            (Joins (nodes_of self.old) (nodes_of self.new) (flat_map beginnings (map path_shown items.now))) }
         ensures stands { OnOk result (AllIn (trees_of self.new) items.now) }
-        ensures refused_nodes { OnErr result (IsBetween (nodes_of self.old) (nodes_of self.new) (flat_map beginnings (map path_shown items.now))) }
+        ensures refused_nodes { OnErr result
+            (IsBetween (nodes_of self.old) (nodes_of self.new) (flat_map beginnings (map path_shown items.now))) }
     {
         for item in items {
             self.add_path(item, IdForNode::Nothing)?;
@@ -131,10 +147,13 @@ impl Ast {
     /// Gives an id to the last nodes of paths that stand. All that may be refused comes before the first change.
     fn add_id(&mut self, items: &[ComplexSelector], match_id: MatchId) -> Result<(), AllocError>
         requires { AllIn (trees_of self.old) items.now }
-        ensures pairs { OnOk result (Joins (pairs_of self.old) (pairs_of self.new) (map (λ item. (path_shown item, match_id)) items.now)) }
-        ensures nodes { OnOk result (Joins (nodes_of self.old) (nodes_of self.new) (flat_map beginnings (map path_shown items.now))) }
+        ensures pairs { OnOk result
+            (Joins (pairs_of self.old) (pairs_of self.new) (map (λ item. (path_shown item, match_id)) items.now)) }
+        ensures nodes { OnOk result
+            (Joins (nodes_of self.old) (nodes_of self.new) (flat_map beginnings (map path_shown items.now))) }
         ensures refused_pairs { OnErr result (SameMembers (pairs_of self.old) (pairs_of self.new)) }
-        ensures refused_nodes { OnErr result (IsBetween (nodes_of self.old) (nodes_of self.new) (flat_map beginnings (map path_shown items.now))) }
+        ensures refused_nodes { OnErr result
+            (IsBetween (nodes_of self.old) (nodes_of self.new) (flat_map beginnings (map path_shown items.now))) }
     {
         let reserved_ids = self.reserve_ids(items, match_id)?;
         self.add_reserved_ids(items, match_id, reserved_ids);
@@ -149,7 +168,8 @@ impl Ast {
     ) -> Result<Vec<ReservedId>, AllocError>
         requires { AllIn (trees_of self.now) items.now }
         ensures alike { IfOk result (λ reserved_ids. AllReserve match_id reserved_ids.items) }
-        ensures enough { IfOk result (λ reserved_ids. AreEnough match_id (trees_of self.now) items.now (vec_len reserved_ids)) }
+        ensures enough { IfOk result
+            (λ reserved_ids. AreEnough match_id (trees_of self.now) items.now (vec_len reserved_ids)) }
     {
         let mut reserved_ids = Vec::new(self.alloc);
         for item in items {
@@ -164,7 +184,14 @@ impl Ast {
     fn has_room(&self, item: &ComplexSelector, match_id: MatchId) -> bool
         ensures { IsTrue result ↔ IsInWith (HasRoomAmong match_id) (trees_of self.now) item.now }
     {
-        ast_node::has_room(&self.root, &item.first, &item.rest, match_id)
+        ast_node::has_room(
+            &self.index,
+            &self.root,
+            ROOT_LIST,
+            &item.first,
+            &item.rest,
+            match_id,
+        )
     }
 
     /// Gives an id to the last nodes of paths that stand, with memory that was taken where a node has no room.
@@ -176,7 +203,8 @@ impl Ast {
     )
         requires alike { AllReserve match_id reserved_ids.items }
         requires enough { AreEnough match_id (trees_of self.old) items.now (vec_len reserved_ids) }
-        ensures pairs { Joins (pairs_of self.old) (pairs_of self.new) (map (λ item. (path_shown item, match_id)) items.now) }
+        ensures pairs { Joins (pairs_of self.old) (pairs_of self.new)
+            (map (λ item. (path_shown item, match_id)) items.now) }
         ensures nodes { Joins (nodes_of self.old) (nodes_of self.new) (flat_map beginnings (map path_shown items.now)) }
     {
         for item in items {
@@ -194,7 +222,8 @@ impl Ast {
         requires alike { AllReserve match_id reserved_ids.old.items }
         requires enough { AreEnough match_id (trees_of self.old) (item.now ∷ []) (vec_len reserved_ids.old) }
         ensures alike { AllReserve match_id reserved_ids.new.items }
-        ensures enough { (items : List ComplexSelector) → AreEnough match_id (trees_of self.old) (item.now ∷ items) (vec_len reserved_ids.old)
+        ensures enough { (items : List ComplexSelector)
+            → AreEnough match_id (trees_of self.old) (item.now ∷ items) (vec_len reserved_ids.old)
             → AreEnough match_id (trees_of self.new) items (vec_len reserved_ids.new) }
         ensures pairs { Joins (pairs_of self.old) (pairs_of self.new) ((path_shown item.now, match_id) ∷ []) }
         ensures nodes { Joins (nodes_of self.old) (nodes_of self.new) (beginnings (path_shown item.now)) }

@@ -3,12 +3,15 @@
 ghost use Rattle.std.specs.Prelude.{ℕ, ◌≡◌, ◌+◌, ◌↔◌, IsTrue, IfOk, OnOk, OnErr, IsOk, IfSome, IfNone, [], ◌∷◌, map};
 ghost use Rattle.lol_program.specs.Predicates.{tests_of};
 ghost use Rattle.lol_program.specs.Views.{node_of, linked, forest_of, tests_of_compound, steps_of};
-ghost use Rattle.lol_program.specs.Forest.{size};
+ghost use Rattle.lol_program.specs.Forest.{size, HasTop, SiblingsDiffer};
+ghost use Rattle.lol_program.specs.Indexed.{HasKey, IsIndexed, KeepsKeys};
 ghost use Rattle.lol_program.specs.Growth.{fresh, Adds, AddsFirst, StandsWith};
 ghost use Rattle.lol_program.specs.IdsForNodes.{id_in, Fits, HasRoomAmong};
 ghost use Rattle.lol_program.specs.Places.{IsPlace, HasPlace, IsNowhere};
 
 use crate::id_for_node::IdForNode;
+use crate::node_index::NodeIndex;
+use crate::node_key::{list_under, node_key};
 use crate::predicate::Predicate;
 use lol_css::{Combinator, Compound};
 use lol_memory::{DenseHashSet, MatchId};
@@ -39,89 +42,107 @@ fn fresh_node(alloc: Global, predicate: Predicate) -> AstNode
     }
 }
 
-/// The place of the first node with the tests of a compound.
-fn place_of(nodes: &[AstNode], compound: &Compound) -> Option<usize>
-    ensures some { IfSome result (λ i. IsPlace (tests_of_compound compound.now) (map node_of nodes.now) i) }
-    ensures none { IfNone result (IsNowhere (tests_of_compound compound.now) (map node_of nodes.now)) }
-{
-    for (i, node) in nodes.iter().enumerate() {
-        if node.predicate.is_of(compound) {
-            return Some(i);
-        }
-    }
-    None
-}
-
-/// The place of the node with the tests of a compound, which is made last where there is none.
+/// The place of the node with the tests of a compound, whose key in the list is `key`. It is made last where there is none.
 fn place_for(
-    alloc: Global,
+    index: &mut NodeIndex,
     nodes: &mut Vec<AstNode>,
-    count: &mut usize,
+    key: u64,
     compound: &Compound,
 ) -> Result<usize, AllocError>
-    ensures place { IfOk result (λ i. HasPlace (tests_of_compound compound.now) (map node_of nodes.old.items) (map node_of nodes.new.items) i) }
+    requires listed { HasTop (tests_of_compound compound.now) (forest_of nodes.old.items) → HasKey index.old key }
+    requires differ { SiblingsDiffer (forest_of nodes.old.items) }
+    ensures place { IfOk result
+        (HasPlace (tests_of_compound compound.now) (map node_of nodes.old.items) (map node_of nodes.new.items)) }
     ensures free { OnErr result (IsNowhere (tests_of_compound compound.now) (map node_of nodes.old.items)) }
     ensures unchanged { OnErr result (nodes.new.items ≡ nodes.old.items) }
-    ensures count { count.new + size (forest_of nodes.old.items) ≡ count.old + size (forest_of nodes.new.items) }
+    ensures count { index.new.node_count + size (forest_of nodes.old.items)
+        ≡ index.old.node_count + size (forest_of nodes.new.items) }
+    ensures key { OnOk result (HasKey index.new key) }
+    ensures keeps { KeepsKeys index.old index.new }
 {
-    if let Some(place) = place_of(nodes, compound) {
+    if let Some(place) = index.place_of(nodes, key, compound) {
         return Ok(place);
     }
-    let Some(more) = count.checked_add(1) else {
+    let Some(more) = index.node_count.checked_add(1) else {
         return Err(AllocError);
     };
     let place = nodes.len();
-    let predicate = Predicate::from_compound(alloc, compound)?;
-    nodes.push(fresh_node(alloc, predicate))?;
-    *count = more;
+    let predicate = Predicate::from_compound(index.alloc, compound)?;
+    index.insert(key, place)?;
+    nodes.push(fresh_node(index.alloc, predicate))?;
+    index.node_count = more;
     Ok(place)
 }
 
 /// Makes the nodes of an item that aren't there, in the list where it begins, and gives its last node an id or none.
 pub(crate) fn add_path(
-    alloc: Global,
+    index: &mut NodeIndex,
     nodes: &mut Vec<AstNode>,
-    count: &mut usize,
+    list: u64,
     first: &Compound,
     rest: &[(Combinator, Compound)],
     id: IdForNode,
 ) -> Result<(), AllocError>
-    ensures added { OnOk result (Adds (id_in id) (tests_of_compound first.now) (steps_of rest.now) (forest_of nodes.old.items) (forest_of nodes.new.items)) }
-    ensures partly { OnErr result ((k : ℕ) × AddsFirst k (tests_of_compound first.now) (steps_of rest.now) (forest_of nodes.old.items) (forest_of nodes.new.items)) }
-    ensures free { StandsWith (Fits id) (tests_of_compound first.now) (steps_of rest.now) (forest_of nodes.old.items) → IsOk result }
-    ensures count { count.new + size (forest_of nodes.old.items) ≡ count.old + size (forest_of nodes.new.items) }
+    requires indexed { IsIndexed index.old list (forest_of nodes.old.items) }
+    requires differ { SiblingsDiffer (forest_of nodes.old.items) }
+    ensures added { OnOk result (Adds (id_in id) (tests_of_compound first.now) (steps_of rest.now)
+        (forest_of nodes.old.items) (forest_of nodes.new.items)) }
+    ensures partly { OnErr result ((k : ℕ)
+        × AddsFirst k (tests_of_compound first.now) (steps_of rest.now)
+        (forest_of nodes.old.items) (forest_of nodes.new.items)) }
+    ensures free { StandsWith (Fits id) (tests_of_compound first.now) (steps_of rest.now) (forest_of nodes.old.items)
+        → IsOk result }
+    ensures count { index.new.node_count + size (forest_of nodes.old.items)
+        ≡ index.old.node_count + size (forest_of nodes.new.items) }
+    ensures indexed { IsIndexed index.new list (forest_of nodes.new.items) }
+    ensures keeps { KeepsKeys index.old index.new }
 {
-    let place = place_for(alloc, nodes, count, first)?;
+    let key = node_key(list, first);
+    let place = place_for(index, nodes, key, first)?;
     let node = &mut nodes[place];
     match rest.split_first() {
         None => id.add_to(&mut node.match_ids),
-        Some(((combinator, compound), rest)) => match combinator {
-            Combinator::Child => add_path(alloc, &mut node.children, count, compound, rest, id),
-            Combinator::Descendant => {
-                add_path(alloc, &mut node.descendants, count, compound, rest, id)
+        Some(((combinator, compound), rest)) => {
+            let list = list_under(*combinator, key);
+            match combinator {
+                Combinator::Child => add_path(index, &mut node.children, list, compound, rest, id),
+                Combinator::Descendant => {
+                    add_path(index, &mut node.descendants, list, compound, rest, id)
+                }
             }
-        },
+        }
     }
 }
 
 /// Whether a path stands in the list where it begins, and the set of its last node takes an id without more memory.
 pub(crate) fn has_room(
+    index: &NodeIndex,
     nodes: &[AstNode],
+    list: u64,
     first: &Compound,
     rest: &[(Combinator, Compound)],
     id: MatchId,
 ) -> bool
-    ensures { IsTrue result ↔ StandsWith (HasRoomAmong id) (tests_of_compound first.now) (steps_of rest.now) (forest_of nodes.now) }
+    requires indexed { IsIndexed index.now list (forest_of nodes.now) }
+    requires differ { SiblingsDiffer (forest_of nodes.now) }
+    ensures { IsTrue result
+        ↔ StandsWith (HasRoomAmong id) (tests_of_compound first.now) (steps_of rest.now) (forest_of nodes.now) }
 {
-    let Some(place) = place_of(nodes, first) else {
+    let key = node_key(list, first);
+    let Some(place) = index.place_of(nodes, key, first) else {
         return false;
     };
     let node = &nodes[place];
     match rest.split_first() {
         None => node.match_ids.has_room(id),
-        Some(((combinator, compound), rest)) => match combinator {
-            Combinator::Child => has_room(&node.children, compound, rest, id),
-            Combinator::Descendant => has_room(&node.descendants, compound, rest, id),
-        },
+        Some(((combinator, compound), rest)) => {
+            let list = list_under(*combinator, key);
+            match combinator {
+                Combinator::Child => has_room(index, &node.children, list, compound, rest, id),
+                Combinator::Descendant => {
+                    has_room(index, &node.descendants, list, compound, rest, id)
+                }
+            }
+        }
     }
 }

@@ -8,6 +8,8 @@ mod compiler;
 mod condition;
 mod id_for_node;
 pub mod laws;
+mod node_index;
+mod node_key;
 mod predicate;
 mod program;
 mod reserved_id;

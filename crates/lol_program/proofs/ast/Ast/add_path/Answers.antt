@@ -17,6 +17,7 @@ invariant_of-self c =
     record {
       counted = omega (arith, c.add_path.ensures.count, c.args.self.now.counted);
       siblings = differ_after c.add_path.result (id_in c.args.id) (tests_of_compound (out-ComplexSelector c.args.item.now).first) (steps_of c.deref.result.now) (forest_of c.args.self.now.root.items) (forest_of c.add_path.new.nodes.items) c.add_path.ensures.added c.add_path.ensures.partly c.args.self.now.siblings;
+      indexed = c.add_path.ensures.indexed;
     }
 
 pub returns-clause-pairs : goal.returns-clause-pairs

@@ -1,0 +1,90 @@
+-- The keys by which nodes are found: hashes of 64 bits.
+use Rattle.std.specs.Prelude.{ℕ, ℤ, List, [], ◌∷◌, fold, bit_xor}
+use Rattle.std.specs.Hash as fed
+use Rattle.std.specs.Hash.DefaultHasher as sip
+use Rattle.std.specs.declared.hash.DefaultHasher.{DefaultHasher}
+use Rattle.lol_base.specs.declared.attribute.AttrSelectorOperator.{AttrSelectorOperator}
+use Rattle.lol_base.specs.declared.attribute.AttrSelectorOperator.TheVariants.{Equal, Includes, DashMatch, Prefix, Substring, Suffix}
+use Rattle.lol_base.specs.declared.attribute.ParsedCaseSensitivity.{ParsedCaseSensitivity}
+use Rattle.lol_base.specs.declared.attribute.ParsedCaseSensitivity.TheVariants.{ExplicitCaseSensitive, AsciiCaseInsensitive, CaseSensitive, AsciiCaseInsensitiveIfInHtmlElementInHtmlDocument}
+use Rattle.lol_base.specs.Progression.{Progression}
+use Rattle.lol_css.specs.declared.selector.Combinator.{Combinator}
+use Rattle.lol_css.specs.declared.selector.Combinator.TheVariants.{Child, Descendant}
+use Rattle.lol_instructions.specs.Tests.{NameTest, AnyName, NoName, HasName, IsNthChild, IsNthOfType, AttributeTest, HasId, HasClass, HasAttribute, Compares}
+use Rattle.lol_instructions.specs.Compounds.{Test, OfName, OfAttributes, NoneOf, SomeOf, Compound, NoTests, AndTest, Compounds, NoCompounds, OrCompound}
+
+-- 1. What a hasher is given: a byte, a number, and a text with the byte 255 after it, which no text has
+
+abbrev pub byte_hashed : DefaultHasher → ℕ → DefaultHasher
+byte_hashed hasher byte = sip.write hasher (byte ∷ [])
+
+abbrev pub number_hashed : DefaultHasher → ℤ → DefaultHasher
+number_hashed hasher n = fold sip.write hasher (fed.i32 n)
+
+abbrev pub text_hashed : DefaultHasher → List ℕ → DefaultHasher
+text_hashed hasher text = byte_hashed (sip.write hasher text) 255
+
+-- 2. Tests, each with a byte of its kind before it
+
+abbrev pub operator_byte : AttrSelectorOperator → ℕ
+operator_byte Equal = 0
+operator_byte Includes = 1
+operator_byte DashMatch = 2
+operator_byte Prefix = 3
+operator_byte Substring = 4
+operator_byte Suffix = 5
+
+abbrev pub case_byte : ParsedCaseSensitivity → ℕ
+case_byte ExplicitCaseSensitive = 0
+case_byte AsciiCaseInsensitive = 1
+case_byte CaseSensitive = 2
+case_byte AsciiCaseInsensitiveIfInHtmlElementInHtmlDocument = 3
+
+abbrev pub progression_hashed : DefaultHasher → Progression → DefaultHasher
+progression_hashed hasher nth = number_hashed (number_hashed hasher nth.step) nth.offset
+
+abbrev pub name_test_hashed : DefaultHasher → NameTest → DefaultHasher
+name_test_hashed hasher AnyName = byte_hashed hasher 0
+name_test_hashed hasher NoName = byte_hashed hasher 1
+name_test_hashed hasher (HasName name) = text_hashed (byte_hashed hasher 2) name
+name_test_hashed hasher (IsNthChild nth) = progression_hashed (byte_hashed hasher 3) nth
+name_test_hashed hasher (IsNthOfType nth) = progression_hashed (byte_hashed hasher 4) nth
+
+abbrev pub attribute_test_hashed : DefaultHasher → AttributeTest → DefaultHasher
+attribute_test_hashed hasher (HasId id) = text_hashed (byte_hashed hasher 5) id
+attribute_test_hashed hasher (HasClass name) = text_hashed (byte_hashed hasher 6) name
+attribute_test_hashed hasher (HasAttribute name) = text_hashed (byte_hashed hasher 7) name
+attribute_test_hashed hasher (Compares name operator operand case) =
+    let texts = text_hashed (text_hashed (byte_hashed hasher 8) name) operand in
+    byte_hashed (byte_hashed texts (operator_byte operator)) (case_byte case)
+
+-- a list of tests or of compounds has the byte 255 after it
+abbrev mutual
+  pub test_hashed : DefaultHasher → Test → DefaultHasher
+  test_hashed hasher (OfName test) = name_test_hashed hasher test
+  test_hashed hasher (OfAttributes test) = attribute_test_hashed hasher test
+  test_hashed hasher (NoneOf compounds) = compounds_hashed (byte_hashed hasher 9) compounds
+  test_hashed hasher (SomeOf compounds) = compounds_hashed (byte_hashed hasher 10) compounds
+
+  pub compound_hashed : DefaultHasher → Compound → DefaultHasher
+  compound_hashed hasher NoTests = byte_hashed hasher 255
+  compound_hashed hasher (AndTest test tests) = compound_hashed (test_hashed hasher test) tests
+
+  pub compounds_hashed : DefaultHasher → Compounds → DefaultHasher
+  compounds_hashed hasher NoCompounds = byte_hashed hasher 255
+  compounds_hashed hasher (OrCompound compound compounds) = compounds_hashed (compound_hashed hasher compound) compounds
+
+-- 3. Keys
+
+-- the list of the nodes that stand under no other
+abbrev pub root_list : ℕ
+root_list = 0
+
+-- the list of the nodes by a step under the node with a key
+abbrev pub list_under : Combinator → ℕ → ℕ
+list_under Child key = key
+list_under Descendant key = bit_xor key 1
+
+-- the node with these tests in a list
+abbrev pub node_key : ℕ → Compound → ℕ
+node_key list compound = sip.finish (compound_hashed (fold sip.write sip.initial (fed.u64 list)) compound)

@@ -1,0 +1,92 @@
+//! Where nodes stand, by their keys.
+
+ghost use Rattle.std.specs.Prelude.{◌≡◌, ◌+◌, IfSome, IfNone, OnOk, map};
+ghost use Rattle.std.specs.Cmp.Rules.{comparing};
+ghost use Rattle.std.proofs.Common.{rules, true};
+ghost use Rattle.lol_program.specs.Forest.{HasTop, SiblingsDiffer};
+ghost use Rattle.lol_program.specs.Indexed.{HasKey, KeepsKeys};
+ghost use Rattle.lol_program.specs.Places.{IsPlace, IsNowhere};
+ghost use Rattle.lol_program.specs.Views.{node_of, forest_of, tests_of_compound};
+
+use crate::ast_node::AstNode;
+use lol_css::Compound;
+use std::alloc::{AllocError, Global};
+use std::collections::BTreeMap;
+
+/// Where nodes stand, by their keys, and how many nodes there are.
+///
+/// A node's key is here from before the node is made. Only that is promised: a key may be here without its node, and have the place of
+/// another node, so a place that was found is compared with what is looked for.
+#[derive(Debug, Drop)]
+pub(crate) struct NodeIndex {
+    pub(crate) alloc: Global,
+    pub(crate) places: BTreeMap<u64, usize>,
+    pub(crate) node_count: usize,
+}
+
+impl PartialEq for NodeIndex {
+    ghost eq = { λ _ _. true };
+
+    ghost laws = { Prim.search (comparing, rules) };
+
+    /// It is what it is for the sake of the nodes, which are compared.
+    fn eq(&self, _other: &NodeIndex) -> bool {
+        true
+    }
+}
+
+impl Eq for NodeIndex {
+    ghost laws = { Prim.search (comparing, rules) };
+}
+
+impl NodeIndex {
+    /// No nodes. It takes no memory.
+    pub(crate) fn new(alloc: Global) -> Self
+        ensures { result.node_count ≡ 0 }
+    {
+        NodeIndex {
+            alloc,
+            places: BTreeMap::new(alloc),
+            node_count: 0,
+        }
+    }
+
+    /// The place among siblings of the node with the tests of a compound, whose key in their list is `key`.
+    pub(crate) fn place_of(&self, nodes: &[AstNode], key: u64, compound: &Compound) -> Option<usize>
+        requires listed { HasTop (tests_of_compound compound.now) (forest_of nodes.now) → HasKey self.now key }
+        requires differ { SiblingsDiffer (forest_of nodes.now) }
+        ensures some { IfSome result (λ i. IsPlace (tests_of_compound compound.now) (map node_of nodes.now) i) }
+        ensures none { IfNone result (IsNowhere (tests_of_compound compound.now) (map node_of nodes.now)) }
+    {
+        let Some(place) = self.places.get(&key).copied() else {
+            return None;
+        };
+        if place < nodes.len() && nodes[place].predicate.is_of(compound) {
+            return Some(place);
+        }
+        first_place_of(nodes, compound)
+    }
+
+    /// Notes the place of a node that is to be made.
+    pub(crate) fn insert(&mut self, key: u64, place: usize) -> Result<(), AllocError>
+        ensures key { OnOk result (HasKey self.new key) }
+        ensures keeps { KeepsKeys self.old self.new }
+        ensures count { self.new.node_count ≡ self.old.node_count }
+    {
+        self.places.insert(key, place)?;
+        Ok(())
+    }
+}
+
+/// The place of the first node with the tests of a compound, found by comparing each.
+fn first_place_of(nodes: &[AstNode], compound: &Compound) -> Option<usize>
+    ensures some { IfSome result (λ i. IsPlace (tests_of_compound compound.now) (map node_of nodes.now) i) }
+    ensures none { IfNone result (IsNowhere (tests_of_compound compound.now) (map node_of nodes.now)) }
+{
+    for (i, node) in nodes.iter().enumerate() {
+        if node.predicate.is_of(compound) {
+            return Some(i);
+        }
+    }
+    None
+}
