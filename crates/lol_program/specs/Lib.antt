@@ -6,6 +6,7 @@ pub mod Predicates
 pub mod Forest
 pub mod Growth
 pub mod NodeKeys
+pub mod IndexLaws
 pub mod Indexed
 pub mod Places
 pub mod Views

@@ -1,9 +1,9 @@
 //! Where nodes stand, by their keys.
 
 ghost use Rattle.std.specs.Prelude.{◌≡◌, ◌+◌, IfSome, IfNone, OnOk, map};
-ghost use Rattle.std.specs.Cmp.Rules.{comparing};
-ghost use Rattle.std.proofs.Common.{rules, true};
+ghost use Rattle.std.specs.Cmp.{partial_equiv_from_equiv};
 ghost use Rattle.lol_program.specs.Forest.{HasTop, SiblingsDiffer};
+ghost use Rattle.lol_program.specs.IndexLaws.{always, always_equivalence};
 ghost use Rattle.lol_program.specs.Indexed.{HasKey, KeepsKeys};
 ghost use Rattle.lol_program.specs.Places.{IsPlace, IsNowhere};
 ghost use Rattle.lol_program.specs.Views.{node_of, forest_of, tests_of_compound};
@@ -13,30 +13,30 @@ use lol_css::Compound;
 use std::alloc::{AllocError, Global};
 use std::collections::BTreeMap;
 
-/// Where nodes stand, by their keys, and how many nodes there are.
+/// Where nodes stand among their siblings, by their keys, and how many nodes there are.
 ///
-/// A node's key is here from before the node is made. Only that is promised: a key may be here without its node, and have the place of
-/// another node, so a place that was found is compared with what is looked for.
+/// Each node's key is here, and nothing else is promised: a key may be here without its node, or with the place of another node that has
+/// the same key. So what stands at the place is compared with what is looked for.
 #[derive(Debug, Drop)]
 pub(crate) struct NodeIndex {
     pub(crate) alloc: Global,
-    pub(crate) places: BTreeMap<u64, usize>,
+    places: BTreeMap<u64, usize>,
     pub(crate) node_count: usize,
 }
 
 impl PartialEq for NodeIndex {
-    ghost eq = { λ _ _. true };
+    ghost eq = { always };
 
-    ghost laws = { Prim.search (comparing, rules) };
+    ghost laws = { partial_equiv_from_equiv always_equivalence };
 
-    /// It is what it is for the sake of the nodes, which are compared.
+    /// Always: trees are compared by their nodes.
     fn eq(&self, _other: &NodeIndex) -> bool {
         true
     }
 }
 
 impl Eq for NodeIndex {
-    ghost laws = { Prim.search (comparing, rules) };
+    ghost laws = { always_equivalence };
 }
 
 impl NodeIndex {

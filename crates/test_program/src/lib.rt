@@ -3,6 +3,8 @@
 #![tactic(auto)]
 
 #[cfg(test)]
+mod found_again;
+#[cfg(test)]
 mod nodes;
 #[cfg(test)]
 mod programs;
