@@ -30,14 +30,14 @@ impl NthChild {
         NthChild { step, offset }
     }
 
-    /// A.
+    /// The step, `A` of `An+B`.
     pub fn step(self) -> i32
         ensures { result ≡ self.step }
     {
         self.step
     }
 
-    /// B.
+    /// The offset, `B` of `An+B`.
     pub fn offset(self) -> i32
         ensures { result ≡ self.offset }
     {
