@@ -1,5 +1,5 @@
 -- What a caller of a machine cites: the charge of its slots, from call to call, up to `release`; and what it has of its document.
-use Rattle.std.proofs.Common.{◌≡◌, ℕ, ◌+◌, ◌-◌, ◌*◌, ◌≤◌, Bool, false, List, [], ◌∷◌, length, Result, Ok, Err, refl, sym, ap, ◌∙◌, arith}
+use Rattle.std.proofs.Common.{◌≡◌, ℕ, ◌+◌, ◌-◌, ◌*◌, ◌≤◌, Bool, false, List, [], ◌∷◌, length, Option, Result, Ok, Err, refl, sym, ap, ◌∙◌, arith}
 use Rattle.std.specs.Result.{OnErr, OnOk}
 use Rattle.std.proofs.Math.Nat.{add-mul}
 use Rattle.lol_base.specs.LocalNames.{Name}
@@ -13,7 +13,7 @@ use Rattle.lol_vm.specs.Answers.{document}
 use Rattle.lol_vm.specs.Documents.{element_of}
 use Rattle.lol_vm.specs.Events.{Event}
 use Rattle.lol_vm.specs.Standing.{counted_last, counted_root, or_root}
-use Rattle.lol_vm.specs.Vms.{Vm, ChargesSlots, IsChargedFor, IsCovered, Stands, slots_charged, slot_bytes}
+use Rattle.lol_vm.specs.Vms.{Vm, ChargesSlots, IsChargedFor, IsCovered, OpensNothing, Stands, slots_charged, slot_bytes}
 use Rattle.lol_vm.proofs.Kept.{items_length, counters_are_places}
 use Rattle.lol_vm.proofs.StackCounting.{seen_children}
 use Rattle.lol_vm.proofs.StackMachines.{items_counted}
@@ -30,6 +30,10 @@ module _ {E : Type 0} where
         bytes = bytes;
         charged = same ∙ sym (ap (λ n. charged before (n * slot_bytes old)) none ∙ ap (λ n. record before { usage = n }) (omega arith));
       }
+
+  -- where no element is opened, nothing is
+  pub charges_unopened : {name : Option Name} {old new : Vm E} {before now : Limiter} → OpensNothing name old new before now → slot_bytes new ≡ slot_bytes old → ChargesSlots old new before now
+  charges_unopened {name} {old} {new} {before} {now} left bytes = charges_none old new before now left.slots bytes left.uncharged
 
   -- nothing was called
   pub charges_nothing : {vm : Vm E} {limiter : Limiter} → ChargesSlots vm vm limiter limiter

@@ -37,7 +37,7 @@ use Rattle.lol_vm.specs.declared.error.StartTagError.TheVariants as refusals
 use Rattle.lol_stack.specs.declared.stack.AddChildError.{AddChildError}
 use Rattle.lol_stack.specs.declared.stack.AddChildError.TheVariants as children
 use Rattle.lol_vm.specs.declared.error.AuxStartTagInfoRequest.{AuxStartTagInfoRequest}
-use Rattle.lol_vm.specs.Vms.{Vm, Shows, Stands, HasOpen, IsReported, IsFailedAs, IsRefusal, IsRequested, IsNameOf, IsSilent, has_failed, open_after, data_in}
+use Rattle.lol_vm.specs.Vms.{Vm, Shows, Stands, HasOpen, IsReported, IsFailedAs, IsRefusal, IsRequested, IsSilent, has_failed, open_after, data_in, OpensNothing, StaysFailed}
 use Rattle.lol_vm.specs.declared.error.VmError.{VmError}
 use Rattle.lol_vm.specs.declared.error.VmError.TheVariants.{InfoRequest, MemoryLimitExceeded, Memory, CounterFull, Failed}
 use Rattle.lol_stack.specs.declared.execution_ctx.ExecutionCtx.{ExecutionCtx}
@@ -202,10 +202,6 @@ module _ {E : Type 0} where
 
 pub same_stack : {E : Type 0} (stack : StackOf Name StackNames E) → IsSame stack stack
 same_stack stack = record { root = refl; items = refl; active = refl; typed = refl; places = λ q. refl }
-
-pub has_open_failed : {E : Type 0} (vm mid new : Vm E) (elements : List Element) → mid.stack ≡ vm.stack → mid.program ≡ vm.program → mid.enable_esi_tags ≡ vm.enable_esi_tags → IsFailedAs mid new → HasOpen vm elements → HasOpen new elements
-has_open_failed vm mid new elements stack program switch failed h =
-    has_open_same vm new elements (subst (λ s. IsSame s new.stack) stack failed.0) (ap (λ (v : Vm _). v.program) failed.1 ∙ program) (ap (λ (v : Vm _). v.enable_esi_tags) failed.1 ∙ switch) h
 
 -- 4. New machines
 
@@ -397,14 +393,63 @@ module _ {E : Type 0} (refused : StartTagError) (error : VmError E) (is : error 
   pub refused_full_only : refused ≡ refusals.CounterFull → IsAskedOrFull error
   refused_full_only full = subst IsAskedOrFull (sym (is ∙ ap vm_error full)) tt
 
-module _ {E : Type 0} (vm : Vm E) (name : Name) (stack : StackOf Name StackNames E) (ok : stack ≡ counted_in vm.stack name) (room : last_count vm.stack < full_count) where
-  pub data_after : (new : Vm E) → new.stack ≡ stack → data_in new ≡ data_in vm
-  data_after new is = ap (λ (s : StackOf Name StackNames E). element_data_of (items_in s)) (is ∙ ok) ∙ counted_data vm.stack name
+-- 6. Calls that open no element
 
-  pub open_counted : (new : Vm E) → new.stack ≡ stack → new.program ≡ vm.program → new.enable_esi_tags ≡ vm.enable_esi_tags → (bytes : List ℕ) (elements : List Element) → IsNameOf name bytes → HasOpen vm elements → HasOpen new elements
-  open_counted new is program switch bytes elements named h = has_open_counted vm new elements bytes (is ∙ (ok ∙ ap (counted_in vm.stack) named)) room program switch h
+module _ {E : Type 0} where
+  -- where the stack is as it was
+  pub same_opens_nothing : {name : Option Name} (vm new : Vm E) (limiter : Limiter) → new.stack ≡ vm.stack → new.program ≡ vm.program → new.enable_esi_tags ≡ vm.enable_esi_tags → OpensNothing name vm new limiter limiter
+  same_opens_nothing vm new limiter stack program switch = record {
+    uncharged = refl;
+    slots = ap slots_in stack;
+    unchanged = ap (λ (s : StackOf Name StackNames E). element_data_of (items_in s)) stack;
+    still_open = λ told elements h. has_open_same vm new elements (subst (IsSame vm.stack) (sym stack) (same_stack vm.stack)) program switch h;
+  }
 
--- 6. Limits
+  -- a start tag was counted
+  pub counted_opens_nothing : (vm : Vm E) (name : Name) (stack : StackOf Name StackNames E) → stack ≡ counted_in vm.stack name → last_count vm.stack < full_count → slots_in stack ≡ slots_in vm.stack
+      → (new : Vm E) → new.stack ≡ stack → new.program ≡ vm.program → new.enable_esi_tags ≡ vm.enable_esi_tags → (limiter : Limiter) → OpensNothing (Some name) vm new limiter limiter
+  counted_opens_nothing vm name stack ok room slots new is program switch limiter = record {
+    uncharged = refl;
+    slots = ap slots_in is ∙ slots;
+    unchanged = ap (λ (s : StackOf Name StackNames E). element_data_of (items_in s)) (is ∙ ok) ∙ counted_data vm.stack name;
+    still_open = λ told elements h. has_open_counted vm new elements told.0 (is ∙ (ok ∙ ap (counted_in vm.stack) told.1)) room program switch h;
+  }
+
+  -- an element couldn't be opened
+  pub failed_opens_nothing : {vm new : Vm E} {before now : Limiter} → IsFailedAs vm new → now ≡ before → OpensNothing None vm new before now
+  failed_opens_nothing {vm} {new} {before} {now} failed same = record {
+    uncharged = same;
+    slots = ap (λ (v : LimitedVec (StackItemOf Name E)). v.slots) failed.0.items;
+    unchanged = ap (λ (v : LimitedVec (StackItemOf Name E)). element_data_of v.items) failed.0.items;
+    still_open = λ told elements h. has_open_same vm new elements failed.0 (ap (λ (v : Vm _). v.program) failed.1) (ap (λ (v : Vm _). v.enable_esi_tags) failed.1) h;
+  }
+
+  -- two steps, one after the other
+  pub opens_nothing_both : {name : Option Name} {old mid new : Vm E} {before between now : Limiter} → OpensNothing name old mid before between → OpensNothing None mid new between now → OpensNothing name old new before now
+  opens_nothing_both first second = record {
+    uncharged = second.uncharged ∙ first.uncharged;
+    slots = second.slots ∙ first.slots;
+    unchanged = second.unchanged ∙ first.unchanged;
+    still_open = λ told elements h. second.still_open tt elements (first.still_open told elements h);
+  }
+
+  -- the name is that of the tag
+  pub opens_nothing_of : {name told : Name} {old new : Vm E} {before now : Limiter} → name ≡ told → OpensNothing (Some name) old new before now → OpensNothing (Some told) old new before now
+  opens_nothing_of {old = old} {new} {before} {now} same left = subst (λ n. OpensNothing (Some n) old new before now) same left
+
+  -- no tag was refused before, and the call doesn't fail so
+  pub stays_unfailed : {fails : Type 0} {old new : Vm E} → (fails → ⊥) → (has_failed old ≡ true → ⊥) → StaysFailed fails old new
+  stays_unfailed never unfailed = record { exactly = (λ fails. absurd (never fails), λ failed. absurd (unfailed failed)); stuck = λ failed. absurd (unfailed failed) }
+
+  -- none was before a call that didn't fail so
+  pub unfailed_before : {fails : Type 0} {old new : Vm E} → StaysFailed fails old new → (fails → ⊥) → has_failed old ≡ true → ⊥
+  unfailed_before stays never failed = never (stays.exactly.1 failed)
+
+pub on_err_both : {T X P Q R : Type 0} (r : Result T X) → (P → Q → R) → OnErr r P → OnErr r Q → OnErr r R
+on_err_both (Ok v) f p q = tt
+on_err_both (Err e) f p q = f p q
+
+-- 7. Limits
 
 limited_if : {E : Type 0} (s : StackOf Name StackNames E) (o : Option (StackItemOf Name E)) (l : Limiter) → IsLimited (list_in s) l → IsLimited (list_in (counted_if s o)) l
 limited_if s None l h = h

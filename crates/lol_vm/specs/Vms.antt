@@ -1,5 +1,5 @@
 -- When a machine stands for the events that it was told of, and how it answers one more.
-use Rattle.std.specs.Prelude.{ℕ, ◌+◌, ◌-◌, ◌*◌, ◌≤◌, ◌≡◌, Bool, true, false, not, List, [], ◌∷◌, ◌++◌, map, length, Result, Ok, Err}
+use Rattle.std.specs.Prelude.{ℕ, ◌+◌, ◌-◌, ◌*◌, ◌≤◌, ◌≡◌, ◌↔◌, Bool, true, false, not, List, [], ◌∷◌, ◌++◌, map, length, Option, Some, None, Result, Ok, Err}
 use Rattle.std.specs.declared.ops.Range.{Range}
 use Rattle.lol_base.specs.LocalNames.{Name, local_name}
 use Rattle.lol_base.specs.StartTags.{StartTag, attributes_of}
@@ -248,3 +248,23 @@ module _ {E : Type 0} where
   -- a limiter that was so before, once all slots of a machine are charged
   abbrev pub IsChargedFor : Limiter → Vm E → Limiter → Type 0
   IsChargedFor before vm limiter = limiter ≡ charged before (slots_charged vm * slot_bytes vm)
+
+-- 7. Refusals
+
+-- the name that a call was told, if it was told one, is one of bytes
+abbrev pub HasBytes : Option Name → Type 0
+HasBytes None = Unit {0}
+HasBytes (Some name) = (bytes : List ℕ) × IsNameOf name bytes
+
+-- A call opened no element: nothing was charged, the slots and the data are as before, and so are the open elements, where a name that it
+-- was told is one of bytes.
+pub record OpensNothing {E : Type 0} (name : Option Name) (old new : Vm E) (before now : Limiter) : Type 0 where
+  pub uncharged : now ≡ before
+  pub slots : slots_charged new ≡ slots_charged old
+  pub unchanged : data_in new ≡ data_in old
+  pub still_open : HasBytes name → (elements : List Element) → HasOpen old elements → HasOpen new elements
+
+-- A call fails exactly if a tag was refused before, and then it changes nothing.
+pub record StaysFailed {E : Type 0} (fails : Type 0) (old new : Vm E) : Type 0 where
+  pub exactly : fails ↔ (has_failed old ≡ true)
+  pub stuck : has_failed old ≡ true → new ≡ old

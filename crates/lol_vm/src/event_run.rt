@@ -14,7 +14,7 @@ ghost use Rattle.lol_stack.specs.Stacks.{last_count};
 ghost use Rattle.lol_vm.specs.Refusals.{refused};
 ghost use Rattle.lol_vm.specs.RunRefusals.{allowance_of, StopsFor};
 ghost use Rattle.lol_vm.specs.Views.{selectors};
-ghost use Rattle.lol_vm.specs.Vms.{Stands, ChargesSlots, IsCovered, stack_in, tries_in, data_in, slots_charged, slot_bytes};
+ghost use Rattle.lol_vm.specs.Vms.{Stands, ChargesSlots, IsCovered, OpensNothing, stack_in, tries_in, data_in, slots_charged, slot_bytes};
 
 use crate::error::{StartTagError, VmError};
 use crate::events::RunCause;
@@ -166,8 +166,7 @@ fn take_start<F: FnMut(MatchInfo)>(
         IsTaken (λ started. started.matched_ids) F.step s esi events tag taken
         vm.old vm.new match_handler.old match_handler.new)) }
     ensures charges { ChargesSlots vm.old vm.new limiter.old limiter.new }
-    ensures uncharged { OnErr result (limiter.new ≡ limiter.old) }
-    ensures slots { OnErr result (slots_charged vm.new ≡ slots_charged vm.old) }
+    ensures left { OnErr result (OpensNothing (Some local_name.entry) vm.old vm.new limiter.old limiter.new) }
     ensures counted { OnOk result (ForEvents vm.old (λ s esi events.
         last_count (stack_in vm.old) ≡ full_count → ⊥)) }
     ensures unlimited { OnOk result (ForHandedOf vm.old local_name.entry ns rest.entry (λ s esi events tag.

@@ -1,11 +1,11 @@
 //! The machine, tag by tag.
 
-ghost use Rattle.std.specs.Prelude.{List, Bool, Err, ℕ, ◌≡◌, ◌≤◌, ◌<◌, ◌-◌, ◌*◌, ◌↔◌, ◌⊎◌, ◌++◌, ◌∷◌, [], true, false, take, drop, length, slice_get, OnOk, OnErr, Some, IfOk, IfErr, IsOk, IsSome, IsErrOf, IsNone};
+ghost use Rattle.std.specs.Prelude.{List, Bool, Err, ℕ, ◌≡◌, ◌≤◌, ◌<◌, ◌-◌, ◌*◌, ◌↔◌, ◌⊎◌, ◌++◌, ◌∷◌, [], true, false, take, drop, length, slice_get, OnOk, OnErr, Some, None, IfOk, IfErr, IsOk, IsSome, IsErrOf, IsNone};
 ghost use Rattle.std.specs.Option.{option_copied_mut, option_map};
 ghost use Rattle.std.specs.Borrow.{sem};
 ghost use Rattle.lol_base.specs.StartTags.{StartTag, RangesAreInside};
 ghost use Rattle.lol_memory.specs.Ids.{ascending};
-ghost use Rattle.lol_memory.specs.Limiter.{charged};
+ghost use Rattle.lol_memory.specs.Limiter.{Limiter, charged};
 ghost use Rattle.lol_memory.specs.LimitedVec.{IsLimited, grown_slots};
 ghost use Rattle.lol_instructions.specs.Counters.{full_count};
 ghost use Rattle.lol_program.specs.Paths.{Selectors};
@@ -21,7 +21,7 @@ ghost use Rattle.lol_vm.specs.TriedStarts.{IsBegun, IsNewContext, IsTried, left_
 ghost use Rattle.lol_vm.specs.VmLending.{lends_current_of_vm};
 ghost use Rattle.lol_stack.specs.Stacks.{items_in, slots_in, item_bytes_in, list_in, last_count, IsPushed, IsSame};
 ghost use Rattle.lol_vm.specs.Views.{selectors};
-ghost use Rattle.lol_vm.specs.Vms.{Stands, HasOpen, IsNameOf, IsTagOf, IsAnswered, IsReported, IsTriedAtMost, IsPending, IsRefusal, IsSilent, content_at, open_after, stack_in, tries_in, has_failed, data_in, slots_charged, slot_bytes, ChargesSlots, IsCovered, IsRequested, IsEntered, IsFailedAs, is_asked_for, with_failure};
+ghost use Rattle.lol_vm.specs.Vms.{Stands, HasOpen, IsNameOf, IsTagOf, IsAnswered, IsReported, IsTriedAtMost, IsPending, IsRefusal, IsSilent, content_at, open_after, stack_in, tries_in, has_failed, data_in, slots_charged, slot_bytes, ChargesSlots, IsCovered, IsRequested, IsEntered, IsFailedAs, OpensNothing, StaysFailed, is_asked_for, with_failure};
 
 use crate::error::{AuxStartTagInfoRequest, StartTagError, VmError};
 use crate::tag_runs::{RecoveryPoint, TagRun};
@@ -140,21 +140,15 @@ impl<E: ElementData> VmOf<Program, LocalName<'static>, StackNames, E> {
             → ForTagOf self.old local_name.entry ns (λ s esi events tag.
             IsPending E.ids s esi events tag self.new request) }
         ensures charges { ChargesSlots self.old self.new limiter.old limiter.new }
-        ensures uncharged { OnErr result (limiter.new ≡ limiter.old) }
-        ensures slots { OnErr result (slots_charged self.new ≡ slots_charged self.old) }
-        ensures unchanged { OnErr result (data_in self.new ≡ data_in self.old) }
-        ensures still_open { OnErr result ((bytes : List ℕ) (elements : List Element)
-            → IsNameOf local_name.entry bytes → HasOpen self.old elements → HasOpen self.new elements) }
-        ensures failed { (result ≡ Err VmError.Failed) ↔ (has_failed self.old ≡ true) }
-        ensures stuck { has_failed self.old ≡ true → self.new ≡ self.old }
+        ensures left { OnErr result (OpensNothing (Some local_name.entry) self.old self.new limiter.old limiter.new) }
+        ensures failed { StaysFailed (result ≡ Err VmError.Failed) self.old self.new }
         ensures full { (result ≡ Err VmError.CounterFull)
             ↔ ((has_failed self.old ≡ false) × (last_count (stack_in self.old) ≡ full_count)) }
         ensures refused { (error : VmError E) → result ≡ Err error → IsRefusal error → has_failed self.new ≡ true }
         ensures silent { (error : VmError E) → result ≡ Err error → IsSilent error
             → match_handler.new ≡ match_handler.old }
-        ensures limited { IsErrOf result (VmError.MemoryLimitExceeded (record {})) → IsDue self.old limiter.old }
-        ensures limit_reported { IsErrOf result (VmError.MemoryLimitExceeded (record {}))
-            → ForTagOf self.old local_name.entry ns (λ s esi events tag. (has_content esi tag ≡ true)
+        ensures limited { IsErrOf result (VmError.MemoryLimitExceeded (record {})) → IsDue self.old limiter.old
+            × ForTagOf self.old local_name.entry ns (λ s esi events tag. (has_content esi tag ≡ true)
             × IsReported F.step s esi events tag false (tries_in self.new) match_handler.old match_handler.new) }
         ensures unlimited { OnOk result (ForTagOf self.old local_name.entry ns (λ s esi events tag.
             has_content esi tag ≡ true → IsDue self.old limiter.old → ⊥)) }
@@ -207,21 +201,15 @@ impl<E: ElementData> VmOf<Program, LocalName<'static>, StackNames, E> {
             ForAskedOf self.old local_name.entry ns asked aux_info.entry (λ s esi events tag.
             IsAnswered E.ids F.step s esi events tag asked self.old self.new match_handler.old match_handler.new)) }
         ensures charges { ChargesSlots self.old self.new limiter.old limiter.new }
-        ensures uncharged { OnErr result (limiter.new ≡ limiter.old) }
-        ensures slots { OnErr result (slots_charged self.new ≡ slots_charged self.old) }
-        ensures unchanged { OnErr result (data_in self.new ≡ data_in self.old) }
-        ensures still_open { OnErr result ((bytes : List ℕ) (elements : List Element)
-            → IsNameOf local_name.entry bytes → HasOpen self.old elements → HasOpen self.new elements) }
-        ensures failed { (result ≡ Err StartTagError.Failed) ↔ (has_failed self.old ≡ true) }
-        ensures stuck { has_failed self.old ≡ true → self.new ≡ self.old }
+        ensures left { OnErr result (OpensNothing (Some local_name.entry) self.old self.new limiter.old limiter.new) }
+        ensures failed { StaysFailed (result ≡ Err StartTagError.Failed) self.old self.new }
         ensures full { (result ≡ Err StartTagError.CounterFull)
             ↔ ((has_failed self.old ≡ false) × (last_count (stack_in self.old) ≡ full_count)) }
         ensures refused { OnErr result (has_failed self.new ≡ true) }
         ensures silent { (result ≡ Err StartTagError.CounterFull) ⊎ (result ≡ Err StartTagError.Failed)
             → match_handler.new ≡ match_handler.old }
-        ensures limited { result ≡ Err StartTagError.MemoryLimitExceeded → IsDue self.old limiter.old }
-        ensures limit_reported { result ≡ Err StartTagError.MemoryLimitExceeded
-            → ForHandedOf self.old local_name.entry ns (Some aux_info.entry) (λ s esi events tag.
+        ensures limited { result ≡ Err StartTagError.MemoryLimitExceeded → IsDue self.old limiter.old
+            × ForHandedOf self.old local_name.entry ns (Some aux_info.entry) (λ s esi events tag.
             (has_content esi tag ≡ true) × IsReported F.step s esi events tag (is_asked_for s esi events tag)
             (tries_in self.new) match_handler.old match_handler.new) }
         ensures unlimited { IfOk result (λ asked.
@@ -264,13 +252,10 @@ impl<E: ElementData> VmOf<Program, LocalName<'static>, StackNames, E> {
         requires { IsNewContext E.ids ctx.old }
         ensures begun { IfOk result (IsBegun E.ids E.with_ids self.old self.new ctx.old ctx.new) }
         ensures name { ctx.new.stack_item.local_name ≡ ctx.old.stack_item.local_name }
-        ensures slots { slots_charged self.new ≡ slots_charged self.old }
+        ensures left { (limiter : Limiter)
+            → OpensNothing (Some ctx.old.stack_item.local_name) self.old self.new limiter limiter }
         ensures bytes { slot_bytes self.new ≡ slot_bytes self.old }
-        ensures unchanged { data_in self.new ≡ data_in self.old }
-        ensures still_open { (bytes : List ℕ) (elements : List Element) → IsNameOf ctx.old.stack_item.local_name bytes
-            → HasOpen self.old elements → HasOpen self.new elements }
-        ensures failed { (result ≡ Err StartTagError.Failed) ↔ (has_failed self.old ≡ true) }
-        ensures stuck { has_failed self.old ≡ true → self.new ≡ self.old }
+        ensures failed { StaysFailed (result ≡ Err StartTagError.Failed) self.old self.new }
         ensures full { (result ≡ Err StartTagError.CounterFull)
             ↔ ((has_failed self.old ≡ false) × (last_count (stack_in self.old) ≡ full_count)) }
         ensures refused { OnErr result (has_failed self.new ≡ true) }
@@ -392,15 +377,10 @@ impl<E: ElementData> VmOf<Program, LocalName<'static>, StackNames, E> {
         ensures answered { OnOk result (ForRestOf self.old E.ids request aux_info.entry (λ s esi events tag.
             IsAnswered E.ids F.step s esi events tag true self.old self.new match_handler.old match_handler.new)) }
         ensures charges { ChargesSlots self.old self.new limiter.old limiter.new }
-        ensures uncharged { OnErr result (limiter.new ≡ limiter.old) }
-        ensures slots { OnErr result (slots_charged self.new ≡ slots_charged self.old) }
-        ensures unchanged { OnErr result (data_in self.new ≡ data_in self.old) }
-        ensures still_open { OnErr result
-            ((elements : List Element) → HasOpen self.old elements → HasOpen self.new elements) }
+        ensures left { OnErr result (OpensNothing None self.old self.new limiter.old limiter.new) }
         ensures refused { OnErr result (has_failed self.new ≡ true) }
-        ensures limited { IsErrOf result (PushError.Limit (record {})) → IsDue self.old limiter.old }
-        ensures limit_reported { IsErrOf result (PushError.Limit (record {}))
-            → ForRestOf self.old E.ids request aux_info.entry (λ s esi events tag. (has_content esi tag ≡ true)
+        ensures limited { IsErrOf result (PushError.Limit (record {})) → IsDue self.old limiter.old
+            × ForRestOf self.old E.ids request aux_info.entry (λ s esi events tag. (has_content esi tag ≡ true)
             × IsReported F.step s esi events tag true (tries_in self.new) match_handler.old match_handler.new) }
         ensures unlimited { OnOk result (ForRestOf self.old E.ids request aux_info.entry (λ s esi events tag.
             has_content esi tag ≡ true → IsDue self.old limiter.old → ⊥)) }
@@ -434,15 +414,10 @@ impl<E: ElementData> VmOf<Program, LocalName<'static>, StackNames, E> {
             (ForRestOf self.old E.ids (left_at ctx.entry point) aux_info.entry (λ s esi events tag.
             IsAnswered E.ids F.step s esi events tag true self.old self.new match_handler.old match_handler.new)) }
         ensures charges { ChargesSlots self.old self.new limiter.old limiter.new }
-        ensures uncharged { OnErr result (limiter.new ≡ limiter.old) }
-        ensures slots { OnErr result (slots_charged self.new ≡ slots_charged self.old) }
-        ensures unchanged { OnErr result (data_in self.new ≡ data_in self.old) }
-        ensures still_open { OnErr result
-            ((elements : List Element) → HasOpen self.old elements → HasOpen self.new elements) }
+        ensures left { OnErr result (OpensNothing None self.old self.new limiter.old limiter.new) }
         ensures refused { OnErr result (has_failed self.new ≡ true) }
-        ensures limited { IsErrOf result (PushError.Limit (record {})) → IsDue self.old limiter.old }
-        ensures limit_reported { IsErrOf result (PushError.Limit (record {}))
-            → ForRestOf self.old E.ids (left_at ctx.entry point) aux_info.entry (λ s esi events tag.
+        ensures limited { IsErrOf result (PushError.Limit (record {})) → IsDue self.old limiter.old
+            × ForRestOf self.old E.ids (left_at ctx.entry point) aux_info.entry (λ s esi events tag.
             (has_content esi tag ≡ true)
             × IsReported F.step s esi events tag true (tries_in self.new) match_handler.old match_handler.new) }
         ensures unlimited { OnOk result

@@ -91,9 +91,9 @@ returns-in-Err-MemoryLimitExceeded-clause-refused g c = λ s esi events tag runs
     let limiter = c.args.limiter.now in
     let call = c.exec_for_whole_start_tag in
     let is = c.in-Err-MemoryLimitExceeded.is ∙ ap Err c.in-Err-MemoryLimitExceeded.field-0-is in
-    let reported = call.ensures.limit_reported is s esi events tag runs.stands (c.new-local_name.ensures ∙ ap local_name (sym named), spaced) rest in
+    let reported = (call.ensures.limited is).1 s esi events tag runs.stands (c.new-local_name.ensures ∙ ap local_name (sym named), spaced) rest in
     refused_for_limit s esi (document s esi events) (longest s esi events) (list_in (stack_in vm)) limiter (charged_for laws.depths laws.ordered s esi events vm limiter runs) tag
-    (room_for laws.places s esi events vm limiter runs tag (room_unless s esi events vm _ runs.stands call.ensures.full (other_error call.result refusals.MemoryLimitExceeded refusals.CounterFull is (λ same. cc)))) (opens_handed s esi events tag reported.0 rest.2) (call.ensures.limited is)
+    (room_for laws.places s esi events vm limiter runs tag (room_unless s esi events vm _ runs.stands call.ensures.full (other_error call.result refusals.MemoryLimitExceeded refusals.CounterFull is (λ same. cc)))) (opens_handed s esi events tag reported.0 rest.2) (call.ensures.limited is).0
 
 pub returns-in-Err-CounterFull-clause-refused : goal.returns-in-Err-CounterFull-clause-refused
 returns-in-Err-CounterFull-clause-refused g c = λ s esi events tag runs named spaced rest.
@@ -121,7 +121,7 @@ returns-in-Err-Memory-clause-refused g c = λ s esi events tag runs named spaced
 
 pub returns-in-Err-Failed-clause-refused : goal.returns-in-Err-Failed-clause-refused
 returns-in-Err-Failed-clause-refused g c = λ s esi events tag runs named spaced rest.
-    absurd (true≢false (sym (c.exec_for_whole_start_tag.ensures.failed.0 (c.in-Err-Failed.is ∙ ap Err c.in-Err-Failed.field-0-is)) ∙ hasnt_failed s esi c.args.vm.now events runs.stands))
+    absurd (true≢false (sym (c.exec_for_whole_start_tag.ensures.failed.exactly.0 (c.in-Err-Failed.is ∙ ap Err c.in-Err-Failed.field-0-is)) ∙ hasnt_failed s esi c.args.vm.now events runs.stands))
 
 pub returns-then-matches-clause-tried : goal.returns-then-matches-clause-tried
 returns-then-matches-clause-tried g c = λ s esi events tag runs named spaced.
@@ -144,3 +144,15 @@ returns-then-matches-clause-charged g c = λ h.
     let call = c.exec_for_whole_start_tag in
     charged_alike call.new.self c.clear_opened-opened.new.vm call.new.limiter call.new.limiter run.slots run.bytes refl
     (charged_more c.args.vm.now call.new.self c.args.limiter.now call.new.limiter call.ensures.charges.bytes call.ensures.charges.grows call.ensures.charges.charged h)
+
+pub returns-in-Err-MemoryLimitExceeded-clause-still_open : goal.returns-in-Err-MemoryLimitExceeded-clause-still_open
+returns-in-Err-MemoryLimitExceeded-clause-still_open g c = λ s esi events tag runs named spaced.
+    c.in-Err-MemoryLimitExceeded.ensures.left.still_open (_, c.new-local_name.ensures) _ (c.run_laws.ensures.has_open s esi c.args.vm.now events runs.stands)
+
+pub returns-in-Err-CounterFull-clause-still_open : goal.returns-in-Err-CounterFull-clause-still_open
+returns-in-Err-CounterFull-clause-still_open g c = λ s esi events tag runs named spaced.
+    c.in-Err-CounterFull.ensures.left.still_open (_, c.new-local_name.ensures) _ (c.run_laws.ensures.has_open s esi c.args.vm.now events runs.stands)
+
+pub returns-in-Err-Memory-clause-still_open : goal.returns-in-Err-Memory-clause-still_open
+returns-in-Err-Memory-clause-still_open g c = λ s esi events tag runs named spaced.
+    c.in-Err-Memory.ensures.left.still_open (_, c.new-local_name.ensures) _ (c.run_laws.ensures.has_open s esi c.args.vm.now events runs.stands)

@@ -76,9 +76,9 @@ returns-in-Err-Limit-clause-refused g c = λ s esi events tag past pending rest.
     let limiter = c.args.limiter.now in
     let call = c.finish_start_tag in
     let is = c.in-Err-Limit.is ∙ ap Err c.in-Err-Limit.field-0-is in
-    let reported = call.ensures.limit_reported is s esi events tag pending rest in
+    let reported = (call.ensures.limited is).1 s esi events tag pending rest in
     refused_for_limit s esi (document s esi events) (longest s esi events) (list_in (stack_in vm)) limiter (charged_before laws.depths laws.ordered s esi events past.tag vm limiter past.runs past.dropped) tag
-    (room_before laws.depths laws.ordered s esi events past.tag vm limiter past.runs past.dropped) (opens_handed s esi events tag reported.0 rest.2) (call.ensures.limited is)
+    (room_before laws.depths laws.ordered s esi events past.tag vm limiter past.runs past.dropped) (opens_handed s esi events tag reported.0 rest.2) (call.ensures.limited is).0
 
 pub returns-in-Err-Memory-clause-refused : goal.returns-in-Err-Memory-clause-refused
 returns-in-Err-Memory-clause-refused g c = λ s esi events tag past pending rest.

@@ -96,7 +96,7 @@ returns-in-Err-InfoRequest-clause-told g c = λ s esi events tag runs named spac
     let is = c.in-Err-InfoRequest.is ∙ ap Err c.in-Err-InfoRequest.field-0-is in
     asked_for laws.depths laws.ordered laws.dropped s esi events tag vm call.new.self limiter call.new.limiter runs
     (room_for laws.places s esi events vm limiter runs tag (room_asked s esi events vm call.result runs.stands call.ensures.full c.in-Err-InfoRequest.request is)) call.ensures.charges.bytes
-    (ap (λ (l : Limiter). l.maximum) c.in-Err-InfoRequest.ensures.uncharged) (charged_alike vm call.new.self limiter call.new.limiter c.in-Err-InfoRequest.ensures.slots call.ensures.charges.bytes c.in-Err-InfoRequest.ensures.uncharged runs.charged)
+    (ap (λ (l : Limiter). l.maximum) c.in-Err-InfoRequest.ensures.left.uncharged) (charged_alike vm call.new.self limiter call.new.limiter c.in-Err-InfoRequest.ensures.left.slots call.ensures.charges.bytes c.in-Err-InfoRequest.ensures.left.uncharged runs.charged)
     c.in-Err-InfoRequest.request (call.ensures.asked c.in-Err-InfoRequest.request is s esi events tag runs.stands (c.new.ensures ∙ ap local_name (sym named), spaced))
 
 pub returns-in-Err-MemoryLimitExceeded-clause-refused : goal.returns-in-Err-MemoryLimitExceeded-clause-refused
@@ -106,9 +106,9 @@ returns-in-Err-MemoryLimitExceeded-clause-refused g c = λ s esi events tag runs
     let limiter = c.args.limiter.now in
     let call = c.exec_for_start_tag in
     let is = c.in-Err-MemoryLimitExceeded.is ∙ ap Err c.in-Err-MemoryLimitExceeded.field-0-is in
-    let reported = call.ensures.limit_reported is s esi events tag runs.stands (c.new.ensures ∙ ap local_name (sym named), spaced) in
+    let reported = (call.ensures.limited is).1 s esi events tag runs.stands (c.new.ensures ∙ ap local_name (sym named), spaced) in
     refused_for_limit s esi (document s esi events) (longest s esi events) (list_in (stack_in vm)) limiter (charged_for laws.depths laws.ordered s esi events vm limiter runs) tag
-    (room_for laws.places s esi events vm limiter runs tag (room_limited s esi events vm call.result runs.stands call.ensures.full _ is)) (opens_unasked s esi events tag reported.0 reported.1.asks) (call.ensures.limited is)
+    (room_for laws.places s esi events vm limiter runs tag (room_limited s esi events vm call.result runs.stands call.ensures.full _ is)) (opens_unasked s esi events tag reported.0 reported.1.asks) (call.ensures.limited is).0
 
 pub returns-in-Err-CounterFull-clause-refused : goal.returns-in-Err-CounterFull-clause-refused
 returns-in-Err-CounterFull-clause-refused g c = λ s esi events tag runs named spaced.
@@ -136,7 +136,7 @@ returns-in-Err-Memory-clause-refused g c = λ s esi events tag runs named spaced
 
 pub returns-in-Err-Failed-clause-refused : goal.returns-in-Err-Failed-clause-refused
 returns-in-Err-Failed-clause-refused g c = λ s esi events tag runs named spaced.
-    absurd (true≢false (sym (c.exec_for_start_tag.ensures.failed.0 (c.in-Err-Failed.is ∙ ap Err c.in-Err-Failed.field-0-is)) ∙ hasnt_failed s esi c.args.vm.now events runs.stands))
+    absurd (true≢false (sym (c.exec_for_start_tag.ensures.failed.exactly.0 (c.in-Err-Failed.is ∙ ap Err c.in-Err-Failed.field-0-is)) ∙ hasnt_failed s esi c.args.vm.now events runs.stands))
 
 pub returns-then-matches-clause-tried : goal.returns-then-matches-clause-tried
 returns-then-matches-clause-tried g c = λ s esi events tag runs named spaced.

@@ -27,9 +27,9 @@ pub returns-in-Err-MemoryLimitExceeded-clause-refused : goal.returns-in-Err-Memo
 returns-in-Err-MemoryLimitExceeded-clause-refused g c = λ s esi events tag stands named handed.
     let rest = subst (λ r. IsHandedOver r tag) c.in-Some.is handed in
     let is = c.in-Err-MemoryLimitExceeded.is ∙ ap Err c.in-Err-MemoryLimitExceeded.field-0-is in
-    let reported = c.exec_for_whole_start_tag.ensures.limit_reported is s esi events tag stands named rest in (
+    let reported = (c.exec_for_whole_start_tag.ensures.limited is).1 s esi events tag stands named rest in (
       opens_handed s esi events tag reported.0 rest.2,
-      c.exec_for_whole_start_tag.ensures.limited is,
+      (c.exec_for_whole_start_tag.ensures.limited is).0,
       has_room s esi events c.args.vm.now _ stands c.exec_for_whole_start_tag.ensures.full (whole_instead c.exec_for_whole_start_tag.result _ is (λ full. cc)),
     )
 
@@ -42,7 +42,7 @@ returns-in-Err-Memory-clause-refused g c = λ s esi events tag stands named hand
 
 pub returns-in-Err-Failed-clause-refused : goal.returns-in-Err-Failed-clause-refused
 returns-in-Err-Failed-clause-refused g c = λ s esi events tag stands named handed.
-    absurd (true≢false (sym (c.exec_for_whole_start_tag.ensures.failed.0 (c.in-Err-Failed.is ∙ ap Err c.in-Err-Failed.field-0-is)) ∙ hasnt_failed s esi c.args.vm.now events stands))
+    absurd (true≢false (sym (c.exec_for_whole_start_tag.ensures.failed.exactly.0 (c.in-Err-Failed.is ∙ ap Err c.in-Err-Failed.field-0-is)) ∙ hasnt_failed s esi c.args.vm.now events stands))
 
 -- 2. They aren't
 
@@ -61,7 +61,7 @@ returns-in-Ok-exec_for_start_tag-clause-unlimited g c = λ s esi events tag stan
 pub returns-in-Err-InfoRequest-clause-taken : goal.returns-in-Err-InfoRequest-clause-taken
 returns-in-Err-InfoRequest-clause-taken g c = λ s esi events tag stands named handed.
     let is = c.in-Err-InfoRequest.is ∙ ap Err c.in-Err-InfoRequest.field-0-is in
-    dropped s esi events tag _ c.args.vm.now c.exec_for_start_tag.new.self _ (c.exec_for_start_tag.ensures.asked _ is s esi events tag stands named) c.in-Err-InfoRequest.ensures.unchanged
+    dropped s esi events tag _ c.args.vm.now c.exec_for_start_tag.new.self _ (c.exec_for_start_tag.ensures.asked _ is s esi events tag stands named) c.in-Err-InfoRequest.ensures.left.unchanged
     c.args.match_handler.now c.exec_for_start_tag.new.match_handler (subst (λ r. IsHandedOver r tag) c.in_default.is handed) (c.exec_for_start_tag.ensures.silent (InfoRequest _) is tt)
 
 pub returns-in-Err-InfoRequest-clause-unlimited : goal.returns-in-Err-InfoRequest-clause-unlimited
@@ -74,9 +74,9 @@ pub returns-in-Err-MemoryLimitExceeded-exec_for_start_tag-clause-refused :
     goal.returns-in-Err-MemoryLimitExceeded-exec_for_start_tag-clause-refused
 returns-in-Err-MemoryLimitExceeded-exec_for_start_tag-clause-refused g c = λ s esi events tag stands named handed.
     let is = c.in-Err-MemoryLimitExceeded-exec_for_start_tag.is ∙ ap Err c.in-Err-MemoryLimitExceeded-exec_for_start_tag.field-0-is in
-    let reported = c.exec_for_start_tag.ensures.limit_reported is s esi events tag stands named in (
+    let reported = (c.exec_for_start_tag.ensures.limited is).1 s esi events tag stands named in (
       opens_unasked s esi events tag reported.0 reported.1.asks,
-      c.exec_for_start_tag.ensures.limited is,
+      (c.exec_for_start_tag.ensures.limited is).0,
       has_room s esi events c.args.vm.now _ stands c.exec_for_start_tag.ensures.full (limited_instead c.exec_for_start_tag.result _ is),
     )
 

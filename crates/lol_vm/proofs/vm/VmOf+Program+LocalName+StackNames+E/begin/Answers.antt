@@ -1,26 +1,22 @@
-use Rattle.std.proofs.Common.{◌≡◌, arith, Err, refl, sym, ap, ◌∙◌, subst}
-use Rattle.lol_base.specs.LocalNames.{Name}
-use Rattle.lol_stack.specs.declared.stack.StackOf.{StackOf}
-use Rattle.lol_stack.specs.declared.stack.StackNames.{StackNames}
-use Rattle.lol_stack.specs.Stacks.{list_in, element_data_of, IsSame}
+use Rattle.std.proofs.Common.{◌≡◌, arith, Err, refl, ap, ◌∙◌, subst}
 use Rattle.lol_stack.specs.declared.stack.AddChildError.TheVariants.{CounterFull}
 use Rattle.lol_vm.specs.TriedStarts.{IsTried}
 use Rattle.lol_vm.specs.VmErrors.{refused_child}
-use Rattle.lol_vm.specs.Vms.{Vm, slots_charged, slot_bytes}
+use Rattle.lol_vm.specs.Vms.{Vm, slot_bytes}
 use Rattle.lol_vm.proofs.FreeTags.{free_if, has_none_typed, small_if}
 use Rattle.lol_vm.proofs.TriedStarts.{most_tried, never_refused}
 use Rattle.lol_vm.proofs.VmStarts.{none_tried}
-use Rattle.lol_vm.proofs.VmRefusals.{err_is_not_ok, data_after, has_open_same, open_counted, refused_child_full, refused_child_isnt_failed, refused_child_isnt_limit, same_stack}
+use Rattle.lol_vm.proofs.VmRefusals.{err_is_not_ok, counted_opens_nothing, refused_child_full, refused_child_isnt_failed, refused_child_isnt_limit, same_opens_nothing, stays_unfailed}
 use Rattle.lol_vm.proofs.vm.VmOf+Program+LocalName+StackNames+E.begin.Goals as goal
 
 pub returns-then-self-clause-failed : goal.returns-then-self-clause-failed
-returns-then-self-clause-failed g c = (λ is. cc, λ failed. refl)
+returns-then-self-clause-failed g c = record { exactly = (λ is. cc, λ failed. refl); stuck = λ failed. refl }
 
 pub returns-then-self-clause-full : goal.returns-then-self-clause-full
 returns-then-self-clause-full g c = (λ is. cc, λ full. cc)
 
-pub returns-then-self-clause-still_open : goal.returns-then-self-clause-still_open
-returns-then-self-clause-still_open g c = λ bytes elements named h. h
+pub returns-then-self-clause-left : goal.returns-then-self-clause-left
+returns-then-self-clause-left g c = λ limiter. same_opens_nothing c.args.self.now _ limiter refl refl refl
 
 pub returns-then-self-clause-free : goal.returns-then-self-clause-free
 returns-then-self-clause-free g c = λ s esi events tag stands named takes. cc
@@ -28,27 +24,17 @@ returns-then-self-clause-free g c = λ s esi events tag stands named takes. cc
 pub returns-then-self-clause-tried : goal.returns-then-self-clause-tried
 returns-then-self-clause-tried g c = λ s esi events tag stands named. cc
 
-pub returns-in-Err-clause-slots : goal.returns-in-Err-clause-slots
-returns-in-Err-clause-slots g c = c.add_child.ensures.slots.0
-
 pub returns-in-Err-clause-bytes : goal.returns-in-Err-clause-bytes
 returns-in-Err-clause-bytes g c = c.add_child.ensures.slots.1
 
-pub returns-in-Err-clause-unchanged : goal.returns-in-Err-clause-unchanged
-returns-in-Err-clause-unchanged g c = ap (λ (x : StackOf Name StackNames _). element_data_of (list_in x).items) c.in-Err.ensures.err
-
-pub returns-in-Err-clause-still_open : goal.returns-in-Err-clause-still_open
-returns-in-Err-clause-still_open g c = λ bytes elements named h.
-    has_open_same c.args.self.now _ elements (subst (IsSame c.args.self.now.stack) (sym c.in-Err.ensures.err) (same_stack c.args.self.now.stack)) refl refl h
-
-pub returns-in-Err-clause-stuck : goal.returns-in-Err-clause-stuck
-returns-in-Err-clause-stuck g c = λ failed. cc
+pub returns-in-Err-clause-left : goal.returns-in-Err-clause-left
+returns-in-Err-clause-left g c = λ limiter. same_opens_nothing c.args.self.now _ limiter c.in-Err.ensures.err refl refl
 
 pub returns-in-Err-clause-tried : goal.returns-in-Err-clause-tried
 returns-in-Err-clause-tried g c = λ s esi events tag stands named. none_tried s esi events tag c.new-self.result c.new-self.result refl c.new-self.ensures.names c.new-self.ensures.attributes
 
 pub returns-in-Err-clause-failed : goal.returns-in-Err-clause-failed
-returns-in-Err-clause-failed g c = (λ is. absurd (refused_child_isnt_failed c.in-Err.error c.from.result c.from.ensures cc), λ failed. cc)
+returns-in-Err-clause-failed g c = stays_unfailed (λ is. refused_child_isnt_failed c.in-Err.error c.from.result c.from.ensures cc) (λ failed. cc)
 
 pub returns-in-Err-clause-free : goal.returns-in-Err-clause-free
 returns-in-Err-clause-free g c = λ s esi events tag stands named takes.
@@ -66,25 +52,16 @@ returns-in-Err-clause-full g c = (
 pub returns-in-Err-clause-unlimited : goal.returns-in-Err-clause-unlimited
 returns-in-Err-clause-unlimited g c = λ limit. refused_child_isnt_limit c.in-Err.error c.from.result c.from.ensures cc
 
-pub returns-in-Err-try_start-clause-slots : goal.returns-in-Err-try_start-clause-slots
-returns-in-Err-try_start-clause-slots g c = ap (λ (v : Vm _). slots_charged v) c.in-Err-try_start.ensures.err ∙ c.add_child.ensures.slots.0
-
 pub returns-in-Err-try_start-clause-bytes : goal.returns-in-Err-try_start-clause-bytes
 returns-in-Err-try_start-clause-bytes g c = ap (λ (v : Vm _). slot_bytes v) c.in-Err-try_start.ensures.err ∙ c.add_child.ensures.slots.1
 
-pub returns-in-Err-try_start-clause-unchanged : goal.returns-in-Err-try_start-clause-unchanged
-returns-in-Err-try_start-clause-unchanged g c = data_after c.args.self.now c.args.ctx.now.stack_item.local_name c.add_child.new.self c.in_default.ensures.ok c.in_default.ensures.room c.try_start.new.self (ap (λ (v : Vm _). v.stack) c.in-Err-try_start.ensures.err)
-
-pub returns-in-Err-try_start-clause-still_open : goal.returns-in-Err-try_start-clause-still_open
-returns-in-Err-try_start-clause-still_open g c =
-    open_counted c.args.self.now c.args.ctx.now.stack_item.local_name c.add_child.new.self c.in_default.ensures.ok c.in_default.ensures.room c.try_start.new.self (ap (λ (v : Vm _). v.stack) c.in-Err-try_start.ensures.err)
-    (ap (λ (v : Vm _). v.program) c.in-Err-try_start.ensures.err) (ap (λ (v : Vm _). v.enable_esi_tags) c.in-Err-try_start.ensures.err)
+pub returns-in-Err-try_start-clause-left : goal.returns-in-Err-try_start-clause-left
+returns-in-Err-try_start-clause-left g c =
+    counted_opens_nothing c.args.self.now c.args.ctx.now.stack_item.local_name c.add_child.new.self c.in_default.ensures.ok c.in_default.ensures.room c.add_child.ensures.slots.0 c.try_start.new.self
+    (ap (λ (v : Vm _). v.stack) c.in-Err-try_start.ensures.err) (ap (λ (v : Vm _). v.program) c.in-Err-try_start.ensures.err) (ap (λ (v : Vm _). v.enable_esi_tags) c.in-Err-try_start.ensures.err)
 
 pub returns-in-Err-try_start-clause-failed : goal.returns-in-Err-try_start-clause-failed
-returns-in-Err-try_start-clause-failed g c = (λ is. cc, λ failed. cc)
-
-pub returns-in-Err-try_start-clause-stuck : goal.returns-in-Err-try_start-clause-stuck
-returns-in-Err-try_start-clause-stuck g c = λ failed. cc
+returns-in-Err-try_start-clause-failed g c = stays_unfailed (λ is. cc) (λ failed. cc)
 
 pub returns-in-Err-try_start-clause-full : goal.returns-in-Err-try_start-clause-full
 returns-in-Err-try_start-clause-full g c = (λ is. cc, λ full. absurd (omega (arith, c.in_default.ensures.room, full.1)))
@@ -121,25 +98,16 @@ returns-in-Ok-clause-begun g c = record {
       (c.try_start.ensures.tried tag named);
 }
 
-pub returns-in-Ok-clause-slots : goal.returns-in-Ok-clause-slots
-returns-in-Ok-clause-slots g c = ap (λ (v : Vm _). slots_charged v) c.in-Ok.ensures.ok ∙ c.add_child.ensures.slots.0
-
 pub returns-in-Ok-clause-bytes : goal.returns-in-Ok-clause-bytes
 returns-in-Ok-clause-bytes g c = ap (λ (v : Vm _). slot_bytes v) c.in-Ok.ensures.ok ∙ c.add_child.ensures.slots.1
 
-pub returns-in-Ok-clause-unchanged : goal.returns-in-Ok-clause-unchanged
-returns-in-Ok-clause-unchanged g c = data_after c.args.self.now c.args.ctx.now.stack_item.local_name c.add_child.new.self c.in_default.ensures.ok c.in_default.ensures.room c.try_start.new.self (ap (λ (v : Vm _). v.stack) c.in-Ok.ensures.ok)
-
-pub returns-in-Ok-clause-still_open : goal.returns-in-Ok-clause-still_open
-returns-in-Ok-clause-still_open g c =
-    open_counted c.args.self.now c.args.ctx.now.stack_item.local_name c.add_child.new.self c.in_default.ensures.ok c.in_default.ensures.room c.try_start.new.self (ap (λ (v : Vm _). v.stack) c.in-Ok.ensures.ok)
-    (ap (λ (v : Vm _). v.program) c.in-Ok.ensures.ok) (ap (λ (v : Vm _). v.enable_esi_tags) c.in-Ok.ensures.ok)
+pub returns-in-Ok-clause-left : goal.returns-in-Ok-clause-left
+returns-in-Ok-clause-left g c =
+    counted_opens_nothing c.args.self.now c.args.ctx.now.stack_item.local_name c.add_child.new.self c.in_default.ensures.ok c.in_default.ensures.room c.add_child.ensures.slots.0 c.try_start.new.self
+    (ap (λ (v : Vm _). v.stack) c.in-Ok.ensures.ok) (ap (λ (v : Vm _). v.program) c.in-Ok.ensures.ok) (ap (λ (v : Vm _). v.enable_esi_tags) c.in-Ok.ensures.ok)
 
 pub returns-in-Ok-clause-failed : goal.returns-in-Ok-clause-failed
-returns-in-Ok-clause-failed g c = (λ is. cc, λ failed. cc)
-
-pub returns-in-Ok-clause-stuck : goal.returns-in-Ok-clause-stuck
-returns-in-Ok-clause-stuck g c = λ failed. cc
+returns-in-Ok-clause-failed g c = stays_unfailed (λ is. cc) (λ failed. cc)
 
 pub returns-in-Ok-clause-full : goal.returns-in-Ok-clause-full
 returns-in-Ok-clause-full g c = (λ is. cc, λ full. absurd (omega (arith, c.in_default.ensures.room, full.1)))

@@ -1,20 +1,18 @@
-use Rattle.std.proofs.Common.{◌≡◌, arith, false, inl, inr, Err, refl, sym, ap, ◌∙◌, subst}
+use Rattle.std.proofs.Common.{None, ◌≡◌, arith, false, inl, inr, Err, refl, sym, ap, ◌∙◌, subst}
 use Rattle.std.specs.Option.{IsNone}
 use Rattle.lol_base.specs.LocalNames.{Name, local_name}
-use Rattle.lol_memory.specs.LimitedVec.{LimitedVec}
 use Rattle.lol_stack.specs.declared.stack.StackOf.{StackOf}
 use Rattle.lol_stack.specs.declared.stack.StackNames.{StackNames}
-use Rattle.lol_stack.specs.declared.stack_item.StackItemOf.{StackItemOf}
-use Rattle.lol_stack.specs.Stacks.{list_in, element_data_of, IsSame}
+use Rattle.lol_stack.specs.Stacks.{list_in}
 use Rattle.lol_vm.specs.Vms.{Vm, IsSilent, IsTriedAtMost}
 use Rattle.lol_vm.specs.VmErrors.{IsAskedOrFull, vm_error}
 use Rattle.lol_vm.specs.declared.error.StartTagError.TheVariants as refusals
 use Rattle.lol_vm.specs.declared.error.VmError.TheVariants.{Memory}
-use Rattle.lol_vm.proofs.CallerLemmas.{charges_both, charges_none}
+use Rattle.lol_vm.proofs.CallerLemmas.{charges_both, charges_unopened}
 use Rattle.lol_vm.proofs.FreeTags.{asked_only, limit_only, not_for_memory, void_is_closed, void_unspelled}
 use Rattle.lol_vm.proofs.TriedStarts.{began, begun_answered, begun_content, begun_due, begun_pending, begun_reported, begun_unfailed, begun_was_due, new_context}
 use Rattle.lol_vm.proofs.VmStarts.{requested_is}
-use Rattle.lol_vm.proofs.VmRefusals.{push_isnt_failed, push_isnt_full, push_isnt_asked, push_isnt_silent, push_is_limit, refused_as_failed, refused_as_full, refused_as_limit, refused_full_only, refused_isnt_asked, requested_as, requested_ok, requested_refused, reported_with, not_false, err_is_not_ok, has_open_failed, has_open_same, on_err, requested_keeps, same_stack}
+use Rattle.lol_vm.proofs.VmRefusals.{push_isnt_failed, push_isnt_full, push_isnt_asked, push_isnt_silent, push_is_limit, refused_as_failed, refused_as_full, refused_as_limit, refused_full_only, refused_isnt_asked, requested_as, requested_ok, requested_refused, reported_with, not_false, err_is_not_ok, failed_opens_nothing, on_err, opens_nothing_both, opens_nothing_of, requested_keeps, same_opens_nothing, stays_unfailed, unfailed_before}
 use Rattle.lol_vm.proofs.vm.VmOf+Program+LocalName+StackNames+E.exec_for_start_tag.Goals as goal
 
 -- 1. It is refused before it is reported
@@ -32,28 +30,19 @@ pub returns-in-Err-clause-asked : goal.returns-in-Err-clause-asked
 returns-in-Err-clause-asked g c = λ request is. absurd (refused_isnt_asked c.in-Err.error c.from.result c.from.ensures request cc)
 
 pub returns-in-Err-clause-charges : goal.returns-in-Err-clause-charges
-returns-in-Err-clause-charges g c = charges_none c.args.self.now c.begin.new.self c.args.limiter.now _ c.begin.ensures.slots c.begin.ensures.bytes refl
+returns-in-Err-clause-charges g c = charges_unopened (c.begin.ensures.left c.args.limiter.now) c.begin.ensures.bytes
 
-pub returns-in-Err-clause-uncharged : goal.returns-in-Err-clause-uncharged
-returns-in-Err-clause-uncharged g c = refl
-
-pub returns-in-Err-clause-slots : goal.returns-in-Err-clause-slots
-returns-in-Err-clause-slots g c = c.begin.ensures.slots
-
-pub returns-in-Err-clause-unchanged : goal.returns-in-Err-clause-unchanged
-returns-in-Err-clause-unchanged g c = c.begin.ensures.unchanged
-
-pub returns-in-Err-clause-still_open : goal.returns-in-Err-clause-still_open
-returns-in-Err-clause-still_open g c = λ bytes elements named h. c.begin.ensures.still_open bytes elements (c.new-ctx.ensures.item.name ∙ named) h
+pub returns-in-Err-clause-left : goal.returns-in-Err-clause-left
+returns-in-Err-clause-left g c = opens_nothing_of c.new-ctx.ensures.item.name (c.begin.ensures.left c.args.limiter.now)
 
 pub returns-in-Err-clause-failed : goal.returns-in-Err-clause-failed
-returns-in-Err-clause-failed g c = (
-  λ is. c.begin.ensures.failed.0 (c.in-Err.is ∙ ap Err (refused_as_failed c.in-Err.error c.from.result c.from.ensures cc)),
-  λ failed. let is = c.begin.ensures.failed.1 failed in let at : c.in-Err.error ≡ refusals.Failed = cc in ap Err (c.from.ensures ∙ ap vm_error at),
-)
-
-pub returns-in-Err-clause-stuck : goal.returns-in-Err-clause-stuck
-returns-in-Err-clause-stuck g c = c.begin.ensures.stuck
+returns-in-Err-clause-failed g c = record {
+  exactly = (
+    λ is. c.begin.ensures.failed.exactly.0 (c.in-Err.is ∙ ap Err (refused_as_failed c.in-Err.error c.from.result c.from.ensures cc)),
+    λ failed. let is = c.begin.ensures.failed.exactly.1 failed in let at : c.in-Err.error ≡ refusals.Failed = cc in ap Err (c.from.ensures ∙ ap vm_error at),
+  );
+  stuck = c.begin.ensures.failed.stuck;
+}
 
 pub returns-in-Err-clause-full : goal.returns-in-Err-clause-full
 returns-in-Err-clause-full g c = (
@@ -69,9 +58,6 @@ returns-in-Err-clause-silent g c = λ error is silent. refl
 
 pub returns-in-Err-clause-limited : goal.returns-in-Err-clause-limited
 returns-in-Err-clause-limited g c = λ limit. absurd (c.begin.ensures.unlimited (c.in-Err.is ∙ ap Err (refused_as_limit c.in-Err.error c.from.result c.from.ensures cc)))
-
-pub returns-in-Err-clause-limit_reported : goal.returns-in-Err-clause-limit_reported
-returns-in-Err-clause-limit_reported g c = λ limit. absurd (c.begin.ensures.unlimited (c.in-Err.is ∙ ap Err (refused_as_limit c.in-Err.error c.from.result c.from.ensures cc)))
 
 pub returns-in-Err-clause-unlimited : goal.returns-in-Err-clause-unlimited
 returns-in-Err-clause-unlimited g c = tt
@@ -101,16 +87,10 @@ returns-in-Some-clause-asked g c = λ request is s esi events tag stands named.
     let pending = begun_pending (began g.met.E.ElementData.ids_of_changed c.new-ctx.ensures.item c.new-ctx.ensures.ns c.new-ctx.ensures.with_content c.in-Ok.ensures.begun) s esi events tag stands named c.in-Some.point c.in-Some.is in
     requested_is g.E.ElementData.ids s esi events tag c.begin.new.ctx c.in-Some.point c.begin.new.self c.request.new.self request c.request.result is c.request.ensures.requested pending
 
-pub returns-in-Some-clause-unchanged : goal.returns-in-Some-clause-unchanged
-returns-in-Some-clause-unchanged g c =
+pub returns-in-Some-clause-left : goal.returns-in-Some-clause-left
+returns-in-Some-clause-left g c =
     let rest = requested_keeps _ _ _ c.request.new.self c.request.result c.request.ensures.requested in
-    on_err c.request.result (ap (λ (x : StackOf Name StackNames _). element_data_of (list_in x).items) rest.stack ∙ c.begin.ensures.unchanged)
-
-pub returns-in-Some-clause-still_open : goal.returns-in-Some-clause-still_open
-returns-in-Some-clause-still_open g c =
-    let rest = requested_keeps _ _ _ c.request.new.self c.request.result c.request.ensures.requested in
-    on_err c.request.result (λ bytes elements named h.
-    has_open_same c.begin.new.self c.request.new.self elements (subst (IsSame c.begin.new.self.stack) (sym rest.stack) (same_stack c.begin.new.self.stack)) rest.program rest.switch (c.begin.ensures.still_open bytes elements (c.new-ctx.ensures.item.name ∙ named) h))
+    on_err c.request.result (opens_nothing_both (opens_nothing_of c.new-ctx.ensures.item.name (c.begin.ensures.left c.args.limiter.now)) (same_opens_nothing c.begin.new.self c.request.new.self c.args.limiter.now rest.stack rest.program rest.switch))
 
 pub returns-in-Some-clause-free : goal.returns-in-Some-clause-free
 returns-in-Some-clause-free g c = λ error is s esi events tag stands named takes.
@@ -128,17 +108,11 @@ returns-in-Some-clause-answered g c = requested_ok _ _ _ c.request.new.self _ c.
 pub returns-in-Some-clause-unlimited : goal.returns-in-Some-clause-unlimited
 returns-in-Some-clause-unlimited g c = requested_ok _ _ _ c.request.new.self _ c.request.result c.request.ensures.requested
 
-pub returns-in-Some-clause-uncharged : goal.returns-in-Some-clause-uncharged
-returns-in-Some-clause-uncharged g c = on_err c.request.result refl
-
 pub returns-in-Some-clause-refused : goal.returns-in-Some-clause-refused
 returns-in-Some-clause-refused g c = requested_refused _ _ _ c.request.new.self c.request.result c.request.ensures.requested
 
 pub returns-in-Some-clause-limited : goal.returns-in-Some-clause-limited
 returns-in-Some-clause-limited g c = λ limit. absurd (requested_as _ _ _ c.request.new.self c.request.result _ c.request.ensures.requested limit)
-
-pub returns-in-Some-clause-limit_reported : goal.returns-in-Some-clause-limit_reported
-returns-in-Some-clause-limit_reported g c = λ limit. absurd (requested_as _ _ _ c.request.new.self c.request.result _ c.request.ensures.requested limit)
 
 pub returns-in-Some-clause-all_or_none : goal.returns-in-Some-clause-all_or_none
 returns-in-Some-clause-all_or_none g c = λ error is. inl refl
@@ -147,21 +121,13 @@ pub returns-in-Some-clause-silent : goal.returns-in-Some-clause-silent
 returns-in-Some-clause-silent g c = λ error is silent. refl
 
 pub returns-in-Some-clause-failed : goal.returns-in-Some-clause-failed
-returns-in-Some-clause-failed g c = (λ is. absurd (requested_as _ _ _ c.request.new.self c.request.result _ c.request.ensures.requested is), λ failed. let refused = c.begin.ensures.failed.1 failed in cc)
+returns-in-Some-clause-failed g c = stays_unfailed (requested_as _ _ _ c.request.new.self c.request.result _ c.request.ensures.requested) (unfailed_before c.begin.ensures.failed (λ refused. cc))
 
 pub returns-in-Some-clause-full : goal.returns-in-Some-clause-full
 returns-in-Some-clause-full g c = (λ is. absurd (requested_as _ _ _ c.request.new.self c.request.result _ c.request.ensures.requested is), λ full. absurd (omega (arith, c.in-Ok.ensures.begun.room, full.1)))
 
-pub returns-in-Some-clause-stuck : goal.returns-in-Some-clause-stuck
-returns-in-Some-clause-stuck g c = λ failed. let refused = c.begin.ensures.failed.1 failed in cc
-
 pub returns-in-Some-clause-again : goal.returns-in-Some-clause-again
 returns-in-Some-clause-again g c = c.requires
-
-pub returns-in-Some-clause-slots : goal.returns-in-Some-clause-slots
-returns-in-Some-clause-slots g c =
-    let rest = requested_keeps _ _ _ c.request.new.self c.request.result c.request.ensures.requested in
-    on_err c.request.result (ap (λ (x : StackOf Name StackNames _). (list_in x).slots) rest.stack ∙ c.begin.ensures.slots)
 
 pub returns-in-Some-clause-due : goal.returns-in-Some-clause-due
 returns-in-Some-clause-due g c = λ error is due s esi events tag stands named runs.
@@ -175,8 +141,8 @@ returns-in-Some-clause-due g c = λ error is due s esi events tag stands named r
 pub returns-in-Some-clause-charges : goal.returns-in-Some-clause-charges
 returns-in-Some-clause-charges g c =
     let rest = requested_keeps _ _ _ c.request.new.self c.request.result c.request.ensures.requested in
-    charges_none c.args.self.now c.request.new.self c.args.limiter.now _ (ap (λ (x : StackOf Name StackNames _). (list_in x).slots) rest.stack ∙ c.begin.ensures.slots)
-    (ap (λ (x : StackOf Name StackNames _). (list_in x).item_bytes) rest.stack ∙ c.begin.ensures.bytes) refl
+    charges_both (charges_unopened (c.begin.ensures.left c.args.limiter.now) c.begin.ensures.bytes)
+    (charges_unopened (same_opens_nothing {name = None} c.begin.new.self c.request.new.self c.args.limiter.now rest.stack rest.program rest.switch) (ap (λ (x : StackOf Name StackNames _). (list_in x).item_bytes) rest.stack))
 
 -- 3. It is reported, and opened if it has content
 
@@ -195,29 +161,17 @@ pub returns-in-Ok-answer-clause-tried : goal.returns-in-Ok-answer-clause-tried
 returns-in-Ok-answer-clause-tried g c = λ s esi events tag stands named.
     subst (IsTriedAtMost s esi events tag) (sym c.answer.ensures.tries) (c.begin.ensures.tried s esi events tag stands (c.new-ctx.ensures.item.name ∙ named.0, named.1 ∙ sym c.new-ctx.ensures.ns))
 
-pub returns-in-Ok-answer-clause-stuck : goal.returns-in-Ok-answer-clause-stuck
-returns-in-Ok-answer-clause-stuck g c = λ failed. let refused = c.begin.ensures.failed.1 failed in cc
-
 pub returns-in-Ok-answer-clause-again : goal.returns-in-Ok-answer-clause-again
 returns-in-Ok-answer-clause-again g c = c.answer.ensures.again
 
 pub returns-in-Ok-answer-clause-asked : goal.returns-in-Ok-answer-clause-asked
 returns-in-Ok-answer-clause-asked g c = λ request is. cc
 
-pub returns-in-Ok-answer-clause-uncharged : goal.returns-in-Ok-answer-clause-uncharged
-returns-in-Ok-answer-clause-uncharged g c = tt
-
-pub returns-in-Ok-answer-clause-slots : goal.returns-in-Ok-answer-clause-slots
-returns-in-Ok-answer-clause-slots g c = tt
-
-pub returns-in-Ok-answer-clause-unchanged : goal.returns-in-Ok-answer-clause-unchanged
-returns-in-Ok-answer-clause-unchanged g c = tt
-
-pub returns-in-Ok-answer-clause-still_open : goal.returns-in-Ok-answer-clause-still_open
-returns-in-Ok-answer-clause-still_open g c = tt
+pub returns-in-Ok-answer-clause-left : goal.returns-in-Ok-answer-clause-left
+returns-in-Ok-answer-clause-left g c = tt
 
 pub returns-in-Ok-answer-clause-failed : goal.returns-in-Ok-answer-clause-failed
-returns-in-Ok-answer-clause-failed g c = (λ is. cc, λ failed. let refused = c.begin.ensures.failed.1 failed in cc)
+returns-in-Ok-answer-clause-failed g c = stays_unfailed (λ is. cc) (unfailed_before c.begin.ensures.failed (λ refused. cc))
 
 pub returns-in-Ok-answer-clause-full : goal.returns-in-Ok-answer-clause-full
 returns-in-Ok-answer-clause-full g c = (λ is. cc, λ full. absurd (omega (arith, c.in-Ok.ensures.begun.room, full.1)))
@@ -231,9 +185,6 @@ returns-in-Ok-answer-clause-silent g c = λ error is silent. cc
 pub returns-in-Ok-answer-clause-limited : goal.returns-in-Ok-answer-clause-limited
 returns-in-Ok-answer-clause-limited g c = λ limit. cc
 
-pub returns-in-Ok-answer-clause-limit_reported : goal.returns-in-Ok-answer-clause-limit_reported
-returns-in-Ok-answer-clause-limit_reported g c = λ limit. cc
-
 pub returns-in-Ok-answer-clause-free : goal.returns-in-Ok-answer-clause-free
 returns-in-Ok-answer-clause-free g c = λ error is s esi events tag stands named takes. cc
 
@@ -244,34 +195,24 @@ pub returns-in-Ok-answer-clause-due : goal.returns-in-Ok-answer-clause-due
 returns-in-Ok-answer-clause-due g c = λ error is due s esi events tag stands named runs. cc
 
 pub returns-in-Ok-answer-clause-charges : goal.returns-in-Ok-answer-clause-charges
-returns-in-Ok-answer-clause-charges g c =
-    let tried = charges_none c.args.self.now c.begin.new.self c.args.limiter.now c.args.limiter.now c.begin.ensures.slots
-    c.begin.ensures.bytes refl in
-    charges_both tried c.answer.ensures.charges
+returns-in-Ok-answer-clause-charges g c = charges_both (charges_unopened (c.begin.ensures.left c.args.limiter.now) c.begin.ensures.bytes) c.answer.ensures.charges
 
 -- 4. Its element can't be opened
 
-pub returns-in-Err-answer-clause-unchanged : goal.returns-in-Err-answer-clause-unchanged
-returns-in-Err-answer-clause-unchanged g c =
-    ap (λ (v : LimitedVec (StackItemOf Name _)). element_data_of v.items) c.in-Err-answer.ensures.err.0.items ∙ c.begin.ensures.unchanged
-
-pub returns-in-Err-answer-clause-still_open : goal.returns-in-Err-answer-clause-still_open
-returns-in-Err-answer-clause-still_open g c = λ bytes elements named h.
-    let counted = c.begin.ensures.still_open bytes elements (c.new-ctx.ensures.item.name ∙ named) h in
-    has_open_failed c.begin.new.self c.begin.new.self c.answer.new.self elements refl refl refl c.in-Err-answer.ensures.err counted
+pub returns-in-Err-answer-clause-left : goal.returns-in-Err-answer-clause-left
+returns-in-Err-answer-clause-left g c =
+    opens_nothing_both (opens_nothing_of c.new-ctx.ensures.item.name (c.begin.ensures.left c.args.limiter.now)) (failed_opens_nothing c.in-Err-answer.ensures.err c.in-Err-answer.ensures.err_limiter)
 
 pub returns-in-Err-answer-clause-limited : goal.returns-in-Err-answer-clause-limited
 returns-in-Err-answer-clause-limited g c = λ limit.
-    let at = push_is_limit c.in-Err-answer.error c.from-in-Err-answer.result c.from-in-Err-answer.ensures cc in
-    begun_was_due (began g.met.E.ElementData.ids_of_changed c.new-ctx.ensures.item c.new-ctx.ensures.ns c.new-ctx.ensures.with_content c.in-Ok.ensures.begun) c.args.limiter.now (c.answer.ensures.limited.0 (c.in-Err-answer.is ∙ ap Err at)).1
-
-pub returns-in-Err-answer-clause-limit_reported : goal.returns-in-Err-answer-clause-limit_reported
-returns-in-Err-answer-clause-limit_reported g c = λ limit s esi events tag stands named.
     let b = began g.met.E.ElementData.ids_of_changed c.new-ctx.ensures.item c.new-ctx.ensures.ns c.new-ctx.ensures.with_content c.in-Ok.ensures.begun in
-    let still = begun_content b s esi events tag stands named c.in_default.is in
-    let opens = not_false c.begin.new.ctx.with_content (λ closed. err_is_not_ok c.answer.result c.in-Err-answer.error c.in-Err-answer.is (c.answer.ensures.closed closed)) in
-    let reported = begun_reported b s esi events tag stands named c.in_default.is _ c.args.match_handler.now c.answer.new.match_handler c.in-Err-answer.ensures.reported in
-    (sym still ∙ opens, reported_with _ s esi events tag false c.args.match_handler.now c.answer.new.match_handler c.begin.new.self.tries c.answer.new.self.tries (ap (λ (v : Vm _). v.tries) c.in-Err-answer.ensures.err.1) reported)
+    let at = push_is_limit c.in-Err-answer.error c.from-in-Err-answer.result c.from-in-Err-answer.ensures cc in
+    let opens = c.answer.ensures.limited.0 (c.in-Err-answer.is ∙ ap Err at) in (
+      begun_was_due b c.args.limiter.now opens.1,
+      λ s esi events tag stands named.
+          let reported = begun_reported b s esi events tag stands named c.in_default.is _ c.args.match_handler.now c.answer.new.match_handler c.in-Err-answer.ensures.reported in
+          (sym (begun_content b s esi events tag stands named c.in_default.is) ∙ opens.0, reported_with _ s esi events tag false c.args.match_handler.now c.answer.new.match_handler c.begin.new.self.tries c.answer.new.self.tries (ap (λ (v : Vm _). v.tries) c.in-Err-answer.ensures.err.1) reported),
+    )
 
 pub returns-in-Err-answer-clause-all_or_none : goal.returns-in-Err-answer-clause-all_or_none
 returns-in-Err-answer-clause-all_or_none g c = λ error is. inr (
@@ -300,11 +241,8 @@ returns-in-Err-answer-clause-asked g c = λ request is. absurd (push_isnt_asked 
 pub returns-in-Err-answer-clause-refused : goal.returns-in-Err-answer-clause-refused
 returns-in-Err-answer-clause-refused g c = λ error is refusal. ap (λ (v : Vm _). v.failed) c.in-Err-answer.ensures.err.1
 
-pub returns-in-Err-answer-clause-stuck : goal.returns-in-Err-answer-clause-stuck
-returns-in-Err-answer-clause-stuck g c = λ failed. let refused = c.begin.ensures.failed.1 failed in cc
-
 pub returns-in-Err-answer-clause-failed : goal.returns-in-Err-answer-clause-failed
-returns-in-Err-answer-clause-failed g c = (λ is. absurd (push_isnt_failed c.in-Err-answer.error c.from-in-Err-answer.result c.from-in-Err-answer.ensures cc), λ failed. let refused = c.begin.ensures.failed.1 failed in cc)
+returns-in-Err-answer-clause-failed g c = stays_unfailed (λ is. push_isnt_failed c.in-Err-answer.error c.from-in-Err-answer.result c.from-in-Err-answer.ensures cc) (unfailed_before c.begin.ensures.failed (λ refused. cc))
 
 pub returns-in-Err-answer-clause-full : goal.returns-in-Err-answer-clause-full
 returns-in-Err-answer-clause-full g c = (λ is. absurd (push_isnt_full c.in-Err-answer.error c.from-in-Err-answer.result c.from-in-Err-answer.ensures cc), λ full. absurd (omega (arith, c.in-Ok.ensures.begun.room, full.1)))
@@ -314,12 +252,6 @@ returns-in-Err-answer-clause-again g c = c.answer.ensures.again
 
 pub returns-in-Err-answer-clause-answered : goal.returns-in-Err-answer-clause-answered
 returns-in-Err-answer-clause-answered g c = tt
-
-pub returns-in-Err-answer-clause-uncharged : goal.returns-in-Err-answer-clause-uncharged
-returns-in-Err-answer-clause-uncharged g c = c.in-Err-answer.ensures.err_limiter
-
-pub returns-in-Err-answer-clause-slots : goal.returns-in-Err-answer-clause-slots
-returns-in-Err-answer-clause-slots g c = ap (λ (v : LimitedVec (StackItemOf Name _)). v.slots) c.in-Err-answer.ensures.err.0.items ∙ c.begin.ensures.slots
 
 pub returns-in-Err-answer-clause-unlimited : goal.returns-in-Err-answer-clause-unlimited
 returns-in-Err-answer-clause-unlimited g c = tt
@@ -337,7 +269,4 @@ returns-in-Err-answer-clause-due g c = λ error is due s esi events tag stands n
     limit_only c.answer.result c.in-Err-answer.error error c.in-Err-answer.is (c.answer.ensures.limited.1 (opens, still)) (same ∙ c.from-in-Err-answer.ensures)
 
 pub returns-in-Err-answer-clause-charges : goal.returns-in-Err-answer-clause-charges
-returns-in-Err-answer-clause-charges g c =
-    let tried = charges_none c.args.self.now c.begin.new.self c.args.limiter.now c.args.limiter.now c.begin.ensures.slots
-    c.begin.ensures.bytes refl in
-    charges_both tried c.answer.ensures.charges
+returns-in-Err-answer-clause-charges g c = charges_both (charges_unopened (c.begin.ensures.left c.args.limiter.now) c.begin.ensures.bytes) c.answer.ensures.charges

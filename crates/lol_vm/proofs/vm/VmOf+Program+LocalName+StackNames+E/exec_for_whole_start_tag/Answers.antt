@@ -1,16 +1,12 @@
 use Rattle.std.proofs.Common.{◌≡◌, arith, false, true, inl, inr, Err, Result, refl, sym, ap, ◌∙◌, subst}
-use Rattle.lol_memory.specs.LimitedVec.{LimitedVec}
-use Rattle.lol_stack.specs.declared.stack_item.StackItemOf.{StackItemOf}
-use Rattle.lol_base.specs.LocalNames.{Name}
-use Rattle.lol_stack.specs.Stacks.{element_data_of}
 use Rattle.lol_vm.specs.Vms.{Vm, IsTriedAtMost}
 use Rattle.lol_vm.specs.declared.error.StartTagError.{StartTagError}
 use Rattle.lol_vm.specs.declared.error.StartTagError.TheVariants as refusals
-use Rattle.lol_vm.proofs.CallerLemmas.{charges_both, charges_none}
+use Rattle.lol_vm.proofs.CallerLemmas.{charges_both, charges_unopened}
 use Rattle.lol_vm.proofs.FreeTags.{memory_instead, void_is_closed}
 use Rattle.lol_vm.proofs.TriedStarts.{began, begun_answered, begun_content, begun_due, begun_pending, begun_reported, begun_was_due, new_context, reported_if, whole_since}
 use Rattle.lol_vm.proofs.TakenStarts.{answered_since}
-use Rattle.lol_vm.proofs.VmRefusals.{refused_push_isnt_failed, refused_push_isnt_full, refused_push_limit, refused_push_memory, reported_with, not_false, err_is_not_ok, has_open_failed}
+use Rattle.lol_vm.proofs.VmRefusals.{refused_push_isnt_failed, refused_push_isnt_full, refused_push_limit, refused_push_memory, reported_with, not_false, err_is_not_ok, failed_opens_nothing, opens_nothing_both, opens_nothing_of, stays_unfailed, unfailed_before}
 use Rattle.lol_vm.proofs.vm.VmOf+Program+LocalName+StackNames+E.exec_for_whole_start_tag.Goals as goal
 
 pub begin-requires : goal.begin-requires
@@ -22,16 +18,19 @@ as_error : {A B : Type 0} (result : Result A StartTagError) (error other : Start
 as_error result error other is same = cc
 
 pub returns-in-Err-clause-charges : goal.returns-in-Err-clause-charges
-returns-in-Err-clause-charges g c = charges_none c.args.self.now c.begin.new.self c.args.limiter.now _ c.begin.ensures.slots c.begin.ensures.bytes refl
+returns-in-Err-clause-charges g c = charges_unopened (c.begin.ensures.left c.args.limiter.now) c.begin.ensures.bytes
 
-pub returns-in-Err-clause-still_open : goal.returns-in-Err-clause-still_open
-returns-in-Err-clause-still_open g c = λ bytes elements named h. c.begin.ensures.still_open bytes elements (c.new-ctx.ensures.item.name ∙ named) h
+pub returns-in-Err-clause-left : goal.returns-in-Err-clause-left
+returns-in-Err-clause-left g c = opens_nothing_of c.new-ctx.ensures.item.name (c.begin.ensures.left c.args.limiter.now)
 
 pub returns-in-Err-clause-failed : goal.returns-in-Err-clause-failed
-returns-in-Err-clause-failed g c = (
-  λ is. c.begin.ensures.failed.0 (as_error c.begin.result c.in-Err.error refusals.Failed c.in-Err.is is),
-  λ failed. let is = c.begin.ensures.failed.1 failed in let at : c.in-Err.error ≡ refusals.Failed = cc in ap Err at,
-)
+returns-in-Err-clause-failed g c = record {
+  exactly = (
+    λ is. c.begin.ensures.failed.exactly.0 (as_error c.begin.result c.in-Err.error refusals.Failed c.in-Err.is is),
+    λ failed. let is = c.begin.ensures.failed.exactly.1 failed in let at : c.in-Err.error ≡ refusals.Failed = cc in ap Err at,
+  );
+  stuck = c.begin.ensures.failed.stuck;
+}
 
 pub returns-in-Err-clause-full : goal.returns-in-Err-clause-full
 returns-in-Err-clause-full g c = (
@@ -41,9 +40,6 @@ returns-in-Err-clause-full g c = (
 
 pub returns-in-Err-clause-limited : goal.returns-in-Err-clause-limited
 returns-in-Err-clause-limited g c = λ limit. absurd (c.begin.ensures.unlimited (as_error c.begin.result c.in-Err.error refusals.MemoryLimitExceeded c.in-Err.is limit))
-
-pub returns-in-Err-clause-limit_reported : goal.returns-in-Err-clause-limit_reported
-returns-in-Err-clause-limit_reported g c = λ limit. absurd (c.begin.ensures.unlimited (as_error c.begin.result c.in-Err.error refusals.MemoryLimitExceeded c.in-Err.is limit))
 
 pub returns-in-Err-clause-free : goal.returns-in-Err-clause-free
 returns-in-Err-clause-free g c = λ s esi events tag stands named takes. c.in-Err.ensures.free s esi events tag stands (c.new-ctx.ensures.item.name ∙ named.0, named.1 ∙ sym c.new-ctx.ensures.ns) (inl takes)
@@ -60,10 +56,7 @@ returns-in-Err-clause-all_or_none g c = λ is. inl refl
 -- 2. It is finished
 
 pub returns-in-Ok-finish-clause-charges : goal.returns-in-Ok-finish-clause-charges
-returns-in-Ok-finish-clause-charges g c = charges_both (charges_none c.args.self.now c.begin.new.self c.args.limiter.now c.args.limiter.now c.begin.ensures.slots c.begin.ensures.bytes refl) c.finish.ensures.charges
-
-pub returns-in-Ok-finish-clause-stuck : goal.returns-in-Ok-finish-clause-stuck
-returns-in-Ok-finish-clause-stuck g c = λ failed. let refused = c.begin.ensures.failed.1 failed in cc
+returns-in-Ok-finish-clause-charges g c = charges_both (charges_unopened (c.begin.ensures.left c.args.limiter.now) c.begin.ensures.bytes) c.finish.ensures.charges
 
 pub returns-in-Ok-finish-clause-tried : goal.returns-in-Ok-finish-clause-tried
 returns-in-Ok-finish-clause-tried g c = λ s esi events tag stands named. c.finish.ensures.tried s esi events tag (begun_pending (began g.met.E.ElementData.ids_of_changed c.new-ctx.ensures.item c.new-ctx.ensures.ns c.new-ctx.ensures.with_content c.in-Ok.ensures.begun) s esi events tag stands named c.in-Some.point c.in-Some.is)
@@ -71,7 +64,7 @@ returns-in-Ok-finish-clause-tried g c = λ s esi events tag stands named. c.fini
 pub returns-in-Ok-finish-clause-answered : goal.returns-in-Ok-finish-clause-answered
 returns-in-Ok-finish-clause-answered g c = λ s esi events tag stands named rest.
     answered_since s esi events tag _ _ c.args.self.now c.begin.new.self c.finish.new.self c.args.match_handler.now _ c.finish.new.match_handler
-    c.begin.ensures.unchanged refl (c.in-Ok-finish.ensures.answered s esi events tag (begun_pending (began g.met.E.ElementData.ids_of_changed c.new-ctx.ensures.item c.new-ctx.ensures.ns c.new-ctx.ensures.with_content c.in-Ok.ensures.begun) s esi events tag stands named c.in-Some.point c.in-Some.is) (rest refl))
+    (c.begin.ensures.left c.args.limiter.now).unchanged refl (c.in-Ok-finish.ensures.answered s esi events tag (begun_pending (began g.met.E.ElementData.ids_of_changed c.new-ctx.ensures.item c.new-ctx.ensures.ns c.new-ctx.ensures.with_content c.in-Ok.ensures.begun) s esi events tag stands named c.in-Some.point c.in-Some.is) (rest refl))
 
 pub returns-in-Ok-finish-clause-unlimited : goal.returns-in-Ok-finish-clause-unlimited
 returns-in-Ok-finish-clause-unlimited g c = λ s esi events tag stands named rest opens due.
@@ -79,43 +72,36 @@ returns-in-Ok-finish-clause-unlimited g c = λ s esi events tag stands named res
     c.in-Ok-finish.ensures.unlimited s esi events tag (begun_pending b s esi events tag stands named c.in-Some.point c.in-Some.is) (rest refl) opens (begun_due b c.args.limiter.now due)
 
 pub returns-in-Ok-finish-clause-failed : goal.returns-in-Ok-finish-clause-failed
-returns-in-Ok-finish-clause-failed g c = (λ is. cc, λ failed. let refused = c.begin.ensures.failed.1 failed in cc)
+returns-in-Ok-finish-clause-failed g c = stays_unfailed (λ is. cc) (unfailed_before c.begin.ensures.failed (λ refused. cc))
 
 pub returns-in-Ok-finish-clause-full : goal.returns-in-Ok-finish-clause-full
 returns-in-Ok-finish-clause-full g c = (λ is. cc, λ full. absurd (omega (arith, c.in-Ok.ensures.begun.room, full.1)))
 
 pub returns-in-Err-finish-clause-charges : goal.returns-in-Err-finish-clause-charges
-returns-in-Err-finish-clause-charges g c = charges_both (charges_none c.args.self.now c.begin.new.self c.args.limiter.now c.args.limiter.now c.begin.ensures.slots c.begin.ensures.bytes refl) c.finish.ensures.charges
-
-pub returns-in-Err-finish-clause-stuck : goal.returns-in-Err-finish-clause-stuck
-returns-in-Err-finish-clause-stuck g c = λ failed. let refused = c.begin.ensures.failed.1 failed in cc
+returns-in-Err-finish-clause-charges g c = charges_both (charges_unopened (c.begin.ensures.left c.args.limiter.now) c.begin.ensures.bytes) c.finish.ensures.charges
 
 pub returns-in-Err-finish-clause-tried : goal.returns-in-Err-finish-clause-tried
 returns-in-Err-finish-clause-tried g c = λ s esi events tag stands named. c.finish.ensures.tried s esi events tag (begun_pending (began g.met.E.ElementData.ids_of_changed c.new-ctx.ensures.item c.new-ctx.ensures.ns c.new-ctx.ensures.with_content c.in-Ok.ensures.begun) s esi events tag stands named c.in-Some.point c.in-Some.is)
 
-pub returns-in-Err-finish-clause-slots : goal.returns-in-Err-finish-clause-slots
-returns-in-Err-finish-clause-slots g c = c.in-Err-finish.ensures.slots ∙ c.begin.ensures.slots
-
-pub returns-in-Err-finish-clause-unchanged : goal.returns-in-Err-finish-clause-unchanged
-returns-in-Err-finish-clause-unchanged g c = c.in-Err-finish.ensures.unchanged ∙ c.begin.ensures.unchanged
-
-pub returns-in-Err-finish-clause-still_open : goal.returns-in-Err-finish-clause-still_open
-returns-in-Err-finish-clause-still_open g c = λ bytes elements named h. c.in-Err-finish.ensures.still_open elements (c.begin.ensures.still_open bytes elements (c.new-ctx.ensures.item.name ∙ named) h)
+pub returns-in-Err-finish-clause-left : goal.returns-in-Err-finish-clause-left
+returns-in-Err-finish-clause-left g c = opens_nothing_both (opens_nothing_of c.new-ctx.ensures.item.name (c.begin.ensures.left c.args.limiter.now)) c.in-Err-finish.ensures.left
 
 pub returns-in-Err-finish-clause-failed : goal.returns-in-Err-finish-clause-failed
-returns-in-Err-finish-clause-failed g c = (λ is. absurd (refused_push_isnt_failed c.in-Err-finish.error c.from.result c.from.ensures cc), λ failed. let refused = c.begin.ensures.failed.1 failed in cc)
+returns-in-Err-finish-clause-failed g c = stays_unfailed (λ is. refused_push_isnt_failed c.in-Err-finish.error c.from.result c.from.ensures cc) (unfailed_before c.begin.ensures.failed (λ refused. cc))
 
 pub returns-in-Err-finish-clause-full : goal.returns-in-Err-finish-clause-full
 returns-in-Err-finish-clause-full g c = (λ is. absurd (refused_push_isnt_full c.in-Err-finish.error c.from.result c.from.ensures cc), λ full. absurd (omega (arith, c.in-Ok.ensures.begun.room, full.1)))
 
 pub returns-in-Err-finish-clause-limited : goal.returns-in-Err-finish-clause-limited
-returns-in-Err-finish-clause-limited g c = λ limit. begun_was_due (began g.met.E.ElementData.ids_of_changed c.new-ctx.ensures.item c.new-ctx.ensures.ns c.new-ctx.ensures.with_content c.in-Ok.ensures.begun) c.args.limiter.now (c.finish.ensures.limited (c.in-Err-finish.is ∙ ap Err (refused_push_limit c.in-Err-finish.error c.from.result c.from.ensures cc)))
-
-pub returns-in-Err-finish-clause-limit_reported : goal.returns-in-Err-finish-clause-limit_reported
-returns-in-Err-finish-clause-limit_reported g c = λ limit s esi events tag stands named rest.
-    let pending = begun_pending (began g.met.E.ElementData.ids_of_changed c.new-ctx.ensures.item c.new-ctx.ensures.ns c.new-ctx.ensures.with_content c.in-Ok.ensures.begun) s esi events tag stands named c.in-Some.point c.in-Some.is in
-    let reported = c.finish.ensures.limit_reported (c.in-Err-finish.is ∙ ap Err (refused_push_limit c.in-Err-finish.error c.from.result c.from.ensures cc)) s esi events tag pending rest in
-    (reported.0, reported_if s esi events tag true _ _ _ pending.asks reported.1)
+returns-in-Err-finish-clause-limited g c = λ limit.
+    let b = began g.met.E.ElementData.ids_of_changed c.new-ctx.ensures.item c.new-ctx.ensures.ns c.new-ctx.ensures.with_content c.in-Ok.ensures.begun in
+    let due = c.finish.ensures.limited (c.in-Err-finish.is ∙ ap Err (refused_push_limit c.in-Err-finish.error c.from.result c.from.ensures cc)) in (
+      begun_was_due b c.args.limiter.now due.0,
+      λ s esi events tag stands named rest.
+          let pending = begun_pending b s esi events tag stands named c.in-Some.point c.in-Some.is in
+          let reported = due.1 s esi events tag pending rest in
+          (reported.0, reported_if s esi events tag true _ _ _ pending.asks reported.1),
+    )
 
 pub returns-in-Err-finish-clause-free : goal.returns-in-Err-finish-clause-free
 returns-in-Err-finish-clause-free g c = λ s esi events tag stands named takes. absurd (err_is_not_ok c.finish.result c.in-Err-finish.error c.in-Err-finish.is (c.finish.ensures.free s esi events tag (begun_pending (began g.met.E.ElementData.ids_of_changed c.new-ctx.ensures.item c.new-ctx.ensures.ns c.new-ctx.ensures.with_content c.in-Ok.ensures.begun) s esi events tag stands named c.in-Some.point c.in-Some.is) takes))
@@ -136,10 +122,7 @@ returns-in-Err-finish-clause-all_or_none g c = λ is.
 -- 3. It was run to its end
 
 pub returns-in-Ok-answer-clause-charges : goal.returns-in-Ok-answer-clause-charges
-returns-in-Ok-answer-clause-charges g c = charges_both (charges_none c.args.self.now c.begin.new.self c.args.limiter.now c.args.limiter.now c.begin.ensures.slots c.begin.ensures.bytes refl) c.answer.ensures.charges
-
-pub returns-in-Ok-answer-clause-stuck : goal.returns-in-Ok-answer-clause-stuck
-returns-in-Ok-answer-clause-stuck g c = λ failed. let refused = c.begin.ensures.failed.1 failed in cc
+returns-in-Ok-answer-clause-charges g c = charges_both (charges_unopened (c.begin.ensures.left c.args.limiter.now) c.begin.ensures.bytes) c.answer.ensures.charges
 
 pub returns-in-Ok-answer-clause-tried : goal.returns-in-Ok-answer-clause-tried
 returns-in-Ok-answer-clause-tried g c = λ s esi events tag stands named. subst (IsTriedAtMost s esi events tag) (sym c.answer.ensures.tries) (c.begin.ensures.tried s esi events tag stands (c.new-ctx.ensures.item.name ∙ named.0, named.1 ∙ sym c.new-ctx.ensures.ns))
@@ -154,48 +137,39 @@ returns-in-Ok-answer-clause-unlimited g c = λ s esi events tag stands named res
     c.in-Ok-answer.ensures.unlimited (begun_content b s esi events tag stands named c.in_default.is ∙ opens) (begun_due b c.args.limiter.now due)
 
 pub returns-in-Ok-answer-clause-failed : goal.returns-in-Ok-answer-clause-failed
-returns-in-Ok-answer-clause-failed g c = (λ is. cc, λ failed. let refused = c.begin.ensures.failed.1 failed in cc)
+returns-in-Ok-answer-clause-failed g c = stays_unfailed (λ is. cc) (unfailed_before c.begin.ensures.failed (λ refused. cc))
 
 pub returns-in-Ok-answer-clause-full : goal.returns-in-Ok-answer-clause-full
 returns-in-Ok-answer-clause-full g c = (λ is. cc, λ full. absurd (omega (arith, c.in-Ok.ensures.begun.room, full.1)))
 
 pub returns-in-Err-answer-clause-charges : goal.returns-in-Err-answer-clause-charges
-returns-in-Err-answer-clause-charges g c = charges_both (charges_none c.args.self.now c.begin.new.self c.args.limiter.now c.args.limiter.now c.begin.ensures.slots c.begin.ensures.bytes refl) c.answer.ensures.charges
-
-pub returns-in-Err-answer-clause-stuck : goal.returns-in-Err-answer-clause-stuck
-returns-in-Err-answer-clause-stuck g c = λ failed. let refused = c.begin.ensures.failed.1 failed in cc
+returns-in-Err-answer-clause-charges g c = charges_both (charges_unopened (c.begin.ensures.left c.args.limiter.now) c.begin.ensures.bytes) c.answer.ensures.charges
 
 pub returns-in-Err-answer-clause-tried : goal.returns-in-Err-answer-clause-tried
 returns-in-Err-answer-clause-tried g c = λ s esi events tag stands named. subst (IsTriedAtMost s esi events tag) (sym c.answer.ensures.tries) (c.begin.ensures.tried s esi events tag stands (c.new-ctx.ensures.item.name ∙ named.0, named.1 ∙ sym c.new-ctx.ensures.ns))
 
-pub returns-in-Err-answer-clause-slots : goal.returns-in-Err-answer-clause-slots
-returns-in-Err-answer-clause-slots g c = ap (λ (v : LimitedVec (StackItemOf Name _)). v.slots) c.in-Err-answer.ensures.err.0.items ∙ c.begin.ensures.slots
-
-pub returns-in-Err-answer-clause-unchanged : goal.returns-in-Err-answer-clause-unchanged
-returns-in-Err-answer-clause-unchanged g c = ap (λ (v : LimitedVec (StackItemOf Name _)). element_data_of v.items) c.in-Err-answer.ensures.err.0.items ∙ c.begin.ensures.unchanged
-
-pub returns-in-Err-answer-clause-still_open : goal.returns-in-Err-answer-clause-still_open
-returns-in-Err-answer-clause-still_open g c = λ bytes elements named h.
-    has_open_failed c.begin.new.self c.begin.new.self c.answer.new.self elements refl refl refl c.in-Err-answer.ensures.err (c.begin.ensures.still_open bytes elements (c.new-ctx.ensures.item.name ∙ named) h)
+pub returns-in-Err-answer-clause-left : goal.returns-in-Err-answer-clause-left
+returns-in-Err-answer-clause-left g c =
+    opens_nothing_both (opens_nothing_of c.new-ctx.ensures.item.name (c.begin.ensures.left c.args.limiter.now)) (failed_opens_nothing c.in-Err-answer.ensures.err c.in-Err-answer.ensures.err_limiter)
 
 pub returns-in-Err-answer-clause-refused : goal.returns-in-Err-answer-clause-refused
 returns-in-Err-answer-clause-refused g c = ap (λ (v : Vm _). v.failed) c.in-Err-answer.ensures.err.1
 
 pub returns-in-Err-answer-clause-failed : goal.returns-in-Err-answer-clause-failed
-returns-in-Err-answer-clause-failed g c = (λ is. absurd (refused_push_isnt_failed c.in-Err-answer.error c.from-in-Err-answer.result c.from-in-Err-answer.ensures cc), λ failed. let refused = c.begin.ensures.failed.1 failed in cc)
+returns-in-Err-answer-clause-failed g c = stays_unfailed (λ is. refused_push_isnt_failed c.in-Err-answer.error c.from-in-Err-answer.result c.from-in-Err-answer.ensures cc) (unfailed_before c.begin.ensures.failed (λ refused. cc))
 
 pub returns-in-Err-answer-clause-full : goal.returns-in-Err-answer-clause-full
 returns-in-Err-answer-clause-full g c = (λ is. absurd (refused_push_isnt_full c.in-Err-answer.error c.from-in-Err-answer.result c.from-in-Err-answer.ensures cc), λ full. absurd (omega (arith, c.in-Ok.ensures.begun.room, full.1)))
 
 pub returns-in-Err-answer-clause-limited : goal.returns-in-Err-answer-clause-limited
-returns-in-Err-answer-clause-limited g c = λ limit. begun_was_due (began g.met.E.ElementData.ids_of_changed c.new-ctx.ensures.item c.new-ctx.ensures.ns c.new-ctx.ensures.with_content c.in-Ok.ensures.begun) c.args.limiter.now (c.answer.ensures.limited.0 (c.in-Err-answer.is ∙ ap Err (refused_push_limit c.in-Err-answer.error c.from-in-Err-answer.result c.from-in-Err-answer.ensures cc))).1
-
-pub returns-in-Err-answer-clause-limit_reported : goal.returns-in-Err-answer-clause-limit_reported
-returns-in-Err-answer-clause-limit_reported g c = λ limit s esi events tag stands named rest.
+returns-in-Err-answer-clause-limited g c = λ limit.
     let b = began g.met.E.ElementData.ids_of_changed c.new-ctx.ensures.item c.new-ctx.ensures.ns c.new-ctx.ensures.with_content c.in-Ok.ensures.begun in
-    let opens = not_false c.begin.new.ctx.with_content (λ closed. err_is_not_ok c.answer.result c.in-Err-answer.error c.in-Err-answer.is (c.answer.ensures.closed closed)) in
-    let reported = reported_with _ s esi events tag false _ _ c.begin.new.self.tries c.answer.new.self.tries (ap (λ (v : Vm _). v.tries) c.in-Err-answer.ensures.err.1) (begun_reported b s esi events tag stands named c.in_default.is _ c.args.match_handler.now c.answer.new.match_handler c.in-Err-answer.ensures.reported) in
-    (sym (begun_content b s esi events tag stands named c.in_default.is) ∙ opens, reported_if s esi events tag false _ _ _ reported.asks reported)
+    let opens = c.answer.ensures.limited.0 (c.in-Err-answer.is ∙ ap Err (refused_push_limit c.in-Err-answer.error c.from-in-Err-answer.result c.from-in-Err-answer.ensures cc)) in (
+      begun_was_due b c.args.limiter.now opens.1,
+      λ s esi events tag stands named rest.
+          let reported = reported_with _ s esi events tag false _ _ c.begin.new.self.tries c.answer.new.self.tries (ap (λ (v : Vm _). v.tries) c.in-Err-answer.ensures.err.1) (begun_reported b s esi events tag stands named c.in_default.is _ c.args.match_handler.now c.answer.new.match_handler c.in-Err-answer.ensures.reported) in
+          (sym (begun_content b s esi events tag stands named c.in_default.is) ∙ opens.0, reported_if s esi events tag false _ _ _ reported.asks reported),
+    )
 
 pub returns-in-Err-answer-clause-free : goal.returns-in-Err-answer-clause-free
 returns-in-Err-answer-clause-free g c = λ s esi events tag stands named takes.

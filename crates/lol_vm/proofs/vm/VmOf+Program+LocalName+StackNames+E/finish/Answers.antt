@@ -1,6 +1,6 @@
 use Rattle.std.proofs.Common.{◌≡◌, true, inr, refl, ap, sym, ◌∙◌, subst, Bool, List}
 use Rattle.std.specs.Result.{IfOk, IsOk, OnErr}
-use Rattle.std.proofs.lemmas.Result.{on_ok_weaker, on_err_weaker}
+use Rattle.std.proofs.lemmas.Result.{on_ok_weaker}
 use Rattle.lol_base.specs.StartTags.{StartTag}
 use Rattle.lol_instructions.specs.Attributes.{tag_attributes}
 use Rattle.lol_instructions.specs.declared.tries.Tries.{Tries}
@@ -18,14 +18,14 @@ use Rattle.lol_vm.specs.Vms.{IsFailedAs, IsPending, IsReported, IsRestOf, IsTrie
 use Rattle.lol_vm.proofs.FreeTags.{finished_closed, is_alone_free, is_closed_free, memory_instead, void_is_closed}
 use Rattle.lol_vm.proofs.TagRuns.{of_same}
 use Rattle.lol_vm.proofs.VmFinishes.{tried_at_most, has_reported, has_content_still, answered, can_finish}
-use Rattle.lol_vm.proofs.VmRefusals.{err_is_not_ok, not_false, reported_with, has_open_same, has_open_failed, same_stack}
+use Rattle.lol_vm.proofs.VmRefusals.{err_is_not_ok, not_false, reported_with, failed_opens_nothing, on_err_both, opens_nothing_both, same_opens_nothing}
 use Rattle.lol_vm.proofs.vm.VmOf+Program+LocalName+StackNames+E.finish.Given as given
 use Rattle.lol_vm.proofs.vm.VmOf+Program+LocalName+StackNames+E.finish.Goals as goal
 
 -- 1. It was refused before it was reported
 
-pub returns-in-Err-clause-still_open : goal.returns-in-Err-clause-still_open
-returns-in-Err-clause-still_open g c = λ elements h. has_open_same c.args.self.now _ elements (same_stack c.args.self.now.stack) refl refl h
+pub returns-in-Err-clause-left : goal.returns-in-Err-clause-left
+returns-in-Err-clause-left g c = same_opens_nothing c.args.self.now _ c.args.limiter.now refl refl refl
 
 pub returns-in-Err-clause-free : goal.returns-in-Err-clause-free
 returns-in-Err-clause-free g c = λ s esi events tag pending takes.
@@ -91,13 +91,20 @@ returns-clause-answered g c =
     (sym rest.1) rest.2 c.complete.new.ctx c.complete.new.tries (executed g c s esi events tag pending rest) _ c.args.match_handler.now c.answer.new.match_handler c.answer.new.self c.answer.ensures.reported entered)
     c.answer.ensures.ok
 
-pub returns-clause-still_open : goal.returns-clause-still_open
-returns-clause-still_open g c = on_err_weaker c.answer.result (λ failed elements h. has_open_failed c.args.self.now (record c.args.self.now { tries = c.complete.new.tries }) c.answer.new.self elements refl refl refl failed h) c.answer.ensures.err
+pub returns-clause-left : goal.returns-clause-left
+returns-clause-left g c =
+    on_err_both c.answer.result
+    (λ failed same. opens_nothing_both (same_opens_nothing c.args.self.now (record c.args.self.now { tries = c.complete.new.tries }) c.args.limiter.now refl refl refl) (failed_opens_nothing failed same))
+    c.answer.ensures.err c.answer.ensures.err_limiter
 
-pub returns-clause-limit_reported : goal.returns-clause-limit_reported
-returns-clause-limit_reported g c = λ limit s esi events tag pending rest.
+pub returns-clause-limited : goal.returns-clause-limited
+returns-clause-limited g c = λ limit.
     let failed = subst (λ r. OnErr r (IsFailedAs (record c.args.self.now { tries = c.complete.new.tries }) c.answer.new.self)) limit c.answer.ensures.err in
-    (sym (content_is g c s esi events tag pending rest) ∙ (c.answer.ensures.limited.0 limit).0, reported g c s esi events tag pending rest c.answer.new.self.tries (ap (λ (v : Vm _). v.tries) failed.1) _ _ _ c.answer.ensures.reported)
+    let opens = c.answer.ensures.limited.0 limit in (
+      opens.1,
+      λ s esi events tag pending rest.
+          (sym (content_is g c s esi events tag pending rest) ∙ opens.0, reported g c s esi events tag pending rest c.answer.new.self.tries (ap (λ (v : Vm _). v.tries) failed.1) _ _ _ c.answer.ensures.reported),
+    )
 
 pub returns-clause-unlimited : goal.returns-clause-unlimited
 returns-clause-unlimited g c = on_ok_weaker c.answer.result (λ un s esi events tag pending rest opens limited. un (content_is g c s esi events tag pending rest ∙ opens) limited) c.answer.ensures.unlimited
