@@ -37,7 +37,7 @@ use Rattle.lol_vm.specs.declared.error.StartTagError.TheVariants as refusals
 use Rattle.lol_stack.specs.declared.stack.AddChildError.{AddChildError}
 use Rattle.lol_stack.specs.declared.stack.AddChildError.TheVariants as children
 use Rattle.lol_vm.specs.declared.error.AuxStartTagInfoRequest.{AuxStartTagInfoRequest}
-use Rattle.lol_vm.specs.Vms.{Vm, Shows, Stands, HasOpen, IsReported, IsFailedAs, IsRefusal, IsRequested, IsSilent, has_failed, open_after, data_in, OpensNothing, StaysFailed}
+use Rattle.lol_vm.specs.Vms.{Vm, Shows, Stands, HasOpen, IsReported, IsRefusal, IsRequested, IsSilent, has_failed, open_after, data_in, OpensNothing, StaysFailed}
 use Rattle.lol_vm.specs.declared.error.VmError.{VmError}
 use Rattle.lol_vm.specs.declared.error.VmError.TheVariants.{InfoRequest, MemoryLimitExceeded, Memory, CounterFull, Failed}
 use Rattle.lol_stack.specs.declared.execution_ctx.ExecutionCtx.{ExecutionCtx}
@@ -396,14 +396,18 @@ module _ {E : Type 0} (refused : StartTagError) (error : VmError E) (is : error 
 -- 6. Calls that open no element
 
 module _ {E : Type 0} where
-  -- where the stack is as it was
-  pub same_opens_nothing : {name : Option Name} (vm new : Vm E) (limiter : Limiter) → new.stack ≡ vm.stack → new.program ≡ vm.program → new.enable_esi_tags ≡ vm.enable_esi_tags → OpensNothing name vm new limiter limiter
-  same_opens_nothing vm new limiter stack program switch = record {
-    uncharged = refl;
-    slots = ap slots_in stack;
-    unchanged = ap (λ (s : StackOf Name StackNames E). element_data_of (items_in s)) stack;
-    still_open = λ told elements h. has_open_same vm new elements (subst (IsSame vm.stack) (sym stack) (same_stack vm.stack)) program switch h;
+  -- the stack is alike, as where an element couldn't be opened
+  pub alike_opens_nothing : {name : Option Name} (vm new : Vm E) {before now : Limiter} → IsSame vm.stack new.stack → new.program ≡ vm.program → new.enable_esi_tags ≡ vm.enable_esi_tags → now ≡ before → OpensNothing name vm new before now
+  alike_opens_nothing vm new alike program switch uncharged = record {
+    uncharged = uncharged;
+    slots = ap (λ (v : LimitedVec (StackItemOf Name E)). v.slots) alike.items;
+    unchanged = ap (λ (v : LimitedVec (StackItemOf Name E)). element_data_of v.items) alike.items;
+    still_open = λ told elements h. has_open_same vm new elements alike program switch h;
   }
+
+  -- it is the same
+  pub same_opens_nothing : {name : Option Name} (vm new : Vm E) (limiter : Limiter) → new.stack ≡ vm.stack → new.program ≡ vm.program → new.enable_esi_tags ≡ vm.enable_esi_tags → OpensNothing name vm new limiter limiter
+  same_opens_nothing vm new limiter stack program switch = alike_opens_nothing vm new (subst (IsSame vm.stack) (sym stack) (same_stack vm.stack)) program switch refl
 
   -- a start tag was counted
   pub counted_opens_nothing : (vm : Vm E) (name : Name) (stack : StackOf Name StackNames E) → stack ≡ counted_in vm.stack name → last_count vm.stack < full_count → slots_in stack ≡ slots_in vm.stack
@@ -413,15 +417,6 @@ module _ {E : Type 0} where
     slots = ap slots_in is ∙ slots;
     unchanged = ap (λ (s : StackOf Name StackNames E). element_data_of (items_in s)) (is ∙ ok) ∙ counted_data vm.stack name;
     still_open = λ told elements h. has_open_counted vm new elements told.0 (is ∙ (ok ∙ ap (counted_in vm.stack) told.1)) room program switch h;
-  }
-
-  -- an element couldn't be opened
-  pub failed_opens_nothing : {vm new : Vm E} {before now : Limiter} → IsFailedAs vm new → now ≡ before → OpensNothing None vm new before now
-  failed_opens_nothing {vm} {new} {before} {now} failed same = record {
-    uncharged = same;
-    slots = ap (λ (v : LimitedVec (StackItemOf Name E)). v.slots) failed.0.items;
-    unchanged = ap (λ (v : LimitedVec (StackItemOf Name E)). element_data_of v.items) failed.0.items;
-    still_open = λ told elements h. has_open_same vm new elements failed.0 (ap (λ (v : Vm _). v.program) failed.1) (ap (λ (v : Vm _). v.enable_esi_tags) failed.1) h;
   }
 
   -- two steps, one after the other
@@ -444,6 +439,10 @@ module _ {E : Type 0} where
   -- none was before a call that didn't fail so
   pub unfailed_before : {fails : Type 0} {old new : Vm E} → StaysFailed fails old new → (fails → ⊥) → has_failed old ≡ true → ⊥
   unfailed_before stays never failed = never (stays.exactly.1 failed)
+
+pub on_ok_both : {T X P Q R : Type 0} (r : Result T X) → (P → Q → R) → OnOk r P → OnOk r Q → OnOk r R
+on_ok_both (Ok v) f p q = f p q
+on_ok_both (Err e) f p q = tt
 
 pub on_err_both : {T X P Q R : Type 0} (r : Result T X) → (P → Q → R) → OnErr r P → OnErr r Q → OnErr r R
 on_err_both (Ok v) f p q = tt

@@ -1,5 +1,5 @@
 -- What a start tag is answered with where its element can't be charged.
-use Rattle.std.specs.Prelude.{true, false, Some}
+use Rattle.std.specs.Prelude.{◌≡◌, Bool, true, false, Some}
 use Rattle.lol_base.specs.LocalNames.{Name}
 use Rattle.lol_base.specs.declared.namespace.Namespace.{Namespace}
 use Rattle.lol_base.specs.declared.start_tag.AuxStartTagInfo.{AuxStartTagInfo}
@@ -20,6 +20,10 @@ module _ {E : Type 0} where
   -- the limit is due: the next element that is opened can't be charged
   abbrev pub IsDue : Vm E → Limiter → Type 0
   IsDue vm limiter = IsLimited (list_in (stack_in vm)) limiter
+
+  -- an element can be charged, if it has content
+  abbrev pub IsWithinLimit : Bool → Vm E → Limiter → Type 0
+  IsWithinLimit content vm limiter = content ≡ true → IsDue vm limiter → ⊥
 
   -- a start tag of this name that is run without memory, whichever events the machine stands for, isn't refused for memory
   abbrev pub IsNeverForMemory : Vm E → Name → Namespace → VmError E → Type 0

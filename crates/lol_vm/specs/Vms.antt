@@ -26,7 +26,7 @@ use Rattle.lol_vm.specs.MachineLaws.{IsRequest}
 use Rattle.lol_vm.specs.PlaceRuns.{Context, no_context}
 use Rattle.lol_stack.specs.SoundStacks.{IsSound}
 use Rattle.lol_vm.specs.StackMachines.{KeepsMachine}
-use Rattle.lol_stack.specs.Stacks.{items_in, element_data_of, slots_in, item_bytes_in, IsSame, IsPushed}
+use Rattle.lol_stack.specs.Stacks.{items_in, element_data_of, slots_in, item_bytes_in, IsPushed}
 use Rattle.lol_vm.specs.Standing.{Machine, StandsOn, IsOrdered, StandsFor, ranges_of_machine, unfinished}
 use Rattle.lol_vm.specs.TagRuns.{sight_in, ranges_to_run_in, ranges_left, IsPointIn, tried_at}
 use Rattle.lol_vm.specs.declared.error.AuxStartTagInfoRequest.{AuxStartTagInfoRequest}
@@ -126,10 +126,6 @@ module _ {E : Type 0} where
   abbrev pub IsEntered : Bool → StackItemOf Name E → Vm E → Vm E → Type 0
   IsEntered false item old new = new ≡ old
   IsEntered true item old new = IsPushed old.stack item new.stack × (new ≡ record old { stack = new.stack })
-
-  -- nothing was opened, and no more tags are answered
-  abbrev pub IsFailedAs : Vm E → Vm E → Type 0
-  IsFailedAs old new = IsSame old.stack new.stack × (new ≡ with_failure (record old { stack = new.stack }))
 
 -- 4. Start tags
 

@@ -4,7 +4,7 @@ ghost use Rattle.std.specs.Prelude.{◌≡◌, ◌≤◌, ◌<◌, ◌++◌, ◌
 ghost use Rattle.lol_base.specs.StartTags.{RangesAreInside};
 ghost use Rattle.lol_memory.specs.Limiter.{Limiter};
 ghost use Rattle.lol_instructions.specs.Counters.{full_count};
-ghost use Rattle.lol_vm.specs.Due.{IsDue};
+ghost use Rattle.lol_vm.specs.Due.{IsWithinLimit};
 ghost use Rattle.lol_vm.specs.Events.{Event, Start, End};
 ghost use Rattle.lol_vm.specs.EventRuns.{ForEndInRun, ForRunOfEvents, ForTagInRun, GoesByEnd, GoesByStart, IsRunOf, machine_of};
 ghost use Rattle.lol_vm.specs.Follows.{IsCharged, IsTaken, IsRefusedFor, Stops, opens};
@@ -169,8 +169,8 @@ fn take_start<F: FnMut(MatchInfo)>(
     ensures left { OnErr result (OpensNothing (Some local_name.entry) vm.old vm.new limiter.old limiter.new) }
     ensures counted { OnOk result (ForEvents vm.old (λ s esi events.
         last_count (stack_in vm.old) ≡ full_count → ⊥)) }
-    ensures unlimited { OnOk result (ForHandedOf vm.old local_name.entry ns rest.entry (λ s esi events tag.
-        opens s esi events tag ≡ true → IsDue vm.old limiter.old → ⊥)) }
+    ensures within { OnOk result (ForHandedOf vm.old local_name.entry ns rest.entry (λ s esi events tag.
+        IsWithinLimit (opens s esi events tag) vm.old limiter.old)) }
     ensures refused { IfErr result (λ cause. ForHandedOf vm.old local_name.entry ns rest.entry (λ s esi events tag.
         IsRefusedFor cause s esi events tag vm.old limiter.old)) }
 {

@@ -15,13 +15,13 @@ ghost use Rattle.lol_stack.specs.Calls.{IsCalledAtEach, reports};
 ghost use Rattle.lol_vm.specs.Events.{Event, End, has_content};
 ghost use Rattle.lol_vm.specs.FreeTags.{AreFlat, TakesNoMemory};
 ghost use Rattle.lol_vm.specs.VmErrors.{IsAskedOrFull};
-ghost use Rattle.lol_vm.specs.Due.{IsDue, IsNeverForMemory, IsAfterHandedReport, IsAfterReport, IsNeverPending, IsAfterWholeReport};
+ghost use Rattle.lol_vm.specs.Due.{IsDue, IsNeverForMemory, IsAfterHandedReport, IsAfterReport, IsNeverPending, IsAfterWholeReport, IsWithinLimit};
 ghost use Rattle.lol_vm.specs.Premises.{ForAskedOf, ForEndOf, ForHandedOf, ForPending, ForRestOf, ForTagOf};
 ghost use Rattle.lol_vm.specs.TriedStarts.{IsBegun, IsNewContext, IsTried, left_at};
 ghost use Rattle.lol_vm.specs.VmLending.{lends_current_of_vm};
 ghost use Rattle.lol_stack.specs.Stacks.{items_in, slots_in, item_bytes_in, list_in, last_count, IsPushed, IsSame};
 ghost use Rattle.lol_vm.specs.Views.{selectors};
-ghost use Rattle.lol_vm.specs.Vms.{Stands, HasOpen, IsNameOf, IsTagOf, IsAnswered, IsReported, IsTriedAtMost, IsPending, IsRefusal, IsSilent, content_at, open_after, stack_in, tries_in, has_failed, data_in, slots_charged, slot_bytes, ChargesSlots, IsCovered, IsRequested, IsEntered, IsFailedAs, OpensNothing, StaysFailed, is_asked_for, with_failure};
+ghost use Rattle.lol_vm.specs.Vms.{Stands, HasOpen, IsNameOf, IsTagOf, IsAnswered, IsReported, IsTriedAtMost, IsPending, IsRefusal, IsSilent, content_at, open_after, stack_in, tries_in, has_failed, data_in, slots_charged, slot_bytes, ChargesSlots, IsCovered, IsRequested, IsEntered, OpensNothing, StaysFailed, is_asked_for, with_failure};
 
 use crate::error::{AuxStartTagInfoRequest, StartTagError, VmError};
 use crate::tag_runs::{RecoveryPoint, TagRun};
@@ -135,7 +135,8 @@ impl<E: ElementData> VmOf<Program, LocalName<'static>, StackNames, E> {
         requires { F.IsAlwaysCallable match_handler.old }
         ensures again { F.IsAlwaysCallable match_handler.new }
         ensures answered { OnOk result (ForTagOf self.old local_name.entry ns (λ s esi events tag.
-            IsAnswered E.ids F.step s esi events tag false self.old self.new match_handler.old match_handler.new)) }
+            IsWithinLimit (has_content esi tag) self.old limiter.old
+            × IsAnswered E.ids F.step s esi events tag false self.old self.new match_handler.old match_handler.new)) }
         ensures asked { (request : AuxStartTagInfoRequest E) → result ≡ Err (VmError.InfoRequest request)
             → ForTagOf self.old local_name.entry ns (λ s esi events tag.
             IsPending E.ids s esi events tag self.new request) }
@@ -150,8 +151,6 @@ impl<E: ElementData> VmOf<Program, LocalName<'static>, StackNames, E> {
         ensures limited { IsErrOf result (VmError.MemoryLimitExceeded (record {})) → IsDue self.old limiter.old
             × ForTagOf self.old local_name.entry ns (λ s esi events tag. (has_content esi tag ≡ true)
             × IsReported F.step s esi events tag false (tries_in self.new) match_handler.old match_handler.new) }
-        ensures unlimited { OnOk result (ForTagOf self.old local_name.entry ns (λ s esi events tag.
-            has_content esi tag ≡ true → IsDue self.old limiter.old → ⊥)) }
         ensures free { (error : VmError E) → result ≡ Err error
             → ForTagOf self.old local_name.entry ns (λ s esi events tag. TakesNoMemory s tag → IsAskedOrFull error) }
         ensures tried { ForTagOf self.old local_name.entry ns (λ s esi events tag.
@@ -199,7 +198,8 @@ impl<E: ElementData> VmOf<Program, LocalName<'static>, StackNames, E> {
         ensures again { F.IsAlwaysCallable match_handler.new }
         ensures answered { IfOk result (λ asked.
             ForAskedOf self.old local_name.entry ns asked aux_info.entry (λ s esi events tag.
-            IsAnswered E.ids F.step s esi events tag asked self.old self.new match_handler.old match_handler.new)) }
+            IsWithinLimit (has_content esi tag) self.old limiter.old
+            × IsAnswered E.ids F.step s esi events tag asked self.old self.new match_handler.old match_handler.new)) }
         ensures charges { ChargesSlots self.old self.new limiter.old limiter.new }
         ensures left { OnErr result (OpensNothing (Some local_name.entry) self.old self.new limiter.old limiter.new) }
         ensures failed { StaysFailed (result ≡ Err StartTagError.Failed) self.old self.new }
@@ -212,9 +212,6 @@ impl<E: ElementData> VmOf<Program, LocalName<'static>, StackNames, E> {
             × ForHandedOf self.old local_name.entry ns (Some aux_info.entry) (λ s esi events tag.
             (has_content esi tag ≡ true) × IsReported F.step s esi events tag (is_asked_for s esi events tag)
             (tries_in self.new) match_handler.old match_handler.new) }
-        ensures unlimited { IfOk result (λ asked.
-            ForAskedOf self.old local_name.entry ns asked aux_info.entry (λ s esi events tag.
-            has_content esi tag ≡ true → IsDue self.old limiter.old → ⊥)) }
         ensures free { IfErr result (λ error. ForTagOf self.old local_name.entry ns (λ s esi events tag.
             TakesNoMemory s tag → error ≡ StartTagError.CounterFull)) }
         ensures tried { ForTagOf self.old local_name.entry ns (λ s esi events tag.
@@ -339,12 +336,11 @@ impl<E: ElementData> VmOf<Program, LocalName<'static>, StackNames, E> {
         ensures charges { ChargesSlots self.old self.new limiter.old limiter.new }
         ensures limited { IsErrOf result (PushError.Limit (record {}))
             ↔ (ctx.entry.with_content ≡ true) × IsLimited (list_in self.old.stack) limiter.old }
-        ensures unlimited { OnOk result
-            (ctx.entry.with_content ≡ true → IsLimited (list_in self.old.stack) limiter.old → ⊥) }
+        ensures within { OnOk result (IsWithinLimit ctx.entry.with_content self.old limiter.old) }
         ensures closed { ctx.entry.with_content ≡ false → IsOk result }
         ensures tries { self.new.tries ≡ self.old.tries }
-        ensures err { OnErr result (IsFailedAs self.old self.new) }
-        ensures err_limiter { OnErr result (limiter.new ≡ limiter.old) }
+        ensures left { OnErr result (OpensNothing None self.old self.new limiter.old limiter.new) }
+        ensures refused { OnErr result (has_failed self.new ≡ true) }
     {
         let mut ctx = ctx;
         ctx.handle_matched_ids(match_handler);
@@ -375,15 +371,14 @@ impl<E: ElementData> VmOf<Program, LocalName<'static>, StackNames, E> {
         requires callable { F.IsAlwaysCallable match_handler.old }
         ensures again { F.IsAlwaysCallable match_handler.new }
         ensures answered { OnOk result (ForRestOf self.old E.ids request aux_info.entry (λ s esi events tag.
-            IsAnswered E.ids F.step s esi events tag true self.old self.new match_handler.old match_handler.new)) }
+            IsWithinLimit (has_content esi tag) self.old limiter.old
+            × IsAnswered E.ids F.step s esi events tag true self.old self.new match_handler.old match_handler.new)) }
         ensures charges { ChargesSlots self.old self.new limiter.old limiter.new }
         ensures left { OnErr result (OpensNothing None self.old self.new limiter.old limiter.new) }
         ensures refused { OnErr result (has_failed self.new ≡ true) }
         ensures limited { IsErrOf result (PushError.Limit (record {})) → IsDue self.old limiter.old
             × ForRestOf self.old E.ids request aux_info.entry (λ s esi events tag. (has_content esi tag ≡ true)
             × IsReported F.step s esi events tag true (tries_in self.new) match_handler.old match_handler.new) }
-        ensures unlimited { OnOk result (ForRestOf self.old E.ids request aux_info.entry (λ s esi events tag.
-            has_content esi tag ≡ true → IsDue self.old limiter.old → ⊥)) }
         ensures free { ForPending self.old E.ids request (λ s esi events tag. TakesNoMemory s tag → IsOk result) }
         ensures tried { ForPending self.old E.ids request (λ s esi events tag.
             IsTriedAtMost s esi events tag (tries_in self.new)) }
@@ -412,7 +407,8 @@ impl<E: ElementData> VmOf<Program, LocalName<'static>, StackNames, E> {
         ensures again { F.IsAlwaysCallable match_handler.new }
         ensures answered { OnOk result
             (ForRestOf self.old E.ids (left_at ctx.entry point) aux_info.entry (λ s esi events tag.
-            IsAnswered E.ids F.step s esi events tag true self.old self.new match_handler.old match_handler.new)) }
+            IsWithinLimit (has_content esi tag) self.old limiter.old
+            × IsAnswered E.ids F.step s esi events tag true self.old self.new match_handler.old match_handler.new)) }
         ensures charges { ChargesSlots self.old self.new limiter.old limiter.new }
         ensures left { OnErr result (OpensNothing None self.old self.new limiter.old limiter.new) }
         ensures refused { OnErr result (has_failed self.new ≡ true) }
@@ -420,9 +416,6 @@ impl<E: ElementData> VmOf<Program, LocalName<'static>, StackNames, E> {
             × ForRestOf self.old E.ids (left_at ctx.entry point) aux_info.entry (λ s esi events tag.
             (has_content esi tag ≡ true)
             × IsReported F.step s esi events tag true (tries_in self.new) match_handler.old match_handler.new) }
-        ensures unlimited { OnOk result
-            (ForRestOf self.old E.ids (left_at ctx.entry point) aux_info.entry (λ s esi events tag.
-            has_content esi tag ≡ true → IsDue self.old limiter.old → ⊥)) }
         ensures free { ForPending self.old E.ids (left_at ctx.entry point) (λ s esi events tag.
             TakesNoMemory s tag → IsOk result) }
         ensures tried { ForPending self.old E.ids (left_at ctx.entry point) (λ s esi events tag.

@@ -40,7 +40,7 @@ pub returns-clause-refused : goal.returns-clause-refused
 returns-clause-refused g c =
     let due = due_at_once c.in-Ok-new.vm c.new-limiter.result c.in-Ok-new.ensures.slots c.in-Ok-new.ensures.bytes (ap (λ (l : Limiter). l.maximum) c.new-limiter.ensures) in
     is_error c.exec_for_start_tag-answer.result
-    (on_ok_weaker c.exec_for_start_tag-answer.result (λ unlimited. unlimited (selectors c.in-Ok.ast) false [] paragraph c.in-Ok-new.ensures.stands (c.new-2.ensures, refl) paragraph_has_content due) c.exec_for_start_tag-answer.ensures.unlimited)
+    (on_ok_weaker c.exec_for_start_tag-answer.result (λ told. (told (selectors c.in-Ok.ast) false [] paragraph c.in-Ok-new.ensures.stands (c.new-2.ensures, refl)).0 paragraph_has_content due) c.exec_for_start_tag-answer.ensures.answered)
 
 pub returns-clause-never_memory : goal.returns-clause-never_memory
 returns-clause-never_memory g c = λ error is.

@@ -41,7 +41,7 @@ returns-else-matches-clause-told g c = λ s esi events tag runs named spaced res
     let bare = bare_tag tag.name tag.namespace in
     let is_tag = λ (tag : StartTag) (named : tag.name ≡ c.args.name.now). c.new-local_name.ensures ∙ ap local_name (sym named) in
     let asked = c.in-Ok._asked in
-    let answered = λ (tag : StartTag) (named : tag.name ≡ c.args.name.now) (spaced : tag.namespace ≡ c.args.ns) (when : asked ≡ true → IsRestOf c.args.aux_info tag). c.in-Ok.ensures.answered s esi events tag runs.stands (is_tag tag named, spaced) when in
+    let answered = λ (tag : StartTag) (named : tag.name ≡ c.args.name.now) (spaced : tag.namespace ≡ c.args.ns) (when : asked ≡ true → IsRestOf c.args.aux_info tag). (c.in-Ok.ensures.answered s esi events tag runs.stands (is_tag tag named, spaced) when).1 in
     let kept : (tag : StartTag) (named : tag.name ≡ c.args.name.now) (spaced : tag.namespace ≡ c.args.ns) (when : asked ≡ true → IsRestOf c.args.aux_info tag) → c.matches-1.given.0.items.items ≡ map info_of (answered tag named spaced when).matched = λ tag named spaced when.
     let collected = chained_keeps _ (λ (xs : List MatchInfo) q. (q.0.ghost_name ≡ c.handler-1.given) × (q.0.now.refused ≡ false → q.0.now.items.items ≡ xs))
     (λ xs q x v j k. search (rules, j, k)) _ _ _ (refl, λ _. c.clear.ensures.items) (answered tag named spaced when).reported in
@@ -49,12 +49,12 @@ returns-else-matches-clause-told g c = λ s esi events tag runs named spaced res
     let told : (tag : StartTag) (named : tag.name ≡ c.args.name.now) (spaced : tag.namespace ≡ c.args.ns) (when : asked ≡ true → IsRestOf c.args.aux_info tag) → IsToldAs s esi events tag asked c.matches-1.given.0.items.items (allowed vm limiter) c.clear_opened-opened.new.vm call.new.limiter = λ tag named spaced when.
     reported laws.depths laws.ordered s esi events tag vm call.new.self c.clear_opened-opened.new.vm limiter call.new.limiter (charged_for laws.depths laws.ordered s esi events vm limiter runs)
     (room_for laws.places s esi events vm limiter runs tag (room_unless s esi events vm _ runs.stands call.ensures.full (no_error call.result asked refusals.CounterFull c.in-Ok.is))) runs.countable
-    (λ opening. c.in-Ok.ensures.unlimited s esi events tag runs.stands (is_tag tag named, spaced) when (has_content_if s esi events tag opening)) call.ensures.charges.bytes
+    (λ opening. (c.in-Ok.ensures.answered s esi events tag runs.stands (is_tag tag named, spaced) when).0 (has_content_if s esi events tag opening)) call.ensures.charges.bytes
     (ap (λ (l : Limiter). l.maximum) call.ensures.charges.charged) (charged_more vm call.new.self limiter call.new.limiter call.ensures.charges.bytes call.ensures.charges.grows call.ensures.charges.charged runs.charged)
     asked (answered tag named spaced when) c.open_elements-open_before.result c.open_elements-open_before.ensures c.clear_opened-opened.result c.clear_opened-opened.ensures _ (kept tag named spaced when) in
     let left = leaves laws.depths laws.ordered s esi events tag vm call.new.self c.clear_opened-opened.new.vm limiter call.new.limiter (charged_for laws.depths laws.ordered s esi events vm limiter runs)
     (room_for laws.places s esi events vm limiter runs tag (room_unless s esi events vm _ runs.stands call.ensures.full (no_error call.result asked refusals.CounterFull c.in-Ok.is))) runs.countable
-    (λ opening. c.in-Ok.ensures.unlimited s esi events tag runs.stands (is_tag tag named, spaced) when (has_content_if s esi events tag opening)) call.ensures.charges.bytes
+    (λ opening. (c.in-Ok.ensures.answered s esi events tag runs.stands (is_tag tag named, spaced) when).0 (has_content_if s esi events tag opening)) call.ensures.charges.bytes
     (ap (λ (l : Limiter). l.maximum) call.ensures.charges.charged) (charged_more vm call.new.self limiter call.new.limiter call.ensures.charges.bytes call.ensures.charges.grows call.ensures.charges.charged runs.charged)
     asked (answered tag named spaced when) c.open_elements-open_before.result c.open_elements-open_before.ensures c.clear_opened-opened.result c.clear_opened-opened.ensures _ (kept tag named spaced when) in
     (handed_as s esi events tag (allowed vm limiter) c.clear_opened-opened.new.vm call.new.limiter rest.2 asked _ (told tag named spaced when) (λ unasked. told bare named spaced (λ yes. absurd (true≢false (sym yes ∙ unasked)))), left.0, left.1)
@@ -69,17 +69,17 @@ returns-then-matches-clause-told g c = λ s esi events tag runs named spaced res
     let bare = bare_tag tag.name tag.namespace in
     let is_tag = λ (tag : StartTag) (named : tag.name ≡ c.args.name.now). c.new-local_name.ensures ∙ ap local_name (sym named) in
     let asked = c.in-Ok._asked in
-    let answered = λ (tag : StartTag) (named : tag.name ≡ c.args.name.now) (spaced : tag.namespace ≡ c.args.ns) (when : asked ≡ true → IsRestOf c.args.aux_info tag). c.in-Ok.ensures.answered s esi events tag runs.stands (is_tag tag named, spaced) when in
+    let answered = λ (tag : StartTag) (named : tag.name ≡ c.args.name.now) (spaced : tag.namespace ≡ c.args.ns) (when : asked ≡ true → IsRestOf c.args.aux_info tag). (c.in-Ok.ensures.answered s esi events tag runs.stands (is_tag tag named, spaced) when).1 in
     let told : (tag : StartTag) (named : tag.name ≡ c.args.name.now) (spaced : tag.namespace ≡ c.args.ns) (when : asked ≡ true → IsRestOf c.args.aux_info tag) → IsUnreported s esi events tag (allowed vm limiter) c.clear_opened-opened.new.vm call.new.limiter = λ tag named spaced when.
     unreported laws.depths laws.ordered s esi events tag vm call.new.self c.clear_opened-opened.new.vm limiter call.new.limiter (charged_for laws.depths laws.ordered s esi events vm limiter runs)
     (room_for laws.places s esi events vm limiter runs tag (room_unless s esi events vm _ runs.stands call.ensures.full (no_error call.result asked refusals.CounterFull c.in-Ok.is))) runs.countable
-    (λ opening. c.in-Ok.ensures.unlimited s esi events tag runs.stands (is_tag tag named, spaced) when (has_content_if s esi events tag opening)) call.ensures.charges.bytes
+    (λ opening. (c.in-Ok.ensures.answered s esi events tag runs.stands (is_tag tag named, spaced) when).0 (has_content_if s esi events tag opening)) call.ensures.charges.bytes
     (ap (λ (l : Limiter). l.maximum) call.ensures.charges.charged) (charged_more vm call.new.self limiter call.new.limiter call.ensures.charges.bytes call.ensures.charges.grows call.ensures.charges.charged runs.charged)
     asked (answered tag named spaced when) c.open_elements-open_before.result c.open_elements-open_before.ensures c.clear_opened-opened.result c.clear_opened-opened.ensures in (
       handed_unreported_as s esi events tag (allowed vm limiter) c.clear_opened-opened.new.vm call.new.limiter rest.2 asked (asks_are s esi events tag _ asked _ _ (answered tag named spaced when).answered) (told tag named spaced when) (λ unasked. told bare named spaced (λ yes. absurd (true≢false (sym yes ∙ unasked)))),
       leaves_unreported laws.depths laws.ordered s esi events tag vm call.new.self c.clear_opened-opened.new.vm limiter call.new.limiter (charged_for laws.depths laws.ordered s esi events vm limiter runs)
           (room_for laws.places s esi events vm limiter runs tag (room_unless s esi events vm _ runs.stands call.ensures.full (no_error call.result asked refusals.CounterFull c.in-Ok.is))) runs.countable
-          (λ opening. c.in-Ok.ensures.unlimited s esi events tag runs.stands (is_tag tag named, spaced) when (has_content_if s esi events tag opening)) call.ensures.charges.bytes
+          (λ opening. (c.in-Ok.ensures.answered s esi events tag runs.stands (is_tag tag named, spaced) when).0 (has_content_if s esi events tag opening)) call.ensures.charges.bytes
           (ap (λ (l : Limiter). l.maximum) call.ensures.charges.charged) (charged_more vm call.new.self limiter call.new.limiter call.ensures.charges.bytes call.ensures.charges.grows call.ensures.charges.charged runs.charged)
           asked (answered tag named spaced when) c.open_elements-open_before.result c.open_elements-open_before.ensures c.clear_opened-opened.result c.clear_opened-opened.ensures,
     )

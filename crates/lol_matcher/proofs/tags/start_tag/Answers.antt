@@ -35,13 +35,14 @@ returns-else-matches-clause-told g c = λ s esi events tag runs named spaced.
     let vm = c.args.vm.now in
     let limiter = c.args.limiter.now in
     let call = c.exec_for_start_tag in
-    let answered = c.in-Ok.ensures.answered s esi events tag runs.stands (c.new.ensures ∙ ap local_name (sym named), spaced) in
+    let told = c.in-Ok.ensures.answered s esi events tag runs.stands (c.new.ensures ∙ ap local_name (sym named), spaced) in
+    let answered = told.1 in
     let collected = chained_keeps _ (λ (xs : List MatchInfo) q. (q.0.ghost_name ≡ c.handler-1.given) × (q.0.now.refused ≡ false → q.0.now.items.items ≡ xs))
     (λ xs q x v j k. search (rules, j, k)) _ _ _ (refl, λ _. c.clear.ensures.items) answered.reported in
     let kept : c.matches-1.given.0.items.items ≡ map info_of answered.matched = search (rules, collected.0, collected.1, c.if-matches.false) in
     reported laws.depths laws.ordered s esi events tag vm call.new.self c.clear_opened-opened.new.vm limiter call.new.limiter (charged_for laws.depths laws.ordered s esi events vm limiter runs)
     (room_for laws.places s esi events vm limiter runs tag (room_answered s esi events vm call.result runs.stands call.ensures.full _ c.in-Ok.is)) runs.countable
-    (λ opening. c.in-Ok.ensures.unlimited s esi events tag runs.stands (c.new.ensures ∙ ap local_name (sym named), spaced) (has_content_if s esi events tag opening)) call.ensures.charges.bytes
+    (λ opening. told.0 (has_content_if s esi events tag opening)) call.ensures.charges.bytes
     (ap (λ (l : Limiter). l.maximum) call.ensures.charges.charged) (charged_more vm call.new.self limiter call.new.limiter call.ensures.charges.bytes call.ensures.charges.grows call.ensures.charges.charged runs.charged)
     false answered c.open_elements-open_before.result c.open_elements-open_before.ensures c.clear_opened-opened.result c.clear_opened-opened.ensures _ kept
 
@@ -51,13 +52,14 @@ returns-else-matches-clause-leaves g c = λ s esi events tag runs named spaced.
     let vm = c.args.vm.now in
     let limiter = c.args.limiter.now in
     let call = c.exec_for_start_tag in
-    let answered = c.in-Ok.ensures.answered s esi events tag runs.stands (c.new.ensures ∙ ap local_name (sym named), spaced) in
+    let told = c.in-Ok.ensures.answered s esi events tag runs.stands (c.new.ensures ∙ ap local_name (sym named), spaced) in
+    let answered = told.1 in
     let collected = chained_keeps _ (λ (xs : List MatchInfo) q. (q.0.ghost_name ≡ c.handler-1.given) × (q.0.now.refused ≡ false → q.0.now.items.items ≡ xs))
     (λ xs q x v j k. search (rules, j, k)) _ _ _ (refl, λ _. c.clear.ensures.items) answered.reported in
     let kept : c.matches-1.given.0.items.items ≡ map info_of answered.matched = search (rules, collected.0, collected.1, c.if-matches.false) in
     leaves laws.depths laws.ordered s esi events tag vm call.new.self c.clear_opened-opened.new.vm limiter call.new.limiter (charged_for laws.depths laws.ordered s esi events vm limiter runs)
     (room_for laws.places s esi events vm limiter runs tag (room_answered s esi events vm call.result runs.stands call.ensures.full _ c.in-Ok.is)) runs.countable
-    (λ opening. c.in-Ok.ensures.unlimited s esi events tag runs.stands (c.new.ensures ∙ ap local_name (sym named), spaced) (has_content_if s esi events tag opening)) call.ensures.charges.bytes
+    (λ opening. told.0 (has_content_if s esi events tag opening)) call.ensures.charges.bytes
     (ap (λ (l : Limiter). l.maximum) call.ensures.charges.charged) (charged_more vm call.new.self limiter call.new.limiter call.ensures.charges.bytes call.ensures.charges.grows call.ensures.charges.charged runs.charged)
     false answered c.open_elements-open_before.result c.open_elements-open_before.ensures c.clear_opened-opened.result c.clear_opened-opened.ensures _ kept
 
@@ -67,10 +69,11 @@ returns-then-matches-clause-told g c = λ s esi events tag runs named spaced.
     let vm = c.args.vm.now in
     let limiter = c.args.limiter.now in
     let call = c.exec_for_start_tag in
-    let answered = c.in-Ok.ensures.answered s esi events tag runs.stands (c.new.ensures ∙ ap local_name (sym named), spaced) in
+    let told = c.in-Ok.ensures.answered s esi events tag runs.stands (c.new.ensures ∙ ap local_name (sym named), spaced) in
+    let answered = told.1 in
     unreported laws.depths laws.ordered s esi events tag vm call.new.self c.clear_opened-opened.new.vm limiter call.new.limiter (charged_for laws.depths laws.ordered s esi events vm limiter runs)
     (room_for laws.places s esi events vm limiter runs tag (room_answered s esi events vm call.result runs.stands call.ensures.full _ c.in-Ok.is)) runs.countable
-    (λ opening. c.in-Ok.ensures.unlimited s esi events tag runs.stands (c.new.ensures ∙ ap local_name (sym named), spaced) (has_content_if s esi events tag opening)) call.ensures.charges.bytes
+    (λ opening. told.0 (has_content_if s esi events tag opening)) call.ensures.charges.bytes
     (ap (λ (l : Limiter). l.maximum) call.ensures.charges.charged) (charged_more vm call.new.self limiter call.new.limiter call.ensures.charges.bytes call.ensures.charges.grows call.ensures.charges.charged runs.charged)
     false answered c.open_elements-open_before.result c.open_elements-open_before.ensures c.clear_opened-opened.result c.clear_opened-opened.ensures
 
@@ -80,10 +83,11 @@ returns-then-matches-clause-leaves g c = λ s esi events tag runs named spaced.
     let vm = c.args.vm.now in
     let limiter = c.args.limiter.now in
     let call = c.exec_for_start_tag in
-    let answered = c.in-Ok.ensures.answered s esi events tag runs.stands (c.new.ensures ∙ ap local_name (sym named), spaced) in
+    let told = c.in-Ok.ensures.answered s esi events tag runs.stands (c.new.ensures ∙ ap local_name (sym named), spaced) in
+    let answered = told.1 in
     leaves_unreported laws.depths laws.ordered s esi events tag vm call.new.self c.clear_opened-opened.new.vm limiter call.new.limiter (charged_for laws.depths laws.ordered s esi events vm limiter runs)
     (room_for laws.places s esi events vm limiter runs tag (room_answered s esi events vm call.result runs.stands call.ensures.full _ c.in-Ok.is)) runs.countable
-    (λ opening. c.in-Ok.ensures.unlimited s esi events tag runs.stands (c.new.ensures ∙ ap local_name (sym named), spaced) (has_content_if s esi events tag opening)) call.ensures.charges.bytes
+    (λ opening. told.0 (has_content_if s esi events tag opening)) call.ensures.charges.bytes
     (ap (λ (l : Limiter). l.maximum) call.ensures.charges.charged) (charged_more vm call.new.self limiter call.new.limiter call.ensures.charges.bytes call.ensures.charges.grows call.ensures.charges.charged runs.charged)
     false answered c.open_elements-open_before.result c.open_elements-open_before.ensures c.clear_opened-opened.result c.clear_opened-opened.ensures
 

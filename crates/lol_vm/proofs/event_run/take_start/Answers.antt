@@ -17,11 +17,11 @@ whole_instead result error is other full = other cc
 
 pub returns-in-Ok-clause-taken : goal.returns-in-Ok-clause-taken
 returns-in-Ok-clause-taken g c = λ s esi events tag stands named handed.
-    c.in-Ok.ensures.answered s esi events tag stands named (λ asked. subst (λ r. IsHandedOver r tag) c.in-Some.is handed)
+    (c.in-Ok.ensures.answered s esi events tag stands named (λ asked. subst (λ r. IsHandedOver r tag) c.in-Some.is handed)).1
 
-pub returns-in-Ok-clause-unlimited : goal.returns-in-Ok-clause-unlimited
-returns-in-Ok-clause-unlimited g c = λ s esi events tag stands named handed opening.
-    c.in-Ok.ensures.unlimited s esi events tag stands named (λ asked. subst (λ r. IsHandedOver r tag) c.in-Some.is handed) (has_content_if s esi events tag opening)
+pub returns-in-Ok-clause-within : goal.returns-in-Ok-clause-within
+returns-in-Ok-clause-within g c = λ s esi events tag stands named handed opening.
+    (c.in-Ok.ensures.answered s esi events tag stands named (λ asked. subst (λ r. IsHandedOver r tag) c.in-Some.is handed)).0 (has_content_if s esi events tag opening)
 
 pub returns-in-Err-MemoryLimitExceeded-clause-refused : goal.returns-in-Err-MemoryLimitExceeded-clause-refused
 returns-in-Err-MemoryLimitExceeded-clause-refused g c = λ s esi events tag stands named handed.
@@ -53,10 +53,10 @@ memory_instead : {E : Type 0} (result : Result (Unit {0}) (VmError E)) (error : 
 memory_instead result error is full = cc
 
 pub returns-in-Ok-exec_for_start_tag-clause-taken : goal.returns-in-Ok-exec_for_start_tag-clause-taken
-returns-in-Ok-exec_for_start_tag-clause-taken g c = λ s esi events tag stands named handed. c.in-Ok-exec_for_start_tag.ensures.answered s esi events tag stands named
+returns-in-Ok-exec_for_start_tag-clause-taken g c = λ s esi events tag stands named handed. (c.in-Ok-exec_for_start_tag.ensures.answered s esi events tag stands named).1
 
-pub returns-in-Ok-exec_for_start_tag-clause-unlimited : goal.returns-in-Ok-exec_for_start_tag-clause-unlimited
-returns-in-Ok-exec_for_start_tag-clause-unlimited g c = λ s esi events tag stands named handed opening. c.in-Ok-exec_for_start_tag.ensures.unlimited s esi events tag stands named (has_content_if s esi events tag opening)
+pub returns-in-Ok-exec_for_start_tag-clause-within : goal.returns-in-Ok-exec_for_start_tag-clause-within
+returns-in-Ok-exec_for_start_tag-clause-within g c = λ s esi events tag stands named handed opening. (c.in-Ok-exec_for_start_tag.ensures.answered s esi events tag stands named).0 (has_content_if s esi events tag opening)
 
 pub returns-in-Err-InfoRequest-clause-taken : goal.returns-in-Err-InfoRequest-clause-taken
 returns-in-Err-InfoRequest-clause-taken g c = λ s esi events tag stands named handed.
@@ -64,8 +64,8 @@ returns-in-Err-InfoRequest-clause-taken g c = λ s esi events tag stands named h
     dropped s esi events tag _ c.args.vm.now c.exec_for_start_tag.new.self _ (c.exec_for_start_tag.ensures.asked _ is s esi events tag stands named) c.in-Err-InfoRequest.ensures.left.unchanged
     c.args.match_handler.now c.exec_for_start_tag.new.match_handler (subst (λ r. IsHandedOver r tag) c.in_default.is handed) (c.exec_for_start_tag.ensures.silent (InfoRequest _) is tt)
 
-pub returns-in-Err-InfoRequest-clause-unlimited : goal.returns-in-Err-InfoRequest-clause-unlimited
-returns-in-Err-InfoRequest-clause-unlimited g c = λ s esi events tag stands named handed opening limited.
+pub returns-in-Err-InfoRequest-clause-within : goal.returns-in-Err-InfoRequest-clause-within
+returns-in-Err-InfoRequest-clause-within g c = λ s esi events tag stands named handed opening limited.
     let is = c.in-Err-InfoRequest.is ∙ ap Err c.in-Err-InfoRequest.field-0-is in
     let pending = c.exec_for_start_tag.ensures.asked _ is s esi events tag stands named in
     is_left s esi events tag pending.asks (subst (λ r. IsHandedOver r tag) c.in_default.is handed) opening

@@ -22,7 +22,7 @@ returns-in_default-clause-stops g c = λ s esi item_bytes before events tag r na
     let vm = c.args.self.now.vm in
     let now = c.args.limiter.now in
     stops_answered s esi item_bytes before vm events now f (Start tag)
-    (not_refused s esi item_bytes before vm events now f tag (c.in_ok-taken.ensures.counted s esi events f.stands) (c.in_ok-taken.ensures.unlimited s esi events tag f.stands named handed))
+    (not_refused s esi item_bytes before vm events now f tag (c.in_ok-taken.ensures.counted s esi events f.stands) (c.in_ok-taken.ensures.within s esi events tag f.stands named handed))
 
 pub returns-in_err-taken-clause-refused : goal.returns-in_err-taken-clause-refused
 returns-in_err-taken-clause-refused g c =
@@ -43,7 +43,7 @@ returns-in_default-clause-charged g c = λ s esi item_bytes before events tag r 
     let stands = c.number_opened.ensures.stands s esi _ (taken_stands (λ started. started.matched_ids) _ s esi events tag vm c.take_start.new.vm _ _ c.in_ok-taken.taken (c.in_ok-taken.ensures.taken s esi events tag f.stands named handed)) in
     start_charged s esi item_bytes before vm events c.args.limiter.now f tag new c.take_start.new.limiter stands (c.number_opened.ensures.bytes ∙ c.take_start.ensures.charges.bytes)
     (c.take_start.ensures.charges.charged ∙ ap (λ n. charged c.args.limiter.now ((n - slots_charged vm) * slot_bytes vm)) (sym c.number_opened.ensures.slots))
-    (c.in_ok-taken.ensures.counted s esi events f.stands) (c.in_ok-taken.ensures.unlimited s esi events tag f.stands named handed)
+    (c.in_ok-taken.ensures.counted s esi events f.stands) (c.in_ok-taken.ensures.within s esi events tag f.stands named handed)
 
 pub returns-clause-goes : goal.returns-clause-goes
 returns-clause-goes g c = λ s esi item_bytes before events tag r named handed.
@@ -54,6 +54,6 @@ returns-clause-goes g c = λ s esi item_bytes before events tag r named handed.
     let stands = c.number_opened.ensures.stands s esi _ (taken_stands (λ started. started.matched_ids) _ s esi events tag run.vm c.take_start.new.vm _ _ c.in_ok-taken.taken taken) in
     goes_taken s esi item_bytes before run events c.args.limiter.now r tag later c.take_start.new.limiter stands (c.number_opened.ensures.bytes ∙ c.take_start.ensures.charges.bytes)
     (c.take_start.ensures.charges.charged ∙ ap (λ n. charged c.args.limiter.now ((n - slots_charged run.vm) * slot_bytes run.vm)) (sym c.number_opened.ensures.slots))
-    (c.in_ok-taken.ensures.counted s esi events f.stands) (c.in_ok-taken.ensures.unlimited s esi events tag f.stands named handed)
+    (c.in_ok-taken.ensures.counted s esi events f.stands) (c.in_ok-taken.ensures.within s esi events tag f.stands named handed)
     (λ started. started.matched_ids) _ c.take_start.new.vm _ _ c.number_opened.ensures.tries (let n = c.in-Some.ensures in omega (arith, n)) c.open_elements-open_before.result c.open_elements-open_before.ensures
     c.number_opened.ensures.numbered c.number_opened.ensures.unchanged c.in_ok-taken.taken taken

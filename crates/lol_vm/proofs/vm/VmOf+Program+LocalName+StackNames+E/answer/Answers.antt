@@ -1,5 +1,6 @@
 use Rattle.std.proofs.Common.{rules, refl}
 use Rattle.lol_vm.proofs.CallerLemmas.{charges_none, charges_pushed}
+use Rattle.lol_vm.proofs.VmRefusals.{alike_opens_nothing, on_err_both}
 use Rattle.lol_vm.proofs.vm.VmOf+Program+LocalName+StackNames+E.answer.Goals as goal
 
 pub returns-then-not-ctx-clause-reported : goal.returns-then-not-ctx-clause-reported
@@ -18,3 +19,8 @@ pub returns-clause-charges : goal.returns-clause-charges
 returns-clause-charges g c =
     let told = c.open_element-pushed.ensures in
     charges_pushed c.open_element-pushed.result c.args.self.now _ _ c.args.limiter.now c.open_element-pushed.new.limiter told.ok told.err told.charged told.err_limiter
+
+pub returns-clause-left : goal.returns-clause-left
+returns-clause-left g c =
+    let told = c.open_element-pushed.ensures in
+    on_err_both c.open_element-pushed.result (λ alike uncharged. alike_opens_nothing c.args.self.now _ alike refl refl uncharged) told.err told.err_limiter

@@ -4,7 +4,7 @@ use Rattle.lol_base.specs.LocalNames.{Name, local_name}
 use Rattle.lol_stack.specs.declared.stack.StackOf.{StackOf}
 use Rattle.lol_stack.specs.declared.stack.StackNames.{StackNames}
 use Rattle.lol_stack.specs.Stacks.{list_in}
-use Rattle.lol_vm.specs.Vms.{Vm, IsSilent, IsTriedAtMost}
+use Rattle.lol_vm.specs.Vms.{IsSilent, IsTriedAtMost}
 use Rattle.lol_vm.specs.VmErrors.{IsAskedOrFull, vm_error}
 use Rattle.lol_vm.specs.declared.error.StartTagError.TheVariants as refusals
 use Rattle.lol_vm.specs.declared.error.VmError.TheVariants.{Memory}
@@ -12,7 +12,7 @@ use Rattle.lol_vm.proofs.CallerLemmas.{charges_both, charges_unopened}
 use Rattle.lol_vm.proofs.FreeTags.{asked_only, limit_only, not_for_memory, void_is_closed, void_unspelled}
 use Rattle.lol_vm.proofs.TriedStarts.{began, begun_answered, begun_content, begun_due, begun_pending, begun_reported, begun_unfailed, begun_was_due, new_context}
 use Rattle.lol_vm.proofs.VmStarts.{requested_is}
-use Rattle.lol_vm.proofs.VmRefusals.{push_isnt_failed, push_isnt_full, push_isnt_asked, push_isnt_silent, push_is_limit, refused_as_failed, refused_as_full, refused_as_limit, refused_full_only, refused_isnt_asked, requested_as, requested_ok, requested_refused, reported_with, not_false, err_is_not_ok, failed_opens_nothing, on_err, opens_nothing_both, opens_nothing_of, requested_keeps, same_opens_nothing, stays_unfailed, unfailed_before}
+use Rattle.lol_vm.proofs.VmRefusals.{push_isnt_failed, push_isnt_full, push_isnt_asked, push_isnt_silent, push_is_limit, refused_as_failed, refused_as_full, refused_as_limit, refused_full_only, refused_isnt_asked, requested_as, requested_ok, requested_refused, reported_with, not_false, err_is_not_ok, on_err, opens_nothing_both, opens_nothing_of, requested_keeps, same_opens_nothing, stays_unfailed, unfailed_before}
 use Rattle.lol_vm.proofs.vm.VmOf+Program+LocalName+StackNames+E.exec_for_start_tag.Goals as goal
 
 -- 1. It is refused before it is reported
@@ -59,9 +59,6 @@ returns-in-Err-clause-silent g c = λ error is silent. refl
 pub returns-in-Err-clause-limited : goal.returns-in-Err-clause-limited
 returns-in-Err-clause-limited g c = λ limit. absurd (c.begin.ensures.unlimited (c.in-Err.is ∙ ap Err (refused_as_limit c.in-Err.error c.from.result c.from.ensures cc)))
 
-pub returns-in-Err-clause-unlimited : goal.returns-in-Err-clause-unlimited
-returns-in-Err-clause-unlimited g c = tt
-
 pub returns-in-Err-clause-free : goal.returns-in-Err-clause-free
 returns-in-Err-clause-free g c = λ error is s esi events tag stands named takes.
     let full = c.in-Err.ensures.free s esi events tag stands (c.new-ctx.ensures.item.name ∙ named.0, named.1 ∙ sym c.new-ctx.ensures.ns) (inl takes) in
@@ -105,9 +102,6 @@ returns-in-Some-clause-tried g c = λ s esi events tag stands named.
 pub returns-in-Some-clause-answered : goal.returns-in-Some-clause-answered
 returns-in-Some-clause-answered g c = requested_ok _ _ _ c.request.new.self _ c.request.result c.request.ensures.requested
 
-pub returns-in-Some-clause-unlimited : goal.returns-in-Some-clause-unlimited
-returns-in-Some-clause-unlimited g c = requested_ok _ _ _ c.request.new.self _ c.request.result c.request.ensures.requested
-
 pub returns-in-Some-clause-refused : goal.returns-in-Some-clause-refused
 returns-in-Some-clause-refused g c = requested_refused _ _ _ c.request.new.self c.request.result c.request.ensures.requested
 
@@ -148,14 +142,10 @@ returns-in-Some-clause-charges g c =
 
 pub returns-in-Ok-answer-clause-answered : goal.returns-in-Ok-answer-clause-answered
 returns-in-Ok-answer-clause-answered g c = λ s esi events tag stands named.
-    begun_answered (began g.met.E.ElementData.ids_of_changed c.new-ctx.ensures.item c.new-ctx.ensures.ns c.new-ctx.ensures.with_content c.in-Ok.ensures.begun) s esi events tag stands named c.in_default.is
-    _ c.args.match_handler.now c.answer.new.match_handler c.answer.new.self c.in-Ok-answer.ensures.reported c.in-Ok-answer.ensures.ok
-
-pub returns-in-Ok-answer-clause-unlimited : goal.returns-in-Ok-answer-clause-unlimited
-returns-in-Ok-answer-clause-unlimited g c = λ s esi events tag stands named opens limited.
-    let b = began g.met.E.ElementData.ids_of_changed c.new-ctx.ensures.item c.new-ctx.ensures.ns c.new-ctx.ensures.with_content c.in-Ok.ensures.begun in
-    let still = begun_content b s esi events tag stands named c.in_default.is in
-    c.in-Ok-answer.ensures.unlimited (still ∙ opens) (begun_due b c.args.limiter.now limited)
+    let b = began g.met.E.ElementData.ids_of_changed c.new-ctx.ensures.item c.new-ctx.ensures.ns c.new-ctx.ensures.with_content c.in-Ok.ensures.begun in (
+      λ opens limited. c.in-Ok-answer.ensures.within (begun_content b s esi events tag stands named c.in_default.is ∙ opens) (begun_due b c.args.limiter.now limited),
+      begun_answered b s esi events tag stands named c.in_default.is _ c.args.match_handler.now c.answer.new.match_handler c.answer.new.self c.in-Ok-answer.ensures.reported c.in-Ok-answer.ensures.ok,
+    )
 
 pub returns-in-Ok-answer-clause-tried : goal.returns-in-Ok-answer-clause-tried
 returns-in-Ok-answer-clause-tried g c = λ s esi events tag stands named.
@@ -201,7 +191,7 @@ returns-in-Ok-answer-clause-charges g c = charges_both (charges_unopened (c.begi
 
 pub returns-in-Err-answer-clause-left : goal.returns-in-Err-answer-clause-left
 returns-in-Err-answer-clause-left g c =
-    opens_nothing_both (opens_nothing_of c.new-ctx.ensures.item.name (c.begin.ensures.left c.args.limiter.now)) (failed_opens_nothing c.in-Err-answer.ensures.err c.in-Err-answer.ensures.err_limiter)
+    opens_nothing_both (opens_nothing_of c.new-ctx.ensures.item.name (c.begin.ensures.left c.args.limiter.now)) c.in-Err-answer.ensures.left
 
 pub returns-in-Err-answer-clause-limited : goal.returns-in-Err-answer-clause-limited
 returns-in-Err-answer-clause-limited g c = λ limit.
@@ -211,14 +201,14 @@ returns-in-Err-answer-clause-limited g c = λ limit.
       begun_was_due b c.args.limiter.now opens.1,
       λ s esi events tag stands named.
           let reported = begun_reported b s esi events tag stands named c.in_default.is _ c.args.match_handler.now c.answer.new.match_handler c.in-Err-answer.ensures.reported in
-          (sym (begun_content b s esi events tag stands named c.in_default.is) ∙ opens.0, reported_with _ s esi events tag false c.args.match_handler.now c.answer.new.match_handler c.begin.new.self.tries c.answer.new.self.tries (ap (λ (v : Vm _). v.tries) c.in-Err-answer.ensures.err.1) reported),
+          (sym (begun_content b s esi events tag stands named c.in_default.is) ∙ opens.0, reported_with _ s esi events tag false c.args.match_handler.now c.answer.new.match_handler c.begin.new.self.tries c.answer.new.self.tries c.answer.ensures.tries reported),
     )
 
 pub returns-in-Err-answer-clause-all_or_none : goal.returns-in-Err-answer-clause-all_or_none
 returns-in-Err-answer-clause-all_or_none g c = λ error is. inr (
   λ s esi events tag stands named.
       let reported = begun_reported (began g.met.E.ElementData.ids_of_changed c.new-ctx.ensures.item c.new-ctx.ensures.ns c.new-ctx.ensures.with_content c.in-Ok.ensures.begun) s esi events tag stands named c.in_default.is _ c.args.match_handler.now c.answer.new.match_handler c.in-Err-answer.ensures.reported in
-      reported_with _ s esi events tag false c.args.match_handler.now c.answer.new.match_handler c.begin.new.self.tries c.answer.new.self.tries (ap (λ (v : Vm _). v.tries) c.in-Err-answer.ensures.err.1) reported,
+      reported_with _ s esi events tag false c.args.match_handler.now c.answer.new.match_handler c.begin.new.self.tries c.answer.new.self.tries c.answer.ensures.tries reported,
   λ due.
       let same : Memory error ≡ c.from-in-Err-answer.result = cc in
       let opens = not_false c.begin.new.ctx.with_content (λ closed. err_is_not_ok c.answer.result c.in-Err-answer.error c.in-Err-answer.is (c.answer.ensures.closed closed)) in
@@ -239,7 +229,7 @@ pub returns-in-Err-answer-clause-asked : goal.returns-in-Err-answer-clause-asked
 returns-in-Err-answer-clause-asked g c = λ request is. absurd (push_isnt_asked c.in-Err-answer.error c.from-in-Err-answer.result c.from-in-Err-answer.ensures request cc)
 
 pub returns-in-Err-answer-clause-refused : goal.returns-in-Err-answer-clause-refused
-returns-in-Err-answer-clause-refused g c = λ error is refusal. ap (λ (v : Vm _). v.failed) c.in-Err-answer.ensures.err.1
+returns-in-Err-answer-clause-refused g c = λ error is refusal. c.in-Err-answer.ensures.refused
 
 pub returns-in-Err-answer-clause-failed : goal.returns-in-Err-answer-clause-failed
 returns-in-Err-answer-clause-failed g c = stays_unfailed (λ is. push_isnt_failed c.in-Err-answer.error c.from-in-Err-answer.result c.from-in-Err-answer.ensures cc) (unfailed_before c.begin.ensures.failed (λ refused. cc))
@@ -252,9 +242,6 @@ returns-in-Err-answer-clause-again g c = c.answer.ensures.again
 
 pub returns-in-Err-answer-clause-answered : goal.returns-in-Err-answer-clause-answered
 returns-in-Err-answer-clause-answered g c = tt
-
-pub returns-in-Err-answer-clause-unlimited : goal.returns-in-Err-answer-clause-unlimited
-returns-in-Err-answer-clause-unlimited g c = tt
 
 pub returns-in-Err-answer-clause-free : goal.returns-in-Err-answer-clause-free
 returns-in-Err-answer-clause-free g c = λ error is s esi events tag stands named takes.

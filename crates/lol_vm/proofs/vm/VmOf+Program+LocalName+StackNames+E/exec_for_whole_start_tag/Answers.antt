@@ -1,12 +1,12 @@
 use Rattle.std.proofs.Common.{◌≡◌, arith, false, true, inl, inr, Err, Result, refl, sym, ap, ◌∙◌, subst}
-use Rattle.lol_vm.specs.Vms.{Vm, IsTriedAtMost}
+use Rattle.lol_vm.specs.Vms.{IsTriedAtMost}
 use Rattle.lol_vm.specs.declared.error.StartTagError.{StartTagError}
 use Rattle.lol_vm.specs.declared.error.StartTagError.TheVariants as refusals
 use Rattle.lol_vm.proofs.CallerLemmas.{charges_both, charges_unopened}
 use Rattle.lol_vm.proofs.FreeTags.{memory_instead, void_is_closed}
 use Rattle.lol_vm.proofs.TriedStarts.{began, begun_answered, begun_content, begun_due, begun_pending, begun_reported, begun_was_due, new_context, reported_if, whole_since}
 use Rattle.lol_vm.proofs.TakenStarts.{answered_since}
-use Rattle.lol_vm.proofs.VmRefusals.{refused_push_isnt_failed, refused_push_isnt_full, refused_push_limit, refused_push_memory, reported_with, not_false, err_is_not_ok, failed_opens_nothing, opens_nothing_both, opens_nothing_of, stays_unfailed, unfailed_before}
+use Rattle.lol_vm.proofs.VmRefusals.{refused_push_isnt_failed, refused_push_isnt_full, refused_push_limit, refused_push_memory, reported_with, not_false, err_is_not_ok, opens_nothing_both, opens_nothing_of, stays_unfailed, unfailed_before}
 use Rattle.lol_vm.proofs.vm.VmOf+Program+LocalName+StackNames+E.exec_for_whole_start_tag.Goals as goal
 
 pub begin-requires : goal.begin-requires
@@ -63,13 +63,11 @@ returns-in-Ok-finish-clause-tried g c = λ s esi events tag stands named. c.fini
 
 pub returns-in-Ok-finish-clause-answered : goal.returns-in-Ok-finish-clause-answered
 returns-in-Ok-finish-clause-answered g c = λ s esi events tag stands named rest.
-    answered_since s esi events tag _ _ c.args.self.now c.begin.new.self c.finish.new.self c.args.match_handler.now _ c.finish.new.match_handler
-    (c.begin.ensures.left c.args.limiter.now).unchanged refl (c.in-Ok-finish.ensures.answered s esi events tag (begun_pending (began g.met.E.ElementData.ids_of_changed c.new-ctx.ensures.item c.new-ctx.ensures.ns c.new-ctx.ensures.with_content c.in-Ok.ensures.begun) s esi events tag stands named c.in-Some.point c.in-Some.is) (rest refl))
-
-pub returns-in-Ok-finish-clause-unlimited : goal.returns-in-Ok-finish-clause-unlimited
-returns-in-Ok-finish-clause-unlimited g c = λ s esi events tag stands named rest opens due.
     let b = began g.met.E.ElementData.ids_of_changed c.new-ctx.ensures.item c.new-ctx.ensures.ns c.new-ctx.ensures.with_content c.in-Ok.ensures.begun in
-    c.in-Ok-finish.ensures.unlimited s esi events tag (begun_pending b s esi events tag stands named c.in-Some.point c.in-Some.is) (rest refl) opens (begun_due b c.args.limiter.now due)
+    let told = c.in-Ok-finish.ensures.answered s esi events tag (begun_pending b s esi events tag stands named c.in-Some.point c.in-Some.is) (rest refl) in (
+      λ opens due. told.0 opens (begun_due b c.args.limiter.now due),
+      answered_since s esi events tag _ _ c.args.self.now c.begin.new.self c.finish.new.self c.args.match_handler.now _ c.finish.new.match_handler (c.begin.ensures.left c.args.limiter.now).unchanged refl told.1,
+    )
 
 pub returns-in-Ok-finish-clause-failed : goal.returns-in-Ok-finish-clause-failed
 returns-in-Ok-finish-clause-failed g c = stays_unfailed (λ is. cc) (unfailed_before c.begin.ensures.failed (λ refused. cc))
@@ -129,12 +127,10 @@ returns-in-Ok-answer-clause-tried g c = λ s esi events tag stands named. subst 
 
 pub returns-in-Ok-answer-clause-answered : goal.returns-in-Ok-answer-clause-answered
 returns-in-Ok-answer-clause-answered g c = λ s esi events tag stands named rest.
-    begun_answered (began g.met.E.ElementData.ids_of_changed c.new-ctx.ensures.item c.new-ctx.ensures.ns c.new-ctx.ensures.with_content c.in-Ok.ensures.begun) s esi events tag stands named c.in_default.is _ c.args.match_handler.now c.answer.new.match_handler c.answer.new.self c.in-Ok-answer.ensures.reported c.in-Ok-answer.ensures.ok
-
-pub returns-in-Ok-answer-clause-unlimited : goal.returns-in-Ok-answer-clause-unlimited
-returns-in-Ok-answer-clause-unlimited g c = λ s esi events tag stands named rest opens due.
-    let b = began g.met.E.ElementData.ids_of_changed c.new-ctx.ensures.item c.new-ctx.ensures.ns c.new-ctx.ensures.with_content c.in-Ok.ensures.begun in
-    c.in-Ok-answer.ensures.unlimited (begun_content b s esi events tag stands named c.in_default.is ∙ opens) (begun_due b c.args.limiter.now due)
+    let b = began g.met.E.ElementData.ids_of_changed c.new-ctx.ensures.item c.new-ctx.ensures.ns c.new-ctx.ensures.with_content c.in-Ok.ensures.begun in (
+      λ opens due. c.in-Ok-answer.ensures.within (begun_content b s esi events tag stands named c.in_default.is ∙ opens) (begun_due b c.args.limiter.now due),
+      begun_answered b s esi events tag stands named c.in_default.is _ c.args.match_handler.now c.answer.new.match_handler c.answer.new.self c.in-Ok-answer.ensures.reported c.in-Ok-answer.ensures.ok,
+    )
 
 pub returns-in-Ok-answer-clause-failed : goal.returns-in-Ok-answer-clause-failed
 returns-in-Ok-answer-clause-failed g c = stays_unfailed (λ is. cc) (unfailed_before c.begin.ensures.failed (λ refused. cc))
@@ -150,10 +146,7 @@ returns-in-Err-answer-clause-tried g c = λ s esi events tag stands named. subst
 
 pub returns-in-Err-answer-clause-left : goal.returns-in-Err-answer-clause-left
 returns-in-Err-answer-clause-left g c =
-    opens_nothing_both (opens_nothing_of c.new-ctx.ensures.item.name (c.begin.ensures.left c.args.limiter.now)) (failed_opens_nothing c.in-Err-answer.ensures.err c.in-Err-answer.ensures.err_limiter)
-
-pub returns-in-Err-answer-clause-refused : goal.returns-in-Err-answer-clause-refused
-returns-in-Err-answer-clause-refused g c = ap (λ (v : Vm _). v.failed) c.in-Err-answer.ensures.err.1
+    opens_nothing_both (opens_nothing_of c.new-ctx.ensures.item.name (c.begin.ensures.left c.args.limiter.now)) c.in-Err-answer.ensures.left
 
 pub returns-in-Err-answer-clause-failed : goal.returns-in-Err-answer-clause-failed
 returns-in-Err-answer-clause-failed g c = stays_unfailed (λ is. refused_push_isnt_failed c.in-Err-answer.error c.from-in-Err-answer.result c.from-in-Err-answer.ensures cc) (unfailed_before c.begin.ensures.failed (λ refused. cc))
@@ -167,7 +160,7 @@ returns-in-Err-answer-clause-limited g c = λ limit.
     let opens = c.answer.ensures.limited.0 (c.in-Err-answer.is ∙ ap Err (refused_push_limit c.in-Err-answer.error c.from-in-Err-answer.result c.from-in-Err-answer.ensures cc)) in (
       begun_was_due b c.args.limiter.now opens.1,
       λ s esi events tag stands named rest.
-          let reported = reported_with _ s esi events tag false _ _ c.begin.new.self.tries c.answer.new.self.tries (ap (λ (v : Vm _). v.tries) c.in-Err-answer.ensures.err.1) (begun_reported b s esi events tag stands named c.in_default.is _ c.args.match_handler.now c.answer.new.match_handler c.in-Err-answer.ensures.reported) in
+          let reported = reported_with _ s esi events tag false _ _ c.begin.new.self.tries c.answer.new.self.tries c.answer.ensures.tries (begun_reported b s esi events tag stands named c.in_default.is _ c.args.match_handler.now c.answer.new.match_handler c.in-Err-answer.ensures.reported) in
           (sym (begun_content b s esi events tag stands named c.in_default.is) ∙ opens.0, reported_if s esi events tag false _ _ _ reported.asks reported),
     )
 
@@ -183,7 +176,7 @@ returns-in-Err-answer-clause-due g c = λ due s esi events tag stands named flat
 pub returns-in-Err-answer-clause-all_or_none : goal.returns-in-Err-answer-clause-all_or_none
 returns-in-Err-answer-clause-all_or_none g c = λ is. inr (
   λ s esi events tag stands named rest.
-      let reported = reported_with _ s esi events tag false _ _ c.begin.new.self.tries c.answer.new.self.tries (ap (λ (v : Vm _). v.tries) c.in-Err-answer.ensures.err.1) (begun_reported (began g.met.E.ElementData.ids_of_changed c.new-ctx.ensures.item c.new-ctx.ensures.ns c.new-ctx.ensures.with_content c.in-Ok.ensures.begun) s esi events tag stands named c.in_default.is _ c.args.match_handler.now c.answer.new.match_handler c.in-Err-answer.ensures.reported) in
+      let reported = reported_with _ s esi events tag false _ _ c.begin.new.self.tries c.answer.new.self.tries c.answer.ensures.tries (begun_reported (began g.met.E.ElementData.ids_of_changed c.new-ctx.ensures.item c.new-ctx.ensures.ns c.new-ctx.ensures.with_content c.in-Ok.ensures.begun) s esi events tag stands named c.in_default.is _ c.args.match_handler.now c.answer.new.match_handler c.in-Err-answer.ensures.reported) in
       reported_if s esi events tag false _ _ _ reported.asks reported,
   λ due.
       let opens = not_false c.begin.new.ctx.with_content (λ closed. err_is_not_ok c.answer.result c.in-Err-answer.error c.in-Err-answer.is (c.answer.ensures.closed closed)) in

@@ -1,6 +1,6 @@
-use Rattle.std.proofs.Common.{◌≡◌, true, inr, refl, ap, sym, ◌∙◌, subst, Bool, List}
-use Rattle.std.specs.Result.{IfOk, IsOk, OnErr}
-use Rattle.std.proofs.lemmas.Result.{on_ok_weaker}
+use Rattle.std.proofs.Common.{◌≡◌, true, inr, refl, sym, ◌∙◌, subst, Bool, List}
+use Rattle.std.specs.Result.{IfOk, IsOk}
+use Rattle.std.proofs.lemmas.Result.{on_err_weaker}
 use Rattle.lol_base.specs.StartTags.{StartTag}
 use Rattle.lol_instructions.specs.Attributes.{tag_attributes}
 use Rattle.lol_instructions.specs.declared.tries.Tries.{Tries}
@@ -14,11 +14,11 @@ use Rattle.lol_vm.specs.Events.{Event, has_content}
 use Rattle.lol_vm.specs.InstructionRuns.{AreRunnable, NeedNoMemory}
 use Rattle.lol_vm.specs.TagRuns.{AreExecuted, AreWithin, IsPointIn, ranges_left, ranges_to_run_in, sight_in, tried_at}
 use Rattle.lol_vm.specs.TriedStarts.{left_at}
-use Rattle.lol_vm.specs.Vms.{IsFailedAs, IsPending, IsReported, IsRestOf, IsTriedAtMost, Vm, content_at}
+use Rattle.lol_vm.specs.Vms.{IsPending, IsReported, IsRestOf, IsTriedAtMost, content_at}
 use Rattle.lol_vm.proofs.FreeTags.{finished_closed, is_alone_free, is_closed_free, memory_instead, void_is_closed}
 use Rattle.lol_vm.proofs.TagRuns.{of_same}
 use Rattle.lol_vm.proofs.VmFinishes.{tried_at_most, has_reported, has_content_still, answered, can_finish}
-use Rattle.lol_vm.proofs.VmRefusals.{err_is_not_ok, not_false, reported_with, failed_opens_nothing, on_err_both, opens_nothing_both, same_opens_nothing}
+use Rattle.lol_vm.proofs.VmRefusals.{err_is_not_ok, not_false, reported_with, on_ok_both, opens_nothing_both, same_opens_nothing}
 use Rattle.lol_vm.proofs.vm.VmOf+Program+LocalName+StackNames+E.finish.Given as given
 use Rattle.lol_vm.proofs.vm.VmOf+Program+LocalName+StackNames+E.finish.Goals as goal
 
@@ -86,28 +86,24 @@ module _ (g : given.Over) (c : goal.After-answer g) (s : Selectors) (esi : Bool)
 
 pub returns-clause-answered : goal.returns-clause-answered
 returns-clause-answered g c =
-    on_ok_weaker c.answer.result
-    (λ entered s esi events tag pending rest. answered g.E.ElementData.ids c.args.self.now s esi events tag (left_at c.args.ctx c.args.point) pending g.E.ElementData.with_ids g.met.E.ElementData.ids_of_changed c.args.aux_info.self_closing
-    (sym rest.1) rest.2 c.complete.new.ctx c.complete.new.tries (executed g c s esi events tag pending rest) _ c.args.match_handler.now c.answer.new.match_handler c.answer.new.self c.answer.ensures.reported entered)
-    c.answer.ensures.ok
+    on_ok_both c.answer.result
+    (λ entered within s esi events tag pending rest. (
+      λ opens. within (content_is g c s esi events tag pending rest ∙ opens),
+      answered g.E.ElementData.ids c.args.self.now s esi events tag (left_at c.args.ctx c.args.point) pending g.E.ElementData.with_ids g.met.E.ElementData.ids_of_changed c.args.aux_info.self_closing
+          (sym rest.1) rest.2 c.complete.new.ctx c.complete.new.tries (executed g c s esi events tag pending rest) _ c.args.match_handler.now c.answer.new.match_handler c.answer.new.self c.answer.ensures.reported entered,
+    ))
+    c.answer.ensures.ok c.answer.ensures.within
 
 pub returns-clause-left : goal.returns-clause-left
 returns-clause-left g c =
-    on_err_both c.answer.result
-    (λ failed same. opens_nothing_both (same_opens_nothing c.args.self.now (record c.args.self.now { tries = c.complete.new.tries }) c.args.limiter.now refl refl refl) (failed_opens_nothing failed same))
-    c.answer.ensures.err c.answer.ensures.err_limiter
+    on_err_weaker c.answer.result (opens_nothing_both (same_opens_nothing c.args.self.now (record c.args.self.now { tries = c.complete.new.tries }) c.args.limiter.now refl refl refl)) c.answer.ensures.left
 
 pub returns-clause-limited : goal.returns-clause-limited
 returns-clause-limited g c = λ limit.
-    let failed = subst (λ r. OnErr r (IsFailedAs (record c.args.self.now { tries = c.complete.new.tries }) c.answer.new.self)) limit c.answer.ensures.err in
     let opens = c.answer.ensures.limited.0 limit in (
       opens.1,
-      λ s esi events tag pending rest.
-          (sym (content_is g c s esi events tag pending rest) ∙ opens.0, reported g c s esi events tag pending rest c.answer.new.self.tries (ap (λ (v : Vm _). v.tries) failed.1) _ _ _ c.answer.ensures.reported),
+      λ s esi events tag pending rest. (sym (content_is g c s esi events tag pending rest) ∙ opens.0, reported g c s esi events tag pending rest c.answer.new.self.tries c.answer.ensures.tries _ _ _ c.answer.ensures.reported),
     )
-
-pub returns-clause-unlimited : goal.returns-clause-unlimited
-returns-clause-unlimited g c = on_ok_weaker c.answer.result (λ un s esi events tag pending rest opens limited. un (content_is g c s esi events tag pending rest ∙ opens) limited) c.answer.ensures.unlimited
 
 pub returns-clause-free : goal.returns-clause-free
 returns-clause-free g c = λ s esi events tag pending takes.
