@@ -33,7 +33,12 @@ impl Model for LineReader {
 
     ghost Value = { ReadLines };
 
-    ghost view = { λ r. record { line = slice_range r.bytes.items r.start r.end; unread = drop r.next r.bytes.items; number = r.number; is_last = r.is_last } };
+    ghost view = { λ r. record {
+      line = slice_range r.bytes.items r.start r.end;
+      unread = drop r.next r.bytes.items;
+      number = r.number;
+      is_last = r.is_last;
+    } };
 
     ghost invariant = { λ r. (r.start ≤ r.end) × (r.end ≤ length r.bytes.items) × (r.next ≤ length r.bytes.items) };
 }
