@@ -92,7 +92,7 @@ pub(crate) fn compile_tests(
         ≡ (enable_nth_of_type.old || has_test_by_type (all_of (map test_shown tests.items)))) }
     ensures stays { IsTrue enable_nth_of_type.old → IsTrue enable_nth_of_type.new }
 {
-    let mut compiled = Vec::new(alloc);
+    let mut compiled = Vec::with_capacity(alloc, tests.len())?;
     for test in tests {
         compiled.push(compile_test(alloc, test, enable_nth_of_type)?)?;
     }
@@ -112,7 +112,7 @@ fn compile_predicates(
         ≡ (enable_nth_of_type.old || some_has_type (any_of (map tests_of predicates.items)))) }
     ensures stays { IsTrue enable_nth_of_type.old → IsTrue enable_nth_of_type.new }
 {
-    let mut compiled = Vec::new(alloc);
+    let mut compiled = Vec::with_capacity(alloc, predicates.len())?;
     for predicate in predicates {
         let tests = compile_tests(alloc, predicate.tests, enable_nth_of_type)?;
         compiled.push(CompiledPredicate::new(tests))?;

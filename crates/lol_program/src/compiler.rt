@@ -61,7 +61,7 @@ impl Compiler {
 fn noops(alloc: Global, count: usize) -> Result<Vec<Instruction>, AllocError>
     ensures { IfOk result (λ instructions. length instructions.items ≡ count) }
 {
-    let mut instructions = Vec::new(alloc);
+    let mut instructions = Vec::with_capacity(alloc, count)?;
     for _i in 0..count {
         instructions.push(Instruction::noop(alloc))?;
     }

@@ -48,7 +48,7 @@ impl Predicate {
     pub(crate) fn from_compound(alloc: Global, compound: &Compound) -> Result<Self, AllocError>
         ensures { IfOk result (λ predicate. tests_of predicate ≡ compound_tests (compound_of compound.now)) }
     {
-        let mut tests = Vec::new(alloc);
+        let mut tests = Vec::with_capacity(alloc, compound.parts.len())?;
         for part in compound.parts.iter().rev() {
             tests.push(Test::from_part(alloc, part)?)?;
         }
@@ -64,7 +64,7 @@ impl Predicate {
             [] => &item.first,
             [.., (_, last)] => last,
         };
-        let mut tests = Vec::new(alloc);
+        let mut tests = Vec::with_capacity(alloc, compound.parts.len())?;
         for part in &compound.parts {
             tests.push(Test::from_part(alloc, part)?)?;
         }
@@ -135,7 +135,7 @@ impl Test {
 fn predicates_of(alloc: Global, list: &SelectorList) -> Result<Vec<Predicate>, AllocError>
     ensures { IfOk result (λ predicates. any_of (map tests_of predicates.items) ≡ items_compounds (list_of list.now)) }
 {
-    let mut predicates = Vec::new(alloc);
+    let mut predicates = Vec::with_capacity(alloc, list.items.len())?;
     for item in &list.items {
         predicates.push(Predicate::from_item(alloc, item)?)?;
     }
