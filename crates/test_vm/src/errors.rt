@@ -78,40 +78,34 @@ fn are_passed_on(rt: HostRuntime) -> Result<(), Fail> {
     Ok(())
 }
 
+const MANY: &str = "an element has as many children as can be counted";
+
+const FAILED: &str = "an earlier start tag was refused: no other is answered";
+
 #[test]
-fn say_what_happened(rt: HostRuntime) -> Result<(), Fail> {
+fn say_why_a_start_tag_was_refused(rt: HostRuntime) -> Result<(), Fail> {
     let alloc = rt.alloc();
     let full: VmError<Numbered> = VmError::CounterFull;
     let failed: VmError<Numbered> = VmError::Failed;
-    let many = "an element has as many children as can be counted";
-    says(&rt, alloc, &full, many)?;
-    says(&rt, alloc, &AddChildError::CounterFull, many)?;
-    says(
-        &rt,
-        alloc,
-        &failed,
-        "an earlier start tag was refused: no other is answered",
-    )?;
-    says(&rt, alloc, &StartTagError::CounterFull, many)?;
+    let limit = "the memory limit would have been passed";
+    says(&rt, alloc, &full, MANY)?;
+    says(&rt, alloc, &AddChildError::CounterFull, MANY)?;
+    says(&rt, alloc, &failed, FAILED)?;
+    says(&rt, alloc, &StartTagError::CounterFull, MANY)?;
     says(&rt, alloc, &StartTagError::Memory, "out of memory")?;
-    says(
-        &rt,
-        alloc,
-        &StartTagError::MemoryLimitExceeded,
-        "the memory limit would have been passed",
-    )?;
-    says(
-        &rt,
-        alloc,
-        &StartTagError::Failed,
-        "an earlier start tag was refused: no other is answered",
-    )?;
-    says(&rt, alloc, &RunCause::Memory, "out of memory")?;
+    says(&rt, alloc, &StartTagError::MemoryLimitExceeded, limit)?;
+    says(&rt, alloc, &StartTagError::Failed, FAILED)
+}
+
+#[test]
+fn say_which_event_was_refused(rt: HostRuntime) -> Result<(), Fail> {
+    let alloc = rt.alloc();
     let refusal = RunRefusal {
         reports: Vec::new(alloc),
         event: 7,
         cause: RunCause::CounterFull,
     };
+    says(&rt, alloc, &RunCause::Memory, "out of memory")?;
     says(
         &rt,
         alloc,
