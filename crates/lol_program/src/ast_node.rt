@@ -43,6 +43,8 @@ fn fresh_node(alloc: Global, predicate: Predicate) -> AstNode
 }
 
 /// The place of the node with the tests of a compound, whose key in the list is `key`. It is made last where there is none.
+// Inlined into `add_path`, it would make each step of that recursion take more of the stack.
+#[inline(never)]
 fn place_for(
     index: &mut NodeIndex,
     nodes: &mut Vec<AstNode>,

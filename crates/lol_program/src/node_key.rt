@@ -29,6 +29,8 @@ pub(crate) fn list_under(combinator: Combinator, key: u64) -> u64
 }
 
 /// The key of the node with the tests of a compound in a list.
+// Inlined into `add_path`, it would make each step of that recursion take more of the stack.
+#[inline(never)]
 pub(crate) fn node_key(list: u64, compound: &Compound) -> u64
     ensures { result ≡ keys.node_key list (tests_of_compound compound.now) }
 {
