@@ -185,6 +185,8 @@ fn read_to_line_feed<R: Read>(
 ///
 /// # Errors
 /// `Read` where a read failed; `Memory` where the bytes can't be counted any more, so that a reader that never ends is answered.
+// Inlined, its 64 KB would stand on the stack below all that is read before.
+#[inline(never)]
 pub fn read_to_end<R: Read>(reader: &mut Counted<R>) -> Result<(), RunFault>
     requires { failures_of reader.old < u64.MAX }
     ensures end { OnOk result ((more : List ℕ)
