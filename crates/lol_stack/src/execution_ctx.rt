@@ -68,6 +68,7 @@ impl<'i, E: ElementData> ExecutionCtx<'i, E> {
     }
 
     /// Calls the handler with each id that was gathered, in ascending order. It takes no memory.
+    #[inline(always)]
     pub fn handle_matched_ids<F: FnMut(MatchInfo)>(&mut self, handler: &mut F)
         requires { F.IsAlwaysCallable handler.old }
         ensures again { F.IsAlwaysCallable handler.new }

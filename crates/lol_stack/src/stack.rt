@@ -143,6 +143,7 @@ impl<E> StackOf<LocalName<'static>, StackNames, E> {
     /// Counts a child of this name of the last open element, or of the root. It answers `CounterFull` exactly if the parent's counter is
     /// full, and `Memory` only where the memory for a counter by type isn't there: never where children aren't counted by type. Refused,
     /// nothing has changed.
+    #[inline(always)]
     pub fn add_child(&mut self, name: &LocalName<'_>) -> Result<(), AddChildError>
         ensures ok { OnOk result (self.new ≡ counted_in self.old name.now) }
         ensures slots { KeepsSlots self.old self.new }
@@ -163,6 +164,7 @@ impl<E> StackOf<LocalName<'static>, StackNames, E> {
     }
 
     /// The counters that a child of this name, once it is counted, is tested by. It takes no memory.
+    #[inline(always)]
     pub fn build_state<'s, 'i: 's>(&'s self, name: &LocalName<'i>) -> SelectorState<'s>
         ensures cumulative { result.cumulative.now ≡ last_count self.now }
         ensures typed { option_copied result.typed ≡ typed_count self.now name.now }
@@ -176,6 +178,7 @@ impl<E> StackOf<LocalName<'static>, StackNames, E> {
     /// Opens an element: it comes last, and the slots that are wanted are charged. It is refused with `Limit` exactly if these can't be
     /// charged, which is judged before any memory is taken, and with `Memory` only where memory isn't there. Refused, stack and limiter
     /// are as before, and the element is dropped.
+    #[inline(always)]
     pub fn push_item(
         &mut self,
         item: StackItem<'static, E>,
@@ -284,6 +287,7 @@ impl<E> StackOf<LocalName<'static>, StackNames, E> {
     }
 
     /// What becomes of an element by its name and namespace, before it is known whether its tag closes itself. It takes no memory.
+    #[inline(always)]
     pub fn get_stack_directive(
         item: &StackItem<'_, E>,
         ns: Namespace,
