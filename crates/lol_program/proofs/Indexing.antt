@@ -1,7 +1,8 @@
 -- Nodes beside the index that has their keys.
-use Rattle.std.proofs.Common.{ℕ, zero, suc, ◌≡◌, ◌<◌, inl, inr, arith, ◌++◌, map, get_or, length, List, [], ◌∷◌, ap, sym, subst, ◌∙◌}
+use Rattle.std.proofs.Math.Decide.{dec_le}
+use Rattle.std.proofs.Common.{ℕ, zero, suc, ◌+◌, ◌≡◌, ◌≢◌, ◌<◌, ◌≤◌, inl, inr, arith, ◌++◌, map, get_or, length, take, List, [], ◌∷◌, ap, sym, subst, ◌∙◌}
 use Rattle.std.specs.Prelude.{slice_set}
-use Rattle.std.proofs.lemmas.List.{get_or-map, map-set, length-map}
+use Rattle.std.proofs.lemmas.List.{get_or-map, get_or-take, map-set, map-append, length-map, length-take}
 use Rattle.std.proofs.Math.Seq.{get_or-append_seam}
 use Rattle.lol_css.specs.declared.selector.Combinator.{Combinator}
 use Rattle.lol_css.specs.declared.selector.Combinator.TheVariants.{Child, Descendant}
@@ -11,7 +12,7 @@ use Rattle.lol_program.specs.Growth.{fresh, grown_under}
 use Rattle.lol_program.specs.Places.{IsPlace, HasPlace, IsNowhere}
 use Rattle.lol_program.specs.Views.{node_of, forest_of, linked}
 use Rattle.lol_program.specs.NodeKeys.{node_key, list_under}
-use Rattle.lol_program.specs.Indexed.{HasKey, KeepsKeys, IsIndexed}
+use Rattle.lol_program.specs.Indexed.{HasKey, KeepsKeys, few, IsListed, IsIndexedFrom, IsIndexed}
 use Rattle.lol_program.specs.declared.node_index.NodeIndex.{NodeIndex}
 use Rattle.lol_program.specs.declared.ast_node.AstNode.{AstNode}
 use Rattle.lol_program.specs.declared.ast_node.AstNode.TheOpen.{AstNode-F}
@@ -41,64 +42,80 @@ place_from_differ c nodes i differ within here = record { within = within; here 
         differ.0 (subst (λ (e : Compound). HasTop e (linked nodes)) (sym is) (top_at c nodes i d (omega (arith, within)) (here d)))
     apart (n ∷ nodes) (suc i) differ within here (suc k) d below is = apart nodes i differ.1.1.1 (omega (arith, within)) (λ e. here e) k d (omega (arith, below)) is
 
+-- at the first n of them, and at all
+module _ (c : Compound) (nodes : List Node) (n : ℕ) where
+  within_both : (i : ℕ) → i < length (take n nodes) → (i < n) × (i < length nodes)
+  within_both i within = let e = length-take n nodes in (omega (arith, e, within), omega (arith, e, within))
+
+  pub place_among_first : (i : ℕ) → IsPlace c (take n nodes) i → IsPlace c nodes i
+  place_among_first i p =
+      let within = within_both i p.within in record {
+        within = within.1;
+        here = λ d. sym (ap (λ (m : Node). m.compound) (get_or-take n nodes i d within.0)) ∙ p.here d;
+        before = λ k d below is. p.before k d below (ap (λ (m : Node). m.compound) (get_or-take n nodes k d (omega (arith, below, within.0))) ∙ is);
+      }
+
+  pub nowhere_after_first : n ≤ length nodes → IsNowhere c (take n nodes) → ((k : ℕ) (d : Node) → n ≤ k → k < length nodes → (get_or nodes k d).compound ≢ c) → IsNowhere c nodes
+  nowhere_after_first long first after k d within is = elim (dec_le n k) [
+    | yes h ↦ after k d h within is
+    | no h ↦ first k d (let e = length-take n nodes in omega (arith, e, h, long)) (ap (λ (m : Node). m.compound) (get_or-take n nodes k d (omega (arith, h))) ∙ is)
+  ]
+
 -- 2. Keys of forests
 
-pub top_has_key : (index : NodeIndex) (list : ℕ) (c : Compound) (f : Forest) → IsIndexed index list f → HasTop c f → HasKey index (node_key list c)
-top_has_key index list c none indexed top = absurd top
-top_has_key index list c (more d ids children descendants rest) indexed (inl is) = subst (λ (e : Compound). HasKey index (node_key list e)) is indexed.0
-top_has_key index list c (more d ids children descendants rest) indexed (inr top) = top_has_key index list c rest indexed.1.1.1 top
+pub indexed_grows : (old new : NodeIndex) → KeepsKeys old new → (list place : ℕ) (f : Forest) → IsIndexedFrom old list place f → IsIndexedFrom new list place f
+indexed_grows old new keeps list place none indexed = tt
+indexed_grows old new keeps list place (more c ids children descendants rest) indexed = (
+  λ many. keeps (node_key list c) (indexed.0 many),
+  (
+    indexed_grows old new keeps (list_under list place Child) 0 children indexed.1.0,
+    (
+      indexed_grows old new keeps (list_under list place Descendant) 0 descendants indexed.1.1.0,
+      indexed_grows old new keeps list (place + 1) rest indexed.1.1.1,
+    ),
+  ),
+)
 
-pub indexed_grows : (old new : NodeIndex) → KeepsKeys old new → (list : ℕ) (f : Forest) → IsIndexed old list f → IsIndexed new list f
-indexed_grows old new keeps list none indexed = tt
-indexed_grows old new keeps list (more c ids children descendants rest) indexed =
-    let key = node_key list c in (
-      keeps key indexed.0,
-      (
-        indexed_grows old new keeps (list_under Child key) children indexed.1.0,
-        (indexed_grows old new keeps (list_under Descendant key) descendants indexed.1.1.0, indexed_grows old new keeps list rest indexed.1.1.1),
-      ),
-    )
-
--- the key of the node with these tests, and those of the nodes under it
-abbrev pub IsIndexedUnder : NodeIndex → ℕ → Compound → Node → Type 0
-IsIndexedUnder index list c n =
-    IsIndexed index (list_under Child (node_key list c)) n.children × IsIndexed index (list_under Descendant (node_key list c)) n.descendants
+-- the nodes under the node at a place of a list
+abbrev pub IsIndexedUnder : NodeIndex → ℕ → ℕ → Node → Type 0
+IsIndexedUnder index list place n = IsIndexed index (list_under list place Child) n.children × IsIndexed index (list_under list place Descendant) n.descendants
 
 module _ (index : NodeIndex) (list : ℕ) where
-  indexed_last : (c : Compound) (nodes : List Node) → IsIndexed index list (linked nodes) → HasKey index (node_key list c) → IsIndexed index list (linked (nodes ++ fresh c ∷ []))
-  indexed_last c [] indexed key = (key, (tt, (tt, tt)))
-  indexed_last c (n ∷ nodes) indexed key = (indexed.0, (indexed.1.0, (indexed.1.1.0, indexed_last c nodes indexed.1.1.1 key)))
+  listed_at : (place : ℕ) (nodes : List Node) (i at : ℕ) (d : Node) → i < length nodes → at ≡ place + i → IsIndexedFrom index list place (linked nodes) → IsListed index list at (get_or nodes i d).compound
+  listed_at place [] i at d within is indexed = absurd (omega (arith, within))
+  listed_at place (n ∷ nodes) zero at d within is indexed = λ many. indexed.0 (omega (arith, many, is))
+  listed_at place (n ∷ nodes) (suc i) at d within is indexed = listed_at (place + 1) nodes i at d (omega (arith, within)) (omega (arith, is)) indexed.1.1.1
 
-  -- after a node is found or made
-  indexed_place : (c : Compound) (old mid : List Node) (i : ℕ) → HasPlace c old mid i → IsIndexed index list (linked old) → HasKey index (node_key list c) → IsIndexed index list (linked mid)
-  indexed_place c old mid i (inl h) indexed key = subst (λ (ns : List Node). IsIndexed index list (linked ns)) (sym h.0) indexed
-  indexed_place c old mid i (inr h) indexed key = subst (λ (ns : List Node). IsIndexed index list (linked ns)) (sym h.0) (indexed_last c old indexed key)
+  -- a node that has few siblings before it has its key
+  pub key_at : (nodes : List Node) (i : ℕ) (d : Node) (c : Compound) → few ≤ i → i < length nodes → (get_or nodes i d).compound ≡ c → IsIndexed index list (linked nodes) → HasKey index (node_key list c)
+  key_at nodes i d c many within is indexed = subst (λ (e : Compound). HasKey index (node_key list e)) is (listed_at 0 nodes i i d within (omega arith) indexed many)
 
-  indexed_at : (nodes : List Node) (i : ℕ) (d : Node) → i < length nodes → IsIndexed index list (linked nodes) → IsIndexedUnder index list (get_or nodes i d).compound (get_or nodes i d)
-  indexed_at [] i d within indexed = absurd (omega (arith, within))
-  indexed_at (n ∷ nodes) zero d within indexed = (indexed.1.0, indexed.1.1.0)
-  indexed_at (n ∷ nodes) (suc i) d within indexed = indexed_at nodes i d (omega (arith, within)) indexed.1.1.1
+  indexed_last : (place : ℕ) (c : Compound) (nodes : List Node) (at : ℕ) → at ≡ place + length nodes → IsIndexedFrom index list place (linked nodes) → IsListed index list at c
+      → IsIndexedFrom index list place (linked (nodes ++ fresh c ∷ []))
+  indexed_last place c [] at is indexed listed = (λ many. listed (omega (arith, many, is)), (tt, (tt, tt)))
+  indexed_last place c (n ∷ nodes) at is indexed listed = (indexed.0, (indexed.1.0, (indexed.1.1.0, indexed_last (place + 1) c nodes at (omega (arith, is)) indexed.1.1.1 listed)))
 
-  indexed_set : (nodes : List Node) (i : ℕ) (d m : Node) → i < length nodes → IsIndexed index list (linked nodes) → m.compound ≡ (get_or nodes i d).compound → IsIndexedUnder index list m.compound m
-      → IsIndexed index list (linked (slice_set nodes i m))
-  indexed_set [] i d m within indexed same under = absurd (omega (arith, within))
-  indexed_set (n ∷ nodes) zero d m within indexed same under =
-      (subst (λ (e : Compound). HasKey index (node_key list e)) (sym same) indexed.0, (under.0, (under.1, indexed.1.1.1)))
-  indexed_set (n ∷ nodes) (suc i) d m within indexed same under =
-      (indexed.0, (indexed.1.0, (indexed.1.1.0, indexed_set nodes i d m (omega (arith, within)) indexed.1.1.1 same under)))
+  indexed_at : (place : ℕ) (nodes : List Node) (i at : ℕ) (d : Node) → i < length nodes → at ≡ place + i → IsIndexedFrom index list place (linked nodes) → IsIndexedUnder index list at (get_or nodes i d)
+  indexed_at place [] i at d within is indexed = absurd (omega (arith, within))
+  indexed_at place (n ∷ nodes) zero at d within is indexed = subst (λ (k : ℕ). IsIndexedUnder index list k n) (let e : place ≡ at = omega (arith, is) in e) (indexed.1.0, indexed.1.1.0)
+  indexed_at place (n ∷ nodes) (suc i) at d within is indexed = indexed_at (place + 1) nodes i at d (omega (arith, within)) (omega (arith, is)) indexed.1.1.1
 
--- an index with more keys, after a node is found or made
-pub indexed_after : (before index : NodeIndex) (list key : ℕ) (c : Compound) (old mid : List Node) (i : ℕ) → KeepsKeys before index → HasPlace c old mid i → key ≡ node_key list c → HasKey index key → IsIndexed before list (linked old)
-    → IsIndexed index list (linked mid)
-indexed_after before index list key c old mid i keeps h is has indexed =
-    indexed_place index list c old mid i h (indexed_grows before index keeps list (linked old) indexed) (subst (HasKey index) is has)
+  indexed_set : (place : ℕ) (nodes : List Node) (i at : ℕ) (d m : Node) → i < length nodes → at ≡ place + i → IsIndexedFrom index list place (linked nodes) → m.compound ≡ (get_or nodes i d).compound → IsIndexedUnder index list at m
+      → IsIndexedFrom index list place (linked (slice_set nodes i m))
+  indexed_set place [] i at d m within is indexed same under = absurd (omega (arith, within))
+  indexed_set place (n ∷ nodes) zero at d m within is indexed same under =
+      let here : IsIndexedUnder index list place m = subst (λ (k : ℕ). IsIndexedUnder index list k m) (let e : at ≡ place = omega (arith, is) in e) under in
+      (subst (λ (e : Compound). IsListed index list place e) (sym same) indexed.0, (here.0, (here.1, indexed.1.1.1)))
+  indexed_set place (n ∷ nodes) (suc i) at d m within is indexed same under =
+      (indexed.0, (indexed.1.0, (indexed.1.1.0, indexed_set (place + 1) nodes i at d m (omega (arith, within)) (omega (arith, is)) indexed.1.1.1 same under)))
+
+  -- after a node is made
+  pub indexed_push : (nodes : List AstNode) (n : AstNode) (c : Compound) (place : ℕ) → node_of n ≡ fresh c → place ≡ length nodes → IsIndexed index list (forest_of nodes) → IsListed index list place c → IsIndexed index list (forest_of (nodes ++ n ∷ []))
+  indexed_push nodes n c place is last indexed listed =
+      subst (λ (ns : List Node). IsIndexed index list (linked ns)) (sym (map-append node_of nodes (n ∷ []) ∙ ap (λ (m : Node). map node_of nodes ++ m ∷ []) is))
+      (indexed_last 0 c (map node_of nodes) place (omega (arith, last, length-map nodes node_of)) indexed listed)
 
 -- 3. At the node that was found or made
-
-compound_found : (c : Compound) (old mid : List Node) (i : ℕ) (d : Node) → HasPlace c old mid i → (get_or mid i d).compound ≡ c
-compound_found c old mid i d (inl h) = ap (λ (ns : List Node). (get_or ns i d).compound) h.0 ∙ h.1.here d
-compound_found c old mid i d (inr h) =
-    ap (λ (ns : List Node). (get_or ns i d).compound) h.0 ∙ ap (λ (k : ℕ). (get_or (old ++ fresh c ∷ []) k d).compound) h.1 ∙ ap (λ (n : Node). n.compound) (get_or-append_seam old (fresh c) [] d)
 
 differ_at : (nodes : List Node) (i : ℕ) (d : Node) → i < length nodes → SiblingsDiffer (linked nodes) → SiblingsDiffer (get_or nodes i d).children × SiblingsDiffer (get_or nodes i d).descendants
 differ_at [] i d within differ = absurd (omega (arith, within))
@@ -123,28 +140,20 @@ module _ (c : Compound) (old mid : List AstNode) (i : ℕ) (n : AstNode) (h : Ha
   pub differ_under : SiblingsDiffer (forest_of old) → DifferUnder (shape (out-AstNode n))
   differ_under differ = subst DifferUnder found (differ_found c (map node_of old) (map node_of mid) i (node_of n) h differ)
 
-  pub indexed_under : (index : NodeIndex) (list : ℕ) → IsIndexed index list (forest_of mid) → IsIndexedUnder index list c (shape (out-AstNode n))
-  indexed_under index list indexed =
-      subst (IsIndexedUnder index list c) found
-      (subst (λ (e : Compound). IsIndexedUnder index list e (get_or (map node_of mid) i (node_of n))) (compound_found c (map node_of old) (map node_of mid) i (node_of n) h)
-      (indexed_at index list (map node_of mid) i (node_of n) within indexed))
+  pub indexed_under : (index : NodeIndex) (list : ℕ) → IsIndexed index list (forest_of mid) → IsIndexedUnder index list i (shape (out-AstNode n))
+  indexed_under index list indexed = subst (IsIndexedUnder index list i) found (indexed_at index list 0 (map node_of mid) i i (node_of n) within (omega arith) indexed)
 
   -- and it is changed
-  pub set_indexed : (index : NodeIndex) (list : ℕ) (x : AstNode-F AstNode) → IsIndexed index list (forest_of mid) → (shape x).compound ≡ (shape (out-AstNode n)).compound → IsIndexedUnder index list c (shape x)
+  pub set_indexed : (index : NodeIndex) (list : ℕ) (x : AstNode-F AstNode) → IsIndexed index list (forest_of mid) → (shape x).compound ≡ (shape (out-AstNode n)).compound → IsIndexedUnder index list i (shape x)
       → IsIndexed index list (forest_of (slice_set mid i (roll-AstNode x)))
   set_indexed index list x indexed same under =
       let there : (shape x).compound ≡ (get_or (map node_of mid) i (node_of n)).compound = same ∙ ap (λ (m : Node). m.compound) (sym found) in
-      let is : (shape x).compound ≡ c = there ∙ compound_found c (map node_of old) (map node_of mid) i (node_of n) h in
       let e : map node_of (slice_set mid i (roll-AstNode x)) ≡ slice_set (map node_of mid) i (shape x) = map-set node_of mid i (roll-AstNode x) ∙ ap (λ y. slice_set (map node_of mid) i y) (node_roll x) in
-      subst (λ (ns : List Node). IsIndexed index list (linked ns)) (sym e)
-      (indexed_set index list (map node_of mid) i (node_of n) (shape x) within indexed there (subst (λ (k : Compound). IsIndexedUnder index list k (shape x)) (sym is) under))
+      subst (λ (ns : List Node). IsIndexed index list (linked ns)) (sym e) (indexed_set index list 0 (map node_of mid) i i (node_of n) (shape x) within (omega arith) indexed there under)
 
 -- 4. What is asked for where a path goes on
 
-pub is_next_list : (list key next : ℕ) (c : Compound) (step s : Combinator) → key ≡ node_key list c → next ≡ list_under s key → s ≡ step → next ≡ list_under step (node_key list c)
-is_next_list list key next c step s is-key is-next is = is-next ∙ ap (λ (t : Combinator). list_under t key) is ∙ ap (list_under step) is-key
-
-pub next_asks : (index : NodeIndex) (list next : ℕ) (c : Compound) (n : Node) (step : Combinator) → next ≡ list_under step (node_key list c) → IsIndexedUnder index list c n → DifferUnder n
+pub next_asks : (index : NodeIndex) (list next place : ℕ) (n : Node) (step : Combinator) → next ≡ list_under list place step → IsIndexedUnder index list place n → DifferUnder n
     → IsIndexed index next (grown_under step n) × SiblingsDiffer (grown_under step n)
-next_asks index list next c n Child is indexed differ = (subst (λ (l : ℕ). IsIndexed index l n.children) (sym is) indexed.0, differ.0)
-next_asks index list next c n Descendant is indexed differ = (subst (λ (l : ℕ). IsIndexed index l n.descendants) (sym is) indexed.1, differ.1)
+next_asks index list next place n Child is indexed differ = (subst (λ (l : ℕ). IsIndexed index l n.children) (sym is) indexed.0, differ.0)
+next_asks index list next place n Descendant is indexed differ = (subst (λ (l : ℕ). IsIndexed index l n.descendants) (sym is) indexed.1, differ.1)

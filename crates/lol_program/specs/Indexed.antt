@@ -1,10 +1,11 @@
--- That an index has the key of each node.
+-- That an index has the key of each node but for the first few of each list.
 use Rattle.std.specs.Coded.{×_prop, Unit-prop}
-use Rattle.std.specs.Prelude.{ℕ, IsSome}
+use Rattle.std.specs.Prelude.{ℕ, ◌+◌, ◌≤◌, IsSome}
 use Rattle.std.specs.Ordering.{nat_cmp}
 use Rattle.std.specs.BTreeMap.{get}
 use mathlib.Core.Bool.{Bool-set}
 use Rattle.lol_css.specs.declared.selector.Combinator.TheVariants.{Child, Descendant}
+use Rattle.lol_instructions.specs.Compounds.{Compound}
 use Rattle.lol_program.specs.Forest.{Forest, none, more}
 use Rattle.lol_program.specs.NodeKeys.{root_list, node_key, list_under}
 use Rattle.lol_program.specs.declared.node_index.NodeIndex.{NodeIndex}
@@ -15,26 +16,39 @@ HasKey index key = IsSome (get nat_cmp index.places key)
 abbrev pub KeepsKeys : NodeIndex → NodeIndex → Type 0
 KeepsKeys old new = (key : ℕ) → HasKey old key → HasKey new key
 
--- The key of each tree's root in a list, and those of the nodes under it.
+-- How many nodes of each list need no key.
+abbrev pub few : ℕ
+few = 32
+
+-- The node with these tests at a place of a list has its key there, from place `few` on.
+abbrev pub IsListed : NodeIndex → ℕ → ℕ → Compound → Type 0
+IsListed index list place compound = few ≤ place → HasKey index (node_key list compound)
+
+-- Each of these trees' roots, which stand from a place of a list on, is listed, and so are the nodes under it.
+abbrev pub IsIndexedFrom : NodeIndex → ℕ → ℕ → Forest → Type 0
+IsIndexedFrom index list place none = Unit {0}
+IsIndexedFrom index list place (more compound ids children descendants rest) =
+    IsListed index list place compound
+    × (IsIndexedFrom index (list_under list place Child) 0 children
+    × (IsIndexedFrom index (list_under list place Descendant) 0 descendants × IsIndexedFrom index list (place + 1) rest))
+
+-- Each node of a list is listed, and so are those under it.
 abbrev pub IsIndexed : NodeIndex → ℕ → Forest → Type 0
-IsIndexed index list none = Unit {0}
-IsIndexed index list (more compound ids children descendants rest) =
-    let key = node_key list compound in
-    HasKey index key
-    × (IsIndexed index (list_under Child key) children
-    × (IsIndexed index (list_under Descendant key) descendants × IsIndexed index list rest))
+IsIndexed index list f = IsIndexedFrom index list 0 f
 
-pub IsIndexed-prop : (index : NodeIndex) (list : ℕ) (f : Forest) → IsProp (IsIndexed index list f)
-IsIndexed-prop index list none = Unit-prop
-IsIndexed-prop index list (more compound ids children descendants rest) =
-    let key = node_key list compound in
-    ×_prop (Bool-set _ _)
-    (×_prop (IsIndexed-prop index (list_under Child key) children)
-    (×_prop (IsIndexed-prop index (list_under Descendant key) descendants) (IsIndexed-prop index list rest)))
+IsListed-prop : (index : NodeIndex) (list place : ℕ) (compound : Compound) → IsProp (IsListed index list place compound)
+IsListed-prop index list place compound f g = λ i many. Bool-set _ _ (f many) (g many) i
 
--- The keys of all nodes of a tree.
+IsIndexedFrom-prop : (index : NodeIndex) (list place : ℕ) (f : Forest) → IsProp (IsIndexedFrom index list place f)
+IsIndexedFrom-prop index list place none = Unit-prop
+IsIndexedFrom-prop index list place (more compound ids children descendants rest) =
+    ×_prop (IsListed-prop index list place compound)
+    (×_prop (IsIndexedFrom-prop index (list_under list place Child) 0 children)
+    (×_prop (IsIndexedFrom-prop index (list_under list place Descendant) 0 descendants) (IsIndexedFrom-prop index list (place + 1) rest)))
+
+-- Each node of a tree is listed.
 abbrev pub IsIndexOf : NodeIndex → Forest → Type 0
 IsIndexOf index trees = IsIndexed index root_list trees
 
 pub IsIndexOf-prop : (index : NodeIndex) (trees : Forest) → IsProp (IsIndexOf index trees)
-IsIndexOf-prop index trees = IsIndexed-prop index root_list trees
+IsIndexOf-prop index trees = IsIndexedFrom-prop index root_list 0 trees

@@ -80,10 +80,14 @@ abbrev mutual
 abbrev pub root_list : ℕ
 root_list = 0
 
--- the list of the nodes by a step under the node with a key
-abbrev pub list_under : Combinator → ℕ → ℕ
-list_under Child key = key
-list_under Descendant key = bit_xor key 1
+-- the node at a place of a list
+abbrev pub place_key : ℕ → ℕ → ℕ
+place_key list place = sip.finish (fold sip.write (fold sip.write sip.initial (fed.u64 list)) (fed.usize place))
+
+-- the list of the nodes by a step under it
+abbrev pub list_under : ℕ → ℕ → Combinator → ℕ
+list_under list place Child = place_key list place
+list_under list place Descendant = bit_xor (place_key list place) 1
 
 -- the node with these tests in a list
 abbrev pub node_key : ℕ → Compound → ℕ

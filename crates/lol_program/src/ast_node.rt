@@ -3,15 +3,15 @@
 ghost use Rattle.std.specs.Prelude.{ℕ, ◌≡◌, ◌+◌, ◌↔◌, IsTrue, IfOk, OnOk, OnErr, IsOk, IfSome, IfNone, [], ◌∷◌, map};
 ghost use Rattle.lol_program.specs.Predicates.{tests_of};
 ghost use Rattle.lol_program.specs.Views.{node_of, linked, forest_of, tests_of_compound, steps_of};
-ghost use Rattle.lol_program.specs.Forest.{size, HasTop, SiblingsDiffer};
-ghost use Rattle.lol_program.specs.Indexed.{HasKey, IsIndexed, KeepsKeys};
+ghost use Rattle.lol_program.specs.Forest.{size, SiblingsDiffer};
+ghost use Rattle.lol_program.specs.Indexed.{IsIndexed, KeepsKeys};
 ghost use Rattle.lol_program.specs.Growth.{fresh, Adds, AddsFirst, StandsWith};
 ghost use Rattle.lol_program.specs.IdsForNodes.{id_in, Fits, HasRoomAmong};
-ghost use Rattle.lol_program.specs.Places.{IsPlace, HasPlace, IsNowhere};
+ghost use Rattle.lol_program.specs.Places.{HasPlace, IsNowhere};
 
 use crate::id_for_node::IdForNode;
 use crate::node_index::NodeIndex;
-use crate::node_key::{list_under, node_key};
+use crate::node_key::list_under;
 use crate::predicate::Predicate;
 use lol_css::{Combinator, Compound};
 use lol_memory::{DenseHashSet, MatchId};
@@ -42,16 +42,16 @@ fn fresh_node(alloc: Global, predicate: Predicate) -> AstNode
     }
 }
 
-/// The place of the node with the tests of a compound, whose key in the list is `key`. It is made last where there is none.
+/// The place of the node with the tests of a compound, in the list with the key `list`. It is made last where there is none.
 // Inlined into `add_path`, it would make each step of that recursion take more of the stack.
 #[inline(never)]
 fn place_for(
     index: &mut NodeIndex,
     nodes: &mut Vec<AstNode>,
-    key: u64,
+    list: u64,
     compound: &Compound,
 ) -> Result<usize, AllocError>
-    requires listed { HasTop (tests_of_compound compound.now) (forest_of nodes.old.items) → HasKey index.old key }
+    requires indexed { IsIndexed index.old list (forest_of nodes.old.items) }
     requires differ { SiblingsDiffer (forest_of nodes.old.items) }
     ensures place { IfOk result
         (HasPlace (tests_of_compound compound.now) (map node_of nodes.old.items) (map node_of nodes.new.items)) }
@@ -59,10 +59,10 @@ fn place_for(
     ensures unchanged { OnErr result (nodes.new.items ≡ nodes.old.items) }
     ensures count { index.new.node_count + size (forest_of nodes.old.items)
         ≡ index.old.node_count + size (forest_of nodes.new.items) }
-    ensures key { OnOk result (HasKey index.new key) }
+    ensures indexed { IsIndexed index.new list (forest_of nodes.new.items) }
     ensures keeps { KeepsKeys index.old index.new }
 {
-    if let Some(place) = index.place_of(nodes, key, compound) {
+    if let Some(place) = index.place_of(nodes, list, compound) {
         return Ok(place);
     }
     let Some(more) = index.node_count.checked_add(1) else {
@@ -70,7 +70,7 @@ fn place_for(
     };
     let place = nodes.len();
     let predicate = Predicate::from_compound(index.alloc, compound)?;
-    index.insert(key, place)?;
+    index.insert(list, place, compound)?;
     nodes.push(fresh_node(index.alloc, predicate))?;
     index.node_count = more;
     Ok(place)
@@ -99,13 +99,12 @@ pub(crate) fn add_path(
     ensures indexed { IsIndexed index.new list (forest_of nodes.new.items) }
     ensures keeps { KeepsKeys index.old index.new }
 {
-    let key = node_key(list, first);
-    let place = place_for(index, nodes, key, first)?;
+    let place = place_for(index, nodes, list, first)?;
     let node = &mut nodes[place];
     match rest.split_first() {
         None => id.add_to(&mut node.match_ids),
         Some(((combinator, compound), rest)) => {
-            let list = list_under(*combinator, key);
+            let list = list_under(list, place, *combinator);
             match combinator {
                 Combinator::Child => add_path(index, &mut node.children, list, compound, rest, id),
                 Combinator::Descendant => {
@@ -130,15 +129,14 @@ pub(crate) fn has_room(
     ensures { IsTrue result
         ↔ StandsWith (HasRoomAmong id) (tests_of_compound first.now) (steps_of rest.now) (forest_of nodes.now) }
 {
-    let key = node_key(list, first);
-    let Some(place) = index.place_of(nodes, key, first) else {
+    let Some(place) = index.place_of(nodes, list, first) else {
         return false;
     };
     let node = &nodes[place];
     match rest.split_first() {
         None => node.match_ids.has_room(id),
         Some(((combinator, compound), rest)) => {
-            let list = list_under(*combinator, key);
+            let list = list_under(list, place, *combinator);
             match combinator {
                 Combinator::Child => has_room(index, &node.children, list, compound, rest, id),
                 Combinator::Descendant => {

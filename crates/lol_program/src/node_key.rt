@@ -1,4 +1,4 @@
-//! The keys by which nodes are found: hashes of the compounds on the way to them.
+//! The keys by which nodes are found: hashes of their tests, and of the places of the nodes above them.
 
 ghost use Rattle.std.specs.Prelude.{◌≡◌, IfSome};
 ghost use Rattle.lol_css.specs.TreeViews.{part_of, item_of, list_of};
@@ -18,10 +18,14 @@ const END: u8 = 255;
 /// The key of the list of the nodes that stand under no other.
 pub(crate) const ROOT_LIST: u64 = 0;
 
-/// The key of the list of the nodes by a step under a node.
-pub(crate) fn list_under(combinator: Combinator, key: u64) -> u64
-    ensures { result ≡ keys.list_under combinator key }
+/// The key of the list of the nodes by a step under the node at a place of a list.
+pub(crate) fn list_under(list: u64, place: usize, combinator: Combinator) -> u64
+    ensures { result ≡ keys.list_under list place combinator }
 {
+    let mut hasher = DefaultHasher::new();
+    hasher.write_u64(list);
+    hasher.write_usize(place);
+    let key = hasher.finish();
     match combinator {
         Combinator::Child => key,
         Combinator::Descendant => key ^ 1,

@@ -1,5 +1,5 @@
 use Rattle.lol_program.specs.Predicates.{tests_of}
-use Rattle.std.proofs.Common.{arith, ℕ, suc, ◌≡◌, length, List, map, refl, ap, sym, subst}
+use Rattle.std.proofs.Common.{arith, ℕ, suc, ◌≡◌, length, map, refl, ap, subst, ◌∙◌}
 use Rattle.std.specs.Prelude.{slice_set}
 use Rattle.std.proofs.lemmas.Result.{on_ok_weaker, on_err_weaker}
 use Rattle.lol_memory.specs.Ids.{Ids}
@@ -8,24 +8,13 @@ use Rattle.lol_program.specs.IdsForNodes.{id_in, Fits}
 use Rattle.lol_program.specs.Views.{node_of, forest_of, steps_of, tests_of_compound}
 use Rattle.lol_program.specs.Growth.{Adds, AddsFirst, Takes, Under, StandsWith, grown_under}
 use Rattle.lol_program.specs.declared.ast_node.AstNode.TheViews.{out-AstNode, roll-AstNode}
+use Rattle.lol_program.specs.NodeKeys.{list_under}
 use Rattle.lol_program.specs.NodeViewLaws.{shape}
-use Rattle.lol_program.specs.Indexed.{HasKey, IsIndexed}
-use Rattle.lol_program.specs.declared.ast_node.AstNode.{AstNode}
-use Rattle.lol_program.proofs.Indexing.{differ_under, indexed_after, indexed_grows, indexed_under, is_next_list, next_asks, set_indexed, top_has_key}
+use Rattle.lol_program.specs.Indexed.{IsIndexed}
+use Rattle.lol_program.proofs.Indexing.{differ_under, indexed_grows, indexed_under, next_asks, set_indexed}
 use Rattle.lol_program.proofs.Placed.{set_place, size_set, place_within, adds_none, adds_some, first_none, first_some}
 use Rattle.lol_program.proofs.Standing.{SetTakes-Takes, stands_at, stands_nowhere, stands_none, stands_some}
 use Rattle.lol_program.proofs.ast_node.+add_path.Goals as goal
-
-pub place_for-requires-clause-listed : goal.place_for-requires-clause-listed
-place_for-requires-clause-listed t c top =
-    let first = tests_of_compound c.args.first.now in
-    subst (HasKey c.args.index.now) (sym c.node_key-key.ensures) (top_has_key c.args.index.now c.args.list first (forest_of c.args.nodes.now.items) c.requires.indexed top)
-
-pub returns-in_err-place-clause-indexed : goal.returns-in_err-place-clause-indexed
-returns-in_err-place-clause-indexed t c =
-    let index = c.place_for.new.index in
-    subst (λ (l : List AstNode). IsIndexed index c.args.list (forest_of l)) (sym {A = List AstNode} c.in_err-place.ensures.unchanged)
-    (indexed_grows c.args.index.now index c.in_err-place.ensures.keeps c.args.list (forest_of c.args.nodes.now.items) c.requires.indexed)
 
 pub add_path-requires : goal.add_path-requires
 add_path-requires t c =
@@ -38,11 +27,10 @@ add_path-requires t c =
     let is = c.index_mut-node.ensures.value in
     let list = c.args.list in
     let index = c.place_for.new.index in
-    let key = c.node_key-key.ensures in
-    let indexed = indexed_after c.args.index.now index list c.node_key-key.result fc (map node_of old) (map node_of mid) i c.in_ok-place.ensures.keeps at key c.in_ok-place.ensures.key c.requires.indexed in
-    let next = is_next_list list c.node_key-key.result c.list_under-list.result fc Child c.in-Some.field-0-0.now.0 key c.list_under-list.ensures c.in-Child.is in (
+    let indexed = c.in_ok-place.ensures.indexed in
+    let next = c.list_under-list.ensures ∙ ap (list_under list i) c.in-Child.is in (
       omega (arith, ap length c.in-Some.ensures.cases.0),
-      next_asks index list c.list_under-list.result fc (shape (out-AstNode n)) Child next (indexed_under fc old mid i n at is index list indexed) (differ_under fc old mid i n at is c.requires.differ),
+      next_asks index list c.list_under-list.result i (shape (out-AstNode n)) Child next (indexed_under fc old mid i n at is index list indexed) (differ_under fc old mid i n at is c.requires.differ),
     )
 
 pub add_path-requires-in-Descendant : goal.add_path-requires-in-Descendant
@@ -56,11 +44,10 @@ add_path-requires-in-Descendant t c =
     let is = c.index_mut-node.ensures.value in
     let list = c.args.list in
     let index = c.place_for.new.index in
-    let key = c.node_key-key.ensures in
-    let indexed = indexed_after c.args.index.now index list c.node_key-key.result fc (map node_of old) (map node_of mid) i c.in_ok-place.ensures.keeps at key c.in_ok-place.ensures.key c.requires.indexed in
-    let next = is_next_list list c.node_key-key.result c.list_under-list.result fc Descendant c.in-Some.field-0-0.now.0 key c.list_under-list.ensures c.in-Descendant.is in (
+    let indexed = c.in_ok-place.ensures.indexed in
+    let next = c.list_under-list.ensures ∙ ap (list_under list i) c.in-Descendant.is in (
       omega (arith, ap length c.in-Some.ensures.cases.0),
-      next_asks index list c.list_under-list.result fc (shape (out-AstNode n)) Descendant next (indexed_under fc old mid i n at is index list indexed) (differ_under fc old mid i n at is c.requires.differ),
+      next_asks index list c.list_under-list.result i (shape (out-AstNode n)) Descendant next (indexed_under fc old mid i n at is index list indexed) (differ_under fc old mid i n at is c.requires.differ),
     )
 
 pub returns-in-None-clause-indexed : goal.returns-in-None-clause-indexed
@@ -74,8 +61,7 @@ returns-in-None-clause-indexed t c =
     let is = c.index_mut-node.ensures.value in
     let list = c.args.list in
     let index = c.place_for.new.index in
-    let key = c.node_key-key.ensures in
-    let indexed = indexed_after c.args.index.now index list c.node_key-key.result fc (map node_of old) (map node_of mid) i c.in_ok-place.ensures.keeps at key c.in_ok-place.ensures.key c.requires.indexed in
+    let indexed = c.in_ok-place.ensures.indexed in
     set_indexed fc old mid i n at is index list (record { predicate = (out-AstNode n).predicate; children = (out-AstNode n).children; descendants = (out-AstNode n).descendants; match_ids = c.add_to.new.ids }) indexed refl (indexed_under fc old mid i n at is index list indexed)
 
 pub returns-in-Child-clause-indexed : goal.returns-in-Child-clause-indexed
@@ -89,11 +75,10 @@ returns-in-Child-clause-indexed t c =
     let is = c.index_mut-node.ensures.value in
     let list = c.args.list in
     let index = c.place_for.new.index in
-    let key = c.node_key-key.ensures in
-    let indexed = indexed_after c.args.index.now index list c.node_key-key.result fc (map node_of old) (map node_of mid) i c.in_ok-place.ensures.keeps at key c.in_ok-place.ensures.key c.requires.indexed in
+    let indexed = c.in_ok-place.ensures.indexed in
     let last = c.add_path.new.index in
-    let next = is_next_list list c.node_key-key.result c.list_under-list.result fc Child c.in-Some.field-0-0.now.0 key c.list_under-list.ensures c.in-Child.is in
-    let grown = indexed_grows index last c.add_path.ensures.keeps list (forest_of mid) indexed in
+    let next = c.list_under-list.ensures ∙ ap (list_under list i) c.in-Child.is in
+    let grown = indexed_grows index last c.add_path.ensures.keeps list 0 (forest_of mid) indexed in
     let stays = indexed_under fc old mid i n at is last list grown in
     set_indexed fc old mid i n at is last list (record { predicate = (out-AstNode n).predicate; children = c.add_path.new.nodes; descendants = (out-AstNode n).descendants; match_ids = (out-AstNode n).match_ids }) grown refl (subst (λ (l : ℕ). IsIndexed last l (forest_of c.add_path.new.nodes.items)) next c.add_path.ensures.indexed, stays.1)
 
@@ -108,11 +93,10 @@ returns-in-Descendant-clause-indexed t c =
     let is = c.index_mut-node.ensures.value in
     let list = c.args.list in
     let index = c.place_for.new.index in
-    let key = c.node_key-key.ensures in
-    let indexed = indexed_after c.args.index.now index list c.node_key-key.result fc (map node_of old) (map node_of mid) i c.in_ok-place.ensures.keeps at key c.in_ok-place.ensures.key c.requires.indexed in
+    let indexed = c.in_ok-place.ensures.indexed in
     let last = c.add_path-in-Descendant.new.index in
-    let next = is_next_list list c.node_key-key.result c.list_under-list.result fc Descendant c.in-Some.field-0-0.now.0 key c.list_under-list.ensures c.in-Descendant.is in
-    let grown = indexed_grows index last c.add_path-in-Descendant.ensures.keeps list (forest_of mid) indexed in
+    let next = c.list_under-list.ensures ∙ ap (list_under list i) c.in-Descendant.is in
+    let grown = indexed_grows index last c.add_path-in-Descendant.ensures.keeps list 0 (forest_of mid) indexed in
     let stays = indexed_under fc old mid i n at is last list grown in
     set_indexed fc old mid i n at is last list (record { predicate = (out-AstNode n).predicate; children = (out-AstNode n).children; descendants = c.add_path-in-Descendant.new.nodes; match_ids = (out-AstNode n).match_ids }) grown refl (stays.0, subst (λ (l : ℕ). IsIndexed last l (forest_of c.add_path-in-Descendant.new.nodes.items)) next c.add_path-in-Descendant.ensures.indexed)
 

@@ -1,23 +1,19 @@
-use Rattle.std.proofs.Common.{arith, inl, length, List, map, refl, sym, subst, ap, true≢false}
+use Rattle.std.proofs.Common.{arith, inl, length, List, map, refl, sym, subst, ap, true≢false, ◌∙◌}
 use Rattle.lol_css.specs.declared.selector.Combinator.TheVariants.{Child, Descendant}
 use Rattle.lol_program.specs.Views.{node_of, forest_of, steps_of, tests_of_compound}
 use Rattle.lol_program.specs.Forest.{SiblingsDiffer}
 use Rattle.lol_program.specs.Growth.{StandsWith}
-use Rattle.lol_program.specs.Indexed.{HasKey, IsIndexed}
+use Rattle.lol_program.specs.Indexed.{IsIndexed}
+use Rattle.lol_program.specs.NodeKeys.{list_under}
 use Rattle.lol_program.specs.NodeViewLaws.{shape}
 use Rattle.lol_program.specs.Places.{HasPlace}
 use Rattle.lol_program.specs.declared.ast_node.AstNode.{AstNode}
-use Rattle.lol_program.proofs.Indexing.{differ_under, indexed_under, is_next_list, next_asks, top_has_key}
+use Rattle.lol_program.proofs.Indexing.{differ_under, indexed_under, next_asks}
 use Rattle.lol_program.specs.IdsForNodes.{HasRoomAmong}
 use Rattle.lol_program.specs.declared.ast_node.AstNode.TheViews.{out-AstNode}
 use Rattle.lol_program.specs.IdSetLaws.{room_listed}
 use Rattle.lol_program.proofs.Standing.{stands_nowhere, stands_here, stands_further}
 use Rattle.lol_program.proofs.ast_node.+has_room.Goals as goal
-
-pub place_of-requires-clause-listed : goal.place_of-requires-clause-listed
-place_of-requires-clause-listed t c top =
-    let first = tests_of_compound c.args.first.now in
-    subst (HasKey c.args.index.now) (sym c.node_key-key.ensures) (top_has_key c.args.index.now c.args.list first (forest_of c.args.nodes.now) c.requires.indexed top)
 
 pub has_room-requires-in-Child : goal.has_room-requires-in-Child
 has_room-requires-in-Child t c =
@@ -27,8 +23,8 @@ has_room-requires-in-Child t c =
     let next = c.list_under-list.result in
     let node = c.index-nodes-place.result in
     let at : HasPlace first (map node_of nodes) (map node_of nodes) c.in-Some.place = inl (refl, c.in-Some.ensures.some) in
-    let is = is_next_list c.args.list c.node_key-key.result next first Child c.in-Some-split_first.field-0-0.now.0 c.node_key-key.ensures c.list_under-list.ensures c.in-Child.is in
-    let asks = next_asks index c.args.list next first (shape (out-AstNode node)) Child is (indexed_under first nodes nodes c.in-Some.place node at c.index-nodes-place.is index c.args.list c.requires.indexed)
+    let is = c.list_under-list.ensures ∙ ap (list_under c.args.list c.in-Some.place) c.in-Child.is in
+    let asks = next_asks index c.args.list next c.in-Some.place (shape (out-AstNode node)) Child is (indexed_under first nodes nodes c.in-Some.place node at c.index-nodes-place.is index c.args.list c.requires.indexed)
     (differ_under first nodes nodes c.in-Some.place node at c.index-nodes-place.is c.requires.differ) in
     (omega (arith, ap length c.in-Some-split_first.ensures.cases.0), subst (λ (l : List AstNode). IsIndexed index next (forest_of l) × SiblingsDiffer (forest_of l)) (sym c.deref.ensures.value) asks)
 
@@ -40,8 +36,8 @@ has_room-requires-in-Descendant t c =
     let next = c.list_under-list.result in
     let node = c.index-nodes-place.result in
     let at : HasPlace first (map node_of nodes) (map node_of nodes) c.in-Some.place = inl (refl, c.in-Some.ensures.some) in
-    let is = is_next_list c.args.list c.node_key-key.result next first Descendant c.in-Some-split_first.field-0-0.now.0 c.node_key-key.ensures c.list_under-list.ensures c.in-Descendant.is in
-    let asks = next_asks index c.args.list next first (shape (out-AstNode node)) Descendant is (indexed_under first nodes nodes c.in-Some.place node at c.index-nodes-place.is index c.args.list c.requires.indexed)
+    let is = c.list_under-list.ensures ∙ ap (list_under c.args.list c.in-Some.place) c.in-Descendant.is in
+    let asks = next_asks index c.args.list next c.in-Some.place (shape (out-AstNode node)) Descendant is (indexed_under first nodes nodes c.in-Some.place node at c.index-nodes-place.is index c.args.list c.requires.indexed)
     (differ_under first nodes nodes c.in-Some.place node at c.index-nodes-place.is c.requires.differ) in
     (omega (arith, ap length c.in-Some-split_first.ensures.cases.0), subst (λ (l : List AstNode). IsIndexed index next (forest_of l) × SiblingsDiffer (forest_of l)) (sym c.deref-in-Descendant.ensures.value) asks)
 

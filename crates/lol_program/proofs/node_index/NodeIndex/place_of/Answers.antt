@@ -1,22 +1,37 @@
-use Rattle.std.proofs.Common.{◌≡◌, ◌<◌, arith, length, map, None, true≢false, is_some, ap, sym, ◌∙◌}
-use Rattle.std.proofs.lemmas.List.{length-map}
+use Rattle.std.proofs.Common.{◌≡◌, ◌<◌, arith, length, map, None, true≢false, is_some, ap, subst, sym, ◌∙◌, List}
+use Rattle.std.proofs.lemmas.List.{length-map, length-take, take-map}
 use Rattle.std.specs.Ordering.{nat_cmp}
 use Rattle.std.specs.BTreeMap.{get}
+use Rattle.lol_program.specs.Forest.{Node}
+use Rattle.lol_program.specs.Indexed.{few}
+use Rattle.lol_program.specs.Places.{IsPlace, IsNowhere}
 use Rattle.lol_program.specs.Views.{node_of, tests_of_compound}
 use Rattle.lol_program.specs.NodeViewLaws.{compound_at}
-use Rattle.lol_program.proofs.Indexing.{nowhere_from_no_top, place_from_differ}
+use Rattle.lol_program.proofs.Indexing.{key_at, nowhere_after_first, place_among_first, place_from_differ}
 use Rattle.lol_program.proofs.node_index.NodeIndex.place_of.Goals as goal
 
-pub returns-in_default-clause-none : goal.returns-in_default-clause-none
-returns-in_default-clause-none c =
-    let none : get nat_cmp c.args.self.now.places c.args.key ≡ None = sym c.get.ensures.value ∙ sym c.copied.ensures ∙ c.in_default.is in
-    nowhere_from_no_top (tests_of_compound c.args.compound.now) (map node_of c.args.nodes.now)
-    (λ top. true≢false (sym (c.requires.listed top) ∙ ap (λ o. is_some o) none))
+pub slice_bounds-first_place_of-end : goal.slice_bounds-first_place_of-end
+slice_bounds-first_place_of-end c = omega (arith, length-take few c.args.nodes.now, c.if-nodes-le-FEW.false)
+
+pub returns-in-Some-clause-some : goal.returns-in-Some-clause-some
+returns-in-Some-clause-some c =
+    let nodes = c.args.nodes.now in
+    let first = tests_of_compound c.args.compound.now in
+    place_among_first first (map node_of nodes) few c.in-Some.place (subst (λ (ns : List Node). IsPlace first ns c.in-Some.place) (sym (take-map node_of few nodes)) c.in-Some.ensures.some)
+
+pub returns-in_default-copied-clause-none : goal.returns-in_default-copied-clause-none
+returns-in_default-copied-clause-none c =
+    let nodes = c.args.nodes.now in
+    let first = tests_of_compound c.args.compound.now in
+    let none : get nat_cmp c.args.self.now.places c.node_key.result ≡ None = sym c.get.ensures.value ∙ sym c.copied.ensures ∙ c.in_default-copied.is in
+    nowhere_after_first first (map node_of nodes) few (omega (arith, length-map nodes node_of, c.if-nodes-le-FEW.false)) (subst (IsNowhere first) (sym (take-map node_of few nodes)) c.in_default.ensures.none)
+    (λ k d many within is. true≢false
+    (sym (key_at c.args.self.now c.args.list (map node_of nodes) k d first many within is c.requires.indexed) ∙ ap (λ key. is_some (get nat_cmp c.args.self.now.places key)) (sym c.node_key.ensures) ∙ ap (λ o. is_some o) none))
 
 pub returns-then-is_of-clause-some : goal.returns-then-is_of-clause-some
 returns-then-is_of-clause-some c =
     let nodes = c.args.nodes.now in
-    let place = c.in-Some.place in
+    let place = c.in-Some-copied.place in
     let node = c.index-nodes-place.result in
     let within : place < length (map node_of nodes) = omega (arith, c.if-place-nodes.true, length-map nodes node_of) in
     place_from_differ (tests_of_compound c.args.compound.now) (map node_of nodes) place c.requires.differ within
