@@ -43,7 +43,7 @@ fn fresh_node(alloc: Global, predicate: Predicate) -> AstNode
 }
 
 /// The place of the node with the tests of a compound, in the list with the key `list`. It is made last where there is none.
-// Inlined into `add_path`, it would make each step of that recursion take more of the stack.
+// Inlined, it would make each step of a recursion take more of the stack.
 #[inline(never)]
 fn place_for(
     index: &mut NodeIndex,

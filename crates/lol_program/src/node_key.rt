@@ -33,7 +33,7 @@ pub(crate) fn list_under(list: u64, place: usize, combinator: Combinator) -> u64
 }
 
 /// The key of the node with the tests of a compound in a list.
-// Inlined into `add_path`, it would make each step of that recursion take more of the stack.
+// Inlined, it would make each step of a recursion take more of the stack.
 #[inline(never)]
 pub(crate) fn node_key(list: u64, compound: &Compound) -> u64
     ensures { result ≡ keys.node_key list (tests_of_compound compound.now) }
