@@ -22,12 +22,7 @@ use Rattle.lol_program.proofs.Placed.{place_within}
 
 -- 1. Places among siblings that differ
 
-pub nowhere_from_no_top : (c : Compound) (nodes : List Node) → (HasTop c (linked nodes) → ⊥) → IsNowhere c nodes
-nowhere_from_no_top c [] missing k d within = absurd (omega (arith, within))
-nowhere_from_no_top c (n ∷ nodes) missing zero d within = λ is. missing (inl is)
-nowhere_from_no_top c (n ∷ nodes) missing (suc k) d within = nowhere_from_no_top c nodes (λ top. missing (inr top)) k d (omega (arith, within))
-
-pub top_at : (c : Compound) (nodes : List Node) (i : ℕ) (d : Node) → i < length nodes → (get_or nodes i d).compound ≡ c → HasTop c (linked nodes)
+top_at : (c : Compound) (nodes : List Node) (i : ℕ) (d : Node) → i < length nodes → (get_or nodes i d).compound ≡ c → HasTop c (linked nodes)
 top_at c [] i d within is = absurd (omega (arith, within))
 top_at c (n ∷ nodes) zero d within is = inl is
 top_at c (n ∷ nodes) (suc i) d within is = inr (top_at c nodes i d (omega (arith, within)) is)
@@ -86,7 +81,7 @@ module _ (index : NodeIndex) (list : ℕ) where
   listed_at place (n ∷ nodes) zero at d within is indexed = λ many. indexed.0 (omega (arith, many, is))
   listed_at place (n ∷ nodes) (suc i) at d within is indexed = listed_at (place + 1) nodes i at d (omega (arith, within)) (omega (arith, is)) indexed.1.1.1
 
-  -- a node that has few siblings before it has its key
+  -- a node from place `few` on has its key
   pub key_at : (nodes : List Node) (i : ℕ) (d : Node) (c : Compound) → few ≤ i → i < length nodes → (get_or nodes i d).compound ≡ c → IsIndexed index list (linked nodes) → HasKey index (node_key list c)
   key_at nodes i d c many within is indexed = subst (λ (e : Compound). HasKey index (node_key list e)) is (listed_at 0 nodes i i d within (omega arith) indexed many)
 
