@@ -1,6 +1,7 @@
 -- Whether a start tag is refused, by what a machine has.
-use Rattle.std.proofs.Common.{◌≡◌, ℕ, suc, ◌+◌, ◌*◌, ◌≤◌, ◌<◌, ◌^◌, Bool, true, false, length, Option, Some, None, inl, refl, sym, ap, ◌∙◌, subst, arith}
-use Rattle.std.specs.Prelude.{max, nat_lt, ◌&&◌, not, if◌then◌else◌}
+use Rattle.std.proofs.Common.{◌≡◌, ℕ, suc, ◌+◌, ◌*◌, ◌≤◌, ◌<◌, ◌^◌, Bool, true, false, length, Option, Some, None, Result, Err, inl, refl, sym, ap, ◌∙◌, subst, arith}
+use Rattle.std.specs.Prelude.{max, nat_lt, ◌&&◌, not, if◌then◌else◌, IfErr, ◌↔◌}
+use Rattle.std.proofs.lemmas.Bool.{false≢true}
 use Rattle.std.proofs.lemmas.Bool.Decides.{nat_tests}
 use Rattle.lol_base.specs.StartTags.{StartTag}
 use Rattle.lol_memory.specs.LimitedVec.{LimitedVec, IsLimited}
@@ -27,6 +28,17 @@ is_refusal CounterFull free refusal h = tt
 is_refusal Failed free refusal h = h
 is_refusal NotAsked free refusal h = h
 is_refusal OutsideInput free refusal h = h
+
+-- so no other error was answered
+pub still_refusal : {A : Type 0} {result other : Result A MatcherError} → IfErr result IsRefusal → result ≡ other → IfErr other IsRefusal
+still_refusal {A} refusal is = subst (λ (r : Result A MatcherError). IfErr r IsRefusal) is refusal
+
+-- nor was it answered for an earlier refusal
+pub not_failed : {A T : Type 0} {result : Result A MatcherError} {shown old : Matching T} → shown ≡ old → shown.failed ≡ false → IfErr result IsRefusal → (result ≡ Err Failed) ↔ (old.failed ≡ true)
+not_failed {A} {T} shows unfailed refusal = (
+  λ is. absurd (still_refusal refusal is),
+  λ failed. absurd (false≢true (sym (ap (λ (m : Matching T). m.failed) (sym shows) ∙ unfailed) ∙ failed)),
+)
 
 -- where memory was refused for the list of a report, the tag wasn't to be refused
 pub refused_unreported : {free : Type 0} {refusal : Option Cause} → refusal ≡ None → IsRefusedFor Memory free refusal
