@@ -1,9 +1,9 @@
 -- A limiter whose usage is a machine's charge.
-use Rattle.std.proofs.Common.{◌≡◌, ℕ, ◌+◌, ◌-◌, ◌*◌, ◌≤◌, ◌∙◌, sym, ap, arith}
+use Rattle.std.proofs.Common.{◌≡◌, ℕ, ◌+◌, ◌-◌, ◌*◌, ◌≤◌, ◌∙◌, refl, sym, ap, arith}
 use Rattle.std.proofs.Math.Nat.{add-mul}
 use Rattle.lol_memory.specs.Limiter.{Limiter, charged}
-use Rattle.lol_vm.specs.Vms.{Vm, slots_charged, slot_bytes}
-use Rattle.lol_matcher.specs.Keeping.{IsCharged}
+use Rattle.lol_vm.specs.Vms.{Vm, ChargesSlots, slots_charged, slot_bytes}
+use Rattle.lol_matcher.specs.Keeping.{IsCharged, KeepsRunning}
 
 whole : (old new bytes : ℕ) → old ≤ new → old * bytes + (new - old) * bytes ≡ new * bytes
 whole old new bytes grows =
@@ -21,3 +21,11 @@ charged_more old new before now bytes grows is h =
 -- Where no slots come and nothing is charged, it stays charged for them.
 pub charged_alike : {E : Type 0} (old new : Vm E) (before now : Limiter) → slots_charged new ≡ slots_charged old → slot_bytes new ≡ slot_bytes old → now ≡ before → IsCharged old before → IsCharged new now
 charged_alike old new before now slots bytes same h = ap (λ (l : Limiter). l.usage) same ∙ (h ∙ (λ i. sym slots i * sym bytes i))
+
+-- where only what is kept of the open elements changes
+pub charged_on : {E : Type 0} (old new : Vm E) (now : Limiter) → KeepsRunning old new → IsCharged old now → IsCharged new now
+charged_on old new now run charged = charged_alike old new now now run.slots run.bytes refl charged
+
+-- after a call, where what it opened is left without a value
+pub charged_after : {E : Type 0} {old mid new : Vm E} {before now : Limiter} → ChargesSlots old mid before now → KeepsRunning mid new → IsCharged old before → IsCharged new now
+charged_after {E} {old} {mid} {new} {before} {now} charges run h = charged_on mid new now run (charged_more old mid before now charges.bytes charges.grows charges.charged h)

@@ -42,12 +42,3 @@ runs_past told vm request limiter w runs = record {
   dropped = ap (λ b. b && true) (w.pending (bare_tag w.name w.namespace) refl refl).asks;
   runs = subst (λ (asked : Option (List ℕ × Namespace)). Runs (selectors told.ast) told.esi (with_dropped told.events asked) vm limiter) w.asked runs;
 }
-
--- What was answered to its attributes.
-module _ {T : Type 0} (s : Selectors) (esi : Bool) (events : List Event) (tag : StartTag) (items : List MatchInfo) (a : Allowance) (old new : Vm (Kept T)) (limiter : Limiter) (answered : Finished) where
-  pub finished_reported : (opened : Bool) → answered ≡ Reported opened → IsFinished s esi events tag answered items a old new limiter
-      → IsToldAs s esi events tag true items a new limiter × (opened ≡ has_content esi tag) × KeepsOne (has_content esi tag) items (data_in old) (data_in new)
-  finished_reported opened is h = subst (λ (f : Finished). IsFinished s esi events tag f items a old new limiter) is h
-
-  pub finished_unreported : answered ≡ Unreported → IsFinished s esi events tag answered items a old new limiter → IsUnreported s esi events tag a new limiter × GrowsBy (has_content esi tag) (data_in old) (data_in new)
-  finished_unreported is h = subst (λ (f : Finished). IsFinished s esi events tag f items a old new limiter) is h

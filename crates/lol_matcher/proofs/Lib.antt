@@ -6,7 +6,6 @@ pub mod Telling
 pub mod Opened
 pub mod Beginning
 pub mod Handing
-pub mod Leaving
 pub mod Values
 pub mod Walks
 pub mod Finishing

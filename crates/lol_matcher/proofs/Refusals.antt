@@ -72,7 +72,7 @@ refusal_by full over = if full then Some Counter else (if over then Some Limit e
 abbrev pub opens_in : Selectors → Bool → Document → StartTag → Bool
 opens_in s esi d tag = has_content esi tag && not (is_dropped s (element_of d tag) d.open_elements)
 
-module _ {T : Type 0} (s : Selectors) (esi : Bool) (d : Document) (most : ℕ) (v : LimitedVec T) (now : Limiter) (is : IsChargedFor d most v now) where
+module _ {T : Type 0} (s : Selectors) (esi : Bool) {d : Document} {most : ℕ} {v : LimitedVec T} {now : Limiter} (is : IsChargedFor d most v now) where
   abbrev a : Allowance
   a = allowance v.item_bytes now.maximum
 
@@ -116,7 +116,7 @@ module _ {T : Type 0} (s : Selectors) (esi : Bool) (d : Document) (most : ℕ) (
   pub refused_for_counter : (tag : StartTag) → greatest_count < (element_of d tag).position → refusal s esi a d most (Start tag) ≡ Some Counter
   refused_for_counter tag full = tests tag true _ (grind (arith, nat_tests, full)) refl
 
-  pub counter_has_room : (tag : StartTag) → (element_of d tag).position ≤ greatest_count → refusal s esi a d most (Start tag) ≡ Some Counter → ⊥
+  counter_has_room : (tag : StartTag) → (element_of d tag).position ≤ greatest_count → refusal s esi a d most (Start tag) ≡ Some Counter → ⊥
   counter_has_room tag position full =
       not_full (exceeds a (max most (length (after_start d tag (opens_in s esi d tag)).open_elements))) (sym (tests tag false _ (grind (arith, nat_tests, position)) refl) ∙ full)
     where
@@ -124,11 +124,15 @@ module _ {T : Type 0} (s : Selectors) (esi : Bool) (d : Document) (most : ℕ) (
       not_full true is = cc
       not_full false is = cc
 
-  pub limit_isnt_due : (tag : StartTag) → (element_of d tag).position ≤ greatest_count → (opens_in s esi d tag ≡ true → IsLimited v now → ⊥) → refusal s esi a d most (Start tag) ≡ Some Limit → ⊥
+  limit_isnt_due : (tag : StartTag) → (element_of d tag).position ≤ greatest_count → (opens_in s esi d tag ≡ true → IsLimited v now → ⊥) → refusal s esi a d most (Start tag) ≡ Some Limit → ⊥
   limit_isnt_due tag position unlimited over = not_over (not_refused tag position unlimited) over
     where
       not_over : {o : Option Cause} → o ≡ None → o ≡ Some Limit → ⊥
       not_over none over = cc
+
+  -- memory may be refused where neither is due
+  pub refused_for_memory : (tag : StartTag) {free : Type 0} → (element_of d tag).position ≤ greatest_count → (free → opens_in s esi d tag ≡ true → IsLimited v now → ⊥) → IsRefusedFor Memory free (refusal s esi a d most (Start tag))
+  refused_for_memory tag position unlimited = (counter_has_room tag position, λ is. limit_isnt_due tag position (unlimited is))
 
   -- what isn't refused is within the counter and the maximum
   pub position_of : (tag : StartTag) → refusal s esi a d most (Start tag) ≡ None → (element_of d tag).position ≤ greatest_count

@@ -12,18 +12,19 @@ use Rattle.lol_memory.specs.declared.match_info.MatchInfo.{MatchInfo}
 use Rattle.lol_program.specs.Paths.{Selectors}
 use Rattle.lol_stack.specs.Stacks.{list_in, last_count}
 use Rattle.lol_vm.specs.Answers.{Match, Started, answer, document}
+use Rattle.lol_vm.specs.Due.{IsWithinLimit}
 use Rattle.lol_vm.specs.Documents.{children_of, element_of, parent_of}
 use Rattle.lol_vm.specs.Events.{Event, Start, has_content}
 use Rattle.lol_vm.specs.Refusals.{greatest_count, longest}
 use Rattle.lol_vm.specs.Standing.{CountersArePlaces, DocumentsAreOrdered, unfinished}
 use Rattle.lol_vm.specs.Views.{match_of}
 use Rattle.lol_vm.specs.VmLaws.{PendingStands, SlotsAreOfDepth}
-use Rattle.lol_vm.specs.Vms.{Vm, Stands, IsAnswered, IsPending, data_in, info_of, is_asked_for, tries_in, stack_in, slot_bytes}
+use Rattle.lol_vm.specs.Vms.{Vm, ChargesSlots, Stands, IsAnswered, IsPending, IsTriedAtMost, data_in, info_of, is_asked_for, tries_in, stack_in, slot_bytes}
 use Rattle.lol_vm.specs.declared.error.AuxStartTagInfoRequest.{AuxStartTagInfoRequest}
 use Rattle.lol_vm.proofs.CallerLemmas.{position_is}
 use Rattle.lol_matcher.specs.Answering.{GrowsBy, Kept, KeepsOne}
 use Rattle.lol_matcher.specs.Keeping.{ClearsOpened, IsToldAs, IsAskedFor, IsCharged, IsUnreported, KeepsRunning, Runs, allowed, ids_of}
-use Rattle.lol_matcher.proofs.Charges.{charged_alike}
+use Rattle.lol_matcher.proofs.Charges.{charged_after}
 use Rattle.lol_matcher.proofs.Opened.{grows_by, is_opened, keeps_one}
 use Rattle.lol_matcher.proofs.Refusals.{IsChargedFor, fits, not_refused, opens_in}
 use Rattle.lol_matcher.proofs.Running.{charged_for, countable_after, runs_on}
@@ -105,12 +106,12 @@ module _ {E : Type 0} (depths : SlotsAreOfDepth E) (ordered : DocumentsAreOrdere
       let d = document s esi events in
       let opens = opens_in s esi d tag in
       runs_on depths ordered s esi events (Start tag) old new now later is.some is.word stands bytes maximum charged
-      (fits s esi d (longest s esi events) (list_in (stack_in old)) now is opens tag unlimited) (countable_after d tag opens countable room)
+      (fits s esi is opens tag unlimited) (countable_after d tag opens countable room)
 
   -- whatever became of its report
   pub unreported_as : Stands s esi new (events ++ Start tag ∷ []) → IsUnreported s esi events tag (allowed old now) new later
   unreported_as stands = record {
-    fits = not_refused s esi (document s esi events) (longest s esi events) (list_in (stack_in old)) now is tag room unlimited;
+    fits = not_refused s esi is tag room unlimited;
     runs = runs_after stands;
   }
 
@@ -134,39 +135,56 @@ asked_for depths ordered dropped s esi events tag old new now later runs room by
     let is = charged_for depths ordered s esi events old now runs in
     record {
       pending = pending;
-      fits = λ none. not_refused s esi (document s esi events) (longest s esi events) (list_in (stack_in old)) now is tag room (λ opens limited. opens_nothing s esi events tag pending.asks none opens);
+      fits = λ none. not_refused s esi is tag room (λ opens limited. opens_nothing s esi events tag pending.asks none opens);
       runs = λ none. runs_after depths ordered s esi events tag old new now later is room runs.countable (λ opens limited. opens_nothing s esi events tag pending.asks none opens) bytes maximum charged
           (subst (λ t. Stands s esi new (events ++ Start t ∷ [])) (unfinished_is tag none) (dropped ids_of s esi events tag new request pending));
     }
 
--- Where the machine answered it, and an element that was opened is left without a value.
-module _ {T F : Type 0} {step : F → MatchInfo → Unit {0} → F → Type 0} {f g : F} (depths : SlotsAreOfDepth (Kept T)) (ordered : DocumentsAreOrdered) (s : Selectors) (esi : Bool) (events : List Event) (tag : StartTag) (old mid new : Vm (Kept T)) (now later : Limiter)
+-- A start tag was answered, and an element that it opened is left without a value.
+pub record WasAnswered {T : Type 0} (s : Selectors) (esi : Bool) (events : List Event) (tag : StartTag) (asked : Bool) (matched : List Match) (opened : Bool) (old new : Vm (Kept T)) (now later : Limiter) : Type 0 where
+  pub unreported : IsUnreported s esi events tag (allowed old now) new later
+  pub reported : {items : List MatchInfo} → items ≡ map info_of matched → IsToldAs s esi events tag asked items (allowed old now) new later
+  pub leaves : {items : List MatchInfo} → items ≡ map info_of matched → (opened ≡ has_content esi tag) × KeepsOne (has_content esi tag) items (data_in old) (data_in new)
+  pub grows : GrowsBy (has_content esi tag) (data_in old) (data_in new)
+
+module _ {T F : Type 0} {step : F → MatchInfo → Unit {0} → F → Type 0} {f g : F} (depths : SlotsAreOfDepth (Kept T)) (ordered : DocumentsAreOrdered) (s : Selectors) (esi : Bool) (events : List Event) (tag : StartTag) {asked : Bool} {old mid new : Vm (Kept T)} {now later : Limiter}
     (is : IsChargedFor (document s esi events) (longest s esi events) (list_in (stack_in old)) now) (room : (element_of (document s esi events) tag).position ≤ greatest_count)
-    (countable : (parent : _) → children_of parent (document s esi events).children ≤ greatest_count) (unlimited : opens_in s esi (document s esi events) tag ≡ true → IsLimited (list_in (stack_in old)) now → ⊥)
-    (bytes : slot_bytes mid ≡ slot_bytes old) (maximum : later.maximum ≡ now.maximum) (charged : IsCharged mid later)
-    (asked : Bool) (a : IsAnswered ids_of step s esi events tag asked old mid f g) (before : ℕ) (many : before ≡ length (data_in old)) (opened : Bool) (clears : ClearsOpened before opened mid new) where
+    (countable : (parent : _) → children_of parent (document s esi events).children ≤ greatest_count) (told : IsWithinLimit (has_content esi tag) old now × IsAnswered ids_of step s esi events tag asked old mid f g)
+    (charges : ChargesSlots old mid now later) {before : ℕ} (many : before ≡ length (data_in old)) {opened : Bool} (clears : ClearsOpened before opened mid new) where
   abbrev run : KeepsRunning mid new
   run = clears.running
 
+  unlimited : opens_in s esi (document s esi events) tag ≡ true → IsLimited (list_in (stack_in old)) now → ⊥
+  unlimited opening = told.0 (has_content_if s esi events tag opening)
+
+  bytes : slot_bytes new ≡ slot_bytes old
+  bytes = run.bytes ∙ charges.bytes
+
+  maximum : later.maximum ≡ now.maximum
+  maximum = ap (λ (l : Limiter). l.maximum) charges.charged
+
   stands_on : Stands s esi new (events ++ Start tag ∷ [])
-  stands_on = run.stands s esi (events ++ Start tag ∷ []) a.stands
+  stands_on = run.stands s esi (events ++ Start tag ∷ []) told.1.stands
 
   stays_charged : IsCharged new later
-  stays_charged = charged_alike mid new later later run.slots run.bytes refl charged
-
-  pub unreported : IsUnreported s esi events tag (allowed old now) new later
-  unreported = unreported_as depths ordered s esi events tag old new now later is room countable unlimited (run.bytes ∙ bytes) maximum stays_charged stands_on
-
-  pub reported : (items : List MatchInfo) → items ≡ map info_of a.matched → IsToldAs s esi events tag asked items (allowed old now) new later
-  reported items same =
-      told_as depths ordered s esi events tag old new now later is room countable unlimited (run.bytes ∙ bytes) maximum stays_charged asked a.matched
-      (a.answered ∙ ap (λ tries. Started a.matched asked (names_counted tries) (attributes_counted tries)) (sym run.tries)) stands_on items same
+  stays_charged = charged_after charges run is.usage
 
   is_content : opened ≡ has_content esi tag
-  is_content = is_opened (has_content esi tag) opened a.matched (data_in old) (data_in mid) a.opened (subst (λ n. IsTrue opened ↔ (n < length (data_in mid))) many clears.opened)
+  is_content = is_opened (has_content esi tag) opened told.1.matched (data_in old) (data_in mid) told.1.opened (subst (λ n. IsTrue opened ↔ (n < length (data_in mid))) many clears.opened)
 
-  pub leaves : (items : List MatchInfo) → items ≡ map info_of a.matched → (opened ≡ has_content esi tag) × KeepsOne (has_content esi tag) items (data_in old) (data_in new)
-  leaves items same = (is_content, keeps_one (has_content esi tag) opened a.matched items (data_in old) (data_in mid) (data_in new) a.opened is_content clears.kept same)
+  pub was_answered : WasAnswered s esi events tag asked told.1.matched opened old new now later
+  was_answered = record {
+    unreported = unreported_as depths ordered s esi events tag old new now later is room countable unlimited bytes maximum stays_charged stands_on;
+    reported = λ {items} same. told_as depths ordered s esi events tag old new now later is room countable unlimited bytes maximum stays_charged asked told.1.matched
+        (told.1.answered ∙ ap (λ tries. Started told.1.matched asked (names_counted tries) (attributes_counted tries)) (sym run.tries)) stands_on items same;
+    leaves = λ {items} same. (is_content, keeps_one (has_content esi tag) opened told.1.matched items (data_in old) (data_in mid) (data_in new) told.1.opened is_content clears.kept same);
+    grows = grows_by (has_content esi tag) opened told.1.matched (data_in old) (data_in mid) (data_in new) told.1.opened is_content clears.kept;
+  }
 
-  pub leaves_unreported : GrowsBy (has_content esi tag) (data_in old) (data_in new)
-  leaves_unreported = grows_by (has_content esi tag) opened a.matched (data_in old) (data_in mid) (data_in new) a.opened is_content clears.kept
+-- as many nodes are tried
+pub tried_on : {E : Type 0} {old new : Vm E} (s : Selectors) (esi : Bool) (events : List Event) (tag : StartTag) → KeepsRunning old new → IsTriedAtMost s esi events tag (tries_in old) → IsTriedAtMost s esi events tag (tries_in new)
+tried_on s esi events tag run tried = subst (λ tries. IsTriedAtMost s esi events tag tries) (sym run.tries) tried
+
+-- an answer isn't another
+pub other_answer : {A : Type 0} {result answer other : A} → result ≡ answer → (answer ≡ other → ⊥) → result ≡ other → ⊥
+other_answer is differ at = differ (sym is ∙ at)

@@ -1,5 +1,5 @@
 -- A machine whose open elements have other values.
-use Rattle.std.proofs.Common.{ℕ, ◌≤◌, Bool, List, Option, Some, None, refl, sym, subst}
+use Rattle.std.proofs.Common.{ℕ, ◌≤◌, Bool, List, Option, Some, None, sym, subst}
 use Rattle.lol_base.specs.StartTags.{StartTag}
 use Rattle.lol_base.specs.declared.namespace.Namespace.{Namespace}
 use Rattle.lol_memory.specs.Limiter.{Limiter}
@@ -8,11 +8,8 @@ use Rattle.lol_vm.specs.Events.{Event}
 use Rattle.lol_vm.specs.Vms.{Vm, IsPending}
 use Rattle.lol_vm.specs.declared.error.AuxStartTagInfoRequest.{AuxStartTagInfoRequest}
 use Rattle.lol_matcher.specs.Answering.{Kept}
-use Rattle.lol_matcher.specs.Keeping.{IsCharged, KeepsRunning, Runs, Waits, ids_of}
-use Rattle.lol_matcher.proofs.Charges.{charged_alike}
-
-pub charged_on : {E : Type 0} (old new : Vm E) (now : Limiter) → KeepsRunning old new → IsCharged old now → IsCharged new now
-charged_on old new now run charged = charged_alike old new now now run.slots run.bytes refl charged
+use Rattle.lol_matcher.specs.Keeping.{KeepsRunning, Runs, Waits, ids_of}
+use Rattle.lol_matcher.proofs.Charges.{charged_on}
 
 pub runs_on : {E : Type 0} (s : Selectors) (esi : Bool) (events : List Event) (old new : Vm E) (now : Limiter) → KeepsRunning old new → Runs s esi events old now → Runs s esi events new now
 runs_on s esi events old new now run runs = record {

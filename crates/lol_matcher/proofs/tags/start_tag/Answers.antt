@@ -1,142 +1,109 @@
-use Rattle.std.proofs.Common.{rules, ◌≡◌, List, Err, false, true≢false, refl, sym, ap, subst, ◌∙◌, map}
+use Rattle.std.proofs.Common.{rules, ◌≡◌, List, Bool, Err, false, true≢false, refl, sym, ap, ◌∙◌, map}
 use Rattle.std.proofs.lemmas.Fn.{chained_keeps}
 use Rattle.lol_base.specs.LocalNames.{local_name}
+use Rattle.lol_base.specs.StartTags.{StartTag}
 use Rattle.lol_memory.specs.Limiter.{Limiter}
 use Rattle.lol_memory.specs.declared.match_info.MatchInfo.{MatchInfo}
-use Rattle.lol_stack.specs.Stacks.{list_in}
-use Rattle.lol_vm.specs.Answers.{document}
-use Rattle.lol_vm.specs.Refusals.{longest}
-use Rattle.lol_vm.specs.Vms.{IsTriedAtMost, info_of, stack_in}
-use Rattle.lol_matcher.proofs.Charges.{charged_alike, charged_more}
+use Rattle.lol_program.specs.Paths.{Selectors}
+use Rattle.lol_vm.specs.Answers.{Match}
+use Rattle.lol_vm.specs.Events.{Event}
+use Rattle.lol_vm.specs.Vms.{info_of}
 use Rattle.lol_vm.proofs.CallerLemmas.{hasnt_failed}
-use Rattle.lol_matcher.proofs.Refusals.{counter_has_room, limit_isnt_due, refused_for_counter, refused_for_limit}
-use Rattle.lol_matcher.proofs.Rooms.{room_answered, room_asked, room_limited, room_refused}
+use Rattle.lol_matcher.specs.Keeping.{Runs}
+use Rattle.lol_matcher.proofs.Charges.{charged_after, charged_alike}
+use Rattle.lol_matcher.proofs.Refusals.{refused_for_counter, refused_for_limit, refused_for_memory}
+use Rattle.lol_matcher.proofs.Rooms.{has_room}
 use Rattle.lol_matcher.proofs.Running.{charged_for}
-use Rattle.lol_matcher.proofs.Telling.{asked_for, has_content_if, no_room_for, leaves, leaves_unreported, opens_unasked, reported, room_for, unreported}
+use Rattle.lol_matcher.proofs.Telling.{WasAnswered, asked_for, no_room_for, opens_unasked, other_answer, room_for, tried_on, was_answered}
+use Rattle.lol_matcher.proofs.tags.start_tag.Given as given
 use Rattle.lol_matcher.proofs.tags.start_tag.Goals as goal
+use Rattle.lol_matcher.proofs.tags.start_tag.Goals.{After-clear_opened-opened}
+
+-- a tag that was answered
+module _ (g : given.Over) (c : After-clear_opened-opened g) (s : Selectors) (esi : Bool) (events : List Event) (tag : StartTag) (runs : Runs s esi events c.args.vm.now c.args.limiter.now) (named : tag.name ≡ c.args.name.now) (spaced : tag.namespace ≡ c.args.ns) where
+  abbrev matched : List Match
+  matched = (c.in-Ok.ensures.answered s esi events tag runs.stands (c.new.ensures ∙ ap local_name (sym named), spaced)).1.matched
+
+  answered : WasAnswered s esi events tag false matched c.clear_opened-opened.result c.args.vm.now c.clear_opened-opened.new.vm c.args.limiter.now c.exec_for_start_tag.new.limiter
+  answered =
+      let laws = c.run_laws.ensures in
+      let call = c.exec_for_start_tag.ensures in
+      let charged = charged_for laws.depths laws.ordered s esi events c.args.vm.now c.args.limiter.now runs in
+      let room = room_for laws.places s esi events c.args.vm.now c.args.limiter.now runs tag (has_room s esi events c.args.vm.now _ runs.stands call.full (other_answer c.in-Ok.is (λ same. cc))) in
+      was_answered laws.depths laws.ordered s esi events tag charged room runs.countable (c.in-Ok.ensures.answered s esi events tag runs.stands (c.new.ensures ∙ ap local_name (sym named), spaced))
+      call.charges c.open_elements-open_before.ensures c.clear_opened-opened.ensures
+
+  kept : c.matches-1.given.0.refused ≡ false → c.matches-1.given.0.items.items ≡ map info_of matched
+  kept unrefused =
+      let told = c.in-Ok.ensures.answered s esi events tag runs.stands (c.new.ensures ∙ ap local_name (sym named), spaced) in
+      let collected = chained_keeps _ (λ (xs : List MatchInfo) q. (q.0.ghost_name ≡ c.handler-1.given) × (q.0.now.refused ≡ false → q.0.now.items.items ≡ xs))
+      (λ xs q x v j k. search (rules, j, k)) _ _ _ (refl, λ _. c.clear.ensures.items) told.1.reported in
+      search (rules, collected.0, collected.1, unrefused)
 
 pub returns-else-matches-clause-charged : goal.returns-else-matches-clause-charged
-returns-else-matches-clause-charged g c = λ h.
-    let run = c.clear_opened-opened.ensures.running in
-    let call = c.exec_for_start_tag in
-    charged_alike call.new.self c.clear_opened-opened.new.vm call.new.limiter call.new.limiter run.slots run.bytes refl
-    (charged_more c.args.vm.now call.new.self c.args.limiter.now call.new.limiter call.ensures.charges.bytes call.ensures.charges.grows call.ensures.charges.charged h)
+returns-else-matches-clause-charged g c = charged_after c.exec_for_start_tag.ensures.charges c.clear_opened-opened.ensures.running
 
 pub returns-then-matches-clause-charged : goal.returns-then-matches-clause-charged
-returns-then-matches-clause-charged g c = λ h.
-    let run = c.clear_opened-opened.ensures.running in
-    let call = c.exec_for_start_tag in
-    charged_alike call.new.self c.clear_opened-opened.new.vm call.new.limiter call.new.limiter run.slots run.bytes refl
-    (charged_more c.args.vm.now call.new.self c.args.limiter.now call.new.limiter call.ensures.charges.bytes call.ensures.charges.grows call.ensures.charges.charged h)
+returns-then-matches-clause-charged g c = charged_after c.exec_for_start_tag.ensures.charges c.clear_opened-opened.ensures.running
 
 pub returns-else-matches-clause-told : goal.returns-else-matches-clause-told
 returns-else-matches-clause-told g c = λ s esi events tag runs named spaced.
-    let laws = c.run_laws.ensures in
-    let vm = c.args.vm.now in
-    let limiter = c.args.limiter.now in
-    let call = c.exec_for_start_tag in
-    let told = c.in-Ok.ensures.answered s esi events tag runs.stands (c.new.ensures ∙ ap local_name (sym named), spaced) in
-    let answered = told.1 in
-    let collected = chained_keeps _ (λ (xs : List MatchInfo) q. (q.0.ghost_name ≡ c.handler-1.given) × (q.0.now.refused ≡ false → q.0.now.items.items ≡ xs))
-    (λ xs q x v j k. search (rules, j, k)) _ _ _ (refl, λ _. c.clear.ensures.items) answered.reported in
-    let kept : c.matches-1.given.0.items.items ≡ map info_of answered.matched = search (rules, collected.0, collected.1, c.if-matches.false) in
-    reported laws.depths laws.ordered s esi events tag vm call.new.self c.clear_opened-opened.new.vm limiter call.new.limiter (charged_for laws.depths laws.ordered s esi events vm limiter runs)
-    (room_for laws.places s esi events vm limiter runs tag (room_answered s esi events vm call.result runs.stands call.ensures.full _ c.in-Ok.is)) runs.countable
-    (λ opening. told.0 (has_content_if s esi events tag opening)) call.ensures.charges.bytes
-    (ap (λ (l : Limiter). l.maximum) call.ensures.charges.charged) (charged_more vm call.new.self limiter call.new.limiter call.ensures.charges.bytes call.ensures.charges.grows call.ensures.charges.charged runs.charged)
-    false answered c.open_elements-open_before.result c.open_elements-open_before.ensures c.clear_opened-opened.result c.clear_opened-opened.ensures _ kept
+    let a = (goal.at.returns-else-matches-clause-told g c).After-clear_opened-opened in
+    (answered g a s esi events tag runs named spaced).reported (kept g a s esi events tag runs named spaced c.if-matches.false)
 
 pub returns-else-matches-clause-leaves : goal.returns-else-matches-clause-leaves
 returns-else-matches-clause-leaves g c = λ s esi events tag runs named spaced.
-    let laws = c.run_laws.ensures in
-    let vm = c.args.vm.now in
-    let limiter = c.args.limiter.now in
-    let call = c.exec_for_start_tag in
-    let told = c.in-Ok.ensures.answered s esi events tag runs.stands (c.new.ensures ∙ ap local_name (sym named), spaced) in
-    let answered = told.1 in
-    let collected = chained_keeps _ (λ (xs : List MatchInfo) q. (q.0.ghost_name ≡ c.handler-1.given) × (q.0.now.refused ≡ false → q.0.now.items.items ≡ xs))
-    (λ xs q x v j k. search (rules, j, k)) _ _ _ (refl, λ _. c.clear.ensures.items) answered.reported in
-    let kept : c.matches-1.given.0.items.items ≡ map info_of answered.matched = search (rules, collected.0, collected.1, c.if-matches.false) in
-    leaves laws.depths laws.ordered s esi events tag vm call.new.self c.clear_opened-opened.new.vm limiter call.new.limiter (charged_for laws.depths laws.ordered s esi events vm limiter runs)
-    (room_for laws.places s esi events vm limiter runs tag (room_answered s esi events vm call.result runs.stands call.ensures.full _ c.in-Ok.is)) runs.countable
-    (λ opening. told.0 (has_content_if s esi events tag opening)) call.ensures.charges.bytes
-    (ap (λ (l : Limiter). l.maximum) call.ensures.charges.charged) (charged_more vm call.new.self limiter call.new.limiter call.ensures.charges.bytes call.ensures.charges.grows call.ensures.charges.charged runs.charged)
-    false answered c.open_elements-open_before.result c.open_elements-open_before.ensures c.clear_opened-opened.result c.clear_opened-opened.ensures _ kept
+    let a = (goal.at.returns-else-matches-clause-leaves g c).After-clear_opened-opened in
+    (answered g a s esi events tag runs named spaced).leaves (kept g a s esi events tag runs named spaced c.if-matches.false)
 
 pub returns-then-matches-clause-told : goal.returns-then-matches-clause-told
 returns-then-matches-clause-told g c = λ s esi events tag runs named spaced.
-    let laws = c.run_laws.ensures in
-    let vm = c.args.vm.now in
-    let limiter = c.args.limiter.now in
-    let call = c.exec_for_start_tag in
-    let told = c.in-Ok.ensures.answered s esi events tag runs.stands (c.new.ensures ∙ ap local_name (sym named), spaced) in
-    let answered = told.1 in
-    unreported laws.depths laws.ordered s esi events tag vm call.new.self c.clear_opened-opened.new.vm limiter call.new.limiter (charged_for laws.depths laws.ordered s esi events vm limiter runs)
-    (room_for laws.places s esi events vm limiter runs tag (room_answered s esi events vm call.result runs.stands call.ensures.full _ c.in-Ok.is)) runs.countable
-    (λ opening. told.0 (has_content_if s esi events tag opening)) call.ensures.charges.bytes
-    (ap (λ (l : Limiter). l.maximum) call.ensures.charges.charged) (charged_more vm call.new.self limiter call.new.limiter call.ensures.charges.bytes call.ensures.charges.grows call.ensures.charges.charged runs.charged)
-    false answered c.open_elements-open_before.result c.open_elements-open_before.ensures c.clear_opened-opened.result c.clear_opened-opened.ensures
+    let a = (goal.at.returns-then-matches-clause-told g c).After-clear_opened-opened in
+    (answered g a s esi events tag runs named spaced).unreported
 
 pub returns-then-matches-clause-leaves : goal.returns-then-matches-clause-leaves
 returns-then-matches-clause-leaves g c = λ s esi events tag runs named spaced.
-    let laws = c.run_laws.ensures in
-    let vm = c.args.vm.now in
-    let limiter = c.args.limiter.now in
-    let call = c.exec_for_start_tag in
-    let told = c.in-Ok.ensures.answered s esi events tag runs.stands (c.new.ensures ∙ ap local_name (sym named), spaced) in
-    let answered = told.1 in
-    leaves_unreported laws.depths laws.ordered s esi events tag vm call.new.self c.clear_opened-opened.new.vm limiter call.new.limiter (charged_for laws.depths laws.ordered s esi events vm limiter runs)
-    (room_for laws.places s esi events vm limiter runs tag (room_answered s esi events vm call.result runs.stands call.ensures.full _ c.in-Ok.is)) runs.countable
-    (λ opening. told.0 (has_content_if s esi events tag opening)) call.ensures.charges.bytes
-    (ap (λ (l : Limiter). l.maximum) call.ensures.charges.charged) (charged_more vm call.new.self limiter call.new.limiter call.ensures.charges.bytes call.ensures.charges.grows call.ensures.charges.charged runs.charged)
-    false answered c.open_elements-open_before.result c.open_elements-open_before.ensures c.clear_opened-opened.result c.clear_opened-opened.ensures
+    let a = (goal.at.returns-then-matches-clause-leaves g c).After-clear_opened-opened in
+    (answered g a s esi events tag runs named spaced).grows
 
 pub returns-in-Err-InfoRequest-clause-told : goal.returns-in-Err-InfoRequest-clause-told
 returns-in-Err-InfoRequest-clause-told g c = λ s esi events tag runs named spaced.
     let laws = c.run_laws.ensures in
-    let vm = c.args.vm.now in
-    let limiter = c.args.limiter.now in
-    let call = c.exec_for_start_tag in
+    let call = c.exec_for_start_tag.ensures in
     let is = c.in-Err-InfoRequest.is ∙ ap Err c.in-Err-InfoRequest.field-0-is in
-    asked_for laws.depths laws.ordered laws.dropped s esi events tag vm call.new.self limiter call.new.limiter runs
-    (room_for laws.places s esi events vm limiter runs tag (room_asked s esi events vm call.result runs.stands call.ensures.full c.in-Err-InfoRequest.request is)) call.ensures.charges.bytes
-    (ap (λ (l : Limiter). l.maximum) c.in-Err-InfoRequest.ensures.left.uncharged) (charged_alike vm call.new.self limiter call.new.limiter c.in-Err-InfoRequest.ensures.left.slots call.ensures.charges.bytes c.in-Err-InfoRequest.ensures.left.uncharged runs.charged)
-    c.in-Err-InfoRequest.request (call.ensures.asked c.in-Err-InfoRequest.request is s esi events tag runs.stands (c.new.ensures ∙ ap local_name (sym named), spaced))
+    let room = room_for laws.places s esi events c.args.vm.now c.args.limiter.now runs tag (has_room s esi events c.args.vm.now _ runs.stands call.full (other_answer is (λ same. cc))) in
+    let left = c.in-Err-InfoRequest.ensures.left in
+    let charged = charged_alike c.args.vm.now c.exec_for_start_tag.new.self c.args.limiter.now c.exec_for_start_tag.new.limiter left.slots call.charges.bytes left.uncharged runs.charged in
+    asked_for laws.depths laws.ordered laws.dropped s esi events tag c.args.vm.now c.exec_for_start_tag.new.self c.args.limiter.now c.exec_for_start_tag.new.limiter runs room call.charges.bytes (ap (λ (l : Limiter). l.maximum) left.uncharged) charged
+    c.in-Err-InfoRequest.request (call.asked c.in-Err-InfoRequest.request is s esi events tag runs.stands (c.new.ensures ∙ ap local_name (sym named), spaced))
 
 pub returns-in-Err-MemoryLimitExceeded-clause-refused : goal.returns-in-Err-MemoryLimitExceeded-clause-refused
 returns-in-Err-MemoryLimitExceeded-clause-refused g c = λ s esi events tag runs named spaced.
     let laws = c.run_laws.ensures in
-    let vm = c.args.vm.now in
-    let limiter = c.args.limiter.now in
-    let call = c.exec_for_start_tag in
+    let call = c.exec_for_start_tag.ensures in
     let is = c.in-Err-MemoryLimitExceeded.is ∙ ap Err c.in-Err-MemoryLimitExceeded.field-0-is in
-    let reported = (call.ensures.limited is).1 s esi events tag runs.stands (c.new.ensures ∙ ap local_name (sym named), spaced) in
-    refused_for_limit s esi (document s esi events) (longest s esi events) (list_in (stack_in vm)) limiter (charged_for laws.depths laws.ordered s esi events vm limiter runs) tag
-    (room_for laws.places s esi events vm limiter runs tag (room_limited s esi events vm call.result runs.stands call.ensures.full _ is)) (opens_unasked s esi events tag reported.0 reported.1.asks) (call.ensures.limited is).0
+    let charged = charged_for laws.depths laws.ordered s esi events c.args.vm.now c.args.limiter.now runs in
+    let room = room_for laws.places s esi events c.args.vm.now c.args.limiter.now runs tag (has_room s esi events c.args.vm.now _ runs.stands call.full (other_answer is (λ same. cc))) in
+    let limited = call.limited is in
+    let reported = limited.1 s esi events tag runs.stands (c.new.ensures ∙ ap local_name (sym named), spaced) in
+    refused_for_limit s esi charged tag room (opens_unasked s esi events tag reported.0 reported.1.asks) limited.0
 
 pub returns-in-Err-CounterFull-clause-refused : goal.returns-in-Err-CounterFull-clause-refused
 returns-in-Err-CounterFull-clause-refused g c = λ s esi events tag runs named spaced.
     let laws = c.run_laws.ensures in
-    let vm = c.args.vm.now in
-    let limiter = c.args.limiter.now in
-    let call = c.exec_for_start_tag in
+    let call = c.exec_for_start_tag.ensures in
     let is = c.in-Err-CounterFull.is ∙ ap Err c.in-Err-CounterFull.field-0-is in
-    refused_for_counter s esi (document s esi events) (longest s esi events) (list_in (stack_in vm)) limiter (charged_for laws.depths laws.ordered s esi events vm limiter runs) tag
-    (no_room_for laws.places s esi events vm limiter runs tag (call.ensures.full.0 is).1)
+    let charged = charged_for laws.depths laws.ordered s esi events c.args.vm.now c.args.limiter.now runs in
+    refused_for_counter s esi charged tag (no_room_for laws.places s esi events c.args.vm.now c.args.limiter.now runs tag (call.full.0 is).1)
 
 pub returns-in-Err-Memory-clause-refused : goal.returns-in-Err-Memory-clause-refused
 returns-in-Err-Memory-clause-refused g c = λ s esi events tag runs named spaced.
     let laws = c.run_laws.ensures in
-    let vm = c.args.vm.now in
-    let limiter = c.args.limiter.now in
-    let call = c.exec_for_start_tag in
+    let call = c.exec_for_start_tag.ensures in
     let is = c.in-Err-Memory.is ∙ ap Err c.in-Err-Memory.field-0-is in
-    let charged = charged_for laws.depths laws.ordered s esi events vm limiter runs in
-    let room = room_for laws.places s esi events vm limiter runs tag (room_refused s esi events vm call.result runs.stands call.ensures.full _ is) in (
-      counter_has_room s esi (document s esi events) (longest s esi events) (list_in (stack_in vm)) limiter charged tag room,
-      λ free. limit_isnt_due s esi (document s esi events) (longest s esi events) (list_in (stack_in vm)) limiter charged tag room
-          (λ opening limited. call.ensures.due _ is limited s esi events tag runs.stands (c.new.ensures ∙ ap local_name (sym named), spaced) free),
-    )
+    let charged = charged_for laws.depths laws.ordered s esi events c.args.vm.now c.args.limiter.now runs in
+    let room = room_for laws.places s esi events c.args.vm.now c.args.limiter.now runs tag (has_room s esi events c.args.vm.now _ runs.stands call.full (other_answer is (λ same. cc))) in
+    refused_for_memory s esi charged tag room (λ free opening limited. call.due _ is limited s esi events tag runs.stands (c.new.ensures ∙ ap local_name (sym named), spaced) free)
 
 pub returns-in-Err-Failed-clause-refused : goal.returns-in-Err-Failed-clause-refused
 returns-in-Err-Failed-clause-refused g c = λ s esi events tag runs named spaced.
@@ -144,8 +111,8 @@ returns-in-Err-Failed-clause-refused g c = λ s esi events tag runs named spaced
 
 pub returns-then-matches-clause-tried : goal.returns-then-matches-clause-tried
 returns-then-matches-clause-tried g c = λ s esi events tag runs named spaced.
-    subst (λ tries. IsTriedAtMost s esi events tag tries) (sym c.clear_opened-opened.ensures.running.tries) (c.exec_for_start_tag.ensures.tried s esi events tag runs.stands (c.new.ensures ∙ ap local_name (sym named), spaced))
+    tried_on s esi events tag c.clear_opened-opened.ensures.running (c.exec_for_start_tag.ensures.tried s esi events tag runs.stands (c.new.ensures ∙ ap local_name (sym named), spaced))
 
 pub returns-else-matches-clause-tried : goal.returns-else-matches-clause-tried
 returns-else-matches-clause-tried g c = λ s esi events tag runs named spaced.
-    subst (λ tries. IsTriedAtMost s esi events tag tries) (sym c.clear_opened-opened.ensures.running.tries) (c.exec_for_start_tag.ensures.tried s esi events tag runs.stands (c.new.ensures ∙ ap local_name (sym named), spaced))
+    tried_on s esi events tag c.clear_opened-opened.ensures.running (c.exec_for_start_tag.ensures.tried s esi events tag runs.stands (c.new.ensures ∙ ap local_name (sym named), spaced))

@@ -1,6 +1,7 @@
 use Rattle.lol_vm.specs.Views.{selectors}
 use Rattle.lol_matcher.specs.Told.{heard}
-use Rattle.lol_matcher.proofs.Values.{charged_on, runs_on, waits_on}
+use Rattle.lol_matcher.proofs.Charges.{charged_on}
+use Rattle.lol_matcher.proofs.Values.{runs_on, waits_on}
 use Rattle.lol_matcher.proofs.matcher.Matcher.replace_value.Goals as goal
 
 pub invariant_of-self : goal.invariant_of-self
