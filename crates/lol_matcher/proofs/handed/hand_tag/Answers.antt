@@ -1,123 +1,97 @@
-use Rattle.std.proofs.Common.{rules, ◌≡◌, Bool, List, Result, Ok, Err, true, false, true≢false, refl, sym, ap, subst, ◌∙◌, map}
-use Rattle.std.specs.Prelude.{◌&&◌}
+use Rattle.std.proofs.Common.{rules, ◌≡◌, List, Bool, Err, true, false, true≢false, refl, sym, ap, ◌∙◌, map}
 use Rattle.std.proofs.lemmas.Fn.{chained_keeps}
-use Rattle.std.proofs.lemmas.Result.{IfOk-weaker, IfErr-weaker, on_err_weaker}
 use Rattle.lol_base.specs.LocalNames.{local_name}
 use Rattle.lol_base.specs.StartTags.{StartTag}
-use Rattle.lol_memory.specs.Limiter.{Limiter}
 use Rattle.lol_memory.specs.declared.match_info.MatchInfo.{MatchInfo}
-use Rattle.lol_stack.specs.Stacks.{list_in}
-use Rattle.lol_vm.specs.Answers.{document}
-use Rattle.lol_vm.specs.FreeTags.{RunsWithoutMemory}
-use Rattle.lol_vm.specs.Refusals.{Allowance, longest}
-use Rattle.lol_vm.specs.Vms.{IsRestOf, IsTriedAtMost, info_of, stack_in}
-use Rattle.lol_vm.specs.declared.error.StartTagError.{StartTagError}
-use Rattle.lol_vm.specs.declared.error.StartTagError.TheVariants as refusals
-use Rattle.lol_vm.proofs.CallerLemmas.{hasnt_failed}
-use Rattle.lol_matcher.specs.Keeping.{IsToldAs, IsUnreported, RunsPast, allowed}
-use Rattle.lol_matcher.specs.Refusing.{IsRefusedFor, allowance, refusal_after}
+use Rattle.lol_program.specs.Paths.{Selectors}
+use Rattle.lol_vm.specs.Answers.{Match}
 use Rattle.lol_vm.specs.AskedRuns.{bare_tag}
-use Rattle.lol_matcher.proofs.Charges.{charged_alike, charged_more}
+use Rattle.lol_vm.specs.Events.{Event}
+use Rattle.lol_vm.specs.Vms.{IsRestOf, info_of, is_asked_for}
+use Rattle.lol_vm.proofs.CallerLemmas.{hasnt_failed}
+use Rattle.lol_matcher.specs.Keeping.{Runs, allowed}
+use Rattle.lol_matcher.proofs.Charges.{charged_after}
 use Rattle.lol_matcher.proofs.Handing.{asks_are, handed_as, handed_unreported_as}
-use Rattle.lol_matcher.proofs.Refusals.{counter_has_room, limit_isnt_due, refused_for_counter, refused_for_limit}
-use Rattle.lol_matcher.proofs.Rooms.{room_unless}
+use Rattle.lol_matcher.proofs.Refusals.{refused_for_counter, refused_for_limit, refused_for_memory}
+use Rattle.lol_matcher.proofs.Rooms.{has_room}
 use Rattle.lol_matcher.proofs.Running.{charged_for}
-use Rattle.lol_matcher.proofs.Telling.{has_content_if, leaves, leaves_unreported, no_room_for, opens_handed, reported, room_for, unreported}
+use Rattle.lol_matcher.proofs.Telling.{WasAnswered, no_room_for, opens_handed, other_answer, room_for, tried_on, was_answered}
+use Rattle.lol_matcher.proofs.handed.hand_tag.Given as given
 use Rattle.lol_matcher.proofs.handed.hand_tag.Goals as goal
+use Rattle.lol_matcher.proofs.handed.hand_tag.Goals.{After-clear_opened-opened}
 
-no_error : (result : Result Bool StartTagError) (asked : Bool) (error : StartTagError) → result ≡ Ok asked → result ≡ Err error → ⊥
-no_error result asked error is at = cc
+-- a tag that was answered: one with these attributes, where they are asked for
+module _ (g : given.Over) (c : After-clear_opened-opened g) (s : Selectors) (esi : Bool) (events : List Event) (runs : Runs s esi events c.args.vm.now c.args.limiter.now) (tag : StartTag) (named : tag.name ≡ c.args.name.now) (spaced : tag.namespace ≡ c.args.ns)
+    (when : c.in-Ok._asked ≡ true → IsRestOf c.args.aux_info tag) where
+  abbrev matched : List Match
+  matched = (c.in-Ok.ensures.answered s esi events tag runs.stands (c.new-local_name.ensures ∙ ap local_name (sym named), spaced) when).1.matched
 
-other_error : (result : Result Bool StartTagError) (error other : StartTagError) → result ≡ Err error → (error ≡ other → ⊥) → result ≡ Err other → ⊥
-other_error result error other is differ at = differ cc
+  answered : WasAnswered s esi events tag c.in-Ok._asked matched c.clear_opened-opened.result c.args.vm.now c.clear_opened-opened.new.vm c.args.limiter.now c.exec_for_whole_start_tag.new.limiter
+  answered =
+      let laws = c.run_laws.ensures in
+      let call = c.exec_for_whole_start_tag.ensures in
+      let charged = charged_for laws.depths laws.ordered s esi events c.args.vm.now c.args.limiter.now runs in
+      let room = room_for laws.places s esi events c.args.vm.now c.args.limiter.now runs tag (has_room s esi events c.args.vm.now _ runs.stands call.full (other_answer c.in-Ok.is (λ same. cc))) in
+      was_answered laws.depths laws.ordered s esi events tag charged room runs.countable (c.in-Ok.ensures.answered s esi events tag runs.stands (c.new-local_name.ensures ∙ ap local_name (sym named), spaced) when)
+      call.charges c.open_elements-open_before.ensures c.clear_opened-opened.ensures
+
+  asks : is_asked_for s esi events tag ≡ c.in-Ok._asked
+  asks = asks_are s esi events tag _ c.in-Ok._asked _ _ (c.in-Ok.ensures.answered s esi events tag runs.stands (c.new-local_name.ensures ∙ ap local_name (sym named), spaced) when).1.answered
+
+  kept : c.matches-1.given.0.refused ≡ false → c.matches-1.given.0.items.items ≡ map info_of matched
+  kept unrefused =
+      let told = c.in-Ok.ensures.answered s esi events tag runs.stands (c.new-local_name.ensures ∙ ap local_name (sym named), spaced) when in
+      let collected = chained_keeps _ (λ (xs : List MatchInfo) q. (q.0.ghost_name ≡ c.handler-1.given) × (q.0.now.refused ≡ false → q.0.now.items.items ≡ xs))
+      (λ xs q x v j k. search (rules, j, k)) _ _ _ (refl, λ _. c.clear.ensures.items) told.1.reported in
+      search (rules, collected.0, collected.1, unrefused)
+
+-- without them, where they aren't
+unasked_rest : {asked : Bool} {A : Type 0} → asked ≡ false → asked ≡ true → A
+unasked_rest unasked is = absurd (true≢false (sym is ∙ unasked))
 
 pub returns-else-matches-clause-told : goal.returns-else-matches-clause-told
 returns-else-matches-clause-told g c = λ s esi events tag runs named spaced rest.
-    let when = λ (yes : c.in-Ok._asked ≡ true). rest in
-    let laws = c.run_laws.ensures in
-    let vm = c.args.vm.now in
-    let limiter = c.args.limiter.now in
-    let call = c.exec_for_whole_start_tag in
-    let bare = bare_tag tag.name tag.namespace in
-    let is_tag = λ (tag : StartTag) (named : tag.name ≡ c.args.name.now). c.new-local_name.ensures ∙ ap local_name (sym named) in
-    let asked = c.in-Ok._asked in
-    let answered = λ (tag : StartTag) (named : tag.name ≡ c.args.name.now) (spaced : tag.namespace ≡ c.args.ns) (when : asked ≡ true → IsRestOf c.args.aux_info tag). (c.in-Ok.ensures.answered s esi events tag runs.stands (is_tag tag named, spaced) when).1 in
-    let kept : (tag : StartTag) (named : tag.name ≡ c.args.name.now) (spaced : tag.namespace ≡ c.args.ns) (when : asked ≡ true → IsRestOf c.args.aux_info tag) → c.matches-1.given.0.items.items ≡ map info_of (answered tag named spaced when).matched = λ tag named spaced when.
-    let collected = chained_keeps _ (λ (xs : List MatchInfo) q. (q.0.ghost_name ≡ c.handler-1.given) × (q.0.now.refused ≡ false → q.0.now.items.items ≡ xs))
-    (λ xs q x v j k. search (rules, j, k)) _ _ _ (refl, λ _. c.clear.ensures.items) (answered tag named spaced when).reported in
-    search (rules, collected.0, collected.1, c.if-matches.false) in
-    let told : (tag : StartTag) (named : tag.name ≡ c.args.name.now) (spaced : tag.namespace ≡ c.args.ns) (when : asked ≡ true → IsRestOf c.args.aux_info tag) → IsToldAs s esi events tag asked c.matches-1.given.0.items.items (allowed vm limiter) c.clear_opened-opened.new.vm call.new.limiter = λ tag named spaced when.
-    reported laws.depths laws.ordered s esi events tag vm call.new.self c.clear_opened-opened.new.vm limiter call.new.limiter (charged_for laws.depths laws.ordered s esi events vm limiter runs)
-    (room_for laws.places s esi events vm limiter runs tag (room_unless s esi events vm _ runs.stands call.ensures.full (no_error call.result asked refusals.CounterFull c.in-Ok.is))) runs.countable
-    (λ opening. (c.in-Ok.ensures.answered s esi events tag runs.stands (is_tag tag named, spaced) when).0 (has_content_if s esi events tag opening)) call.ensures.charges.bytes
-    (ap (λ (l : Limiter). l.maximum) call.ensures.charges.charged) (charged_more vm call.new.self limiter call.new.limiter call.ensures.charges.bytes call.ensures.charges.grows call.ensures.charges.charged runs.charged)
-    asked (answered tag named spaced when) c.open_elements-open_before.result c.open_elements-open_before.ensures c.clear_opened-opened.result c.clear_opened-opened.ensures _ (kept tag named spaced when) in
-    let left = leaves laws.depths laws.ordered s esi events tag vm call.new.self c.clear_opened-opened.new.vm limiter call.new.limiter (charged_for laws.depths laws.ordered s esi events vm limiter runs)
-    (room_for laws.places s esi events vm limiter runs tag (room_unless s esi events vm _ runs.stands call.ensures.full (no_error call.result asked refusals.CounterFull c.in-Ok.is))) runs.countable
-    (λ opening. (c.in-Ok.ensures.answered s esi events tag runs.stands (is_tag tag named, spaced) when).0 (has_content_if s esi events tag opening)) call.ensures.charges.bytes
-    (ap (λ (l : Limiter). l.maximum) call.ensures.charges.charged) (charged_more vm call.new.self limiter call.new.limiter call.ensures.charges.bytes call.ensures.charges.grows call.ensures.charges.charged runs.charged)
-    asked (answered tag named spaced when) c.open_elements-open_before.result c.open_elements-open_before.ensures c.clear_opened-opened.result c.clear_opened-opened.ensures _ (kept tag named spaced when) in
-    (handed_as s esi events tag (allowed vm limiter) c.clear_opened-opened.new.vm call.new.limiter rest.2 asked _ (told tag named spaced when) (λ unasked. told bare named spaced (λ yes. absurd (true≢false (sym yes ∙ unasked)))), left.0, left.1)
+    let a = (goal.at.returns-else-matches-clause-told g c).After-clear_opened-opened in
+    let is = answered g a s esi events runs tag named spaced (λ yes. rest) in
+    let bare = answered g a s esi events runs (bare_tag tag.name tag.namespace) named spaced in
+    let kept = λ (tag : StartTag) (named : tag.name ≡ c.args.name.now) (spaced : tag.namespace ≡ c.args.ns) (when : c.in-Ok._asked ≡ true → IsRestOf c.args.aux_info tag). kept g a s esi events runs tag named spaced when c.if-matches.false in
+    let left = is.leaves (kept tag named spaced (λ yes. rest)) in
+    (handed_as s esi events tag (allowed c.args.vm.now c.args.limiter.now) c.clear_opened-opened.new.vm c.exec_for_whole_start_tag.new.limiter rest.2 c.in-Ok._asked _ (is.reported (kept tag named spaced (λ yes. rest))) (λ none. (bare (unasked_rest none)).reported (kept (bare_tag tag.name tag.namespace) named spaced (unasked_rest none))), left.0, left.1)
 
 pub returns-then-matches-clause-told : goal.returns-then-matches-clause-told
 returns-then-matches-clause-told g c = λ s esi events tag runs named spaced rest.
-    let when = λ (yes : c.in-Ok._asked ≡ true). rest in
-    let laws = c.run_laws.ensures in
-    let vm = c.args.vm.now in
-    let limiter = c.args.limiter.now in
-    let call = c.exec_for_whole_start_tag in
-    let bare = bare_tag tag.name tag.namespace in
-    let is_tag = λ (tag : StartTag) (named : tag.name ≡ c.args.name.now). c.new-local_name.ensures ∙ ap local_name (sym named) in
-    let asked = c.in-Ok._asked in
-    let answered = λ (tag : StartTag) (named : tag.name ≡ c.args.name.now) (spaced : tag.namespace ≡ c.args.ns) (when : asked ≡ true → IsRestOf c.args.aux_info tag). (c.in-Ok.ensures.answered s esi events tag runs.stands (is_tag tag named, spaced) when).1 in
-    let told : (tag : StartTag) (named : tag.name ≡ c.args.name.now) (spaced : tag.namespace ≡ c.args.ns) (when : asked ≡ true → IsRestOf c.args.aux_info tag) → IsUnreported s esi events tag (allowed vm limiter) c.clear_opened-opened.new.vm call.new.limiter = λ tag named spaced when.
-    unreported laws.depths laws.ordered s esi events tag vm call.new.self c.clear_opened-opened.new.vm limiter call.new.limiter (charged_for laws.depths laws.ordered s esi events vm limiter runs)
-    (room_for laws.places s esi events vm limiter runs tag (room_unless s esi events vm _ runs.stands call.ensures.full (no_error call.result asked refusals.CounterFull c.in-Ok.is))) runs.countable
-    (λ opening. (c.in-Ok.ensures.answered s esi events tag runs.stands (is_tag tag named, spaced) when).0 (has_content_if s esi events tag opening)) call.ensures.charges.bytes
-    (ap (λ (l : Limiter). l.maximum) call.ensures.charges.charged) (charged_more vm call.new.self limiter call.new.limiter call.ensures.charges.bytes call.ensures.charges.grows call.ensures.charges.charged runs.charged)
-    asked (answered tag named spaced when) c.open_elements-open_before.result c.open_elements-open_before.ensures c.clear_opened-opened.result c.clear_opened-opened.ensures in (
-      handed_unreported_as s esi events tag (allowed vm limiter) c.clear_opened-opened.new.vm call.new.limiter rest.2 asked (asks_are s esi events tag _ asked _ _ (answered tag named spaced when).answered) (told tag named spaced when) (λ unasked. told bare named spaced (λ yes. absurd (true≢false (sym yes ∙ unasked)))),
-      leaves_unreported laws.depths laws.ordered s esi events tag vm call.new.self c.clear_opened-opened.new.vm limiter call.new.limiter (charged_for laws.depths laws.ordered s esi events vm limiter runs)
-          (room_for laws.places s esi events vm limiter runs tag (room_unless s esi events vm _ runs.stands call.ensures.full (no_error call.result asked refusals.CounterFull c.in-Ok.is))) runs.countable
-          (λ opening. (c.in-Ok.ensures.answered s esi events tag runs.stands (is_tag tag named, spaced) when).0 (has_content_if s esi events tag opening)) call.ensures.charges.bytes
-          (ap (λ (l : Limiter). l.maximum) call.ensures.charges.charged) (charged_more vm call.new.self limiter call.new.limiter call.ensures.charges.bytes call.ensures.charges.grows call.ensures.charges.charged runs.charged)
-          asked (answered tag named spaced when) c.open_elements-open_before.result c.open_elements-open_before.ensures c.clear_opened-opened.result c.clear_opened-opened.ensures,
-    )
+    let a = (goal.at.returns-then-matches-clause-told g c).After-clear_opened-opened in
+    let is = answered g a s esi events runs tag named spaced (λ yes. rest) in
+    let bare = answered g a s esi events runs (bare_tag tag.name tag.namespace) named spaced in
+    (handed_unreported_as s esi events tag (allowed c.args.vm.now c.args.limiter.now) c.clear_opened-opened.new.vm c.exec_for_whole_start_tag.new.limiter rest.2 c.in-Ok._asked (asks g a s esi events runs tag named spaced (λ yes. rest)) is.unreported (λ none. (bare (unasked_rest none)).unreported), is.grows)
 
 pub returns-in-Err-MemoryLimitExceeded-clause-refused : goal.returns-in-Err-MemoryLimitExceeded-clause-refused
 returns-in-Err-MemoryLimitExceeded-clause-refused g c = λ s esi events tag runs named spaced rest.
     let laws = c.run_laws.ensures in
-    let vm = c.args.vm.now in
-    let limiter = c.args.limiter.now in
-    let call = c.exec_for_whole_start_tag in
+    let call = c.exec_for_whole_start_tag.ensures in
     let is = c.in-Err-MemoryLimitExceeded.is ∙ ap Err c.in-Err-MemoryLimitExceeded.field-0-is in
-    let reported = (call.ensures.limited is).1 s esi events tag runs.stands (c.new-local_name.ensures ∙ ap local_name (sym named), spaced) rest in
-    refused_for_limit s esi (document s esi events) (longest s esi events) (list_in (stack_in vm)) limiter (charged_for laws.depths laws.ordered s esi events vm limiter runs) tag
-    (room_for laws.places s esi events vm limiter runs tag (room_unless s esi events vm _ runs.stands call.ensures.full (other_error call.result refusals.MemoryLimitExceeded refusals.CounterFull is (λ same. cc)))) (opens_handed s esi events tag reported.0 rest.2) (call.ensures.limited is).0
+    let charged = charged_for laws.depths laws.ordered s esi events c.args.vm.now c.args.limiter.now runs in
+    let room = room_for laws.places s esi events c.args.vm.now c.args.limiter.now runs tag (has_room s esi events c.args.vm.now _ runs.stands call.full (other_answer is (λ same. cc))) in
+    let limited = call.limited is in
+    let reported = limited.1 s esi events tag runs.stands (c.new-local_name.ensures ∙ ap local_name (sym named), spaced) rest in
+    refused_for_limit s esi charged tag room (opens_handed s esi events tag reported.0 rest.2) limited.0
 
 pub returns-in-Err-CounterFull-clause-refused : goal.returns-in-Err-CounterFull-clause-refused
 returns-in-Err-CounterFull-clause-refused g c = λ s esi events tag runs named spaced rest.
     let laws = c.run_laws.ensures in
-    let vm = c.args.vm.now in
-    let limiter = c.args.limiter.now in
-    let call = c.exec_for_whole_start_tag in
+    let call = c.exec_for_whole_start_tag.ensures in
     let is = c.in-Err-CounterFull.is ∙ ap Err c.in-Err-CounterFull.field-0-is in
-    refused_for_counter s esi (document s esi events) (longest s esi events) (list_in (stack_in vm)) limiter (charged_for laws.depths laws.ordered s esi events vm limiter runs) tag
-    (no_room_for laws.places s esi events vm limiter runs tag (call.ensures.full.0 is).1)
+    let charged = charged_for laws.depths laws.ordered s esi events c.args.vm.now c.args.limiter.now runs in
+    refused_for_counter s esi charged tag (no_room_for laws.places s esi events c.args.vm.now c.args.limiter.now runs tag (call.full.0 is).1)
 
 pub returns-in-Err-Memory-clause-refused : goal.returns-in-Err-Memory-clause-refused
 returns-in-Err-Memory-clause-refused g c = λ s esi events tag runs named spaced rest.
     let laws = c.run_laws.ensures in
-    let vm = c.args.vm.now in
-    let limiter = c.args.limiter.now in
-    let call = c.exec_for_whole_start_tag in
+    let call = c.exec_for_whole_start_tag.ensures in
     let is = c.in-Err-Memory.is ∙ ap Err c.in-Err-Memory.field-0-is in
-    let charged = charged_for laws.depths laws.ordered s esi events vm limiter runs in
-    let room = room_for laws.places s esi events vm limiter runs tag (room_unless s esi events vm _ runs.stands call.ensures.full (other_error call.result refusals.Memory refusals.CounterFull is (λ same. cc))) in (
-      counter_has_room s esi (document s esi events) (longest s esi events) (list_in (stack_in vm)) limiter charged tag room,
-      λ free. limit_isnt_due s esi (document s esi events) (longest s esi events) (list_in (stack_in vm)) limiter charged tag room
-          (λ opening limited. c.in-Err-Memory.ensures.due limited s esi events tag runs.stands (c.new-local_name.ensures ∙ ap local_name (sym named), spaced) free c.in-Err-Memory.field-0-is),
-    )
+    let charged = charged_for laws.depths laws.ordered s esi events c.args.vm.now c.args.limiter.now runs in
+    let room = room_for laws.places s esi events c.args.vm.now c.args.limiter.now runs tag (has_room s esi events c.args.vm.now _ runs.stands call.full (other_answer is (λ same. cc))) in
+    refused_for_memory s esi charged tag room (λ free opening limited. c.in-Err-Memory.ensures.due limited s esi events tag runs.stands (c.new-local_name.ensures ∙ ap local_name (sym named), spaced) free c.in-Err-Memory.field-0-is)
 
 pub returns-in-Err-Failed-clause-refused : goal.returns-in-Err-Failed-clause-refused
 returns-in-Err-Failed-clause-refused g c = λ s esi events tag runs named spaced rest.
@@ -125,25 +99,17 @@ returns-in-Err-Failed-clause-refused g c = λ s esi events tag runs named spaced
 
 pub returns-then-matches-clause-tried : goal.returns-then-matches-clause-tried
 returns-then-matches-clause-tried g c = λ s esi events tag runs named spaced.
-    subst (λ tries. IsTriedAtMost s esi events tag tries) (sym c.clear_opened-opened.ensures.running.tries) (c.exec_for_whole_start_tag.ensures.tried s esi events tag runs.stands (c.new-local_name.ensures ∙ ap local_name (sym named), spaced))
+    tried_on s esi events tag c.clear_opened-opened.ensures.running (c.exec_for_whole_start_tag.ensures.tried s esi events tag runs.stands (c.new-local_name.ensures ∙ ap local_name (sym named), spaced))
 
 pub returns-else-matches-clause-tried : goal.returns-else-matches-clause-tried
 returns-else-matches-clause-tried g c = λ s esi events tag runs named spaced.
-    subst (λ tries. IsTriedAtMost s esi events tag tries) (sym c.clear_opened-opened.ensures.running.tries) (c.exec_for_whole_start_tag.ensures.tried s esi events tag runs.stands (c.new-local_name.ensures ∙ ap local_name (sym named), spaced))
+    tried_on s esi events tag c.clear_opened-opened.ensures.running (c.exec_for_whole_start_tag.ensures.tried s esi events tag runs.stands (c.new-local_name.ensures ∙ ap local_name (sym named), spaced))
 
 pub returns-else-matches-clause-charged : goal.returns-else-matches-clause-charged
-returns-else-matches-clause-charged g c = λ h.
-    let run = c.clear_opened-opened.ensures.running in
-    let call = c.exec_for_whole_start_tag in
-    charged_alike call.new.self c.clear_opened-opened.new.vm call.new.limiter call.new.limiter run.slots run.bytes refl
-    (charged_more c.args.vm.now call.new.self c.args.limiter.now call.new.limiter call.ensures.charges.bytes call.ensures.charges.grows call.ensures.charges.charged h)
+returns-else-matches-clause-charged g c = charged_after c.exec_for_whole_start_tag.ensures.charges c.clear_opened-opened.ensures.running
 
 pub returns-then-matches-clause-charged : goal.returns-then-matches-clause-charged
-returns-then-matches-clause-charged g c = λ h.
-    let run = c.clear_opened-opened.ensures.running in
-    let call = c.exec_for_whole_start_tag in
-    charged_alike call.new.self c.clear_opened-opened.new.vm call.new.limiter call.new.limiter run.slots run.bytes refl
-    (charged_more c.args.vm.now call.new.self c.args.limiter.now call.new.limiter call.ensures.charges.bytes call.ensures.charges.grows call.ensures.charges.charged h)
+returns-then-matches-clause-charged g c = charged_after c.exec_for_whole_start_tag.ensures.charges c.clear_opened-opened.ensures.running
 
 pub returns-in-Err-MemoryLimitExceeded-clause-still_open : goal.returns-in-Err-MemoryLimitExceeded-clause-still_open
 returns-in-Err-MemoryLimitExceeded-clause-still_open g c = λ s esi events tag runs named spaced.

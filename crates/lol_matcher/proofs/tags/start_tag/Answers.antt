@@ -57,14 +57,10 @@ returns-else-matches-clause-leaves g c = λ s esi events tag runs named spaced.
     (answered g a s esi events tag runs named spaced).leaves (kept g a s esi events tag runs named spaced c.if-matches.false)
 
 pub returns-then-matches-clause-told : goal.returns-then-matches-clause-told
-returns-then-matches-clause-told g c = λ s esi events tag runs named spaced.
-    let a = (goal.at.returns-then-matches-clause-told g c).After-clear_opened-opened in
-    (answered g a s esi events tag runs named spaced).unreported
+returns-then-matches-clause-told g c = λ s esi events tag runs named spaced. (answered g (goal.at.returns-then-matches-clause-told g c).After-clear_opened-opened s esi events tag runs named spaced).unreported
 
 pub returns-then-matches-clause-leaves : goal.returns-then-matches-clause-leaves
-returns-then-matches-clause-leaves g c = λ s esi events tag runs named spaced.
-    let a = (goal.at.returns-then-matches-clause-leaves g c).After-clear_opened-opened in
-    (answered g a s esi events tag runs named spaced).grows
+returns-then-matches-clause-leaves g c = λ s esi events tag runs named spaced. (answered g (goal.at.returns-then-matches-clause-leaves g c).After-clear_opened-opened s esi events tag runs named spaced).grows
 
 pub returns-in-Err-InfoRequest-clause-told : goal.returns-in-Err-InfoRequest-clause-told
 returns-in-Err-InfoRequest-clause-told g c = λ s esi events tag runs named spaced.

@@ -123,14 +123,10 @@ returns-in-Ok-Unreported-clause-tried g c =
     rw (← c.self.view_is, (waits g a).asked) (λ refusal. tried g a)
 
 pub returns-in-Err-clause-failed : goal.returns-in-Err-clause-failed
-returns-in-Err-clause-failed g c =
-    let a = (goal.at.returns-in-Err-clause-failed g c).After-finish_tag in
-    not_failed c.self.view_is c.if-self.false (refusal g a c.in-Err.error c.in-Err.ensures.refused)
+returns-in-Err-clause-failed g c = not_failed c.self.view_is c.if-self.false (refusal g (goal.at.returns-in-Err-clause-failed g c).After-finish_tag c.in-Err.error c.in-Err.ensures.refused)
 
 pub returns-in-Err-clause-unchanged : goal.returns-in-Err-clause-unchanged
-returns-in-Err-clause-unchanged g c =
-    let a = (goal.at.returns-in-Err-clause-unchanged g c).After-finish_tag in
-    λ other. absurd (other (refusal g a c.in-Err.error c.in-Err.ensures.refused))
+returns-in-Err-clause-unchanged g c = λ other. absurd (other (refusal g (goal.at.returns-in-Err-clause-unchanged g c).After-finish_tag c.in-Err.error c.in-Err.ensures.refused))
 
 pub returns-in-Err-clause-refused : goal.returns-in-Err-clause-refused
 returns-in-Err-clause-refused g c =

@@ -105,9 +105,7 @@ returns-in-Ok-Reported-clause-opens g c =
     rw (← c.self.view_is) (λ tag named spaced. record { opened = (left tag named spaced).0; kept = (left tag named spaced).1 })
 
 pub returns-in-Ok-Reported-clause-tried : goal.returns-in-Ok-Reported-clause-tried
-returns-in-Ok-Reported-clause-tried g c =
-    let a = (goal.at.returns-in-Ok-Reported-clause-tried g c).After-start_tag in
-    rw (← c.self.view_is) (λ ok. tried g a)
+returns-in-Ok-Reported-clause-tried g c = rw (← c.self.view_is) (λ ok. tried g (goal.at.returns-in-Ok-Reported-clause-tried g c).After-start_tag)
 
 pub returns-in-Ok-Asked-clause-answers : goal.returns-in-Ok-Asked-clause-answers
 returns-in-Ok-Asked-clause-answers g c =
@@ -125,9 +123,7 @@ returns-in-Ok-Asked-clause-opens g c =
     rw (← c.self.view_is) (record { opened = refl; kept = leaves g a c.in-Ok-Asked.field-0-is c.in-Ok-Asked.ensures.leaves (bare g a) refl refl })
 
 pub returns-in-Ok-Asked-clause-tried : goal.returns-in-Ok-Asked-clause-tried
-returns-in-Ok-Asked-clause-tried g c =
-    let a = (goal.at.returns-in-Ok-Asked-clause-tried g c).After-start_tag in
-    rw (← c.self.view_is) (λ ok. tried g a)
+returns-in-Ok-Asked-clause-tried g c = rw (← c.self.view_is) (λ ok. tried g (goal.at.returns-in-Ok-Asked-clause-tried g c).After-start_tag)
 
 pub returns-in-Ok-Unreported-clause-refused : goal.returns-in-Ok-Unreported-clause-refused
 returns-in-Ok-Unreported-clause-refused g c =
@@ -140,11 +136,7 @@ returns-in-Ok-Unreported-clause-left g c =
     rw (← c.self.view_is) (λ ok. inr (record { open_elements = ap (λ h. h.open_elements) c.then-self-inside-in-Ok-Unreported.ensures; kept = leaves g a c.in-Ok-Unreported.field-0-is c.in-Ok-Unreported.ensures.leaves (bare g a) refl refl }))
 
 pub returns-in-Ok-Unreported-clause-tried : goal.returns-in-Ok-Unreported-clause-tried
-returns-in-Ok-Unreported-clause-tried g c =
-    let a = (goal.at.returns-in-Ok-Unreported-clause-tried g c).After-start_tag in
-    rw (← c.self.view_is) (λ ok. tried g a)
+returns-in-Ok-Unreported-clause-tried g c = rw (← c.self.view_is) (λ ok. tried g (goal.at.returns-in-Ok-Unreported-clause-tried g c).After-start_tag)
 
 pub returns-in-Err-clause-tried : goal.returns-in-Err-clause-tried
-returns-in-Err-clause-tried g c =
-    let a = (goal.at.returns-in-Err-clause-tried g c).After-start_tag in
-    rw (← c.self.view_is) (λ ok. tried g a)
+returns-in-Err-clause-tried g c = rw (← c.self.view_is) (λ ok. tried g (goal.at.returns-in-Err-clause-tried g c).After-start_tag)

@@ -93,9 +93,7 @@ returns-in-Ok-Reported-clause-reported g c =
     rw (← c.self.view_is) (answered_report (selectors (t g a).ast) (t g a).esi (heard (t g a)) (tag g a) c.hand_tag.new.matches.items.items _ (answered g a c.in-Ok-Reported.field-0-is c.in-Ok-Reported.ensures.told).0.reported)
 
 pub returns-in-Ok-Reported-clause-answered : goal.returns-in-Ok-Reported-clause-answered
-returns-in-Ok-Reported-clause-answered g c =
-    let a = (goal.at.returns-in-Ok-Reported-clause-answered g c).After-hand_tag in
-    rw (← c.self.view_is) (answered g a c.in-Ok-Reported.field-0-is c.in-Ok-Reported.ensures.told).0.reported
+returns-in-Ok-Reported-clause-answered g c = rw (← c.self.view_is) (answered g (goal.at.returns-in-Ok-Reported-clause-answered g c).After-hand_tag c.in-Ok-Reported.field-0-is c.in-Ok-Reported.ensures.told).0.reported
 
 pub returns-in-Ok-Reported-clause-opens : goal.returns-in-Ok-Reported-clause-opens
 returns-in-Ok-Reported-clause-opens g c =
@@ -108,9 +106,7 @@ returns-in-Ok-Reported-clause-ok g c =
     told_handed (handed c.args.name.now c.args.ns c.args.aux_info) _ _ _ _ c.self.view_is c.then-self-inside.ensures refl refl c.in-Ok-Reported.ensures.maximum c.in-Ok-Reported.ensures.bytes refl
 
 pub returns-in-Ok-Reported-clause-fits : goal.returns-in-Ok-Reported-clause-fits
-returns-in-Ok-Reported-clause-fits g c =
-    let a = (goal.at.returns-in-Ok-Reported-clause-fits g c).After-hand_tag in
-    rw (← c.self.view_is) (answered g a c.in-Ok-Reported.field-0-is c.in-Ok-Reported.ensures.told).0.fits
+returns-in-Ok-Reported-clause-fits g c = rw (← c.self.view_is) (answered g (goal.at.returns-in-Ok-Reported-clause-fits g c).After-hand_tag c.in-Ok-Reported.field-0-is c.in-Ok-Reported.ensures.told).0.fits
 
 pub returns-in-Ok-Unreported-clause-refused : goal.returns-in-Ok-Unreported-clause-refused
 returns-in-Ok-Unreported-clause-refused g c =
@@ -123,14 +119,10 @@ returns-in-Ok-Unreported-clause-left g c =
     rw (← c.self.view_is) (λ refusal. inr (record { open_elements = ap (λ h. h.open_elements) c.then-self-inside-in-Ok-Unreported.ensures; kept = (answered g a c.in-Ok-Unreported.field-0-is c.in-Ok-Unreported.ensures.told).1 }))
 
 pub returns-in-Ok-Unreported-clause-tried : goal.returns-in-Ok-Unreported-clause-tried
-returns-in-Ok-Unreported-clause-tried g c =
-    let a = (goal.at.returns-in-Ok-Unreported-clause-tried g c).After-hand_tag in
-    rw (← c.self.view_is) (λ refusal. tried g a)
+returns-in-Ok-Unreported-clause-tried g c = rw (← c.self.view_is) (λ refusal. tried g (goal.at.returns-in-Ok-Unreported-clause-tried g c).After-hand_tag)
 
 pub returns-in-Err-clause-failed : goal.returns-in-Err-clause-failed
-returns-in-Err-clause-failed g c =
-    let a = (goal.at.returns-in-Err-clause-failed g c).After-hand_tag in
-    not_failed c.self.view_is c.if-self.false (refusal g a c.in-Err.error c.in-Err.ensures.refused)
+returns-in-Err-clause-failed g c = not_failed c.self.view_is c.if-self.false (refusal g (goal.at.returns-in-Err-clause-failed g c).After-hand_tag c.in-Err.error c.in-Err.ensures.refused)
 
 pub returns-in-Err-clause-outside : goal.returns-in-Err-clause-outside
 returns-in-Err-clause-outside g c =
@@ -139,19 +131,13 @@ returns-in-Err-clause-outside g c =
     (λ is. absurd (still_refusal (refusal g a c.in-Err.error c.in-Err.ensures.refused) is), λ outside. absurd (outside.1 inside))
 
 pub returns-in-Err-clause-asked : goal.returns-in-Err-clause-asked
-returns-in-Err-clause-asked g c =
-    let a = (goal.at.returns-in-Err-clause-asked g c).After-hand_tag in
-    λ is. absurd (still_refusal (refusal g a c.in-Err.error c.in-Err.ensures.refused) is)
+returns-in-Err-clause-asked g c = λ is. absurd (still_refusal (refusal g (goal.at.returns-in-Err-clause-asked g c).After-hand_tag c.in-Err.error c.in-Err.ensures.refused) is)
 
 pub returns-in-Err-clause-unchanged : goal.returns-in-Err-clause-unchanged
-returns-in-Err-clause-unchanged g c =
-    let a = (goal.at.returns-in-Err-clause-unchanged g c).After-hand_tag in
-    λ other. absurd (other (refusal g a c.in-Err.error c.in-Err.ensures.refused))
+returns-in-Err-clause-unchanged g c = λ other. absurd (other (refusal g (goal.at.returns-in-Err-clause-unchanged g c).After-hand_tag c.in-Err.error c.in-Err.ensures.refused))
 
 pub returns-in-Err-clause-refused : goal.returns-in-Err-clause-refused
-returns-in-Err-clause-refused g c =
-    let a = (goal.at.returns-in-Err-clause-refused g c).After-hand_tag in
-    rw (← c.self.view_is) (λ refusal. refused g a c.in-Err.error c.in-Err.ensures.refused)
+returns-in-Err-clause-refused g c = rw (← c.self.view_is) (λ refusal. refused g (goal.at.returns-in-Err-clause-refused g c).After-hand_tag c.in-Err.error c.in-Err.ensures.refused)
 
 pub returns-in-Err-clause-left : goal.returns-in-Err-clause-left
 returns-in-Err-clause-left g c =
@@ -160,6 +146,4 @@ returns-in-Err-clause-left g c =
     rw (← c.self.view_is) (λ refusal. left_same c.in-Err.error _ _ _ _ (record { open_elements = refl; kept = kept }))
 
 pub returns-in-Err-clause-tried : goal.returns-in-Err-clause-tried
-returns-in-Err-clause-tried g c =
-    let a = (goal.at.returns-in-Err-clause-tried g c).After-hand_tag in
-    rw (← c.self.view_is) (λ refusal. tried g a)
+returns-in-Err-clause-tried g c = rw (← c.self.view_is) (λ refusal. tried g (goal.at.returns-in-Err-clause-tried g c).After-hand_tag)
