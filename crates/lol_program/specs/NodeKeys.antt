@@ -1,5 +1,5 @@
 -- The keys by which nodes are found: hashes of 64 bits.
-use Rattle.std.specs.Prelude.{ℕ, ℤ, List, [], ◌∷◌, fold, bit_xor}
+use Rattle.std.specs.Prelude.{ℕ, ℤ, ◌*◌, ◌/◌, ◌%◌, ◌^◌, List, [], ◌∷◌, fold, bit_xor}
 use Rattle.std.specs.Hash as fed
 use Rattle.std.specs.Hash.DefaultHasher as sip
 use Rattle.std.specs.declared.hash.DefaultHasher.{DefaultHasher}
@@ -78,16 +78,18 @@ abbrev mutual
 
 -- the list of the nodes that stand under no other
 abbrev pub root_list : ℕ
-root_list = 0
+root_list = 10723151780598845931
 
--- the node at a place of a list
-abbrev pub place_key : ℕ → ℕ → ℕ
-place_key list place = sip.finish (fold sip.write (fold sip.write sip.initial (fed.u64 list)) (fed.usize place))
+-- an odd number for each step, with bits in no order
+abbrev pub multiplier : Combinator → ℕ
+multiplier Child = 11400714819323198485
+multiplier Descendant = 13787848793156543929
 
--- the list of the nodes by a step under it
+-- the list of the nodes by a step under the node at a place of a list
 abbrev pub list_under : ℕ → ℕ → Combinator → ℕ
-list_under list place Child = place_key list place
-list_under list place Descendant = bit_xor (place_key list place) 1
+list_under list place step =
+    let product = (bit_xor list place * multiplier step) % 2 ^ 64 in
+    bit_xor product (product / 2 ^ 32)
 
 -- the node with these tests in a list
 abbrev pub node_key : ℕ → Compound → ℕ

@@ -16,19 +16,23 @@ use std::hash::{DefaultHasher, Hasher};
 const END: u8 = 255;
 
 /// The key of the list of the nodes that stand under no other.
-pub(crate) const ROOT_LIST: u64 = 0;
+pub(crate) const ROOT_LIST: u64 = 10_723_151_780_598_845_931;
 
 /// The key of the list of the nodes by a step under the node at a place of a list.
 pub(crate) fn list_under(list: u64, place: usize, combinator: Combinator) -> u64
     ensures { result ≡ keys.list_under list place combinator }
 {
-    let mut hasher = DefaultHasher::new();
-    hasher.write_u64(list);
-    hasher.write_usize(place);
-    let key = hasher.finish();
+    let product = (list ^ place as u64).wrapping_mul(multiplier(combinator));
+    product ^ (product >> 32)
+}
+
+/// An odd number for each step, with bits in no order.
+fn multiplier(combinator: Combinator) -> u64
+    ensures { result ≡ keys.multiplier combinator }
+{
     match combinator {
-        Combinator::Child => key,
-        Combinator::Descendant => key ^ 1,
+        Combinator::Child => 11_400_714_819_323_198_485,
+        Combinator::Descendant => 13_787_848_793_156_543_929,
     }
 }
 
