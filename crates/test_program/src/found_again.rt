@@ -90,6 +90,37 @@ fn each_kind_is_found_again(rt: HostRuntime) -> Result<(), Fail> {
     Ok(())
 }
 
+/// Adds so many siblings after a prefix: `.x0` and so on.
+fn add_siblings(alloc: Global, ast: &mut Ast, prefix: &str, siblings: u32) -> Result<(), Fail> {
+    for number in 0..siblings {
+        let text = format!(in alloc; "{prefix}.x{number}")?;
+        add(alloc, ast, text.as_str(), number)?;
+    }
+    Ok(())
+}
+
+#[test]
+fn the_first_with_keys_are_found_again(rt: HostRuntime) -> Result<(), Fail> {
+    // The 33rd node of a list is the first with a key. `i` is one node more.
+    let rows = [
+        ("", 32, 32),
+        ("", 33, 33),
+        ("", 34, 34),
+        ("i > ", 32, 33),
+        ("i > ", 33, 34),
+        ("i > ", 34, 35),
+        ("i ", 33, 34),
+        ("i ", 34, 35),
+    ];
+    for (prefix, siblings, count) in rows {
+        let mut ast = Ast::new(rt.alloc());
+        add_siblings(rt.alloc(), &mut ast, prefix, siblings)?;
+        add_siblings(rt.alloc(), &mut ast, prefix, siblings)?;
+        assert!(rt; ast.cumulative_node_count() == count, "{count}");
+    }
+    Ok(())
+}
+
 /// How many siblings there are in mixed order.
 const SIBLINGS: u32 = 401;
 
