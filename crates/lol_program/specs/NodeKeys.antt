@@ -1,4 +1,4 @@
--- The keys by which nodes are found: hashes of 64 bits.
+-- The keys by which nodes are found: numbers of 64 bits.
 use Rattle.std.specs.Prelude.{ℕ, ℤ, ◌*◌, ◌/◌, ◌%◌, ◌^◌, List, [], ◌∷◌, fold, bit_xor}
 use Rattle.std.specs.Hash as fed
 use Rattle.std.specs.Hash.DefaultHasher as sip

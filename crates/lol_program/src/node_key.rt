@@ -1,4 +1,4 @@
-//! The keys by which nodes are found: hashes of their tests, and of the places of the nodes above them.
+//! The keys by which nodes are found: made of their tests, and of the places of the nodes above them.
 
 ghost use Rattle.std.specs.Prelude.{◌≡◌, IfSome};
 ghost use Rattle.lol_css.specs.TreeViews.{part_of, item_of, list_of};
