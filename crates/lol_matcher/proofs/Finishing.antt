@@ -1,22 +1,16 @@
 -- A start tag that waited for its attributes, with them.
-use Rattle.std.proofs.Common.{◌≡◌, refl, ap, Bool, true, List, Option, Some, None, ℕ, subst}
+use Rattle.std.proofs.Common.{◌≡◌, refl, ap, true, List, Option, Some, None, ℕ, subst}
 use Rattle.std.specs.Prelude.{◌&&◌}
 use Rattle.lol_base.specs.StartTags.{StartTag}
 use Rattle.lol_base.specs.declared.namespace.Namespace.{Namespace}
 use Rattle.lol_memory.specs.Limiter.{Limiter}
-use Rattle.lol_memory.specs.declared.match_info.MatchInfo.{MatchInfo}
-use Rattle.lol_program.specs.Paths.{Selectors}
-use Rattle.lol_vm.specs.Events.{Event, has_content}
-use Rattle.lol_vm.specs.Refusals.{Allowance}
 use Rattle.lol_vm.specs.Views.{selectors}
-use Rattle.lol_vm.specs.Vms.{Vm, IsPending, data_in}
+use Rattle.lol_vm.specs.Vms.{Vm, IsPending}
 use Rattle.lol_vm.specs.declared.error.AuxStartTagInfoRequest.{AuxStartTagInfoRequest}
-use Rattle.lol_matcher.specs.Answering.{GrowsBy, Kept, KeepsOne}
-use Rattle.lol_matcher.specs.Keeping.{IsFinished, IsToldAs, IsUnreported, Waits, Runs, RunsPast, ids_of}
+use Rattle.lol_matcher.specs.Answering.{Kept}
+use Rattle.lol_matcher.specs.Keeping.{Waits, Runs, RunsPast, ids_of}
 use Rattle.lol_matcher.specs.Told.{Told, heard, with_dropped}
 use Rattle.lol_vm.specs.AskedRuns.{bare_tag}
-use Rattle.lol_matcher.specs.declared.tags.Finished.{Finished}
-use Rattle.lol_matcher.specs.declared.tags.Finished.TheVariants.{Reported, Unreported}
 
 -- A tag waits, and its request with it.
 pub record IsWaiting {T : Type 0} (told : Told) (vm : Vm (Kept T)) (request : AuxStartTagInfoRequest (Kept T)) : Type 0 where

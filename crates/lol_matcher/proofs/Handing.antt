@@ -1,6 +1,6 @@
 -- A start tag whose attributes are at hand.
-use Rattle.std.proofs.Common.{◌≡◌, ℕ, Bool, true, false, List, [], ◌∷◌, ◌++◌, None, Result, Ok, Err, refl, sym, subst, map, ap, ◌∙◌}
-use Rattle.std.specs.Prelude.{◌&&◌, if◌then◌else◌, OnErr}
+use Rattle.std.proofs.Common.{◌≡◌, ℕ, Bool, true, false, List, [], ◌∷◌, ◌++◌, refl, sym, subst, map, ap, ◌∙◌}
+use Rattle.std.specs.Prelude.{◌&&◌, if◌then◌else◌}
 use Rattle.lol_base.specs.StartTags.{StartTag}
 use Rattle.lol_instructions.specs.declared.tries.Tries.{Tries}
 use Rattle.lol_memory.specs.Limiter.{Limiter}
@@ -8,18 +8,15 @@ use Rattle.lol_memory.specs.declared.match_info.MatchInfo.{MatchInfo}
 use Rattle.lol_program.specs.Paths.{Selectors}
 use Rattle.lol_vm.specs.Answers.{Match, Dropped, Started, answer, document, is_dropped}
 use Rattle.lol_vm.specs.Documents.{element_of}
-use Rattle.lol_vm.specs.Events.{Event, Start, has_content}
+use Rattle.lol_vm.specs.Events.{Event, Start}
 use Rattle.lol_vm.specs.Refusals.{Allowance}
 use Rattle.lol_vm.specs.Views.{match_of}
-use Rattle.lol_vm.specs.Vms.{Vm, data_in, is_asked_for, tries_in}
-use Rattle.lol_matcher.specs.Answering.{GrowsBy, IsReported, Kept, KeepsOne, reported_after, with_told}
+use Rattle.lol_vm.specs.Vms.{Vm, is_asked_for, tries_in}
+use Rattle.lol_matcher.specs.Answering.{IsReported, reported_after, with_told}
 use Rattle.lol_vm.specs.AskedRuns.{bare_tag, told_of}
-use Rattle.lol_matcher.specs.Keeping.{IsFinished, IsHanded, IsHandedAs, IsHandedUnreported, IsToldAs, IsUnreported, Runs}
-use Rattle.lol_matcher.specs.Refusing.{refusal_after}
+use Rattle.lol_matcher.specs.Keeping.{IsHandedAs, IsHandedUnreported, IsToldAs, IsUnreported, Runs}
 use Rattle.lol_matcher.specs.Noted.{handed_told, with_elements}
 use Rattle.lol_matcher.specs.Told.{History, Matching}
-use Rattle.lol_matcher.specs.declared.tags.Finished.{Finished}
-use Rattle.lol_matcher.specs.declared.tags.Finished.TheVariants.{Reported, Unreported}
 
 -- 1. What is reported
 
@@ -35,65 +32,42 @@ report_is : (s : Selectors) (esi : Bool) (events : List Event) (tag : StartTag) 
     → SameReport (reported_after s esi events tag) (map match_of matched) (is_asked_for s esi events tag) asked
 report_is s esi events tag asked matched tries is = same_report (is_dropped s (element_of (document s esi events) tag) (document s esi events).open_elements) _ _ _ _ _ _ _ _ is
 
--- 2. What is told of it
-
-module _ {E : Type 0} (s : Selectors) (esi : Bool) (events : List Event) (tag : StartTag) (vm : Vm E) (limiter : Limiter) where
-  told_either : Runs s esi (events ++ Start tag ∷ []) vm limiter → Runs s esi (events ++ Start (bare_tag tag.name tag.namespace) ∷ []) vm limiter
-      → Runs s esi (events ++ told_of s (document s esi events) (Start tag) ∷ []) vm limiter
-  told_either whole bare = by_test (is_asked_for s esi events tag && tag.finish)
-    where
-      by_test : (b : Bool) → Runs s esi (events ++ (if b then Start tag else Start (bare_tag tag.name tag.namespace)) ∷ []) vm limiter
-      by_test true = whole
-      by_test false = bare
-
-  told_whole : is_asked_for s esi events tag ≡ true → tag.finish ≡ true → Runs s esi (events ++ Start tag ∷ []) vm limiter
-      → Runs s esi (events ++ told_of s (document s esi events) (Start tag) ∷ []) vm limiter
-  told_whole is finish whole = subst (λ e. Runs s esi (events ++ e ∷ []) vm limiter) (λ i. if sym is i && sym finish i then Start tag else Start (bare_tag tag.name tag.namespace)) whole
-
--- 3. One whose attributes aren't asked for
-
-module _ {E : Type 0} (s : Selectors) (esi : Bool) (events : List Event) (tag : StartTag) (a : Allowance) (vm : Vm E) (limiter : Limiter) where
-  handed_unasked : (items : List MatchInfo) → IsToldAs s esi events tag false items a vm limiter → IsToldAs s esi events (bare_tag tag.name tag.namespace) false items a vm limiter
-      → IsHandedAs s esi events tag items a vm limiter
-  handed_unasked items whole bare = record {
-    reported = subst (λ b. IsReported s esi events tag b items (tries_in vm)) (sym (report_is s esi events tag false items (tries_in vm) whole.reported).asks) whole.reported;
-    fits = whole.fits;
-    runs = told_either s esi events tag vm limiter whole.runs bare.runs;
-  }
-
-  handed_unreported : IsUnreported s esi events tag a vm limiter → IsUnreported s esi events (bare_tag tag.name tag.namespace) a vm limiter → IsHandedUnreported s esi events tag a vm limiter
-  handed_unreported whole bare = record { fits = whole.fits; runs = told_either s esi events tag vm limiter whole.runs bare.runs }
-
--- 4. One whose attributes are asked for, or not
+-- 2. What is told of it: with its attributes where they are asked for, and else without
 
 pub asks_are : (s : Selectors) (esi : Bool) (events : List Event) (tag : StartTag) (matched : List Match) (asked : Bool) (m n : ℕ) → answer s esi (document s esi events) (Start tag) ≡ Started matched asked m n
     → is_asked_for s esi events tag ≡ asked
 asks_are s esi events tag matched asked m n is = (same_report (is_dropped s (element_of (document s esi events) tag) (document s esi events).open_elements) _ _ _ _ _ _ _ _ is).asks
 
 module _ {E : Type 0} (s : Selectors) (esi : Bool) (events : List Event) (tag : StartTag) (a : Allowance) (vm : Vm E) (limiter : Limiter) (finish : tag.finish ≡ true) where
-  pub handed_as : (asked : Bool) (items : List MatchInfo) → IsToldAs s esi events tag asked items a vm limiter → (asked ≡ false → IsToldAs s esi events (bare_tag tag.name tag.namespace) asked items a vm limiter)
-      → IsHandedAs s esi events tag items a vm limiter
-  handed_as true items whole bare =
-      let asks = (report_is s esi events tag true items (tries_in vm) whole.reported).asks in
+  abbrev RunsOn : Event → Type 0
+  RunsOn event = Runs s esi (events ++ event ∷ []) vm limiter
+
+  abbrev bare : StartTag
+  bare = bare_tag tag.name tag.namespace
+
+  told_either : (asked : Bool) → is_asked_for s esi events tag ≡ asked → RunsOn (Start tag) → (asked ≡ false → RunsOn (Start bare)) → RunsOn (told_of s (document s esi events) (Start tag))
+  told_either true asks whole without = subst RunsOn (λ i. if sym asks i && sym finish i then Start tag else Start bare) whole
+  told_either false asks whole without = subst RunsOn (λ i. if sym asks i && tag.finish then Start tag else Start bare) (without refl)
+
+  pub handed_as : (asked : Bool) (items : List MatchInfo) → IsToldAs s esi events tag asked items a vm limiter → (asked ≡ false → IsToldAs s esi events bare asked items a vm limiter) → IsHandedAs s esi events tag items a vm limiter
+  handed_as asked items whole without =
+      let asks = (report_is s esi events tag asked items (tries_in vm) whole.reported).asks in
       record {
         reported = subst (λ b. IsReported s esi events tag b items (tries_in vm)) (sym asks) whole.reported;
         fits = whole.fits;
-        runs = told_whole s esi events tag vm limiter asks finish whole.runs;
+        runs = told_either asked asks whole.runs (λ none. (without none).runs);
       }
-  handed_as false items whole bare = handed_unasked s esi events tag a vm limiter items whole (bare refl)
 
-  pub handed_unreported_as : (asked : Bool) → is_asked_for s esi events tag ≡ asked → IsUnreported s esi events tag a vm limiter → (asked ≡ false → IsUnreported s esi events (bare_tag tag.name tag.namespace) a vm limiter)
-      → IsHandedUnreported s esi events tag a vm limiter
-  handed_unreported_as true asks whole bare = record { fits = whole.fits; runs = told_whole s esi events tag vm limiter asks finish whole.runs }
-  handed_unreported_as false asks whole bare = handed_unreported s esi events tag a vm limiter whole (bare refl)
+  pub handed_unreported_as : (asked : Bool) → is_asked_for s esi events tag ≡ asked → IsUnreported s esi events tag a vm limiter → (asked ≡ false → IsUnreported s esi events bare a vm limiter) → IsHandedUnreported s esi events tag a vm limiter
+  handed_unreported_as asked asks whole without = record { fits = whole.fits; runs = told_either asked asks whole.runs (λ none. (without none).runs) }
 
--- 5. What a matcher reported of one
+-- 3. What a matcher reported of one
 
 pub answered_report : (s : Selectors) (esi : Bool) (events : List Event) (tag : StartTag) (items : List MatchInfo) (tries : Tries) → IsReported s esi events tag (is_asked_for s esi events tag) items tries
     → map match_of items ≡ reported_after s esi events tag
 answered_report s esi events tag items tries is = (report_is s esi events tag (is_asked_for s esi events tag) items tries is).report
 
--- 6. What a matcher shows that was told one
+-- 4. What a matcher shows that was told one
 
 pub told_handed : {T : Type 0} (tag : StartTag) (shown old new : Matching T) (h : History) → shown ≡ old → h ≡ with_elements (handed_told shown.told tag) → new.told ≡ h.told
     → new.open_elements ≡ h.open_elements → new.max_memory ≡ shown.max_memory → new.element_bytes ≡ shown.element_bytes → new.failed ≡ shown.failed → new ≡ with_told (handed_told old.told tag) old new
@@ -106,7 +80,3 @@ told_handed tag shown old new h is history same elements maximum bytes failed =
       failed = failed i;
       open_elements = (elements ∙ ap (λ (h : History). h.open_elements) history) i;
     })
-
-pub on_err : {T E P : Type 0} (r : Result T E) → P → OnErr r P
-on_err (Ok value) holds = tt
-on_err (Err error) holds = holds

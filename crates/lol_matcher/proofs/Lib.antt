@@ -1,6 +1,5 @@
 pub mod Charges
 pub mod Refusals
-pub mod Rooms
 pub mod Running
 pub mod Telling
 pub mod Opened

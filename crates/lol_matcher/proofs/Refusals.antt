@@ -1,5 +1,5 @@
 -- Whether a start tag is refused, by what a machine has.
-use Rattle.std.proofs.Common.{◌≡◌, ℕ, suc, ◌+◌, ◌*◌, ◌≤◌, ◌<◌, ◌^◌, Bool, true, false, length, Option, Some, None, Result, Err, inl, refl, sym, ap, ◌∙◌, subst, arith}
+use Rattle.std.proofs.Common.{◌≡◌, ℕ, suc, ◌+◌, ◌*◌, ◌≤◌, ◌<◌, ◌^◌, Bool, true, false, true≢false, length, Option, Some, None, Result, Err, inl, refl, sym, ap, ◌∙◌, subst, arith}
 use Rattle.std.specs.Prelude.{max, nat_lt, ◌&&◌, not, if◌then◌else◌, IfErr, ◌↔◌}
 use Rattle.std.proofs.lemmas.Bool.{false≢true}
 use Rattle.std.proofs.lemmas.Bool.Decides.{nat_tests}
@@ -12,12 +12,14 @@ use Rattle.lol_vm.specs.Answers.{is_dropped}
 use Rattle.lol_vm.specs.Documents.{Document, element_of, after_start}
 use Rattle.lol_vm.specs.Events.{Start, has_content}
 use Rattle.lol_vm.specs.Refusals.{Allowance, Cause, Limit, Counter, exceeds, greatest_count, refusal}
-use Rattle.lol_matcher.specs.Answering.{LeavesOpen, SameOpen}
-use Rattle.lol_matcher.specs.Keeping.{IsRefusal}
+use Rattle.lol_matcher.specs.Answering.{Kept, LeavesOpen, SameOpen}
+use Rattle.lol_matcher.specs.Keeping.{IsCharged, IsRefusal, Keeps}
 use Rattle.lol_matcher.specs.Refusing.{IsRefusedFor, allowance}
-use Rattle.lol_matcher.specs.Told.{Told, Matching}
+use Rattle.lol_matcher.specs.Told.{History, Told, Matching}
 use Rattle.lol_matcher.specs.declared.error.MatcherError.{MatcherError}
 use Rattle.lol_matcher.specs.declared.error.MatcherError.TheVariants.{MemoryLimitExceeded, Memory, CounterFull, Failed, NotAsked, OutsideInput}
+use Rattle.lol_vm.specs.Vms.{Vm, HasOpen}
+use Rattle.lol_vm.specs.declared.error.AuxStartTagInfoRequest.{AuxStartTagInfoRequest}
 use Rattle.lol_vm.specs.ChargeLaws.{stays_within_alone, passes_maximum_alone}
 
 -- what a start tag is refused for refuses all that come later
@@ -55,6 +57,16 @@ left_same CounterFull told tag old new h = h
 left_same Failed told tag old new h = h
 left_same NotAsked told tag old new h = h
 left_same OutsideInput told tag old new h = h
+
+-- a matcher that has failed keeps its charge and its open elements
+pub keeps_failed : {T : Type 0} {history : History} {vm : Vm (Kept T)} {request : Option (AuxStartTagInfoRequest (Kept T))} {limiter : Limiter} → IsCharged vm limiter → HasOpen vm history.open_elements → Keeps history true vm request limiter
+keeps_failed charged open_elements = record {
+  charged = charged;
+  has_open = open_elements;
+  runs = λ well. absurd (true≢false well);
+  waits = λ well. absurd (true≢false well);
+  told_open = λ well. absurd (true≢false well);
+}
 
 -- A list has as many elements as are open, and slots for the most that were, which a limiter is charged for.
 pub record IsChargedFor {T : Type 0} (d : Document) (most : ℕ) (v : LimitedVec T) (now : Limiter) : Type 0 where
@@ -133,11 +145,3 @@ module _ {T : Type 0} (s : Selectors) (esi : Bool) {d : Document} {most : ℕ} {
   -- memory may be refused where neither is due
   pub refused_for_memory : (tag : StartTag) {free : Type 0} → (element_of d tag).position ≤ greatest_count → (free → opens_in s esi d tag ≡ true → IsLimited v now → ⊥) → IsRefusedFor Memory free (refusal s esi a d most (Start tag))
   refused_for_memory tag position unlimited = (counter_has_room tag position, λ is. limit_isnt_due tag position (unlimited is))
-
-  -- what isn't refused is within the counter and the maximum
-  pub position_of : (tag : StartTag) → refusal s esi a d most (Start tag) ≡ None → (element_of d tag).position ≤ greatest_count
-  position_of tag none = by_tests (nat_lt greatest_count (element_of d tag).position) (exceeds a (max most (length (after_start d tag (opens_in s esi d tag)).open_elements))) refl none
-    where
-      by_tests : (full over : Bool) → nat_lt greatest_count (element_of d tag).position ≡ full → refusal_by full over ≡ None → (element_of d tag).position ≤ greatest_count
-      by_tests true over is none = cc
-      by_tests false over is none = grind (arith, nat_tests, is)

@@ -98,9 +98,6 @@ module _ {E : Type 0} (depths : SlotsAreOfDepth E) (ordered : DocumentsAreOrdere
     with_child : document s esi (events ++ Start tag ∷ []) ≡ after_start d tag false
     with_child = later_document s esi events (Start tag) ∙ ap (after_start d tag) (opens_nothing (has_content esi tag) _ dropped)
 
-    pub same_open : (document s esi (events ++ Start tag ∷ [])).open_elements ≡ d.open_elements
-    same_open = ap (λ (d : Document). d.open_elements) with_child
-
     same_longest : longest s esi (events ++ Start tag ∷ []) ≡ longest s esi events
     same_longest =
         let enough = (ordered s esi events).enough in

@@ -1,8 +1,7 @@
 -- What is kept of a start tag that was answered.
 use Rattle.std.proofs.Common.{◌≡◌, ℕ, ◌+◌, ◌≤◌, ◌<◌, Bool, true, false, List, [], ◌∷◌, ◌++◌, length, refl, ap, sym, ◌∙◌, subst, map, arith}
-use Rattle.std.specs.Prelude.{◌&&◌, not, nat_lt, IsTrue, ◌↔◌}
+use Rattle.std.specs.Prelude.{nat_lt, IsTrue, ◌↔◌}
 use Rattle.std.proofs.lemmas.Bool.Decides.{nat_tests}
-use Rattle.lol_base.specs.BoolLaws.{and_parts}
 use Rattle.lol_base.specs.StartTags.{StartTag}
 use Rattle.lol_instructions.specs.Counters.{full_count}
 use Rattle.lol_instructions.specs.Tries.{names_counted, attributes_counted}
@@ -11,17 +10,17 @@ use Rattle.lol_memory.specs.Limiter.{Limiter}
 use Rattle.lol_memory.specs.declared.match_info.MatchInfo.{MatchInfo}
 use Rattle.lol_program.specs.Paths.{Selectors}
 use Rattle.lol_stack.specs.Stacks.{list_in, last_count}
-use Rattle.lol_vm.specs.Answers.{Match, Started, answer, document}
+use Rattle.lol_vm.specs.Answers.{Match, Started, document}
 use Rattle.lol_vm.specs.Due.{IsWithinLimit}
 use Rattle.lol_vm.specs.Documents.{children_of, element_of, parent_of}
 use Rattle.lol_vm.specs.Events.{Event, Start, has_content}
 use Rattle.lol_vm.specs.Refusals.{greatest_count, longest}
-use Rattle.lol_vm.specs.Standing.{CountersArePlaces, DocumentsAreOrdered, unfinished}
+use Rattle.lol_vm.specs.Standing.{CountersArePlaces, DocumentsAreOrdered}
 use Rattle.lol_vm.specs.Views.{match_of}
 use Rattle.lol_vm.specs.VmLaws.{PendingStands, SlotsAreOfDepth}
-use Rattle.lol_vm.specs.Vms.{Vm, ChargesSlots, Stands, IsAnswered, IsPending, IsTriedAtMost, data_in, info_of, is_asked_for, tries_in, stack_in, slot_bytes}
+use Rattle.lol_vm.specs.Vms.{Vm, ChargesSlots, Stands, IsAnswered, IsPending, IsTriedAtMost, data_in, info_of, tries_in, stack_in, slot_bytes}
 use Rattle.lol_vm.specs.declared.error.AuxStartTagInfoRequest.{AuxStartTagInfoRequest}
-use Rattle.lol_vm.proofs.CallerLemmas.{position_is}
+use Rattle.lol_vm.proofs.CallerLemmas.{has_content_if, opens_nothing, position_is, unfinished_is}
 use Rattle.lol_matcher.specs.Answering.{GrowsBy, Kept, KeepsOne}
 use Rattle.lol_matcher.specs.Keeping.{ClearsOpened, IsToldAs, IsAskedFor, IsCharged, IsUnreported, KeepsRunning, Runs, allowed, ids_of}
 use Rattle.lol_matcher.proofs.Charges.{charged_after}
@@ -35,48 +34,7 @@ same_matches : (matched : List Match) → map match_of (map info_of matched) ≡
 same_matches [] = refl
 same_matches (m ∷ matched) = ap (λ ms. m ∷ ms) (same_matches matched)
 
--- 2. Whether a tag opens an element
-
-module _ (s : Selectors) (esi : Bool) (events : List Event) (tag : StartTag) where
-  abbrev opening : Bool
-  opening = opens_in s esi (document s esi events) tag
-
-  pub has_content_if : opening ≡ true → has_content esi tag ≡ true
-  has_content_if h = (and_parts (has_content esi tag) (not (is_asked_for s esi events tag && not tag.finish)) h).0
-
-  opens_with : (content a finish : Bool) → content ≡ true → (a && not finish) ≡ false → (content && not (a && not finish)) ≡ true
-  opens_with content a finish has kept = (λ i. has i && not (kept i))
-
-  not_asked : (a finish : Bool) → a ≡ false → (a && not finish) ≡ false
-  not_asked a finish none = λ i. none i && not finish
-
-  handed : (a finish : Bool) → finish ≡ true → (a && not finish) ≡ false
-  handed true finish is = ap not is
-  handed false finish is = refl
-
-  pub opens_unasked : has_content esi tag ≡ true → is_asked_for s esi events tag ≡ false → opening ≡ true
-  opens_unasked has none = opens_with (has_content esi tag) (is_asked_for s esi events tag) tag.finish has (not_asked (is_asked_for s esi events tag) tag.finish none)
-
-  pub opens_handed : has_content esi tag ≡ true → tag.finish ≡ true → opening ≡ true
-  opens_handed has is = opens_with (has_content esi tag) (is_asked_for s esi events tag) tag.finish has (handed (is_asked_for s esi events tag) tag.finish is)
-
-  left : (a finish : Bool) → a ≡ true → finish ≡ false → (a && not finish) ≡ true
-  left a finish is none = λ i. is i && not (none i)
-
-  pub is_left : is_asked_for s esi events tag ≡ true → tag.finish ≡ false → (is_asked_for s esi events tag && not tag.finish) ≡ true
-  is_left is none = left (is_asked_for s esi events tag) tag.finish is none
-
-  pub opens_nothing : is_asked_for s esi events tag ≡ true → tag.finish ≡ false → opening ≡ true → ⊥
-  opens_nothing is none opens = cc_of (is_left is none) (and_parts (has_content esi tag) (not (is_asked_for s esi events tag && not tag.finish)) opens).1
-    where
-      cc_of : {b : Bool} → b ≡ true → not b ≡ true → ⊥
-      cc_of {b = true} is kept = cc
-      cc_of {b = false} is kept = cc
-
-unfinished_is : (tag : StartTag) → tag.finish ≡ false → unfinished tag ≡ tag
-unfinished_is tag none = λ i. record { name = tag.name; namespace = tag.namespace; attributes = tag.attributes; self_closing = tag.self_closing; finish = sym none i }
-
--- 3. A machine that runs
+-- 2. A machine that runs
 
 module _ {E : Type 0} (places : CountersArePlaces) (s : Selectors) (esi : Bool) (events : List Event) (vm : Vm E) (now : Limiter) (runs : Runs s esi events vm now) (tag : StartTag) where
   pub room_for : (last_count (stack_in vm) ≡ full_count → ⊥) → (element_of (document s esi events) tag).position ≤ greatest_count
@@ -107,24 +65,6 @@ module _ {E : Type 0} (depths : SlotsAreOfDepth E) (ordered : DocumentsAreOrdere
       let opens = opens_in s esi d tag in
       runs_on depths ordered s esi events (Start tag) old new now later is.some is.word stands bytes maximum charged
       (fits s esi is opens tag unlimited) (countable_after d tag opens countable room)
-
-  -- whatever became of its report
-  pub unreported_as : Stands s esi new (events ++ Start tag ∷ []) → IsUnreported s esi events tag (allowed old now) new later
-  unreported_as stands = record {
-    fits = not_refused s esi is tag room unlimited;
-    runs = runs_after stands;
-  }
-
-  -- where a list holds what the handler was called with
-  pub told_as : (asked : Bool) (matched : List Match) → answer s esi (document s esi events) (Start tag) ≡ Started matched asked (names_counted (tries_in new)) (attributes_counted (tries_in new))
-      → Stands s esi new (events ++ Start tag ∷ []) → (items : List MatchInfo) → items ≡ map info_of matched → IsToldAs s esi events tag asked items (allowed old now) new later
-  told_as asked matched answered stands items same =
-      let kept = unreported_as stands in
-      record {
-        reported = answered ∙ ap (λ matched. Started matched asked (names_counted (tries_in new)) (attributes_counted (tries_in new))) (sym (ap (map match_of) same ∙ same_matches matched));
-        fits = kept.fits;
-        runs = kept.runs;
-      }
 
 -- Its attributes are asked for.
 pub asked_for : {T : Type 0} → SlotsAreOfDepth (Kept T) → DocumentsAreOrdered → PendingStands (Kept T)
@@ -172,11 +112,22 @@ module _ {T F : Type 0} {step : F → MatchInfo → Unit {0} → F → Type 0} {
   is_content : opened ≡ has_content esi tag
   is_content = is_opened (has_content esi tag) opened told.1.matched (data_in old) (data_in mid) told.1.opened (subst (λ n. IsTrue opened ↔ (n < length (data_in mid))) many clears.opened)
 
+  kept : IsUnreported s esi events tag (allowed old now) new later
+  kept = record {
+    fits = not_refused s esi is tag room unlimited;
+    runs = runs_after depths ordered s esi events tag old new now later is room countable unlimited bytes maximum stays_charged stands_on;
+  }
+
   pub was_answered : WasAnswered s esi events tag asked told.1.matched opened old new now later
   was_answered = record {
-    unreported = unreported_as depths ordered s esi events tag old new now later is room countable unlimited bytes maximum stays_charged stands_on;
-    reported = λ {items} same. told_as depths ordered s esi events tag old new now later is room countable unlimited bytes maximum stays_charged asked told.1.matched
-        (told.1.answered ∙ ap (λ tries. Started told.1.matched asked (names_counted tries) (attributes_counted tries)) (sym run.tries)) stands_on items same;
+    unreported = kept;
+    reported = λ {items} same.
+        let matched = ap (map match_of) same ∙ same_matches told.1.matched in
+        record {
+          reported = told.1.answered ∙ (λ i. Started (sym matched i) asked (names_counted (sym run.tries i)) (attributes_counted (sym run.tries i)));
+          fits = kept.fits;
+          runs = kept.runs;
+        };
     leaves = λ {items} same. (is_content, keeps_one (has_content esi tag) opened told.1.matched items (data_in old) (data_in mid) (data_in new) told.1.opened is_content clears.kept same);
     grows = grows_by (has_content esi tag) opened told.1.matched (data_in old) (data_in mid) (data_in new) told.1.opened is_content clears.kept;
   }

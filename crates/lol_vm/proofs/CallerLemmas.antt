@@ -1,9 +1,12 @@
--- What a caller of a machine cites: the charge of its slots, from call to call, up to `release`; and what it has of its document.
-use Rattle.std.proofs.Common.{◌≡◌, ℕ, ◌+◌, ◌-◌, ◌*◌, ◌≤◌, Bool, false, List, [], ◌∷◌, length, Option, Result, Ok, Err, refl, sym, ap, ◌∙◌, arith}
+-- What a caller of a machine cites: the charge of its slots, from call to call, up to `release`; what it has of its document, and whether a start tag opens an element.
+use Rattle.std.proofs.Common.{◌≡◌, ℕ, ◌+◌, ◌-◌, ◌*◌, ◌≤◌, Bool, true, false, not, List, [], ◌∷◌, length, Option, Result, Ok, Err, refl, sym, ap, ◌∙◌, arith}
 use Rattle.std.specs.Result.{OnErr, OnOk}
+use Rattle.std.specs.Prelude.{◌&&◌, ◌↔◌}
 use Rattle.std.proofs.Math.Nat.{add-mul}
+use Rattle.lol_base.specs.BoolLaws.{and_parts}
 use Rattle.lol_base.specs.LocalNames.{Name}
 use Rattle.lol_base.specs.StartTags.{StartTag}
+use Rattle.lol_instructions.specs.Counters.{full_count}
 use Rattle.lol_memory.specs.LimitedVec.{grown_slots}
 use Rattle.lol_memory.specs.Limiter.{Limiter, charged}
 use Rattle.lol_program.specs.Paths.{Selectors}
@@ -11,9 +14,10 @@ use Rattle.lol_stack.specs.declared.stack_item.StackItemOf.{StackItemOf}
 use Rattle.lol_stack.specs.Stacks.{IsPushed, IsSame, item_bytes_in, items_in, last_count, list_in}
 use Rattle.lol_vm.specs.Answers.{document}
 use Rattle.lol_vm.specs.Documents.{element_of}
-use Rattle.lol_vm.specs.Events.{Event}
-use Rattle.lol_vm.specs.Standing.{counted_last, counted_root, or_root}
-use Rattle.lol_vm.specs.Vms.{Vm, ChargesSlots, IsChargedFor, IsCovered, OpensNothing, Stands, slots_charged, slot_bytes}
+use Rattle.lol_vm.specs.Events.{Event, has_content}
+use Rattle.lol_vm.specs.Follows.{opens}
+use Rattle.lol_vm.specs.Standing.{counted_last, counted_root, or_root, unfinished}
+use Rattle.lol_vm.specs.Vms.{Vm, ChargesSlots, IsChargedFor, IsCovered, OpensNothing, Stands, has_failed, is_asked_for, slots_charged, slot_bytes, stack_in}
 use Rattle.lol_vm.proofs.Kept.{items_length, counters_are_places}
 use Rattle.lol_vm.proofs.StackCounting.{seen_children}
 use Rattle.lol_vm.proofs.StackMachines.{items_counted}
@@ -151,3 +155,43 @@ module _ {E : Type 0} (s : Selectors) (esi : Bool) (vm : Vm E) (events : List Ev
   -- no tag was refused
   pub hasnt_failed : vm.failed ≡ false
   hasnt_failed = stands.unfailed
+
+  -- a counter isn't full where no such refusal was answered
+  pub has_room : (IsFull : Type 0) → IsFull ↔ ((has_failed vm ≡ false) × (last_count (stack_in vm) ≡ full_count)) → (IsFull → ⊥) → last_count (stack_in vm) ≡ full_count → ⊥
+  has_room IsFull exact other full = other (exact.1 (hasnt_failed, full))
+
+-- 6. Whether a start tag opens an element
+
+module _ (s : Selectors) (esi : Bool) (events : List Event) (tag : StartTag) where
+  pub has_content_if : opens s esi events tag ≡ true → has_content esi tag ≡ true
+  has_content_if h = (and_parts (has_content esi tag) (not (is_asked_for s esi events tag && not tag.finish)) h).0
+
+  opens_with : (content a finish : Bool) → content ≡ true → (a && not finish) ≡ false → (content && not (a && not finish)) ≡ true
+  opens_with content a finish has kept = (λ i. has i && not (kept i))
+
+  not_asked : (a finish : Bool) → a ≡ false → (a && not finish) ≡ false
+  not_asked a finish none = λ i. none i && not finish
+
+  handed : (a finish : Bool) → finish ≡ true → (a && not finish) ≡ false
+  handed true finish is = ap not is
+  handed false finish is = refl
+
+  pub opens_unasked : has_content esi tag ≡ true → is_asked_for s esi events tag ≡ false → opens s esi events tag ≡ true
+  opens_unasked has none = opens_with (has_content esi tag) (is_asked_for s esi events tag) tag.finish has (not_asked (is_asked_for s esi events tag) tag.finish none)
+
+  pub opens_handed : has_content esi tag ≡ true → tag.finish ≡ true → opens s esi events tag ≡ true
+  opens_handed has is = opens_with (has_content esi tag) (is_asked_for s esi events tag) tag.finish has (handed (is_asked_for s esi events tag) tag.finish is)
+
+  -- its rest is asked for, and doesn't come
+  pub is_left : is_asked_for s esi events tag ≡ true → tag.finish ≡ false → (is_asked_for s esi events tag && not tag.finish) ≡ true
+  is_left is none = λ i. is i && not (none i)
+
+  pub opens_nothing : is_asked_for s esi events tag ≡ true → tag.finish ≡ false → opens s esi events tag ≡ true → ⊥
+  opens_nothing is none opening = cc_of (is_left is none) (and_parts (has_content esi tag) (not (is_asked_for s esi events tag && not tag.finish)) opening).1
+    where
+      cc_of : {b : Bool} → b ≡ true → not b ≡ true → ⊥
+      cc_of {b = true} is kept = cc
+      cc_of {b = false} is kept = cc
+
+pub unfinished_is : (tag : StartTag) → tag.finish ≡ false → unfinished tag ≡ tag
+unfinished_is tag none = λ i. record { name = tag.name; namespace = tag.namespace; attributes = tag.attributes; self_closing = tag.self_closing; finish = sym none i }

@@ -1,8 +1,7 @@
 -- A start tag, and its rest if that is handed over.
 use Rattle.std.proofs.Common.{◌≡◌, ℕ, ◌+◌, ◌-◌, ◌≤◌, ◌<◌, ◌*◌, Bool, true, false, not, List, [], ◌∷◌, ◌++◌, length, map, reverse, Option, Some, None, refl, sym, ap, ◌∙◌, subst, arith}
-use Rattle.std.specs.Prelude.{max, ◌&&◌, if◌then◌else◌, ◌↔◌, ◌^◌, ◌⊎◌}
+use Rattle.std.specs.Prelude.{max, ◌&&◌, if◌then◌else◌, ◌^◌, ◌⊎◌}
 use Rattle.std.proofs.lemmas.List.{length-append, length-map, map_push, reverse-append}
-use Rattle.lol_base.specs.BoolLaws.{and_parts}
 use Rattle.lol_base.specs.LocalNames.{Name}
 use Rattle.lol_base.specs.StartTags.{StartTag}
 use Rattle.lol_memory.specs.Ids.{Ids}
@@ -22,58 +21,22 @@ use Rattle.lol_vm.specs.Events.{Event, Start, has_content}
 use Rattle.lol_vm.specs.EventRuns.{GoesByStart, IsRunOf, machine_of}
 use Rattle.lol_vm.specs.Follows.{Follows, IsCharged, IsDropped, IsTaken, opens}
 use Rattle.lol_vm.specs.Views.{match_of}
-use Rattle.lol_vm.specs.Standing.{unfinished}
 use Rattle.lol_stack.specs.Stacks.{items_in, list_in, last_count}
-use Rattle.lol_vm.specs.Vms.{Vm, Stands, IsAnswered, IsPending, AreOpened, info_of, stack_in, tries_in, data_in, has_failed, slots_charged, slot_bytes}
+use Rattle.lol_vm.specs.Vms.{Vm, Stands, IsAnswered, IsPending, AreOpened, info_of, stack_in, tries_in, data_in, slots_charged, slot_bytes}
 use Rattle.lol_vm.specs.declared.error.AuxStartTagInfoRequest.{AuxStartTagInfoRequest}
 use Rattle.lol_vm.specs.declared.event_run.EventRun.{EventRun}
 use Rattle.lol_stack.specs.declared.stack_item.StackItemOf.{StackItemOf}
 use Rattle.lol_vm.specs.Follows.{StartedElement}
-use Rattle.lol_vm.proofs.CallerLemmas.{hasnt_failed}
+use Rattle.lol_vm.proofs.CallerLemmas.{is_left, unfinished_is}
 use Rattle.lol_vm.proofs.RunSteps.{charged_later, follows_on, not_refused}
 use Rattle.lol_vm.proofs.Runs.{events-document}
 
 module _ (s : Selectors) (esi : Bool) (events : List Event) (tag : StartTag) where
-  abbrev asked : Bool
-  asked = asks s (element_of (document s esi events) tag) (document s esi events).open_elements
-
-  pub has_content_if : opens s esi events tag ≡ true → has_content esi tag ≡ true
-  has_content_if h = (and_parts (has_content esi tag) (not (asked && not tag.finish)) h).0
-
-  opens_with : (content a finish : Bool) → content ≡ true → (a && not finish) ≡ false → (content && not (a && not finish)) ≡ true
-  opens_with content a finish has kept = (λ i. has i && not (kept i))
-
-  not_asked : (a finish : Bool) → a ≡ false → (a && not finish) ≡ false
-  not_asked a finish none = λ i. none i && not finish
-
-  handed : (a finish : Bool) → finish ≡ true → (a && not finish) ≡ false
-  handed true finish is = ap not is
-  handed false finish is = refl
-
-  pub opens_unasked : has_content esi tag ≡ true → asked ≡ false → opens s esi events tag ≡ true
-  opens_unasked has none = opens_with (has_content esi tag) asked tag.finish has (not_asked asked tag.finish none)
-
-  pub opens_handed : has_content esi tag ≡ true → tag.finish ≡ true → opens s esi events tag ≡ true
-  opens_handed has is = opens_with (has_content esi tag) asked tag.finish has (handed asked tag.finish is)
-
-  left : (a finish : Bool) → a ≡ true → finish ≡ false → (a && not finish) ≡ true
-  left a finish is none = λ i. is i && not (none i)
-
-  pub is_left : asked ≡ true → tag.finish ≡ false → opens s esi events tag ≡ true → ⊥
-  is_left is none opening = cc_of (left asked tag.finish is none) (and_parts (has_content esi tag) (not (asked && not tag.finish)) opening).1
-    where
-      cc_of : {b : Bool} → b ≡ true → not b ≡ true → ⊥
-      cc_of {b = true} is kept = cc
-      cc_of {b = false} is kept = cc
-
-  pub unfinished_is : tag.finish ≡ false → unfinished tag ≡ tag
-  unfinished_is none = λ i. record { name = tag.name; namespace = tag.namespace; attributes = tag.attributes; self_closing = tag.self_closing; finish = sym none i }
-
   module _ {E F : Type 0} (ids_of : E → Ids) (old mid : Vm E) (request : AuxStartTagInfoRequest E) (pending : IsPending ids_of s esi events tag mid request) (kept : data_in mid ≡ data_in old) where
     pub dropped : (f g : F) → tag.finish ≡ false → g ≡ f → IsDropped s esi events tag old mid f g
     dropped f g none silent = record {
-      dropped = left asked tag.finish pending.asks none;
-      stands = subst (λ t. Stands s esi mid (events ++ Start t ∷ [])) (unfinished_is none) pending.stands;
+      dropped = is_left s esi events tag pending.asks none;
+      stands = subst (λ t. Stands s esi mid (events ++ Start t ∷ [])) (unfinished_is tag none) pending.stands;
       kept = kept;
       silent = silent;
     }
@@ -95,11 +58,6 @@ Limits many slots bytes l =
     (slots ≤ many) × ((2 ^ 64 ≤ max slots (minimum_slots bytes) * bytes) ⊎ (2 ^ 64 ≤ slots + max slots (minimum_slots bytes)) ⊎ Passes l (max slots (minimum_slots bytes) * bytes))
 
 module _ {E : Type 0} where
-  -- a counter isn't full where no such refusal was answered
-  pub has_room : (s : Selectors) (esi : Bool) (events : List Event) (vm : Vm E) (IsFull : Type 0) → Stands s esi vm events
-      → IsFull ↔ ((has_failed vm ≡ false) × (last_count (stack_in vm) ≡ full_count)) → (IsFull → ⊥) → last_count (stack_in vm) ≡ full_count → ⊥
-  has_room s esi events vm IsFull stands exact other full = other (exact.1 (hasnt_failed s esi vm events stands, full))
-
   -- with as many elements and slots, as much can be charged
   pub limited_since : (old mid : Vm E) (now later : Limiter) → data_in mid ≡ data_in old → slots_charged mid ≡ slots_charged old → slot_bytes mid ≡ slot_bytes old → later ≡ now
       → IsLimited (list_in (stack_in old)) now → IsLimited (list_in (stack_in mid)) later

@@ -1,11 +1,12 @@
-use Rattle.std.proofs.Common.{rules, ◌≡◌, List, Bool, Err, true, false, refl, ap, ◌∙◌, map}
+use Rattle.std.proofs.Common.{rules, ◌≡◌, List, Err, false, refl, ap, ◌∙◌, map}
 use Rattle.std.proofs.lemmas.Fn.{chained_keeps}
 use Rattle.lol_memory.specs.declared.match_info.MatchInfo.{MatchInfo}
 use Rattle.lol_vm.specs.Vms.{info_of}
+use Rattle.lol_vm.proofs.CallerLemmas.{opens_handed}
 use Rattle.lol_matcher.proofs.Charges.{charged_after}
 use Rattle.lol_matcher.proofs.Refusals.{refused_for_limit, refused_for_memory}
 use Rattle.lol_matcher.proofs.Running.{charged_before, countable_before, room_before}
-use Rattle.lol_matcher.proofs.Telling.{opens_handed, tried_on, was_answered}
+use Rattle.lol_matcher.proofs.Telling.{tried_on, was_answered}
 use Rattle.lol_matcher.proofs.tags.finish_tag.Goals as goal
 
 pub returns-else-matches-clause-charged : goal.returns-else-matches-clause-charged

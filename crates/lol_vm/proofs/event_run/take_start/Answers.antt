@@ -6,8 +6,8 @@ use Rattle.lol_vm.specs.declared.error.StartTagError.TheVariants as refusals
 use Rattle.lol_vm.specs.declared.error.VmError.{VmError}
 use Rattle.lol_vm.specs.declared.error.VmError.TheVariants.{InfoRequest, MemoryLimitExceeded, Memory, CounterFull}
 use Rattle.std.specs.declared.alloc.AllocError.{AllocError}
-use Rattle.lol_vm.proofs.CallerLemmas.{hasnt_failed}
-use Rattle.lol_vm.proofs.TakenStarts.{has_content_if, is_left, opens_unasked, opens_handed, dropped, has_room}
+use Rattle.lol_vm.proofs.CallerLemmas.{has_content_if, has_room, hasnt_failed, opens_handed, opens_nothing, opens_unasked}
+use Rattle.lol_vm.proofs.TakenStarts.{dropped}
 use Rattle.lol_vm.proofs.event_run.take_start.Goals as goal
 
 -- 1. Its attributes are at hand
@@ -30,13 +30,13 @@ returns-in-Err-MemoryLimitExceeded-clause-refused g c = λ s esi events tag stan
     let reported = (c.exec_for_whole_start_tag.ensures.limited is).1 s esi events tag stands named rest in (
       opens_handed s esi events tag reported.0 rest.2,
       (c.exec_for_whole_start_tag.ensures.limited is).0,
-      has_room s esi events c.args.vm.now _ stands c.exec_for_whole_start_tag.ensures.full (whole_instead c.exec_for_whole_start_tag.result _ is (λ full. cc)),
+      has_room s esi c.args.vm.now events stands _ c.exec_for_whole_start_tag.ensures.full (whole_instead c.exec_for_whole_start_tag.result _ is (λ full. cc)),
     )
 
 pub returns-in-Err-Memory-clause-refused : goal.returns-in-Err-Memory-clause-refused
 returns-in-Err-Memory-clause-refused g c = λ s esi events tag stands named handed.
     let is = c.in-Err-Memory.is ∙ ap Err c.in-Err-Memory.field-0-is in (
-      has_room s esi events c.args.vm.now _ stands c.exec_for_whole_start_tag.ensures.full (whole_instead c.exec_for_whole_start_tag.result _ is (λ full. cc)),
+      has_room s esi c.args.vm.now events stands _ c.exec_for_whole_start_tag.ensures.full (whole_instead c.exec_for_whole_start_tag.result _ is (λ full. cc)),
       λ runs opening limited. c.in-Err-Memory.ensures.due limited s esi events tag stands named runs.flat c.in-Err-Memory.field-0-is,
     )
 
@@ -68,7 +68,7 @@ pub returns-in-Err-InfoRequest-clause-within : goal.returns-in-Err-InfoRequest-c
 returns-in-Err-InfoRequest-clause-within g c = λ s esi events tag stands named handed opening limited.
     let is = c.in-Err-InfoRequest.is ∙ ap Err c.in-Err-InfoRequest.field-0-is in
     let pending = c.exec_for_start_tag.ensures.asked _ is s esi events tag stands named in
-    is_left s esi events tag pending.asks (subst (λ r. IsHandedOver r tag) c.in_default.is handed) opening
+    opens_nothing s esi events tag pending.asks (subst (λ r. IsHandedOver r tag) c.in_default.is handed) opening
 
 pub returns-in-Err-MemoryLimitExceeded-exec_for_start_tag-clause-refused :
     goal.returns-in-Err-MemoryLimitExceeded-exec_for_start_tag-clause-refused
@@ -77,12 +77,12 @@ returns-in-Err-MemoryLimitExceeded-exec_for_start_tag-clause-refused g c = λ s 
     let reported = (c.exec_for_start_tag.ensures.limited is).1 s esi events tag stands named in (
       opens_unasked s esi events tag reported.0 reported.1.asks,
       (c.exec_for_start_tag.ensures.limited is).0,
-      has_room s esi events c.args.vm.now _ stands c.exec_for_start_tag.ensures.full (limited_instead c.exec_for_start_tag.result _ is),
+      has_room s esi c.args.vm.now events stands _ c.exec_for_start_tag.ensures.full (limited_instead c.exec_for_start_tag.result _ is),
     )
 
 pub returns-in-Err-Memory-exec_for_start_tag-clause-refused : goal.returns-in-Err-Memory-exec_for_start_tag-clause-refused
 returns-in-Err-Memory-exec_for_start_tag-clause-refused g c = λ s esi events tag stands named handed.
     let is = c.in-Err-Memory-exec_for_start_tag.is ∙ ap Err c.in-Err-Memory-exec_for_start_tag.field-0-is in (
-      has_room s esi events c.args.vm.now _ stands c.exec_for_start_tag.ensures.full (memory_instead c.exec_for_start_tag.result _ is),
+      has_room s esi c.args.vm.now events stands _ c.exec_for_start_tag.ensures.full (memory_instead c.exec_for_start_tag.result _ is),
       λ runs opening limited. c.exec_for_start_tag.ensures.due _ is limited s esi events tag stands named runs,
     )

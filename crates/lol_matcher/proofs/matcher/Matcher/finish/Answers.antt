@@ -1,4 +1,4 @@
-use Rattle.std.proofs.Common.{rules, ◌≡◌, [], ◌∷◌, ◌++◌, true, true≢false, Some, None, Option, List, ℕ, refl, inr, sym, ap, subst, ◌∙◌}
+use Rattle.std.proofs.Common.{rules, ◌≡◌, [], ◌∷◌, ◌++◌, true, Some, None, Option, List, ℕ, refl, inr, sym, ap, subst, ◌∙◌}
 use Rattle.lol_base.specs.StartTags.{RangesAreInside, StartTag}
 use Rattle.lol_base.specs.declared.namespace.Namespace.{Namespace}
 use Rattle.lol_vm.specs.Answers.{document}
@@ -13,7 +13,7 @@ use Rattle.lol_matcher.specs.Told.{Told, elements_of}
 use Rattle.lol_matcher.specs.declared.tags.Finished.{Finished}
 use Rattle.lol_matcher.specs.declared.error.MatcherError.{MatcherError}
 use Rattle.lol_matcher.proofs.Finishing.{IsWaiting, runs_past, waiting}
-use Rattle.lol_matcher.proofs.Refusals.{is_refusal, not_failed, refused_unreported, still_refusal}
+use Rattle.lol_matcher.proofs.Refusals.{is_refusal, keeps_failed, not_failed, refused_unreported, still_refusal}
 use Rattle.lol_matcher.proofs.matcher.Matcher.finish.Given as given
 use Rattle.lol_matcher.proofs.matcher.Matcher.finish.Goals as goal
 use Rattle.lol_matcher.proofs.matcher.Matcher.finish.Goals.{After-finish_tag}
@@ -81,13 +81,7 @@ invariant_of-self-in-Ok-Reported g c =
 pub invariant_of-self-in-Ok-Unreported : goal.invariant_of-self-in-Ok-Unreported
 invariant_of-self-in-Ok-Unreported g c =
     let a = (goal.at.invariant_of-self-in-Ok-Unreported g c).After-finish_tag in
-    rw c.then-self-inside-in-Ok-Unreported.ensures (record {
-      charged = c.in-Ok-Unreported.ensures.charged c.self.invariant.charged;
-      has_open = has_open g a (answered g a c.in-Ok-Unreported.field-0-is c.in-Ok-Unreported.ensures.told).0.runs;
-      runs = λ ok. absurd (true≢false ok);
-      waits = λ ok. absurd (true≢false ok);
-      told_open = λ ok. absurd (true≢false ok);
-    })
+    rw c.then-self-inside-in-Ok-Unreported.ensures (keeps_failed (c.in-Ok-Unreported.ensures.charged c.self.invariant.charged) (has_open g a (answered g a c.in-Ok-Unreported.field-0-is c.in-Ok-Unreported.ensures.told).0.runs))
 
 pub returns-in-Ok-Reported-clause-reported : goal.returns-in-Ok-Reported-clause-reported
 returns-in-Ok-Reported-clause-reported g c =

@@ -1,4 +1,4 @@
-use Rattle.std.proofs.Common.{◌≡◌, [], ◌∷◌, ◌++◌, true≢false, refl, inr, ap, subst}
+use Rattle.std.proofs.Common.{◌≡◌, [], ◌∷◌, ◌++◌, refl, inr, ap, subst}
 use Rattle.lol_base.specs.StartTags.{StartTag}
 use Rattle.lol_vm.specs.Answers.{document}
 use Rattle.lol_vm.specs.AskedRuns.{bare_tag}
@@ -8,7 +8,7 @@ use Rattle.lol_vm.specs.Vms.{HasOpen, IsTriedAtMost, data_in, tries_in}
 use Rattle.lol_matcher.specs.Keeping.{ForTag, Leaves, Runs, Tells, allowed}
 use Rattle.lol_matcher.specs.Told.{Told, heard}
 use Rattle.lol_matcher.specs.declared.tags.Answered.{Answered}
-use Rattle.lol_matcher.proofs.Refusals.{is_refusal, not_failed, refused_unreported}
+use Rattle.lol_matcher.proofs.Refusals.{is_refusal, keeps_failed, not_failed, refused_unreported}
 use Rattle.lol_matcher.proofs.matcher.Matcher.start.Given as given
 use Rattle.lol_matcher.proofs.matcher.Matcher.start.Goals as goal
 use Rattle.lol_matcher.proofs.matcher.Matcher.start.Goals.{After-start_tag}
@@ -80,13 +80,7 @@ invariant_of-self-in-Ok-Asked g c =
 pub invariant_of-self-in-Ok-Unreported : goal.invariant_of-self-in-Ok-Unreported
 invariant_of-self-in-Ok-Unreported g c =
     let a = (goal.at.invariant_of-self-in-Ok-Unreported g c).After-start_tag in
-    rw c.then-self-inside-in-Ok-Unreported.ensures (record {
-      charged = c.in-Ok-Unreported.ensures.charged c.self.invariant.charged;
-      has_open = has_open g a (tells g a c.in-Ok-Unreported.field-0-is c.in-Ok-Unreported.ensures.told (bare g a) refl refl).runs;
-      runs = λ ok. absurd (true≢false ok);
-      waits = λ ok. absurd (true≢false ok);
-      told_open = λ ok. absurd (true≢false ok);
-    })
+    rw c.then-self-inside-in-Ok-Unreported.ensures (keeps_failed (c.in-Ok-Unreported.ensures.charged c.self.invariant.charged) (has_open g a (tells g a c.in-Ok-Unreported.field-0-is c.in-Ok-Unreported.ensures.told (bare g a) refl refl).runs))
 
 pub returns-in-Ok-Reported-clause-answers : goal.returns-in-Ok-Reported-clause-answers
 returns-in-Ok-Reported-clause-answers g c =

@@ -1,11 +1,8 @@
-use Rattle.std.proofs.Common.{rules, ◌≡◌, [], ◌∷◌, ◌++◌, true≢false, refl, inr, sym, ap, subst}
+use Rattle.std.proofs.Common.{rules, ◌≡◌, refl, inr, sym, ap, subst}
 use Rattle.lol_base.specs.StartTags.{RangesAreInside, StartTag}
-use Rattle.lol_vm.specs.Answers.{document}
-use Rattle.lol_vm.specs.Events.{Start}
 use Rattle.lol_vm.specs.FreeTags.{AreFlat}
 use Rattle.lol_vm.specs.Views.{selectors}
 use Rattle.lol_vm.specs.Vms.{HasOpen, IsTriedAtMost, tries_in}
-use Rattle.lol_vm.specs.AskedRuns.{told_of}
 use Rattle.lol_matcher.specs.Keeping.{ForHandedTag, IsHanded, IsRefusal, Runs, allowed}
 use Rattle.lol_matcher.specs.Noted.{handed, handed_told}
 use Rattle.lol_matcher.specs.Refusing.{IsRefusedFor, refusal_after}
@@ -13,7 +10,7 @@ use Rattle.lol_matcher.specs.Told.{Told, elements_of, heard}
 use Rattle.lol_matcher.specs.declared.error.MatcherError.{MatcherError}
 use Rattle.lol_matcher.specs.declared.tags.Finished.{Finished}
 use Rattle.lol_matcher.proofs.Handing.{answered_report, told_handed}
-use Rattle.lol_matcher.proofs.Refusals.{is_refusal, left_same, not_failed, refused_unreported, still_refusal}
+use Rattle.lol_matcher.proofs.Refusals.{is_refusal, keeps_failed, left_same, not_failed, refused_unreported, still_refusal}
 use Rattle.lol_matcher.proofs.matcher.Matcher.start_with.Given as given
 use Rattle.lol_matcher.proofs.matcher.Matcher.start_with.Goals as goal
 use Rattle.lol_matcher.proofs.matcher.Matcher.start_with.Goals.{After-hand_tag}
@@ -68,24 +65,13 @@ invariant_of-self g c =
 pub invariant_of-self-in-Ok-Unreported : goal.invariant_of-self-in-Ok-Unreported
 invariant_of-self-in-Ok-Unreported g c =
     let a = (goal.at.invariant_of-self-in-Ok-Unreported g c).After-hand_tag in
-    rw c.then-self-inside-in-Ok-Unreported.ensures (record {
-      charged = c.in-Ok-Unreported.ensures.charged c.self.invariant.charged;
-      has_open = has_open g a (answered g a c.in-Ok-Unreported.field-0-is c.in-Ok-Unreported.ensures.told).0.runs;
-      runs = λ ok. absurd (true≢false ok);
-      waits = λ ok. absurd (true≢false ok);
-      told_open = λ ok. absurd (true≢false ok);
-    })
+    rw c.then-self-inside-in-Ok-Unreported.ensures (keeps_failed (c.in-Ok-Unreported.ensures.charged c.self.invariant.charged) (has_open g a (answered g a c.in-Ok-Unreported.field-0-is c.in-Ok-Unreported.ensures.told).0.runs))
 
 pub invariant_of-self-in-Err : goal.invariant_of-self-in-Err
 invariant_of-self-in-Err g c =
     let a = (goal.at.invariant_of-self-in-Err g c).After-hand_tag in
-    record {
-      charged = c.in-Err.ensures.charged c.self.invariant.charged;
-      has_open = subst (HasOpen c.hand_tag.new.vm) (sym (c.self.invariant.told_open c.if-self.false)) (c.in-Err.ensures.still_open (selectors (t g a).ast) (t g a).esi (heard (t g a)) (tag g a) (runs g a) refl refl);
-      runs = λ ok. absurd (true≢false ok);
-      waits = λ ok. absurd (true≢false ok);
-      told_open = λ ok. absurd (true≢false ok);
-    }
+    keeps_failed (c.in-Err.ensures.charged c.self.invariant.charged)
+    (subst (HasOpen c.hand_tag.new.vm) (sym (c.self.invariant.told_open c.if-self.false)) (c.in-Err.ensures.still_open (selectors (t g a).ast) (t g a).esi (heard (t g a)) (tag g a) (runs g a) refl refl))
 
 pub returns-in-Ok-Reported-clause-reported : goal.returns-in-Ok-Reported-clause-reported
 returns-in-Ok-Reported-clause-reported g c =
