@@ -1,9 +1,7 @@
 -- A machine that runs over events, one event on.
-use Rattle.std.proofs.Common.{◌≡◌, ℕ, ◌+◌, ◌*◌, ◌≤◌, ◌<◌, ◌^◌, Bool, true, false, cond, List, [], ◌∷◌, ◌++◌, length, drop, Option, Some, None, refl, sym, ap, ◌∙◌, subst, arith}
+use Rattle.std.proofs.Common.{◌≡◌, ℕ, ◌+◌, ◌*◌, ◌≤◌, ◌<◌, ◌^◌, Bool, true, false, List, [], ◌∷◌, ◌++◌, length, drop, Option, Some, None, refl, sym, ap, ◌∙◌, subst, arith}
 use Rattle.std.specs.Prelude.{max, ◌&&◌, not}
-use Rattle.std.proofs.lemmas.Bool.Decides.{Decides-eqb}
 use Rattle.std.proofs.lemmas.List.{length-drop}
-use Rattle.lol_base.specs.MemberLaws.{count_by-cons}
 use Rattle.lol_base.specs.StartTags.{StartTag}
 use Rattle.lol_memory.specs.Limiter.{Limiter}
 use Rattle.lol_memory.specs.Slots.{slots}
@@ -11,14 +9,14 @@ use Rattle.lol_program.specs.Paths.{Selectors}
 use Rattle.lol_stack.specs.Stacks.{list_in}
 use Rattle.lol_vm.specs.Answers.{after, document, is_dropped}
 use Rattle.lol_vm.specs.DocumentLaws.{document_push, longest_push}
-use Rattle.lol_vm.specs.Documents.{Child, Document, empty, element_of, children_of, same_parent, parent_of, place_of, outer_part, after_start, after_end}
+use Rattle.lol_vm.specs.Documents.{Document, empty, element_of, children_of, place_of, outer_part, after_start, after_end}
 use Rattle.lol_vm.specs.Events.{Event, Start, End, has_content}
 use Rattle.lol_vm.specs.Refusals.{greatest_count, longest}
 use Rattle.lol_vm.specs.Standing.{DocumentsAreOrdered}
 use Rattle.lol_vm.specs.VmLaws.{SlotsAreOfDepth}
 use Rattle.lol_vm.specs.Vms.{Vm, Stands, stack_in, slots_charged, slot_bytes}
 use Rattle.lol_matcher.specs.Keeping.{Runs, IsCharged}
-use Rattle.lol_vm.proofs.CallerLemmas.{many_open}
+use Rattle.lol_vm.proofs.CallerLemmas.{children_after, many_open, position_before}
 use Rattle.lol_matcher.proofs.Refusals.{IsChargedFor}
 
 -- 1. Documents, one event on
@@ -30,49 +28,7 @@ module _ (s : Selectors) (esi : Bool) where
   pub later_longest : (events : List Event) (event : Event) → longest s esi (events ++ event ∷ []) ≡ max (longest s esi events) (length (after s esi (document s esi events) event).open_elements)
   later_longest events event = longest_push s esi empty events event
 
--- 2. Children
-
-parent_is : (a b : Option ℕ) → same_parent a b ≡ true → a ≡ b
-parent_is None None same = refl
-parent_is None (Some n) same = cc
-parent_is (Some m) None same = cc
-parent_is (Some m) (Some n) same = ap Some ((Decides-eqb m n).0 same)
-
-own_parent : (a : Option ℕ) → same_parent a a ≡ true
-own_parent None = refl
-own_parent (Some n) = (Decides-eqb n n).1 refl
-
-children-cons : (parent : Option ℕ) (c : Child) (cs : List Child) → children_of parent (c ∷ cs) ≡ cond (same_parent parent c.parent) 1 0 + children_of parent cs
-children-cons parent c cs = count_by-cons (λ (c : Child). same_parent parent c.parent) c cs
-
-module _ (d : Document) (tag : StartTag) (opening : Bool) where
-  counted : (parent : Option ℕ) → children_of parent (after_start d tag opening).children ≡ cond (same_parent parent (parent_of d.open_elements)) 1 0 + children_of parent d.children
-  counted parent = children-cons parent (record { parent = parent_of d.open_elements; name = tag.name }) d.children
-
-  -- as many children as before, or one more of the parent
-  pub countable_after : ((parent : Option ℕ) → children_of parent d.children ≤ greatest_count) → (element_of d tag).position ≤ greatest_count
-      → (parent : Option ℕ) → children_of parent (after_start d tag opening).children ≤ greatest_count
-  countable_after countable few parent = by_parent (same_parent parent (parent_of d.open_elements)) refl
-    where
-      by_parent : (b : Bool) → same_parent parent (parent_of d.open_elements) ≡ b → children_of parent (after_start d tag opening).children ≤ greatest_count
-      by_parent true same =
-          let own = ap (λ p. children_of p d.children) (parent_is parent (parent_of d.open_elements) same) in
-          let c = counted parent ∙ ap (λ b. cond b 1 0 + children_of parent d.children) same in
-          omega (arith, own, c, few)
-      by_parent false same =
-          let c = counted parent ∙ ap (λ b. cond b 1 0 + children_of parent d.children) same in
-          let before = countable parent in
-          omega (arith, c, before)
-
-  -- whose counters had room
-  pub position_before : ((parent : Option ℕ) → children_of parent (after_start d tag opening).children ≤ greatest_count) → (element_of d tag).position ≤ greatest_count
-  position_before countable =
-      let parent = parent_of d.open_elements in
-      let c = counted parent ∙ ap (λ b. cond b 1 0 + children_of parent d.children) (own_parent parent) in
-      let most = countable parent in
-      omega (arith, c, most)
-
--- 3. A machine that runs
+-- 2. A machine that runs
 
 module _ {E : Type 0} (depths : SlotsAreOfDepth E) (ordered : DocumentsAreOrdered) (s : Selectors) (esi : Bool) where
   pub charged_for : (events : List Event) (vm : Vm E) (now : Limiter) → Runs s esi events vm now → IsChargedFor (document s esi events) (longest s esi events) (list_in (stack_in vm)) now
@@ -120,7 +76,7 @@ module _ {E : Type 0} (depths : SlotsAreOfDepth E) (ordered : DocumentsAreOrdere
 
     pub countable_before : (parent : Option ℕ) → children_of parent d.children ≤ greatest_count
     countable_before parent =
-        let c = counted d tag false parent in
+        let c = children_after d tag false parent in
         let more = countable_with parent in
         omega (arith, c, more)
 
@@ -146,7 +102,7 @@ module _ {E : Type 0} (depths : SlotsAreOfDepth E) (ordered : DocumentsAreOrdere
           countable = λ parent. subst (λ (d : Document). children_of parent d.children ≤ greatest_count) (sym (later_document s esi events event)) (countable parent);
         }
 
-  -- 4. End tags
+  -- 3. End tags
 
   outer_is_shorter : (place : Option ℕ) (d : Document) → length (outer_part place d.open_elements) ≤ length d.open_elements
   outer_is_shorter None d = omega arith

@@ -1,32 +1,30 @@
 -- What is kept of a start tag that was answered.
-use Rattle.std.proofs.Common.{◌≡◌, ℕ, ◌+◌, ◌≤◌, ◌<◌, Bool, true, false, List, [], ◌∷◌, ◌++◌, length, refl, ap, sym, ◌∙◌, subst, map, arith}
-use Rattle.std.specs.Prelude.{nat_lt, IsTrue, ◌↔◌}
-use Rattle.std.proofs.lemmas.Bool.Decides.{nat_tests}
+use Rattle.std.proofs.Common.{◌≡◌, ℕ, ◌≤◌, ◌<◌, Bool, true, List, [], ◌∷◌, ◌++◌, length, refl, ap, sym, ◌∙◌, subst, map}
+use Rattle.std.specs.Prelude.{IsTrue, ◌↔◌}
 use Rattle.lol_base.specs.StartTags.{StartTag}
-use Rattle.lol_instructions.specs.Counters.{full_count}
 use Rattle.lol_instructions.specs.Tries.{names_counted, attributes_counted}
 use Rattle.lol_memory.specs.LimitedVec.{IsLimited}
 use Rattle.lol_memory.specs.Limiter.{Limiter}
 use Rattle.lol_memory.specs.declared.match_info.MatchInfo.{MatchInfo}
 use Rattle.lol_program.specs.Paths.{Selectors}
-use Rattle.lol_stack.specs.Stacks.{list_in, last_count}
+use Rattle.lol_stack.specs.Stacks.{list_in}
 use Rattle.lol_vm.specs.Answers.{Match, Started, document}
 use Rattle.lol_vm.specs.Due.{IsWithinLimit}
-use Rattle.lol_vm.specs.Documents.{children_of, element_of, parent_of}
+use Rattle.lol_vm.specs.Documents.{children_of, element_of}
 use Rattle.lol_vm.specs.Events.{Event, Start, has_content}
 use Rattle.lol_vm.specs.Refusals.{greatest_count, longest}
-use Rattle.lol_vm.specs.Standing.{CountersArePlaces, DocumentsAreOrdered}
+use Rattle.lol_vm.specs.Standing.{DocumentsAreOrdered}
 use Rattle.lol_vm.specs.Views.{match_of}
 use Rattle.lol_vm.specs.VmLaws.{PendingStands, SlotsAreOfDepth}
 use Rattle.lol_vm.specs.Vms.{Vm, ChargesSlots, Stands, IsAnswered, IsPending, IsTriedAtMost, data_in, info_of, tries_in, stack_in, slot_bytes}
 use Rattle.lol_vm.specs.declared.error.AuxStartTagInfoRequest.{AuxStartTagInfoRequest}
-use Rattle.lol_vm.proofs.CallerLemmas.{has_content_if, opens_nothing, position_is, unfinished_is}
+use Rattle.lol_vm.proofs.CallerLemmas.{countable_after, has_content_if, opens_nothing, unfinished_is}
 use Rattle.lol_matcher.specs.Answering.{GrowsBy, Kept, KeepsOne}
 use Rattle.lol_matcher.specs.Keeping.{ClearsOpened, IsToldAs, IsAskedFor, IsCharged, IsUnreported, KeepsRunning, Runs, allowed, ids_of}
 use Rattle.lol_matcher.proofs.Charges.{charged_after}
 use Rattle.lol_matcher.proofs.Opened.{grows_by, is_opened, keeps_one}
 use Rattle.lol_matcher.proofs.Refusals.{IsChargedFor, fits, not_refused, opens_in}
-use Rattle.lol_matcher.proofs.Running.{charged_for, countable_after, runs_on}
+use Rattle.lol_matcher.proofs.Running.{charged_for, runs_on}
 
 -- 1. Reports
 
@@ -35,25 +33,6 @@ same_matches [] = refl
 same_matches (m ∷ matched) = ap (λ ms. m ∷ ms) (same_matches matched)
 
 -- 2. A machine that runs
-
-module _ {E : Type 0} (places : CountersArePlaces) (s : Selectors) (esi : Bool) (events : List Event) (vm : Vm E) (now : Limiter) (runs : Runs s esi events vm now) (tag : StartTag) where
-  pub room_for : (last_count (stack_in vm) ≡ full_count → ⊥) → (element_of (document s esi events) tag).position ≤ greatest_count
-  room_for room = by_test (nat_lt (last_count (stack_in vm)) full_count) refl
-    where
-      position : (element_of (document s esi events) tag).position ≡ last_count (stack_in vm) + 1
-      position = position_is s esi vm events runs.stands tag
-
-      few : (element_of (document s esi events) tag).position ≤ greatest_count + 1
-      few = let c = runs.countable (parent_of (document s esi events).open_elements) in omega (arith, c)
-
-      by_test : (b : Bool) → nat_lt (last_count (stack_in vm)) full_count ≡ b → (element_of (document s esi events) tag).position ≤ greatest_count
-      by_test true less = grind (arith, nat_tests, less, position)
-      by_test false less = absurd (room (grind (arith, nat_tests, less, position, few)))
-
-  pub no_room_for : last_count (stack_in vm) ≡ full_count → greatest_count < (element_of (document s esi events) tag).position
-  no_room_for full =
-      let position = position_is s esi vm events runs.stands tag in
-      omega (arith, position, full)
 
 module _ {E : Type 0} (depths : SlotsAreOfDepth E) (ordered : DocumentsAreOrdered) (s : Selectors) (esi : Bool) (events : List Event) (tag : StartTag) (old new : Vm E) (now later : Limiter)
     (is : IsChargedFor (document s esi events) (longest s esi events) (list_in (stack_in old)) now) (room : (element_of (document s esi events) tag).position ≤ greatest_count)

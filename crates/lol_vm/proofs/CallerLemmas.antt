@@ -1,7 +1,8 @@
 -- What a caller of a machine cites: the charge of its slots, from call to call, up to `release`; what it has of its document, and whether a start tag opens an element.
-use Rattle.std.proofs.Common.{◌≡◌, ℕ, ◌+◌, ◌-◌, ◌*◌, ◌≤◌, Bool, true, false, not, List, [], ◌∷◌, length, Option, Result, Ok, Err, refl, sym, ap, ◌∙◌, arith}
+use Rattle.std.proofs.Common.{◌≡◌, ℕ, ◌+◌, ◌-◌, ◌*◌, ◌≤◌, ◌<◌, Bool, true, false, cond, not, List, [], ◌∷◌, length, Option, Some, None, Result, Ok, Err, refl, sym, ap, ◌∙◌, arith}
 use Rattle.std.specs.Result.{OnErr, OnOk}
-use Rattle.std.specs.Prelude.{◌&&◌, ◌↔◌}
+use Rattle.std.specs.Prelude.{◌&&◌, ◌↔◌, nat_lt}
+use Rattle.std.proofs.lemmas.Bool.Decides.{Decides-eqb, nat_tests}
 use Rattle.std.proofs.Math.Nat.{add-mul}
 use Rattle.lol_base.specs.BoolLaws.{and_parts}
 use Rattle.lol_base.specs.LocalNames.{Name}
@@ -13,12 +14,13 @@ use Rattle.lol_program.specs.Paths.{Selectors}
 use Rattle.lol_stack.specs.declared.stack_item.StackItemOf.{StackItemOf}
 use Rattle.lol_stack.specs.Stacks.{IsPushed, IsSame, item_bytes_in, items_in, last_count, list_in}
 use Rattle.lol_vm.specs.Answers.{document}
-use Rattle.lol_vm.specs.Documents.{element_of}
+use Rattle.lol_vm.specs.Documents.{Document, after_start, children_of, element_of, parent_of, same_parent}
 use Rattle.lol_vm.specs.Events.{Event, has_content}
 use Rattle.lol_vm.specs.Follows.{opens}
+use Rattle.lol_vm.specs.Refusals.{greatest_count}
 use Rattle.lol_vm.specs.Standing.{counted_last, counted_root, or_root, unfinished}
 use Rattle.lol_vm.specs.Vms.{Vm, ChargesSlots, IsChargedFor, IsCovered, OpensNothing, Stands, has_failed, is_asked_for, slots_charged, slot_bytes, stack_in}
-use Rattle.lol_vm.proofs.Kept.{items_length, counters_are_places}
+use Rattle.lol_vm.proofs.Kept.{children-cons, items_length, counters_are_places}
 use Rattle.lol_vm.proofs.StackCounting.{seen_children}
 use Rattle.lol_vm.proofs.StackMachines.{items_counted}
 
@@ -160,6 +162,23 @@ module _ {E : Type 0} (s : Selectors) (esi : Bool) (vm : Vm E) (events : List Ev
   pub has_room : (IsFull : Type 0) → IsFull ↔ ((has_failed vm ≡ false) × (last_count (stack_in vm) ≡ full_count)) → (IsFull → ⊥) → last_count (stack_in vm) ≡ full_count → ⊥
   has_room IsFull exact other full = other (exact.1 (hasnt_failed, full))
 
+  -- where it isn't, the next child can be counted
+  pub room_for : ((parent : Option ℕ) → children_of parent (document s esi events).children ≤ greatest_count) → (last_count (stack_in vm) ≡ full_count → ⊥) → (tag : StartTag) → (element_of (document s esi events) tag).position ≤ greatest_count
+  room_for countable room tag = by_test (nat_lt (last_count (stack_in vm)) full_count) refl
+    where
+      position : (element_of (document s esi events) tag).position ≡ last_count (stack_in vm) + 1
+      position = position_is tag
+
+      few : (element_of (document s esi events) tag).position ≤ greatest_count + 1
+      few = let c = countable (parent_of (document s esi events).open_elements) in omega (arith, c)
+
+      by_test : (b : Bool) → nat_lt (last_count (stack_in vm)) full_count ≡ b → (element_of (document s esi events) tag).position ≤ greatest_count
+      by_test true less = grind (arith, nat_tests, less, position)
+      by_test false less = absurd (room (grind (arith, nat_tests, less, position, few)))
+
+  pub no_room_for : last_count (stack_in vm) ≡ full_count → (tag : StartTag) → greatest_count < (element_of (document s esi events) tag).position
+  no_room_for full tag = let position = position_is tag in omega (arith, position, full)
+
 -- 6. Whether a start tag opens an element
 
 module _ (s : Selectors) (esi : Bool) (events : List Event) (tag : StartTag) where
@@ -195,3 +214,42 @@ module _ (s : Selectors) (esi : Bool) (events : List Event) (tag : StartTag) whe
 
 pub unfinished_is : (tag : StartTag) → tag.finish ≡ false → unfinished tag ≡ tag
 unfinished_is tag none = λ i. record { name = tag.name; namespace = tag.namespace; attributes = tag.attributes; self_closing = tag.self_closing; finish = sym none i }
+
+-- 7. Children, once a start tag is counted
+
+parent_is : (a b : Option ℕ) → same_parent a b ≡ true → a ≡ b
+parent_is None None same = refl
+parent_is None (Some n) same = cc
+parent_is (Some m) None same = cc
+parent_is (Some m) (Some n) same = ap Some ((Decides-eqb m n).0 same)
+
+own_parent : (a : Option ℕ) → same_parent a a ≡ true
+own_parent None = refl
+own_parent (Some n) = (Decides-eqb n n).1 refl
+
+module _ (d : Document) (tag : StartTag) (opening : Bool) where
+  pub children_after : (parent : Option ℕ) → children_of parent (after_start d tag opening).children ≡ cond (same_parent parent (parent_of d.open_elements)) 1 0 + children_of parent d.children
+  children_after parent = children-cons parent (record { parent = parent_of d.open_elements; name = tag.name }) d.children
+
+  -- as many children as before, or one more of the parent
+  pub countable_after : ((parent : Option ℕ) → children_of parent d.children ≤ greatest_count) → (element_of d tag).position ≤ greatest_count
+      → (parent : Option ℕ) → children_of parent (after_start d tag opening).children ≤ greatest_count
+  countable_after countable few parent = by_parent (same_parent parent (parent_of d.open_elements)) refl
+    where
+      by_parent : (b : Bool) → same_parent parent (parent_of d.open_elements) ≡ b → children_of parent (after_start d tag opening).children ≤ greatest_count
+      by_parent true same =
+          let own = ap (λ p. children_of p d.children) (parent_is parent (parent_of d.open_elements) same) in
+          let c = children_after parent ∙ ap (λ b. cond b 1 0 + children_of parent d.children) same in
+          omega (arith, own, c, few)
+      by_parent false same =
+          let c = children_after parent ∙ ap (λ b. cond b 1 0 + children_of parent d.children) same in
+          let before = countable parent in
+          omega (arith, c, before)
+
+  -- whose counters had room
+  pub position_before : ((parent : Option ℕ) → children_of parent (after_start d tag opening).children ≤ greatest_count) → (element_of d tag).position ≤ greatest_count
+  position_before countable =
+      let parent = parent_of d.open_elements in
+      let c = children_after parent ∙ ap (λ b. cond b 1 0 + children_of parent d.children) (own_parent parent) in
+      let most = countable parent in
+      omega (arith, c, most)

@@ -1,8 +1,8 @@
 -- What one event does to a run.
-use Rattle.std.proofs.Common.{◌≡◌, ℕ, suc, ◌+◌, ◌-◌, ◌*◌, ◌≤◌, ◌<◌, ◌^◌, Bool, true, false, cond, List, [], ◌∷◌, ◌++◌, length, map, take, drop, reverse, Option, Some, None, refl, sym, ap, ◌∙◌, subst, arith}
+use Rattle.std.proofs.Common.{◌≡◌, ℕ, suc, ◌+◌, ◌-◌, ◌*◌, ◌≤◌, ◌<◌, ◌^◌, Bool, true, false, List, [], ◌∷◌, ◌++◌, length, map, take, drop, reverse, Option, Some, None, refl, sym, ap, ◌∙◌, subst, arith}
 use Rattle.std.specs.Prelude.{max, nat_lt, if◌then◌else◌}
 use Rattle.std.specs.List.{take-map, drop-map}
-use Rattle.std.proofs.lemmas.Bool.Decides.{Decides-eqb, nat_tests}
+use Rattle.std.proofs.lemmas.Bool.Decides.{nat_tests}
 use Rattle.std.proofs.lemmas.List.{length-map, length-drop, length-reverse, reverse-append, take-append-drop, take_at, drop_at}
 use Rattle.lol_base.specs.StartTags.{StartTag}
 use Rattle.lol_memory.specs.LimitedVec.{IsLimited}
@@ -12,7 +12,7 @@ use Rattle.lol_instructions.specs.Counters.{full_count}
 use Rattle.lol_program.specs.Paths.{Selectors}
 use Rattle.lol_instructions.specs.Tests.{Element}
 use Rattle.lol_vm.specs.Answers.{after, document}
-use Rattle.lol_vm.specs.Documents.{Document, empty, element_of, children_of, closed, same_parent, parent_of, place_of, inner_part, after_start, after_end}
+use Rattle.lol_vm.specs.Documents.{Document, empty, element_of, children_of, closed, place_of, inner_part, after_start, after_end}
 use Rattle.lol_vm.specs.Events.{Event, Start, End}
 use Rattle.lol_vm.specs.Follows.{Follows, IsCharged, IsRefusedFor, Stops, opens, refusal_after}
 use Rattle.lol_vm.specs.Refusals.{Cause, Limit, Counter, longest, exceeds, greatest_count}
@@ -23,20 +23,14 @@ use Rattle.lol_vm.specs.Vms.{Vm, Stands, stack_in, data_in, slots_charged, slot_
 use Rattle.lol_vm.specs.declared.events.RunCause.{RunCause}
 use Rattle.lol_vm.specs.declared.events.RunCause.TheVariants.{MemoryLimitExceeded, CounterFull, Memory}
 use Rattle.lol_vm.specs.Follows.{StartedElement}
-use Rattle.lol_vm.proofs.CallerLemmas.{many_open, position_is}
-use Rattle.lol_vm.proofs.Kept.{documents_are_ordered, outer_is, children-cons}
+use Rattle.lol_vm.proofs.CallerLemmas.{countable_after, many_open, no_room_for, room_for}
+use Rattle.lol_vm.proofs.Kept.{documents_are_ordered, outer_is}
 use Rattle.lol_vm.specs.ChargeLaws.{slots_rise, stays_within, passes_maximum}
 use Rattle.lol_vm.proofs.RefusedRuns.{fits_on}
 use Rattle.lol_vm.specs.DocumentLaws.{document_push, longest_push}
 use Rattle.lol_vm.proofs.VmData.{slots_are_of_depth}
 
--- 1. Parents, and lists that are cut
-
-parent_is : (a b : Option ℕ) → same_parent a b ≡ true → a ≡ b
-parent_is None None same = refl
-parent_is None (Some n) same = cc
-parent_is (Some m) None same = cc
-parent_is (Some m) (Some n) same = ap Some ((Decides-eqb m n).0 same)
+-- 1. Lists that are cut
 
 cut_at : {A : Type 0} (n : ℕ) (xs : List A) → reverse xs ≡ reverse (drop n xs) ++ reverse (take n xs)
 cut_at n xs = ap reverse (sym (take-append-drop n xs)) ∙ reverse-append (take n xs) (drop n xs)
@@ -84,17 +78,7 @@ module _ (s : Selectors) (esi : Bool) (item_bytes : ℕ) (before : Limiter) (vm 
 
   -- a count that isn't full is below the greatest
   countable : (last_count (stack_in vm) ≡ full_count → ⊥) → (tag : StartTag) → (element_of d tag).position ≤ greatest_count
-  countable room tag = by_test (nat_lt (last_count (stack_in vm)) full_count) refl
-    where
-      position : (element_of d tag).position ≡ last_count (stack_in vm) + 1
-      position = position_is s esi vm events f.stands tag
-
-      few : (element_of d tag).position ≤ greatest_count + 1
-      few = let c = f.countable (parent_of d.open_elements) in omega (arith, c)
-
-      by_test : (b : Bool) → nat_lt (last_count (stack_in vm)) full_count ≡ b → (element_of d tag).position ≤ greatest_count
-      by_test true less = grind (arith, nat_tests, less, position)
-      by_test false less = absurd (room (grind (arith, nat_tests, less, position, few)))
+  countable room tag = room_for s esi vm events f.stands f.countable room tag
 
   abbrev refusal_by : Bool → Bool → Option Cause
   refusal_by full over = if full then Some Counter else (if over then Some Limit else None)
@@ -117,8 +101,7 @@ module _ (s : Selectors) (esi : Bool) (item_bytes : ℕ) (before : Limiter) (vm 
       let over = subst (λ b. before.maximum < before.usage + slots item_bytes (max most (length (after_start d tag b).open_elements)) * item_bytes) (sym h.0) (passes tag h.1) in
       tests tag false true (grind (arith, nat_tests, position)) (grind (arith, nat_tests, over))
   refused_for CounterFull tag h =
-      let position = position_is s esi vm events f.stands tag in
-      let full : greatest_count < (element_of d tag).position = omega (arith, position, h) in
+      let full = no_room_for s esi vm events f.stands h tag in
       tests tag true _ (grind (arith, nat_tests, full)) refl
   refused_for Memory tag h =
       let position = countable h.0 tag in (
@@ -186,7 +169,7 @@ module _ (s : Selectors) (esi : Bool) (item_bytes : ℕ) (before : Limiter) (vm 
 
     -- as many children as before, or one more of the parent, which isn't full
     countable_later : (e : Event) → refusal_after s esi item_bytes before events e ≡ None → (parent : Option ℕ) → children_of parent (after s esi d e).children ≤ greatest_count
-    countable_later (Start tag) none parent = by_parent (same_parent parent (parent_of d.open_elements)) refl
+    countable_later (Start tag) none parent = countable_after d tag (opens s esi events tag) f.countable few parent
       where
         few : (element_of d tag).position ≤ greatest_count
         few = by_tests (nat_lt greatest_count (element_of d tag).position) (exceeds (allowance_of item_bytes before) (max most (length (after s esi d (Start tag)).open_elements))) refl none
@@ -194,19 +177,6 @@ module _ (s : Selectors) (esi : Bool) (item_bytes : ℕ) (before : Limiter) (vm 
             by_tests : (full over : Bool) → nat_lt greatest_count (element_of d tag).position ≡ full → refusal_by full over ≡ None → (element_of d tag).position ≤ greatest_count
             by_tests true over is none = cc
             by_tests false over is none = grind (arith, nat_tests, is)
-
-        counted : children_of parent (after s esi d (Start tag)).children ≡ cond (same_parent parent (parent_of d.open_elements)) 1 0 + children_of parent d.children
-        counted = children-cons parent (record { parent = parent_of d.open_elements; name = tag.name }) d.children
-
-        by_parent : (b : Bool) → same_parent parent (parent_of d.open_elements) ≡ b → children_of parent (after s esi d (Start tag)).children ≤ greatest_count
-        by_parent true same =
-            let own = ap (λ p. children_of p d.children) (parent_is parent (parent_of d.open_elements) same) in
-            let c = counted ∙ ap (λ b. cond b 1 0 + children_of parent d.children) same in
-            omega (arith, own, c, few)
-        by_parent false same =
-            let c = counted ∙ ap (λ b. cond b 1 0 + children_of parent d.children) same in
-            let before = f.countable parent in
-            omega (arith, c, before)
     countable_later (End name) none parent = f.countable parent
 
     sum : (old new : ℕ) → old ≤ new → before.usage + old * item_bytes + (new - old) * item_bytes ≡ before.usage + new * item_bytes

@@ -8,13 +8,13 @@ use Rattle.lol_vm.specs.Answers.{Match}
 use Rattle.lol_vm.specs.AskedRuns.{bare_tag}
 use Rattle.lol_vm.specs.Events.{Event}
 use Rattle.lol_vm.specs.Vms.{IsRestOf, info_of, is_asked_for}
-use Rattle.lol_vm.proofs.CallerLemmas.{has_room, hasnt_failed, opens_handed}
+use Rattle.lol_vm.proofs.CallerLemmas.{has_room, hasnt_failed, no_room_for, room_for, opens_handed}
 use Rattle.lol_matcher.specs.Keeping.{Runs, allowed}
 use Rattle.lol_matcher.proofs.Charges.{charged_after}
 use Rattle.lol_matcher.proofs.Handing.{asks_are, handed_as, handed_unreported_as}
 use Rattle.lol_matcher.proofs.Refusals.{refused_for_counter, refused_for_limit, refused_for_memory}
 use Rattle.lol_matcher.proofs.Running.{charged_for}
-use Rattle.lol_matcher.proofs.Telling.{WasAnswered, no_room_for, other_answer, room_for, tried_on, was_answered}
+use Rattle.lol_matcher.proofs.Telling.{WasAnswered, other_answer, tried_on, was_answered}
 use Rattle.lol_matcher.proofs.handed.hand_tag.Given as given
 use Rattle.lol_matcher.proofs.handed.hand_tag.Goals as goal
 use Rattle.lol_matcher.proofs.handed.hand_tag.Goals.{After-clear_opened-opened}
@@ -30,7 +30,7 @@ module _ (g : given.Over) (c : After-clear_opened-opened g) (s : Selectors) (esi
       let laws = c.run_laws.ensures in
       let call = c.exec_for_whole_start_tag.ensures in
       let charged = charged_for laws.depths laws.ordered s esi events c.args.vm.now c.args.limiter.now runs in
-      let room = room_for laws.places s esi events c.args.vm.now c.args.limiter.now runs tag (has_room s esi c.args.vm.now events runs.stands _ call.full (other_answer c.in-Ok.is (λ same. cc))) in
+      let room = room_for s esi c.args.vm.now events runs.stands runs.countable (has_room s esi c.args.vm.now events runs.stands _ call.full (other_answer c.in-Ok.is (λ same. cc))) tag in
       was_answered laws.depths laws.ordered s esi events tag charged room runs.countable (c.in-Ok.ensures.answered s esi events tag runs.stands (c.new-local_name.ensures ∙ ap local_name (sym named), spaced) when)
       call.charges c.open_elements-open_before.ensures c.clear_opened-opened.ensures
 
@@ -70,7 +70,7 @@ returns-in-Err-MemoryLimitExceeded-clause-refused g c = λ s esi events tag runs
     let call = c.exec_for_whole_start_tag.ensures in
     let is = c.in-Err-MemoryLimitExceeded.is ∙ ap Err c.in-Err-MemoryLimitExceeded.field-0-is in
     let charged = charged_for laws.depths laws.ordered s esi events c.args.vm.now c.args.limiter.now runs in
-    let room = room_for laws.places s esi events c.args.vm.now c.args.limiter.now runs tag (has_room s esi c.args.vm.now events runs.stands _ call.full (other_answer is (λ same. cc))) in
+    let room = room_for s esi c.args.vm.now events runs.stands runs.countable (has_room s esi c.args.vm.now events runs.stands _ call.full (other_answer is (λ same. cc))) tag in
     let limited = call.limited is in
     let reported = limited.1 s esi events tag runs.stands (c.new-local_name.ensures ∙ ap local_name (sym named), spaced) rest in
     refused_for_limit s esi charged tag room (opens_handed s esi events tag reported.0 rest.2) limited.0
@@ -81,7 +81,7 @@ returns-in-Err-CounterFull-clause-refused g c = λ s esi events tag runs named s
     let call = c.exec_for_whole_start_tag.ensures in
     let is = c.in-Err-CounterFull.is ∙ ap Err c.in-Err-CounterFull.field-0-is in
     let charged = charged_for laws.depths laws.ordered s esi events c.args.vm.now c.args.limiter.now runs in
-    refused_for_counter s esi charged tag (no_room_for laws.places s esi events c.args.vm.now c.args.limiter.now runs tag (call.full.0 is).1)
+    refused_for_counter s esi charged tag (no_room_for s esi c.args.vm.now events runs.stands (call.full.0 is).1 tag)
 
 pub returns-in-Err-Memory-clause-refused : goal.returns-in-Err-Memory-clause-refused
 returns-in-Err-Memory-clause-refused g c = λ s esi events tag runs named spaced rest.
@@ -89,7 +89,7 @@ returns-in-Err-Memory-clause-refused g c = λ s esi events tag runs named spaced
     let call = c.exec_for_whole_start_tag.ensures in
     let is = c.in-Err-Memory.is ∙ ap Err c.in-Err-Memory.field-0-is in
     let charged = charged_for laws.depths laws.ordered s esi events c.args.vm.now c.args.limiter.now runs in
-    let room = room_for laws.places s esi events c.args.vm.now c.args.limiter.now runs tag (has_room s esi c.args.vm.now events runs.stands _ call.full (other_answer is (λ same. cc))) in
+    let room = room_for s esi c.args.vm.now events runs.stands runs.countable (has_room s esi c.args.vm.now events runs.stands _ call.full (other_answer is (λ same. cc))) tag in
     refused_for_memory s esi charged tag room (λ free opening limited. c.in-Err-Memory.ensures.due limited s esi events tag runs.stands (c.new-local_name.ensures ∙ ap local_name (sym named), spaced) free c.in-Err-Memory.field-0-is)
 
 pub returns-in-Err-Failed-clause-refused : goal.returns-in-Err-Failed-clause-refused
