@@ -283,11 +283,14 @@ fn code_of(bytes: &[u8]) -> Option<u64>
 fn five_bits(byte: u8) -> Option<u64>
     ensures { result ≡ bits_of (to_ascii_lowercase byte) }
 {
-    match byte {
-        b'1'..=b'6' => Some(u64::from(byte - b'1')),
-        b'a'..=b'z' => Some(u64::from(byte - b'a' + 6)),
-        b'A'..=b'Z' => Some(u64::from(byte - b'A' + 6)),
-        _ => None,
+    if byte.is_ascii_lowercase() {
+        Some(u64::from(byte - b'a' + 6))
+    } else if byte.is_ascii_uppercase() {
+        Some(u64::from(byte - b'A' + 6))
+    } else if matches!(byte, b'1'..=b'6') {
+        Some(u64::from(byte - b'1'))
+    } else {
+        None
     }
 }
 

@@ -67,6 +67,9 @@ pub fn byte_place(byte: u8, bytes: &[u8]) -> Option<usize>
             return Some(place);
         }
     }
+    if near == bytes.len() {
+        return None;
+    }
     let place = memchr(byte, &bytes[near..])?;
     Some(near + place)
 }

@@ -1,4 +1,4 @@
-use Rattle.std.proofs.Common.{◌≡◌, ◌∙◌, ◌+◌, Some, option_map, ap, sym, subst, get_or, arith}
+use Rattle.std.proofs.Common.{◌≡◌, ◌∙◌, ◌+◌, None, Some, option_map, ap, sym, subst, get_or, arith}
 use Rattle.std.proofs.Math.Decide.{dec_lt}
 use Rattle.std.proofs.lemmas.List.{take_rest}
 use Rattle.std.specs.Cmp.{unsigned_Decides}
@@ -26,6 +26,11 @@ loop-place-preserved c = λ k low high passes. elim (dec_lt k c.loop-place.place
   | no past ↦ c.if-bytes-place.false (let here : k ≡ c.loop-place.place = omega (arith, high, past) in
       ap (λ i. get_or c.args.bytes.now i 0) (sym here) ∙ (unsigned_Decides _ _).0 passes)
 ]
+
+pub returns-then-near-bytes : goal.returns-then-near-bytes
+returns-then-near-bytes c =
+    first_place (is_byte c.args.byte) c.args.bytes.now None (λ k low high passes.
+      c.loop-place.invariant k low (omega (arith, high, c.if-near-bytes.true, c.loop-place-test.false)) passes)
 
 pub returns-in_err-place : goal.returns-in_err-place
 returns-in_err-place c =
