@@ -1,3 +1,7 @@
+pub mod UnionLemmas
+pub mod FormLemmas
+pub mod HeldLemmas
+pub mod SparseLemmas
 pub mod WordsLemmas
 pub mod IterLemmas
 pub mod DrainLemmas

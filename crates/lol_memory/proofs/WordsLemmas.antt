@@ -1,17 +1,17 @@
 -- Words of 32 bits as sets of ids.
-use Rattle.std.proofs.Common.{length-set, ◌≡◌, ◌≢◌, ℕ, zero, suc, ◌+◌, ◌-◌, ◌*◌, ◌/◌, ◌%◌, ◌^◌, ◌<◌, ◌≤◌, Bool, true, false, cond, ◌||◌, ◌&&◌, List, [], ◌∷◌, length, get_or, set, nat_eq, bit_or, max, refl, sym, true≢false, ap, ◌∙◌, arith, inl, inr, w32, ◌⊎◌}
+use Rattle.std.proofs.Common.{◌≡◌, ◌≢◌, ℕ, zero, suc, ◌+◌, ◌-◌, ◌*◌, ◌/◌, ◌%◌, ◌^◌, ◌<◌, ◌≤◌, Bool, true, false, cond, ◌||◌, ◌&&◌, List, [], ◌∷◌, length, get_or, nat_eq, bit_or, max, refl, sym, true≢false, ap, ◌∙◌, arith, inl, inr, w32, ◌⊎◌}
 use Rattle.std.specs.Int.{bit_at, trailing_zeros}
 use Rattle.std.specs.List.{list_any}
 use Rattle.std.specs.Ordering.{nat_cmp, eq_by_cmp}
 use Rattle.std.specs.Cmp.{unsigned_tied, nat_eq_equiv}
 use Rattle.std.proofs.lemmas.Nat.Bits.{bit_at_or, bit_at_set_same, bit_at_set_other, bit_at-zero, bit_at-trailing_zeros, bit_at_above, same_from_bits, bit_at-lt}
 use Rattle.std.proofs.lemmas.Bool.{cases_eq, cases_lt}
-use Rattle.std.proofs.lemmas.List.{get_or_past, get_or-set_same, get_or-set_other, same_lists, get_or_default}
+use Rattle.std.proofs.lemmas.List.{get_or_past, same_lists, get_or_default}
 use Rattle.std.proofs.lemmas.Nat.{le_or_l, le_or_r, or_of_32}
 use Rattle.std.specs.Bool.{Decides}
 use Rattle.std.proofs.lemmas.Bool.Decides.{nat_tests, same_from_decides, Decides-like}
-use Rattle.lol_memory.specs.Ids.{AllSmall, HasRoom, HasRoomFor, same_ids, has, with_id, no_ids, union}
-use Rattle.lol_memory.specs.Words.{holds, ids_held, ids_from, IsTrim}
+use Rattle.lol_memory.specs.Ids.{AllSmall, same_ids, has, with_id, no_ids, union}
+use Rattle.lol_memory.specs.Words.{holds, ids_held, ids_from, IsTrim, IsMarked, IsJoined}
 use Rattle.lol_memory.specs.SetLaws.{same_set, has-no_ids, has-with_id, has-with_ids, has-union, same_ids-Decides}
 
 list_any-cond : (p : ℕ → Bool) (b : Bool) (x : ℕ) (xs : List ℕ) → list_any p (cond b (x ∷ xs) xs) ≡ ((b && p x) || list_any p xs)
@@ -82,30 +82,26 @@ one_bit word k small =
       | inr some ↦ omega arith
     ]
 
-module _ (old wide new : List ℕ) (same : (j : ℕ) → get_or wide j 0 ≡ get_or old j 0) where
-  pub marked : (id : ℕ) → IsTrim old → id < 2 ^ 32 → length wide ≡ max (length old) (id / 32 + 1)
-      → new ≡ set wide (id / 32) (bit_or (get_or wide (id / 32) 0) (1 * 2 ^ (id % 32) % 2 ^ 32))
-      → IsTrim new × (ids_held new ≡ with_id (ids_held old) id)
+module _ (old new : List ℕ) (id : ℕ) where
+  pub marked : IsTrim old → id < 2 ^ 32 → IsMarked old new (id / 32) (1 * 2 ^ (id % 32) % 2 ^ 32) → IsTrim new × (ids_held new ≡ with_id (ids_held old) id)
   unfolding holds
-  marked id trim fits long is =
+  marked trim fits is =
       let place = id / 32 in
-      let word = bit_or (get_or wide place 0) (1 * 2 ^ (id % 32) % 2 ^ 32) in
-      let len : length new ≡ length wide = rw is (length-set wide place word) in
-      let at : get_or new place 0 ≡ word = rw is (get_or-set_same wide place word 0 (omega arith)) in
-      let apart : (j : ℕ) → j ≢ place → get_or new j 0 ≡ get_or old j 0 = λ j other. rw is (get_or-set_other wide place j word 0 other) ∙ same j in
-      let some : 0 < word = one_bit (get_or wide place 0) (id % 32) (omega arith) in (
+      let old_word = get_or old place 0 in
+      let word = bit_or old_word (1 * 2 ^ (id % 32) % 2 ^ 32) in
+      let some : 0 < word = one_bit old_word (id % 32) (omega arith) in (
         record {
-          some = omega (arith, trim.some);
-          few = omega (arith, trim.few);
+          some = omega (arith, trim.some, is.words);
+          few = omega (arith, trim.few, is.words);
           fit = λ j.
               elim (cases_eq j place) [
-                | inl here ↦ rw (here, at) (or_of_32 (get_or wide place 0) (1 * 2 ^ (id % 32) % 2 ^ 32) (rw (same place) (trim.fit place)) (omega arith))
-                | inr other ↦ rw (apart j other) (trim.fit j)
+                | inl here ↦ rw (here, is.here) (or_of_32 old_word (1 * 2 ^ (id % 32) % 2 ^ 32) (trim.fit place) (omega arith))
+                | inr other ↦ rw (is.others j other) (trim.fit j)
               ];
           last = λ more.
               elim (cases_eq (length new - 1) place) [
-                | inl here ↦ λ none. omega (arith, at, rw here at none)
-                | inr other ↦ λ none. trim.last (omega (arith, trim.some)) (let there : length new - 1 ≡ length old - 1 = omega (arith, trim.some) in rw (← there) (sym (apart (length new - 1) other) ∙ none))
+                | inl here ↦ λ none. omega (arith, is.here, rw here at none)
+                | inr other ↦ λ none. trim.last (omega (arith, trim.some, is.words)) (let there : length new - 1 ≡ length old - 1 = omega (arith, trim.some, is.words) in rw (← there) (sym (is.others (length new - 1) other) ∙ none))
               ];
         },
         ids_held-insert old new id
@@ -113,16 +109,16 @@ module _ (old wide new : List ℕ) (same : (j : ℕ) → get_or wide j 0 ≡ get
               | inl here ↦ elim (cases_eq (q % 32) (id % 32)) [
                 | inl bit ↦
                     let q_is : q ≡ id = omega arith in
-                    let one : bit_at (get_or new (q / 32) 0) (q % 32) ≡ 1 = rw (here, at, bit) (bit_at_set_same w32 (get_or wide place 0) (id % 32) (omega arith)) in
+                    let one : bit_at (get_or new (q / 32) 0) (q % 32) ≡ 1 = rw (here, is.here, bit) (bit_at_set_same w32 old_word (id % 32) (omega arith)) in
                     rw one (rw q_is (grind (arith, nat_tests)))
                 | inr bit ↦
                     let one : bit_at (get_or new (q / 32) 0) (q % 32) ≡ bit_at (get_or old (q / 32) 0) (q % 32) =
-                    rw (here, at) (bit_at_set_other w32 (get_or wide place 0) (id % 32) (omega arith) (q % 32) bit ∙ ap (λ w. bit_at w (q % 32)) (same place)) in
+                    rw (here, is.here) (bit_at_set_other w32 old_word (id % 32) (omega arith) (q % 32) bit) in
                     let differs : nat_eq q id ≡ false = grind (arith, nat_tests) in
                     rw (one, differs)
               ]
               | inr other ↦
-                  let one = apart (q / 32) other in
+                  let one = is.others (q / 32) other in
                   let differs : nat_eq q id ≡ false = grind (arith, nat_tests) in
                   rw (one, differs)
             ]),
@@ -141,7 +137,7 @@ ids_held-nothing =
     same_set _ _ (λ q. has-ids_held (0 ∷ []) q ∙ none_held q ∙ sym (has-no_ids q))
 
 -- a word that is not 0 has a bit
-some_bit : (word : ℕ) → word ≢ 0 → word < 2 ^ 32 → (k : ℕ) × (k < 32) × (bit_at word k ≡ 1)
+pub some_bit : (word : ℕ) → word ≢ 0 → word < 2 ^ 32 → (k : ℕ) × (k < 32) × (bit_at word k ≡ 1)
 some_bit word some fits =
     let zeros = bit_at-trailing_zeros w32 word (omega arith) fits in
     (trailing_zeros w32 word, zeros.0, zeros.1)
@@ -170,43 +166,12 @@ module _ (ws : List ℕ) where
       ]
 
   -- an id that the words hold lies in them
-  within_words : (q : ℕ) → holds ws q ≡ true → q < 32 * length ws
+  pub within_words : (q : ℕ) → holds ws q ≡ true → q < 32 * length ws
   within_words q held =
       elim (cases_lt q (32 * length ws)) [
         | inl near ↦ near
         | inr far ↦ absurd (true≢false (sym held ∙ holds-past ws q far))
       ]
-
-  -- there is a word for an id that has room
-  pub word_of_room : IsTrim ws → (id : ℕ) → HasRoom (ids_held ws) id → id / 32 + 1 ≤ length ws
-  word_of_room trim id room =
-      elim room [
-        | inl small ↦ omega (arith, trim.some)
-        | inr there ↦
-            let near : there.0 < 32 * length ws = within_words there.0 (sym (has-ids_held ws there.0) ∙ there.1) in
-            omega (arith, there.2)
-      ]
-
-  -- an id that has a word has room
-  pub room_of_word : IsTrim ws → (id : ℕ) → id / 32 < length ws → HasRoom (ids_held ws) id
-  room_of_word trim id near =
-      elim (cases_lt 1 (length ws)) [
-        | inl several ↦
-            let last = last_id trim several in
-            inr (last.0, has-ids_held ws last.0 ∙ last.2, omega (arith, last.1))
-        | inr one ↦ inl (omega arith)
-      ]
-
--- there are words enough for ids that have room
-pub words_of_room : (ws more : List ℕ) → IsTrim ws → IsTrim more → HasRoomFor (ids_held ws) (ids_held more) → length more ≤ length ws
-words_of_room ws more trim trim' room =
-    elim (cases_lt 1 (length more)) [
-      | inl several ↦
-          let last = last_id more trim' several in
-          let word : last.0 / 32 + 1 ≤ length ws = word_of_room ws trim last.0 (room last.0 (has-ids_held more last.0 ∙ last.2)) in
-          omega (arith, last.1)
-      | inr one ↦ omega (arith, trim.some)
-    ]
 
 -- one of two bits
 either : (a b : ℕ) → a < 2 → b < 2 → nat_eq (max a b) 1 ≡ (nat_eq a 1 || nat_eq b 1)
@@ -215,14 +180,12 @@ either a b small small' = grind (arith, nat_tests)
 one_bit_is : (a b : ℕ) → a < 2 → b < 2 → nat_eq a 1 ≡ nat_eq b 1 → a ≡ b
 one_bit_is a b small small' same = grind (arith, nat_tests)
 
-module _ (old wide new other : List ℕ) (same : (j : ℕ) → get_or wide j 0 ≡ get_or old j 0) where
-  pub joined : IsTrim old → IsTrim other → length wide ≡ max (length old) (length other) → length new ≡ length wide
-      → ((j : ℕ) → get_or new j 0 ≡ bit_or (get_or wide j 0) (get_or other j 0))
-      → IsTrim new × (ids_held new ≡ union (ids_held old) (ids_held other))
+module _ (old other new : List ℕ) where
+  pub joined : IsTrim old → IsTrim other → IsJoined old other new → IsTrim new × (ids_held new ≡ union (ids_held old) (ids_held other))
   unfolding holds
-  joined trim trim' long len is =
-      let at : (j : ℕ) → get_or new j 0 ≡ bit_or (get_or old j 0) (get_or other j 0) =
-      λ j. is j ∙ ap (λ w. bit_or w (get_or other j 0)) (same j) in (
+  joined trim trim' is =
+      let at = is.bits in
+      let long = is.words in (
         record {
           some = omega (arith, trim.some);
           few = omega (arith, trim.few, trim'.few);

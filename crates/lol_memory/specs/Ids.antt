@@ -1,5 +1,5 @@
 -- Sets of ids, as contracts see them.
-use Rattle.std.specs.Prelude.{◌≡◌, ◌<◌, ◌≤◌, ◌/◌, ◌⊎◌, ℕ, Bool, true, List, [], ◌∷◌}
+use Rattle.std.specs.Prelude.{◌≡◌, ◌<◌, ◌≤◌, ◌+◌, ◌*◌, ◌/◌, ◌⊎◌, ℕ, Bool, true, List, [], ◌∷◌, nat_lt, if◌then◌else◌}
 use Rattle.std.specs.Ordering.{nat_cmp}
 use Rattle.std.specs.Str.{bytes_eq}
 use Rattle.std.specs.Coded.{Coded, coded_ℕ}
@@ -45,9 +45,22 @@ same_ids s t = bytes_eq (ascending s) (ascending t)
 abbrev pub AllSmall : Ids → Type 0
 AllSmall s = (q : ℕ) → has s q ≡ true → q < 32
 
--- the id is among the first 32, or its 32 ids aren't above those of one that the set has: the set needs no more words for it
+-- how many words after the word w hold one of the ids, which ascend; a word is of 32 ids
+abbrev pub words_after : ℕ → List ℕ → ℕ
+words_after w [] = 0
+words_after w (q ∷ qs) = if nat_lt w (q / 32) then words_after (q / 32) qs + 1 else words_after w qs
+
+-- the words up to that of the greatest id are at most 16, and 4 more for each word after the first that holds an id
+pub record IsDense (s : Ids) : Type 0 where
+  pub words : (q : ℕ) → has s q ≡ true → q / 32 < 16 + 4 * words_after 0 (ascending s)
+
+-- The set takes the id in the words that it has: the id is among the first 32, or the set has one of its 32 ids, or the set is dense and
+-- the word of the id isn't after that of the greatest.
 abbrev pub HasRoom : Ids → ℕ → Type 0
-HasRoom s q = (q < 32) ⊎ ((p : ℕ) × (has s p ≡ true) × (q / 32 ≤ p / 32))
+HasRoom s q =
+    (q < 32)
+    ⊎ ((p : ℕ) × (has s p ≡ true) × (p / 32 ≡ q / 32))
+    ⊎ (IsDense s × ((p : ℕ) × (has s p ≡ true) × (q / 32 ≤ p / 32)))
 
 -- each id of t has room in s
 abbrev pub HasRoomFor : Ids → Ids → Type 0

@@ -7,6 +7,8 @@ pub mod Lends
 pub mod Drain
 pub mod Ids
 pub mod Words
+pub mod SparseWords
 pub mod WordsOf
+pub mod HeldWords
 pub mod SetLaws
 pub mod AscendingLaws

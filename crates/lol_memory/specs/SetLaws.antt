@@ -1,6 +1,6 @@
 -- Laws of sets of ids.
 use Rattle.std.specs.Prelude.{◌≡◌, ℕ, Bool, true, false, cond, ◌||◌, List, [], ◌∷◌, Some, None, Option, is_some}
-use Rattle.std.proofs.Common.{refl, sym, ap, ◌∙◌}
+use Rattle.std.proofs.Common.{refl, sym, ap, ◌∙◌, inl, inr}
 use Rattle.std.specs.Bool.{Decides}
 use Rattle.std.specs.List.{list_any}
 use Rattle.std.specs.Ordering.{nat_cmp, eq_by_cmp}
@@ -8,7 +8,7 @@ use Rattle.std.specs.Cmp.{IsPartialEquivalence, IsEquivalence, decided, partial_
 use Rattle.std.specs.FinMap as map
 use Rattle.std.specs.FinMap.{nat_cmp-IsAntisymmetric, same_map, contains_key-keys, get-insert, get-empty}
 use Rattle.std.proofs.lemmas.Slice.Eq.{bytes_eq-Decides}
-use Rattle.lol_memory.specs.Ids.{Ids, no_ids, has, with_id, with_ids, union, same_ids}
+use Rattle.lol_memory.specs.Ids.{Ids, no_ids, has, with_id, with_ids, union, same_ids, HasRoom}
 
 abbrev marked : Bool → Option (Unit {0})
 marked b = cond b (Some tt) None
@@ -52,6 +52,10 @@ has-with_ids s (k ∷ ks) q =
 pub has-union : (s t : Ids) (q : ℕ) → has (union s t) q ≡ (has s q || has t q)
 unfolding union
 has-union s t q = has-with_ids s (map.keys t) q ∙ ap (λ b. has s q || b) (sym (has-keys t q))
+
+-- a set has room for an id that it has
+pub held_has_room : (s : Ids) (q : ℕ) → has s q ≡ true → HasRoom s q
+held_has_room s q held = inr (inl (q, held, refl))
 
 pub same_keys : (s t : Ids) → map.keys s ≡ map.keys t → s ≡ t
 same_keys s t is = same_set s t (λ q. has-keys s q ∙ (ap (list_any (eq_by_cmp nat_cmp q)) is ∙ sym (has-keys t q)))

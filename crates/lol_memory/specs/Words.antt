@@ -1,5 +1,5 @@
 -- Words of 32 bits that hold ids: bit k of word j, the lowest first, stands for the id 32 * j + k.
-use Rattle.std.specs.Prelude.{◌≡◌, ◌≢◌, ℕ, zero, suc, ◌+◌, ◌-◌, ◌*◌, ◌/◌, ◌%◌, ◌^◌, ◌<◌, ◌≤◌, Bool, true, false, cond, List, [], ◌∷◌, length, get_or, nat_eq}
+use Rattle.std.specs.Prelude.{◌≡◌, ◌≢◌, ℕ, zero, suc, ◌+◌, ◌-◌, ◌*◌, ◌/◌, ◌%◌, ◌^◌, ◌<◌, ◌≤◌, Bool, true, false, cond, List, [], ◌∷◌, length, get_or, nat_eq, max, bit_or}
 use Rattle.std.specs.Int.{bit_at}
 use Rattle.lol_memory.specs.Ids.{Ids, no_ids, with_ids}
 
@@ -33,3 +33,27 @@ pub record IsFirstHeld (ws : List ℕ) (from q : ℕ) : Type 0 where
   pub within : q < 32 * length ws
   pub held : holds ws q ≡ true
   pub first : NoneHeld ws from q
+
+-- how many of the n words from j on hold an id
+abbrev pub held_from : List ℕ → ℕ → ℕ → ℕ
+held_from ws j zero = 0
+held_from ws j (suc n) = cond (nat_eq (get_or ws j 0) 0) (held_from ws (j + 1) n) (held_from ws (j + 1) n + 1)
+
+-- how many words after the first hold an id
+abbrev pub held_words : List ℕ → ℕ
+held_words ws = held_from ws 1 (length ws - 1)
+
+-- so many words are kept in a list of them all, where so many after the first hold an id
+abbrev pub AreDense : ℕ → ℕ → Type 0
+AreDense words held = words ≤ 16 + 4 * held
+
+-- new has the words of old, and at the place these bits too
+pub record IsMarked (old new : List ℕ) (place bits : ℕ) : Type 0 where
+  pub words : length new ≡ max (length old) (place + 1)
+  pub here : get_or new place 0 ≡ bit_or (get_or old place 0) bits
+  pub others : (j : ℕ) → j ≢ place → get_or new j 0 ≡ get_or old j 0
+
+-- new has the words of old and of other
+pub record IsJoined (old other new : List ℕ) : Type 0 where
+  pub words : length new ≡ max (length old) (length other)
+  pub bits : (j : ℕ) → get_or new j 0 ≡ bit_or (get_or old j 0) (get_or other j 0)

@@ -11,11 +11,13 @@ use crate::words::Words;
 use std::alloc::{AllocError, Global};
 use std::marker::Model;
 
-/// A set of ids, one bit for each up to the greatest (lol_html's `DenseHashSet`). Ids below 32 alone take no memory; in all there are
-/// at most 2^27 words of 32 bits.
+/// A set of ids (for lol_html's `DenseHashSet`, which has a bit for each id up to the greatest). Ids below 32 alone take no memory. A set
+/// that is dense takes 4 bytes for each 32 ids up to the greatest, in words. It is dense if these words are at most 16, and 4 more for each
+/// word after the first that holds an id. Any other set takes 8 bytes for the first word, and for each further word that holds an id. So
+/// one id, however great, takes no more memory than any other. There are at most 2^27 words.
 #[derive(Debug, Drop)]
 pub struct DenseHashSet {
-    // The last of several words is not 0, so equal sets have equal words.
+    // The last of several words is not 0, and what is held decides on their form, so equal sets have equal words.
     words: Words,
     alloc: Global,
 }
@@ -28,11 +30,11 @@ impl Model for DenseHashSet {
     ghost coded = { ids_code };
 
     ghost use Rattle.lol_memory.specs.Words.{IsTrim, ids_held};
-    ghost use Rattle.lol_memory.specs.WordsOf.{words_of};
+    ghost use Rattle.lol_memory.specs.WordsOf.{words_of, IsInForm};
 
     ghost view = { λ s. ids_held (words_of s.words) };
 
-    ghost invariant = { λ s. IsTrim (words_of s.words) };
+    ghost invariant = { λ s. IsTrim (words_of s.words) × IsInForm s.words };
 }
 
 impl DenseHashSet {
@@ -46,12 +48,12 @@ impl DenseHashSet {
         }
     }
 
-    /// Whether the set takes the id without more memory: the id is below 32, or its word isn't after that of the greatest id that is
-    /// there. It takes no memory. (Not in lol_html.)
+    /// Whether the set takes the id without more memory: the id is below 32, or the set has one of the 32 ids of its word, or the set is
+    /// dense and this word isn't after that of its greatest id. It takes no memory. (Not in lol_html.)
     pub fn has_room(&self, id: MatchId) -> bool
         ensures { IsTrue result ↔ HasRoom self.now id }
     {
-        self.words.as_slice().len() > (id / 32) as usize
+        self.words.has_word(id / 32)
     }
 
     /// Adds an id. It is refused only where memory is wanted and isn't there: never where the set has room for the id.
@@ -60,23 +62,59 @@ impl DenseHashSet {
         ensures free { HasRoom self.old id → IsOk result }
         ensures err { OnErr result (self.new ≡ self.old) }
     {
-        let place = (id / 32) as usize;
-        self.words.widen(self.alloc, place + 1)?;
-        self.words.mark(place, 1 << (id % 32));
+        self.words.add(self.alloc, id / 32, 1 << (id % 32))?;
         Ok(())
     }
 
-    /// Adds the ids of `other`, 32 at a time. It is refused only where memory is wanted and isn't there: never where the set has room
-    /// for each of these ids.
+    /// Adds the ids of `other`, 32 at a time where both sets are dense, and else one by one. It is refused only where memory is wanted and
+    /// isn't there: never where the set has room for each of these ids.
     pub fn union(&mut self, other: &DenseHashSet) -> Result<(), AllocError>
         ensures ok { OnOk result (self.new ≡ joined self.old other.now) }
         ensures free { HasRoomFor self.old other.now → IsOk result }
         ensures err { OnErr result (self.new ≡ self.old) }
     {
-        let more = other.words.as_slice();
-        self.words.widen(self.alloc, more.len())?;
-        self.words.join(more);
+        match other.words.as_list() {
+            Some(more) if self.words.as_list().is_some() => {
+                self.words.join(self.alloc, more)?;
+                Ok(())
+            }
+            _ => self.add_each(other),
+        }
+    }
+
+    /// Adds the ids of `other` one by one: in place where there is room for each, or else in a copy.
+    fn add_each(&mut self, other: &DenseHashSet) -> Result<(), AllocError>
+        ensures ok { OnOk result (self.new ≡ joined self.old other.now) }
+        ensures free { HasRoomFor self.old other.now → IsOk result }
+        ensures err { OnErr result (self.new ≡ self.old) }
+    {
+        if self.has_room_for(other) {
+            self.mark_each(other);
+            return Ok(());
+        }
+        let mut both = self.try_clone()?;
+        for id in other.iter() {
+            both.insert(id)?;
+        }
+        *self = both;
         Ok(())
+    }
+
+    /// Whether there is room for each id of `other`.
+    fn has_room_for(&self, other: &DenseHashSet) -> bool
+        ensures { IsTrue result ↔ HasRoomFor self.now other.now }
+    {
+        other.iter().all(|id| self.has_room(id))
+    }
+
+    /// Adds the ids of `other` in place.
+    fn mark_each(&mut self, other: &DenseHashSet)
+        requires { HasRoomFor self.old other.now }
+        ensures { self.new ≡ joined self.old other.now }
+    {
+        for id in other.iter() {
+            self.words.mark(id / 32, 1 << (id % 32));
+        }
     }
 
     /// The ids in ascending order, each once. It takes no memory, and skips 32 ids at a time where none is held.
@@ -84,7 +122,7 @@ impl DenseHashSet {
         ensures items { result ≡ ascending self.now }
         ensures runs { YieldsInOrder (YieldsFirst {A = ℕ} (λ rest. rest)) (λ rest. rest) }
     {
-        DenseHashSetIter::new(self.words.as_slice())
+        DenseHashSetIter::new(&self.words)
     }
 
     /// An equal set (for Rust's `Clone`). Ids below 32 alone take no memory.
@@ -108,7 +146,7 @@ impl PartialEq for DenseHashSet {
     ghost laws = { same_ids_partial };
 
     fn eq(&self, other: &DenseHashSet) -> bool {
-        self.words.as_slice() == other.words.as_slice()
+        self.words.is_same(&other.words)
     }
 }
 

@@ -7,6 +7,7 @@ pub mod laws;
 mod limited_vec;
 mod limiter;
 mod match_info;
+mod sparse_words;
 mod words;
 
 pub use dense_hash_set::DenseHashSet;

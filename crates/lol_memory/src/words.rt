@@ -1,39 +1,132 @@
 //! The words of a set of ids.
 
-ghost use Rattle.std.specs.Prelude.{◌≡◌, ◌≤◌, ◌<◌, ◌+◌, ℕ, length, max, get_or, slice_set, bit_or, OnOk, OnErr, IfOk, IsOk};
+ghost use Rattle.std.specs.Prelude.{◌≡◌, ◌≢◌, ◌≤◌, ◌<◌, ◌+◌, ◌*◌, ◌^◌, ◌↔◌, ℕ, length, max, get_or, bit_or, ◌⊎◌, OnOk, OnErr, IfOk, IsOk, IsTrue, IfSome, IsNone, not, nat_eq, filter};
+ghost use Rattle.lol_memory.specs.Words.{AreDense, IsMarked, IsJoined, held_words};
 
+use crate::sparse_words::{SparseWord, find, gather, scatter, word_count};
 use std::alloc::{AllocError, Global};
 use std::slice;
 
-/// Words of 32 bits, one for each 32 ids, the lowest bit first. One word takes no memory.
+/// Words of 32 bits, one for each 32 ids, the lowest bit first. One word takes no memory. Several stand in a list of all up to the last if
+/// these are at most 16, and 4 more for each word after the first that holds an id; or else those that hold ids stand with their places.
 #[derive(Debug, Drop)]
 pub(crate) enum Words {
     Inline(u32),
     Heap(Vec<u32>),
+    // The first word, and those that hold ids.
+    Sparse(Vec<SparseWord>),
 }
 
 impl Words {
-    ghost use Rattle.lol_memory.specs.WordsOf.{words_of};
+    ghost use Rattle.lol_memory.specs.WordsOf.{words_of, HasWord, IsInForm, IsList};
 
-    pub(crate) fn as_slice(&self) -> &[u32]
-        ensures { result.now ≡ words_of self.now }
+    /// The list of all words, where it is kept.
+    pub(crate) fn as_list(&self) -> Option<&[u32]>
+        requires { IsInForm self.now }
+        ensures some { IfSome result (λ words. words.now ≡ words_of self.now) }
+        ensures list { IfSome result (λ _. IsList self.now) }
+        ensures none { IsNone result → (IsList self.now → ⊥) }
     {
         match self {
-            Words::Inline(word) => slice::from_ref(word),
-            Words::Heap(words) => words.as_slice(),
+            Words::Inline(word) => Some(slice::from_ref(word)),
+            Words::Heap(words) => Some(words.as_slice()),
+            Words::Sparse(_) => None,
         }
     }
 
-    /// Adds words of 0 until there are `len`.
-    pub(crate) fn widen(&mut self, alloc: Global, len: usize) -> Result<(), AllocError>
-        ensures same { (j : ℕ) → get_or (words_of self.new) j 0 ≡ get_or (words_of self.old) j 0 }
-        ensures ok { OnOk result (length (words_of self.new) ≡ max (length (words_of self.old)) len) }
-        ensures free { len ≤ length (words_of self.old) → IsOk result }
+    /// Whether there is a word at `place`.
+    pub(crate) fn has_word(&self, place: u32) -> bool
+        requires { IsInForm self.now }
+        ensures { IsTrue result ↔ HasWord self.now place }
+    {
+        match self {
+            Words::Inline(_) => place == 0,
+            Words::Heap(words) => words.len() > place as usize,
+            Words::Sparse(words) => find(words, place).is_ok(),
+        }
+    }
+
+    /// How many words there are up to the last.
+    fn word_count(&self) -> usize
+        requires { IsInForm self.now }
+        ensures { result ≡ length (words_of self.now) }
+    {
+        match self {
+            Words::Inline(_) => 1,
+            Words::Heap(words) => words.len(),
+            Words::Sparse(words) => word_count(words),
+        }
+    }
+
+    /// How many words after the first hold ids.
+    fn held_words(&self) -> usize
+        requires { IsInForm self.now }
+        ensures { result ≡ held_words (words_of self.now) }
+    {
+        match self {
+            Words::Inline(_) => 0,
+            Words::Heap(words) => count_held(&words[1..]),
+            Words::Sparse(words) => words.len() - 1,
+        }
+    }
+
+    /// Sets bits of the word at `place`. It takes memory only where there is no such word.
+    pub(crate) fn add(&mut self, alloc: Global, place: u32, bits: u32) -> Result<(), AllocError>
+        requires form { IsInForm self.old }
+        requires few { length (words_of self.old) ≤ 2 ^ 27 }
+        requires place { place < 2 ^ 27 }
+        requires bits { bits ≢ 0 }
+        ensures form { IsInForm self.new }
+        ensures ok { OnOk result (IsMarked (words_of self.old) (words_of self.new) place bits) }
+        ensures free { HasWord self.old place → IsOk result }
         ensures err { OnErr result (words_of self.new ≡ words_of self.old) }
     {
-        if len <= self.as_slice().len() {
+        if self.has_word(place) {
+            self.mark(place, bits);
             return Ok(());
         }
+        let len = self.word_count().max(place as usize + 1);
+        if len <= 16 + 4 * (self.held_words() + 1) {
+            self.widen(alloc, len)?;
+            self.mark(place, bits);
+            Ok(())
+        } else {
+            self.scatter(alloc, SparseWord { place, bits })
+        }
+    }
+
+    /// Sets bits of a word that is there.
+    pub(crate) fn mark(&mut self, place: u32, bits: u32)
+        requires place { HasWord self.old place }
+        requires bits { bits ≢ 0 }
+        requires form { IsList self.old ⊎ IsInForm self.old }
+        ensures form { IsInForm self.old → IsInForm self.new }
+        ensures list { IsList self.old → IsList self.new }
+        ensures places { (j : ℕ) → HasWord self.old j → HasWord self.new j }
+        ensures bits { IsMarked (words_of self.old) (words_of self.new) place bits }
+    {
+        match self {
+            Words::Inline(word) => *word |= bits,
+            Words::Heap(words) => words[place as usize] |= bits,
+            Words::Sparse(words) => {
+                if let Ok(index) = find(words, place) {
+                    words[index].bits |= bits;
+                }
+            }
+        }
+    }
+
+    /// Makes a list of `len` words, those that are there and then words of 0.
+    fn widen(&mut self, alloc: Global, len: usize) -> Result<(), AllocError>
+        requires form { IsInForm self.old }
+        requires several { 1 < len }
+        requires no_fewer { length (words_of self.old) ≤ len }
+        ensures same { (j : ℕ) → get_or (words_of self.new) j 0 ≡ get_or (words_of self.old) j 0 }
+        ensures ok { OnOk result (length (words_of self.new) ≡ len) }
+        ensures list { OnOk result (IsList self.new) }
+        ensures err { OnErr result (words_of self.new ≡ words_of self.old) }
+        ensures form { OnErr result (IsInForm self.new) }
+    {
         match self {
             Words::Inline(word) => {
                 let mut words = Vec::with_capacity(alloc, len)?;
@@ -43,44 +136,94 @@ impl Words {
                 Ok(())
             }
             Words::Heap(words) => words.resize(len, 0),
+            Words::Sparse(words) => {
+                *self = Words::Heap(gather(words, alloc, len)?);
+                Ok(())
+            }
         }
     }
 
-    /// Sets these bits of the word at `place`.
-    pub(crate) fn mark(&mut self, place: usize, bits: u32)
-        requires { place < length (words_of self.old) }
-        ensures { words_of self.new
-            ≡ slice_set (words_of self.old) place (bit_or (get_or (words_of self.old) place 0) bits) }
+    /// Adds a word that isn't there, and keeps the words with their places.
+    fn scatter(&mut self, alloc: Global, word: SparseWord) -> Result<(), AllocError>
+        requires form { IsInForm self.old }
+        requires absent { HasWord self.old word.place → ⊥ }
+        requires held { word.bits ≢ 0 }
+        requires wide { AreDense (max (length (words_of self.old)) (word.place + 1))
+            (held_words (words_of self.old) + 1) → ⊥ }
+        ensures form { IsInForm self.new }
+        ensures ok { OnOk result (IsMarked (words_of self.old) (words_of self.new) word.place word.bits) }
+        ensures err { OnErr result (words_of self.new ≡ words_of self.old) }
     {
         match self {
-            Words::Inline(word) => *word |= bits,
-            Words::Heap(words) => words[place] |= bits,
+            Words::Inline(first) => {
+                *self = Words::Sparse(scatter(slice::from_ref(first), word, alloc)?);
+            }
+            Words::Heap(words) => *self = Words::Sparse(scatter(words, word, alloc)?),
+            Words::Sparse(words) => {
+                if let Err(index) = find(words, word.place) {
+                    words.insert(index, word)?;
+                }
+            }
         }
+        Ok(())
     }
 
-    /// Sets the bits that are set in `more`.
-    pub(crate) fn join(&mut self, more: &[u32])
-        requires { length more.now ≤ length (words_of self.old) }
-        ensures joined { (j : ℕ) → get_or (words_of self.new) j 0
-            ≡ bit_or (get_or (words_of self.old) j 0) (get_or more.now j 0) }
-        ensures len { length (words_of self.new) ≡ length (words_of self.old) }
+    /// Sets the bits that are set in a list of words, 32 at a time.
+    pub(crate) fn join(&mut self, alloc: Global, more: &[u32]) -> Result<(), AllocError>
+        requires form { IsInForm self.old }
+        requires list { IsList self.old }
+        requires some { 0 < length more.now }
+        ensures list { IsList self.new }
+        ensures form { OnErr result (IsInForm self.new) }
+        ensures ok { OnOk result (IsJoined (words_of self.old) more.now (words_of self.new)) }
+        ensures free { length more.now ≤ length (words_of self.old) → IsOk result }
+        ensures err { OnErr result (words_of self.new ≡ words_of self.old) }
     {
+        if self.word_count() < more.len() {
+            self.widen(alloc, more.len())?;
+        }
         match self {
             Words::Inline(word) => join_words(slice::from_mut(word), more),
             Words::Heap(words) => join_words(words.as_mut_slice(), more),
+            Words::Sparse(_) => {}
+        }
+        Ok(())
+    }
+
+    /// Whether the words are the same.
+    pub(crate) fn is_same(&self, other: &Words) -> bool
+        requires form { IsInForm self.now }
+        requires other_form { IsInForm other.now }
+        ensures { IsTrue result ↔ (words_of self.now ≡ words_of other.now) }
+    {
+        match (self, other) {
+            (Words::Inline(word), Words::Inline(more)) => word == more,
+            (Words::Heap(words), Words::Heap(more)) => words == more,
+            (Words::Sparse(words), Words::Sparse(more)) => words == more,
+            _ => false,
         }
     }
 
     /// These words once more. One word takes no memory.
     pub(crate) fn try_clone(&self, alloc: Global) -> Result<Words, AllocError>
+        requires { IsInForm self.now }
         ensures ok { IfOk result (λ words. words_of words ≡ words_of self.now) }
+        ensures form { IfOk result (λ words. IsInForm words) }
         ensures free { length (words_of self.now) ≡ 1 → IsOk result }
     {
-        match self.as_slice() {
-            [word] => Ok(Words::Inline(*word)),
-            words => Ok(Words::Heap(words.to_vec(alloc)?)),
-        }
+        Ok(match self {
+            Words::Inline(word) => Words::Inline(*word),
+            Words::Heap(words) => Words::Heap(words.to_vec(alloc)?),
+            Words::Sparse(words) => Words::Sparse(words.to_vec(alloc)?),
+        })
     }
+}
+
+/// How many of the words hold ids.
+pub(crate) fn count_held(words: &[u32]) -> usize
+    ensures { result ≡ length (filter (λ word. not (nat_eq word 0)) words.now) }
+{
+    words.iter().filter(|word| **word != 0).count()
 }
 
 /// Sets the bits of `words` that are set in `more`.

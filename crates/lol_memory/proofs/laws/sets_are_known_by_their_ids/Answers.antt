@@ -1,22 +1,15 @@
-use Rattle.std.proofs.Common.{◌≡◌, ◌∙◌, sym, ap, ℕ, inl, inr, true, nat_eq, ◌||◌}
-use Rattle.std.specs.Ordering.{nat_cmp, eq_by_cmp}
-use Rattle.std.specs.Cmp.{unsigned_tied, unsigned_Decides, nat_cmp_total}
-use Rattle.std.proofs.lemmas.Cmp.{eq_by_cmp_equiv}
-use Rattle.std.proofs.lemmas.Map.Views.{Contains-from_any, list_any-from_Contains}
-use Rattle.lol_memory.specs.Ids.{has, ascending}
-use Rattle.lol_memory.specs.SetLaws.{same_set, has-keys, has-no_ids, has-with_id, has-union}
-use Rattle.lol_memory.specs.AscendingLaws.{either_passes, passes_by}
+use Rattle.std.proofs.Common.{◌∙◌, sym, ap, inl, inr, nat_eq, ◌||◌}
+use Rattle.std.specs.Cmp.{unsigned_tied, unsigned_Decides}
+use Rattle.lol_memory.specs.Ids.{has}
+use Rattle.lol_memory.specs.SetLaws.{same_set, has-no_ids, has-with_id, has-union}
+use Rattle.lol_memory.specs.AscendingLaws.{either_passes, passes_by, has_from_listed, listed_from_has}
 use Rattle.lol_memory.proofs.laws.sets_are_known_by_their_ids.Goals as goal
 
 pub returns-clause-equal : goal.returns-clause-equal
 returns-clause-equal c = same_set
 
 pub returns-clause-listed : goal.returns-clause-listed
-returns-clause-listed c s q =
-    let same = λ (x y : ℕ) (e : eq_by_cmp nat_cmp x y ≡ true). (unsigned_Decides x y).0 (sym (unsigned_tied x y) ∙ e) in (
-      λ held. Contains-from_any same q (ascending s) (sym (has-keys s q) ∙ held),
-      λ listed. has-keys s q ∙ list_any-from_Contains (eq_by_cmp_equiv nat_cmp_total) q (ascending s) listed,
-    )
+returns-clause-listed c s q = (listed_from_has s q, has_from_listed s q)
 
 pub returns-clause-none : goal.returns-clause-none
 returns-clause-none c = has-no_ids

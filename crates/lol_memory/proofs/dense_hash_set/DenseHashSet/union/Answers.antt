@@ -1,27 +1,35 @@
 use Rattle.std.proofs.lemmas.Bool.{true≢false}
-use Rattle.std.proofs.Common.{IsOk, ◌≤◌, length, sym, subst, ◌∙◌}
+use Rattle.std.proofs.Common.{IsOk, ◌≤◌, length, sym, subst, ◌∙◌, rules}
 use Rattle.lol_memory.specs.Ids.{HasRoomFor, union}
-use Rattle.lol_memory.specs.Words.{ids_held}
-use Rattle.lol_memory.specs.WordsOf.{words_of}
-use Rattle.lol_memory.proofs.WordsLemmas.{joined, words_of_room}
+use Rattle.lol_memory.specs.Words.{ids_held, IsJoined}
+use Rattle.lol_memory.specs.WordsOf.{words_of, IsList}
+use Rattle.lol_memory.proofs.WordsLemmas.{joined}
+use Rattle.lol_memory.proofs.FormLemmas.{words_of_room, joined_in_form, list_dense, some_words}
 use Rattle.lol_memory.proofs.dense_hash_set.DenseHashSet.union.Goals as goal
 
-pub returns-in_err-widen-clause-free : goal.returns-in_err-widen-clause-free
-returns-in_err-widen-clause-free c room =
-    let here = words_of c.self.inside.words in
-    let more = words_of c.other.inside.words in
-    let alike : HasRoomFor (ids_held here) (ids_held more) = subst (λ s. HasRoomFor s (ids_held more)) (sym c.self.view_is) (subst (λ s. HasRoomFor c.args.self.now s) (sym c.other.view_is) room) in
-    let enough : length more ≤ length here = words_of_room here more c.self.invariant c.other.invariant alike in
-    let within : length c.as_slice-more.result.now ≤ length here = rw c.as_slice-more.ensures enough in
-    absurd (true≢false (sym (subst IsOk c.in_err-widen.was (c.widen.ensures.free within))))
+pub returns-in_err-join-in-Some-clause-free : goal.returns-in_err-join-in-Some-clause-free
+returns-in_err-join-in-Some-clause-free c room =
+    let here = c.self.inside.words in
+    let more = c.other.inside.words in
+    let list : IsList here = search rules in
+    let alike = subst (λ s. HasRoomFor s (ids_held (words_of more))) (sym c.self.view_is) (subst (λ s. HasRoomFor c.args.self.now s) (sym c.other.view_is) room) in
+    let enough = words_of_room here (words_of more) c.self.invariant.0 c.self.invariant.1 list c.other.invariant.0 alike in
+    let within : length c.in-Some.more.now ≤ length (words_of here) = rw c.in-Some.ensures.some enough in
+    absurd (true≢false (sym (subst IsOk c.in_err-join-in-Some.was (c.join.ensures.free within))))
 
-pub invariant_of-self-2 : goal.invariant_of-self-2
-invariant_of-self-2 c =
-    (joined (words_of c.self.inside.words) (words_of c.widen.new.self) (words_of c.join.new.self) (words_of c.other.inside.words) c.widen.ensures.same
-    c.self.invariant c.other.invariant (rw c.as_slice-more.ensures at c.in_ok-widen.ensures.ok) c.join.ensures.len (rw c.as_slice-more.ensures at c.join.ensures.joined)).0
+pub invariant_of-self-then-is_some : goal.invariant_of-self-then-is_some
+invariant_of-self-then-is_some c =
+    let here = c.self.inside.words in
+    let more = c.other.inside.words in
+    let list : IsList here = search rules in
+    let is : IsJoined (words_of here) (words_of more) (words_of c.join.new.self) = subst (λ ws. IsJoined (words_of here) ws (words_of c.join.new.self)) c.in-Some.ensures.some c.in_ok-join-in-Some.ensures.ok in (
+      (joined (words_of here) (words_of more) (words_of c.join.new.self) c.self.invariant.0 c.other.invariant.0 is).0,
+      joined_in_form here c.join.new.self (words_of more) c.self.invariant.1 list c.join.ensures.list (some_words more c.other.invariant.1) (list_dense more c.in-Some.ensures.list c.other.invariant.1) is,
+    )
 
-pub returns-clause-ok : goal.returns-clause-ok
-returns-clause-ok c =
-    (joined (words_of c.self.inside.words) (words_of c.widen.new.self) (words_of c.join.new.self) (words_of c.other.inside.words) c.widen.ensures.same
-    c.self.invariant c.other.invariant (rw c.as_slice-more.ensures at c.in_ok-widen.ensures.ok) c.join.ensures.len (rw c.as_slice-more.ensures at c.join.ensures.joined)).1
-    ∙ (λ i. union (c.self.view_is i) (c.other.view_is i))
+pub returns-in_ok-join-in-Some-clause-ok : goal.returns-in_ok-join-in-Some-clause-ok
+returns-in_ok-join-in-Some-clause-ok c =
+    let here = c.self.inside.words in
+    let more = c.other.inside.words in
+    let is : IsJoined (words_of here) (words_of more) (words_of c.join.new.self) = subst (λ ws. IsJoined (words_of here) ws (words_of c.join.new.self)) c.in-Some.ensures.some c.in_ok-join-in-Some.ensures.ok in
+    (joined (words_of here) (words_of more) (words_of c.join.new.self) c.self.invariant.0 c.other.invariant.0 is).1 ∙ (λ i. union (c.self.view_is i) (c.other.view_is i))

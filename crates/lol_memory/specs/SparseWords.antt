@@ -1,0 +1,53 @@
+-- Words with their places, in ascending order: those that aren't there are 0.
+use Rattle.std.specs.Prelude.{◌≡◌, ◌≢◌, ℕ, ◌+◌, ◌-◌, ◌<◌, ◌≤◌, List, [], ◌∷◌, length, map, nat_eq, cond, slice_index_or}
+use Rattle.std.specs.List.{range_with_len}
+use Rattle.lol_memory.specs.declared.sparse_words.SparseWord.{SparseWord}
+
+abbrev pub no_word : SparseWord
+no_word = record { place = 0; bits = 0 }
+
+-- the place and the bits of the word at an index
+abbrev pub place_at : List SparseWord → ℕ → ℕ
+place_at ws i = (slice_index_or ws i no_word).place
+
+abbrev pub bits_at : List SparseWord → ℕ → ℕ
+bits_at ws i = (slice_index_or ws i no_word).bits
+
+-- the bits of the word at a place
+abbrev pub word_at : List SparseWord → ℕ → ℕ
+word_at [] place = 0
+word_at (w ∷ ws) place = cond (nat_eq w.place place) w.bits (word_at ws place)
+
+-- the places ascend
+abbrev pub Ascend : List SparseWord → Type 0
+Ascend ws = (i j : ℕ) → i < j → j < length ws → place_at ws i < place_at ws j
+
+-- how many words there are up to the last
+abbrev pub word_count : List SparseWord → ℕ
+word_count ws = place_at ws (length ws - 1) + 1
+
+-- the list of all words
+unfoldable pub all_words : List SparseWord → List ℕ
+all_words ws = map (word_at ws) (range_with_len 0 (word_count ws))
+
+-- the first word, and in ascending order those that hold an id
+pub record IsSparse (ws : List SparseWord) : Type 0 where
+  pub some : 0 < length ws
+  pub first : place_at ws 0 ≡ 0
+  pub ascend : Ascend ws
+  pub held : (i : ℕ) → 0 < i → i < length ws → bits_at ws i ≢ 0
+
+-- the word at the index is that of the place
+pub record IsAt (ws : List SparseWord) (place i : ℕ) : Type 0 where
+  pub in_range : i < length ws
+  pub is : place_at ws i ≡ place
+
+-- a word of the place would go to the index: lower places stand before it, higher ones from it on
+pub record IsGapFor (ws : List SparseWord) (place i : ℕ) : Type 0 where
+  pub in_range : i ≤ length ws
+  pub lower : (j : ℕ) → j < i → place_at ws j < place
+  pub higher : (j : ℕ) → i ≤ j → j < length ws → place < place_at ws j
+
+-- a word of the place is there
+abbrev pub HasPlace : List SparseWord → ℕ → Type 0
+HasPlace ws place = (i : ℕ) × IsAt ws place i

@@ -1,0 +1,76 @@
+//! The words of a set that is sparse, each with its place.
+
+ghost use Rattle.std.specs.Prelude.{◌≡◌, ◌≢◌, ◌≤◌, ◌<◌, ◌+◌, ◌^◌, ℕ, length, get_or, IfOk, IfErr};
+ghost use Rattle.lol_memory.specs.SparseWords.{Ascend, IsAt, IsGapFor, IsSparse, all_words, word_at, word_count};
+
+use crate::words::count_held;
+use std::alloc::{AllocError, Global};
+
+/// The 32 ids from `32 * place` on, the lowest bit first.
+#[derive(Debug, Clone, Copy, PartialEq, Eq)]
+pub(crate) struct SparseWord {
+    pub place: u32,
+    pub bits: u32,
+}
+
+/// The index of the word at `place`, or else where it would go.
+pub(crate) fn find(words: &[SparseWord], place: u32) -> Result<usize, usize>
+    requires { Ascend words.now }
+    ensures found { IfOk result (IsAt words.now place) }
+    ensures absent { IfErr result (IsGapFor words.now place) }
+{
+    words.binary_search_by_key(&place, |word| word.place)
+}
+
+/// How many words there are up to the last.
+pub(crate) fn word_count(words: &[SparseWord]) -> usize
+    requires { 0 < length words.now }
+    ensures { result ≡ length (all_words words.now) }
+{
+    words[words.len() - 1].place as usize + 1
+}
+
+/// The list of all words, with words of 0 at its end until there are `len`.
+pub(crate) fn gather(
+    words: &[SparseWord],
+    alloc: Global,
+    len: usize,
+) -> Result<Vec<u32>, AllocError>
+    requires ascend { Ascend words.now }
+    requires within { length (all_words words.now) ≤ len }
+    ensures len { IfOk result (λ list. length list.items ≡ len) }
+    ensures same { IfOk result (λ list. (j : ℕ) → get_or list.items j 0 ≡ word_at words.now j) }
+{
+    let mut list = vec![in alloc; 0; len]?;
+    for word in words {
+        list[word.place as usize] = word.bits;
+    }
+    Ok(list)
+}
+
+/// The first of the words of a list and those that hold ids, with their places, and `last` after them.
+pub(crate) fn scatter(
+    words: &[u32],
+    last: SparseWord,
+    alloc: Global,
+) -> Result<Vec<SparseWord>, AllocError>
+    requires some { 0 < length words.now }
+    requires after { length words.now ≤ last.place }
+    requires held { last.bits ≢ 0 }
+    ensures sparse { IfOk result (λ sparse. IsSparse sparse.items) }
+    ensures last { IfOk result (λ sparse. word_at sparse.items last.place ≡ last.bits) }
+    ensures same { IfOk result (λ sparse. (j : ℕ) → j ≢ last.place → word_at sparse.items j ≡ get_or words.now j 0) }
+    ensures count { IfOk result (λ sparse. length (all_words sparse.items) ≡ last.place + 1) }
+{
+    let mut sparse = Vec::with_capacity(alloc, count_held(&words[1..]) + 2)?;
+    for (place, bits) in words.iter().enumerate() {
+        if place == 0 || *bits != 0 {
+            sparse.push(SparseWord {
+                place: place as u32,
+                bits: *bits,
+            })?;
+        }
+    }
+    sparse.push(last)?;
+    Ok(sparse)
+}
