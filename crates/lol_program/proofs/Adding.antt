@@ -15,7 +15,7 @@ use Rattle.lol_css.specs.declared.selector.ComplexSelector.{ComplexSelector}
 use Rattle.lol_program.specs.NodeMemberLaws.{HasNode, HasPair, BringsNode, BringsPair, BringsFirst}
 use Rattle.lol_program.proofs.Grown.{has_added, has_added_first}
 use Rattle.lol_program.specs.NodeListLaws.{nodes_listed, pairs_listed, brings_beginnings, first_brings, brings_given}
-use Rattle.lol_program.proofs.Standing.{Keeps, adds_keeps, first_keeps, KeepsWith}
+use Rattle.lol_program.proofs.Standing.{Keeps, KeepsWith, Leaves, adds_keeps, first_keeps}
 
 module _ (c : Compound) (rest : List (Combinator × Compound)) (old new : Forest) where
   pub added_pairs : (id : Option ℕ) → Adds id c rest old new → Joins (pairs_in First old) (pairs_in First new) (pairs_with id (extended (First c) rest))
@@ -52,10 +52,9 @@ module _ (c : Compound) (rest : List (Combinator × Compound)) (old new : Forest
         only = λ path x. ⊎_elim (λ (a : HasNode First old path). inl ((nodes_listed First old path).1 a)) (λ (b : BringsFirst k First c rest path). inr ((brings_beginnings c rest path).0 (first_brings k First c rest path b))) ((law path).0 ((nodes_listed First new path).0 x));
       }
 
-  pub keeps_either : (P : List ℕ → Type 0) → ((xs ys : List ℕ) → ((x : ℕ) → Contains xs x → Contains ys x) → P xs → P ys)
-      → {T E : Type 0} (r : Result T E) (id : Option ℕ) → OnOk r (Adds id c rest old new) → OnErr r ((k : ℕ) × AddsFirst k c rest old new) → KeepsWith P old new
-  keeps_either P more_ids (Ok x) id a b = adds_keeps P more_ids id c rest old new a
-  keeps_either P more_ids (Err x) id a b = first_keeps P more_ids b.0 c rest old new b.1
+  pub keeps_either : (P : List ℕ → Type 0) (id : Option ℕ) → Leaves id P → {T E : Type 0} (r : Result T E) → OnOk r (Adds id c rest old new) → OnErr r ((k : ℕ) × AddsFirst k c rest old new) → KeepsWith P old new
+  keeps_either P id leaves (Ok x) a b = adds_keeps P id leaves c rest old new a
+  keeps_either P id leaves (Err x) a b = first_keeps P b.0 c rest old new b.1
 
 pub keeps_all : (old new : Forest) → Keeps old new → (items : List ComplexSelector) → AllIn old items → AllIn new items
 keeps_all old new k [] h = tt

@@ -60,9 +60,6 @@ module _ {T : Type 0} where
     only = λ x h. ⊎_elim (λ (m : Contains mid x). b.only x m) (λ (a : Contains xs x). inr a) (c.only x h);
   }
 
-  pub IsBetween-none : (old : List T) (xs : List T) → IsBetween old old xs
-  IsBetween-none old xs = record { kept = λ x h. h; only = λ x h. inl h }
-
 -- what a part of a list gives, the list gives
 pub flat_map-front : {A B : Type 0} (f : A → List B) (xs ys : List A) (b : B) → Contains (flat_map f xs) b → Contains (flat_map f (xs ++ ys)) b
 flat_map-front f xs ys b h = subst (λ (l : List _). Contains l b) (sym (flat_map-append f xs ys)) (Contains-append_left (flat_map f xs) (flat_map f ys) b h)

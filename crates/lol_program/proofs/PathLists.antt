@@ -2,7 +2,7 @@
 use Rattle.std.proofs.Common.{ℕ, zero, suc, arith, ◌≡◌, ◌+◌, ◌<◌, ◌≤◌, List, [], ◌∷◌, ◌++◌, map, take, drop, get_or, length, Result, Ok, Err, OnErr, refl, sym, ap, subst, ◌∙◌}
 use Rattle.std.specs.Prelude.{Contains, flat_map}
 use Rattle.std.proofs.lemmas.List.{take_more, map-append, take-append-drop, append-nil}
-use Rattle.std.proofs.Math.Seq.{take-length, drop-cons}
+use Rattle.std.proofs.Math.Seq.{take-length}
 use Rattle.std.proofs.lemmas.Grind.{flat_map-append}
 use Rattle.lol_program.specs.Paths.{Path, beginnings, all_beginnings}
 use Rattle.lol_program.specs.Forest.{Forest}
@@ -29,19 +29,6 @@ one_more paths i x within at = take_more paths i x within ∙ ap (λ (y : Comple
 
 pub all_of-more : (paths : List ComplexSelector) (i : ℕ) (x : ComplexSelector) → i < length paths → x ≡ get_or paths i x → all_of (take (i + 1) paths) ≡ all_of (take i paths) ++ beginnings (path_shown x)
 all_of-more paths i x within at = ap all_of (one_more paths i x within at) ∙ all_of-append (take i paths) (x ∷ []) ∙ ap (λ (l : List Path). all_of (take i paths) ++ l) (all_of-one x)
-
-pub pairs_for-more : (id : ℕ) (paths : List ComplexSelector) (i : ℕ) (x : ComplexSelector) → i < length paths → x ≡ get_or paths i x → pairs_for id (take (i + 1) paths) ≡ pairs_for id (take i paths) ++ (path_shown x, id) ∷ []
-pairs_for-more id paths i x within at = ap (pairs_for id) (one_more paths i x within at) ∙ map-append (λ (path : ComplexSelector). (path_shown path, id)) (take i paths) (x ∷ [])
-
--- those that are left, with the one that is taken next
-pub one_left : (paths : List ComplexSelector) (i : ℕ) (x : ComplexSelector) → i < length paths → x ≡ get_or paths i x → drop i paths ≡ x ∷ drop (i + 1) paths
-one_left paths i x within at = drop-cons paths i x within ∙ (λ k. at' k ∷ drop (next k) paths)
-  where
-    at' : get_or paths i x ≡ x
-    at' = sym at
-
-    next : suc i ≡ i + 1
-    next = omega arith
 
 -- all that were taken are all
 pub all_taken : (paths : List ComplexSelector) (i : ℕ) → i ≡ length paths → take i paths ≡ paths

@@ -1,68 +1,46 @@
--- Reserved ids, one more or one less, and whether they are enough.
-use Rattle.std.proofs.Common.{ℕ, ◌+◌, ◌≡◌, inl, inr, arith, List, [], ◌∷◌, ◌++◌, refl, sym, ap, subst}
+-- Reserved ids while the forest takes the id.
+use Rattle.std.proofs.Common.{ℕ, ◌≡◌, ◌⊎◌, inl, inr, List, [], ◌∷◌, length, Option, Some, refl, sym, ap, subst, ◌∙◌, arith}
+use Rattle.std.proofs.lemmas.Option.{same_Some}
+use Rattle.lol_memory.specs.Ids.{Ids, with_id}
+use Rattle.lol_memory.specs.SetLaws.{held_has_room}
 use Rattle.lol_css.specs.declared.selector.ComplexSelector.{ComplexSelector}
 use Rattle.lol_css.specs.declared.selector.SimpleSelector.TheViews.{out-ComplexSelector}
-use Rattle.lol_program.specs.AstPaths.{IsIn, IsInWith, AreEnough}
+use Rattle.lol_program.specs.AstPaths.{FitsPath, AllFit}
 use Rattle.lol_program.specs.Forest.{Forest}
-use Rattle.lol_program.specs.IdsForNodes.{AllReserve, HasRoomAmong}
+use Rattle.lol_program.specs.Growth.{IsWith}
+use Rattle.lol_program.specs.IdSetLaws.{has_if_listed, set_of-IsWith, with_id-again}
+use Rattle.lol_program.specs.IdsForNodes.{id_in, set_of, Fits}
 use Rattle.lol_program.specs.Views.{tests_of_compound, steps_of}
-use Rattle.lol_program.specs.declared.reserved_id.ReservedId.{ReservedId}
-use Rattle.lol_program.proofs.Standing.{KeepsWith, Keeps}
+use Rattle.lol_program.specs.declared.id_for_node.IdForNode.{IdForNode}
+use Rattle.lol_program.specs.declared.id_for_node.IdForNode.TheVariants.{Nothing, Id, Reserved}
+use Rattle.lol_program.proofs.Standing.{KeepsWith, Leaves}
 
-pub AllReserve-push : (id : ℕ) (others : List ReservedId) (reserved : ReservedId) → AllReserve id others → reserved.id ≡ id → AllReserve id (others ++ reserved ∷ [])
-AllReserve-push id [] reserved h is = (is, tt)
-AllReserve-push id (s ∷ others) reserved h is = (h.0, AllReserve-push id others reserved h.1 is)
+-- what fits a node, fits it still when the node has the id
+fits_with : (given : IdForNode) (id : ℕ) → id_in given ≡ Some id → (old new : List ℕ) → IsWith id old new → Fits given old → Fits given new
+fits_with Nothing id is old new with h = tt
+fits_with (Id k) id is old new with h = held_has_room (set_of new) k (has_if_listed new k ((with k).1 (inr (sym (same_Some k id is)))))
+fits_with (Reserved r) id is old new with h =
+    h ∙ sym (ap (λ (s : Ids). with_id s r.id) (set_of-IsWith id old new with ∙ ap (with_id (set_of old)) (sym (same_Some r.id id is))) ∙ with_id-again (set_of old) r.id)
 
-pub AllReserve-pop : (id : ℕ) (others : List ReservedId) (reserved : ReservedId) → AllReserve id (others ++ reserved ∷ []) → AllReserve id others × (reserved.id ≡ id)
-AllReserve-pop id [] reserved h = (tt, h.0)
-AllReserve-pop id (s ∷ others) reserved h = let r = AllReserve-pop id others reserved h.1 in ((h.0, r.0), r.1)
+pub fits_stay : (given : IdForNode) (taken : Option ℕ) (id : ℕ) → id_in given ≡ Some id → taken ≡ Some id → Leaves taken (Fits given)
+fits_stay given taken id is same x e old new with h = fits_with given x (is ∙ sym same ∙ e) old new with h
 
-module _ (id : ℕ) (f : Forest) where
-  -- one more path, whose last node has room
-  pub enough-room : (items : List ComplexSelector) (item : ComplexSelector) (count : ℕ) → AreEnough id f items count → IsInWith (HasRoomAmong id) f item → AreEnough id f (items ++ item ∷ []) count
-  enough-room [] item count h room = inl (room, tt)
-  enough-room (x ∷ items) item count (inl h) room = inl (h.0, enough-room items item count h.1 room)
-  enough-room (x ∷ items) item count (inr h) room = inr (h.0, h.1, h.2, enough-room items item h.1 h.3 room)
+pub all_stay : (id : ℕ) (old new : Forest) → ((given : IdForNode) → id_in given ≡ Some id → KeepsWith (Fits given) old new)
+    → (items : List ComplexSelector) (ids : List IdForNode) → AllFit id old items ids → AllFit id new items ids
+all_stay id old new keeps [] [] h = tt
+all_stay id old new keeps [] (x ∷ ids) h = absurd h
+all_stay id old new keeps (item ∷ items) [] h = absurd h
+all_stay id old new keeps (item ∷ items) (x ∷ ids) h =
+    ((h.0.0, keeps x h.0.0 (tests_of_compound (out-ComplexSelector item).first) (steps_of (out-ComplexSelector item).rest.items) h.0.1), all_stay id old new keeps items ids h.1)
 
-  -- one more path, and one more id for it
-  pub enough-reserved : (items : List ComplexSelector) (item : ComplexSelector) (count : ℕ) → AreEnough id f items count → IsIn f item → AreEnough id f (items ++ item ∷ []) (count + 1)
-  enough-reserved [] item count h is = inr (is, count, refl, tt)
-  enough-reserved (x ∷ items) item count (inl h) is = inl (h.0, enough-reserved items item count h.1 is)
-  enough-reserved (x ∷ items) item count (inr h) is = inr (h.0, h.1 + 1, ap (λ (k : ℕ). k + 1) h.2, enough-reserved items item h.1 h.3 is)
+-- the first path with what was reserved for it, and the others with theirs
+pub first_fits : (id : ℕ) (f : Forest) (items others : List ComplexSelector) (ids rest : List IdForNode) (item : ComplexSelector) (x : IdForNode) → items ≡ item ∷ others → ids ≡ x ∷ rest
+    → AllFit id f items ids → FitsPath id f item x × AllFit id f others rest
+first_fits id f items others ids rest item x is are h = subst (AllFit id f (item ∷ others)) are (subst (λ (l : List ComplexSelector). AllFit id f l ids) is h)
 
-  enough-more : (items : List ComplexSelector) (count : ℕ) → AreEnough id f items count → AreEnough id f items (count + 1)
-  enough-more [] count h = tt
-  enough-more (x ∷ items) count (inl h) = inl (h.0, enough-more items count h.1)
-  enough-more (x ∷ items) count (inr h) = inr (h.0, h.1 + 1, ap (λ (k : ℕ). k + 1) h.2, enough-more items h.1 h.3)
-
-  -- the first path alone
-  pub enough-first : (item : ComplexSelector) (items : List ComplexSelector) (count : ℕ) → AreEnough id f (item ∷ items) count → AreEnough id f (item ∷ []) count
-  enough-first item items count (inl h) = inl (h.0, tt)
-  enough-first item items count (inr h) = inr (h.0, h.1, h.2, tt)
-
-  -- the other paths, without an id for the first
-  pub enough-others : (item : ComplexSelector) (items : List ComplexSelector) (count : ℕ) → AreEnough id f (item ∷ items) count → AreEnough id f items count
-  enough-others item items count (inl h) = h.1
-  enough-others item items count (inr h) = subst (AreEnough id f items) (sym h.2) (enough-more items h.1 h.3)
-
-  -- a first path whose last node has no room takes one id
-  pub enough-taken : (item : ComplexSelector) (items : List ComplexSelector) (count left : ℕ) → (IsInWith (HasRoomAmong id) f item → ⊥) → count ≡ left + 1 → AreEnough id f (item ∷ items) count → AreEnough id f items left
-  enough-taken item items count left no_room is (inl h) = absurd (no_room h.0)
-  enough-taken item items count left no_room is (inr h) = subst (AreEnough id f items) (omega (arith, h.2)) h.3
-
-  pub enough-some : (item : ComplexSelector) (count : ℕ) → (IsInWith (HasRoomAmong id) f item → ⊥) → AreEnough id f (item ∷ []) count → (left : ℕ) × (count ≡ left + 1)
-  enough-some item count no_room (inl h) = absurd (no_room h.0)
-  enough-some item count no_room (inr h) = (h.1, h.2)
-
-  -- a first path stands where its last node has no room
-  pub enough-stands : (item : ComplexSelector) (count : ℕ) → (IsInWith (HasRoomAmong id) f item → ⊥) → AreEnough id f (item ∷ []) count → IsIn f item
-  enough-stands item count no_room (inl h) = absurd (no_room h.0)
-  enough-stands item count no_room (inr h) = h.0
-
--- What is enough stays so while the forest grows.
-pub enough-kept : (id : ℕ) (old new : Forest) → KeepsWith (HasRoomAmong id) old new → Keeps old new → (items : List ComplexSelector) (count : ℕ) → AreEnough id old items count → AreEnough id new items count
-enough-kept id old new rooms paths [] count h = tt
-enough-kept id old new rooms paths (x ∷ items) count (inl h) =
-    inl (rooms (tests_of_compound (out-ComplexSelector x).first) (steps_of (out-ComplexSelector x).rest.items) h.0, enough-kept id old new rooms paths items count h.1)
-enough-kept id old new rooms paths (x ∷ items) count (inr h) =
-    inr (paths (tests_of_compound (out-ComplexSelector x).first) (steps_of (out-ComplexSelector x).rest.items) h.0, h.1, h.2, enough-kept id old new rooms paths items h.1 h.3)
+-- No paths are left where nothing that was reserved is.
+pub none_left : (id : ℕ) (f : Forest) (items : List ComplexSelector) (ids : List IdForNode) → AllFit id f items ids → (length items ≡ 0) ⊎ (length ids ≡ 0) → items ≡ []
+none_left id f [] ids h none = refl
+none_left id f (item ∷ items) [] h none = absurd h
+none_left id f (item ∷ items) (x ∷ ids) h (inl none) = absurd (omega (arith, none))
+none_left id f (item ∷ items) (x ∷ ids) h (inr none) = absurd (omega (arith, none))

@@ -1,6 +1,5 @@
 -- A path that stands.
 use Rattle.std.proofs.Common.{ℕ, zero, suc, ◌≡◌, ◌↔◌, length, inl, inr, arith, ◌∷◌, map, get_or, List, [], Option, None, Some, refl, ap, sym, subst, ◌∙◌}
-use Rattle.std.specs.Prelude.{Contains}
 use Rattle.std.proofs.lemmas.List.{get_or-map}
 use Rattle.lol_memory.specs.Ids.{Ids, ascending}
 use Rattle.lol_css.specs.declared.selector.Combinator.{Combinator}
@@ -9,7 +8,7 @@ use Rattle.lol_instructions.specs.Compounds.{Compound}
 use Rattle.lol_program.specs.Forest.{Node, Forest, none, more}
 use Rattle.lol_program.specs.Growth.{fresh, AtRoot, Takes, Under, grown_under, Adds, AddsFirst, AtTop, StandsWith, StandsUnder, IsWith}
 use Rattle.lol_program.specs.Places.{IsPlace, HasPlace, IsNowhere}
-use Rattle.lol_program.specs.IdsForNodes.{SetTakes, HasRoomAmong}
+use Rattle.lol_program.specs.IdsForNodes.{SetTakes}
 use Rattle.lol_program.specs.Views.{node_of, forest_of, linked, steps_of, tests_of_compound}
 use Rattle.lol_css.specs.declared.selector.Compound as css
 use Rattle.lol_program.specs.declared.ast_node.AstNode.{AstNode}
@@ -66,12 +65,12 @@ module _ (P : List ℕ → Type 0) where
   stands_nowhere c (step ∷ rest) nodes nowhere s = at_top_nowhere c (λ n. StandsWith P step.1 rest (grown_under step.0 n)) nodes nowhere s
 
   -- a path of one compound
-  pub stands_none : (c : Compound) (rest : List (Combinator × css.Compound)) (f : Forest) → length rest ≡ 0 → StandsWith P c (steps_of rest) f ≡ AtTop c (λ n. P n.ids) f
+  stands_none : (c : Compound) (rest : List (Combinator × css.Compound)) (f : Forest) → length rest ≡ 0 → StandsWith P c (steps_of rest) f ≡ AtTop c (λ n. P n.ids) f
   stands_none c [] f e = refl
   stands_none c (s ∷ rest) f e = absurd (omega (arith, e))
 
   -- a path of several
-  pub stands_some : (c : Compound) (all rest : List (Combinator × css.Compound)) (s : Combinator × css.Compound) (step : Combinator) (f : Forest) → all ≡ s ∷ rest → s.0 ≡ step
+  stands_some : (c : Compound) (all rest : List (Combinator × css.Compound)) (s : Combinator × css.Compound) (step : Combinator) (f : Forest) → all ≡ s ∷ rest → s.0 ≡ step
       → StandsWith P c (steps_of all) f ≡ AtTop c (λ n. StandsWith P (tests_of_compound s.1) (steps_of rest) (grown_under step n)) f
   stands_some c all rest s step f e g =
       ap (λ (ss : List (Combinator × css.Compound)). StandsWith P c (steps_of ss) f) e ∙ ap (λ (t : Combinator). AtTop c (λ n. StandsWith P (tests_of_compound s.1) (steps_of rest) (grown_under t n)) f) g
@@ -92,22 +91,26 @@ module _ (P : List ℕ → Type 0) where
       let law = top_is_at c (λ m. StandsWith P (tests_of_compound s.1) (steps_of rest) (grown_under step m)) nodes i n p at in
       (λ t. law.0 (subst (λ (X : Type 0). X) same t), λ h. subst (λ (X : Type 0). X) (sym same) (law.1 h))
 
--- A path that stands so, stands in a weaker way too.
-at_top_weaker : (c : Compound) (P Q : Node → Type 0) → ((n : Node) → P n → Q n) → (f : Forest) → AtTop c P f → AtTop c Q f
-at_top_weaker c P Q law none t = t
-at_top_weaker c P Q law (more d ids children descendants rest) (inl t) = inl (t.0, law _ t.1)
-at_top_weaker c P Q law (more d ids children descendants rest) (inr t) = inr (t.0, at_top_weaker c P Q law rest t.1)
+  -- what stood of the path where the node was found, or would be made
+  pub stands_last : (c : Compound) (rest : List (Combinator × css.Compound)) (old mid : List AstNode) (i : ℕ) (n : AstNode) → length rest ≡ 0 → HasPlace c (map node_of old) (map node_of mid) i → n ≡ get_or mid i n
+      → StandsWith P c (steps_of rest) (forest_of old) → P (ascending (out-AstNode n).match_ids)
+  stands_last c rest old mid i n e h at s = stands_at c (λ m. P m.ids) old mid i n h at (subst (λ (X : Type 0). X) (stands_none c rest (forest_of old) e) s)
 
-pub stands_weaker : (P Q : List ℕ → Type 0) → ((ids : List ℕ) → P ids → Q ids) → (c : Compound) (rest : List (Combinator × Compound)) (f : Forest) → StandsWith P c rest f → StandsWith Q c rest f
-stands_weaker P Q law c [] f s = at_top_weaker c (λ n. P n.ids) (λ n. Q n.ids) (λ n. law n.ids) f s
-stands_weaker P Q law c (step ∷ rest) f s =
-    at_top_weaker c (λ n. StandsWith P step.1 rest (grown_under step.0 n)) (λ n. StandsWith Q step.1 rest (grown_under step.0 n)) (λ n. stands_weaker P Q law step.1 rest (grown_under step.0 n)) f s
+  pub stands_next : (c : Compound) (all rest : List (Combinator × css.Compound)) (s : Combinator × css.Compound) (step : Combinator) (old mid : List AstNode) (i : ℕ) (n : AstNode)
+      → all ≡ s ∷ rest → s.0 ≡ step → HasPlace c (map node_of old) (map node_of mid) i → n ≡ get_or mid i n
+      → StandsWith P c (steps_of all) (forest_of old) → StandsWith P (tests_of_compound s.1) (steps_of rest) (grown_under step (shape (out-AstNode n)))
+  stands_next c all rest s step old mid i n e g h at t =
+      stands_at c (λ m. StandsWith P (tests_of_compound s.1) (steps_of rest) (grown_under step m)) old mid i n h at (subst (λ (X : Type 0). X) (stands_some c all rest s step (forest_of old) e g) t)
 
--- What stands stays while a forest grows, and so does what more ids leave true.
+-- What stands stays while a forest grows, and so does what the id that it takes leaves true.
 abbrev pub KeepsWith : (List ℕ → Type 0) → Forest → Forest → Type 0
 KeepsWith P old new = (c : Compound) (rest : List (Combinator × Compound)) → StandsWith P c rest old → StandsWith P c rest new
 
-module _ (P : List ℕ → Type 0) (more_ids : (xs ys : List ℕ) → ((x : ℕ) → Contains xs x → Contains ys x) → P xs → P ys) where
+-- an id, if there is one, leaves P true of the ids that it joins
+abbrev pub Leaves : Option ℕ → (List ℕ → Type 0) → Type 0
+Leaves given P = (id : ℕ) → given ≡ Some id → (old new : List ℕ) → IsWith id old new → P old → P new
+
+module _ (P : List ℕ → Type 0) where
   abbrev KeepsIn : Node → Node → Type 0
   KeepsIn n m = (m.compound ≡ n.compound) × ((P n.ids → P m.ids) × (KeepsWith P n.children m.children × KeepsWith P n.descendants m.descendants))
 
@@ -147,35 +150,30 @@ module _ (P : List ℕ → Type 0) (more_ids : (xs ys : List ℕ) → ((x : ℕ)
   no_change : (f : Forest) → KeepsWith P f f
   no_change f c rest s = s
 
-  takes_keeps : (id : Option ℕ) (n m : Node) → Takes id n m → KeepsIn n m
-  takes_keeps None n m t = subst (KeepsIn n) (sym t) (refl, (λ p. p, (no_change n.children, no_change n.descendants)))
-  takes_keeps (Some id) n m t =
-      subst (KeepsIn n) (sym t.2) (refl, (more_ids n.ids t.0 (λ x held. (t.1 x).1 (inl held)), (no_change n.children, no_change n.descendants)))
+  same_keeps : (n m : Node) → m ≡ n → KeepsIn n m
+  same_keeps n m e = subst (KeepsIn n) (sym e) (refl, (λ p. p, (no_change n.children, no_change n.descendants)))
+
+  takes_keeps : (id : Option ℕ) → Leaves id P → (n m : Node) → Takes id n m → KeepsIn n m
+  takes_keeps None leaves n m t = same_keeps n m t
+  takes_keeps (Some id) leaves n m t = subst (KeepsIn n) (sym t.2) (refl, (leaves id refl n.ids t.0 t.1, (no_change n.children, no_change n.descendants)))
 
   under_keeps : (step : Combinator) (R : Forest → Forest → Type 0) → ((old new : Forest) → R old new → KeepsWith P old new) → (n m : Node) → Under step R n m → KeepsIn n m
   under_keeps Child R law n m u = subst (KeepsIn n) (sym u.2) (refl, (λ p. p, (law n.children u.0 u.1, no_change n.descendants)))
   under_keeps Descendant R law n m u = subst (KeepsIn n) (sym u.2) (refl, (λ p. p, (no_change n.children, law n.descendants u.0 u.1)))
 
-  pub adds_keeps : (id : Option ℕ) (c : Compound) (rest : List (Combinator × Compound)) (old new : Forest) → Adds id c rest old new → KeepsWith P old new
-  adds_keeps id c [] old new h = root_keeps c (Takes id) (takes_keeps id) old new h
-  adds_keeps id c (step ∷ rest) old new h = root_keeps c (Under step.0 (Adds id step.1 rest)) (under_keeps step.0 (Adds id step.1 rest) (λ o w k. adds_keeps id step.1 rest o w k)) old new h
+  pub adds_keeps : (id : Option ℕ) → Leaves id P → (c : Compound) (rest : List (Combinator × Compound)) (old new : Forest) → Adds id c rest old new → KeepsWith P old new
+  adds_keeps id leaves c [] old new h = root_keeps c (Takes id) (takes_keeps id leaves) old new h
+  adds_keeps id leaves c (step ∷ rest) old new h =
+      root_keeps c (Under step.0 (Adds id step.1 rest)) (under_keeps step.0 (Adds id step.1 rest) (λ o w k. adds_keeps id leaves step.1 rest o w k)) old new h
 
   pub first_keeps : (k : ℕ) (c : Compound) (rest : List (Combinator × Compound)) (old new : Forest) → AddsFirst k c rest old new → KeepsWith P old new
   first_keeps zero c rest old new h = subst (KeepsWith P old) (sym h) (no_change old)
-  first_keeps (suc k) c [] old new h = root_keeps c (Takes None) (takes_keeps None) old new h
+  first_keeps (suc k) c [] old new h = root_keeps c (Takes None) same_keeps old new h
   first_keeps (suc k) c (step ∷ rest) old new h = root_keeps c (Under step.0 (AddsFirst k step.1 rest)) (under_keeps step.0 (AddsFirst k step.1 rest) (λ o w t. first_keeps k step.1 rest o w t)) old new h
 
 -- paths stay
 abbrev pub Keeps : Forest → Forest → Type 0
 Keeps old new = KeepsWith (λ ids. Unit {0}) old new
-
-pub anyhow : (xs ys : List ℕ) → ((x : ℕ) → Contains xs x → Contains ys x) → Unit {0} → Unit {0}
-anyhow xs ys f h = tt
-
--- room stays
-pub more_room : (id : ℕ) (xs ys : List ℕ) → ((x : ℕ) → Contains xs x → Contains ys x) → HasRoomAmong id xs → HasRoomAmong id ys
-more_room id xs ys f (inl small) = inl small
-more_room id xs ys f (inr h) = inr (h.0, f h.0 h.1, h.2)
 
 -- A path that was added stands.
 module _ (c : Compound) (R : Node → Node → Type 0) (same : (n m : Node) → R n m → m.compound ≡ n.compound) (P : Node → Type 0) (law : (n m : Node) → R n m → P m) where

@@ -1,11 +1,13 @@
 -- The path of an item, and whether it stands in a forest.
-use Rattle.std.specs.Prelude.{ℕ, ◌≡◌, ◌+◌, ◌⊎◌, List, [], ◌∷◌}
+use Rattle.std.specs.Prelude.{ℕ, ◌≡◌, List, [], ◌∷◌, Some}
+use Rattle.std.specs.List.{AllZip}
 use Rattle.lol_css.specs.declared.selector.ComplexSelector.{ComplexSelector}
 use Rattle.lol_css.specs.declared.selector.SimpleSelector.TheViews.{out-ComplexSelector}
 use Rattle.lol_program.specs.Paths.{Path, First, extended}
 use Rattle.lol_program.specs.Forest.{Forest}
 use Rattle.lol_program.specs.Growth.{StandsWith, StandsUnder}
-use Rattle.lol_program.specs.IdsForNodes.{HasRoomAmong}
+use Rattle.lol_program.specs.IdsForNodes.{id_in, Fits}
+use Rattle.lol_program.specs.declared.id_for_node.IdForNode.{IdForNode}
 use Rattle.lol_program.specs.Views.{tests_of_compound, steps_of}
 
 abbrev pub path_shown : ComplexSelector → Path
@@ -23,9 +25,10 @@ abbrev pub AllIn : Forest → List ComplexSelector → Type 0
 AllIn f [] = Unit {0}
 AllIn f (item ∷ items) = IsIn f item × AllIn f items
 
--- So many reserved ids are enough: each path stands, and its last node has room for the id, or one of them is for it.
-abbrev pub AreEnough : ℕ → Forest → List ComplexSelector → ℕ → Type 0
-AreEnough id f [] count = Unit {0}
-AreEnough id f (item ∷ items) count =
-    (IsInWith (HasRoomAmong id) f item × AreEnough id f items count)
-    ⊎ (IsIn f item × (fewer : ℕ) × (count ≡ fewer + 1) × AreEnough id f items fewer)
+-- what was reserved is this id, the path stands, and it fits the last node
+abbrev pub FitsPath : ℕ → Forest → ComplexSelector → IdForNode → Type 0
+FitsPath id f item reserved = (id_in reserved ≡ Some id) × IsInWith (Fits reserved) f item
+
+-- What was reserved for each path is this id, and its last node takes it without more memory.
+abbrev pub AllFit : ℕ → Forest → List ComplexSelector → List IdForNode → Type 0
+AllFit id f items ids = AllZip (FitsPath id f) items ids

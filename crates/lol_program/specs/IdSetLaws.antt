@@ -1,18 +1,18 @@
 -- Sets of ids by their lists.
-use Rattle.std.proofs.Common.{◌≡◌, ◌↔◌, ℕ, ◌/◌, ◌<◌, ◌≤◌, Bool, true, false, ◌||◌, List, [], ◌∷◌, inl, inr, ⊎_elim, refl, sym, ap, ◌∙◌, arith, true≢false, subst}
+use Rattle.std.proofs.Common.{◌≡◌, ℕ, Bool, true, false, ◌||◌, List, [], ◌∷◌, inl, inr, ⊎_elim, refl, sym, ap, ◌∙◌, true≢false, subst}
 use Rattle.std.specs.Prelude.{Contains}
 use Rattle.std.specs.List.{list_any}
 use Rattle.std.specs.Ordering.{nat_cmp, eq_by_cmp}
 use Rattle.std.specs.Cmp.{unsigned_tied, unsigned_Decides}
 use Rattle.std.proofs.lemmas.Cmp.{nat_cmp_total, eq_by_cmp_equiv}
-use Rattle.std.proofs.lemmas.Bool.{cases_lt}
+use Rattle.std.proofs.lemmas.Bool.Decides.{same_from_decides}
 use Rattle.std.proofs.lemmas.Map.Views.{list_any-from_Contains}
-use Rattle.lol_memory.specs.Ids.{Ids, has, no_ids, with_id, union, ascending, HasRoom, HasRoomFor}
-use Rattle.lol_memory.specs.SetLaws.{same_set, has-no_ids, has-with_id, has-union, has-keys}
+use Rattle.lol_memory.specs.Ids.{Ids, has, no_ids, with_id, ascending}
+use Rattle.lol_memory.specs.SetLaws.{same_set, has-no_ids, has-with_id, has-with_ids, has-keys}
 use Rattle.lol_program.specs.Growth.{IsWith}
 use Rattle.lol_base.specs.BoolLaws.{or_parts, or-right_true}
 use Rattle.lol_base.specs.MemberLaws.{Among, contains_from_among}
-use Rattle.lol_program.specs.IdsForNodes.{HasRoomAmong}
+use Rattle.lol_program.specs.IdsForNodes.{set_of}
 
 is_same : (q k : ℕ) → eq_by_cmp nat_cmp q k ≡ true → q ≡ k
 is_same q k h = (unsigned_Decides q k).0 (sym (unsigned_tied q k) ∙ h)
@@ -50,33 +50,38 @@ with_id-IsWith s id x = (
   λ h. listed_if_held (with_id s id) x (has-with_id s id x ∙ ⊎_elim (λ (t : Contains (ascending s) x). or-right_true _ _ (held s x t)) (λ (e : id ≡ x). left _ _ (subst (λ (y : ℕ). eq_by_cmp nat_cmp x y ≡ true) (sym e) (itself x))) h),
 )
 
-or_swap : (a b : Bool) → (a || b) ≡ (b || a)
-or_swap true true = refl
-or_swap true false = refl
-or_swap false true = refl
-or_swap false false = refl
+-- the set of the list is the set
+pub set_of-ascending : (s : Ids) → set_of (ascending s) ≡ s
+set_of-ascending s =
+    same_set _ _ (λ q. has-with_ids no_ids (ascending s) q ∙ ap (λ (b : Bool). b || list_any (eq_by_cmp nat_cmp q) (ascending s)) (has-no_ids q) ∙ sym (has-keys s q))
 
--- the set of an id alone, with the ids of another
-pub union-alone : (s : Ids) (id : ℕ) → union (with_id no_ids id) s ≡ with_id s id
-union-alone s id =
-    same_set _ _ (λ q. has-union (with_id no_ids id) s q ∙ ap (λ (b : Bool). b || has s q) (has-with_id no_ids id q ∙ ap (λ (b : Bool). eq_by_cmp nat_cmp q id || b) (has-no_ids q) ∙ or_swap _ false) ∙ sym (has-with_id s id q))
+has-set_of : (ids : List ℕ) (q : ℕ) → has (set_of ids) q ≡ list_any (eq_by_cmp nat_cmp q) ids
+has-set_of ids q = has-with_ids no_ids ids q ∙ ap (λ (b : Bool). b || list_any (eq_by_cmp nat_cmp q) ids) (has-no_ids q)
 
--- The set has room for an id exactly if its list has.
-pub room_listed : (s : Ids) (id : ℕ) → HasRoom s id ↔ HasRoomAmong id (ascending s)
-room_listed s id = (to, from)
+-- the set of a list has what is in it
+pub has_if_listed : (ids : List ℕ) (q : ℕ) → Contains ids q → has (set_of ids) q ≡ true
+has_if_listed ids q h = has-set_of ids q ∙ list_any-from_Contains (eq_by_cmp_equiv nat_cmp_total) q ids h
+
+listed_if_has : (ids : List ℕ) (q : ℕ) → has (set_of ids) q ≡ true → Contains ids q
+listed_if_has ids q h = contains_from_among ids q (found q ids (sym (has-set_of ids q) ∙ h))
+
+-- a list with one id more
+pub set_of-IsWith : (id : ℕ) (old new : List ℕ) → IsWith id old new → set_of new ≡ with_id (set_of old) id
+set_of-IsWith id old new is = same_set _ _ (λ q. same_from_decides _ _ (listed_if_has new q, has_if_listed new q) (from q, to q))
   where
-    to : HasRoom s id → HasRoomAmong id (ascending s)
-    to (inl small) = inl small
-    to (inr h) = inr (h.0, listed_if_held s h.0 h.1, h.2)
+    from : (q : ℕ) → has (with_id (set_of old) id) q ≡ true → Contains new q
+    from q h =
+        (is q).1 (⊎_elim (λ (e : eq_by_cmp nat_cmp q id ≡ true). inr (sym (is_same q id e))) (λ (t : has (set_of old) q ≡ true). inl (listed_if_has old q t)) (or_parts _ _ (sym (has-with_id (set_of old) id q) ∙ h)))
 
-    from : HasRoomAmong id (ascending s) → HasRoom s id
-    from (inl small) = inl small
-    from (inr h) = inr (h.0, held s h.0 h.1, h.2)
+    to : (q : ℕ) → Contains new q → has (with_id (set_of old) id) q ≡ true
+    to q h =
+        has-with_id (set_of old) id q ∙ ⊎_elim (λ (c : Contains old q). or-right_true _ _ (has_if_listed old q c)) (λ (e : id ≡ q). left _ _ (subst (λ (y : ℕ). eq_by_cmp nat_cmp q y ≡ true) (sym e) (itself q))) ((is q).0 h)
 
--- Where a set has no room for an id, the set of the id alone has room for all of its ids.
-pub room_beside : (s : Ids) (id : ℕ) → (HasRoom s id → ⊥) → HasRoomFor (with_id no_ids id) s
-room_beside s id no_room q has_q =
-    ⊎_elim
-    (λ (less : q / 32 < id / 32). inr (id, has-with_id no_ids id id ∙ left _ _ (itself id), omega arith))
-    (λ (more : id / 32 ≤ q / 32). absurd (no_room (inr (q, has_q, more))))
-    (cases_lt (q / 32) (id / 32))
+or_twice : (a b : Bool) → (a || (a || b)) ≡ (a || b)
+or_twice true b = refl
+or_twice false b = refl
+
+-- an id that is added again
+pub with_id-again : (s : Ids) (id : ℕ) → with_id (with_id s id) id ≡ with_id s id
+with_id-again s id =
+    same_set _ _ (λ q. has-with_id (with_id s id) id q ∙ ap (λ (b : Bool). eq_by_cmp nat_cmp q id || b) (has-with_id s id q) ∙ or_twice (eq_by_cmp nat_cmp q id) (has s q) ∙ sym (has-with_id s id q))

@@ -1,8 +1,7 @@
 -- The id that a path's last node gets.
-use Rattle.std.specs.Prelude.{ℕ, ◌≡◌, ◌<◌, ◌≤◌, ◌/◌, ◌⊎◌, List, [], ◌∷◌, Contains, Option, Some, None}
-use Rattle.lol_memory.specs.Ids.{Ids, with_id}
+use Rattle.std.specs.Prelude.{ℕ, ◌≡◌, List, [], ◌∷◌, Option, Some, None}
+use Rattle.lol_memory.specs.Ids.{Ids, no_ids, with_id, with_ids, HasRoom}
 use Rattle.lol_program.specs.Paths.{Path}
-use Rattle.lol_program.specs.declared.reserved_id.ReservedId.{ReservedId}
 use Rattle.lol_program.specs.declared.id_for_node.IdForNode.{IdForNode}
 use Rattle.lol_program.specs.declared.id_for_node.IdForNode.TheVariants.{Nothing, Id, Reserved}
 
@@ -17,22 +16,23 @@ abbrev pub SetTakes : Option ℕ → Ids → Ids → Type 0
 SetTakes None old new = new ≡ old
 SetTakes (Some id) old new = new ≡ with_id old id
 
--- a set of these ids has room for the id
-abbrev pub HasRoomAmong : ℕ → List ℕ → Type 0
-HasRoomAmong id ids = (id < 32) ⊎ ((p : ℕ) × Contains ids p × (id / 32 ≤ p / 32))
+-- the set of these ids
+abbrev pub set_of : List ℕ → Ids
+set_of ids = with_ids no_ids ids
 
--- a set of these ids takes it without more memory
+-- A node with these ids takes it without more memory: their set has room for it, or it was reserved for their set.
 abbrev pub Fits : IdForNode → List ℕ → Type 0
 Fits Nothing ids = Unit {0}
-Fits (Id id) ids = HasRoomAmong id ids
-Fits (Reserved reserved) ids = Unit {0}
+Fits (Id id) ids = HasRoom (set_of ids) id
+Fits (Reserved reserved) ids = reserved.set ≡ with_id (set_of ids) reserved.id
+
+-- it has memory of its own
+abbrev pub IsReserved : IdForNode → Type 0
+IsReserved Nothing = ⊥
+IsReserved (Id id) = ⊥
+IsReserved (Reserved reserved) = Unit {0}
 
 -- the pair of a path that gets it
 abbrev pub pairs_with : Option ℕ → Path → List (Path × ℕ)
 pairs_with None path = []
 pairs_with (Some id) path = (path, id) ∷ []
-
--- each reserved id is this one
-abbrev pub AllReserve : ℕ → List ReservedId → Type 0
-AllReserve id [] = Unit {0}
-AllReserve id (reserved ∷ others) = (reserved.id ≡ id) × AllReserve id others

@@ -9,7 +9,6 @@ use crate::ast_node::{self, AstNode};
 use crate::id_for_node::IdForNode;
 use crate::node_index::NodeIndex;
 use crate::node_key::ROOT_LIST;
-use crate::reserved_id::ReservedId;
 use lol_css::{ComplexSelector, Selector, SelectorList};
 use lol_memory::MatchId;
 use std::alloc::{AllocError, Global};
@@ -27,12 +26,12 @@ pub struct Ast {
 }
 
 impl Ast {
-    ghost use Rattle.std.specs.Prelude.{◌≢◌, ◌↔◌, ◌∷◌, ℕ, List, [], IsTrue, IfOk, OnOk, OnErr, IsOk, Contains, length, map, flat_map, AllPairs, vec_len};
+    ghost use Rattle.std.specs.Prelude.{◌≢◌, ℕ, List, [], Some, IfOk, OnOk, OnErr, IsOk, Contains, length, map, flat_map, AllPairs};
     ghost use Rattle.lol_css.specs.TreeViews.{list_of};
     ghost use Rattle.lol_program.specs.Paths.{Path, beginnings, all_beginnings};
     ghost use Rattle.lol_program.specs.Conditions.{pairs_under};
-    ghost use Rattle.lol_program.specs.IdsForNodes.{id_in, pairs_with, Fits, HasRoomAmong, AllReserve};
-    ghost use Rattle.lol_program.specs.AstPaths.{path_shown, IsIn, IsInWith, AllIn, AreEnough};
+    ghost use Rattle.lol_program.specs.IdsForNodes.{id_in, pairs_with, Fits, IsReserved};
+    ghost use Rattle.lol_program.specs.AstPaths.{path_shown, IsIn, IsInWith, AllIn, AllFit};
     ghost use Rattle.lol_program.specs.Sets.{Joins, SameMembers, IsBetween};
     ghost use Rattle.lol_program.specs.Asts.{trees_of, nodes_of, pairs_of};
 
@@ -106,6 +105,7 @@ impl Ast {
     }
 
     fn add_path(&mut self, item: &ComplexSelector, id: IdForNode) -> Result<(), AllocError>
+        requires { IsReserved id → IsInWith (Fits id) (trees_of self.old) item.now }
         ensures pairs { OnOk result
             (Joins (pairs_of self.old) (pairs_of self.new) (pairs_with (id_in id) (path_shown item.now))) }
         ensures nodes { OnOk result (Joins (nodes_of self.old) (nodes_of self.new) (beginnings (path_shown item.now))) }
@@ -115,8 +115,9 @@ impl Ast {
             (IsBetween (nodes_of self.old) (nodes_of self.new) (beginnings (path_shown item.now))) }
         ensures keeps { (items : List ComplexSelector)
             → AllIn (trees_of self.old) items → AllIn (trees_of self.new) items }
-        ensures keeps_enough { (match_id : ℕ) (items : List ComplexSelector) (count : ℕ)
-            → AreEnough match_id (trees_of self.old) items count → AreEnough match_id (trees_of self.new) items count }
+        ensures keeps_fit { (match_id : ℕ) (items : List ComplexSelector) (ids : List IdForNode)
+            → id_in id ≡ Some match_id → AllFit match_id (trees_of self.old) items ids
+            → AllFit match_id (trees_of self.new) items ids }
         ensures free { IsInWith (Fits id) (trees_of self.old) item.now → IsOk result }
     {
         ast_node::add_path(
@@ -155,36 +156,38 @@ impl Ast {
         ensures refused_nodes { OnErr result
             (IsBetween (nodes_of self.old) (nodes_of self.new) (flat_map beginnings (map path_shown items.now))) }
     {
-        let reserved_ids = self.reserve_ids(items, match_id)?;
-        self.add_reserved_ids(items, match_id, reserved_ids);
+        let ids = self.reserve_ids(items, match_id)?;
+        for (item, id) in items.iter().zip(ids) {
+            let Ok(()) = self.add_path(item, id) else {
+                unreachable!();
+            };
+        }
         Ok(())
     }
 
-    /// Takes memory for an id, once for each path that stands whose last node has no room for it.
+    /// The id for each path, in order, with memory of its own where the last node has no room for it.
     fn reserve_ids(
         &self,
         items: &[ComplexSelector],
         match_id: MatchId,
-    ) -> Result<Vec<ReservedId>, AllocError>
+    ) -> Result<Vec<IdForNode>, AllocError>
         requires { AllIn (trees_of self.now) items.now }
-        ensures alike { IfOk result (λ reserved_ids. AllReserve match_id reserved_ids.items) }
-        ensures enough { IfOk result
-            (λ reserved_ids. AreEnough match_id (trees_of self.now) items.now (vec_len reserved_ids)) }
+        ensures { IfOk result (λ ids. AllFit match_id (trees_of self.now) items.now ids.items) }
     {
-        let mut reserved_ids = Vec::new(self.alloc);
+        let mut ids = Vec::with_capacity(self.alloc, items.len())?;
         for item in items {
-            if !self.has_room(item, match_id) {
-                reserved_ids.push(ReservedId::new(self.alloc, match_id)?)?;
-            }
+            ids.push(self.reserve_id(item, match_id)?)?;
         }
-        Ok(reserved_ids)
+        Ok(ids)
     }
 
-    /// Whether a path stands, and the set of its last node takes an id without more memory.
-    fn has_room(&self, item: &ComplexSelector, match_id: MatchId) -> bool
-        ensures { IsTrue result ↔ IsInWith (HasRoomAmong match_id) (trees_of self.now) item.now }
+    /// An id for the last node of a path that stands, with memory of its own where the node has no room for it.
+    fn reserve_id(&self, item: &ComplexSelector, match_id: MatchId) -> Result<IdForNode, AllocError>
+        requires { IsIn (trees_of self.now) item.now }
+        ensures given { IfOk result (λ id. id_in id ≡ Some match_id) }
+        ensures fits { IfOk result (λ id. IsInWith (Fits id) (trees_of self.now) item.now) }
     {
-        ast_node::has_room(
+        ast_node::reserve_id(
             &self.index,
             &self.root,
             ROOT_LIST,
@@ -192,53 +195,5 @@ impl Ast {
             &item.rest,
             match_id,
         )
-    }
-
-    /// Gives an id to the last nodes of paths that stand, with memory that was taken where a node has no room.
-    fn add_reserved_ids(
-        &mut self,
-        items: &[ComplexSelector],
-        match_id: MatchId,
-        mut reserved_ids: Vec<ReservedId>,
-    )
-        requires alike { AllReserve match_id reserved_ids.items }
-        requires enough { AreEnough match_id (trees_of self.old) items.now (vec_len reserved_ids) }
-        ensures pairs { Joins (pairs_of self.old) (pairs_of self.new)
-            (map (λ item. (path_shown item, match_id)) items.now) }
-        ensures nodes { Joins (nodes_of self.old) (nodes_of self.new) (flat_map beginnings (map path_shown items.now)) }
-    {
-        for item in items {
-            self.add_reserved_id(item, match_id, &mut reserved_ids);
-        }
-    }
-
-    /// Gives an id to the last node of a path that stands, with memory that was taken if the node has no room.
-    fn add_reserved_id(
-        &mut self,
-        item: &ComplexSelector,
-        match_id: MatchId,
-        reserved_ids: &mut Vec<ReservedId>,
-    )
-        requires alike { AllReserve match_id reserved_ids.old.items }
-        requires enough { AreEnough match_id (trees_of self.old) (item.now ∷ []) (vec_len reserved_ids.old) }
-        ensures alike { AllReserve match_id reserved_ids.new.items }
-        ensures enough { (items : List ComplexSelector)
-            → AreEnough match_id (trees_of self.old) (item.now ∷ items) (vec_len reserved_ids.old)
-            → AreEnough match_id (trees_of self.new) items (vec_len reserved_ids.new) }
-        ensures pairs { Joins (pairs_of self.old) (pairs_of self.new) ((path_shown item.now, match_id) ∷ []) }
-        ensures nodes { Joins (nodes_of self.old) (nodes_of self.new) (beginnings (path_shown item.now)) }
-    {
-        if self.has_room(item, match_id) {
-            let Ok(()) = self.add_path(item, IdForNode::Id(match_id)) else {
-                unreachable!();
-            };
-            return;
-        }
-        let Some(reserved) = reserved_ids.pop() else {
-            unreachable!();
-        };
-        let Ok(()) = self.add_path(item, IdForNode::Reserved(reserved)) else {
-            unreachable!();
-        };
     }
 }

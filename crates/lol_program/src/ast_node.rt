@@ -1,12 +1,12 @@
 //! The nodes of the tree of selectors, and how a path is added to them.
 
-ghost use Rattle.std.specs.Prelude.{ℕ, ◌≡◌, ◌+◌, ◌↔◌, IsTrue, IfOk, OnOk, OnErr, IsOk, IfSome, IfNone, [], ◌∷◌, map};
+ghost use Rattle.std.specs.Prelude.{ℕ, ◌≡◌, ◌+◌, Some, IfOk, OnOk, OnErr, IsOk, IfSome, IfNone, [], ◌∷◌, map};
 ghost use Rattle.lol_program.specs.Predicates.{tests_of};
 ghost use Rattle.lol_program.specs.Views.{node_of, linked, forest_of, tests_of_compound, steps_of};
 ghost use Rattle.lol_program.specs.Forest.{size, SiblingsDiffer};
 ghost use Rattle.lol_program.specs.Indexed.{IsIndexed, KeepsKeys};
-ghost use Rattle.lol_program.specs.Growth.{fresh, Adds, AddsFirst, StandsWith};
-ghost use Rattle.lol_program.specs.IdsForNodes.{id_in, Fits, HasRoomAmong};
+ghost use Rattle.lol_program.specs.Growth.{fresh, Adds, AddsFirst, StandsWith, StandsUnder};
+ghost use Rattle.lol_program.specs.IdsForNodes.{id_in, Fits, IsReserved};
 ghost use Rattle.lol_program.specs.Places.{HasPlace, IsNowhere};
 
 use crate::id_for_node::IdForNode;
@@ -87,6 +87,8 @@ pub(crate) fn add_path(
 ) -> Result<(), AllocError>
     requires indexed { IsIndexed index.old list (forest_of nodes.old.items) }
     requires differ { SiblingsDiffer (forest_of nodes.old.items) }
+    requires fits { IsReserved id
+        → StandsWith (Fits id) (tests_of_compound first.now) (steps_of rest.now) (forest_of nodes.old.items) }
     ensures added { OnOk result (Adds (id_in id) (tests_of_compound first.now) (steps_of rest.now)
         (forest_of nodes.old.items) (forest_of nodes.new.items)) }
     ensures partly { OnErr result ((k : ℕ)
@@ -115,32 +117,34 @@ pub(crate) fn add_path(
     }
 }
 
-/// Whether a path stands in the list where it begins, and the set of its last node takes an id without more memory.
-pub(crate) fn has_room(
+/// An id for the last node of a path that stands in the list where it begins, with memory of its own where the node has no room.
+pub(crate) fn reserve_id(
     index: &NodeIndex,
     nodes: &[AstNode],
     list: u64,
     first: &Compound,
     rest: &[(Combinator, Compound)],
     id: MatchId,
-) -> bool
+) -> Result<IdForNode, AllocError>
     requires indexed { IsIndexed index.now list (forest_of nodes.now) }
     requires differ { SiblingsDiffer (forest_of nodes.now) }
-    ensures { IsTrue result
-        ↔ StandsWith (HasRoomAmong id) (tests_of_compound first.now) (steps_of rest.now) (forest_of nodes.now) }
+    requires stands { StandsUnder (tests_of_compound first.now) (steps_of rest.now) (forest_of nodes.now) }
+    ensures given { IfOk result (λ reserved. id_in reserved ≡ Some id) }
+    ensures fits { IfOk result (λ reserved.
+        StandsWith (Fits reserved) (tests_of_compound first.now) (steps_of rest.now) (forest_of nodes.now)) }
 {
     let Some(place) = index.place_of(nodes, list, first) else {
-        return false;
+        unreachable!();
     };
     let node = &nodes[place];
     match rest.split_first() {
-        None => node.match_ids.has_room(id),
+        None => IdForNode::reserve(&node.match_ids, id),
         Some(((combinator, compound), rest)) => {
             let list = list_under(list, place, *combinator);
             match combinator {
-                Combinator::Child => has_room(index, &node.children, list, compound, rest, id),
+                Combinator::Child => reserve_id(index, &node.children, list, compound, rest, id),
                 Combinator::Descendant => {
-                    has_room(index, &node.descendants, list, compound, rest, id)
+                    reserve_id(index, &node.descendants, list, compound, rest, id)
                 }
             }
         }

@@ -1,8 +1,8 @@
 //! The id that a path's last node gets.
 
-ghost use Rattle.std.specs.Prelude.{◌≡◌, OnOk, OnErr, IsOk};
+ghost use Rattle.std.specs.Prelude.{◌≡◌, Some, IfOk, OnOk, OnErr, IsOk};
 ghost use Rattle.lol_memory.specs.Ids.{ascending, with_id};
-ghost use Rattle.lol_program.specs.IdsForNodes.{id_in, SetTakes, Fits};
+ghost use Rattle.lol_program.specs.IdsForNodes.{id_in, SetTakes, Fits, IsReserved};
 
 use crate::reserved_id::ReservedId;
 use lol_memory::{DenseHashSet, MatchId};
@@ -22,9 +22,21 @@ pub(crate) enum IdForNode {
 }
 
 impl IdForNode {
-    /// Adds the id, if there is one, to a node's set. It is never refused where the set has room, nor where the id has memory of its
-    /// own.
+    /// An id for a node with the set `ids`, with memory of its own where the set has no room for it.
+    pub(crate) fn reserve(ids: &DenseHashSet, id: MatchId) -> Result<IdForNode, AllocError>
+        ensures given { IfOk result (λ reserved. id_in reserved ≡ Some id) }
+        ensures fits { IfOk result (λ reserved. Fits reserved (ascending ids.now)) }
+    {
+        if ids.has_room(id) {
+            return Ok(IdForNode::Id(id));
+        }
+        Ok(IdForNode::Reserved(ReservedId::new(ids, id)?))
+    }
+
+    /// Adds the id, if there is one, to a node's set. It is never refused where it was reserved for this set, nor where the set has
+    /// room for it.
     pub(crate) fn add_to(self, ids: &mut DenseHashSet) -> Result<(), AllocError>
+        requires { IsReserved self → Fits self (ascending ids.old) }
         ensures added { OnOk result (SetTakes (id_in self) ids.old ids.new) }
         ensures unchanged { OnErr result (ids.new ≡ ids.old) }
         ensures free { Fits self (ascending ids.old) → IsOk result }
@@ -37,17 +49,18 @@ impl IdForNode {
     }
 }
 
+/// Adds an id that was reserved for a node's set. It is never refused.
 fn insert_reserved(ids: &mut DenseHashSet, reserved: ReservedId) -> Result<(), AllocError>
+    requires { reserved.set ≡ with_id ids.old reserved.id }
     ensures added { OnOk result (ids.new ≡ with_id ids.old reserved.id) }
     ensures unchanged { OnErr result (ids.new ≡ ids.old) }
     ensures free { IsOk result }
 {
-    let ReservedId { id, mut set } = reserved;
+    let ReservedId { id, set } = reserved;
+    // An equal item of the same list may have brought the id.
     if ids.has_room(id) {
         return ids.insert(id);
     }
-    // The words of all ids that are there come before the word of this one, so its set has room for them.
-    set.union(ids)?;
     *ids = set;
     Ok(())
 }

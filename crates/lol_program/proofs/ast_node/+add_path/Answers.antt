@@ -6,14 +6,14 @@ use Rattle.lol_memory.specs.Ids.{Ids}
 use Rattle.lol_css.specs.declared.selector.Combinator.TheVariants.{Child, Descendant}
 use Rattle.lol_program.specs.IdsForNodes.{id_in, Fits}
 use Rattle.lol_program.specs.Views.{node_of, forest_of, steps_of, tests_of_compound}
-use Rattle.lol_program.specs.Growth.{Adds, AddsFirst, Takes, Under, StandsWith, grown_under}
+use Rattle.lol_program.specs.Growth.{Adds, AddsFirst, Takes, Under}
 use Rattle.lol_program.specs.declared.ast_node.AstNode.TheViews.{out-AstNode, roll-AstNode}
 use Rattle.lol_program.specs.NodeKeys.{list_under}
 use Rattle.lol_program.specs.NodeViewLaws.{shape}
 use Rattle.lol_program.specs.Indexed.{IsIndexed}
 use Rattle.lol_program.proofs.Indexing.{differ_under, indexed_grows, indexed_under, next_asks, set_indexed}
 use Rattle.lol_program.proofs.Placed.{set_place, size_set, place_within, adds_none, adds_some, first_none, first_some}
-use Rattle.lol_program.proofs.Standing.{SetTakes-Takes, stands_at, stands_nowhere, stands_none, stands_some}
+use Rattle.lol_program.proofs.Standing.{SetTakes-Takes, stands_nowhere, stands_last, stands_next}
 use Rattle.lol_program.proofs.ast_node.+add_path.Goals as goal
 
 pub add_path-requires : goal.add_path-requires
@@ -28,9 +28,10 @@ add_path-requires t c =
     let list = c.args.list in
     let index = c.place_for.new.index in
     let indexed = c.in_ok-place.ensures.indexed in
-    let next = c.list_under-list.ensures ∙ ap (list_under list i) c.in-Child.is in (
+    let next = c.list_under-list.ensures ∙ ap (list_under list i) c.in-Child.is in
+    let asks = next_asks index list c.list_under-list.result i (shape (out-AstNode n)) Child next (indexed_under fc old mid i n at is index list indexed) (differ_under fc old mid i n at is c.requires.differ) in (
       omega (arith, ap length c.in-Some.ensures.cases.0),
-      next_asks index list c.list_under-list.result i (shape (out-AstNode n)) Child next (indexed_under fc old mid i n at is index list indexed) (differ_under fc old mid i n at is c.requires.differ),
+      (asks.0, (asks.1, λ reserved. stands_next (Fits c.args.id) fc c.args.rest.now c.in-Some.rest.now c.in-Some.field-0-0.now Child old mid i n c.in-Some.ensures.cases.0 c.in-Child.is at is (c.requires.fits reserved))),
     )
 
 pub add_path-requires-in-Descendant : goal.add_path-requires-in-Descendant
@@ -45,9 +46,10 @@ add_path-requires-in-Descendant t c =
     let list = c.args.list in
     let index = c.place_for.new.index in
     let indexed = c.in_ok-place.ensures.indexed in
-    let next = c.list_under-list.ensures ∙ ap (list_under list i) c.in-Descendant.is in (
+    let next = c.list_under-list.ensures ∙ ap (list_under list i) c.in-Descendant.is in
+    let asks = next_asks index list c.list_under-list.result i (shape (out-AstNode n)) Descendant next (indexed_under fc old mid i n at is index list indexed) (differ_under fc old mid i n at is c.requires.differ) in (
       omega (arith, ap length c.in-Some.ensures.cases.0),
-      next_asks index list c.list_under-list.result i (shape (out-AstNode n)) Descendant next (indexed_under fc old mid i n at is index list indexed) (differ_under fc old mid i n at is c.requires.differ),
+      (asks.0, (asks.1, λ reserved. stands_next (Fits c.args.id) fc c.args.rest.now c.in-Some.rest.now c.in-Some.field-0-0.now Descendant old mid i n c.in-Some.ensures.cases.0 c.in-Descendant.is at is (c.requires.fits reserved))),
     )
 
 pub returns-in-None-clause-indexed : goal.returns-in-None-clause-indexed
@@ -104,16 +106,14 @@ pub returns-in_err-place-clause-free : goal.returns-in_err-place-clause-free
 returns-in_err-place-clause-free t c stands =
     absurd (stands_nowhere (Fits c.args.id) (tests_of_compound c.args.first.now) (steps_of c.args.rest.now) (map node_of c.args.nodes.now.items) c.in_err-place.ensures.free stands)
 
+pub add_to-requires : goal.add_to-requires
+add_to-requires t c reserved =
+    stands_last (Fits c.args.id) (tests_of_compound c.args.first.now) c.args.rest.now c.args.nodes.now.items c.place_for.new.nodes.items c.in_ok-place.place c.index_mut-node.result.now c.in-None.ensures.cases c.in_ok-place.ensures.place c.index_mut-node.ensures.value (c.requires.fits reserved)
+
 pub returns-in-None-clause-free : goal.returns-in-None-clause-free
 returns-in-None-clause-free t c stands =
-    let n = c.index_mut-node.result.now in
-    let old = c.args.nodes.now.items in
-    let mid = c.place_for.new.nodes.items in
-    let i = c.in_ok-place.place in
-    let fc = tests_of_compound c.args.first.now in
-    let fits = Fits c.args.id in
-    let inside = subst (λ (X : Type 0). X) (stands_none fits fc c.args.rest.now (forest_of old) c.in-None.ensures.cases) stands in
-    c.add_to.ensures.free (stands_at fc (λ m. fits m.ids) old mid i n c.in_ok-place.ensures.place c.index_mut-node.ensures.value inside)
+    c.add_to.ensures.free
+    (stands_last (Fits c.args.id) (tests_of_compound c.args.first.now) c.args.rest.now c.args.nodes.now.items c.place_for.new.nodes.items c.in_ok-place.place c.index_mut-node.result.now c.in-None.ensures.cases c.in_ok-place.ensures.place c.index_mut-node.ensures.value stands)
 
 pub returns-in-None-clause-added : goal.returns-in-None-clause-added
 returns-in-None-clause-added t c =
@@ -193,14 +193,8 @@ returns-in-Child-clause-partly t c =
 
 pub returns-in-Child-clause-free : goal.returns-in-Child-clause-free
 returns-in-Child-clause-free t c stands =
-    let n = c.index_mut-node.result.now in
-    let old = c.args.nodes.now.items in
-    let mid = c.place_for.new.nodes.items in
-    let i = c.in_ok-place.place in
-    let fc = tests_of_compound c.args.first.now in
-    let fits = Fits c.args.id in
-    let inside = subst (λ (X : Type 0). X) (stands_some fits fc c.args.rest.now c.in-Some.rest.now c.in-Some.field-0-0.now Child (forest_of old) c.in-Some.ensures.cases.0 c.in-Child.is) stands in
-    c.add_path.ensures.free (stands_at fc (λ m. StandsWith fits (tests_of_compound c.in-Some.field-0-0.now.1) (steps_of c.in-Some.rest.now) (grown_under Child m)) old mid i n c.in_ok-place.ensures.place c.index_mut-node.ensures.value inside)
+    c.add_path.ensures.free
+    (stands_next (Fits c.args.id) (tests_of_compound c.args.first.now) c.args.rest.now c.in-Some.rest.now c.in-Some.field-0-0.now Child c.args.nodes.now.items c.place_for.new.nodes.items c.in_ok-place.place c.index_mut-node.result.now c.in-Some.ensures.cases.0 c.in-Child.is c.in_ok-place.ensures.place c.index_mut-node.ensures.value stands)
 
 pub returns-in-Child-clause-count : goal.returns-in-Child-clause-count
 returns-in-Child-clause-count t c =
@@ -247,14 +241,8 @@ returns-in-Descendant-clause-partly t c =
 
 pub returns-in-Descendant-clause-free : goal.returns-in-Descendant-clause-free
 returns-in-Descendant-clause-free t c stands =
-    let n = c.index_mut-node.result.now in
-    let old = c.args.nodes.now.items in
-    let mid = c.place_for.new.nodes.items in
-    let i = c.in_ok-place.place in
-    let fc = tests_of_compound c.args.first.now in
-    let fits = Fits c.args.id in
-    let inside = subst (λ (X : Type 0). X) (stands_some fits fc c.args.rest.now c.in-Some.rest.now c.in-Some.field-0-0.now Descendant (forest_of old) c.in-Some.ensures.cases.0 c.in-Descendant.is) stands in
-    c.add_path-in-Descendant.ensures.free (stands_at fc (λ m. StandsWith fits (tests_of_compound c.in-Some.field-0-0.now.1) (steps_of c.in-Some.rest.now) (grown_under Descendant m)) old mid i n c.in_ok-place.ensures.place c.index_mut-node.ensures.value inside)
+    c.add_path-in-Descendant.ensures.free
+    (stands_next (Fits c.args.id) (tests_of_compound c.args.first.now) c.args.rest.now c.in-Some.rest.now c.in-Some.field-0-0.now Descendant c.args.nodes.now.items c.place_for.new.nodes.items c.in_ok-place.place c.index_mut-node.result.now c.in-Some.ensures.cases.0 c.in-Descendant.is c.in_ok-place.ensures.place c.index_mut-node.ensures.value stands)
 
 pub returns-in-Descendant-clause-count : goal.returns-in-Descendant-clause-count
 returns-in-Descendant-clause-count t c =

@@ -1,15 +1,16 @@
 use Rattle.lol_css.specs.declared.selector.SimpleSelector.TheViews.{out-ComplexSelector}
-use Rattle.std.proofs.Common.{List, arith, subst}
+use Rattle.std.proofs.Common.{◌≡◌, List, Some, arith, subst}
 use Rattle.std.proofs.lemmas.Result.{on_ok_weaker, on_err_weaker}
 use Rattle.lol_css.specs.declared.selector.Combinator.{Combinator}
-use Rattle.lol_program.specs.IdsForNodes.{id_in, HasRoomAmong}
+use Rattle.lol_program.specs.IdsForNodes.{id_in, Fits}
 use Rattle.lol_program.specs.Views.{forest_of, steps_of, tests_of_compound}
 use Rattle.lol_program.specs.Growth.{Adds, AddsFirst}
+use Rattle.lol_program.specs.declared.id_for_node.IdForNode.{IdForNode}
 use Rattle.lol_css.specs.declared.selector.Compound as css
-use Rattle.lol_program.proofs.Reserved.{enough-kept}
+use Rattle.lol_program.proofs.Reserved.{fits_stay, all_stay}
 use Rattle.lol_program.proofs.Adding.{added_pairs, added_nodes, first_pairs, first_nodes, keeps_either, keeps_all}
 use Rattle.lol_program.proofs.Placed.{differ_after}
-use Rattle.lol_program.proofs.Standing.{Keeps, KeepsWith, adds_stands, anyhow, more_room}
+use Rattle.lol_program.proofs.Standing.{KeepsWith, adds_stands}
 use Rattle.lol_program.proofs.ast.Ast.add_path.Goals as goal
 
 pub invariant_of-self : goal.invariant_of-self
@@ -62,14 +63,15 @@ pub returns-clause-keeps : goal.returns-clause-keeps
 returns-clause-keeps c =
     let old = forest_of c.args.self.now.root.items in
     let new = forest_of c.add_path.new.nodes.items in
-    keeps_all old new (keeps_either (tests_of_compound (out-ComplexSelector c.args.item.now).first) (steps_of c.deref.result.now) old new (λ ids. Unit {0}) anyhow c.add_path.result (id_in c.args.id) c.add_path.ensures.added c.add_path.ensures.partly)
+    let first = tests_of_compound (out-ComplexSelector c.args.item.now).first in
+    keeps_all old new (keeps_either first (steps_of c.deref.result.now) old new (λ ids. Unit {0}) (id_in c.args.id) (λ id e xs ys with h. tt) c.add_path.result c.add_path.ensures.added c.add_path.ensures.partly)
 
-pub returns-clause-keeps_enough : goal.returns-clause-keeps_enough
-returns-clause-keeps_enough c match_id =
+pub returns-clause-keeps_fit : goal.returns-clause-keeps_fit
+returns-clause-keeps_fit c match_id items ids is fit =
     let old = forest_of c.args.self.now.root.items in
     let new = forest_of c.add_path.new.nodes.items in
     let first = tests_of_compound (out-ComplexSelector c.args.item.now).first in
     let rest = steps_of c.deref.result.now in
-    let rooms : KeepsWith (HasRoomAmong match_id) old new = keeps_either first rest old new (HasRoomAmong match_id) (more_room match_id) c.add_path.result (id_in c.args.id) c.add_path.ensures.added c.add_path.ensures.partly in
-    let paths : Keeps old new = keeps_either first rest old new (λ ids. Unit {0}) anyhow c.add_path.result (id_in c.args.id) c.add_path.ensures.added c.add_path.ensures.partly in
-    enough-kept match_id old new rooms paths
+    let keeps : (given : IdForNode) → id_in given ≡ Some match_id → KeepsWith (Fits given) old new =
+    λ given e. keeps_either first rest old new (Fits given) (id_in c.args.id) (fits_stay given (id_in c.args.id) match_id e is) c.add_path.result c.add_path.ensures.added c.add_path.ensures.partly in
+    all_stay match_id old new keeps items ids fit

@@ -1,10 +1,15 @@
-use Rattle.std.proofs.Common.{subst}
-use Rattle.lol_memory.specs.Ids.{ascending}
-use Rattle.lol_program.specs.IdsForNodes.{Fits}
+use Rattle.std.proofs.Common.{ap, subst, ◌∙◌}
+use Rattle.lol_memory.specs.Ids.{Ids, HasRoom, ascending, with_id}
+use Rattle.lol_program.specs.IdSetLaws.{set_of-ascending}
+use Rattle.lol_program.specs.IdsForNodes.{Fits, IsReserved}
 use Rattle.lol_program.specs.declared.id_for_node.IdForNode.{IdForNode}
-use Rattle.lol_program.specs.IdSetLaws.{room_listed}
 use Rattle.lol_program.proofs.id_for_node.IdForNode.add_to.Goals as goal
 
 pub returns-in-Id-clause-free : goal.returns-in-Id-clause-free
 returns-in-Id-clause-free c fits =
-    c.insert.ensures.free ((room_listed c.args.ids.now c.in-Id.id).1 (subst (λ (x : IdForNode). Fits x (ascending c.args.ids.now)) c.in-Id.is fits))
+    c.insert.ensures.free (subst (λ (s : Ids). HasRoom s c.in-Id.id) (set_of-ascending c.args.ids.now) (subst (λ (x : IdForNode). Fits x (ascending c.args.ids.now)) c.in-Id.is fits))
+
+pub insert_reserved-requires : goal.insert_reserved-requires
+insert_reserved-requires c =
+    let fits = subst (λ (x : IdForNode). IsReserved x → Fits x (ascending c.args.ids.now)) c.in-Reserved.is c.requires tt in
+    fits ∙ ap (λ (s : Ids). with_id s c.in-Reserved.reserved.id) (set_of-ascending c.args.ids.now)
