@@ -3,6 +3,7 @@ use Rattle.std.proofs.lemmas.Slice.Zip.{all_zipped_more}
 use Rattle.lol_css.specs.declared.selector.ComplexSelector.{ComplexSelector}
 use Rattle.lol_program.specs.AstPaths.{FitsPath, AllFit}
 use Rattle.lol_program.specs.Asts.{trees_of}
+use Rattle.lol_program.specs.declared.id_for_node.IdForNode.{IdForNode}
 use Rattle.lol_program.proofs.PathLists.{one_more, AllIn-at}
 use Rattle.lol_program.proofs.ast.Ast.reserve_ids.Goals as goal
 
@@ -18,5 +19,5 @@ loop-item-preserved c =
     let x = c.item-item.result in
     let reserved = c.in_ok-reserve_id.field-0 in
     let more = all_zipped_more (FitsPath id trees) (take i items) c.loop-item.ids.items x reserved c.loop-item.invariant (c.in_ok-reserve_id.ensures.given, c.in_ok-reserve_id.ensures.fits) in
-    subst (AllFit id trees (take (i + 1) items)) (sym c.in_ok-push.ensures.items)
+    subst (AllFit id trees (take (i + 1) items)) (sym {A = List IdForNode} c.in_ok-push.ensures.items)
     (subst (λ (l : List ComplexSelector). AllFit id trees l (c.loop-item.ids.items ++ reserved ∷ [])) (sym (one_more items i x c.loop-item-test.true c.item-item.is)) more)
