@@ -1,5 +1,5 @@
 -- Sets of ids by their lists.
-use Rattle.std.proofs.Common.{◌≡◌, ℕ, Bool, true, false, ◌||◌, List, [], ◌∷◌, inl, inr, ⊎_elim, refl, sym, ap, ◌∙◌, true≢false, subst}
+use Rattle.std.proofs.Common.{◌≡◌, ◌↔◌, ◌⊎◌, ℕ, Bool, true, false, ◌||◌, List, [], ◌∷◌, inl, inr, ⊎_elim, refl, sym, ap, ◌∙◌, true≢false, subst}
 use Rattle.std.specs.Prelude.{Contains}
 use Rattle.std.specs.List.{list_any}
 use Rattle.std.specs.Ordering.{nat_cmp, eq_by_cmp}
@@ -43,20 +43,24 @@ pub ascending-no_ids : ascending no_ids ≡ []
 ascending-no_ids = none_listed (ascending no_ids) (λ q. sym (has-keys no_ids q) ∙ has-no_ids q)
 
 -- one id more
-pub with_id-IsWith : (s : Ids) (id : ℕ) → IsWith id (ascending s) (ascending (with_id s id))
-with_id-IsWith s id x = (
-  λ h. ⊎_elim (λ (e : eq_by_cmp nat_cmp x id ≡ true). inr (sym (is_same x id e))) (λ (t : has s x ≡ true). inl (listed_if_held s x t))
-      (or_parts _ _ (sym (has-with_id s id x) ∙ held (with_id s id) x h)),
-  λ h. listed_if_held (with_id s id) x (has-with_id s id x ∙ ⊎_elim (λ (t : Contains (ascending s) x). or-right_true _ _ (held s x t)) (λ (e : id ≡ x). left _ _ (subst (λ (y : ℕ). eq_by_cmp nat_cmp x y ≡ true) (sym e) (itself x))) h),
+has_with : (s : Ids) (id x : ℕ) → (has (with_id s id) x ≡ true) ↔ ((has s x ≡ true) ⊎ (id ≡ x))
+has_with s id x = (
+  λ h. ⊎_elim (λ (e : eq_by_cmp nat_cmp x id ≡ true). inr (sym (is_same x id e))) (λ (t : has s x ≡ true). inl t) (or_parts _ _ (sym (has-with_id s id x) ∙ h)),
+  λ h. has-with_id s id x ∙ ⊎_elim (λ (t : has s x ≡ true). or-right_true _ _ t) (λ (e : id ≡ x). left _ _ (subst (λ (y : ℕ). eq_by_cmp nat_cmp x y ≡ true) (sym e) (itself x))) h,
 )
 
--- the set of the list is the set
-pub set_of-ascending : (s : Ids) → set_of (ascending s) ≡ s
-set_of-ascending s =
-    same_set _ _ (λ q. has-with_ids no_ids (ascending s) q ∙ ap (λ (b : Bool). b || list_any (eq_by_cmp nat_cmp q) (ascending s)) (has-no_ids q) ∙ sym (has-keys s q))
+pub with_id-IsWith : (s : Ids) (id : ℕ) → IsWith id (ascending s) (ascending (with_id s id))
+with_id-IsWith s id x = (
+  λ h. ⊎_elim (λ (t : has s x ≡ true). inl (listed_if_held s x t)) (λ (e : id ≡ x). inr e) ((has_with s id x).0 (held (with_id s id) x h)),
+  λ h. listed_if_held (with_id s id) x ((has_with s id x).1 (⊎_elim (λ (c : Contains (ascending s) x). inl (held s x c)) (λ (e : id ≡ x). inr e) h)),
+)
 
 has-set_of : (ids : List ℕ) (q : ℕ) → has (set_of ids) q ≡ list_any (eq_by_cmp nat_cmp q) ids
 has-set_of ids q = has-with_ids no_ids ids q ∙ ap (λ (b : Bool). b || list_any (eq_by_cmp nat_cmp q) ids) (has-no_ids q)
+
+-- the set of a set's list is the set
+pub set_of-ascending : (s : Ids) → set_of (ascending s) ≡ s
+set_of-ascending s = same_set _ _ (λ q. has-set_of (ascending s) q ∙ sym (has-keys s q))
 
 -- the set of a list has what is in it
 pub has_if_listed : (ids : List ℕ) (q : ℕ) → Contains ids q → has (set_of ids) q ≡ true
@@ -70,12 +74,10 @@ pub set_of-IsWith : (id : ℕ) (old new : List ℕ) → IsWith id old new → se
 set_of-IsWith id old new is = same_set _ _ (λ q. same_from_decides _ _ (listed_if_has new q, has_if_listed new q) (from q, to q))
   where
     from : (q : ℕ) → has (with_id (set_of old) id) q ≡ true → Contains new q
-    from q h =
-        (is q).1 (⊎_elim (λ (e : eq_by_cmp nat_cmp q id ≡ true). inr (sym (is_same q id e))) (λ (t : has (set_of old) q ≡ true). inl (listed_if_has old q t)) (or_parts _ _ (sym (has-with_id (set_of old) id q) ∙ h)))
+    from q h = (is q).1 (⊎_elim (λ (t : has (set_of old) q ≡ true). inl (listed_if_has old q t)) (λ (e : id ≡ q). inr e) ((has_with (set_of old) id q).0 h))
 
     to : (q : ℕ) → Contains new q → has (with_id (set_of old) id) q ≡ true
-    to q h =
-        has-with_id (set_of old) id q ∙ ⊎_elim (λ (c : Contains old q). or-right_true _ _ (has_if_listed old q c)) (λ (e : id ≡ q). left _ _ (subst (λ (y : ℕ). eq_by_cmp nat_cmp q y ≡ true) (sym e) (itself q))) ((is q).0 h)
+    to q h = (has_with (set_of old) id q).1 (⊎_elim (λ (c : Contains old q). inl (has_if_listed old q c)) (λ (e : id ≡ q). inr e) ((is q).0 h))
 
 or_twice : (a b : Bool) → (a || (a || b)) ≡ (a || b)
 or_twice true b = refl
