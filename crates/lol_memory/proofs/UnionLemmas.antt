@@ -1,13 +1,14 @@
 -- A set that takes the ids of another one by one.
-use Rattle.std.proofs.Common.{◌≡◌, ℕ, Bool, true, false, ◌||◌, List, [], ◌∷◌, ◌++◌, length, map, refl, sym, ap, ◌∙◌}
-use Rattle.std.specs.Prelude.{Option, Some, None}
+use Rattle.std.proofs.Common.{◌≡◌, ℕ, Bool, true, false, ◌||◌, List, [], ◌∷◌, ◌++◌, ◌⊎◌, inl, inr, zero, length, map, get_or, refl, sym, ap, subst, ◌∙◌, arith}
+use Rattle.std.specs.Prelude.{Option, Some, None, is_some}
+use Rattle.std.proofs.lemmas.Bool.{true≢false}
 use Rattle.std.specs.List.{list_any}
 use Rattle.std.specs.Ordering.{nat_cmp, eq_by_cmp}
 use Rattle.std.specs.Iterator.{YieldsFirst, Yields}
 use Rattle.std.proofs.lemmas.List.Folds.{list_any-append}
 use Rattle.std.proofs.lemmas.Iterator.Consumers.{YieldsList-from_first, YieldsList-turn, YieldsList-end}
-use Rattle.lol_memory.specs.Ids.{Ids, has, with_id, union, ascending}
-use Rattle.lol_memory.specs.SetLaws.{same_set, has-with_id, has-union, has-keys}
+use Rattle.lol_memory.specs.Ids.{Ids, no_ids, has, with_id, with_ids, union, ascending, AllSmall, HasRoomFor}
+use Rattle.lol_memory.specs.SetLaws.{same_set, has-no_ids, has-with_id, has-union, has-keys}
 use Rattle.lol_memory.specs.AscendingLaws.{has_from_listed}
 
 -- new has the ids of old and those of the list
@@ -53,3 +54,37 @@ module _ (other : Ids) (first : List ℕ) (is : first ≡ ascending other) (yiel
   pub all_yielded : (r : Option ℕ) (left : List ℕ) → r ≡ None → YieldsFirst {A = ℕ} (λ rest. rest) rest r left → yielded ≡ ascending other
   all_yielded r left item step =
       sym (map_same yielded) ∙ (YieldsList-end (YieldsList-from_first {A = ℕ} (λ x. x) (λ rest. rest) (ascending other) is) yielded rest by r left item step).0
+
+-- a set whose ids are yielded first one and then none has that one alone
+module _ (other : Ids) (first second left : List ℕ) (is : first ≡ ascending other) (r s : Option ℕ) (id : ℕ) (one : r ≡ Some id) (none : s ≡ None) (step : YieldsFirst {A = ℕ} (λ rest. rest) first r second) (end : YieldsFirst {A = ℕ} (λ rest. rest) second s left) where
+  alone : ascending other ≡ id ∷ []
+  alone =
+      let here : first ≡ id ∷ second = subst (λ r. YieldsFirst {A = ℕ} (λ rest. rest) first r second) one step in
+      let after : second ≡ [] = (subst (λ s. YieldsFirst {A = ℕ} (λ rest. rest) second s left) none end).0 in
+      sym is ∙ (here ∙ ap (λ ids. id ∷ ids) after)
+
+  pub union_with_one : (old : Ids) → with_id old id ≡ union old other
+  unfolding union
+  union_with_one old = sym (ap (with_ids old) alone)
+
+  pub one_is_held : has other id ≡ true
+  one_is_held = has_from_listed other id (zero, omega (arith, ap length alone), ap (λ ids. get_or ids 0 id) alone)
+
+-- a set of which none is yielded is empty
+pub none_held : (s : Ids) (list left : List ℕ) (r : Option ℕ) → list ≡ ascending s → is_some r ≡ false → YieldsFirst {A = ℕ} (λ rest. rest) list r left → s ≡ no_ids
+none_held s list left None is none step =
+    same_set s no_ids (λ q. has-keys s q ∙ (ap (list_any (eq_by_cmp nat_cmp q)) (sym is ∙ step.0) ∙ sym (has-no_ids q)))
+none_held s list left (Some id) is none step = absurd (true≢false none)
+
+pub union_from_none : (s t : Ids) → s ≡ no_ids → t ≡ union s t
+union_from_none s t none =
+    same_set t (union s t) (λ q. sym (has-union s t q ∙ ap (λ b. b || has t q) (ap (λ s. has s q) none ∙ has-no_ids q)))
+
+-- what an empty set has room for is below 32
+pub room_in_none : (s t : Ids) → s ≡ no_ids → HasRoomFor s t → AllSmall t
+room_in_none s t none room q held =
+    elim (room q held) [
+      | inl small ↦ small
+      | inr (inl (p, there, _)) ↦ absurd (true≢false (sym there ∙ (ap (λ s. has s p) none ∙ has-no_ids p)))
+      | inr (inr (_, (p, there, _))) ↦ absurd (true≢false (sym there ∙ (ap (λ s. has s p) none ∙ has-no_ids p)))
+    ]

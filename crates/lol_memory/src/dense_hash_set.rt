@@ -66,7 +66,7 @@ impl DenseHashSet {
         Ok(())
     }
 
-    /// Adds the ids of `other`, 32 at a time where both sets are dense, and else one by one. It is refused only where memory is wanted and
+    /// Adds the ids of `other`: 32 at a time where both sets are dense, and else one by one. It is refused only where memory is wanted and
     /// isn't there: never where the set has room for each of these ids.
     pub fn union(&mut self, other: &DenseHashSet) -> Result<(), AllocError>
         ensures ok { OnOk result (self.new ≡ joined self.old other.now) }
@@ -78,8 +78,25 @@ impl DenseHashSet {
                 self.words.join(self.alloc, more)?;
                 Ok(())
             }
-            _ => self.add_each(other),
+            _ => self.add_sparse(other),
         }
+    }
+
+    /// Adds the ids of `other`, of which one alone is added in place.
+    fn add_sparse(&mut self, other: &DenseHashSet) -> Result<(), AllocError>
+        ensures ok { OnOk result (self.new ≡ joined self.old other.now) }
+        ensures free { HasRoomFor self.old other.now → IsOk result }
+        ensures err { OnErr result (self.new ≡ self.old) }
+    {
+        let mut ids = other.iter();
+        if let (Some(id), None) = (ids.next(), ids.next()) {
+            return self.insert(id);
+        }
+        if self.iter().next().is_none() {
+            *self = other.try_clone()?;
+            return Ok(());
+        }
+        self.add_each(other)
     }
 
     /// Adds the ids of `other` one by one: in place where there is room for each, or else in a copy.

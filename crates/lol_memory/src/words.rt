@@ -70,6 +70,19 @@ impl Words {
         }
     }
 
+    /// Whether `len` words are kept in a list of them all, once one more of them holds an id. They aren't counted where a list gets at most
+    /// four words longer.
+    fn stays_dense(&self, len: usize) -> bool
+        requires form { IsInForm self.now }
+        requires few { length (words_of self.now) ≤ 2 ^ 27 }
+        ensures { IsTrue result ↔ AreDense len (held_words (words_of self.now) + 1) }
+    {
+        match self.as_list() {
+            Some(words) if len <= words.len() + 4 => true,
+            _ => len <= 16 + 4 * (self.held_words() + 1),
+        }
+    }
+
     /// Sets bits of the word at `place`. It takes memory only where there is no such word.
     pub(crate) fn add(&mut self, alloc: Global, place: u32, bits: u32) -> Result<(), AllocError>
         requires form { IsInForm self.old }
@@ -86,7 +99,7 @@ impl Words {
             return Ok(());
         }
         let len = self.word_count().max(place as usize + 1);
-        if len <= 16 + 4 * (self.held_words() + 1) {
+        if self.stays_dense(len) {
             self.widen(alloc, len)?;
             self.mark(place, bits);
             Ok(())
