@@ -2,6 +2,7 @@
 
 use lol_memory::DenseHashSet;
 use std::alloc::{AllocError, Global};
+use std::collections::BTreeSet;
 use std::process::Abort;
 use std::test::Fail;
 
@@ -88,8 +89,9 @@ fn has_rooms(set: &DenseHashSet, rooms: &[(u32, bool)]) -> bool {
     rooms.iter().all(|(id, room)| set.has_room(*id) == *room)
 }
 
-/// Ids that are inserted in turn, and what has room then.
-const GROWTH: [(&[u32], &[(u32, bool)]); 5] = [
+/// Ids that are inserted in turn, and what has room then: the set goes from one word to a list, to words with their places, to a list and
+/// back.
+const GROWTH: [(&[u32], &[(u32, bool)]); 7] = [
     (&[], &[(0, true), (31, true), (32, false)]),
     (&[33], &[(31, true), (32, true), (63, true), (64, false)]),
     (
@@ -97,10 +99,18 @@ const GROWTH: [(&[u32], &[(u32, bool)]); 5] = [
         &[(70, true), (127, true), (128, false), (100_000, false)],
     ),
     (
-        &[100_000],
-        &[(128, true), (100_031, true), (100_032, false)],
+        &[1_024],
+        &[(127, true), (128, false), (1_055, true), (1_056, false)],
     ),
-    (&[3], &[(0, true), (u32::MAX, false)]),
+    (
+        &[128, 160, 192],
+        &[(700, true), (1_055, true), (1_056, false)],
+    ),
+    (
+        &[100_000],
+        &[(0, true), (223, true), (224, false), (100_031, true)],
+    ),
+    (&[3], &[(100_032, false), (u32::MAX, false)]),
 ];
 
 /// Whether the set takes the ids of `GROWTH`, and has room as it says.
@@ -115,24 +125,135 @@ fn grows(set: &mut DenseHashSet) -> Result<bool, AllocError> {
 }
 
 #[test]
-fn grow_from_many_words_to_many_more(rt: HostRuntime) -> Result<(), Fail> {
+fn grow_from_form_to_form(rt: HostRuntime) -> Result<(), Fail> {
     let mut set = DenseHashSet::new(rt.alloc());
     assert!(rt; grows(&mut set)?);
-    assert!(rt; set.iter().eq([3, 33, 70, 100, 100_000]));
+    assert!(rt;
+        set.iter()
+            .eq([3, 33, 70, 100, 128, 160, 192, 1_024, 100_000])
+    );
     Ok(())
 }
 
-/// Whether a set is that of 7, 40 and 100,000, and so is its copy.
-fn is_joined(set: &DenseHashSet) -> Result<bool, AllocError> {
-    let copied = is_copied(set)?;
-    let has_room = has_rooms(set, &[(99_999, true), (100_032, false)]);
-    Ok(copied && has_room && set.iter().eq([7, 40, 100_000]))
+/// One id, and what has room in its set: up to 639 the words stand in a list.
+const EDGES: [(u32, &[(u32, bool)]); 7] = [
+    (31, &[(0, true), (32, false)]),
+    (32, &[(0, true), (63, true), (64, false)]),
+    (511, &[(32, true), (511, true), (512, false)]),
+    (512, &[(32, true), (543, true), (544, false)]),
+    (639, &[(32, true), (639, true), (640, false)]),
+    (640, &[(31, true), (32, false), (639, false), (671, true)]),
+    (
+        u32::MAX,
+        &[
+            (31, true),
+            (32, false),
+            (u32::MAX - 31, true),
+            (u32::MAX - 32, false),
+        ],
+    ),
+];
+
+/// Whether the set of one id has it alone, and room as it is said.
+fn holds_one(alloc: Global, id: u32, rooms: &[(u32, bool)]) -> Result<bool, AllocError> {
+    let set = set_of(alloc, &[id])?;
+    Ok(set.iter().eq([id]) && is_copied(&set)? && has_rooms(&set, rooms))
 }
 
 #[test]
-fn join_many_words(rt: HostRuntime) -> Result<(), Fail> {
-    let few = union_of(rt.alloc(), &[7], &[100_000, 40])?;
-    assert!(rt; is_joined(&few)?);
-    assert!(rt; few == union_of(rt.alloc(), &[100_000, 40], &[7, 40, 100_000])?);
+fn hold_one_id_at_the_edges_of_each_form(rt: HostRuntime) -> Result<(), Fail> {
+    for (id, rooms) in &EDGES {
+        assert!(rt; holds_one(rt.alloc(), *id, rooms)?, "{id}");
+    }
+    Ok(())
+}
+
+/// Twelve ids in words of their own, up to the greatest.
+const GREATEST: [u32; 12] = [
+    3_221_225_472,
+    3_758_096_384,
+    4_026_531_840,
+    4_160_749_568,
+    4_227_858_432,
+    4_261_412_864,
+    4_278_190_080,
+    4_286_578_688,
+    4_290_772_992,
+    4_294_967_200,
+    4_294_967_231,
+    4_294_967_295,
+];
+
+#[test]
+fn hold_twelve_of_the_greatest_ids(rt: HostRuntime) -> Result<(), Fail> {
+    let mut set = set_of(rt.alloc(), &GREATEST)?;
+    assert!(rt; set.iter().eq(GREATEST));
+    assert!(rt; leaves_its_copy(&mut set, 4_294_967_294)?);
+    Ok(())
+}
+
+/// Ids of two sets: a list and a list, one of the two with places, both, and both that make a list together.
+const PAIRS: [(&[u32], &[u32]); 7] = [
+    (&[7], &[100, 40]),
+    (&[7, 40], &[100_000]),
+    (&[100_000, 40], &[7, 40]),
+    (&[100_000, 40, 7], &[90_000, 40, 110_000]),
+    (&[640, 700], &[32, 64, 96]),
+    (&[640, 31], &[800, 0]),
+    (&[1_000, 2_000, 3_000], &[2_001, 31, 1_000]),
+];
+
+/// Whether the union of two sets is that of their ids, in either order, and so is its copy.
+fn is_joined(alloc: Global, ids: &[u32], others: &[u32]) -> Result<bool, AllocError> {
+    let mut all = set_of(alloc, ids)?;
+    insert_all(&mut all, others)?;
+    let joined = union_of(alloc, ids, others)?;
+    Ok(joined == all && union_of(alloc, others, ids)? == all && is_copied(&joined)?)
+}
+
+#[test]
+fn are_joined_in_each_form(rt: HostRuntime) -> Result<(), Fail> {
+    for (ids, others) in &PAIRS {
+        assert!(rt; is_joined(rt.alloc(), ids, others)?, "{ids:?}");
+    }
+    Ok(())
+}
+
+/// Whether a set that takes the ids in turn has those of an ordered set after each, and room for the last.
+fn follows(alloc: Global, ids: &[u32]) -> Result<bool, AllocError> {
+    let mut set = DenseHashSet::new(alloc);
+    let mut ordered = BTreeSet::new(alloc);
+    for id in ids {
+        set.insert(*id)?;
+        ordered.insert(*id)?;
+        if !set.iter().eq(ordered.iter().copied()) || !set.has_room(*id) {
+            return Ok(false);
+        }
+    }
+    Ok(true)
+}
+
+/// Ids drawn from a seed, of at most 7 to 32 bits.
+fn draw(alloc: Global, seed: u64) -> Result<Vec<u32>, AllocError> {
+    let mut state = seed;
+    let mut ids = Vec::new(alloc);
+    for _ in 0..60 {
+        state = state
+            .wrapping_mul(6_364_136_223_846_793_005)
+            .wrapping_add(1_442_695_040_888_963_407);
+        let bits = (state >> 32) as u32;
+        ids.push(bits >> (state >> 20) % 26)?;
+    }
+    Ok(ids)
+}
+
+#[test]
+fn follow_an_ordered_set(rt: HostRuntime) -> Result<(), Fail> {
+    for seed in 0..300 {
+        let ids = draw(rt.alloc(), seed)?;
+        assert!(rt; follows(rt.alloc(), ids.as_slice())?, "{seed}");
+        let (left, right) = ids.as_slice().split_at(ids.len() / 2);
+        assert!(rt; is_joined(rt.alloc(), left, right)?, "{seed}");
+    }
     Ok(())
 }
