@@ -1,1 +1,4 @@
 pub mod Numbers
+pub mod Held
+pub mod Sessions
+pub mod Tags

@@ -1,6 +1,16 @@
 //! The program for callers in C, as a static library: bindings/c/zugrenja.h declares what is here.
 #![tactic(auto)]
 
+mod handle;
+#[cfg(test)]
+mod handle_tests;
+mod making;
+mod matching;
+mod raw_box;
+mod reports;
+mod session;
+mod status;
+mod tags;
 #[cfg(test)]
 mod tests;
 
@@ -8,11 +18,9 @@ ghost use Rattle.std.specs.Prelude.{◌≡◌, ◌≢◌, length};
 ghost use Rattle.lol_script.specs.Scripts.{output};
 ghost use Rattle.zugrenja_c.specs.Numbers.{overwritten, status_number};
 
+use crate::status::OUT_OF_MEMORY;
 use lol_script::{Counted, Status, run};
 use std::alloc::Global;
-
-/// The status of a call that ran out of memory.
-const OUT_OF_MEMORY: u32 = 4;
 
 /// The number of a status, which is the exit status of the program.
 fn number_of(status: Status) -> u32

@@ -1,0 +1,4 @@
+pub mod Boxes
+pub mod AsBox
+pub mod Statuses
+pub mod Buffers

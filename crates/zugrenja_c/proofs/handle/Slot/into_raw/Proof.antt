@@ -1,0 +1,52 @@
+-- `into_raw` moves two fields, and what they own goes with them.
+use Rattle.std.proofs.Common.{◌≡◌, true, List, [], ◌∷◌, ◌++◌, refl, sym, subst}
+use mir.Val.{Val}
+use base.Logic.{SProp, ent, id⊢}
+use base.Fml.{ftrue, fsep}
+use prog.Wp.{WpFn}
+use types.Kit.{Item, ‵, raw, ◌⊛◌, ◌$◌, ◌∵◌, !, qed, by, move, drop, use1, join, split, rewrite, fsplit, fjoin, suffices, done}
+use types.Part.{whole, sub, agg}
+use types.Run.{stop, fld, no_more, and_then, of_opd, returns, enter}
+use types.ByLocal.{alloc_all, pass_all, free_all, look_at, get, get_in, sets}
+use contract.Monad.{fact}
+use contract.Running.{tables}
+use denote.Exit.{yes}
+use denote.Signature.{plain, type_at}
+use denote.Steps.{nothing, heard}
+use denote.Triple.Walked.{says, Stays, stay_dropped, walk_of, ends_at, Goes-dropped}
+use Rattle.zugrenja_c.specs.declared.session.Session.{Session}
+use Rattle.std.specs.Prelude.{Option, is_some}
+use Rattle.std.proofs.raw_atomic.Walks.{proved_at}
+use Rattle.std.proofs.BoxSteps.Form.{D, B, word, box_typed}
+use Rattle.std.proofs.BoxSteps.Steps.{box_out, box_in}
+use Rattle.zugrenja_c.proofs.AsBox.{E, Slotted, some_of}
+use Rattle.zugrenja_c.specs.contracts.handle.Slot.into_raw as F
+use Rattle.zugrenja_c.specs.contracts.handle.Slot.into_raw.Key.{name as #self}
+use Rattle.zugrenja_c.proofs.handle.Slot.into_raw.Statement.{statement}
+use Rattle.zugrenja_c.proofs.handle.Slot.into_raw.Code as code
+
+abbrev stayed : Stays (F.ended).signature.params (F.ended).kept
+stayed = (stay_dropped (plain (λ _. Slotted)) yes, tt)
+
+pub into_raw_spec : {M : Type 1} → statement M
+into_raw_spec 𝓤 𝓛 𝓜 𝓡 wired =
+    let H = 𝓛.H in let 𝓣 = tables 𝓤 H 𝓜 𝓡 𝓡.env in let c = F.clauses 𝓛 𝓜.mem 𝓡.returns in
+    proved_at 𝓛 F.ended stayed c 𝓜 𝓡 (Goes-dropped 𝓛 0 (plain (λ _. Slotted)) yes (λ κs x f. refl), tt) #self code.function (code.unfolded 𝓤 H 𝓜 𝓡 wired) (λ z are.
+    let Post : Val → SProp 𝓤 = (walk_of 𝓛 F.ended stayed c).post z in
+    let slot = z.0.3.0 in let To = type_at (F.signature).result tt in
+    qed 𝓛 ((‵ ftrue ⊛ ‵ (fsep (Slotted.own_val slot z.0.4.0) ftrue)) ∷ raw (fact 𝓤 (is_some slot.value ≡ true)) ∷ []) ∵ move ! (1 ∷ []) $ heard ! (is_some slot.value ≡ true) (λ live.
+    let known = some_of slot.value live in
+    let v : D E = record { ptr = slot.at; alloc = slot.alloc; value = known.0 } in
+    let made : To.Denot = record { at = v.ptr; alloc = v.alloc; value = v.value } in
+    split ! $ drop ! $ fsplit ! $ rewrite ! 0 (λ (x : Option Session). ‵ (Slotted.own_val (record slot { value = x }) z.0.4.0)) known.1 refl $ use1 𝓛 (‵ ((B E).own_val v z.0.4.0)) (id⊢ 𝓤 _) $
+    box_out E ! v z.0.4.0 (λ b o hv e ws fa. box_in E ! v b o v.value e refl $ use1 𝓛 (‵ (To.own_val made (word E hv b o ∷ []))) (id⊢ 𝓤 _) $ move ! (1 ∷ []) $ drop ! $
+    let w = word E hv b o in
+    let Γ : List (Item 𝓤) = ‵ (To.own_val made (w ∷ [])) ∷ [] in
+    by ! (subst (λ (us : List Val). ent 𝓤 (types.Kit.⋆ 𝓛 Γ) (WpFn 𝓤 H 𝓣.C 𝓣.Λ code.function (us ++ []) Post)) (sym ws)
+    (qed 𝓛 Γ ∵ enter ! 𝓣.C 𝓣.Λ code.function (w ∷ []) _ $ alloc_all ! (λ ls. pass_all ! refl (box_typed E hv b o fa, tt) $
+    sets ! (of_opd ! (get_in ! (fld ! refl (stop !)) (sub ! 0 refl (whole !)))) refl (tt, tt) $ sets ! (of_opd ! (get_in ! (fld ! refl (stop !)) (sub ! 1 refl (whole !)))) refl fa $
+    sets ! (of_opd ! (get ! refl)) refl (tt, tt) $
+    sets ! (agg ! (and_then ! (get ! refl) (and_then ! (get ! refl) (no_more !)))) refl (box_typed E hv b o fa) $ returns ! (look_at ! 0 refl) $ free_all ! refl $
+    suffices ! _ (ends_at 𝓛 F.ended stayed c z w made (tt, tt) (tt, tt)) $ says ! (sym known.1) $
+    nothing ! $ nothing ! $ fjoin ! $ join ! $ nothing ! $ join ! $ done !))))
+    ))

@@ -1,0 +1,83 @@
+-- What the calls of a handle do that tell of tags.
+use Rattle.std.specs.Prelude.{ℕ, ◌≡◌, Bool, true, false, nat_eq, List, [], ◌∷◌, ◌++◌, map, length, drop, All, Some, None, unwrap_or, if◌then◌else◌}
+use Rattle.lol_base.specs.StartTags.{StartTag, attribute_of, OutlineIsInside}
+use Rattle.lol_base.specs.declared.namespace.Namespace.{Namespace}
+use Rattle.lol_base.specs.declared.start_tag.AttributeOutline.{AttributeOutline}
+use Rattle.lol_vm.specs.AskedRuns.{bare_tag}
+use Rattle.lol_vm.specs.Events.{Start}
+use Rattle.lol_vm.specs.Vms.{open_after}
+use Rattle.lol_matcher.specs.Answering.{Answers, IsFinishedAs, LeavesOpen, OpensFor, OpensStart, refused_with, told_after, with_told}
+use Rattle.lol_matcher.specs.Noted.{started_told}
+use Rattle.lol_matcher.specs.Refusing.{Fits, RefusesFinish, RefusesStart, refusal_of}
+use Rattle.lol_matcher.specs.Told.{Told, Matching}
+use Rattle.lol_matcher.specs.declared.error.MatcherError.{MatcherError}
+use Rattle.lol_matcher.specs.declared.matcher.Started.{Started}
+use Rattle.zugrenja_c.specs.declared.matching.AttributePlace.{AttributePlace}
+
+-- ---- start tags
+
+-- A start tag of this name and namespace was answered so.
+pub record IsStarted (started : Started) (old : Matching ℕ) (name : List ℕ) (ns : Namespace) (new : Matching ℕ) : Type 0 where
+  pub running : old.failed ≡ false
+  pub answers : Answers started old.told name ns new.matched new.tries
+  pub opens : OpensStart started name ns old new
+  pub told : new ≡ with_told (told_after started old.told name ns) old new
+  pub fits : Fits started old name ns
+
+-- A start tag of this name and namespace was refused for this.
+pub record IsStartRefused (error : MatcherError) (old : Matching ℕ) (name : List ℕ) (ns : Namespace) (new : Matching ℕ) : Type 0 where
+  pub running : old.failed ≡ false
+  pub refused : RefusesStart error old name ns
+  pub after : new ≡ refused_with old new
+  pub left : LeavesOpen error (started_told old.told name ns) (bare_tag name ns) old new
+
+-- ---- attributes
+
+-- the outline of an attribute that stands in these places
+abbrev pub outline_of : AttributePlace → AttributeOutline
+outline_of p =
+    record {
+      name = record { start = p.name_start; end = p.name_end };
+      value = if nat_eq p.has_value 0 then None else Some (record { start = p.value_start; end = p.value_end });
+      raw_range = record { start = p.name_start; end = p.name_end };
+    }
+
+-- each name and each value stands inside a text
+abbrev pub AreInside : List ℕ → List AttributePlace → Type 0
+AreInside text places = All (OutlineIsInside text) (map outline_of places)
+
+-- the start tag that waits, with attributes in these places of a text
+abbrev pub given_tag : List ℕ × Namespace → List ℕ → List AttributePlace → Bool → StartTag
+given_tag asked text places closes =
+    record { name = asked.0; namespace = asked.1; attributes = map (attribute_of text) (map outline_of places); self_closing = closes; finish = true }
+
+-- what was told, after a start tag that waited, with its attributes
+abbrev pub given_told : Told → StartTag → Told
+given_told t tag = record { ast = t.ast; esi = t.esi; events = t.events ++ Start tag ∷ []; asked = None }
+
+-- The start tag that waited was reported.
+pub record IsFinished (old : Matching ℕ) (tag : StartTag) (new : Matching ℕ) : Type 0 where
+  pub running : old.failed ≡ false
+  pub reported : IsFinishedAs old.told tag new
+  pub opens : OpensFor tag old new
+  pub told : new ≡ with_told (given_told old.told tag) old new
+  pub fits : refusal_of old old.told.events tag ≡ None
+
+-- The start tag that waited was refused for this.
+pub record IsFinishRefused (error : MatcherError) (old : Matching ℕ) (tag : StartTag) (new : Matching ℕ) : Type 0 where
+  pub running : old.failed ≡ false
+  pub refused : RefusesFinish error old tag
+  pub after : new ≡ refused_with old new
+  pub left : LeavesOpen error (given_told old.told tag) tag old new
+
+-- ---- end tags
+
+-- the values of the elements that an end tag closes, the outermost first, 0 where none was given
+abbrev pub closed_values : Matching ℕ → List ℕ → List ℕ
+closed_values m name = map (λ element. unwrap_or element.value 0) (drop (length (open_after name m.open_elements)) m.kept)
+
+-- ---- reports
+
+-- the ids of the last report, ascending
+abbrev pub ids_of : Matching ℕ → List ℕ
+ids_of m = map (λ info. info.match_id) m.matched

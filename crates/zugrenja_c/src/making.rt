@@ -1,0 +1,113 @@
+//! From zeros to a matcher, and back.
+
+ghost use Rattle.std.specs.Prelude.{◌≡◌, ◌≢◌, ◌↔◌, [], ◌∷◌, None, true, false, max, is_some};
+ghost use Rattle.std.specs.Str.{IsUtf8};
+ghost use Rattle.lol_program.specs.Asts.{pairs_of, nodes_of};
+ghost use Rattle.lol_matcher.specs.Building.{Adds, KeepsPairs};
+ghost use Rattle.zugrenja_c.specs.Numbers.{IsOneOf};
+ghost use Rattle.zugrenja_c.specs.Sessions.{IsAdding, IsBuiltFrom, IsMatching, IsNotAccepted};
+
+use crate::handle::Handle;
+use crate::session::Session;
+use crate::status::{GOOD, IN_USE, NO_MATCHER, OUT_OF_MEMORY, Refusal};
+use lol_matcher::Matcher;
+use std::alloc::Global;
+
+/// Makes a matcher without selectors, in a handle that has none: open elements may be charged for `max_memory` bytes, each for
+/// `element_bytes`, and with an `esi` other than 0 the two void names of Edge Side Includes are void.
+#[unsafe(no_mangle)]
+pub extern "C" fn zugrenja_new(
+    alloc: Global,
+    handle: &mut Handle,
+    max_memory: usize,
+    element_bytes: usize,
+    esi: u32,
+) -> u32
+    ensures made { result ≡ 0 → IsAdding handle.new.slot.value (λ b.
+        (pairs_of b.ast ≡ []) × (nodes_of b.ast ≡ []) × (b.max_memory ≡ max_memory)
+        × (b.element_bytes ≡ max element_bytes 1) × ((b.esi ≡ false) ↔ (esi ≡ 0))) }
+    ensures in_use { (result ≡ 6) ↔ (is_some handle.old.slot.value ≡ true) }
+    ensures unchanged { result ≢ 0 → handle.new.slot.value ≡ handle.old.slot.value }
+    ensures statuses { IsOneOf (0 ∷ 4 ∷ 6 ∷ []) result }
+{
+    if handle.is_live() {
+        return IN_USE;
+    }
+    let mut builder = Matcher::builder(alloc);
+    builder.max_memory(max_memory);
+    builder.element_bytes(element_bytes);
+    builder.enable_esi_tags(esi != 0);
+    match Box::new(alloc, Session::Adding(builder)) {
+        Ok(session) => {
+            handle.put(session);
+            GOOD
+        }
+        Err(_) => OUT_OF_MEMORY,
+    }
+}
+
+/// Adds the selectors of a text, a list of them with commas, under an id. `refusal` is written only if the text isn't accepted.
+#[unsafe(no_mangle)]
+pub extern "C" fn zugrenja_add(
+    alloc: Global,
+    handle: &mut Handle,
+    id: u32,
+    text: &[u8],
+    refusal: &mut Refusal,
+) -> u32
+    ensures added { result ≡ 0 → IsAdding handle.old.slot.value (λ b. IsAdding handle.new.slot.value (λ c.
+        Adds id text.now b.ast c.ast × (c ≡ record b { ast = c.ast }))) }
+    ensures memory { result ≡ 4 → IsAdding handle.old.slot.value (λ b. IsAdding handle.new.slot.value (λ c.
+        KeepsPairs id text.now b.ast c.ast × (c ≡ record b { ast = c.ast }))) }
+    ensures not_accepted { result ≡ 10 → IsAdding handle.old.slot.value (λ _. IsNotAccepted text.now refusal.new) }
+    ensures no_matcher { (result ≡ 5) ↔ (handle.old.slot.value ≡ None) }
+    ensures built { (result ≡ 8) ↔ IsMatching handle.old.slot.value (λ _. Unit {0}) }
+    ensures not_utf8 { (result ≡ 9) ↔ (IsAdding handle.old.slot.value (λ _. ¬ (IsUtf8 text.now))) }
+    ensures statuses { IsOneOf (0 ∷ 4 ∷ 5 ∷ 8 ∷ 9 ∷ 10 ∷ []) result }
+    ensures unchanged { result ≢ 0 → result ≢ 4 → handle.new.slot.value ≡ handle.old.slot.value }
+    ensures untouched { result ≢ 10 → refusal.new ≡ refusal.old }
+{
+    if !handle.is_live() {
+        return NO_MATCHER;
+    }
+    let mut session = handle.take(alloc);
+    let status = session.add(id, text, refusal);
+    handle.put(session);
+    status
+}
+
+/// Builds the matcher: from now on tags are told, and no selector is added. Out of memory, the matcher is freed.
+#[unsafe(no_mangle)]
+pub extern "C" fn zugrenja_build(alloc: Global, handle: &mut Handle) -> u32
+    ensures built { result ≡ 0 → IsAdding handle.old.slot.value (λ b. IsMatching handle.new.slot.value (λ m.
+        IsBuiltFrom b m)) }
+    ensures memory { result ≡ 4 → IsAdding handle.old.slot.value (λ _. handle.new.slot.value ≡ None) }
+    ensures no_matcher { (result ≡ 5) ↔ (handle.old.slot.value ≡ None) }
+    ensures twice { (result ≡ 8) ↔ IsMatching handle.old.slot.value (λ _. Unit {0}) }
+    ensures statuses { IsOneOf (0 ∷ 4 ∷ 5 ∷ 8 ∷ []) result }
+    ensures unchanged { result ≢ 0 → result ≢ 4 → handle.new.slot.value ≡ handle.old.slot.value }
+{
+    if !handle.is_live() {
+        return NO_MATCHER;
+    }
+    let mut session = handle.take(alloc);
+    let status = session.build(alloc);
+    if status != OUT_OF_MEMORY {
+        handle.put(session);
+    }
+    status
+}
+
+/// Frees the matcher of a handle, which is as zeros then.
+#[unsafe(no_mangle)]
+pub extern "C" fn zugrenja_free(alloc: Global, handle: &mut Handle) -> u32
+    ensures freed { handle.new.slot.value ≡ None }
+    ensures status { (result ≡ 0) ↔ (is_some handle.old.slot.value ≡ true) }
+    ensures no_matcher { (result ≡ 5) ↔ (handle.old.slot.value ≡ None) }
+{
+    if !handle.is_live() {
+        return NO_MATCHER;
+    }
+    drop(handle.take(alloc));
+    GOOD
+}

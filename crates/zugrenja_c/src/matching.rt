@@ -1,0 +1,301 @@
+//! A session whose matcher is built.
+
+ghost use Rattle.std.specs.Prelude.{◌≡◌, ◌≢◌, ◌↔◌, [], ◌∷◌, ◌++◌, None, Some, true, false, replicate, map, length, min, if◌then◌else◌, IfOk, IsSomeAnd, unwrap_or};
+ghost use Rattle.lol_instructions.specs.Tries.{names_counted, attributes_counted};
+ghost use Rattle.lol_matcher.specs.Answering.{with_ended, with_value};
+ghost use Rattle.lol_matcher.specs.declared.error.MatcherError.TheVariants as errors;
+ghost use Rattle.lol_matcher.specs.declared.matcher.Started.TheVariants as answers;
+ghost use Rattle.zugrenja_c.specs.Numbers.{IsOneOf, numbered_namespace, overwritten};
+ghost use Rattle.zugrenja_c.specs.Sessions.{IsAdding, IsMatching, StaysMatching};
+ghost use Rattle.zugrenja_c.specs.Tags.{AreInside, IsFinished, IsFinishRefused, IsStarted, IsStartRefused, given_tag, ids_of, outline_of};
+
+use crate::session::Session;
+use crate::status::{
+    GOOD, NEEDS_ATTRIBUTES, NO_NAMESPACE, NOT_BUILT, NOT_OPENED, OUT_OF_MEMORY, namespace_of,
+    number_of,
+};
+use lol_matcher::{
+    AttributeBuffer, AttributeOutline, AuxStartTagInfo, Bytes, ElementValue, MatchInfo, Range,
+    Started,
+};
+use std::alloc::{AllocError, Global};
+
+/// Where an attribute stands in a text: its name, and its value if it has one.
+#[repr(C)]
+#[derive(Clone, Copy)]
+pub struct AttributePlace {
+    pub name_start: usize,
+    pub name_end: usize,
+    pub value_start: usize,
+    pub value_end: usize,
+    /// 0 if it has no value.
+    pub has_value: u32,
+}
+
+impl AttributePlace {
+    fn outline(&self) -> AttributeOutline
+        ensures { result ≡ outline_of self.now }
+    {
+        let name = Range {
+            start: self.name_start,
+            end: self.name_end,
+        };
+        let value = if self.has_value == 0 {
+            None
+        } else {
+            Some(Range {
+                start: self.value_start,
+                end: self.value_end,
+            })
+        };
+        AttributeOutline {
+            name,
+            value,
+            raw_range: name,
+        }
+    }
+}
+
+fn outlines_of(alloc: Global, places: &[AttributePlace]) -> Result<AttributeBuffer, AllocError>
+    ensures { IfOk result (λ outlines. outlines.items ≡ map outline_of places.now) }
+{
+    let mut outlines = Vec::new(alloc);
+    for place in places {
+        outlines.push(place.outline())?;
+    }
+    Ok(outlines)
+}
+
+impl Session {
+    /// Tells of a start tag.
+    pub(crate) fn start(&mut self, name: &[u8], namespace: u32, matched: &mut usize) -> u32
+        ensures reported { result ≡ 0 → StaysMatching (Some self.old) (Some self.new) (λ m n.
+            IsSomeAnd (numbered_namespace namespace) (λ ns. IsStarted answers.Reported m name.now ns n)
+            × (matched.new ≡ length n.matched)) }
+        ensures asks { result ≡ 1 → StaysMatching (Some self.old) (Some self.new) (λ m n.
+            IsSomeAnd (numbered_namespace namespace) (λ ns. IsStarted answers.NeedsAttributes m name.now ns n)) }
+        ensures limit { result ≡ 12 → StaysMatching (Some self.old) (Some self.new) (λ m n.
+            IsSomeAnd (numbered_namespace namespace) (λ ns.
+            IsStartRefused errors.MemoryLimitExceeded m name.now ns n)) }
+        ensures counter { result ≡ 13 → StaysMatching (Some self.old) (Some self.new) (λ m n.
+            IsSomeAnd (numbered_namespace namespace) (λ ns. IsStartRefused errors.CounterFull m name.now ns n)) }
+        ensures memory { result ≡ 14 → StaysMatching (Some self.old) (Some self.new) (λ m n.
+            IsSomeAnd (numbered_namespace namespace) (λ ns. IsStartRefused errors.Memory m name.now ns n)) }
+        ensures failed { result ≡ 15 → IsMatching (Some self.old) (λ m. m.failed ≡ true) }
+        ensures no_namespace { (result ≡ 11) ↔ (IsMatching (Some self.old) (λ _. numbered_namespace namespace ≡ None)) }
+        ensures not_built { (result ≡ 7) ↔ IsAdding (Some self.old) (λ _. Unit {0}) }
+        ensures no_matcher { result ≢ 5 }
+        ensures statuses { IsOneOf (0 ∷ 1 ∷ 5 ∷ 7 ∷ 11 ∷ 12 ∷ 13 ∷ 14 ∷ 15 ∷ []) result }
+        ensures unchanged { IsOneOf (5 ∷ 7 ∷ 11 ∷ 15 ∷ []) result → self.new ≡ self.old }
+        ensures none { result ≢ 0 → matched.new ≡ 0 }
+    {
+        *matched = 0;
+        let Session::Matching(matcher) = self else {
+            return NOT_BUILT;
+        };
+        let Some(ns) = namespace_of(namespace) else {
+            return NO_NAMESPACE;
+        };
+        match matcher.start(name, ns) {
+            Ok(Started::Reported) => {
+                *matched = matcher.matches().len();
+                GOOD
+            }
+            Ok(Started::NeedsAttributes) => NEEDS_ATTRIBUTES,
+            Err(error) => number_of(error),
+        }
+    }
+
+    /// Hands the attributes over that were asked for.
+    pub(crate) fn finish(
+        &mut self,
+        alloc: Global,
+        text: &[u8],
+        places: &[AttributePlace],
+        self_closing: bool,
+        matched: &mut usize,
+    ) -> u32
+        ensures reported { result ≡ 0 → StaysMatching (Some self.old) (Some self.new) (λ m n.
+            IsSomeAnd m.told.asked (λ asked. IsFinished m (given_tag asked text.now places.now self_closing) n)
+            × AreInside text.now places.now × (matched.new ≡ length n.matched)) }
+        ensures limit { result ≡ 12 → StaysMatching (Some self.old) (Some self.new) (λ m n.
+            IsSomeAnd m.told.asked (λ asked.
+            IsFinishRefused errors.MemoryLimitExceeded m (given_tag asked text.now places.now self_closing) n)) }
+        ensures counter { result ≡ 13 → StaysMatching (Some self.old) (Some self.new) (λ m n.
+            IsSomeAnd m.told.asked (λ asked.
+            IsFinishRefused errors.CounterFull m (given_tag asked text.now places.now self_closing) n)) }
+        ensures memory { result ≡ 14 → StaysMatching (Some self.old) (Some self.new) (λ m n.
+            IsSomeAnd m.told.asked (λ asked.
+            IsFinishRefused errors.Memory m (given_tag asked text.now places.now self_closing) n)) }
+        ensures failed { result ≡ 15 → IsMatching (Some self.old) (λ m. m.failed ≡ true) }
+        ensures not_asked { result ≡ 16 → IsMatching (Some self.old) (λ m.
+            (m.failed ≡ false) × AreInside text.now places.now × (m.told.asked ≡ None)) }
+        ensures outside { result ≡ 17 → IsMatching (Some self.old) (λ m.
+            (m.failed ≡ false) × ¬ (AreInside text.now places.now)) }
+        ensures no_places { result ≡ 4 → IsMatching (Some self.old) (λ _. Unit {0}) }
+        ensures not_built { (result ≡ 7) ↔ IsAdding (Some self.old) (λ _. Unit {0}) }
+        ensures no_matcher { result ≢ 5 }
+        ensures statuses { IsOneOf (0 ∷ 4 ∷ 5 ∷ 7 ∷ 12 ∷ 13 ∷ 14 ∷ 15 ∷ 16 ∷ 17 ∷ []) result }
+        ensures unchanged { IsOneOf (4 ∷ 5 ∷ 7 ∷ 15 ∷ 16 ∷ 17 ∷ []) result → self.new ≡ self.old }
+        ensures none { result ≢ 0 → matched.new ≡ 0 }
+    {
+        *matched = 0;
+        let Session::Matching(matcher) = self else {
+            return NOT_BUILT;
+        };
+        let Ok(outlines) = outlines_of(alloc, places) else {
+            return OUT_OF_MEMORY;
+        };
+        let aux_info = AuxStartTagInfo {
+            input: Bytes::new(text),
+            attr_buffer: &outlines,
+            self_closing,
+        };
+        match matcher.finish(aux_info) {
+            Ok(()) => {
+                *matched = matcher.matches().len();
+                GOOD
+            }
+            Err(error) => number_of(error),
+        }
+    }
+
+    /// Tells of an end tag.
+    pub(crate) fn end(
+        &mut self,
+        alloc: Global,
+        name: &[u8],
+        values: &mut [u64],
+        closed: &mut usize,
+    ) -> u32
+        ensures ended { result ≡ 0 → StaysMatching (Some self.old) (Some self.new) (λ m n. n ≡ with_ended m name.now) }
+        ensures not_built { (result ≡ 7) ↔ IsAdding (Some self.old) (λ _. Unit {0}) }
+        ensures no_matcher { result ≢ 5 }
+        ensures statuses { IsOneOf (0 ∷ 4 ∷ 5 ∷ 7 ∷ []) result }
+        ensures unchanged { result ≢ 0 → self.new ≡ self.old }
+    {
+        let Session::Matching(matcher) = self else {
+            return NOT_BUILT;
+        };
+        let Ok(mut closing) = Closing::new(alloc, values.len()) else {
+            return OUT_OF_MEMORY;
+        };
+        matcher.end_with(
+            name,
+            &mut |element: ElementValue<Option<u64>>| { closing.keep(element.value) },
+        );
+        closing.write(values);
+        *closed = closing.closed;
+        GOOD
+    }
+
+    /// Gives a value to the element that the last tag has opened.
+    pub(crate) fn set_value(&mut self, value: u64) -> u32
+        ensures given { result ≡ 0 → StaysMatching (Some self.old) (Some self.new) (λ m n.
+            (m.opened ≡ true) × (n ≡ record m { kept = with_value (Some value) m.kept })) }
+        ensures not_opened { (result ≡ 18) ↔ IsMatching (Some self.old) (λ m. m.opened ≡ false) }
+        ensures not_built { (result ≡ 7) ↔ IsAdding (Some self.old) (λ _. Unit {0}) }
+        ensures no_matcher { result ≢ 5 }
+        ensures statuses { IsOneOf (0 ∷ 5 ∷ 7 ∷ 18 ∷ []) result }
+        ensures unchanged { result ≢ 0 → self.new ≡ self.old }
+    {
+        let Session::Matching(matcher) = self else {
+            return NOT_BUILT;
+        };
+        if !matcher.has_opened() {
+            return NOT_OPENED;
+        }
+        matcher.replace_value(Some(value));
+        GOOD
+    }
+
+    /// Writes the ids of the last report.
+    pub(crate) fn ids(&self, ids: &mut [u32], matched: &mut usize) -> u32
+        ensures ids { result ≡ 0 → IsMatching (Some self.now) (λ m.
+            (ids.new ≡ overwritten (ids_of m) ids.old) × (matched.new ≡ length m.matched)) }
+        ensures rest { result ≢ 0 → (ids.new ≡ ids.old) × (matched.new ≡ matched.old) }
+        ensures not_built { (result ≡ 7) ↔ IsAdding (Some self.now) (λ _. Unit {0}) }
+        ensures no_matcher { result ≢ 5 }
+        ensures statuses { IsOneOf (0 ∷ 5 ∷ 7 ∷ []) result }
+    {
+        let Session::Matching(matcher) = self else {
+            return NOT_BUILT;
+        };
+        let matches = matcher.matches();
+        *matched = matches.len();
+        write_ids(matches, ids);
+        GOOD
+    }
+
+    /// Writes whether the last tag has opened an element.
+    pub(crate) fn has_opened(&self, opened: &mut u32) -> u32
+        ensures opened { result ≡ 0 → IsMatching (Some self.now) (λ m.
+            opened.new ≡ (if m.opened then 1 else 0)) }
+        ensures rest { result ≢ 0 → opened.new ≡ opened.old }
+        ensures not_built { (result ≡ 7) ↔ IsAdding (Some self.now) (λ _. Unit {0}) }
+        ensures no_matcher { result ≢ 5 }
+        ensures statuses { IsOneOf (0 ∷ 5 ∷ 7 ∷ []) result }
+    {
+        let Session::Matching(matcher) = self else {
+            return NOT_BUILT;
+        };
+        *opened = matcher.has_opened() as u32;
+        GOOD
+    }
+
+    /// Writes how many nodes were tried for the last start tag.
+    pub(crate) fn tries(&self, names: &mut u64, attributes: &mut u64) -> u32
+        ensures tries { result ≡ 0 → IsMatching (Some self.now) (λ m.
+            (names.new ≡ names_counted m.tries) × (attributes.new ≡ attributes_counted m.tries)) }
+        ensures rest { result ≢ 0 → (names.new ≡ names.old) × (attributes.new ≡ attributes.old) }
+        ensures not_built { (result ≡ 7) ↔ IsAdding (Some self.now) (λ _. Unit {0}) }
+        ensures no_matcher { result ≢ 5 }
+        ensures statuses { IsOneOf (0 ∷ 5 ∷ 7 ∷ []) result }
+    {
+        let Session::Matching(matcher) = self else {
+            return NOT_BUILT;
+        };
+        let tries = matcher.tries();
+        *names = tries.names();
+        *attributes = tries.attributes();
+        GOOD
+    }
+}
+
+/// Writes the ids of matches, as far as there is room.
+fn write_ids(matches: &[MatchInfo], ids: &mut [u32])
+    ensures { ids.new ≡ overwritten (map (λ info. info.match_id) matches.now) ids.old }
+{
+    let fitting = matches.len().min(ids.len());
+    for index in 0..fitting {
+        ids[index] = matches[index].match_id;
+    }
+}
+
+/// The values of the elements that an end tag closes, as far as there is room, and how many are closed.
+#[derive(Drop)]
+struct Closing {
+    values: Vec<u64>,
+    closed: usize,
+}
+
+impl Closing {
+    fn new(alloc: Global, room: usize) -> Result<Closing, AllocError> {
+        Ok(Closing {
+            values: Vec::from_elem(alloc, 0, room)?,
+            closed: 0,
+        })
+    }
+
+    fn keep(&mut self, value: Option<u64>) {
+        if let Some(place) = self.values.get_mut(self.closed) {
+            *place = value.unwrap_or(0);
+        }
+        self.closed = self.closed.saturating_add(1);
+    }
+    /// Writes the values of the elements that were closed, as far as there is room.
+    fn write(&self, values: &mut [u64]) {
+        let fitting = self.values.len().min(self.closed).min(values.len());
+        values[..fitting].copy_from_slice(&self.values[..fitting]);
+    }
+}

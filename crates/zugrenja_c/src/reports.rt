@@ -1,0 +1,85 @@
+//! What is answered of the last tag.
+
+ghost use Rattle.std.specs.Prelude.{◌≡◌, ◌≢◌, ◌↔◌, [], ◌∷◌, None, length, if◌then◌else◌};
+ghost use Rattle.lol_instructions.specs.Tries.{names_counted, attributes_counted};
+ghost use Rattle.zugrenja_c.specs.Numbers.{IsOneOf, overwritten};
+ghost use Rattle.zugrenja_c.specs.Sessions.{IsAdding, IsMatching};
+ghost use Rattle.zugrenja_c.specs.Tags.{ids_of};
+
+use crate::handle::Handle;
+use crate::status::NO_MATCHER;
+use std::alloc::Global;
+
+/// The ids that the last start tag was reported under, ascending, as far as there is room, and how many there are.
+#[unsafe(no_mangle)]
+pub extern "C" fn zugrenja_ids(
+    alloc: Global,
+    handle: &mut Handle,
+    ids: &mut [u32],
+    matched: &mut usize,
+) -> u32
+    ensures ids { result ≡ 0 → IsMatching handle.old.slot.value (λ m.
+        (ids.new ≡ overwritten (ids_of m) ids.old) × (matched.new ≡ length m.matched)) }
+    ensures rest { result ≢ 0 → (ids.new ≡ ids.old) × (matched.new ≡ 0) }
+    ensures not_built { (result ≡ 7) ↔ IsAdding handle.old.slot.value (λ _. Unit {0}) }
+    ensures no_matcher { (result ≡ 5) ↔ (handle.old.slot.value ≡ None) }
+    ensures statuses { IsOneOf (0 ∷ 5 ∷ 7 ∷ []) result }
+    ensures same { handle.new.slot.value ≡ handle.old.slot.value }
+{
+    *matched = 0;
+    if !handle.is_live() {
+        return NO_MATCHER;
+    }
+    let session = handle.take(alloc);
+    let status = session.ids(ids, matched);
+    handle.put(session);
+    status
+}
+
+/// Whether the last tag has opened an element: 1, or 0.
+#[unsafe(no_mangle)]
+pub extern "C" fn zugrenja_has_opened(alloc: Global, handle: &mut Handle, opened: &mut u32) -> u32
+    ensures opened { result ≡ 0 → IsMatching handle.old.slot.value (λ m.
+        opened.new ≡ (if m.opened then 1 else 0)) }
+    ensures rest { result ≢ 0 → opened.new ≡ 0 }
+    ensures not_built { (result ≡ 7) ↔ IsAdding handle.old.slot.value (λ _. Unit {0}) }
+    ensures no_matcher { (result ≡ 5) ↔ (handle.old.slot.value ≡ None) }
+    ensures statuses { IsOneOf (0 ∷ 5 ∷ 7 ∷ []) result }
+    ensures same { handle.new.slot.value ≡ handle.old.slot.value }
+{
+    *opened = 0;
+    if !handle.is_live() {
+        return NO_MATCHER;
+    }
+    let session = handle.take(alloc);
+    let status = session.has_opened(opened);
+    handle.put(session);
+    status
+}
+
+/// How many nodes of the selectors' tree were tried for the last start tag, by their names and by their attributes.
+#[unsafe(no_mangle)]
+pub extern "C" fn zugrenja_tries(
+    alloc: Global,
+    handle: &mut Handle,
+    names: &mut u64,
+    attributes: &mut u64,
+) -> u32
+    ensures tries { result ≡ 0 → IsMatching handle.old.slot.value (λ m.
+        (names.new ≡ names_counted m.tries) × (attributes.new ≡ attributes_counted m.tries)) }
+    ensures rest { result ≢ 0 → (names.new ≡ 0) × (attributes.new ≡ 0) }
+    ensures not_built { (result ≡ 7) ↔ IsAdding handle.old.slot.value (λ _. Unit {0}) }
+    ensures no_matcher { (result ≡ 5) ↔ (handle.old.slot.value ≡ None) }
+    ensures statuses { IsOneOf (0 ∷ 5 ∷ 7 ∷ []) result }
+    ensures same { handle.new.slot.value ≡ handle.old.slot.value }
+{
+    *names = 0;
+    *attributes = 0;
+    if !handle.is_live() {
+        return NO_MATCHER;
+    }
+    let session = handle.take(alloc);
+    let status = session.tries(names, attributes);
+    handle.put(session);
+    status
+}
