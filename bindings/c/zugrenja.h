@@ -1,7 +1,12 @@
-/* Zugrenja's program as a C function: which selectors match each start tag of a script of tags.
+/* Zugrenja for C: CSS selectors against the start tags of a document, as its tags come.
 
-   The archive is libzugrenja_c.a (docs/BINDINGS.md). Its contract, proved: `zugrenja_run_script` in
-   crates/zugrenja_c/src/lib.rt. What C owes is said here, and nothing of it can be checked there. */
+   The archive is libzugrenja_c.a (docs/BINDINGS.md). The contract of each function stands, proved, in crates/zugrenja_c/src.
+   What a caller owes is said here, and nothing of it can be checked there:
+   - a handle starts as zeros, changes only by these calls, is never used as two copies, and stays on its thread; other threads may use
+     handles of their own at the same time;
+   - a pointer beside a length points to so many bytes, numbers or structs, or is null where the length is 0; all others aren't null;
+   - what a call writes to overlaps nothing else that it is given.
+   All else is allowed: each call answers a status for whatever numbers and bytes it gets, in whatever order the calls come. */
 #ifndef ZUGRENJA_H
 #define ZUGRENJA_H
 
@@ -12,23 +17,144 @@
 extern "C" {
 #endif
 
-/* How a run ended. */
+/* What a call answers. */
 enum {
-    ZUGRENJA_GOOD = 0,     /* each line was good, and each tag was answered */
-    ZUGRENJA_BAD_LINE = 2, /* a line was bad: the output is its number and the cause */
-    ZUGRENJA_REFUSED = 3,  /* a tag was refused: the output ends with `refused limit` or `refused counter` */
-    ZUGRENJA_OUT_OF_MEMORY = 4
+    ZUGRENJA_GOOD = 0,
+    /* The start tag's attributes are asked for: zugrenja_finish is called next. */
+    ZUGRENJA_NEEDS_ATTRIBUTES = 1,
+    /* zugrenja_run_script alone: a line was bad; a tag was refused. */
+    ZUGRENJA_BAD_LINE = 2,
+    ZUGRENJA_REFUSED = 3,
+    /* Memory was refused, and nothing has changed (but see zugrenja_build). */
+    ZUGRENJA_OUT_OF_MEMORY = 4,
+    /* The handle has no matcher: it is all zeros, or was freed. */
+    ZUGRENJA_NO_MATCHER = 5,
+    /* The handle has a matcher already. */
+    ZUGRENJA_IN_USE = 6,
+    /* The matcher isn't built yet, or is built already. */
+    ZUGRENJA_NOT_BUILT = 7,
+    ZUGRENJA_BUILT = 8,
+    /* The text isn't UTF-8, or isn't accepted as a selector. */
+    ZUGRENJA_NOT_UTF8 = 9,
+    ZUGRENJA_NOT_ACCEPTED = 10,
+    /* No namespace has this number. */
+    ZUGRENJA_NO_NAMESPACE = 11,
+    /* The tag is refused, and each start tag after it: for the memory limit, for a parent with 2,147,483,647 children, for want of memory. */
+    ZUGRENJA_LIMIT = 12,
+    ZUGRENJA_COUNTER = 13,
+    ZUGRENJA_TAG_OUT_OF_MEMORY = 14,
+    /* An earlier start tag was refused. */
+    ZUGRENJA_FAILED = 15,
+    /* No start tag waits for its attributes. */
+    ZUGRENJA_NOT_ASKED = 16,
+    /* A name or a value lies outside the text. A tag that waits still does. */
+    ZUGRENJA_OUTSIDE = 17,
+    /* The last tag has opened no element. */
+    ZUGRENJA_NOT_OPENED = 18
 };
 
-/* Runs a script (docs/SCRIPT.md), and writes the beginning of its output that fits into `out`, whole if it fits.
+/* Namespaces of elements. */
+enum { ZUGRENJA_HTML = 0, ZUGRENJA_SVG = 1, ZUGRENJA_MATHML = 2 };
 
-   script, script_len: the script's bytes; `script` may be null if `script_len` is 0. They aren't kept.
-   out, out_len: where the output goes; `out` may be null if `out_len` is 0. Bytes after the output stay as they were.
-   written: the length of the whole output. If it is greater than `out_len` the rest is lost: call again with so many bytes.
+/* Why a text isn't accepted as a selector. */
+enum {
+    ZUGRENJA_UNEXPECTED_TOKEN = 0,
+    ZUGRENJA_UNEXPECTED_END = 1,
+    ZUGRENJA_MISSING_ATTRIBUTE_NAME = 2,
+    ZUGRENJA_EMPTY_SELECTOR = 3,
+    ZUGRENJA_DANGLING_COMBINATOR = 4,
+    ZUGRENJA_UNEXPECTED_TOKEN_IN_ATTRIBUTE = 5,
+    ZUGRENJA_UNSUPPORTED_PSEUDO_CLASS_OR_ELEMENT = 6,
+    ZUGRENJA_NESTED_NEGATION = 7,
+    ZUGRENJA_NAMESPACED_SELECTOR = 8,
+    ZUGRENJA_INVALID_CLASS_NAME = 9,
+    ZUGRENJA_EMPTY_NEGATION = 10,
+    ZUGRENJA_UNSUPPORTED_COMBINATOR = 11,
+    ZUGRENJA_UNSUPPORTED_SYNTAX = 12
+};
 
-   Returns one of the statuses above. Out of memory, `out` stays as it was and `written` is 0.
-   No two of the three may overlap. No call depends on another, and threads may call at once. Each call gives back what memory it
-   took. */
+/* A handle: `zugrenja_matcher m = {0};`. Its fields are no business of C's. */
+typedef struct zugrenja_matcher {
+    void *at;
+    uint8_t live;
+} zugrenja_matcher;
+
+/* The cause for which a text isn't accepted; for an unsupported combinator, which one, as a code point; and where: the item of the list
+   and the byte offset in the text, both from 0. */
+typedef struct zugrenja_refusal {
+    uint32_t cause;
+    uint32_t combinator;
+    size_t item;
+    size_t offset;
+} zugrenja_refusal;
+
+/* Where an attribute stands in a text: bytes from `start` up to `end`. Without a value `has_value` is 0. */
+typedef struct zugrenja_attribute {
+    size_t name_start;
+    size_t name_end;
+    size_t value_start;
+    size_t value_end;
+    uint32_t has_value;
+} zugrenja_attribute;
+
+/* Makes a matcher without selectors. Its open elements may be charged for at most `max_memory` bytes (SIZE_MAX is no bound), each for
+   `element_bytes` (64 fits most; 0 counts as 1). With `esi` other than 0, `esi:include` and `esi:comment` are void names.
+   GOOD, IN_USE, OUT_OF_MEMORY. The matcher is given back by zugrenja_free alone. */
+uint32_t zugrenja_new(zugrenja_matcher *matcher, size_t max_memory, size_t element_bytes, uint32_t esi);
+
+/* Adds the selectors of a text, a list of them with commas, under an id. Several texts may have one id. The text isn't kept. `refusal` is
+   written if the status is NOT_ACCEPTED alone.
+   GOOD, NOT_ACCEPTED, NOT_UTF8, BUILT, NO_MATCHER, OUT_OF_MEMORY. */
+uint32_t zugrenja_add(zugrenja_matcher *matcher, uint32_t id, const uint8_t *text, size_t text_len, zugrenja_refusal *refusal);
+
+/* Builds the matcher: from now on it is told of tags, and takes no selector.
+   GOOD, BUILT, NO_MATCHER; and OUT_OF_MEMORY: then the matcher is freed, with its selectors. */
+uint32_t zugrenja_build(zugrenja_matcher *matcher);
+
+/* A start tag. GOOD: it is reported under `matched` ids, which zugrenja_ids gives. NEEDS_ATTRIBUTES: it waits for zugrenja_finish, and is
+   dropped by any other call that tells of a tag: then its element counts as a child, and is neither reported nor opened. A tag outside
+   HTML always waits. Names are compared without case. `matched` is 0 with each other status.
+   GOOD, NEEDS_ATTRIBUTES, LIMIT, COUNTER, TAG_OUT_OF_MEMORY, FAILED, NO_NAMESPACE, NOT_BUILT, NO_MATCHER. */
+uint32_t zugrenja_start(zugrenja_matcher *matcher, const uint8_t *name, size_t name_len, uint32_t name_space, size_t *matched);
+
+/* The attributes of the start tag that waits, by their places in `text`, which may be the document itself; with `self_closing` other than 0
+   the tag closes itself, which counts outside HTML. Nothing of it is kept. `matched` is as at zugrenja_start.
+   GOOD, NOT_ASKED, OUTSIDE, LIMIT, COUNTER, TAG_OUT_OF_MEMORY, FAILED, NOT_BUILT, NO_MATCHER, OUT_OF_MEMORY. */
+uint32_t zugrenja_finish(zugrenja_matcher *matcher, const uint8_t *text, size_t text_len, const zugrenja_attribute *attributes,
+                         size_t attributes_len, uint32_t self_closing, size_t *matched);
+
+/* An end tag: the last open element of its name is closed, and all inside it; none if none is open. `closed` is how many are closed.
+   `values` gets the values that they were given, the outermost first, 0 if none was; those for which there is no room are lost. So many
+   as are open are always room enough. Room for none takes no memory.
+   GOOD, NOT_BUILT, NO_MATCHER, OUT_OF_MEMORY. */
+uint32_t zugrenja_end(zugrenja_matcher *matcher, const uint8_t *name, size_t name_len, uint64_t *values, size_t values_len, size_t *closed);
+
+/* Gives a value to the element that the last tag has opened, in the place of the one that it had. It takes no memory.
+   GOOD, NOT_OPENED, NOT_BUILT, NO_MATCHER. */
+uint32_t zugrenja_set_value(zugrenja_matcher *matcher, uint64_t value);
+
+/* The ids that the last tag was reported under, ascending, each once, as far as there is room. `matched` is how many there are: none
+   after an end tag, or where a tag waits or is refused.
+   GOOD, NOT_BUILT, NO_MATCHER. */
+uint32_t zugrenja_ids(zugrenja_matcher *matcher, uint32_t *ids, size_t ids_len, size_t *matched);
+
+/* Whether the last tag has opened its element, which has content then: 1, else 0.
+   GOOD, NOT_BUILT, NO_MATCHER. */
+uint32_t zugrenja_has_opened(zugrenja_matcher *matcher, uint32_t *opened);
+
+/* How many nodes of the selectors' tree were tried for the last start tag, by their names and by their attributes.
+   GOOD, NOT_BUILT, NO_MATCHER. */
+uint32_t zugrenja_tries(zugrenja_matcher *matcher, uint64_t *names, uint64_t *attributes);
+
+/* Frees the matcher. The handle may be used again.
+   GOOD, NO_MATCHER. */
+uint32_t zugrenja_free(zugrenja_matcher *matcher);
+
+/* Runs a script (docs/SCRIPT.md), and writes the beginning of its output that fits into `out`, whole if it fits. Bytes after the output
+   stay as they were. `written` is the length of the whole output: if it is greater than `out_len` the rest is lost, and a call with so many
+   bytes gets it. It needs no handle, and no call depends on another.
+   GOOD, BAD_LINE (the output is the line's number and the cause), REFUSED (the output ends with `refused limit` or `refused counter`),
+   OUT_OF_MEMORY (`out` stays as it was, and `written` is 0). */
 uint32_t zugrenja_run_script(const uint8_t *script, size_t script_len, uint8_t *out, size_t out_len, size_t *written);
 
 #ifdef __cplusplus

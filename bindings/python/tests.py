@@ -5,9 +5,13 @@ import sys
 import unittest
 from pathlib import Path
 
-from zugrenja import Match, Refused, ScriptError, run_script, select
+from zugrenja import Match, Matcher, Refused, ScriptError, SelectorError, TagError, run_script, select
 
-EXAMPLES = Path(__file__).resolve().parent.parent.parent / "examples"
+HERE = Path(__file__).resolve().parent
+EXAMPLES = HERE.parent.parent / "examples"
+sys.path[:0] = [str(HERE.parent), str(HERE / "examples")]
+import cases  # noqa: E402
+import tags  # noqa: E402
 
 
 class RunScript(unittest.TestCase):
@@ -31,6 +35,61 @@ class RunScript(unittest.TestCase):
         self.assertEqual(raised.exception.output, "start\t0/\nrefused limit\n")
 
 
+class StoredCases(unittest.TestCase):
+    def test_are_answered_tag_by_tag(self) -> None:
+        for script, answer, status in cases.cases():
+            with self.subTest(script=script):
+                self.assertEqual(tags.run(script), (answer.decode(), status))
+
+
+class Tags(unittest.TestCase):
+    def test_goes_tag_by_tag(self) -> None:
+        with Matcher(["div > p, div a", "a[href]"]) as matcher:
+            self.assertEqual(matcher.start("div"), ())
+            self.assertEqual(matcher.start("A", {"href": None}), (0, 1))
+            self.assertTrue(matcher.asked and matcher.has_opened)
+            self.assertEqual(matcher.tries(), (4, 1))
+            self.assertTrue(matcher.set_value(2**64 - 1))
+            self.assertEqual(matcher.end("div"), [0, 2**64 - 1])
+            self.assertEqual(matcher.ids, ())
+
+    def test_tag_that_is_dropped(self) -> None:
+        with Matcher(["b:nth-child(2)", "i.a"]) as matcher:
+            self.assertEqual((matcher.start("i", None), matcher.asked), ((), True))
+            self.assertEqual(matcher.start("b"), (0,))
+
+    def test_namespaces(self) -> None:
+        with Matcher(["svg > rect"]) as matcher:
+            matcher.start("svg", namespace="svg")
+            self.assertEqual(matcher.start("rect", namespace="svg", self_closing=True), (0,))
+            self.assertFalse(matcher.has_opened or matcher.set_value(1))
+
+    def test_refusals(self) -> None:
+        matcher = Matcher(["p"], max_memory=0)
+        for reason in ("limit", "an earlier start tag was refused"):
+            with self.assertRaises(TagError) as raised:
+                matcher.start("p")
+            self.assertEqual(raised.exception.reason, reason)
+        with self.assertRaises(TagError):
+            matcher.add(1, "p")
+        matcher.close()
+        matcher.close()
+        with self.assertRaises(TagError) as raised:
+            matcher.start("p")
+        self.assertEqual(raised.exception.reason, "the matcher is closed")
+
+    def test_selectors_that_are_not_accepted(self) -> None:
+        with Matcher() as matcher:
+            with self.assertRaises(SelectorError) as raised:
+                matcher.add(2**32 - 1, "img, a + img")
+            self.assertEqual((raised.exception.cause, raised.exception.item, raised.exception.offset), ("UnsupportedCombinator(+)", 1, 5))
+            for text in (b"\xff", "\udcff"):
+                with self.assertRaises(SelectorError):
+                    matcher.add(0, text)
+            with self.assertRaises(ValueError):
+                matcher.add(2**32, "p")
+
+
 class Select(unittest.TestCase):
     PAGE = '<div>\n<p id="a">x</p>\n<a href="https://b">y</a><br></div>'
 
@@ -38,16 +97,16 @@ class Select(unittest.TestCase):
         self.assertEqual(
             select(self.PAGE, ["div > p", 'a[href^="https:"], br', "#a"]),
             [
-                Match(2, 1, (0, 2), '<p id="a">'),
-                Match(3, 1, (1,), '<a href="https://b">'),
-                Match(3, 26, (1,), "<br>"),
+                Match(2, 1, (0, 2), '<p id="a">', {"id": "a"}),
+                Match(3, 1, (1,), '<a href="https://b">', {"href": "https://b"}),
+                Match(3, 26, (1,), "<br>", {}),
             ],
         )
 
     def test_selector_that_is_not_accepted(self) -> None:
-        with self.assertRaises(ScriptError) as raised:
+        with self.assertRaises(SelectorError) as raised:
             select(self.PAGE, ["p", "p::before"])
-        self.assertEqual(raised.exception.line, 2)
+        self.assertEqual(raised.exception.text, "p::before")
 
     def test_selector_over_two_lines(self) -> None:
         self.assertEqual(len(select(self.PAGE, ["div\n>\tp"])), 1)
@@ -56,6 +115,13 @@ class Select(unittest.TestCase):
         example = Path(__file__).resolve().parent / "examples" / "select.py"
         done = subprocess.run([sys.executable, example, "br"], input=self.PAGE, stdout=subprocess.PIPE, text=True, check=True)
         self.assertEqual(done.stdout, "3:26\t0\t<br>\n")
+
+    def test_example_checks_links(self) -> None:
+        example = Path(__file__).resolve().parent / "examples" / "links.py"
+        page = '<a href="#b">x</a>\n<a name=b href="tests.py">y</a><img src="none.png"><a href="#c">z</a><link href="//c/d">'
+        done = subprocess.run([sys.executable, example, example.parent.parent], input=page, stdout=subprocess.PIPE, stderr=subprocess.PIPE, text=True)
+        self.assertEqual(done.stdout, "2:32\tno such file\tnone.png\n2:52\tno such place in the page\t#c\n")
+        self.assertEqual((done.stderr, done.returncode), ("2 wrong, 1 of other hosts\n", 1))
 
 
 if __name__ == "__main__":

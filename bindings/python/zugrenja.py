@@ -1,14 +1,48 @@
-"""Zugrenja's program from Python, by ctypes over libzugrenja.so (docs/BINDINGS.md says how that is made)."""
+"""Zugrenja from Python, by ctypes over libzugrenja.so (docs/BINDINGS.md says how that is made).
+
+    with Matcher(["main a[href]", "img:not([alt])"]) as matcher:
+        matcher.start("main")
+        matcher.start("a", {"href": "/"})   # (0,)
+        matcher.end("main")
+"""
 
 from __future__ import annotations
 
 import ctypes
 import os
+from collections.abc import Iterable, Mapping
 from html.parser import HTMLParser
 from pathlib import Path
 from typing import NamedTuple
 
-GOOD, BAD_LINE, REFUSED, OUT_OF_MEMORY = 0, 2, 3, 4
+GOOD, NEEDS_ATTRIBUTES, BAD_LINE, REFUSED, OUT_OF_MEMORY, NO_MATCHER = range(6)
+BUILT, NOT_UTF8, NOT_ACCEPTED = 8, 9, 10
+NAMESPACES = {"html": 0, "svg": 1, "mathml": 2}
+CAUSES = (
+    "UnexpectedToken", "UnexpectedEnd", "MissingAttributeName", "EmptySelector", "DanglingCombinator", "UnexpectedTokenInAttribute",
+    "UnsupportedPseudoClassOrElement", "NestedNegation", "NamespacedSelector", "InvalidClassName", "EmptyNegation",
+    "UnsupportedCombinator", "UnsupportedSyntax",
+)
+REASONS = {
+    5: "the matcher is closed", 7: "the matcher isn't built", 8: "selectors come before the first tag", 12: "limit", 13: "counter",
+    15: "an earlier start tag was refused",
+}
+
+
+class SelectorError(ValueError):
+    """A text isn't accepted as a selector: the cause, and where, as the item of the list and the byte offset, both from 0."""
+
+    def __init__(self, text: str, cause: str, item: int, offset: int) -> None:
+        super().__init__(f"{cause} (item {item}, byte {offset}) in {text!r}")
+        self.text, self.cause, self.item, self.offset = text, cause, item, offset
+
+
+class TagError(RuntimeError):
+    """A tag wasn't answered: its reason is `limit` or `counter` for one that is refused, after which no start tag is answered."""
+
+    def __init__(self, status: int) -> None:
+        self.status, self.reason = status, REASONS.get(status, f"status {status}")
+        super().__init__(self.reason)
 
 
 class ScriptError(ValueError):
@@ -28,25 +62,191 @@ class Refused(RuntimeError):
 
 
 class Match(NamedTuple):
-    """A start tag that selectors match: its place in the page, both from 1, the selectors' numbers, and its text."""
+    """A start tag that selectors match: its place in the page, both from 1, the selectors' numbers, its text and its attributes."""
 
     line: int
     column: int
     selectors: tuple[int, ...]
     tag: str
+    attributes: dict[str, str | None]
+
+
+class _Handle(ctypes.Structure):
+    _fields_ = [("at", ctypes.c_void_p), ("live", ctypes.c_uint8)]
+
+
+class _Refusal(ctypes.Structure):
+    _fields_ = [("cause", ctypes.c_uint32), ("combinator", ctypes.c_uint32), ("item", ctypes.c_size_t), ("offset", ctypes.c_size_t)]
+
+
+class _Attribute(ctypes.Structure):
+    _fields_ = [
+        ("name_start", ctypes.c_size_t), ("name_end", ctypes.c_size_t), ("value_start", ctypes.c_size_t),
+        ("value_end", ctypes.c_size_t), ("has_value", ctypes.c_uint32),
+    ]
 
 
 def _library() -> ctypes.CDLL:
     path = os.environ.get("ZUGRENJA_LIBRARY", Path(__file__).parent / "libzugrenja.so")
     library = ctypes.CDLL(str(path))
-    library.zugrenja_run_script.restype = ctypes.c_uint32
-    library.zugrenja_run_script.argtypes = [
-        ctypes.c_char_p, ctypes.c_size_t, ctypes.c_char_p, ctypes.c_size_t, ctypes.POINTER(ctypes.c_size_t)
-    ]
+    number, size, text, out = ctypes.c_uint32, ctypes.c_size_t, ctypes.c_char_p, ctypes.c_void_p
+    for name, arguments in {
+        "new": [out, size, size, number],
+        "add": [out, number, text, size, out],
+        "build": [out],
+        "start": [out, text, size, number, out],
+        "finish": [out, text, size, out, size, number, out],
+        "end": [out, text, size, out, size, out],
+        "set_value": [out, ctypes.c_uint64],
+        "ids": [out, out, size, out],
+        "has_opened": [out, out],
+        "tries": [out, out, out],
+        "free": [out],
+        "run_script": [text, size, text, size, out],
+    }.items():
+        call = getattr(library, f"zugrenja_{name}")
+        call.restype, call.argtypes = number, arguments
     return library
 
 
 _LIBRARY = _library()
+
+
+def _bytes(text: str | bytes) -> bytes:
+    return text if isinstance(text, bytes) else text.encode("utf-8", "surrogateescape")
+
+
+class Matcher:
+    """Matches selectors against the start tags of a document, as its tags come. It is built by the first tag.
+
+    A list of selectors gets the ids 0, 1, .. Close it by `close`, or use it in a `with` block. It stays on its thread.
+    """
+
+    def __init__(
+        self, selectors: Iterable[str] = (), *, max_memory: int | None = None, element_bytes: int = 64, esi: bool = False
+    ) -> None:
+        self._handle, self._built, self._open = _Handle(), False, 0
+        self._at = ctypes.addressof(self._handle)
+        limit = ctypes.c_size_t(-1).value if max_memory is None else max_memory
+        self._check(_LIBRARY.zugrenja_new(self._at, limit, element_bytes, esi))
+        self._count, self._opened = ctypes.c_size_t(), ctypes.c_uint32()
+        self.ids: tuple[int, ...] = ()
+        self.asked = False
+        for number, selector in enumerate(selectors):
+            self.add(number, selector)
+
+    def __enter__(self) -> Matcher:
+        return self
+
+    def __exit__(self, *_error: object) -> None:
+        self.close()
+
+    def __del__(self) -> None:
+        if getattr(self, "_at", None) and _LIBRARY:
+            self.close()
+
+    def close(self) -> None:
+        """Frees the matcher; a second time it does nothing."""
+        _LIBRARY.zugrenja_free(self._at)
+
+    @staticmethod
+    def _check(status: int) -> None:
+        if status in (OUT_OF_MEMORY, 14):
+            raise MemoryError
+        if status != GOOD:
+            raise TagError(status)
+
+    def add(self, id: int, selector: str | bytes) -> None:
+        """Adds the selectors of a text, a list of them with commas, under an id below 2 ** 32. Before the first tag.
+
+        Raises SelectorError with cause and place, TagError after the first tag, and MemoryError.
+        """
+        if not 0 <= id < 1 << 32:
+            raise ValueError(f"no id: {id}")
+        text, refusal = _bytes(selector), _Refusal()
+        status = _LIBRARY.zugrenja_add(self._at, id, text, len(text), ctypes.addressof(refusal))
+        if status == NOT_UTF8:
+            raise SelectorError(str(selector), "not UTF-8", 0, 0)
+        if status == NOT_ACCEPTED:
+            combinator = f"({chr(refusal.combinator)})" if refusal.combinator else ""
+            raise SelectorError(str(selector), CAUSES[refusal.cause] + combinator, refusal.item, refusal.offset)
+        self._check(status)
+
+    def _begin(self) -> None:
+        if not self._built:
+            self._check(_LIBRARY.zugrenja_build(self._at))
+            self._built = True
+
+    def start(
+        self,
+        name: str | bytes,
+        attributes: Mapping[str, str | None] | Iterable[tuple[str | bytes, str | bytes | None]] | None = (),
+        namespace: str = "html",
+        self_closing: bool = False,
+    ) -> tuple[int, ...]:
+        """A start tag: the ids that it is reported under, ascending.
+
+        With `None` for attributes they aren't handed over: if they are asked for (`asked`), the tag is dropped by the next one.
+        Raises TagError if the tag is refused, and MemoryError.
+        """
+        self._begin()
+        self.ids, self._opened.value = (), 0
+        tag = _bytes(name)
+        status = _LIBRARY.zugrenja_start(self._at, tag, len(tag), NAMESPACES[namespace], ctypes.addressof(self._count))
+        self.asked = status == NEEDS_ATTRIBUTES
+        if self.asked:
+            if attributes is None:
+                return ()
+            status = self._finish(attributes, self_closing)
+        self._check(status)
+        _LIBRARY.zugrenja_has_opened(self._at, ctypes.addressof(self._opened))
+        self._open += self._opened.value
+        if matched := self._count.value:
+            ids = (ctypes.c_uint32 * matched)()
+            _LIBRARY.zugrenja_ids(self._at, ctypes.addressof(ids), matched, ctypes.addressof(self._count))
+            self.ids = tuple(ids)
+        return self.ids
+
+    def _finish(self, attributes: Mapping | Iterable, self_closing: bool) -> int:
+        given = list(attributes.items() if isinstance(attributes, Mapping) else attributes)
+        places, text = (_Attribute * len(given))(), bytearray()
+        for place, (name, value) in zip(places, given):
+            place.name_start = len(text)
+            text += _bytes(name)
+            place.name_end = place.value_start = len(text)
+            text += _bytes(value or "")
+            place.value_end, place.has_value = len(text), value is not None
+        return _LIBRARY.zugrenja_finish(
+            self._at, bytes(text), len(text), ctypes.addressof(places), len(given), self_closing, ctypes.addressof(self._count)
+        )
+
+    @property
+    def has_opened(self) -> bool:
+        """Whether the last tag opened its element, which has content then."""
+        return bool(self._opened.value)
+
+    def set_value(self, value: int) -> bool:
+        """Gives a number below 2 ** 64 to the element that the last tag opened. Returns whether it opened one."""
+        return _LIBRARY.zugrenja_set_value(self._at, value) == GOOD
+
+    def tries(self) -> tuple[int, int]:
+        """How many nodes were tried for the last start tag, by their names and by their attributes."""
+        names, attributes = ctypes.c_uint64(), ctypes.c_uint64()
+        _LIBRARY.zugrenja_tries(self._at, ctypes.addressof(names), ctypes.addressof(attributes))
+        return names.value, attributes.value
+
+    def end(self, name: str | bytes) -> list[int]:
+        """An end tag: the values of the elements that it closes, the outermost first, 0 if none was given. Raises MemoryError."""
+        self._begin()
+        tag, values = _bytes(name), (ctypes.c_uint64 * self._open)()
+        status = _LIBRARY.zugrenja_end(
+            self._at, tag, len(tag), ctypes.addressof(values), self._open, ctypes.addressof(self._count)
+        )
+        self._check(status)
+        closed = min(self._count.value, self._open)
+        self._open -= closed
+        self.ids, self._opened.value = (), 0
+        return values[:closed]
 
 
 def run_script(script: bytes) -> str:
@@ -58,7 +258,7 @@ def run_script(script: bytes) -> str:
     room = len(script) + 64
     while True:
         out = ctypes.create_string_buffer(room)
-        status = _LIBRARY.zugrenja_run_script(script, len(script), out, room, ctypes.byref(written))
+        status = _LIBRARY.zugrenja_run_script(script, len(script), out, room, ctypes.addressof(written))
         if written.value <= room:
             break
         room = written.value
@@ -73,44 +273,30 @@ def run_script(script: bytes) -> str:
     return text
 
 
-def _field(text: str) -> str:
-    """A text as one field of a script line: TAB and the ends of lines become spaces."""
-    return text.translate({9: 32, 10: 32, 13: 32})
+class _Selecting(HTMLParser):
+    """Tells a matcher of the tags of a page, all of them in the HTML namespace, and keeps what matches."""
 
-
-class _Tags(HTMLParser):
-    """The tags of a page as script lines, all of them in the HTML namespace, with their places."""
-
-    def __init__(self) -> None:
+    def __init__(self, matcher: Matcher) -> None:
         super().__init__(convert_charrefs=True)
-        self.lines: list[str] = []
-        self.starts: list[tuple[int, int, str] | None] = []
+        self.matcher, self.matches = matcher, []
 
     def handle_starttag(self, tag: str, attrs: list[tuple[str, str | None]]) -> None:
-        fields = [_field(f"{name}={value or ''}") for name, value in attrs if name]
-        self.lines.append("\t".join(["start", "html", tag, *fields]))
-        line, column = self.getpos()
-        self.starts.append((line, column + 1, self.get_starttag_text() or ""))
+        if ids := self.matcher.start(tag, attrs):
+            line, column = self.getpos()
+            self.matches.append(Match(line, column + 1, ids, self.get_starttag_text() or "", dict(attrs)))
 
     def handle_endtag(self, tag: str) -> None:
-        self.lines.append(f"end\t{tag}")
-        self.starts.append(None)
+        self.matcher.end(tag)
 
 
-def select(html: str, selectors: list[str]) -> list[Match]:
+def select(html: str, selectors: Iterable[str]) -> list[Match]:
     """The start tags of a page that selectors match, in their order.
 
     Python's html.parser reads the page: tags that a browser would add or move stay as they are written.
-    Raises ScriptError for a selector that isn't accepted: `line` is its number, from 1.
+    Raises SelectorError for a selector that isn't accepted.
     """
-    tags = _Tags()
-    tags.feed(html)
-    tags.close()
-    lines = [f"select\t{number}\t{selector.replace(chr(10), ' ')}" for number, selector in enumerate(selectors)] + tags.lines
-    output = run_script(("\n".join(lines) + "\n").encode()) if lines else ""
-    matches = []
-    for start, answer in zip(tags.starts, output.splitlines()):
-        ids = answer.split("\t")[1].rstrip("/")
-        if start and ids != "-":
-            matches.append(Match(start[0], start[1], tuple(map(int, ids.replace("/", "").split(","))), start[2]))
-    return matches
+    with Matcher(selectors) as matcher:
+        selecting = _Selecting(matcher)
+        selecting.feed(html)
+        selecting.close()
+        return selecting.matches

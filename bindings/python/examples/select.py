@@ -7,14 +7,14 @@ import sys
 from pathlib import Path
 
 sys.path.insert(0, str(Path(__file__).resolve().parent.parent))
-from zugrenja import ScriptError, select  # noqa: E402
+from zugrenja import SelectorError, select  # noqa: E402
 
 
 def main() -> None:
     try:
         matches = select(sys.stdin.read(), sys.argv[1:])
-    except ScriptError as error:
-        sys.exit(f"selector {error.line}: {error.cause}")
+    except SelectorError as error:
+        sys.exit(str(error))
     for match in matches:
         print(f"{match.line}:{match.column}\t{','.join(map(str, match.selectors))}\t{match.tag}")
 

@@ -1,0 +1,210 @@
+/* Random calls in random order on a hundred handles: random_calls COUNT SEED. Each status is one that the model of the handle allows. */
+#include "zugrenja.h"
+#include <assert.h>
+#include <stdio.h>
+#include <stdlib.h>
+#include <string.h>
+
+enum { HANDLES = 100, ROOM = 8 };
+
+/* What is known of a handle. */
+typedef struct {
+    zugrenja_matcher matcher;
+    enum { NONE, ADDING, BUILT } stage;
+    int failed, waits, opened;
+    size_t open, matched;
+} model;
+
+static uint64_t state;
+
+static uint32_t draw(uint32_t below) {
+    state = state * 6364136223846793005u + 1442695040888963407u;
+    return (uint32_t)(state >> 33) % below;
+}
+
+static const char *const TEXTS[] = {"div", "p", "div > p", "a[href]", "*", "p:nth-child(2)", ".b", "#c, div a", "a + b", "", "[", "svg|a",
+                                    "p::before", "\xff\xfe", ":not(p)", "div p a b", "a:nth-of-type(odd)"};
+static const char *const NAMES[] = {"div", "p", "a", "br", "DIV", "svg", "rect", "", "b", "i"};
+
+typedef struct {
+    const uint8_t *bytes;
+    size_t len;
+} text;
+
+/* One of some words, or null, or random bytes. */
+static text word(const char *const *words, uint32_t count) {
+    static uint8_t noise[64];
+    uint32_t kind = draw(20);
+    if (kind == 0) {
+        return (text){NULL, 0};
+    }
+    if (kind == 1) {
+        size_t len = draw(sizeof noise);
+        for (size_t place = 0; place < len; place++) {
+            noise[place] = (uint8_t)draw(256);
+        }
+        return (text){noise, len};
+    }
+    const char *chosen = words[draw(count)];
+    return (text){(const uint8_t *)chosen, strlen(chosen)};
+}
+
+static void call_new(model *m) {
+    size_t limits[] = {SIZE_MAX, SIZE_MAX, 100000, 512, 0};
+    size_t bytes[] = {64, 0, 1, SIZE_MAX, 1000};
+    uint32_t status = zugrenja_new(&m->matcher, limits[draw(5)], bytes[draw(5)], draw(3));
+    assert(status == (m->stage == NONE ? ZUGRENJA_GOOD : ZUGRENJA_IN_USE));
+    if (status == ZUGRENJA_GOOD) {
+        m->stage = ADDING;
+        m->failed = m->waits = m->opened = 0;
+        m->open = m->matched = 0;
+    }
+}
+
+static void call_add(model *m) {
+    zugrenja_refusal refusal = {99, 99, 99, 99};
+    text t = word(TEXTS, sizeof TEXTS / sizeof *TEXTS);
+    uint32_t status = zugrenja_add(&m->matcher, draw(300), t.bytes, t.len, &refusal);
+    if (m->stage != ADDING) {
+        assert(status == (m->stage == NONE ? ZUGRENJA_NO_MATCHER : ZUGRENJA_BUILT));
+    } else {
+        assert(status == ZUGRENJA_GOOD || status == ZUGRENJA_NOT_UTF8 || status == ZUGRENJA_NOT_ACCEPTED);
+    }
+    assert(status == ZUGRENJA_NOT_ACCEPTED ? refusal.cause <= ZUGRENJA_UNSUPPORTED_SYNTAX && refusal.offset <= t.len : refusal.cause == 99);
+}
+
+static void call_build(model *m) {
+    uint32_t status = zugrenja_build(&m->matcher);
+    assert(status == (m->stage == NONE ? ZUGRENJA_NO_MATCHER : m->stage == BUILT ? ZUGRENJA_BUILT : ZUGRENJA_GOOD));
+    if (status == ZUGRENJA_GOOD) {
+        m->stage = BUILT;
+    }
+}
+
+/* Whether a call was answered as in a stage before the matcher is built. */
+static int is_early(const model *m, uint32_t status) {
+    if (m->stage != BUILT) {
+        assert(status == (m->stage == NONE ? ZUGRENJA_NO_MATCHER : ZUGRENJA_NOT_BUILT));
+    }
+    return m->stage != BUILT;
+}
+
+/* Notes what became of a start tag. */
+static void note(model *m, uint32_t status, size_t matched) {
+    uint32_t opened;
+    m->waits = status == ZUGRENJA_NEEDS_ATTRIBUTES;
+    m->failed = m->failed || (status >= ZUGRENJA_LIMIT && status <= ZUGRENJA_TAG_OUT_OF_MEMORY);
+    m->matched = matched;
+    assert(zugrenja_has_opened(&m->matcher, &opened) == ZUGRENJA_GOOD && opened <= (status == ZUGRENJA_GOOD));
+    m->opened = (int)opened;
+    m->open += opened;
+}
+
+static void call_start(model *m) {
+    size_t matched = 99;
+    text name = word(NAMES, sizeof NAMES / sizeof *NAMES);
+    uint32_t name_space = draw(8) ? draw(2) : draw(2) ? UINT32_MAX : 2 + draw(3);
+    uint32_t status = zugrenja_start(&m->matcher, name.bytes, name.len, name_space, &matched);
+    assert(status == ZUGRENJA_GOOD || matched == 0);
+    if (is_early(m, status)) {
+        return;
+    }
+    if (name_space > ZUGRENJA_MATHML) {
+        assert(status == ZUGRENJA_NO_NAMESPACE);
+        return;
+    }
+    assert((status == ZUGRENJA_FAILED) == m->failed);
+    if (m->failed) {
+        return;
+    }
+    assert(status <= ZUGRENJA_NEEDS_ATTRIBUTES || status == ZUGRENJA_LIMIT || status == ZUGRENJA_COUNTER);
+    note(m, status, matched);
+}
+
+static void call_finish(model *m) {
+    static const uint8_t TEXT[] = "href=page class='b' id=c";
+    zugrenja_attribute places[] = {{0, 4, 5, 9, 1}, {10, 15, 17, 18, 1}, {20, 22, 23, 24, 7}, {0, 1, 9, 0, 0}, {0, 4, 5, 99, 1}, {9, SIZE_MAX, 0, 0, 0}};
+    size_t first = draw(6), count = draw((uint32_t)(6 - first) + 1), matched = 99;
+    int outside = first + count > 4 && count > 0;
+    uint32_t status = zugrenja_finish(&m->matcher, TEXT, sizeof TEXT - 1, count ? places + first : NULL, count, draw(3), &matched);
+    assert(status == ZUGRENJA_GOOD || matched == 0);
+    if (is_early(m, status)) {
+        return;
+    }
+    if (m->failed || outside || !m->waits) {
+        assert(status == (m->failed ? ZUGRENJA_FAILED : outside ? ZUGRENJA_OUTSIDE : ZUGRENJA_NOT_ASKED));
+        return;
+    }
+    assert(status == ZUGRENJA_GOOD || status == ZUGRENJA_LIMIT || status == ZUGRENJA_COUNTER);
+    note(m, status, matched);
+}
+
+static void call_end(model *m) {
+    uint64_t values[ROOM];
+    size_t room = draw(ROOM + 1), closed = 99;
+    text name = word(NAMES, sizeof NAMES / sizeof *NAMES);
+    uint32_t status = zugrenja_end(&m->matcher, name.bytes, name.len, room ? values : NULL, room, &closed);
+    if (is_early(m, status)) {
+        assert(closed == 0);
+        return;
+    }
+    assert(status == ZUGRENJA_GOOD && closed <= m->open);
+    for (size_t place = 0; place < closed && place < room; place++) {
+        assert(values[place] == 0 || (values[place] >> 32) == 7);
+    }
+    m->open -= closed;
+    m->waits = m->opened = 0;
+    m->matched = 0;
+}
+
+static void call_report(model *m) {
+    uint32_t ids[ROOM] = {0};
+    size_t room = draw(ROOM + 1), matched = 99;
+    uint64_t names = 99, attributes = 99;
+    uint32_t status = zugrenja_ids(&m->matcher, room ? ids : NULL, room, &matched);
+    assert(zugrenja_tries(&m->matcher, &names, &attributes) == status);
+    if (is_early(m, status)) {
+        assert(matched == 0 && names == 0 && attributes == 0);
+        return;
+    }
+    assert(status == ZUGRENJA_GOOD && matched == m->matched);
+    for (size_t place = 1; place < matched && place < room; place++) {
+        assert(ids[place - 1] < ids[place]);
+    }
+}
+
+static void call_value(model *m) {
+    uint32_t status = zugrenja_set_value(&m->matcher, (7ull << 32) + draw(1000));
+    if (!is_early(m, status)) {
+        assert(status == (m->opened ? ZUGRENJA_GOOD : ZUGRENJA_NOT_OPENED));
+    }
+}
+
+static void call_free(model *m) {
+    assert(zugrenja_free(&m->matcher) == (m->stage == NONE ? ZUGRENJA_NO_MATCHER : ZUGRENJA_GOOD));
+    m->stage = NONE;
+}
+
+int main(int argc, char **argv) {
+    static void (*const CALLS[])(model *) = {call_new, call_add, call_build, call_start, call_finish, call_end, call_report, call_value};
+    static model models[HANDLES];
+    unsigned long count = argc > 1 ? strtoul(argv[1], NULL, 10) : 100000;
+    state = argc > 2 ? strtoull(argv[2], NULL, 10) : 1;
+    for (unsigned long call = 0; call < count; call++) {
+        model *m = &models[draw(HANDLES)];
+        uint32_t kind = draw(300);
+        if (kind == 0) {
+            call_free(m);
+        } else if (kind < 3 && m->stage == ADDING) {
+            call_build(m);
+        } else {
+            uint32_t chosen = draw(m->stage == ADDING && draw(40) ? 2 : 12);
+            CALLS[chosen < 8 ? chosen : 3 + chosen % 2](m);
+        }
+    }
+    for (int place = 0; place < HANDLES; place++) {
+        call_free(&models[place]);
+        assert(zugrenja_free(&models[place].matcher) == ZUGRENJA_NO_MATCHER);
+    }
+    printf("%lu random calls, seed %s: all as the model allows\n", count, argc > 2 ? argv[2] : "1");
+}
