@@ -2,3 +2,4 @@ pub mod Boxes
 pub mod AsBox
 pub mod Statuses
 pub mod Buffers
+pub mod Closings

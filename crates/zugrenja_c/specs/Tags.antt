@@ -1,5 +1,5 @@
 -- What the calls of a handle do that tell of tags.
-use Rattle.std.specs.Prelude.{ℕ, ◌≡◌, Bool, true, false, nat_eq, List, [], ◌∷◌, ◌++◌, map, length, drop, All, Some, None, unwrap_or, if◌then◌else◌}
+use Rattle.std.specs.Prelude.{Option, ◌-◌, ◌^◌, min, replicate, ℕ, drop, unwrap_or, ◌≡◌, Bool, true, false, nat_eq, List, [], ◌∷◌, ◌++◌, map, length, All, Some, None, if◌then◌else◌}
 use Rattle.lol_base.specs.StartTags.{StartTag, attribute_of, OutlineIsInside}
 use Rattle.lol_base.specs.declared.namespace.Namespace.{Namespace}
 use Rattle.lol_base.specs.declared.start_tag.AttributeOutline.{AttributeOutline}
@@ -12,7 +12,10 @@ use Rattle.lol_matcher.specs.Refusing.{Fits, RefusesFinish, RefusesStart, refusa
 use Rattle.lol_matcher.specs.Told.{Told, Matching}
 use Rattle.lol_matcher.specs.declared.error.MatcherError.{MatcherError}
 use Rattle.lol_matcher.specs.declared.matcher.Started.{Started}
+use Rattle.lol_stack.specs.declared.element_value.ElementValue.{ElementValue}
+use Rattle.zugrenja_c.specs.Numbers.{overwritten}
 use Rattle.zugrenja_c.specs.declared.matching.AttributePlace.{AttributePlace}
+use Rattle.zugrenja_c.specs.declared.closing.Closing.{Closing}
 
 -- ---- start tags
 
@@ -72,9 +75,22 @@ pub record IsFinishRefused (error : MatcherError) (old : Matching ℕ) (tag : St
 
 -- ---- end tags
 
--- the values of the elements that an end tag closes, the outermost first, 0 where none was given
+-- the value of an element, 0 where none was given
+abbrev pub value_of : ElementValue (Option ℕ) → ℕ
+value_of element = unwrap_or element.value 0
+
+-- what was kept of the elements that an end tag closes, the outermost first
+abbrev pub closed_elements : Matching ℕ → List ℕ → List (ElementValue (Option ℕ))
+closed_elements m name = drop (length (open_after name m.open_elements)) m.kept
+
+-- their values
 abbrev pub closed_values : Matching ℕ → List ℕ → List ℕ
-closed_values m name = map (λ element. unwrap_or element.value 0) (drop (length (open_after name m.open_elements)) m.kept)
+closed_values m name = map value_of (closed_elements m name)
+
+-- what is kept once these elements were closed: their values as far as there is room, and how many they are
+pub record HasClosed (room : ℕ) (elements : List (ElementValue (Option ℕ))) (closing : Closing) : Type 0 where
+  pub closed : closing.closed ≡ min (length elements) (2 ^ 64 - 1)
+  pub values : closing.values.items ≡ overwritten (map value_of elements) (replicate room 0)
 
 -- ---- reports
 

@@ -1,6 +1,7 @@
 //! The program for callers in C, as a static library: bindings/c/zugrenja.h declares what is here.
 #![tactic(auto)]
 
+mod closing;
 mod handle;
 #[cfg(test)]
 mod handle_tests;

@@ -1,22 +1,24 @@
 //! A session whose matcher is built.
 
-ghost use Rattle.std.specs.Prelude.{◌≡◌, ◌≢◌, ◌↔◌, [], ◌∷◌, ◌++◌, None, Some, true, false, replicate, map, length, min, if◌then◌else◌, IfOk, IsSomeAnd, unwrap_or};
+ghost use Rattle.std.specs.Prelude.{ℕ, List, Option, ◌++◌, min, ◌≡◌, ◌≢◌, ◌↔◌, [], ◌∷◌, None, Some, true, false, replicate, map, length, if◌then◌else◌, IfOk, IsSomeAnd, unwrap_or};
 ghost use Rattle.lol_instructions.specs.Tries.{names_counted, attributes_counted};
+ghost use Rattle.lol_stack.specs.declared.element_value.ElementValue.{ElementValue};
 ghost use Rattle.lol_matcher.specs.Answering.{with_ended, with_value};
 ghost use Rattle.lol_matcher.specs.declared.error.MatcherError.TheVariants as errors;
 ghost use Rattle.lol_matcher.specs.declared.matcher.Started.TheVariants as answers;
 ghost use Rattle.zugrenja_c.specs.Numbers.{IsOneOf, numbered_namespace, overwritten};
 ghost use Rattle.zugrenja_c.specs.Sessions.{IsAdding, IsMatching, StaysMatching};
-ghost use Rattle.zugrenja_c.specs.Tags.{AreInside, IsFinished, IsFinishRefused, IsStarted, IsStartRefused, given_tag, ids_of, outline_of};
+ghost use Rattle.zugrenja_c.specs.Tags.{AreInside, HasClosed, closed_elements, IsFinished, IsFinishRefused, IsStarted, IsStartRefused, closed_values, given_tag, ids_of, outline_of};
 
+use crate::closing::Closing;
 use crate::session::Session;
 use crate::status::{
     GOOD, NEEDS_ATTRIBUTES, NO_NAMESPACE, NOT_BUILT, NOT_OPENED, OUT_OF_MEMORY, namespace_of,
     number_of,
 };
 use lol_matcher::{
-    AttributeBuffer, AttributeOutline, AuxStartTagInfo, Bytes, ElementValue, MatchInfo, Range,
-    Started,
+    AttributeBuffer, AttributeOutline, AuxStartTagInfo, Bytes, ElementValue, MatchInfo, Matcher,
+    Range, Started,
 };
 use std::alloc::{AllocError, Global};
 
@@ -169,6 +171,11 @@ impl Session {
         closed: &mut usize,
     ) -> u32
         ensures ended { result ≡ 0 → StaysMatching (Some self.old) (Some self.new) (λ m n. n ≡ with_ended m name.now) }
+        ensures values { result ≡ 0 → IsMatching (Some self.old) (λ m.
+            values.new ≡ overwritten (closed_values m name.now) values.old) }
+        ensures closed { result ≡ 0 → IsMatching (Some self.old) (λ m.
+            closed.new ≡ min (length (closed_values m name.now)) usize.MAX) }
+        ensures none { result ≢ 0 → (values.new ≡ values.old) × (closed.new ≡ closed.old) }
         ensures not_built { (result ≡ 7) ↔ IsAdding (Some self.old) (λ _. Unit {0}) }
         ensures no_matcher { result ≢ 5 }
         ensures statuses { IsOneOf (0 ∷ 4 ∷ 5 ∷ 7 ∷ []) result }
@@ -180,12 +187,9 @@ impl Session {
         let Ok(mut closing) = Closing::new(alloc, values.len()) else {
             return OUT_OF_MEMORY;
         };
-        matcher.end_with(
-            name,
-            &mut |element: ElementValue<Option<u64>>| { closing.keep(element.value) },
-        );
+        close(matcher, name, &mut closing);
         closing.write(values);
-        *closed = closing.closed;
+        *closed = closing.closed();
         GOOD
     }
 
@@ -272,30 +276,18 @@ fn write_ids(matches: &[MatchInfo], ids: &mut [u32])
     }
 }
 
-/// The values of the elements that an end tag closes, as far as there is room, and how many are closed.
-#[derive(Drop)]
-struct Closing {
-    values: Vec<u64>,
-    closed: usize,
-}
-
-impl Closing {
-    fn new(alloc: Global, room: usize) -> Result<Closing, AllocError> {
-        Ok(Closing {
-            values: Vec::from_elem(alloc, 0, room)?,
-            closed: 0,
-        })
-    }
-
-    fn keep(&mut self, value: Option<u64>) {
-        if let Some(place) = self.values.get_mut(self.closed) {
-            *place = value.unwrap_or(0);
-        }
-        self.closed = self.closed.saturating_add(1);
-    }
-    /// Writes the values of the elements that were closed, as far as there is room.
-    fn write(&self, values: &mut [u64]) {
-        let fitting = self.values.len().min(self.closed).min(values.len());
-        values[..fitting].copy_from_slice(&self.values[..fitting]);
-    }
+/// Tells a matcher of an end tag, and keeps the values of the elements that it closes.
+fn close(matcher: &mut Matcher<u64>, name: &[u8], closing: &mut Closing)
+    ensures ended { matcher.new ≡ with_ended matcher.old name.now }
+    ensures closed { (room : ℕ) → HasClosed room [] closing.old
+        → HasClosed room (closed_elements matcher.old name.now) closing.new }
+{
+    let mut handler = |element: ElementValue<Option<u64>>|
+        ensures { (room : ℕ) (elements : List (ElementValue (Option ℕ)))
+            → HasClosed room elements closing.entry.now
+            → HasClosed room (elements ++ element ∷ []) closing.exit.now }
+    {
+        closing.keep(element);
+    };
+    matcher.end_with(name, &mut handler);
 }

@@ -1,12 +1,12 @@
 //! What is told of a document's tags.
 
-ghost use Rattle.std.specs.Prelude.{◌≡◌, ◌≢◌, ◌↔◌, [], ◌∷◌, None, Some, true, false, length, IsSomeAnd};
+ghost use Rattle.std.specs.Prelude.{min, ◌≡◌, ◌≢◌, ◌↔◌, [], ◌∷◌, None, Some, true, false, length, IsSomeAnd};
 ghost use Rattle.lol_matcher.specs.Answering.{with_ended, with_value};
 ghost use Rattle.lol_matcher.specs.declared.error.MatcherError.TheVariants as errors;
 ghost use Rattle.lol_matcher.specs.declared.matcher.Started.TheVariants as answers;
-ghost use Rattle.zugrenja_c.specs.Numbers.{IsOneOf, is_flag, numbered_namespace};
+ghost use Rattle.zugrenja_c.specs.Numbers.{IsOneOf, is_flag, numbered_namespace, overwritten};
 ghost use Rattle.zugrenja_c.specs.Sessions.{IsAdding, IsMatching, StaysMatching};
-ghost use Rattle.zugrenja_c.specs.Tags.{AreInside, IsFinished, IsFinishRefused, IsStarted, IsStartRefused, given_tag};
+ghost use Rattle.zugrenja_c.specs.Tags.{AreInside, IsFinished, IsFinishRefused, IsStarted, IsStartRefused, closed_values, given_tag};
 
 use crate::handle::Handle;
 use crate::matching::AttributePlace;
@@ -112,6 +112,11 @@ pub extern "C" fn zugrenja_end(
 ) -> u32
     ensures ended { result ≡ 0 → StaysMatching handle.old.slot.value handle.new.slot.value (λ m n.
         n ≡ with_ended m name.now) }
+    ensures values { result ≡ 0 → IsMatching handle.old.slot.value (λ m.
+        values.new ≡ overwritten (closed_values m name.now) values.old) }
+    ensures closed { result ≡ 0 → IsMatching handle.old.slot.value (λ m.
+        closed.new ≡ min (length (closed_values m name.now)) usize.MAX) }
+    ensures none { result ≢ 0 → (values.new ≡ values.old) × (closed.new ≡ 0) }
     ensures not_built { (result ≡ 7) ↔ IsAdding handle.old.slot.value (λ _. Unit {0}) }
     ensures no_matcher { (result ≡ 5) ↔ (handle.old.slot.value ≡ None) }
     ensures statuses { IsOneOf (0 ∷ 4 ∷ 5 ∷ 7 ∷ []) result }

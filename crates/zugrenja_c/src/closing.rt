@@ -1,0 +1,55 @@
+//! The values of the elements that an end tag closes.
+
+ghost use Rattle.std.specs.Prelude.{◌≡◌, ◌++◌, ◌∷◌, [], ℕ, List, Option, IfOk, length, map};
+ghost use Rattle.lol_stack.specs.declared.element_value.ElementValue.{ElementValue};
+ghost use Rattle.zugrenja_c.specs.Numbers.{overwritten};
+ghost use Rattle.zugrenja_c.specs.Tags.{HasClosed, value_of};
+
+use lol_matcher::ElementValue;
+use std::alloc::{AllocError, Global};
+
+/// The values of closed elements, as far as there is room, and how many there are.
+#[derive(Drop)]
+pub(crate) struct Closing {
+    values: Vec<u64>,
+    closed: usize,
+}
+
+impl Closing {
+    /// None yet, and room for so many.
+    pub(crate) fn new(alloc: Global, room: usize) -> Result<Closing, AllocError>
+        ensures { IfOk result (HasClosed room []) }
+    {
+        Ok(Closing {
+            values: Vec::from_elem(alloc, 0, room)?,
+            closed: 0,
+        })
+    }
+
+    /// How many were closed.
+    pub(crate) fn closed(&self) -> usize
+        ensures { result ≡ self.now.closed }
+    {
+        self.closed
+    }
+
+    /// Keeps the value of one more.
+    pub(crate) fn keep(&mut self, element: ElementValue<Option<u64>>)
+        ensures { (room : ℕ) (elements : List (ElementValue (Option ℕ))) → HasClosed room elements self.old
+            → HasClosed room (elements ++ element ∷ []) self.new }
+    {
+        if self.closed < self.values.len() {
+            self.values[self.closed] = element.value.unwrap_or(0);
+        }
+        self.closed = self.closed.saturating_add(1);
+    }
+
+    /// Writes the values, as far as there is room.
+    pub(crate) fn write(&self, values: &mut [u64])
+        ensures { (elements : List (ElementValue (Option ℕ))) → HasClosed (length values.old) elements self.now
+            → values.new ≡ overwritten (map value_of elements) values.old }
+    {
+        let fitting = self.values.len().min(self.closed).min(values.len());
+        values[..fitting].copy_from_slice(&self.values[..fitting]);
+    }
+}
