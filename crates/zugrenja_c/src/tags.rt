@@ -36,7 +36,8 @@ pub extern "C" fn zugrenja_start(
     ensures memory { result ≡ 14 → StaysMatching handle.old.slot.value handle.new.slot.value (λ m n.
         IsSomeAnd (numbered_namespace namespace) (λ ns. IsStartRefused errors.Memory m name.now ns n)) }
     ensures failed { result ≡ 15 → IsMatching handle.old.slot.value (λ m. m.failed ≡ true) }
-    ensures no_namespace { (result ≡ 11) ↔ (IsMatching handle.old.slot.value (λ _. numbered_namespace namespace ≡ None)) }
+    ensures no_namespace { (result ≡ 11)
+        ↔ (IsMatching handle.old.slot.value (λ _. numbered_namespace namespace ≡ None)) }
     ensures not_built { (result ≡ 7) ↔ IsAdding handle.old.slot.value (λ _. Unit {0}) }
     ensures no_matcher { (result ≡ 5) ↔ (handle.old.slot.value ≡ None) }
     ensures statuses { IsOneOf (0 ∷ 1 ∷ 5 ∷ 7 ∷ 11 ∷ 12 ∷ 13 ∷ 14 ∷ 15 ∷ []) result }
@@ -66,11 +67,13 @@ pub extern "C" fn zugrenja_finish(
     matched: &mut usize,
 ) -> u32
     ensures reported { result ≡ 0 → StaysMatching handle.old.slot.value handle.new.slot.value (λ m n.
-        IsSomeAnd m.told.asked (λ asked. IsFinished m (given_tag asked text.now attributes.now (is_flag self_closing)) n)
+        IsSomeAnd m.told.asked (λ asked.
+        IsFinished m (given_tag asked text.now attributes.now (is_flag self_closing)) n)
         × AreInside text.now attributes.now × (matched.new ≡ length n.matched)) }
     ensures limit { result ≡ 12 → StaysMatching handle.old.slot.value handle.new.slot.value (λ m n.
         IsSomeAnd m.told.asked (λ asked.
-        IsFinishRefused errors.MemoryLimitExceeded m (given_tag asked text.now attributes.now (is_flag self_closing)) n)) }
+        IsFinishRefused errors.MemoryLimitExceeded m
+        (given_tag asked text.now attributes.now (is_flag self_closing)) n)) }
     ensures counter { result ≡ 13 → StaysMatching handle.old.slot.value handle.new.slot.value (λ m n.
         IsSomeAnd m.told.asked (λ asked.
         IsFinishRefused errors.CounterFull m (given_tag asked text.now attributes.now (is_flag self_closing)) n)) }
