@@ -3,17 +3,18 @@
 
 use std::io::{self, Read, Write};
 use std::process::ExitCode;
-use zugrenja::{AddError, Builder, Cause, Matcher, Namespace, Options, Started, TagError};
+use zugrenja::{Attribute, Builder, Cause, Error, Matcher, Namespace, Settings, Started};
 
 /// How a run ends before its last line.
 enum Stopped {
     BadLine(usize, Cause),
-    Refused(&'static str),
-    OutOfMemory,
+    At(Error),
 }
 
-fn text(bytes: &[u8]) -> &str {
-    std::str::from_utf8(bytes).unwrap_or("")
+impl From<Error> for Stopped {
+    fn from(error: Error) -> Stopped {
+        Stopped::At(error)
+    }
 }
 
 /// The bytes before a separator, and those after it.
@@ -24,35 +25,61 @@ fn cut(bytes: &[u8], separator: u8) -> (&[u8], Option<&[u8]>) {
     }
 }
 
-fn joined(numbers: impl Iterator<Item = String>) -> String {
-    let all: Vec<String> = numbers.collect();
-    if all.is_empty() { "-".to_string() } else { all.join(",") }
+fn text(bytes: &[u8]) -> &str {
+    std::str::from_utf8(bytes).unwrap_or_default()
 }
 
-fn refused(error: TagError) -> Stopped {
-    match error {
-        TagError::MemoryLimitExceeded => Stopped::Refused("limit"),
-        TagError::CounterFull => Stopped::Refused("counter"),
-        _ => Stopped::OutOfMemory,
+fn joined(numbers: impl Iterator<Item = String>) -> String {
+    let all: Vec<String> = numbers.collect();
+    match all.is_empty() {
+        true => "-".to_string(),
+        false => all.join(","),
     }
 }
 
-/// Runs a start tag: the line that answers it.
-fn start(matcher: &mut Matcher, fields: &[&[u8]], shows_tries: bool, number: u64) -> Result<String, Stopped> {
-    let (kind, namespace, name) = (fields[0], fields[1], fields[2]);
-    let closes = namespace.ends_with(b"/");
-    let ns = match namespace.strip_suffix(b"/").unwrap_or(namespace) {
+/// The settings of a script, and whether tries are shown.
+fn settings_of(script: &[u8]) -> (Settings, bool) {
+    let (mut settings, mut shows_tries) = (Settings::default(), false);
+    for line in script.split(|byte| *byte == b'\n') {
+        match cut(line, b'\t') {
+            (b"limit", Some(number)) => settings.max_memory = text(number).parse().unwrap_or(usize::MAX),
+            (b"esi", None) => settings.esi = true,
+            (b"tries", None) => shows_tries = true,
+            _ => {}
+        }
+    }
+    (settings, shows_tries)
+}
+
+/// The matcher of a script, before the first tag.
+fn matcher_of(script: &[u8], settings: Settings) -> Result<Matcher, Stopped> {
+    let mut builder = Builder::with_settings(settings)?;
+    for (line, number) in script.split(|byte| *byte == b'\n').zip(1..) {
+        let (b"select", Some(rest)) = cut(line, b'\t') else { continue };
+        let (id, selectors) = cut(rest, b'\t');
+        match builder.add(text(id).parse().unwrap_or(0), text(selectors.unwrap_or_default())) {
+            Err(Error::Selector { cause, .. }) => return Err(Stopped::BadLine(number, cause)),
+            added => added?,
+        }
+    }
+    Ok(builder.build()?)
+}
+
+/// Tells of a start tag, whose number becomes its element's value: the line that answers it.
+fn start(matcher: &mut Matcher, fields: &[&[u8]], shows_tries: bool, number: u64) -> Result<String, Error> {
+    let slash = fields[1].ends_with(b"/");
+    let namespace = match fields[1].strip_suffix(b"/").unwrap_or(fields[1]) {
         b"svg" => Namespace::Svg,
         b"mathml" => Namespace::MathMl,
         _ => Namespace::Html,
     };
-    let asked = matcher.start(name, ns).map_err(refused)? == Started::NeedsAttributes;
-    if asked && kind == b"drop" {
+    let asked = matcher.start(fields[2], namespace)? == Started::NeedsAttributes;
+    if asked && fields[0] == b"drop" {
         return Ok("dropped\n".to_string());
     }
     if asked {
-        let attributes: Vec<(&[u8], Option<&[u8]>)> = fields[3..].iter().map(|field| cut(field, b'=')).collect();
-        matcher.finish(&attributes, closes).map_err(refused)?;
+        let attributes = fields[3..].iter().map(|field| cut(field, b'='));
+        matcher.finish(&attributes.map(|(name, value)| Attribute { name, value }).collect::<Vec<_>>(), slash)?;
     }
     let mark = if matcher.has_opened() { "" } else { "/" };
     let mut line = format!("start\t{}", joined(matcher.ids().iter().map(|id| format!("{id}{mark}"))));
@@ -60,50 +87,27 @@ fn start(matcher: &mut Matcher, fields: &[&[u8]], shows_tries: bool, number: u64
         line.push_str("\tasked");
     }
     if shows_tries {
-        let (names, attributes) = matcher.tries();
-        line.push_str(&format!("\ttries {names} {attributes}"));
+        let tries = matcher.tries();
+        line.push_str(&format!("\ttries {} {}", tries.names, tries.attributes));
     }
-    matcher.set_value(number);
+    if matcher.has_opened() {
+        matcher.set_value(number)?;
+    }
     Ok(line + "\n")
-}
-
-/// The settings and the selectors of a script.
-fn read_settings(script: &[u8]) -> Result<(Builder, bool), Stopped> {
-    let (mut options, mut shows_tries) = (Options::default(), false);
-    for line in script.split(|byte| *byte == b'\n') {
-        match cut(line, b'\t') {
-            (b"limit", Some(number)) => options.max_memory = text(number).parse().unwrap_or(usize::MAX),
-            (b"esi", None) => options.esi = true,
-            (b"tries", None) => shows_tries = true,
-            _ => {}
-        }
-    }
-    let mut builder = Builder::new(options).map_err(|_| Stopped::OutOfMemory)?;
-    for (line, number) in script.split(|byte| *byte == b'\n').zip(1..) {
-        if let (b"select", Some(rest)) = cut(line, b'\t') {
-            let (id, selectors) = cut(rest, b'\t');
-            match builder.add(text(id).parse().unwrap_or(0), text(selectors.unwrap_or(b""))) {
-                Err(AddError::NotAccepted { cause, .. }) => return Err(Stopped::BadLine(number, cause)),
-                Err(AddError::OutOfMemory) => return Err(Stopped::OutOfMemory),
-                Ok(()) => {}
-            }
-        }
-    }
-    Ok((builder, shows_tries))
 }
 
 /// Runs a script: its output is added to `out`.
 fn run(script: &[u8], out: &mut String) -> Result<(), Stopped> {
-    let (builder, shows_tries) = read_settings(script)?;
-    let mut matcher = builder.build().map_err(|_| Stopped::OutOfMemory)?;
+    let (settings, shows_tries) = settings_of(script);
+    let mut matcher = matcher_of(script, settings)?;
     let mut number = 0;
     for line in script.split(|byte| *byte == b'\n') {
         let fields: Vec<&[u8]> = line.split(|byte| *byte == b'\t').collect();
         match fields[0] {
             b"start" | b"drop" => out.push_str(&start(&mut matcher, &fields, shows_tries, number)?),
             b"end" => {
-                let closed = matcher.end(fields[1]).map_err(|_| Stopped::OutOfMemory)?;
-                out.push_str(&format!("end\t{}\n", joined(closed.iter().map(u64::to_string))));
+                let closed = matcher.end(fields[1])?.iter();
+                out.push_str(&format!("end\t{}\n", joined(closed.map(u64::to_string))));
             }
             _ => continue,
         }
@@ -117,19 +121,21 @@ fn main() -> io::Result<ExitCode> {
     io::stdin().read_to_end(&mut script)?;
     let status = match run(&script, &mut out) {
         Ok(()) => 0,
-        Err(Stopped::BadLine(number, Cause::UnsupportedCombinator(combinator))) => {
-            out = format!("bad line {number}: UnsupportedCombinator({combinator})\n");
-            2
-        }
         Err(Stopped::BadLine(number, cause)) => {
-            out = format!("bad line {number}: {cause:?}\n");
+            out = match cause {
+                Cause::UnsupportedCombinator(sign) => format!("bad line {number}: UnsupportedCombinator({sign})\n"),
+                _ => format!("bad line {number}: {cause:?}\n"),
+            };
             2
         }
-        Err(Stopped::Refused(what)) => {
-            out.push_str(&format!("refused {what}\n"));
+        Err(Stopped::At(error)) => {
+            match error {
+                Error::MemoryLimitExceeded => out.push_str("refused limit\n"),
+                Error::CounterFull => out.push_str("refused counter\n"),
+                _ => eprintln!("{error}"),
+            }
             3
         }
-        Err(Stopped::OutOfMemory) => 3,
     };
     io::stdout().write_all(out.as_bytes())?;
     Ok(ExitCode::from(status))

@@ -1,10 +1,10 @@
 //! Why a call was refused.
 
-use crate::sys::Refusal;
-use std::fmt;
+use crate::ffi;
+use std::{error, fmt};
 
 /// Why a text isn't accepted as a selector.
-#[derive(Clone, Copy, Debug, PartialEq, Eq)]
+#[derive(Clone, Copy, Debug, PartialEq, Eq, Hash)]
 pub enum Cause {
     /// A token that can't stand where it does.
     UnexpectedToken,
@@ -12,27 +12,31 @@ pub enum Cause {
     UnexpectedEnd,
     /// `[` without a name after it.
     MissingAttributeName,
-    /// An empty text or an empty item of a list.
+    /// An empty text, or an empty item of a list.
     EmptySelector,
-    /// A combinator with no compound after it.
+    /// A combinator without a compound after it.
     DanglingCombinator,
     /// A token that can't stand where it does between `[` and `]`.
     UnexpectedTokenInAttribute,
     /// A pseudo-class or a pseudo-element that isn't supported.
     UnsupportedPseudoClassOrElement,
+    /// Of lol_html's causes; no text has it here.
+    NestedNegation,
     /// A name with a namespace.
     NamespacedSelector,
     /// `.` without a name directly after it.
     InvalidClassName,
-    /// `+` or `~` between two compounds.
+    /// Of lol_html's causes; no text has it here.
+    EmptyNegation,
+    /// A combinator that isn't supported.
     UnsupportedCombinator(char),
-    /// Past the bounds of the reader.
+    /// Syntax that isn't supported.
     UnsupportedSyntax,
 }
 
 impl Cause {
-    pub(crate) fn of(refusal: &Refusal) -> Cause {
-        match refusal.cause {
+    fn of(cause: u32, combinator: u32) -> Cause {
+        match cause {
             0 => Cause::UnexpectedToken,
             1 => Cause::UnexpectedEnd,
             2 => Cause::MissingAttributeName,
@@ -40,97 +44,138 @@ impl Cause {
             4 => Cause::DanglingCombinator,
             5 => Cause::UnexpectedTokenInAttribute,
             6 => Cause::UnsupportedPseudoClassOrElement,
+            7 => Cause::NestedNegation,
             8 => Cause::NamespacedSelector,
             9 => Cause::InvalidClassName,
-            11 => Cause::UnsupportedCombinator(char::from_u32(refusal.combinator).unwrap_or('?')),
-            _ => Cause::UnsupportedSyntax,
+            10 => Cause::EmptyNegation,
+            11 => Cause::UnsupportedCombinator(char::from_u32(combinator).unwrap_or(char::REPLACEMENT_CHARACTER)),
+            12 => Cause::UnsupportedSyntax,
+            _ => panic!("no cause has the number {cause}: the archive is of another version"),
         }
     }
 }
 
-/// Why a text's selectors weren't added.
-#[derive(Clone, Copy, Debug, PartialEq, Eq)]
-pub enum AddError {
-    /// The text isn't accepted: the cause, and where, as the item of the list and the byte offset, both from 0.
-    NotAccepted {
-        /// The cause.
+impl fmt::Display for Cause {
+    fn fmt(&self, f: &mut fmt::Formatter<'_>) -> fmt::Result {
+        f.write_str(match self {
+            Cause::UnexpectedToken => "unexpected token",
+            Cause::UnexpectedEnd => "unexpected end",
+            Cause::MissingAttributeName => "no attribute name after `[`",
+            Cause::EmptySelector => "empty selector",
+            Cause::DanglingCombinator => "nothing after a combinator",
+            Cause::UnexpectedTokenInAttribute => "unexpected token in an attribute selector",
+            Cause::UnsupportedPseudoClassOrElement => "pseudo-class or pseudo-element that isn't supported",
+            Cause::NestedNegation => "`:not` in a `:not`",
+            Cause::NamespacedSelector => "name with a namespace",
+            Cause::InvalidClassName => "no class name after `.`",
+            Cause::EmptyNegation => "empty `:not`",
+            Cause::UnsupportedCombinator(combinator) => {
+                return write!(f, "combinator `{combinator}`, which isn't supported")
+            }
+            Cause::UnsupportedSyntax => "syntax that isn't supported",
+        })
+    }
+}
+
+/// Why a call was refused. What has changed then stands at each call.
+#[derive(Clone, Copy, Debug, PartialEq, Eq, Hash)]
+pub enum Error {
+    /// A text isn't accepted as a selector.
+    Selector {
+        /// Why.
         cause: Cause,
-        /// The number of the item in the list, from 0.
+        /// Which item of the list, from 0.
         item: usize,
-        /// The byte offset in the text, from 0.
+        /// Where, as a byte offset in the text, from 0.
         offset: usize,
     },
-    /// Memory was refused.
+    /// Memory was refused, and the matcher is as it was.
     OutOfMemory,
-}
-
-impl fmt::Display for AddError {
-    fn fmt(&self, f: &mut fmt::Formatter<'_>) -> fmt::Result {
-        match self {
-            AddError::NotAccepted { cause, item, offset } => write!(f, "{cause:?} (item {item}, byte {offset})"),
-            AddError::OutOfMemory => f.write_str("out of memory"),
-        }
-    }
-}
-
-impl std::error::Error for AddError {}
-
-/// Memory was refused.
-#[derive(Clone, Copy, Debug, PartialEq, Eq)]
-pub struct OutOfMemory;
-
-impl fmt::Display for OutOfMemory {
-    fn fmt(&self, f: &mut fmt::Formatter<'_>) -> fmt::Result {
-        f.write_str("out of memory")
-    }
-}
-
-impl std::error::Error for OutOfMemory {}
-
-/// Why a start tag wasn't answered.
-#[derive(Clone, Copy, Debug, PartialEq, Eq)]
-pub enum TagError {
-    /// The open elements would be charged for more than the memory limit. Each later start tag is answered `Failed`.
+    /// The tag's element has no room below the memory limit. Each later start tag is [`Error::Failed`].
     MemoryLimitExceeded,
-    /// The parent has 2,147,483,647 children. Each later start tag is answered `Failed`.
+    /// The tag's parent has 2,147,483,647 children. Each later start tag is [`Error::Failed`].
     CounterFull,
-    /// Memory was refused for the tag. Each later start tag is answered `Failed`.
+    /// Memory was refused for the tag. Each later start tag is [`Error::Failed`].
     TagOutOfMemory,
     /// An earlier start tag was refused.
     Failed,
     /// No start tag waits for its attributes.
     NotAsked,
-    /// A name or a value of an attribute lies outside the text. A tag that waits still does.
+    /// A name or a value lies outside the text. A tag that waits still does.
     OutsideText,
-    /// Memory was refused for the attributes. A tag that waits still does.
-    OutOfMemory,
+    /// The last tag has opened no element.
+    NotOpened,
 }
 
-impl TagError {
-    pub(crate) fn of(status: u32) -> TagError {
+impl Error {
+    /// The error of a status.
+    ///
+    /// # Panics
+    /// For a status that no call of this package is answered with, which would show an archive of another version.
+    pub(crate) fn of(status: u32) -> Error {
         match status {
-            12 => TagError::MemoryLimitExceeded,
-            13 => TagError::CounterFull,
-            14 => TagError::TagOutOfMemory,
-            15 => TagError::Failed,
-            16 => TagError::NotAsked,
-            17 => TagError::OutsideText,
-            _ => TagError::OutOfMemory,
+            ffi::OUT_OF_MEMORY => Error::OutOfMemory,
+            ffi::LIMIT => Error::MemoryLimitExceeded,
+            ffi::COUNTER => Error::CounterFull,
+            ffi::TAG_OUT_OF_MEMORY => Error::TagOutOfMemory,
+            ffi::FAILED => Error::Failed,
+            ffi::NOT_ASKED => Error::NotAsked,
+            ffi::OUTSIDE => Error::OutsideText,
+            ffi::NOT_OPENED => Error::NotOpened,
+            _ => panic!("no error has the status {status}: the archive is of another version"),
+        }
+    }
+
+    pub(crate) fn refusal(refusal: &ffi::Refusal) -> Error {
+        Error::Selector {
+            cause: Cause::of(refusal.cause, refusal.combinator),
+            item: refusal.item,
+            offset: refusal.offset,
         }
     }
 }
 
-impl fmt::Display for TagError {
+impl fmt::Display for Error {
     fn fmt(&self, f: &mut fmt::Formatter<'_>) -> fmt::Result {
         f.write_str(match self {
-            TagError::MemoryLimitExceeded => "the memory limit would have been passed: too many elements are open",
-            TagError::CounterFull => "an element has as many children as can be counted",
-            TagError::TagOutOfMemory | TagError::OutOfMemory => "out of memory",
-            TagError::Failed => "an earlier start tag was refused: no other is answered",
-            TagError::NotAsked => "no start tag waits for its attributes",
-            TagError::OutsideText => "an attribute lies outside the text",
+            Error::Selector { cause, item, offset } => {
+                return write!(f, "{cause} at byte {offset}, in item {item} of the list")
+            }
+            Error::OutOfMemory => "out of memory",
+            Error::MemoryLimitExceeded => "the open elements would take more than the memory limit",
+            Error::CounterFull => "the parent has as many children as can be counted",
+            Error::TagOutOfMemory => "out of memory for a start tag",
+            Error::Failed => "an earlier start tag was refused",
+            Error::NotAsked => "no start tag waits for its attributes",
+            Error::OutsideText => "an attribute lies outside the text",
+            Error::NotOpened => "the last tag has opened no element",
         })
     }
 }
 
-impl std::error::Error for TagError {}
+impl error::Error for Error {}
+
+#[cfg(test)]
+mod tests {
+    use super::*;
+
+    #[test]
+    fn statuses_are_errors_of_their_own() {
+        let statuses = [4, 12, 13, 14, 15, 16, 17, 18];
+        let shown: std::collections::HashSet<_> = statuses.map(|status| Error::of(status).to_string()).into();
+        assert_eq!(shown.len(), statuses.len());
+    }
+
+    #[test]
+    fn causes_are_their_own() {
+        let shown: std::collections::HashSet<_> = (0..13).map(|cause| Cause::of(cause, 43).to_string()).collect();
+        assert_eq!(shown.len(), 13);
+        assert_eq!(Cause::of(11, 0x7e), Cause::UnsupportedCombinator('~'));
+    }
+
+    #[test]
+    #[should_panic(expected = "another version")]
+    fn other_statuses_are_no_errors() {
+        Error::of(19);
+    }
+}

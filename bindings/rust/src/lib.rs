@@ -1,36 +1,40 @@
 //! CSS selectors against the start tags of a document, as its tags come, over Zugrenja's proved matcher.
 //!
-//! ```
-//! use zugrenja::{Builder, Namespace, Options, Started};
+//! A [`Builder`] takes selectors under ids and makes a [`Matcher`], which is told of each start tag and each end tag, and says under which
+//! ids a start tag is reported. It asks for attributes only where a selector needs them.
 //!
-//! let mut builder = Builder::new(Options::default())?;
-//! builder.add(0, "main a[href^='https:']")?;
-//! builder.add(1, "img:not([alt])")?;
+//! ```
+//! use zugrenja::{Attribute, Builder, Namespace, Started};
+//!
+//! let mut builder = Builder::new()?;
+//! builder.add(7, "main > a[href^='https:']")?;
+//! builder.add(9, "img:not([alt])")?;
 //! let mut matcher = builder.build()?;
 //!
-//! matcher.start("main", Namespace::Html)?;
-//! if matcher.start("a", Namespace::Html)? == Started::NeedsAttributes {
-//!     matcher.finish(&[("href", Some("https://example.org"))], false)?;
-//! }
-//! assert_eq!(matcher.ids(), [0]);
-//! # Ok::<(), Box<dyn std::error::Error>>(())
+//! assert_eq!(matcher.start("main", Namespace::Html)?, Started::Reported);
+//! assert_eq!(matcher.start("a", Namespace::Html)?, Started::NeedsAttributes);
+//! matcher.finish(&[Attribute::new("href", "https://example.org/")], false)?;
+//! assert_eq!(matcher.ids(), [7]);
+//! matcher.end("main")?;
+//! # Ok::<(), zugrenja::Error>(())
 //! ```
+//!
+//! The selectors that are accepted stand in `docs/SELECTORS.md`. What is proved is the contract of each function of `crates/zugrenja_c`;
+//! this package, which calls them, is tested only. Beside what a matcher is refused, a vector of this package that finds no memory
+//! ends the program, as everywhere in Rust.
 #![warn(missing_docs)]
 
 mod error;
-pub mod sys;
+mod ffi;
+mod script;
 
-pub use error::{AddError, Cause, OutOfMemory, TagError};
-pub use sys::Attribute as AttributePlace;
+pub use error::{Cause, Error};
+pub use script::{run_script, Ending};
 
-use sys::Handle;
-
-const GOOD: u32 = 0;
-const NEEDS_ATTRIBUTES: u32 = 1;
-const NOT_ACCEPTED: u32 = 10;
+use std::ops::Range;
 
 /// The namespace of an element.
-#[derive(Clone, Copy, Debug, PartialEq, Eq)]
+#[derive(Clone, Copy, Debug, PartialEq, Eq, Hash)]
 pub enum Namespace {
     /// HTML.
     Html = 0,
@@ -41,256 +45,421 @@ pub enum Namespace {
 }
 
 /// What is answered to a start tag.
-#[derive(Clone, Copy, Debug, PartialEq, Eq)]
+#[derive(Clone, Copy, Debug, PartialEq, Eq, Hash)]
+#[must_use]
 pub enum Started {
     /// It is reported: [`Matcher::ids`] has its ids.
     Reported,
-    /// Its attributes are asked for: [`Matcher::finish`] is called next. Another call drops the tag, which then counts as a child, and is
-    /// neither reported nor opened.
+    /// Its attributes are asked for, by [`Matcher::finish`]. Another call that tells of a tag drops it: its element counts as a child then,
+    /// and is neither reported nor opened.
     NeedsAttributes,
 }
 
+/// An attribute of a start tag: bytes as the tag has them.
+#[derive(Clone, Copy, Debug, PartialEq, Eq, Hash)]
+pub struct Attribute<'a> {
+    /// The name, compared without case.
+    pub name: &'a [u8],
+    /// The value, if it has one.
+    pub value: Option<&'a [u8]>,
+}
+
+impl<'a> Attribute<'a> {
+    /// An attribute with a value.
+    pub fn new<N, V>(name: &'a N, value: &'a V) -> Attribute<'a>
+    where
+        N: AsRef<[u8]> + ?Sized,
+        V: AsRef<[u8]> + ?Sized,
+    {
+        Attribute { name: name.as_ref(), value: Some(value.as_ref()) }
+    }
+
+    /// An attribute without a value.
+    pub fn bare<N: AsRef<[u8]> + ?Sized>(name: &'a N) -> Attribute<'a> {
+        Attribute { name: name.as_ref(), value: None }
+    }
+}
+
+/// Where an attribute stands in a text.
+#[derive(Clone, Debug, PartialEq, Eq, Hash)]
+pub struct Place {
+    /// The name's bytes.
+    pub name: Range<usize>,
+    /// The value's bytes, if it has one.
+    pub value: Option<Range<usize>>,
+}
+
+impl Place {
+    fn raw(&self) -> ffi::Attribute {
+        let value = self.value.clone().unwrap_or(0..0);
+        ffi::Attribute {
+            name_start: self.name.start,
+            name_end: self.name.end,
+            value_start: value.start,
+            value_end: value.end,
+            has_value: self.value.is_some().into(),
+        }
+    }
+}
+
 /// Settings of a matcher.
-#[derive(Clone, Copy, Debug)]
-pub struct Options {
+#[derive(Clone, Copy, Debug, PartialEq, Eq)]
+pub struct Settings {
     /// The most bytes that open elements may be charged for.
     pub max_memory: usize,
     /// The bytes that each open element is charged for; 0 counts as 1.
     pub element_bytes: usize,
-    /// Whether `esi:include` and `esi:comment` are void names.
+    /// Whether `esi:include` and `esi:comment` are void names, those of elements without content.
     pub esi: bool,
 }
 
-impl Default for Options {
-    /// No bound, 64 bytes for each element, and the names of Edge Side Includes as others.
-    fn default() -> Options {
-        Options { max_memory: usize::MAX, element_bytes: 64, esi: false }
+impl Default for Settings {
+    /// No bound, 64 bytes for each element, and no names of ESI.
+    fn default() -> Settings {
+        Settings { max_memory: usize::MAX, element_bytes: 64, esi: false }
     }
 }
 
-// The handle that owns the matcher.
-struct Owned(Handle);
+/// A handle that owns its matcher, at an address that never changes.
+#[derive(Debug)]
+struct Handle(Box<ffi::Handle>);
 
-impl Drop for Owned {
+// SAFETY: a handle owns all that it points to, and only calls with the handle get there. What the calls share is memory for reading alone,
+// and malloc, which any thread may call. So it makes no difference which thread calls, as long as it is one at a time.
+unsafe impl Send for Handle {}
+
+impl Handle {
+    fn raw(&mut self) -> *mut ffi::Handle {
+        &mut *self.0
+    }
+}
+
+impl Drop for Handle {
     fn drop(&mut self) {
-        // SAFETY: the handle began as zeros, and changed by the calls alone.
-        unsafe { sys::zugrenja_free(&mut self.0) };
+        // SAFETY: the handle began as zeros, and only calls changed it. One without a matcher is answered NO_MATCHER.
+        unsafe { ffi::zugrenja_free(self.raw()) };
     }
 }
 
 /// Selectors and settings, of which a matcher is made.
-pub struct Builder(Owned);
+#[derive(Debug)]
+pub struct Builder(Handle);
 
 impl Builder {
-    /// A builder without selectors.
-    pub fn new(options: Options) -> Result<Builder, OutOfMemory> {
-        let mut owned = Owned(Handle::ZEROS);
-        // SAFETY: the handle is all zeros.
-        let status =
-            unsafe { sys::zugrenja_new(&mut owned.0, options.max_memory, options.element_bytes, options.esi.into()) };
-        if status == GOOD { Ok(Builder(owned)) } else { Err(OutOfMemory) }
-    }
-
-    /// Adds the selectors of a text, a list of them with commas, under an id. Several texts may have one id.
+    /// A builder with the settings of [`Settings::default`].
     ///
     /// # Errors
-    /// Why the text isn't accepted and where, or memory was refused. Then the matcher answers as if the text had not been given.
+    /// [`Error::OutOfMemory`].
+    pub fn new() -> Result<Builder, Error> {
+        Builder::with_settings(Settings::default())
+    }
+
+    /// A builder without selectors.
+    ///
+    /// # Errors
+    /// [`Error::OutOfMemory`].
+    pub fn with_settings(settings: Settings) -> Result<Builder, Error> {
+        let Settings { max_memory, element_bytes, esi } = settings;
+        let mut handle = Handle(Box::new(ffi::Handle::ZEROS));
+        // SAFETY: the handle is all zeros.
+        match unsafe { ffi::zugrenja_new(handle.raw(), max_memory, element_bytes, esi.into()) } {
+            ffi::GOOD => Ok(Builder(handle)),
+            status => Err(Error::of(status)),
+        }
+    }
+
+    /// Adds the selectors of a text, a list of them with commas, under an id. Several texts may have one id. The text isn't kept.
+    ///
+    /// # Errors
+    /// [`Error::Selector`], with the cause and the place, and [`Error::OutOfMemory`]. The builder is as it was then.
     ///
     /// ```
-    /// # use zugrenja::{AddError, Builder, Cause, Options};
-    /// let mut builder = Builder::new(Options::default())?;
-    /// let refused = AddError::NotAccepted { cause: Cause::UnsupportedCombinator('+'), item: 1, offset: 5 };
-    /// assert_eq!(builder.add(0, "img, a + img"), Err(refused));
-    /// # Ok::<(), zugrenja::OutOfMemory>(())
+    /// use zugrenja::{Builder, Cause, Error};
+    ///
+    /// let refused = Builder::new()?.add(0, "img, a + img").unwrap_err();
+    /// assert_eq!(refused, Error::Selector { cause: Cause::UnsupportedCombinator('+'), item: 1, offset: 5 });
+    /// assert_eq!(refused.to_string(), "combinator `+`, which isn't supported at byte 5, in item 1 of the list");
+    /// # Ok::<(), Error>(())
     /// ```
-    pub fn add(&mut self, id: u32, text: &str) -> Result<(), AddError> {
-        let mut refusal = sys::Refusal::default();
-        // SAFETY: the pointers are those of a text and of a refusal that live.
-        let status = unsafe { sys::zugrenja_add(&mut self.0 .0, id, text.as_ptr(), text.len(), &mut refusal) };
-        match status {
-            GOOD => Ok(()),
-            NOT_ACCEPTED => Err(AddError::NotAccepted {
-                cause: Cause::of(&refusal),
-                item: refusal.item,
-                offset: refusal.offset,
-            }),
-            _ => Err(AddError::OutOfMemory),
+    pub fn add(&mut self, id: u32, selectors: &str) -> Result<(), Error> {
+        let mut refusal = ffi::Refusal::default();
+        // SAFETY: `selectors` and `refusal` live.
+        match unsafe { ffi::zugrenja_add(self.0.raw(), id, selectors.as_ptr(), selectors.len(), &mut refusal) } {
+            ffi::GOOD => Ok(()),
+            ffi::NOT_ACCEPTED => Err(Error::refusal(&refusal)),
+            status => Err(Error::of(status)),
         }
     }
 
-    /// The matcher, before the first tag.
-    pub fn build(mut self) -> Result<Matcher, OutOfMemory> {
-        // SAFETY: the handle has a builder.
-        if unsafe { sys::zugrenja_build(&mut self.0 .0) } != GOOD {
-            return Err(OutOfMemory);
+    /// The matcher, before a document's first tag.
+    ///
+    /// # Errors
+    /// [`Error::OutOfMemory`]: the builder is gone then.
+    pub fn build(mut self) -> Result<Matcher, Error> {
+        // SAFETY: only the handle is given.
+        match unsafe { ffi::zugrenja_build(self.0.raw()) } {
+            ffi::GOOD => Ok(Matcher::of(self.0)),
+            status => Err(Error::of(status)),
         }
-        Ok(Matcher { owned: self.0, ids: Vec::new(), opened: false, open: 0, closed: Vec::new(), given: Given::default() })
-    }
-}
-
-// Attributes that were given as names and values, as one text and the places in it.
-#[derive(Default)]
-struct Given {
-    text: Vec<u8>,
-    places: Vec<AttributePlace>,
-}
-
-impl Given {
-    fn append(&mut self, bytes: &[u8]) -> (usize, usize) {
-        let start = self.text.len();
-        self.text.extend_from_slice(bytes);
-        (start, self.text.len())
     }
 }
 
 /// Matches selectors against the start tags of a document, as its tags come.
 ///
-/// Each open element may have a value of the caller's:
+/// A matcher may go to another thread, but two threads can't share one:
 ///
 /// ```
-/// # use zugrenja::{Builder, Namespace, Options};
-/// let mut builder = Builder::new(Options::default())?;
-/// builder.add(0, "div > p")?;
-/// let mut matcher = builder.build()?;
-/// matcher.start("div", Namespace::Html)?;
-/// matcher.start("p", Namespace::Html)?;
-/// matcher.set_value(7);
-/// assert_eq!(matcher.end("div")?, [0, 7]);
-/// # Ok::<(), Box<dyn std::error::Error>>(())
+/// fn is_send<T: Send>() {}
+/// is_send::<zugrenja::Matcher>();
 /// ```
+///
+/// ```compile_fail,E0277
+/// fn is_sync<T: Sync>() {}
+/// is_sync::<zugrenja::Matcher>();
+/// ```
+#[derive(Debug)]
 pub struct Matcher {
-    owned: Owned,
+    handle: Handle,
     ids: Vec<u32>,
-    opened: bool,
+    has_opened: bool,
+    /// How many elements are open, and whether one of them may have a value.
     open: usize,
-    closed: Vec<u64>,
-    given: Given,
+    has_values: bool,
+    values: Vec<u64>,
+    places: Vec<ffi::Attribute>,
+    text: Vec<u8>,
 }
 
 impl Matcher {
-    fn handle(&mut self) -> *mut Handle {
-        &mut self.owned.0
-    }
-
-    // Reads the report of a start tag, if it has one.
-    fn keep_report(&mut self, matched: usize) {
-        self.ids.resize(matched, 0);
-        let (handle, mut count, mut opened) = (self.handle(), 0, 0);
-        // SAFETY: there is room for as many ids as are said.
-        unsafe {
-            if matched > 0 {
-                sys::zugrenja_ids(handle, self.ids.as_mut_ptr(), matched, &mut count);
-            }
-            sys::zugrenja_has_opened(handle, &mut opened);
+    /// A matcher for texts of selectors under the ids 0, 1, .., with the settings of [`Settings::default`].
+    ///
+    /// # Errors
+    /// As [`Builder::add`], for the first text that isn't accepted.
+    ///
+    /// ```
+    /// use zugrenja::{Attribute, Matcher, Namespace};
+    ///
+    /// let mut matcher = Matcher::new(["ul > li:first-child", "li.new"])?;
+    /// matcher.tag("ul", Namespace::Html, &[], false)?;
+    /// assert_eq!(matcher.tag("li", Namespace::Html, &[Attribute::new("class", "big new")], false)?, [0, 1]);
+    /// # Ok::<(), zugrenja::Error>(())
+    /// ```
+    pub fn new<T: AsRef<str>>(texts: impl IntoIterator<Item = T>) -> Result<Matcher, Error> {
+        let mut builder = Builder::new()?;
+        for (text, id) in texts.into_iter().zip(0..) {
+            builder.add(id, text.as_ref())?;
         }
-        self.opened = opened != 0;
-        self.open += usize::from(self.opened);
+        builder.build()
     }
 
-    // Nothing is reported and nothing was opened.
-    fn clear_report(&mut self) {
-        self.ids.clear();
-        self.opened = false;
+    fn of(handle: Handle) -> Matcher {
+        Matcher {
+            handle,
+            ids: Vec::new(),
+            has_opened: false,
+            open: 0,
+            has_values: false,
+            values: Vec::new(),
+            places: Vec::new(),
+            text: Vec::new(),
+        }
     }
 
-    /// A start tag: it is reported, or its attributes are asked for. Names are compared without case.
-    pub fn start(&mut self, name: impl AsRef<[u8]>, namespace: Namespace) -> Result<Started, TagError> {
+    /// Tells of a start tag by its name, which is compared without case: it is reported, or its attributes are asked for. A tag outside HTML
+    /// always waits for them.
+    ///
+    /// # Errors
+    /// [`Error::MemoryLimitExceeded`], [`Error::CounterFull`], [`Error::TagOutOfMemory`], and [`Error::Failed`] after one of these.
+    pub fn start(&mut self, name: impl AsRef<[u8]>, namespace: Namespace) -> Result<Started, Error> {
         let (name, mut matched) = (name.as_ref(), 0);
-        self.clear_report();
-        // SAFETY: the pointers are those of a name and a number that live.
-        let status = unsafe {
-            sys::zugrenja_start(self.handle(), name.as_ptr(), name.len(), namespace as u32, &mut matched)
-        };
-        match status {
-            GOOD => {
-                self.keep_report(matched);
+        self.forget_report();
+        let handle = self.handle.raw();
+        // SAFETY: `name` and `matched` live.
+        match unsafe { ffi::zugrenja_start(handle, name.as_ptr(), name.len(), namespace as u32, &mut matched) } {
+            ffi::GOOD => {
+                self.read_report(matched);
                 Ok(Started::Reported)
             }
-            NEEDS_ATTRIBUTES => Ok(Started::NeedsAttributes),
-            _ => Err(TagError::of(status)),
+            ffi::NEEDS_ATTRIBUTES => Ok(Started::NeedsAttributes),
+            status => Err(Error::of(status)),
         }
     }
 
-    /// The attributes of the start tag that waits for them, and whether it closes itself, which counts outside HTML.
-    pub fn finish<N: AsRef<[u8]>, V: AsRef<[u8]>>(
-        &mut self,
-        attributes: &[(N, Option<V>)],
-        self_closing: bool,
-    ) -> Result<(), TagError> {
-        let mut given = std::mem::take(&mut self.given);
-        given.text.clear();
-        given.places.clear();
-        for (name, value) in attributes {
-            let (name_start, name_end) = given.append(name.as_ref());
-            let (value_start, value_end) = value.as_ref().map_or((0, 0), |value| given.append(value.as_ref()));
-            let has_value = value.is_some().into();
-            given.places.push(AttributePlace { name_start, name_end, value_start, value_end, has_value });
+    /// Hands the attributes over that the last start tag waits for; it is reported then. With `self_closing` the tag closes itself, which
+    /// counts outside HTML. Of two attributes of one name the first counts.
+    ///
+    /// # Errors
+    /// Those of [`Matcher::start`]; [`Error::NotAsked`] if no tag waits; [`Error::OutOfMemory`], and the tag still waits.
+    pub fn finish(&mut self, attributes: &[Attribute<'_>], self_closing: bool) -> Result<(), Error> {
+        let mut text = std::mem::take(&mut self.text);
+        text.clear();
+        let mut append = |bytes: &[u8]| {
+            let start = text.len();
+            text.extend_from_slice(bytes);
+            start..text.len()
+        };
+        self.places.clear();
+        for attribute in attributes {
+            let place = Place { name: append(attribute.name), value: attribute.value.map(&mut append) };
+            self.places.push(place.raw());
         }
-        let finished = self.finish_in(&given.text, &given.places, self_closing);
-        self.given = given;
+        let finished = self.finish_waiting(&text, self_closing);
+        self.text = text;
         finished
     }
 
-    /// The same with the attributes' places in a text, which may be the document itself.
-    pub fn finish_in(&mut self, text: &[u8], places: &[AttributePlace], self_closing: bool) -> Result<(), TagError> {
+    /// As [`Matcher::finish`], with the attributes' places in a text, which may be the document itself: no byte is copied.
+    ///
+    /// # Errors
+    /// Those of [`Matcher::finish`]; [`Error::OutsideText`] if a place isn't in the text, and a tag that waits still does.
+    ///
+    /// ```
+    /// use zugrenja::{Matcher, Namespace, Place, Started};
+    ///
+    /// let mut matcher = Matcher::new(["[lang=de]"])?;
+    /// assert_eq!(matcher.start("p", Namespace::Html)?, Started::NeedsAttributes);
+    /// matcher.finish_in("<p lang=de hidden>", &[Place { name: 3..7, value: Some(8..10) }, Place { name: 11..17, value: None }], false)?;
+    /// assert_eq!(matcher.ids(), [0]);
+    /// # Ok::<(), zugrenja::Error>(())
+    /// ```
+    pub fn finish_in(&mut self, text: impl AsRef<[u8]>, places: &[Place], self_closing: bool) -> Result<(), Error> {
+        self.places.clear();
+        self.places.extend(places.iter().map(Place::raw));
+        self.finish_waiting(text.as_ref(), self_closing)
+    }
+
+    fn finish_waiting(&mut self, text: &[u8], self_closing: bool) -> Result<(), Error> {
         let mut matched = 0;
-        // SAFETY: the pointers are those of a text, places and a number that live.
+        // SAFETY: `text`, the places and `matched` live.
         let status = unsafe {
-            sys::zugrenja_finish(
-                self.handle(),
+            ffi::zugrenja_finish(
+                self.handle.raw(),
                 text.as_ptr(),
                 text.len(),
-                places.as_ptr(),
-                places.len(),
+                self.places.as_ptr(),
+                self.places.len(),
                 self_closing.into(),
                 &mut matched,
             )
         };
-        if status == GOOD {
-            self.keep_report(matched);
-            return Ok(());
+        if status != ffi::GOOD {
+            return Err(Error::of(status));
         }
-        Err(TagError::of(status))
+        self.read_report(matched);
+        Ok(())
     }
 
-    /// The ids that the last tag was reported under, ascending: none after an end tag, or where a tag waits or is refused.
+    /// Tells of a start tag and hands its attributes over if they are asked for: the ids that it is reported under, as [`Matcher::ids`].
+    ///
+    /// # Errors
+    /// Those of [`Matcher::start`], and [`Error::OutOfMemory`].
+    pub fn tag(
+        &mut self,
+        name: impl AsRef<[u8]>,
+        namespace: Namespace,
+        attributes: &[Attribute<'_>],
+        self_closing: bool,
+    ) -> Result<&[u32], Error> {
+        if self.start(name, namespace)? == Started::NeedsAttributes {
+            self.finish(attributes, self_closing)?;
+        }
+        Ok(&self.ids)
+    }
+
+    /// Keeps what is reported of the last start tag, under so many ids.
+    fn read_report(&mut self, matched: usize) {
+        self.ids.resize(matched, 0);
+        let (handle, mut count, mut opened) = (self.handle.raw(), 0, 0);
+        // SAFETY: `ids`, `count` and `opened` live.
+        unsafe {
+            ffi::zugrenja_ids(handle, self.ids.as_mut_ptr(), self.ids.len(), &mut count);
+            ffi::zugrenja_has_opened(handle, &mut opened);
+        }
+        debug_assert_eq!(count, matched);
+        self.has_opened = opened != 0;
+        self.open += usize::from(self.has_opened);
+    }
+
+    fn forget_report(&mut self) {
+        self.ids.clear();
+        self.has_opened = false;
+    }
+
+    /// The ids that the last tag was reported under, ascending, each once: none after an end tag, or where a tag waits or is refused.
     pub fn ids(&self) -> &[u32] {
         &self.ids
     }
 
-    /// Whether the last tag opened its element, which has content then.
+    /// Whether the last tag has opened its element, which has content then.
     pub fn has_opened(&self) -> bool {
-        self.opened
+        self.has_opened
     }
 
-    /// Gives a value to the element that the last tag opened. Returns whether it opened one.
-    pub fn set_value(&mut self, value: u64) -> bool {
-        // SAFETY: the handle has a matcher.
-        unsafe { sys::zugrenja_set_value(self.handle(), value) == GOOD }
-    }
-
-    /// How many nodes were tried for the last start tag, by their names and by their attributes.
-    pub fn tries(&mut self) -> (u64, u64) {
-        let (mut names, mut attributes) = (0, 0);
-        // SAFETY: the handle has a matcher.
-        unsafe { sys::zugrenja_tries(self.handle(), &mut names, &mut attributes) };
-        (names, attributes)
-    }
-
-    /// An end tag: the last open element of its name is closed, and all inside it. The values that they were given, the outermost first, 0 if
-    /// none was.
-    pub fn end(&mut self, name: impl AsRef<[u8]>) -> Result<&[u64], OutOfMemory> {
-        let (name, mut count, open) = (name.as_ref(), 0, self.open);
-        self.closed.resize(open, 0);
-        let closed = self.closed.as_mut_ptr();
-        // SAFETY: there is room for as many values as elements are open.
-        let status =
-            unsafe { sys::zugrenja_end(self.handle(), name.as_ptr(), name.len(), closed, open, &mut count) };
-        if status != GOOD {
-            return Err(OutOfMemory);
+    /// Gives a value to the element that the last tag has opened, in the place of the one that it had. It takes no memory.
+    ///
+    /// # Errors
+    /// [`Error::NotOpened`] if the last tag has opened none.
+    pub fn set_value(&mut self, value: u64) -> Result<(), Error> {
+        // SAFETY: only the handle is given.
+        match unsafe { ffi::zugrenja_set_value(self.handle.raw(), value) } {
+            ffi::GOOD => {
+                self.has_values = true;
+                Ok(())
+            }
+            status => Err(Error::of(status)),
         }
-        self.clear_report();
-        self.open -= count.min(open);
-        Ok(&self.closed[..count.min(open)])
     }
+
+    /// Tells of an end tag by its name, which is compared without case: it closes the last open element of that name, and all inside it;
+    /// none if none is open. Returns the values of those that it closes, the outermost first, 0 for one that was given none.
+    ///
+    /// # Errors
+    /// [`Error::OutOfMemory`], and no element is closed. Where no open element has a value it takes no memory.
+    ///
+    /// ```
+    /// use zugrenja::{Matcher, Namespace};
+    ///
+    /// let mut matcher = Matcher::new(["p"])?;
+    /// for (name, value) in [("div", 5), ("p", 7)] {
+    ///     matcher.tag(name, Namespace::Html, &[], false)?;
+    ///     matcher.set_value(value)?;
+    /// }
+    /// matcher.tag("em", Namespace::Html, &[], false)?;
+    /// assert_eq!(matcher.end("p")?, [7, 0]);
+    /// assert_eq!(matcher.end("p")?, []);
+    /// assert_eq!(matcher.end("div")?, [5]);
+    /// # Ok::<(), zugrenja::Error>(())
+    /// ```
+    pub fn end(&mut self, name: impl AsRef<[u8]>) -> Result<&[u64], Error> {
+        let (name, mut closed) = (name.as_ref(), 0);
+        self.values.resize(if self.has_values { self.open } else { 0 }, 0);
+        let (handle, values) = (self.handle.raw(), self.values.as_mut_ptr());
+        // SAFETY: `name`, `values` and `closed` live.
+        match unsafe { ffi::zugrenja_end(handle, name.as_ptr(), name.len(), values, self.values.len(), &mut closed) } {
+            ffi::GOOD => {}
+            status => return Err(Error::of(status)),
+        }
+        self.forget_report();
+        self.values.resize(closed, 0);
+        self.open -= closed;
+        self.has_values &= self.open > 0;
+        Ok(&self.values)
+    }
+
+    /// How many nodes of the selectors' tree were tried for the last start tag, by their names and by their attributes.
+    pub fn tries(&mut self) -> Tries {
+        let mut tries = Tries::default();
+        // SAFETY: both numbers live. The matcher is built, so both are written.
+        unsafe { ffi::zugrenja_tries(self.handle.raw(), &mut tries.names, &mut tries.attributes) };
+        tries
+    }
+}
+
+/// How many nodes of the selectors' tree were tried for a start tag.
+#[derive(Clone, Copy, Debug, Default, PartialEq, Eq)]
+pub struct Tries {
+    /// By their names.
+    pub names: u64,
+    /// By their attributes.
+    pub attributes: u64,
 }

@@ -1,0 +1,240 @@
+//! What a matcher answers, call by call.
+
+use std::error::Error as _;
+use zugrenja::{run_script, Attribute, Builder, Cause, Ending, Error, Matcher, Namespace, Place, Settings, Started};
+use Namespace::{Html, MathMl, Svg};
+
+/// A matcher with this room for open elements.
+fn limited(max_memory: usize, element_bytes: usize, texts: &[&str]) -> Matcher {
+    let mut builder = Builder::with_settings(Settings { max_memory, element_bytes, esi: false }).unwrap();
+    for text in texts {
+        builder.add(0, text).unwrap();
+    }
+    builder.build().unwrap()
+}
+
+fn matcher(texts: &[&str]) -> Matcher {
+    Matcher::new(texts).unwrap()
+}
+
+#[test]
+fn each_cause_has_its_place() {
+    let refused = [
+        ("", Cause::EmptySelector, 0, 0),
+        ("a, ,b", Cause::EmptySelector, 1, 3),
+        ("div >", Cause::DanglingCombinator, 0, 5),
+        ("div.", Cause::UnexpectedEnd, 0, 4),
+        ("div@", Cause::UnexpectedToken, 0, 3),
+        ("div[=\"foo\"]", Cause::MissingAttributeName, 0, 4),
+        ("p, [a=1]", Cause::UnexpectedTokenInAttribute, 1, 6),
+        (".foo()", Cause::InvalidClassName, 0, 1),
+        ("svg|img", Cause::NamespacedSelector, 0, 3),
+        ("a:hover", Cause::UnsupportedPseudoClassOrElement, 0, 2),
+        ("a + b", Cause::UnsupportedCombinator('+'), 0, 0),
+        ("a ~ b", Cause::UnsupportedCombinator('~'), 0, 0),
+        ("ä, é~b", Cause::UnsupportedCombinator('~'), 1, 4),
+    ];
+    let mut builder = Builder::new().unwrap();
+    for (text, cause, item, offset) in refused {
+        assert_eq!(builder.add(0, text), Err(Error::Selector { cause, item, offset }), "{text}");
+    }
+    let deep = format!("{}a{}", ":not(".repeat(129), ")".repeat(129));
+    let refused = builder.add(0, &deep).unwrap_err();
+    assert!(matches!(refused, Error::Selector { cause: Cause::UnsupportedSyntax, item: 0, .. }), "{refused}");
+    builder.add(3, "a").unwrap();
+    assert_eq!(builder.build().unwrap().tag("a", Html, &[], false), Ok(&[3][..]));
+}
+
+#[test]
+fn errors_say_cause_and_place() {
+    let refused = Matcher::new(["a", "b, c:root"]).unwrap_err();
+    let shown = "pseudo-class or pseudo-element that isn't supported at byte 3, in item 1 of the list";
+    assert_eq!(refused.to_string(), shown);
+    assert!(refused.source().is_none());
+    let boxed: Box<dyn std::error::Error + Send + Sync> = refused.into();
+    assert_eq!(boxed.to_string(), shown);
+}
+
+#[test]
+fn ids_ascend_and_stand_once() {
+    let mut builder = Builder::new().unwrap();
+    for (id, text) in [(u32::MAX, "p"), (4, "*"), (0, "p, body p"), (4, "p")] {
+        builder.add(id, text).unwrap();
+    }
+    let mut matcher = builder.build().unwrap();
+    assert_eq!(matcher.tag("body", Html, &[], false), Ok(&[4][..]));
+    assert_eq!(matcher.tag("P", Html, &[], false), Ok(&[0, 4, u32::MAX][..]));
+    assert_eq!(matcher.end("BODY"), Ok(&[0, 0][..]));
+    assert!(matcher.ids().is_empty());
+}
+
+#[test]
+fn attributes_are_asked_for_where_they_count() {
+    let mut matcher = matcher(&["a[href]", "p"]);
+    assert_eq!(matcher.start("p", Html), Ok(Started::Reported));
+    assert_eq!(matcher.finish(&[], false), Err(Error::NotAsked));
+    assert_eq!(matcher.start("a", Html), Ok(Started::NeedsAttributes));
+    assert!(matcher.ids().is_empty() && !matcher.has_opened());
+    assert_eq!(matcher.finish(&[Attribute::bare("hidden"), Attribute::bare("HREF")], false), Ok(()));
+    assert_eq!(matcher.ids(), [0]);
+    assert_eq!(matcher.finish(&[], false), Err(Error::NotAsked));
+}
+
+#[test]
+fn values_are_bytes() {
+    let mut matcher = matcher(&["[a='']", "[a=é]", "[b]"]);
+    let none: [u32; 0] = [];
+    assert_eq!(matcher.tag("p", Html, &[Attribute::new("a", "")], false), Ok(&[0][..]));
+    assert_eq!(matcher.tag("p", Html, &[Attribute::bare("a")], false), Ok(&[0][..]));
+    assert_eq!(matcher.tag("p", Html, &[Attribute::new("a", "é".as_bytes())], false), Ok(&[1][..]));
+    assert_eq!(matcher.tag("p", Html, &[Attribute::new("a", b"\xe9")], false), Ok(&none[..]));
+    assert_eq!(matcher.tag(b"\xff\0", Html, &[Attribute::new("b", b"\xff")], false), Ok(&[2][..]));
+    assert_eq!(matcher.tag("", Html, &[Attribute::new("", "")], false), Ok(&none[..]));
+    assert_eq!(matcher.end(b"\xff\0").map(<[u64]>::len), Ok(2));
+}
+
+#[test]
+fn places_lie_in_the_text() {
+    let place = |name, value| [Place { name, value }];
+    let mut matcher = matcher(&["[id=a]"]);
+    assert_eq!(matcher.start("p", Html), Ok(Started::NeedsAttributes));
+    let reversed = std::ops::Range { start: 5, end: 3 };
+    for places in [
+        place(3..5, Some(6..8)),
+        place(3..8, None),
+        place(reversed.clone(), None),
+        place(3..5, Some(reversed)),
+        place(usize::MAX..usize::MAX, None),
+    ] {
+        assert_eq!(matcher.finish_in("<p id=a", &places, false), Err(Error::OutsideText), "{places:?}");
+    }
+    assert_eq!(matcher.finish_in("<p id=a", &place(3..5, Some(6..7)), false), Ok(()));
+    assert_eq!(matcher.ids(), [0]);
+}
+
+#[test]
+fn a_dropped_tag_counts_as_a_child() {
+    let mut matcher = matcher(&["p:nth-child(2)", "b[x]"]);
+    matcher.tag("div", Html, &[Attribute::bare("x")], false).unwrap();
+    assert_eq!(matcher.start("b", Html), Ok(Started::NeedsAttributes));
+    assert_eq!(matcher.start("p", Html), Ok(Started::Reported));
+    assert_eq!(matcher.ids(), [0]);
+    assert_eq!(matcher.finish(&[Attribute::bare("x")], false), Err(Error::NotAsked));
+    assert_eq!(matcher.start("b", Html), Ok(Started::NeedsAttributes));
+    assert_eq!(matcher.end("div").map(<[u64]>::len), Ok(2));
+    assert_eq!(matcher.finish(&[], false), Err(Error::NotAsked));
+}
+
+#[test]
+fn content_depends_on_name_namespace_and_slash() {
+    let mut matcher = matcher(&["*"]);
+    let mut opens = |name: &str, namespace, closes| {
+        matcher.tag(name, namespace, &[], closes).unwrap();
+        assert_eq!(matcher.set_value(1).is_ok(), matcher.has_opened());
+        matcher.has_opened()
+    };
+    assert!(opens("div", Html, true));
+    assert!(!opens("br", Html, false));
+    assert!(opens("path", Svg, false));
+    assert!(!opens("path", Svg, true));
+    assert!(!opens("mi", MathMl, true));
+    assert!(opens("br", MathMl, false));
+    assert!(opens("esi:include", Html, false));
+    assert_eq!(matcher.end("div"), Ok(&[1, 1, 1, 1][..]));
+    assert_eq!(matcher.set_value(1), Err(Error::NotOpened));
+}
+
+#[test]
+fn esi_names_are_void_by_the_setting() {
+    let mut matcher =
+        Builder::with_settings(Settings { esi: true, ..Settings::default() }).and_then(Builder::build).unwrap();
+    matcher.tag("esi:include", Html, &[], false).unwrap();
+    assert!(!matcher.has_opened());
+}
+
+#[test]
+fn values_come_back_outermost_first() {
+    let mut matcher = matcher(&["a"]);
+    for (name, value) in [("a", Some(1)), ("b", None), ("c", Some(u64::MAX)), ("b", Some(4))] {
+        matcher.tag(name, Html, &[], false).unwrap();
+        if let Some(value) = value {
+            matcher.set_value(8).unwrap();
+            matcher.set_value(value).unwrap();
+        }
+    }
+    assert_eq!(matcher.end("x"), Ok(&[][..]));
+    assert_eq!(matcher.end("b"), Ok(&[4][..]));
+    assert_eq!(matcher.end("b"), Ok(&[0, u64::MAX][..]));
+    assert_eq!(matcher.end("a"), Ok(&[1][..]));
+    assert_eq!(matcher.end("a"), Ok(&[][..]));
+    matcher.tag("d", Html, &[], false).unwrap();
+    assert_eq!(matcher.end("d"), Ok(&[0][..]));
+}
+
+#[test]
+fn a_refused_tag_fails_the_later_ones() {
+    let mut matcher = limited(0, 64, &["p", "b[x]"]);
+    assert_eq!(matcher.start("p", Html), Err(Error::MemoryLimitExceeded));
+    assert_eq!(matcher.start("p", Html), Err(Error::Failed));
+    assert_eq!(matcher.tag("b", Html, &[], false), Err(Error::Failed));
+    assert_eq!(matcher.finish(&[], false), Err(Error::Failed));
+    assert_eq!(matcher.end("p"), Ok(&[][..]));
+    assert!(matcher.ids().is_empty() && !matcher.has_opened());
+}
+
+#[test]
+fn open_elements_are_charged() {
+    let opens_until_refused = |max_memory, element_bytes| {
+        let mut matcher = limited(max_memory, element_bytes, &["p"]);
+        (0..1000).take_while(|_| matcher.start("p", Html).is_ok()).count()
+    };
+    assert_eq!(opens_until_refused(8 * 64, 64), 8);
+    assert_eq!(opens_until_refused(16 * 64 - 1, 64), 8);
+    assert_eq!(opens_until_refused(16 * 64, 64), 16);
+    for element_bytes in [0, 1] {
+        assert_eq!(opens_until_refused(127, element_bytes), 0);
+        assert_eq!(opens_until_refused(128, element_bytes), 128);
+    }
+    assert_eq!(opens_until_refused(usize::MAX, usize::MAX), 0);
+    assert_eq!(opens_until_refused(usize::MAX, 64), 1000);
+}
+
+#[test]
+fn tries_are_told() {
+    let mut matcher = matcher(&["div > p", "div a[href]"]);
+    matcher.tag("div", Html, &[], false).unwrap();
+    matcher.tag("a", Html, &[Attribute::bare("href")], false).unwrap();
+    let script = "tries\nselect\t0\tdiv > p\nselect\t1\tdiv a[href]\nstart\thtml\tdiv\nstart\thtml\ta\thref\n";
+    let (_, output) = run_script(script).unwrap();
+    let tries = matcher.tries();
+    let last = format!("start\t1\tasked\ttries {} {}\n", tries.names, tries.attributes);
+    assert!(String::from_utf8(output).unwrap().ends_with(&last), "{last}");
+}
+
+#[test]
+fn a_matcher_without_selectors_reports_nothing() {
+    let mut matcher = matcher(&[]);
+    assert_eq!(matcher.tag("p", Html, &[], false), Ok(&[][..]));
+    assert_eq!(matcher.end("p"), Ok(&[0][..]));
+}
+
+#[test]
+fn builders_that_are_dropped_are_freed() {
+    for _ in 0..100 {
+        let mut builder = Builder::new().unwrap();
+        builder.add(0, "a:not(.b, #c)").unwrap();
+        drop(builder);
+        drop(matcher(&["a b > c"]));
+    }
+}
+
+#[test]
+fn scripts_end_in_three_ways() {
+    assert_eq!(run_script(""), Ok((Ending::Good, Vec::new())));
+    assert_eq!(run_script(b"select\t0\t\xff\n"), Ok((Ending::BadLine, b"bad line 1: form\n".to_vec())));
+    let refused = "limit\t0\nselect\t0\tp\nstart\thtml\tp\n";
+    assert_eq!(run_script(refused), Ok((Ending::Refused, b"refused limit\n".to_vec())));
+    let ids: String = (0..100).map(|id| format!("select\t{id}\tp\n")).collect();
+    let (ending, output) = run_script(ids + &"start\thtml\tp\n".repeat(99)).unwrap();
+    assert_eq!((ending, output.len()), (Ending::Good, 99 * 296));
+}
