@@ -1,19 +1,24 @@
-// Zugrenja for C++17: bindings/c/zugrenja.h with owners, exceptions and std::string_view. One header.
+// Zugrenja for C++17, one header over bindings/c/zugrenja.h: CSS selectors against the start tags of a document, as its tags come.
 //
-//     zugrenja::builder builder;
-//     builder.add(0, "main a[href]");
-//     zugrenja::matcher matcher(std::move(builder));
+//     zugrenja::matcher matcher;
+//     matcher.add(7, "main > a[href^='https:']");
+//     matcher.build();
 //     matcher.start("main");
-//     if (matcher.start("a") == zugrenja::started::needs_attributes) {
-//         matcher.finish({{"href", "/"}});
+//     if (matcher.start("a")) {
+//         matcher.finish({{"href", "https://example.org/"}});
 //     }
-//     for (std::uint32_t id : matcher.ids()) { .. }
+//     for (std::uint32_t id : matcher.ids()) { .. } // 7
+//
+// Each call that may be refused has two forms: `add` throws, and isn't there under -fno-exceptions; `try_add` returns a status. What
+// was refused has changed nothing, unless it is said at the call. Two matchers may be used at once by two threads, one by one at a time.
 #ifndef ZUGRENJA_HPP
 #define ZUGRENJA_HPP
 
 #include "zugrenja.h"
 
+#include <cstddef>
 #include <cstdint>
+#include <memory>
 #include <new>
 #include <optional>
 #include <stdexcept>
@@ -24,168 +29,345 @@
 
 namespace zugrenja {
 
-// A text isn't accepted as a selector: the cause (ZUGRENJA_UNEXPECTED_TOKEN ..) and where, as the item of the list and the byte offset.
-class selector_error : public std::invalid_argument {
-public:
-    selector_error(const zugrenja_refusal &refusal)
-        : std::invalid_argument("no selector: cause " + std::to_string(refusal.cause) + " (item " + std::to_string(refusal.item) +
-                                ", byte " + std::to_string(refusal.offset) + ")"),
-          refusal(refusal) {}
-
-    zugrenja_refusal refusal;
+// What a call answers: the statuses of zugrenja.h.
+enum class status : std::uint32_t {
+    good = ZUGRENJA_GOOD,
+    needs_attributes = ZUGRENJA_NEEDS_ATTRIBUTES,
+    out_of_memory = ZUGRENJA_OUT_OF_MEMORY,
+    no_matcher = ZUGRENJA_NO_MATCHER, // moved away, or memory was refused for it
+    in_use = ZUGRENJA_IN_USE,
+    not_built = ZUGRENJA_NOT_BUILT,
+    built = ZUGRENJA_BUILT,
+    not_utf8 = ZUGRENJA_NOT_UTF8,
+    not_accepted = ZUGRENJA_NOT_ACCEPTED,
+    no_namespace = ZUGRENJA_NO_NAMESPACE,
+    limit = ZUGRENJA_LIMIT,
+    counter = ZUGRENJA_COUNTER,
+    tag_out_of_memory = ZUGRENJA_TAG_OUT_OF_MEMORY,
+    failed = ZUGRENJA_FAILED,
+    not_asked = ZUGRENJA_NOT_ASKED,
+    outside = ZUGRENJA_OUTSIDE,
+    not_opened = ZUGRENJA_NOT_OPENED
 };
 
-// A call was refused: its status (ZUGRENJA_LIMIT ..).
-class status_error : public std::runtime_error {
-public:
-    explicit status_error(std::uint32_t status) : std::runtime_error("zugrenja: status " + std::to_string(status)), status(status) {}
-
-    std::uint32_t status;
-};
-
-namespace detail {
-
-inline const std::uint8_t *bytes(std::string_view text) { return reinterpret_cast<const std::uint8_t *>(text.data()); }
-
-inline void check(std::uint32_t status) {
-    if (status == ZUGRENJA_OUT_OF_MEMORY || status == ZUGRENJA_TAG_OUT_OF_MEMORY) {
-        throw std::bad_alloc();
+inline const char *message(status status) {
+    switch (status) {
+    case status::good: return "good";
+    case status::needs_attributes: return "the attributes are asked for";
+    case status::out_of_memory: return "out of memory";
+    case status::no_matcher: return "there is no matcher";
+    case status::in_use: return "there is a matcher already";
+    case status::not_built: return "the matcher isn't built yet";
+    case status::built: return "the matcher is built already";
+    case status::not_utf8: return "the text isn't UTF-8";
+    case status::not_accepted: return "the text isn't accepted as a selector";
+    case status::no_namespace: return "there is no such namespace";
+    case status::limit: return "the open elements would take more than the memory limit";
+    case status::counter: return "the parent has as many children as can be counted";
+    case status::tag_out_of_memory: return "out of memory for a start tag";
+    case status::failed: return "an earlier start tag was refused";
+    case status::not_asked: return "no start tag waits for its attributes";
+    case status::outside: return "an attribute lies outside the text";
+    case status::not_opened: return "the last tag has opened no element";
     }
-    if (status != ZUGRENJA_GOOD) {
-        throw status_error(status);
-    }
+    return "unknown status";
 }
 
-// Owns a handle. It can be moved, and not copied.
-class owner {
-public:
-    owner() = default;
-    owner(owner &&other) noexcept : handle(std::exchange(other.handle, zugrenja_matcher{})) {}
-    owner &operator=(owner &&other) noexcept {
-        std::swap(handle, other.handle);
-        return *this;
-    }
-    ~owner() { zugrenja_free(&handle); }
-
-    zugrenja_matcher handle{};
+// Why a text isn't accepted as a selector: the causes of zugrenja.h.
+enum class cause : std::uint32_t {
+    unexpected_token = ZUGRENJA_UNEXPECTED_TOKEN,
+    unexpected_end = ZUGRENJA_UNEXPECTED_END,
+    missing_attribute_name = ZUGRENJA_MISSING_ATTRIBUTE_NAME,
+    empty_selector = ZUGRENJA_EMPTY_SELECTOR,
+    dangling_combinator = ZUGRENJA_DANGLING_COMBINATOR,
+    unexpected_token_in_attribute = ZUGRENJA_UNEXPECTED_TOKEN_IN_ATTRIBUTE,
+    unsupported_pseudo_class_or_element = ZUGRENJA_UNSUPPORTED_PSEUDO_CLASS_OR_ELEMENT,
+    nested_negation = ZUGRENJA_NESTED_NEGATION,
+    namespaced_selector = ZUGRENJA_NAMESPACED_SELECTOR,
+    invalid_class_name = ZUGRENJA_INVALID_CLASS_NAME,
+    empty_negation = ZUGRENJA_EMPTY_NEGATION,
+    unsupported_combinator = ZUGRENJA_UNSUPPORTED_COMBINATOR,
+    unsupported_syntax = ZUGRENJA_UNSUPPORTED_SYNTAX
 };
 
-} // namespace detail
+inline const char *message(cause cause) {
+    switch (cause) {
+    case cause::unexpected_token: return "unexpected token";
+    case cause::unexpected_end: return "unexpected end";
+    case cause::missing_attribute_name: return "no attribute name after [";
+    case cause::empty_selector: return "empty selector";
+    case cause::dangling_combinator: return "nothing after a combinator";
+    case cause::unexpected_token_in_attribute: return "unexpected token in an attribute selector";
+    case cause::unsupported_pseudo_class_or_element: return "pseudo-class or pseudo-element that isn't supported";
+    case cause::nested_negation: return ":not in a :not";
+    case cause::namespaced_selector: return "name with a namespace";
+    case cause::invalid_class_name: return "no class name after .";
+    case cause::empty_negation: return "empty :not";
+    case cause::unsupported_combinator: return "combinator that isn't supported";
+    case cause::unsupported_syntax: return "syntax that isn't supported";
+    }
+    return "unknown cause";
+}
 
-// Settings of a matcher.
-struct options {
+// Why a text isn't accepted, for an unsupported combinator which one, and where: the item of the list and the byte offset, both from 0.
+struct refusal {
+    zugrenja::cause cause = cause::unexpected_token;
+    char32_t combinator = 0;
+    std::size_t item = 0;
+    std::size_t offset = 0;
+};
+
+#if defined(__cpp_exceptions)
+// A call was refused. Where memory was refused std::bad_alloc is thrown instead.
+class error : public std::runtime_error {
+public:
+    explicit error(zugrenja::status status) : error(status, message(status)) {}
+
+    zugrenja::status code() const noexcept { return status_; }
+
+protected:
+    error(zugrenja::status status, const std::string &what) : std::runtime_error(what), status_(status) {}
+
+private:
+    zugrenja::status status_;
+};
+
+// A text isn't accepted as a selector.
+class selector_error : public error {
+public:
+    explicit selector_error(const zugrenja::refusal &refusal)
+        : error(status::not_accepted, std::string(message(refusal.cause)) + " at byte " + std::to_string(refusal.offset) +
+                                          ", in item " + std::to_string(refusal.item) + " of the list"),
+          refusal_(refusal) {}
+
+    const zugrenja::refusal &refusal() const noexcept { return refusal_; }
+    zugrenja::cause cause() const noexcept { return refusal_.cause; }
+    std::size_t offset() const noexcept { return refusal_.offset; }
+
+private:
+    zugrenja::refusal refusal_;
+};
+#endif
+
+enum class name_space : std::uint32_t { html = ZUGRENJA_HTML, svg = ZUGRENJA_SVG, mathml = ZUGRENJA_MATHML };
+
+// The most bytes that open elements may be charged for, how many each is charged for (0 counts as 1), and whether `esi:include` and
+// `esi:comment` are void names.
+struct settings {
     std::size_t max_memory = SIZE_MAX;
     std::size_t element_bytes = 64;
     bool esi = false;
 };
 
-// Selectors and settings, of which a matcher is made.
-class builder {
-public:
-    explicit builder(const options &o = {}) { detail::check(zugrenja_new(&owner_.handle, o.max_memory, o.element_bytes, o.esi)); }
-
-    // Adds the selectors of a text under an id. Throws selector_error, std::bad_alloc, or status_error if the text isn't UTF-8.
-    void add(std::uint32_t id, std::string_view text) {
-        zugrenja_refusal refusal;
-        std::uint32_t status = zugrenja_add(&owner_.handle, id, detail::bytes(text), text.size(), &refusal);
-        if (status == ZUGRENJA_NOT_ACCEPTED) {
-            throw selector_error(refusal);
-        }
-        detail::check(status);
-    }
-
-private:
-    friend class matcher;
-    detail::owner owner_;
-};
-
-enum class started { reported, needs_attributes };
-
-// An attribute: its name, and its value if it has one.
+// An attribute of a start tag: its name, and its value if it has one.
 struct attribute {
     std::string_view name;
     std::optional<std::string_view> value = std::nullopt;
 };
 
-// Matches selectors against the start tags of a document. It can be moved, and not copied, and stays on its thread.
+// How many nodes of the selectors' tree were tried for a start tag, by their names and by their attributes.
+struct tries {
+    std::uint64_t names = 0;
+    std::uint64_t attributes = 0;
+};
+
+// Matches selectors against the start tags of a document. It can be moved and not copied; one that was moved away has no matcher.
 class matcher {
 public:
-    // Takes the builder's selectors. Throws std::bad_alloc, and status_error if the builder was used up.
-    explicit matcher(builder &&from) : owner_(std::move(from.owner_)) { detail::check(zugrenja_build(&owner_.handle)); }
-
-    // A start tag. Throws status_error if it is refused, and std::bad_alloc.
-    started start(std::string_view name, std::uint32_t name_space = ZUGRENJA_HTML) {
-        clear();
-        std::size_t matched;
-        std::uint32_t status = zugrenja_start(&owner_.handle, detail::bytes(name), name.size(), name_space, &matched);
-        if (status == ZUGRENJA_NEEDS_ATTRIBUTES) {
-            return started::needs_attributes;
+    // One without selectors. If memory is refused, throws std::bad_alloc; under -fno-exceptions each call answers no_matcher then.
+    explicit matcher(const settings &settings = {}) : handle_(new (std::nothrow) zugrenja_matcher{}) {
+        status made = status::out_of_memory;
+        if (handle_) {
+            made = status(zugrenja_new(at(), settings.max_memory, settings.element_bytes, settings.esi));
         }
-        detail::check(status);
-        keep(matched);
-        return started::reported;
+#if defined(__cpp_exceptions)
+        check(made);
+#else
+        static_cast<void>(made);
+#endif
     }
 
-    // The attributes of the start tag that waits for them. Throws as start does.
-    void finish(const std::vector<attribute> &attributes, bool self_closing = false) {
+    // Adds the selectors of a text, a list of them with commas, under an id. Several texts may have one id. The text isn't kept. If it is
+    // not_accepted, `why` is written.
+    status try_add(std::uint32_t id, std::string_view text, refusal &why) noexcept {
+        if (!handle_) {
+            return status::no_matcher;
+        }
+        zugrenja_refusal refused{};
+        status added = status(zugrenja_add(at(), id, bytes(text), text.size(), &refused));
+        if (added == status::not_accepted) {
+            why = refusal{cause(refused.cause), char32_t(refused.combinator), refused.item, refused.offset};
+        }
+        return added;
+    }
+
+    // Builds the matcher: from now on it is told of tags, and takes no selector. Out of memory, it is gone.
+    status try_build() noexcept { return handle_ ? status(zugrenja_build(at())) : status::no_matcher; }
+
+    // A start tag: good, then it is reported; or needs_attributes, then it waits for try_finish, and is dropped by any other call that
+    // tells of a tag. A tag outside HTML always waits. Names are compared without case. After limit, counter and tag_out_of_memory each
+    // later start tag is answered failed.
+    status try_start(std::string_view name, name_space space = name_space::html) noexcept {
+        if (!handle_) {
+            return status::no_matcher;
+        }
+        std::size_t matched = 0;
+        return opened(status(zugrenja_start(at(), bytes(name), name.size(), std::uint32_t(space), &matched)));
+    }
+
+    // The attributes of the start tag that waits, by their places in a text, which may be the document itself; whether it closes itself
+    // counts outside HTML. After not_asked, outside and out_of_memory a tag that waits still does.
+    status try_finish_in(std::string_view text, const zugrenja_attribute *places, std::size_t count, bool self_closing = false) noexcept {
+        if (!handle_) {
+            return status::no_matcher;
+        }
+        std::size_t matched = 0;
+        return opened(status(zugrenja_finish(at(), bytes(text), text.size(), places, count, self_closing, &matched)));
+    }
+
+    // The same with the attributes as they are.
+    status try_finish(const std::vector<attribute> &attributes, bool self_closing = false) {
         text_.clear();
         places_.clear();
-        for (const attribute &a : attributes) {
+        for (const attribute &attribute : attributes) {
             std::size_t start = text_.size();
-            text_.append(a.name);
-            std::size_t middle = text_.size();
-            text_.append(a.value.value_or(std::string_view()));
-            places_.push_back({start, middle, middle, text_.size(), a.value.has_value()});
+            text_.append(attribute.name);
+            std::size_t name_end = text_.size();
+            text_.append(attribute.value.value_or(std::string_view()));
+            places_.push_back({start, name_end, name_end, text_.size(), attribute.value.has_value()});
         }
-        finish_in(text_, places_, self_closing);
+        return try_finish_in(text_, places_.data(), places_.size(), self_closing);
     }
 
-    // The same with the attributes' places in a text, which may be the document itself.
+    // An end tag: the last open element of its name is closed, and all inside it; none if none is open. `values` becomes their values, the
+    // outermost first, 0 for one that was given none.
+    status try_end(std::string_view name, std::vector<std::uint64_t> &values) {
+        if (!handle_) {
+            return status::no_matcher;
+        }
+        values.clear();
+        values.reserve(open_);
+        values.resize(has_values_ ? open_ : 0);
+        std::size_t closed = 0;
+        status ended = status(zugrenja_end(at(), bytes(name), name.size(), values.data(), values.size(), &closed));
+        values.resize(closed);
+        open_ -= closed;
+        has_values_ = has_values_ && open_ > 0;
+        return ended;
+    }
+
+    // Gives a value to the element that the last tag has opened, in the place of the one that it had. It takes no memory.
+    status try_set_value(std::uint64_t value) noexcept {
+        if (!handle_) {
+            return status::no_matcher;
+        }
+        status given = status(zugrenja_set_value(at(), value));
+        has_values_ = has_values_ || given == status::good;
+        return given;
+    }
+
+#if defined(__cpp_exceptions)
+    // Throws selector_error, and error for a text that isn't UTF-8 or for a matcher that is built.
+    void add(std::uint32_t id, std::string_view text) {
+        refusal why;
+        status added = try_add(id, text, why);
+        if (added == status::not_accepted) {
+            throw selector_error(why);
+        }
+        check(added);
+    }
+
+    void build() { check(try_build()); }
+
+    // Whether the attributes are asked for, by finish.
+    bool start(std::string_view name, name_space space = name_space::html) {
+        status started = try_start(name, space);
+        if (started == status::needs_attributes) {
+            return true;
+        }
+        check(started);
+        return false;
+    }
+
+    void finish(const std::vector<attribute> &attributes, bool self_closing = false) { check(try_finish(attributes, self_closing)); }
+
     void finish_in(std::string_view text, const std::vector<zugrenja_attribute> &places, bool self_closing = false) {
-        std::size_t matched;
-        detail::check(zugrenja_finish(&owner_.handle, detail::bytes(text), text.size(), places.data(), places.size(), self_closing, &matched));
-        keep(matched);
+        check(try_finish_in(text, places.data(), places.size(), self_closing));
     }
 
-    // The ids that the last tag was reported under, ascending.
-    const std::vector<std::uint32_t> &ids() const { return ids_; }
-
-    // Whether the last tag opened its element, which has content then.
-    bool has_opened() const { return opened_; }
-
-    // Gives a value to the element that the last tag opened. Returns whether it opened one.
-    bool set_value(std::uint64_t value) { return zugrenja_set_value(&owner_.handle, value) == ZUGRENJA_GOOD; }
-
-    // An end tag: the values of the elements that it closes, the outermost first, 0 if none was given. Throws std::bad_alloc.
     std::vector<std::uint64_t> end(std::string_view name) {
-        std::vector<std::uint64_t> values(open_);
-        std::size_t closed;
-        detail::check(zugrenja_end(&owner_.handle, detail::bytes(name), name.size(), values.data(), values.size(), &closed));
-        clear();
-        values.resize(closed < open_ ? closed : open_);
-        open_ -= values.size();
+        std::vector<std::uint64_t> values;
+        check(try_end(name, values));
         return values;
     }
 
+    void set_value(std::uint64_t value) { check(try_set_value(value)); }
+#endif
+
+    // The ids that the last tag was reported under, ascending, each once: none after an end tag, where a tag waits or is refused, or before
+    // the first tag.
+    std::vector<std::uint32_t> ids() {
+        std::size_t matched = 0;
+        if (handle_) {
+            zugrenja_ids(at(), nullptr, 0, &matched);
+        }
+        std::vector<std::uint32_t> ids(matched);
+        if (matched > 0) {
+            zugrenja_ids(at(), ids.data(), ids.size(), &matched);
+        }
+        return ids;
+    }
+
+    // Whether the last tag has opened its element, which has content then.
+    bool has_opened() noexcept {
+        std::uint32_t opened = 0;
+        if (handle_) {
+            zugrenja_has_opened(at(), &opened);
+        }
+        return opened != 0;
+    }
+
+    // For the last start tag.
+    zugrenja::tries tries() noexcept {
+        zugrenja::tries tries;
+        if (handle_) {
+            zugrenja_tries(at(), &tries.names, &tries.attributes);
+        }
+        return tries;
+    }
+
 private:
-    void clear() {
-        ids_.clear();
-        opened_ = false;
+    struct freed {
+        void operator()(zugrenja_matcher *handle) const noexcept {
+            zugrenja_free(handle);
+            delete handle;
+        }
+    };
+
+    static const std::uint8_t *bytes(std::string_view text) noexcept { return reinterpret_cast<const std::uint8_t *>(text.data()); }
+
+    zugrenja_matcher *at() noexcept { return handle_.get(); }
+
+    // Counts the element that a tag with this answer has opened.
+    status opened(status answer) noexcept {
+        open_ += answer == status::good && has_opened();
+        return answer;
     }
 
-    void keep(std::size_t matched) {
-        std::uint32_t opened;
-        zugrenja_has_opened(&owner_.handle, &opened);
-        opened_ = opened != 0;
-        open_ += opened;
-        ids_.resize(matched);
-        zugrenja_ids(&owner_.handle, ids_.data(), matched, &matched);
+#if defined(__cpp_exceptions)
+    static void check(status status) {
+        if (status == status::out_of_memory || status == status::tag_out_of_memory) {
+            throw std::bad_alloc();
+        }
+        if (status != status::good) {
+            throw error(status);
+        }
     }
+#endif
 
-    detail::owner owner_;
-    std::vector<std::uint32_t> ids_;
-    bool opened_ = false;
-    std::size_t open_ = 0;
+    std::unique_ptr<zugrenja_matcher, freed> handle_; // at an address that never changes
+    std::size_t open_ = 0;                            // how many elements are open
+    bool has_values_ = false;                         // whether one of them may have a value
     std::string text_;
     std::vector<zugrenja_attribute> places_;
 };
