@@ -116,7 +116,7 @@ extern "C" {
     /// GOOD, NO_MATCHER.
     pub fn zugrenja_free(matcher: *mut Handle) -> u32;
 
-    /// GOOD, BAD_LINE, REFUSED, OUT_OF_MEMORY. Writes `written` always, and as much of `out` as the output has and fits. It needs no handle.
+    /// GOOD, BAD_LINE, REFUSED, OUT_OF_MEMORY. Writes `written` always, and of `out` what fits of the output. It needs no handle.
     pub fn zugrenja_run_script(
         script: *const u8,
         script_len: usize,

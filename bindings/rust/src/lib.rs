@@ -265,8 +265,8 @@ impl Matcher {
         }
     }
 
-    /// Tells of a start tag by its name, which is compared without case: it is reported, or its attributes are asked for. A tag outside HTML
-    /// always waits for them.
+    /// Tells of a start tag by its name, which is compared without case: it is reported, or its attributes are asked for. A tag outside
+    /// HTML always waits for them.
     ///
     /// # Errors
     /// [`Error::MemoryLimitExceeded`], [`Error::CounterFull`], [`Error::TagOutOfMemory`], and [`Error::Failed`] after one of these.
