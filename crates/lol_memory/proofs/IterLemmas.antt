@@ -50,7 +50,7 @@ ids_from-rises ws from (suc n) =
     ]
 
 -- a list that rises is the keys of its set
-keys-with_ids : (ks : List ℕ) → is_sorted nat_cmp (paired ks) ≡ true → fm.keys (with_ids no_ids ks) ≡ ks
+pub keys-with_ids : (ks : List ℕ) → is_sorted nat_cmp (paired ks) ≡ true → fm.keys (with_ids no_ids ks) ≡ ks
 keys-with_ids ks rise =
     let sorted : T (is_sorted nat_cmp (paired ks)) = subst T (sym rise) tt in
     let made : Ids = fm.from_sorted (paired ks) in

@@ -192,6 +192,18 @@ fn hold_twelve_of_the_greatest_ids(rt: HostRuntime) -> Result<(), Fail> {
     Ok(())
 }
 
+/// A list of a million words, of which each fourth holds an id.
+#[test]
+fn hold_a_million_words(rt: HostRuntime) -> Result<(), Fail> {
+    let mut set = DenseHashSet::new(rt.alloc());
+    for place in 0..250_000u32 {
+        set.insert(128 * place)?;
+    }
+    assert!(rt; set.iter().eq((0..250_000u32).map(|place| 128 * place)));
+    assert!(rt; has_rooms(&set, &[(31_999_840, true), (31_999_904, false)]));
+    Ok(())
+}
+
 /// Ids of two sets: a list and a list, one of the two with places, both, and both that make a list together.
 const PAIRS: [(&[u32], &[u32]); 7] = [
     (&[7], &[100, 40]),

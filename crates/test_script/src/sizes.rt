@@ -26,9 +26,9 @@ fn is_copied(set: &DenseHashSet) -> Result<bool, AllocError> {
     Ok(copy == *set && copy.iter().eq([7, 300_000_000, 335_544_310]))
 }
 
-/// Ten million words.
+/// Three ids, the greatest of ten million words.
 #[test]
-fn a_set_takes_many_words(rt: HostRuntime) -> Result<(), Fail> {
+fn a_set_takes_ids_far_apart(rt: HostRuntime) -> Result<(), Fail> {
     let mut set = DenseHashSet::new(rt.alloc());
     insert_both(&mut set)?;
     unite_with_more(rt.alloc(), &mut set)?;
