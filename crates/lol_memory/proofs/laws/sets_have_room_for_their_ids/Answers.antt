@@ -1,7 +1,7 @@
-use Rattle.std.proofs.Common.{◌≡◌, ◌<◌, ◌≤◌, ◌+◌, ◌*◌, ◌/◌, ◌∙◌, ℕ, true, cond, nat_lt, [], ◌∷◌, get_or, sym, ap, subst, refl, arith}
+use Rattle.std.proofs.Common.{◌≡◌, ◌<◌, ◌+◌, ◌*◌, ◌/◌, ◌∙◌, ℕ, true, cond, nat_lt, [], ◌∷◌, get_or, sym, ap, subst, refl, arith}
 use Rattle.std.specs.List.{Contains}
 use Rattle.std.proofs.lemmas.Bool.Decides.{nat_tests}
-use Rattle.lol_memory.specs.Ids.{has, no_ids, with_id, ascending, words_after, IsDense}
+use Rattle.lol_memory.specs.Ids.{has, no_ids, with_id, ascending, words_after}
 use Rattle.lol_memory.specs.SetLaws.{held_has_room}
 use Rattle.lol_memory.specs.AscendingLaws.{has_from_listed, listed_from_has}
 use Rattle.lol_memory.proofs.IterLemmas.{keys-with_ids}
