@@ -30,7 +30,7 @@ loop-place-preserved c = λ k low high passes. elim (dec_lt k c.loop-place.place
 pub returns-then-near-bytes : goal.returns-then-near-bytes
 returns-then-near-bytes c =
     first_place (is_byte c.args.byte) c.args.bytes.now None (λ k low high passes.
-      c.loop-place.invariant k low (omega (arith, high, c.if-near-bytes.true, c.loop-place-test.false)) passes)
+    c.loop-place.invariant k low (omega (arith, high, c.if-near-bytes.true, c.loop-place-test.false)) passes)
 
 pub returns-in_err-place : goal.returns-in_err-place
 returns-in_err-place c =
