@@ -1,5 +1,5 @@
 -- What the calls of a handle do that tell of tags.
-use Rattle.std.specs.Prelude.{Option, ◌-◌, ◌^◌, min, replicate, ℕ, drop, unwrap_or, ◌≡◌, Bool, true, false, nat_eq, List, [], ◌∷◌, ◌++◌, map, length, All, Some, None, if◌then◌else◌}
+use Rattle.std.specs.Prelude.{Option, ◌-◌, ◌^◌, min, ℕ, take, drop, vec_capacity, unwrap_or, ◌≡◌, Bool, true, false, nat_eq, List, [], ◌∷◌, ◌++◌, map, length, All, Some, None, if◌then◌else◌}
 use Rattle.lol_base.specs.StartTags.{StartTag, attribute_of, OutlineIsInside}
 use Rattle.lol_base.specs.declared.namespace.Namespace.{Namespace}
 use Rattle.lol_base.specs.declared.start_tag.AttributeOutline.{AttributeOutline}
@@ -90,7 +90,8 @@ closed_values m name = map value_of (closed_elements m name)
 -- what is kept once these elements were closed: their values as far as there is room, and how many they are
 pub record HasClosed (room : ℕ) (elements : List (ElementValue (Option ℕ))) (closing : Closing) : Type 0 where
   pub closed : closing.closed ≡ min (length elements) (2 ^ 64 - 1)
-  pub values : closing.values.items ≡ overwritten (map value_of elements) (replicate room 0)
+  pub reserved : vec_capacity closing.values ≡ room
+  pub values : closing.values.items ≡ take room (map value_of elements)
 
 -- ---- reports
 

@@ -16,12 +16,12 @@ pub(crate) struct Closing {
 }
 
 impl Closing {
-    /// None yet, and room for so many.
+    /// None yet, and room for so many. The room isn't cleared, so it costs no more where few elements are closed.
     pub(crate) fn new(alloc: Global, room: usize) -> Result<Closing, AllocError>
         ensures { IfOk result (HasClosed room []) }
     {
         Ok(Closing {
-            values: Vec::from_elem(alloc, 0, room)?,
+            values: Vec::with_capacity(alloc, room)?,
             closed: 0,
         })
     }
@@ -38,8 +38,8 @@ impl Closing {
         ensures { (room : ℕ) (elements : List (ElementValue (Option ℕ))) → HasClosed room elements self.old
             → HasClosed room (elements ++ element ∷ []) self.new }
     {
-        if self.closed < self.values.len() {
-            self.values[self.closed] = element.value.unwrap_or(0);
+        if self.values.len() < self.values.capacity() {
+            self.values.push_reserved(element.value.unwrap_or(0));
         }
         self.closed = self.closed.saturating_add(1);
     }
@@ -49,7 +49,7 @@ impl Closing {
         ensures { (elements : List (ElementValue (Option ℕ))) → HasClosed (length values.old) elements self.now
             → values.new ≡ overwritten (map value_of elements) values.old }
     {
-        let fitting = self.values.len().min(self.closed).min(values.len());
+        let fitting = self.values.len().min(values.len());
         values[..fitting].copy_from_slice(&self.values[..fitting]);
     }
 }
