@@ -8,11 +8,12 @@ A decision is whether a selector matches an element. Each page is read once, and
 
 import argparse
 import collections
+import functools
 import itertools
 import os
 import sys
 import time
-from typing import Iterator, NamedTuple
+from typing import Callable, Iterable, Iterator, NamedTuple
 
 import peer_pages
 from engines import ENGINES, Engine
@@ -57,7 +58,7 @@ def decisions(port: str, page: Page, selectors: list, reasons: tuple = ()) -> li
     return found
 
 
-def explained(port: str, page: Page, selectors: list, engine: Engine, theirs: dict[int, set]) -> dict[int, str]:
+def explained(decide: Callable, page: Page, selectors: list, engine: Engine, theirs: dict[int, set]) -> dict[int, str]:
     """For each selector by its number why the engine gives these elements, as far as a reason is known."""
     reasons = {}
     for some in (some for count in (1, 2, 3) for some in itertools.combinations(REASONS[engine.name], count)):
@@ -69,18 +70,18 @@ def explained(port: str, page: Page, selectors: list, engine: Engine, theirs: di
         if asked != [selectors[number] for number in left]:
             engine.ask(page.elements, [text_of(selector) for selector in asked])
             expected = [found if isinstance(found, str) else set(found) for found in engine.answers()]
-        ours = decisions(port, page, asked, some)
+        ours = decide(page, asked, some)
         alike = [number for number, one, other in zip(left, ours, expected) if one == other]
         reasons |= {number: some[0].name if len(some) == 1 else TOGETHER for number in alike}
     return reasons
 
 
 class Comparing:
-    """What was counted so far, for each engine."""
+    """What was counted so far, for each engine. `decide` gives what is compared, as `decisions` does."""
 
-    def __init__(self, port: str):
-        self.port = port
-        self.engines = [Engine(*engine) for engine in ENGINES]
+    def __init__(self, decide: Callable, engines: list = ENGINES):
+        self.decide = decide
+        self.engines = [Engine(*engine) for engine in engines]
         self.decided, self.refused, self.selectors = (collections.Counter() for _ in range(3))
         self.reasons = collections.defaultdict(collections.Counter)
         self.unexplained = []
@@ -90,7 +91,7 @@ class Comparing:
         texts = [text_of(selector) for selector in selectors]
         for engine in self.engines:
             engine.ask(page.elements, texts)
-        ours, standard = decisions(self.port, page, selectors), decisions(self.port, page, selectors, (STANDARD,))
+        ours, standard = self.decide(page, selectors), self.decide(page, selectors, (STANDARD,))
         for engine in self.engines:
             name, answers = engine.name, engine.answers()
             taken = {number: set(found) for number, found in enumerate(answers) if not isinstance(found, str)}
@@ -98,7 +99,7 @@ class Comparing:
             self.selectors[name] += len(taken)
             self.decided[name] += len(taken) * len(page.elements)
             differing = {number: found for number, found in taken.items() if found != ours[number]}
-            reasons = explained(self.port, page, selectors, engine, differing)
+            reasons = explained(self.decide, page, selectors, engine, differing)
             for number, found in differing.items():
                 difference = Difference(page.name, texts[number], ours[number], found, standard[number])
                 self.reasons[name, reasons.get(number, NO_REASON)].update(difference.sides())
@@ -121,34 +122,49 @@ class Comparing:
                    f"the engine alone {sorted(one.theirs - one.ours)[:9]}")
 
 
-def main() -> int:
-    parser = argparse.ArgumentParser(description=__doc__, formatter_class=argparse.RawDescriptionHelpFormatter)
+def arguments(description: str) -> argparse.ArgumentParser:
+    """The options that name pages and selectors."""
+    parser = argparse.ArgumentParser(description=description, formatter_class=argparse.RawDescriptionHelpFormatter)
     parser.add_argument("--seed", type=int, default=1)
-    parser.add_argument("--port", default=PORT, help="the program to test")
     parser.add_argument("--made", type=int, default=60, help="how many pages are made from the seed")
     parser.add_argument("--shipped", type=int, default=8, help="how many pages at most are taken of each package")
     parser.add_argument("--packages", nargs="*", default=peer_pages.PACKAGES, help="packages of Debian with pages")
     parser.add_argument("--selectors", type=int, default=60, help="how many selectors are drawn for each page")
-    parser.add_argument("--record", action="store_true", help="keep what is printed in diff/results")
-    options = parser.parse_args()
-    comparing, began = Comparing(find_program(options.port)), time.monotonic()
-    pages, elements = 0, 0
-    for page in itertools.chain(peer_pages.made(options.seed, options.made),
-                                peer_pages.shipped(options.packages, options.shipped)):
+    return parser
+
+
+def pages_by(options: argparse.Namespace) -> Iterator[Page]:
+    return itertools.chain(peer_pages.made(options.seed, options.made),
+                           peer_pages.shipped(options.packages, options.shipped))
+
+
+def compare(comparing: Comparing, pages: Iterable[Page], options: argparse.Namespace) -> list[str]:
+    """Compares the engines on each of these pages: the lines of what was found."""
+    began, count, elements = time.monotonic(), 0, 0
+    for page in pages:
         draw = Drawing(options.seed, page)
         comparing.page(page, [draw.selector() for _ in range(options.selectors)])
-        pages, elements = pages + 1, elements + len(page.elements)
+        count, elements = count + 1, elements + len(page.elements)
         print(f"{page.name}: {len(page.elements)} elements", file=sys.stderr)
-    lines = [*comparing.lines(),
-             f"{sum(comparing.decided.values()):,} decisions on {elements:,} elements of {pages} pages, seed "
-             f"{options.seed}; {len(comparing.unexplained)} selectors differ for no reason; "
-             f"{time.monotonic() - began:.0f} seconds"]
+    return [*comparing.lines(),
+            f"{sum(comparing.decided.values()):,} decisions on {elements:,} elements of {count} pages, seed "
+            f"{options.seed}; {len(comparing.unexplained)} selectors differ for no reason; "
+            f"{time.monotonic() - began:.0f} seconds"]
+
+
+def main() -> int:
+    parser = arguments(__doc__)
+    parser.add_argument("--port", default=PORT, help="the program to test")
+    parser.add_argument("--record", action="store_true", help="keep what is printed in diff/results")
+    options = parser.parse_args()
+    comparing = Comparing(functools.partial(decisions, find_program(options.port)))
+    lines = compare(comparing, pages_by(options), options)
     print("\n".join(lines))
     if options.record:
         os.makedirs(RESULTS, exist_ok=True)
         with open(os.path.join(RESULTS, time.strftime("%Y-%m-%d-peers.txt", time.gmtime())), "w") as page:
             page.write("\n".join(lines) + "\n")
-    return 1 if comparing.unexplained or not pages else 0
+    return 1 if comparing.unexplained or not comparing.decided else 0
 
 
 if __name__ == "__main__":
