@@ -2,6 +2,8 @@
 
     python3 bench/scale.py [--port PROGRAM] [--beside PROGRAM] [--counts 10,100,..] [--runs N] [--record]
 
+The program beside is given lists of up to 10,000 selectors (--beside-to).
+
 The cost of a start tag is that of a page less that of a page of one tag, over its start tags; of a row, that of a script
 less that of an empty one. Instructions are counted where a run takes less than five seconds, and no run is repeated once
 all took more than ten.
@@ -78,6 +80,7 @@ def main():
     words = argparse.ArgumentParser(description=__doc__.split("\n", maxsplit=1)[0])
     words.add_argument("--port")
     words.add_argument("--beside")
+    words.add_argument("--beside-to", type=int, default=10_000, help="the longest list for the program beside (10000)")
     words.add_argument("--counts", default=COUNTS, help=f"numbers of selectors ({COUNTS})")
     words.add_argument("--runs", type=int, default=3)
     words.add_argument("--no-instructions", action="store_true", help="leave out valgrind, which takes most of the time")
@@ -89,7 +92,8 @@ def main():
     cases = [(kind, int(count), by_selectors) for kind in LISTS for count in asked.counts.split(",")]
     cases += [(kind, size, by_size) for kind, (_, sizes, _) in SIZES.items() for size in sizes]
     for name, size, measure in cases:
-        figures = [measure(program, name, size, asked.runs, not asked.no_instructions) for program in programs]
+        measured = programs[:1] if name in LISTS and size > asked.beside_to else programs
+        figures = [measure(program, name, size, asked.runs, not asked.no_instructions) for program in measured]
         print(said(name, size, figures), flush=True)
         rows.append({"by": name, "size": size, **dict(zip(("port", "beside"), figures))})
     if asked.record:
