@@ -247,12 +247,13 @@ public:
         }
         values.clear();
         values.reserve(open_);
-        values.resize(has_values_ ? open_ : 0);
+        if (room_.size() < open_) {
+            room_.resize(open_);
+        }
         std::size_t closed = 0;
-        status ended = status(zugrenja_end(at(), bytes(name), name.size(), values.data(), values.size(), &closed));
-        values.resize(closed);
+        status ended = status(zugrenja_end(at(), bytes(name), name.size(), room_.data(), room_.size(), &closed));
+        values.assign(room_.begin(), room_.begin() + std::ptrdiff_t(closed));
         open_ -= closed;
-        has_values_ = has_values_ && open_ > 0;
         return ended;
     }
 
@@ -261,9 +262,7 @@ public:
         if (!handle_) {
             return status::no_matcher;
         }
-        status given = status(zugrenja_set_value(at(), value));
-        has_values_ = has_values_ || given == status::good;
-        return given;
+        return status(zugrenja_set_value(at(), value));
     }
 
 #if defined(__cpp_exceptions)
@@ -367,7 +366,7 @@ private:
 
     std::unique_ptr<zugrenja_matcher, freed> handle_; // at an address that never changes
     std::size_t open_ = 0;                            // how many elements are open
-    bool has_values_ = false;                         // whether one of them may have a value
+    std::vector<std::uint64_t> room_;                 // for the values of as many as were ever open at an end tag
     std::string text_;
     std::vector<zugrenja_attribute> places_;
 };

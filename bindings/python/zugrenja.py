@@ -130,6 +130,7 @@ class Matcher:
         limit = ctypes.c_size_t(-1).value if max_memory is None else max_memory
         self._check(_LIBRARY.zugrenja_new(self._at, limit, element_bytes, esi))
         self._count, self._opened = ctypes.c_size_t(), ctypes.c_uint32()
+        self._values = (ctypes.c_uint64 * 0)()
         self.ids: tuple[int, ...] = ()
         self.asked = False
         for number, selector in enumerate(selectors):
@@ -238,7 +239,9 @@ class Matcher:
     def end(self, name: str | bytes) -> list[int]:
         """An end tag: the values of the elements that it closes, the outermost first, 0 if none was given. Raises MemoryError."""
         self._begin()
-        tag, values = _bytes(name), (ctypes.c_uint64 * self._open)()
+        if len(self._values) < self._open:
+            self._values = (ctypes.c_uint64 * (2 * self._open))()
+        tag, values = _bytes(name), self._values
         status = _LIBRARY.zugrenja_end(
             self._at, tag, len(tag), ctypes.addressof(values), self._open, ctypes.addressof(self._count)
         )

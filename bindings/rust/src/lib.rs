@@ -222,9 +222,9 @@ pub struct Matcher {
     handle: Handle,
     ids: Vec<u32>,
     has_opened: bool,
-    /// How many elements are open, and whether one of them may have a value.
+    /// How many elements are open.
     open: usize,
-    has_values: bool,
+    /// Room for the values of as many as were ever open at an end tag.
     values: Vec<u64>,
     places: Vec<ffi::Attribute>,
     text: Vec<u8>,
@@ -258,7 +258,6 @@ impl Matcher {
             ids: Vec::new(),
             has_opened: false,
             open: 0,
-            has_values: false,
             values: Vec::new(),
             places: Vec::new(),
             text: Vec::new(),
@@ -402,10 +401,7 @@ impl Matcher {
     pub fn set_value(&mut self, value: u64) -> Result<(), Error> {
         // SAFETY: only the handle is given.
         match unsafe { ffi::zugrenja_set_value(self.handle.raw(), value) } {
-            ffi::GOOD => {
-                self.has_values = true;
-                Ok(())
-            }
+            ffi::GOOD => Ok(()),
             status => Err(Error::of(status)),
         }
     }
@@ -414,7 +410,7 @@ impl Matcher {
     /// none if none is open. Returns the values of those that it closes, the outermost first, 0 for one that was given none.
     ///
     /// # Errors
-    /// [`Error::OutOfMemory`], and no element is closed. Where no open element has a value it takes no memory.
+    /// [`Error::OutOfMemory`], and no element is closed. It takes memory for as many numbers as elements are open.
     ///
     /// ```
     /// use zugrenja::{Matcher, Namespace};
@@ -432,7 +428,9 @@ impl Matcher {
     /// ```
     pub fn end(&mut self, name: impl AsRef<[u8]>) -> Result<&[u64], Error> {
         let (name, mut closed) = (name.as_ref(), 0);
-        self.values.resize(if self.has_values { self.open } else { 0 }, 0);
+        let more = self.open.saturating_sub(self.values.len());
+        self.values.try_reserve(more).map_err(|_| Error::OutOfMemory)?;
+        self.values.resize(self.values.len() + more, 0);
         let (handle, values) = (self.handle.raw(), self.values.as_mut_ptr());
         // SAFETY: `name`, `values` and `closed` live.
         match unsafe { ffi::zugrenja_end(handle, name.as_ptr(), name.len(), values, self.values.len(), &mut closed) } {
@@ -440,10 +438,8 @@ impl Matcher {
             status => return Err(Error::of(status)),
         }
         self.forget_report();
-        self.values.resize(closed, 0);
         self.open -= closed;
-        self.has_values &= self.open > 0;
-        Ok(&self.values)
+        Ok(&self.values[..closed])
     }
 
     /// How many nodes of the selectors' tree were tried for the last start tag, by their names and by their attributes.
