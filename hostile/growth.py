@@ -43,6 +43,17 @@ def distinct_items(size):
     return script([",".join(f"x{number}" for number in range(size // 7))], [start("x1")])
 
 
+def selectors_of(pattern):
+    """So many selectors, each with a name of its own."""
+    return lambda count: script([pattern.format(number) for number in range(count)], [start("a")])
+
+
+def falling_ids(count):
+    """A selector under so many ids that lie far apart, the greatest first."""
+    lines = [f"select\t{4_200_000_000 - 32_000 * number}\tp" for number in range(count)]
+    return "\n".join([*lines, start("p")]) + "\n"
+
+
 def siblings(count):
     selectors = ["p", "ul > li:nth-child(2n+1)", "li:nth-of-type(3n)", "ul li", ".a", "li.b", ":not(li)", "a[href]"]
     return script(selectors, [start("ul")] + [start("li", "class=b"), end("li")] * count)
@@ -106,6 +117,10 @@ ROWS = [(f"selector: {name}", MB // 4, repeated(pattern, last)) for name, patter
     ("`-`", "-", ""), ("`1`", "1", ""), ("`\\`", "\\", ""), ("`|`", "|", "")]]
 ROWS += [
     ("selector: a list of distinct names", MB // 64, distinct_items),
+    ("selectors of a class", 40_000, selectors_of(".k{}")),
+    ("selectors of `:not`", 40_000, selectors_of(":not(x{})")),
+    ("selectors of two steps", 40_000, selectors_of("main .k{} > a")),
+    ("one selector, ids far apart, the greatest first", 25_000, falling_ids),
     ("siblings", 25_000, siblings),
     ("nested elements, 200 selectors", 25_000, nested),
     ("nested elements and stray end tags", 25_000, stray_ends),
