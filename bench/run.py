@@ -2,11 +2,12 @@
 
     python3 bench/run.py [--port PROGRAM] [--beside PROGRAM] [--runs N] [--only WORDS] [--no-instructions] [--record]
 
-Each workload is run N times by each program in turn. The time is the best of the N, its spread the third quarter of them over the best.
+Each workload is run N times by each program in turn. The time is the median of the N, its spread the third quarter of them over the median.
 """
 import argparse
 import json
 import os
+import statistics
 import tempfile
 
 from programs import TOP, circumstances, instructions, memory, port, run
@@ -23,8 +24,9 @@ def measured(programs, script, runs, count):
             times[number].append(seconds)
     figures = [
         {
-            "seconds": round(min(spent), 4),
-            "spread": round(sorted(spent)[len(spent) * 3 // 4] / min(spent), 2),
+            "seconds": round(statistics.median(spent), 4),
+            "best": round(min(spent), 4),
+            "spread": round(sorted(spent)[len(spent) * 3 // 4] / statistics.median(spent), 2),
             "megabytes": memory(program, script),
             "instructions": instructions(program, script) if count else None,
         }
