@@ -4,7 +4,7 @@ ghost use Rattle.std.specs.Prelude.{◌≡◌, ◌↔◌, ◌<◌, ◌≤◌, �
 ghost use Rattle.std.specs.List.{list_any};
 ghost use Rattle.std.specs.Option.{option_copied};
 ghost use Rattle.lol_base.specs.declared.attribute.AttrSelectorOperator.TheVariants.{Equal, Includes, DashMatch, Prefix, Substring, Suffix};
-ghost use Rattle.lol_instructions.specs.Tests.{is_white};
+ghost use Rattle.lol_instructions.specs.Tests.{is_white, stands_in};
 ghost use Rattle.lol_instructions.specs.Attributes.{value_holds};
 ghost use Rattle.memchr.specs.Find.{IsFirstByte};
 ghost use Rattle.lol_instructions.specs.Words.{is_letter_of, NoLetter, IsLetterEnd, IsWordBefore};
@@ -13,7 +13,7 @@ ghost use Rattle.lol_instructions.specs.Substrings.{stands_in_caseless, IsAfterL
 use lol_base::CaseSensitivity;
 use memchr::{memchr, memchr2, memmem};
 
-/// The longest value whose words are looked at one by one.
+/// The longest value whose words, or places, are looked at one by one.
 const MAX_SPLIT_LEN: usize = 32;
 
 /// Whether a byte is ASCII white space (HTML Standard, "ASCII whitespace").
@@ -155,9 +155,29 @@ pub(crate) fn has_substring(value: &[u8], operand: &[u8], case: CaseSensitivity)
         return false;
     };
     match case {
-        CaseSensitivity::CaseSensitive => memmem::find(value, operand).is_some(),
+        CaseSensitivity::CaseSensitive => {
+            if value.len() <= MAX_SPLIT_LEN {
+                stands_in(value, *first, rest)
+            } else {
+                memmem::find(value, operand).is_some()
+            }
+        }
         CaseSensitivity::AsciiCaseInsensitive => has_caseless_substring(value, *first, rest),
     }
+}
+
+// Whether a byte and the rest of an operand stand in a value: each place is looked at.
+fn stands_in(value: &[u8], first: u8, rest: &[u8]) -> bool
+    ensures { result ≡ stands_in value.now (first ∷ rest.now) }
+{
+    let mut left = value;
+    while let Some((byte, after)) = left.split_first() {
+        if *byte == first && after.starts_with(rest) {
+            return true;
+        }
+        left = after;
+    }
+    false
 }
 
 // Whether a byte and the rest of an operand stand in a value, without ASCII case.

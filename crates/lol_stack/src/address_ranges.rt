@@ -67,7 +67,7 @@ impl AddressRanges {
         match &mut self.ranges {
             Ranges::None => self.ranges = Ranges::One(range),
             Ranges::One(first) => {
-                let mut ranges = Vec::with_capacity(alloc, 2)?;
+                let mut ranges = Vec::with_capacity(alloc, 4)?;
                 ranges.push_reserved(mem::replace(first, 0..0));
                 ranges.push_reserved(range);
                 self.ranges = Ranges::Many(ranges);

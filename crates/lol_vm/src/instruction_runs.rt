@@ -1,6 +1,6 @@
 //! Running instructions for a start tag, one after the other.
 
-ghost use Rattle.std.specs.Prelude.{◌≡◌, ◌+◌, ◌-◌, ◌≤◌, Bool, IfOk, IsOk, length};
+ghost use Rattle.std.specs.Prelude.{◌≡◌, ◌+◌, ◌-◌, ◌≤◌, Bool, IfOk, IsOk, IsTrue, ◌↔◌, length};
 ghost use Rattle.lol_instructions.specs.Compiled.{sight};
 ghost use Rattle.lol_instructions.specs.Tries.{names_counted, attributes_counted};
 ghost use Rattle.lol_vm.specs.InstructionRuns.{NeedNoMemory, HasTriesLeft, IsInsideOf, instructions_at, open_among, first_open_from, tried_until, gathered_by_names, gathered_with_attributes};
@@ -10,6 +10,9 @@ use lol_program::{
 };
 use lol_stack::{ElementData, ExecutionCtx};
 use std::alloc::{AllocError, Global};
+
+/// The greatest number of which two can be added.
+const FAR: u64 = u64::MAX / 2;
 
 /// Runs instructions without attributes, up to the first that needs them, and answers its place among them. It is refused only where
 /// memory is out.
@@ -134,10 +137,21 @@ pub(crate) fn instructions_in<'p>(
         return &[];
     }
     let count = (range.end - range.start) as u64;
-    if count > u64::MAX - names || count > u64::MAX - attributes {
+    if !can_count(names, attributes, count) {
         return &[];
     }
     &instructions[range.start..range.end]
+}
+
+/// Whether each of two counts can grow by so much. Mostly they are far from their greatest.
+#[inline(always)]
+fn can_count(names: u64, attributes: u64, more: u64) -> bool
+    ensures { IsTrue result ↔ (names + more ≤ u64.MAX) × (attributes + more ≤ u64.MAX) }
+{
+    if names <= FAR && attributes <= FAR && more <= FAR {
+        return true;
+    }
+    more <= u64::MAX - names && more <= u64::MAX - attributes
 }
 
 /// What is left of a range, from an offset on.
