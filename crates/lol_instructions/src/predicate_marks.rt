@@ -5,7 +5,7 @@ ghost use Rattle.std.specs.Option.{option_copied};
 ghost use Rattle.lol_instructions.specs.Compounds.{value_of_bool};
 ghost use Rattle.lol_instructions.specs.Compiled.{Sight, sight, name_expr_holds, attribute_expr_holds, predicate_value, some_values};
 ghost use Rattle.lol_instructions.specs.Marks.{is_marked};
-ghost use Rattle.lol_instructions.specs.PredicateMarks.{AreBoth, shape_value, head_holds, marks_value, AreNeeded, AreMarksOf};
+ghost use Rattle.lol_instructions.specs.PredicateMarks.{AreBoth, is_there, shape_value, head_holds, marks_value, AreNeeded, AreMarksOf};
 ghost use Rattle.lol_instructions.specs.declared.compiled_predicate.CompiledTest.{CompiledTest};
 
 use crate::compiled_expr::{AttributeExprTest, LocalNameExprTest};
@@ -15,15 +15,37 @@ use crate::name_value::NameValue;
 use crate::selector_state::SelectorState;
 use lol_base::{LocalName, NthChild};
 
+/// Where an element has to stand.
+#[derive(Clone, Copy)]
+pub(crate) enum Place {
+    /// Among its parent's children.
+    NthChild(NthChild),
+    /// Among those of its name. Where children aren't counted by type no element stands there.
+    NthOfType(NthChild),
+}
+
+impl Place {
+    #[inline(always)]
+    fn has(&self, state: &SelectorState<'_>) -> bool
+        ensures { result ≡ is_there self.now state.now.cumulative.now (option_copied state.now.typed) }
+    {
+        match self {
+            Place::NthChild(nth) => state.cumulative.is_nth(*nth),
+            Place::NthOfType(nth) => match state.typed {
+                Some(counter) => counter.is_nth(*nth),
+                None => false,
+            },
+        }
+    }
+}
+
 /// What places say of an element that has the name.
 #[derive(Clone, Copy)]
 pub(crate) enum Shape {
     /// This at every place.
     Anywhere(NameValue),
-    /// This at such a place among its parent's children. At others it fails.
-    NthChild(NthChild, NameValue),
-    /// This at such a place among those of its name. At others it fails.
-    NthOfType(NthChild, NameValue),
+    /// This at such a place. At others it fails.
+    At(Place, NameValue),
     /// What the tests say.
     Mixed,
 }
@@ -35,11 +57,7 @@ impl Shape {
     {
         match self {
             Shape::Anywhere(value) => Some(*value),
-            Shape::NthChild(nth, value) => { Some(value.only_if(state.cumulative.is_nth(*nth))) }
-            Shape::NthOfType(nth, value) => Some(match state.typed {
-                Some(counter) => value.only_if(counter.is_nth(*nth)),
-                None => NameValue::False,
-            }),
+            Shape::At(place, value) => Some(value.only_if(place.has(state))),
             Shape::Mixed => None,
         }
     }
@@ -51,10 +69,8 @@ impl Shape {
     {
         match (self, other) {
             (Shape::Anywhere(a), Shape::Anywhere(b)) => Shape::Anywhere(a.and(*b)),
-            (Shape::Anywhere(a), Shape::NthChild(nth, b))
-            | (Shape::NthChild(nth, b), Shape::Anywhere(a)) => Shape::NthChild(*nth, a.and(*b)),
-            (Shape::Anywhere(a), Shape::NthOfType(nth, b))
-            | (Shape::NthOfType(nth, b), Shape::Anywhere(a)) => Shape::NthOfType(*nth, a.and(*b)),
+            (Shape::Anywhere(a), Shape::At(place, b)) | (Shape::At(place, b), Shape::Anywhere(a)) =>
+                Shape::At(*place, a.and(*b)),
             _ => Shape::Mixed,
         }
     }
@@ -151,7 +167,7 @@ impl PredicateMarks {
         }
         match &self.shape {
             Shape::Anywhere(value) => Some(*value),
-            Shape::NthChild(..) | Shape::NthOfType(..) | Shape::Mixed => None,
+            Shape::At(..) | Shape::Mixed => None,
         }
     }
 
@@ -172,10 +188,10 @@ impl PredicateMarks {
                 None => PredicateMarks::of_shape(Shape::Mixed),
             },
             LocalNameExprTest::NthChild(nth) => {
-                PredicateMarks::of_shape(Shape::NthChild(*nth, NameValue::True))
+                PredicateMarks::of_shape(Shape::At(Place::NthChild(*nth), NameValue::True))
             }
             LocalNameExprTest::NthOfType(nth) => {
-                PredicateMarks::of_shape(Shape::NthOfType(*nth, NameValue::True))
+                PredicateMarks::of_shape(Shape::At(Place::NthOfType(*nth), NameValue::True))
             }
         }
     }
