@@ -95,13 +95,18 @@ impl FieldList {
 }
 
 /// Adds a number in decimal digits.
-#[tactic(auto, using(std::proofs::lemmas::Fmt::decimal_digit))]
+#[tactic(auto, using(std::proofs::lemmas::Fmt::decimal_digit, std::proofs::lemmas::Fmt::decimal_step))]
 pub fn push_number(text: &mut Vec<u8>, number: u64) -> Result<(), AllocError>
     ensures { OnOk result (text.new.items ≡ text.old.items ++ decimal number) }
 {
-    // Most ids have one digit.
+    // Most ids have one digit or two.
     if number < 10 {
         text.push(b'0' + number as u8)?;
+        return Ok(());
+    }
+    if number < 100 {
+        text.push(b'0' + (number / 10) as u8)?;
+        text.push(b'0' + (number % 10) as u8)?;
         return Ok(());
     }
     let mut buffer = Buffer::new();
