@@ -112,6 +112,7 @@ impl<T> LimitedVec<T> {
     /// list has (`max(8, 128 / item_bytes)`) where it has none; the new slots are charged first. It answers `Limit` exactly if that charge
     /// or the number of slots would pass usize or the limiter's maximum, and `Memory` only where the memory isn't there. After a
     /// refusal the list and the limiter are as before, and the element is dropped.
+    #[inline(always)]
     pub fn push(&mut self, element: T, limiter: &mut SharedMemoryLimiter) -> Result<(), PushError>
     where
         T: Drop,
