@@ -31,7 +31,10 @@ pub(crate) fn ends_crlf(before: char, c: char) -> bool
 fn push_clean(points: &mut Vec<char>, before: char, c: char) -> Result<(), AllocError>
     ensures { OnOk result (points.new.items ≡ points.old.items ++ clean_points_after before c) }
 {
-    if !ends_crlf(before, c) {
+    // Most code points are no control codes, and stay as they are.
+    if c >= ' ' {
+        points.push(c)?;
+    } else if !ends_crlf(before, c) {
         points.push(clean_point(c))?;
     }
     Ok(())
