@@ -194,17 +194,17 @@ fn have_names(attributes: &[u8]) -> bool
     has_name(rest)
 }
 
-/// A start tag, by what follows the kind of its line.
+/// A start tag in a namespace, by what follows that, which may be that it closes itself.
 #[inline(always)]
-fn start_of(rest: &[u8], finish: bool) -> Option<Line<'_>>
-    ensures { option_map said_by result ≡ start_at finish (slice_split is_tab rest.now) }
+fn start_in(namespace: (Namespace, bool), rest: &[u8], finish: bool) -> Option<Line<'_>>
+    ensures { (field : List ℕ) → Some namespace ≡ namespace_at field
+        → option_map said_by result ≡ start_at finish (field ∷ slice_split is_tab rest.now) }
 {
-    let (namespace, rest) = cut(rest)?;
     let (name, attributes) = first_field(rest);
     if name.is_empty() || !attributes.is_none_or(have_names) {
         return None;
     }
-    let (ns, self_closing) = namespace_of(namespace)?;
+    let (ns, self_closing) = namespace;
     Some(Line::Start(StartLine {
         name,
         ns,
@@ -212,6 +212,18 @@ fn start_of(rest: &[u8], finish: bool) -> Option<Line<'_>>
         attributes,
         finish,
     }))
+}
+
+/// A start tag, by what follows the kind of its line. Most are of HTML.
+#[inline(always)]
+fn start_of(rest: &[u8], finish: bool) -> Option<Line<'_>>
+    ensures { option_map said_by result ≡ start_at finish (slice_split is_tab rest.now) }
+{
+    if let Some(rest) = after_kind(rest, b"html") {
+        return start_in((Namespace::Html, false), rest, finish);
+    }
+    let (namespace, rest) = cut(rest)?;
+    start_in(namespace_of(namespace)?, rest, finish)
 }
 
 #[tactic(auto, using(crate::proofs::Fields::end_too_long))]
@@ -225,7 +237,7 @@ fn end_of(rest: &[u8]) -> Option<Line<'_>>
     Some(Line::End { name: rest })
 }
 
-/// What follows a line's kind, if it is this one.
+/// What follows a line's first field, if it is this one.
 #[inline(always)]
 fn after_kind<'s>(bytes: &'s [u8], kind: &[u8]) -> Option<&'s [u8]>
     ensures some { IfSome result (λ rest. bytes.now ≡ kind.now ++ tab ∷ rest.now) }
