@@ -324,7 +324,7 @@ impl<E: ElementData> VmOf<Program, LocalName<'static>, StackNames, E> {
     #[inline(always)]
     fn answer<F: FnMut(MatchInfo)>(
         &mut self,
-        ctx: ExecutionCtx<'_, E>,
+        mut ctx: ExecutionCtx<'_, E>,
         limiter: &mut SharedMemoryLimiter,
         match_handler: &mut F,
     ) -> Result<(), PushError>
@@ -342,7 +342,6 @@ impl<E: ElementData> VmOf<Program, LocalName<'static>, StackNames, E> {
         ensures left { OnErr result (OpensNothing None self.old self.new limiter.old limiter.new) }
         ensures refused { OnErr result (has_failed self.new ≡ true) }
     {
-        let mut ctx = ctx;
         ctx.handle_matched_ids(match_handler);
         if !ctx.with_content {
             return Ok(());
@@ -396,7 +395,7 @@ impl<E: ElementData> VmOf<Program, LocalName<'static>, StackNames, E> {
     /// Finishes a start tag that stopped at a point.
     fn finish<F: FnMut(MatchInfo)>(
         &mut self,
-        ctx: ExecutionCtx<'_, E>,
+        mut ctx: ExecutionCtx<'_, E>,
         point: RecoveryPoint,
         aux_info: AuxStartTagInfo<'_>,
         limiter: &mut SharedMemoryLimiter,
@@ -427,7 +426,6 @@ impl<E: ElementData> VmOf<Program, LocalName<'static>, StackNames, E> {
             ⊎ IsAfterWholeReport E.ids self.old (left_at ctx.entry point) F.step aux_info.entry limiter.old
             (tries_in self.new) match_handler.old match_handler.new }
     {
-        let mut ctx = ctx;
         ctx.with_content = content_at(point, ctx.with_content, aux_info.self_closing);
         let matcher = AttributeMatcher::new(aux_info.input, aux_info.attr_buffer, ctx.ns);
         let name = &ctx.stack_item.local_name;
