@@ -6,26 +6,30 @@ use Rattle.std.specs.Prelude.{◌||◌, not, Bool}
 use Rattle.lol_instructions.specs.Tests.{Element, is_html}
 use Rattle.lol_program.specs.Paths.{Selectors, Path}
 use Rattle.lol_vm.specs.Documents.{element_of}
-use Rattle.lol_vm.specs.Answers.{document, ascending_once, matching_ids}
+use Rattle.lol_vm.specs.Answers.{document, ascending_once, matching_ids, asks}
 use Rattle.lol_vm.specs.ReportLaws.{ascending_is_determined, ascending_ascends, pairs_from_ascends, matching_ids_ascend, among_ascending, ascending_among}
 use Rattle.lol_program.specs.Programs.{all_places, AreClosed}
-use Rattle.lol_vm.specs.Machines.{ranges_to_run}
 use Rattle.lol_vm.specs.PlaceRuns.{context_of}
-use Rattle.lol_vm.specs.Standing.{AnswersStart, Machine, StandsFor}
-use Rattle.lol_vm.proofs.Lists.{to_contains, to_among}
+use Rattle.lol_vm.specs.Standing.{Machine, StandsFor, ranges_of_machine}
 use Rattle.lol_vm.proofs.Held.{ranges_hold_left_matches}
-use Rattle.lol_vm.proofs.Counted.{places_count_tries}
 use Rattle.lol_vm.proofs.Gathered.{runs_give_reports}
-use Rattle.lol_vm.proofs.Stops.{stopped_starts_are_whole}
+use Rattle.lol_vm.proofs.Stops.{stopped_starts_are_whole, started_by_names}
+use Rattle.lol_base.specs.MemberLaws.{among_from_contains, contains_from_among}
+use Rattle.lol_vm.specs.MachineLaws.{starts_open}
 
 -- a list with the members of a report, put in order, is the report
 pub in_order : (ids : List ℕ) (s : Selectors) (e : Element) (outer : List Element) → ((id : ℕ) → Contains ids id ↔ Contains (matching_ids s.pairs e outer) id) → ascending_once ids ≡ matching_ids s.pairs e outer
 in_order ids s e outer same =
     ascending_is_determined (ascending_once ids) (matching_ids s.pairs e outer) (pairs_from_ascends (ascending_once ids) (ascending_ascends ids)) (matching_ids_ascend e outer s.pairs)
     (λ id. (
-      λ h. (same id).0 (to_contains ids id (among_ascending ids id (to_among (ascending_once ids) id h))),
-      λ h. to_contains (ascending_once ids) id (ascending_among ids id (to_among ids id ((same id).1 h))),
+      λ h. (same id).0 (contains_from_among ids id (among_ascending ids id (among_from_contains (ascending_once ids) id h))),
+      λ h. contains_from_among (ascending_once ids) id (ascending_among ids id (among_from_contains ids id ((same id).1 h))),
     ))
+
+-- what it asks and reports is what the definition says
+pub record AnswersStart (s : Selectors) (m : Machine) (e : Element) (outer : List Element) : Type 0 where
+  pub asked : (not (is_html e.tag.namespace) || starts_open m.program e (started_by_names m.program true e (ranges_of_machine m)).left) ≡ asks s e outer
+  pub matched : ascending_once (context_of m.program true e (all_places (ranges_of_machine m))).ids ≡ matching_ids s.pairs e outer
 
 pub starts_answer : (s : Selectors) (esi : Bool) (paths : List Path) (m : Machine) (events : List Event) (tag : StartTag) → AreClosed s
     → StandsFor s esi paths m events
@@ -33,14 +37,9 @@ pub starts_answer : (s : Selectors) (esi : Bool) (paths : List Path) (m : Machin
 starts_answer s esi paths m events tag closed stands =
     let d = document s esi events in
     let e = element_of d tag in
-    let ranges = ranges_to_run m.program m.items in
+    let ranges = ranges_of_machine m in
     let held = ranges_hold_left_matches s paths m.program m.items d.open_elements closed stands.program stands.items in
-    let tries = places_count_tries s paths m.program ranges e d.open_elements closed stands.program held in
-    let report = runs_give_reports s paths m.program ranges e d.open_elements closed stands.program held in
-    let whole = stopped_starts_are_whole s paths m.program ranges e d.open_elements true closed stands.program held in
     record {
-      asked = ap (λ b. not (is_html e.tag.namespace) || b) whole.asks;
-      matched = in_order (context_of m.program true e (all_places ranges)).ids s e d.open_elements report.ids;
-      names = tries.names;
-      attributes = tries.attributes;
+      asked = ap (λ b. not (is_html e.tag.namespace) || b) (stopped_starts_are_whole s paths m.program ranges e d.open_elements true closed stands.program held).asks;
+      matched = in_order (context_of m.program true e (all_places ranges)).ids s e d.open_elements (runs_give_reports s paths m.program ranges e d.open_elements closed stands.program held).ids;
     }

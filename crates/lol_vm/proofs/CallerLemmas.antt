@@ -1,10 +1,10 @@
 -- What a caller of a machine cites: the charge of its slots, from call to call, up to `release`; what it has of its document, and whether a start tag opens an element.
-use Rattle.std.proofs.Common.{◌≡◌, ℕ, ◌+◌, ◌-◌, ◌*◌, ◌≤◌, ◌<◌, Bool, true, false, cond, not, List, [], ◌∷◌, length, Option, Some, None, Result, Ok, Err, refl, sym, ap, ◌∙◌, arith}
+use Rattle.std.proofs.Common.{◌≡◌, ℕ, ◌+◌, ◌-◌, ◌*◌, ◌≤◌, ◌<◌, Bool, true, false, cond, not, List, [], ◌∷◌, length, Option, Some, None, Result, Ok, Err, refl, sym, ap, ◌∙◌, arith, true≢false}
 use Rattle.std.specs.Result.{OnErr, OnOk}
 use Rattle.std.specs.Prelude.{◌&&◌, ◌↔◌, nat_lt}
 use Rattle.std.proofs.lemmas.Bool.Decides.{Decides-eqb, nat_tests}
 use Rattle.std.proofs.Math.Nat.{add-mul}
-use Rattle.lol_base.specs.BoolLaws.{and_parts}
+use Rattle.lol_base.specs.BoolLaws.{and_parts, and-false}
 use Rattle.lol_base.specs.LocalNames.{Name}
 use Rattle.lol_base.specs.StartTags.{StartTag}
 use Rattle.lol_instructions.specs.Counters.{full_count}
@@ -185,32 +185,18 @@ module _ (s : Selectors) (esi : Bool) (events : List Event) (tag : StartTag) whe
   pub has_content_if : opens s esi events tag ≡ true → has_content esi tag ≡ true
   has_content_if h = (and_parts (has_content esi tag) (not (is_asked_for s esi events tag && not tag.finish)) h).0
 
-  opens_with : (content a finish : Bool) → content ≡ true → (a && not finish) ≡ false → (content && not (a && not finish)) ≡ true
-  opens_with content a finish has kept = (λ i. has i && not (kept i))
-
-  not_asked : (a finish : Bool) → a ≡ false → (a && not finish) ≡ false
-  not_asked a finish none = λ i. none i && not finish
-
-  handed : (a finish : Bool) → finish ≡ true → (a && not finish) ≡ false
-  handed true finish is = ap not is
-  handed false finish is = refl
-
   pub opens_unasked : has_content esi tag ≡ true → is_asked_for s esi events tag ≡ false → opens s esi events tag ≡ true
-  opens_unasked has none = opens_with (has_content esi tag) (is_asked_for s esi events tag) tag.finish has (not_asked (is_asked_for s esi events tag) tag.finish none)
+  opens_unasked has none = λ i. has i && not (none i && not tag.finish)
 
   pub opens_handed : has_content esi tag ≡ true → tag.finish ≡ true → opens s esi events tag ≡ true
-  opens_handed has is = opens_with (has_content esi tag) (is_asked_for s esi events tag) tag.finish has (handed (is_asked_for s esi events tag) tag.finish is)
+  opens_handed has is = (λ i. has i && not (is_asked_for s esi events tag && not (is i))) ∙ (λ i. not (and-false (is_asked_for s esi events tag) i))
 
   -- its rest is asked for, and doesn't come
   pub is_left : is_asked_for s esi events tag ≡ true → tag.finish ≡ false → (is_asked_for s esi events tag && not tag.finish) ≡ true
   is_left is none = λ i. is i && not (none i)
 
   pub opens_nothing : is_asked_for s esi events tag ≡ true → tag.finish ≡ false → opens s esi events tag ≡ true → ⊥
-  opens_nothing is none opening = cc_of (is_left is none) (and_parts (has_content esi tag) (not (is_asked_for s esi events tag && not tag.finish)) opening).1
-    where
-      cc_of : {b : Bool} → b ≡ true → not b ≡ true → ⊥
-      cc_of {b = true} is kept = cc
-      cc_of {b = false} is kept = cc
+  opens_nothing is none opening = true≢false (sym opening ∙ ((λ i. has_content esi tag && not (is_left is none i)) ∙ and-false (has_content esi tag)))
 
 pub unfinished_is : (tag : StartTag) → tag.finish ≡ false → unfinished tag ≡ tag
 unfinished_is tag none = λ i. record { name = tag.name; namespace = tag.namespace; attributes = tag.attributes; self_closing = tag.self_closing; finish = sym none i }

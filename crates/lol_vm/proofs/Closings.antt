@@ -6,11 +6,10 @@ use Rattle.std.proofs.lemmas.List.{reverse-append, map-append, take_at, drop_at,
 use Rattle.std.proofs.lemmas.Bool.Decides.{nat_tests}
 use Rattle.lol_base.specs.Names.{same_name}
 use Rattle.lol_instructions.specs.Tests.{Element}
-use Rattle.lol_base.specs.MemberLaws.{Among}
+use Rattle.lol_base.specs.MemberLaws.{Among, contains_from_among}
 use Rattle.lol_vm.specs.Documents.{place_of, inner_part, outer_part}
 use Rattle.lol_vm.specs.Answers.{Ended}
 use Rattle.lol_vm.specs.RunLaws.{EndsCloseInside}
-use Rattle.lol_vm.proofs.Lists.{to_contains}
 
 module _ {A : Type 0} (p : A → Bool) where
   first_place : (inner : List A) (x : A) (outer : List A) → p x ≡ true → ((y : A) → Among inner y → p y ≡ false) → position_or_len p (inner ++ x ∷ outer) ≡ length inner
@@ -29,7 +28,7 @@ pub ends_close_inside : EndsCloseInside
 ends_close_inside s esi d name inner e outer is named others =
     let numbers : List Element → List ℕ = map (λ (x : Element). x.number) in
     let place : place_of name d.open_elements ≡ Some (length inner) =
-    ap (place_of name) is ∙ found_first (λ (x : Element). same_name x.tag.name name) inner e outer named (λ x a. others x (to_contains inner x a)) in
+    ap (place_of name) is ∙ found_first (λ (x : Element). same_name x.tag.name name) inner e outer named (λ x a. others x (contains_from_among inner x a)) in
     let split : d.open_elements ≡ (inner ++ e ∷ []) ++ outer = is ∙ sym (append_assoc inner (e ∷ []) outer) in
     let count : length (inner ++ e ∷ []) ≡ length inner + 1 = length-append inner (e ∷ []) in
     let inside : inner_part (place_of name d.open_elements) d.open_elements ≡ inner ++ e ∷ [] =

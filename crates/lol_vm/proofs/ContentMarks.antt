@@ -10,7 +10,8 @@ use Rattle.lol_vm.specs.Documents.{element_of}
 use Rattle.lol_vm.specs.Answers.{Match, Started, Dropped, is_dropped, asks, report, matching_ids, name_tries, attribute_tries}
 use Rattle.lol_vm.specs.RunLaws.{MarksTellContent}
 use Rattle.lol_base.specs.BoolLaws.{and_parts, and_of, or_parts, or_of}
-use Rattle.lol_vm.proofs.Lists.{to_among, among_map}
+use Rattle.lol_vm.proofs.Lists.{among_map}
+use Rattle.lol_base.specs.MemberLaws.{among_from_contains}
 
 abbrev NoContentIn : Namespace → Bool → StartTag → Type 0
 NoContentIn namespace esi tag =
@@ -47,7 +48,7 @@ marks_tell_content s esi d tag matched asked names attributes is m h =
     let e = element_of d tag in
     let all : report s esi e d.open_elements ≡ matched = by_test (is_dropped s e d.open_elements) is in
     let at = among_map (λ (id : ℕ). record { id = id; with_content = has_content esi tag }) (matching_ids s.pairs e d.open_elements) m
-    (to_among (report s esi e d.open_elements) m (subst (λ ms. Contains ms m) (sym all) h)) in
+    (among_from_contains (report s esi e d.open_elements) m (subst (λ ms. Contains ms m) (sym all) h)) in
     let mark : has_content esi tag ≡ m.with_content = ap (λ (x : Match). x.with_content) at.2 in
     subst (λ b. (b ≡ false) ↔ NoContentIn tag.namespace esi tag) mark (no_content tag.namespace esi tag)
   where

@@ -8,7 +8,7 @@ use Rattle.std.proofs.lemmas.Slice.Eq.{bytes_eq-Decides}
 use Rattle.std.specs.declared.ops.Range.{Range}
 use Rattle.lol_base.specs.BoolLaws.{and_parts}
 use Rattle.lol_base.specs.LocalNames.{is_hash, local_name}
-use Rattle.lol_base.specs.MemberLaws.{Among}
+use Rattle.lol_base.specs.MemberLaws.{Among, contains_from_among}
 use Rattle.lol_base.specs.Names.{is_void, is_esi, lowercased, same_name, void_names}
 use Rattle.lol_base.specs.StartTags.{StartTag}
 use Rattle.lol_base.specs.declared.namespace.Namespace.{Namespace}
@@ -22,11 +22,6 @@ use Rattle.lol_program.specs.ProgramViews.{instruction_shown, program_shown}
 use Rattle.lol_instructions.specs.Tests.{is_html}
 use Rattle.lol_instructions.specs.declared.instruction.Instruction.{Instruction}
 use Rattle.lol_program.specs.declared.program.Program.{Program}
-use denote.Enum.Bare.{sameb}
-use Rattle.lol_stack.specs.Directives.{directive_in}
-use Rattle.lol_stack.specs.contracts.stack_item.StackDirective.{the_type}
-use Rattle.lol_stack.specs.declared.stack_item.StackDirective.{StackDirective}
-use Rattle.lol_stack.specs.declared.stack_item.StackDirective.TheVariants.{Push, PopImmediately}
 use Rattle.lol_vm.specs.Events.{has_content, has_content_in}
 use Rattle.lol_memory.specs.Ids.{AllSmall}
 use Rattle.lol_css.specs.declared.selector.Combinator.{Combinator}
@@ -49,7 +44,7 @@ use Rattle.lol_vm.specs.declared.tag_runs.RecoveryPoint.{RecoveryPoint}
 use Rattle.lol_vm.specs.declared.tag_runs.RecoveryPoint.TheVariants.{AtOnce, At}
 use Rattle.lol_base.specs.PlaceLaws.{at_among, within_at}
 use Rattle.std.specs.declared.alloc.AllocError.{AllocError}
-use Rattle.lol_vm.proofs.Lists.{among_any, to_contains}
+use Rattle.lol_vm.proofs.Lists.{among_any}
 
 -- 1. Void names
 
@@ -74,11 +69,6 @@ void_unspelled name void = subst (λ b. IsNone (cond b None (Some name))) (sym (
 
 pub void_is_closed : (esi : Bool) (tag : StartTag) → tag.namespace ≡ Html → is_void tag.name ≡ true → has_content esi tag ≡ false
 void_is_closed esi tag html void = ap (λ ns. has_content_in ns esi tag) html ∙ ap (λ b. not (b || (esi && is_esi tag.name))) void
-
--- nor is it opened, by its directive
-pub never_pushed : (ns : Namespace) (esi : Bool) (name : List ℕ) → ns ≡ Html → is_void name ≡ true → (directive : StackDirective) (pushes : Bool) → directive ≡ directive_in ns esi name → pushes ≡ sameb the_type directive Push → pushes ≡ false
-never_pushed ns esi name html void directive pushes is tested =
-    tested ∙ (ap (λ d. sameb the_type d Push) (is ∙ (ap (λ n. directive_in n esi name) html ∙ ap (λ b. cond (b || (esi && is_esi name)) PopImmediately Push) void)))
 
 -- nor is it once it is finished
 pub finished_closed : (point : RecoveryPoint) (content with_content self_closing : Bool) (context : Context) (ns : Namespace)
@@ -122,7 +112,7 @@ module _ (s : Selectors) (paths : List Path) (prog : Program) (small : AreSmall 
   none_under None under is alone = refl
   none_under (Some r) under is alone =
       let found = (is.0.members r.start).0 (omega arith, is.1) in
-      let none = alone found.0 ((program.same found.0).0 (to_contains paths found.0 (at_among paths r.start found.0 found.1))) in
+      let none = alone found.0 ((program.same found.0).0 (contains_from_among paths found.0 (at_among paths r.start found.0 found.1))) in
       absurd (none_isnt_some (programs.above found.0) under none found.2)
     where
       none_isnt_some : (o : Option (Path × Combinator)) (x : Path × Combinator) → o ≡ None → o ≡ Some x → ⊥
@@ -144,7 +134,7 @@ module _ (s : Selectors) (paths : List Path) (prog : Program) (small : AreSmall 
       ap (λ b. b || list_any (λ p. has_test_by_type (last_compound p)) ps) (small.untyped path ((program.same path).0 (each path (inl refl)))) ∙ none_by_type ps (λ p a. each p (inr a))
 
   pub not_by_type : prog.enable_nth_of_type ≡ false
-  not_by_type = program.by_type ∙ none_by_type paths (λ path a. to_contains paths path a)
+  not_by_type = program.by_type ∙ none_by_type paths (λ path a. contains_from_among paths path a)
 
 pub untyped : (typed : Option (List TypedCount)) (by_type : Bool) (top : ℕ) (count : ℕ → List ℕ → ℕ) → KeepsTyped typed by_type top count → by_type ≡ false → IsNone typed
 untyped None by_type top count keeps without = refl

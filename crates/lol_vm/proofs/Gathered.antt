@@ -7,18 +7,18 @@ use Rattle.lol_css.specs.declared.selector.Combinator.TheVariants.{Child, Descen
 use Rattle.lol_instructions.specs.Tests.{Element}
 use Rattle.lol_instructions.specs.Compounds.{all_hold}
 use Rattle.lol_program.specs.Paths.{Path, Selectors, last_compound}
-use Rattle.lol_base.specs.MemberLaws.{Among, Distinct}
+use Rattle.lol_base.specs.MemberLaws.{Among, Distinct, among_from_contains, contains_from_among, distinct_from_pairs}
 use Rattle.lol_vm.specs.Matching.{left_matches, matches}
 use Rattle.lol_vm.specs.Answers.{matching_ids}
 use Rattle.lol_vm.specs.ReportLaws.{among_matching_ids, matching_ids_among}
 use Rattle.lol_base.specs.BoolLaws.{and_parts, and_of}
 use Rattle.lol_program.specs.Programs.{Instruction, Program, IsAt, IsRangeOf, IsProgramOf, AreClosed, all_places}
 use Rattle.lol_vm.specs.Machines.{HasRanges, Matches, HoldOnce, LeftMatches, jumps_of, hereditary_jumps_of}
-use Rattle.lol_vm.specs.PlaceRuns.{given_by, gathered_from_places, ids_list, context_of}
-use Rattle.lol_vm.specs.MachineLaws.{GivesReport}
-use Rattle.lol_vm.proofs.Lists.{to_contains, to_among, to_once, to_distinct, among_flat_map, flat_map_among, distinct_flat_map}
+use Rattle.lol_vm.specs.PlaceRuns.{given_by, gathered_from_places, ids_list, context_of, Context}
+use Rattle.lol_vm.proofs.Lists.{among_flat_map, flat_map_among, distinct_flat_map}
 use Rattle.lol_vm.proofs.Held.{instruction_at, place_of_node, range_of_reached, one_owner}
 use Rattle.lol_vm.proofs.Counted.{path_held, held_at}
+use Rattle.lol_program.specs.NodeOnceLaws.{AllPairs-from_Distinct}
 
 module _ {A : Type 0} (what : Instruction → List A) (e : Element) where
   of_cond : (b : Bool) (xs : List A) (y : A) → Among (cond b xs []) y → (b ≡ true) × Among xs y
@@ -77,14 +77,14 @@ module _ (s : Selectors) (paths : List Path) (p : Program) (closed : AreClosed s
   ids_reported : (id : ℕ) → Contains (gathered_from_places ids_list p e (all_places ranges)) id ↔ Contains (matching_ids s.pairs e outer) id
   ids_reported id = (
     λ c.
-        let h = gathered_from ids_list id (to_among _ id c) in
-        to_contains _ id (matching_ids_among e outer s.pairs h.1 id (to_among s.pairs (h.1, id) (((program.each h.0 h.1 h.2 h.3 h.4).ids id).0 (to_contains h.2.ids id h.6))) h.5),
+        let h = gathered_from ids_list id (among_from_contains _ id c) in
+        contains_from_among _ id (matching_ids_among e outer s.pairs h.1 id (among_from_contains s.pairs (h.1, id) (((program.each h.0 h.1 h.2 h.3 h.4).ids id).0 (contains_from_among h.2.ids id h.6))) h.5),
     λ c.
-        let m = among_matching_ids e outer s.pairs id (to_among _ id c) in
-        let pair = to_contains s.pairs (m.0, id) m.1 in
+        let m = among_matching_ids e outer s.pairs id (among_from_contains _ id c) in
+        let pair = contains_from_among s.pairs (m.0, id) m.1 in
         let place = place_of_node s paths p program m.0 (closed.paths m.0 id pair) in
         let i = instruction_at s paths p program place.0 m.0 place.1 in
-        to_contains _ id (gathered_at ids_list id place.0 m.0 i.0 place.1 i.1 m.2 (to_among i.0.ids id (((program.each place.0 m.0 i.0 place.1 i.1).ids id).1 pair))),
+        contains_from_among _ id (gathered_at ids_list id place.0 m.0 i.0 place.1 i.1 m.2 (among_from_contains i.0.ids id (((program.each place.0 m.0 i.0 place.1 i.1).ids id).1 pair))),
   )
 
   module _ (which : Instruction → Option (Range ℕ)) (step : Combinator)
@@ -109,13 +109,19 @@ module _ (s : Selectors) (paths : List Path) (p : Program) (closed : AreClosed s
 
     ranges_had : HasRanges which paths p (Matches e outer) (gathered_from_places list_of p e (all_places ranges))
     ranges_had = record {
-      once = to_once _ (distinct_flat_map (λ place. given_by list_of e (slice_get p.instructions place)) (all_places ranges) (to_distinct (all_places ranges) held.once)
+      once = AllPairs-from_Distinct _ (distinct_flat_map (λ place. given_by list_of e (slice_get p.instructions place)) (all_places ranges) (distinct_from_pairs (all_places ranges) held.once)
           (λ place a. one_each (slice_get p.instructions place)) one_place_each);
       members = λ r. (
-        λ c. let h = gathered_from list_of r (to_among _ r c) in (h.0, h.1, h.2, h.3, h.4, of_option (which h.2) r h.6, h.5),
-        λ h. to_contains _ r (gathered_at list_of r h.0 h.1 h.2 h.3 h.4 h.6 (to_option (which h.2) r h.5)),
+        λ c. let h = gathered_from list_of r (among_from_contains _ r c) in (h.0, h.1, h.2, h.3, h.4, of_option (which h.2) r h.6, h.5),
+        λ h. contains_from_among _ r (gathered_at list_of r h.0 h.1 h.2 h.3 h.4 h.6 (to_option (which h.2) r h.5)),
       );
     }
+
+-- the ids of the report, and the ranges of the element's item
+pub record GivesReport (s : Selectors) (paths : List Path) (p : Program) (context : Context) (e : Element) (outer : List Element) : Type 0 where
+  pub ids : (id : ℕ) → Contains context.ids id ↔ Contains (matching_ids s.pairs e outer) id
+  pub jumps : HasRanges jumps_of paths p (Matches e outer) context.jumps
+  pub hereditary_jumps : HasRanges hereditary_jumps_of paths p (Matches e outer) context.hereditary_jumps
 
 pub runs_give_reports : (s : Selectors) (paths : List Path) (p : Program) (ranges : List (Range ℕ)) (e : Element) (outer : List Element)
     → AreClosed s → IsProgramOf s paths p → HoldOnce paths ranges (LeftMatches outer)

@@ -5,7 +5,7 @@ use Rattle.std.specs.Prelude.{option_to_list}
 use Rattle.std.proofs.lemmas.List.Kept.{AllPairs-from_increasing}
 use Rattle.lol_base.specs.BoolLaws.{or_parts, or_of}
 use Rattle.lol_base.specs.MemberLaws.{contains-append, among_from_contains, contains_from_among}
-use Rattle.lol_memory.specs.Ids.{Ids, has, no_ids, union}
+use Rattle.lol_memory.specs.Ids.{Ids, has, union}
 use Rattle.lol_memory.specs.Ids as sets
 use Rattle.lol_memory.specs.SetLaws.{has-no_ids, has-union}
 use Rattle.lol_memory.specs.AscendingLaws.{ascending_rises}
@@ -46,27 +46,16 @@ ids_more s t ids same id = (
 pub branches_gather : {E : Type 0} → (ids_of : E → Ids) (with_ids : E → Ids → E) → ((e : E) (w : Ids) → ids_of (with_ids e w) ≡ w)
     → (ctx : ExecutionCtx E) (context : Context) (i : code.Instruction) (by_type : Bool) → Gathers ids_of ctx.stack_item context
     → Gathers ids_of (with_branch ids_of with_ids ctx i.associated_branch).stack_item (branch ctx.with_content context (instruction_shown by_type i))
-branches_gather ids_of with_ids keeps ctx context i by_type has_context = by_content ids_of with_ids keeps ctx context i by_type has_context ctx.with_content
+branches_gather ids_of with_ids keeps ctx context i by_type h = by_content ctx.with_content
   where
-    by_content : {E : Type 0} (ids_of : E → Ids) (with_ids : E → Ids → E) → ((e : E) (w : Ids) → ids_of (with_ids e w) ≡ w) → (ctx : ExecutionCtx E) (context : Context) (i : code.Instruction) (by_type : Bool)
-        → Gathers ids_of ctx.stack_item context → (b : Bool)
-        → Gathers ids_of (with_branch ids_of with_ids (record ctx { with_content = b }) i.associated_branch).stack_item (branch b context (instruction_shown by_type i))
-    by_content ids_of with_ids keeps ctx context i by_type h true =
-        let data_ids = keeps ctx.stack_item.element_data (union (ids_of ctx.stack_item.element_data) i.associated_branch.matched_ids) in
-        record {
-          ids = λ id. subst (λ s. (has s id ≡ true) ↔ Contains (context.ids ++ sets.ascending i.associated_branch.matched_ids) id) (sym data_ids)
-              (ids_more (ids_of ctx.stack_item.element_data) i.associated_branch.matched_ids context.ids h.ids id);
-          jumps = ap (λ rs. rs ++ option_to_list i.associated_branch.jumps) h.jumps;
-          hereditary_jumps = ap (λ rs. rs ++ option_to_list i.associated_branch.hereditary_jumps) h.hereditary_jumps;
-        }
-    by_content ids_of with_ids keeps ctx context i by_type h false =
-        let data_ids = keeps ctx.stack_item.element_data (union (ids_of ctx.stack_item.element_data) i.associated_branch.matched_ids) in
-        record {
-          ids = λ id. subst (λ s. (has s id ≡ true) ↔ Contains (context.ids ++ sets.ascending i.associated_branch.matched_ids) id) (sym data_ids)
-              (ids_more (ids_of ctx.stack_item.element_data) i.associated_branch.matched_ids context.ids h.ids id);
-          jumps = h.jumps;
-          hereditary_jumps = h.hereditary_jumps;
-        }
+    gathered_ids : (id : ℕ) → (has (ids_of (with_ids ctx.stack_item.element_data (union (ids_of ctx.stack_item.element_data) i.associated_branch.matched_ids))) id ≡ true) ↔ Contains (context.ids ++ sets.ascending i.associated_branch.matched_ids) id
+    gathered_ids id =
+        subst (λ s. (has s id ≡ true) ↔ Contains (context.ids ++ sets.ascending i.associated_branch.matched_ids) id) (sym (keeps ctx.stack_item.element_data (union (ids_of ctx.stack_item.element_data) i.associated_branch.matched_ids)))
+        (ids_more (ids_of ctx.stack_item.element_data) i.associated_branch.matched_ids context.ids h.ids id)
+
+    by_content : (b : Bool) → Gathers ids_of (with_branch ids_of with_ids (record ctx { with_content = b }) i.associated_branch).stack_item (branch b context (instruction_shown by_type i))
+    by_content true = record { ids = gathered_ids; jumps = ap (λ rs. rs ++ option_to_list i.associated_branch.jumps) h.jumps; hereditary_jumps = ap (λ rs. rs ++ option_to_list i.associated_branch.hereditary_jumps) h.hereditary_jumps }
+    by_content false = record { ids = gathered_ids; jumps = h.jumps; hereditary_jumps = h.hereditary_jumps }
 
 -- The ids of the data, in ascending order, are those that were gathered, each once.
 pub gathered_ids_ascend : {N E : Type 0} → (ids_of : E → Ids) (item : StackItemOf N E) (context : Context) → Gathers ids_of item context → sets.ascending (ids_of item.element_data) ≡ ascending_once context.ids

@@ -9,7 +9,7 @@ use Rattle.lol_css.specs.declared.selector.Combinator.{Combinator}
 use Rattle.lol_css.specs.declared.selector.Combinator.TheVariants.{Child, Descendant}
 use Rattle.lol_instructions.specs.Tests.{Element}
 use Rattle.lol_program.specs.Paths.{Path, First, Then, Selectors}
-use Rattle.lol_base.specs.MemberLaws.{Among, Distinct, among_front, among_back, among_either}
+use Rattle.lol_base.specs.MemberLaws.{contains_from_among, Among, Distinct, among_front, among_back, among_either, among_from_contains, distinct_from_pairs}
 use Rattle.lol_vm.specs.Matching.{matches, left_matches, parent_passes, some_ancestor_passes}
 use Rattle.lol_base.specs.BoolLaws.{and_parts, and_of, or_parts, or_of}
 use Rattle.lol_base.specs.PlaceLaws.{some_is, at_among, same_at, one_place, at_within, within_at}
@@ -18,7 +18,8 @@ use Rattle.lol_program.specs.Programs.{Instruction, Program, IsWithin, IsAt, Hol
 use Rattle.lol_vm.specs.Machines.{OpenItem, ranges_to_run, IsReached, HasRanges, IsItem, AreItems, Matches, HoldOnce, LeftMatches, active_of, last_jumps, ranges_of_active, jumps_of, hereditary_jumps_of}
 use Rattle.lol_stack.specs.Active.{activated, is_range_active, is_same_range}
 use Rattle.lol_vm.specs.MachineLaws.{ProgramsHaveEachNode, RangesHoldLeftMatches}
-use Rattle.lol_vm.proofs.Lists.{same_length, to_contains, to_among, to_once, to_distinct, distinct_append, among_at, among_flat_map, flat_map_among, distinct_flat_map, among_range, range_among, distinct_range, among_map, map_among, any_among, among_any}
+use Rattle.lol_vm.proofs.Lists.{same_length, distinct_append, among_at, among_flat_map, flat_map_among, distinct_flat_map, among_range, range_among, distinct_range, among_map, map_among, any_among, among_any}
+use Rattle.lol_program.specs.NodeOnceLaws.{AllPairs-from_Distinct}
 
 -- 1. Ranges and the places in them
 
@@ -35,7 +36,7 @@ not_child h = cc
 
 module _ (s : Selectors) (paths : List Path) (p : Program) (program : IsProgramOf s paths p) where
   pub paths_once : Distinct paths
-  paths_once = to_distinct paths program.once
+  paths_once = distinct_from_pairs paths program.once
 
   pub instruction_at : (place : ℕ) (path : Path) → IsAt paths place path → (i : Instruction) × IsAt p.instructions place i
   instruction_at place path at = within_at p.instructions place (omega (arith, at_within paths place path at, program.count))
@@ -44,13 +45,13 @@ module _ (s : Selectors) (paths : List Path) (p : Program) (program : IsProgramO
   path_at place i at = within_at paths place (omega (arith, at_within p.instructions place i at, program.count))
 
   pub place_of_node : (path : Path) → Contains s.nodes path → (place : ℕ) × IsAt paths place path
-  place_of_node path h = among_at paths path (to_among paths path ((program.same path).1 h))
+  place_of_node path h = among_at paths path (among_from_contains paths path ((program.same path).1 h))
 
   module _ (closed : AreClosed s) where
     pub front_at : (place : ℕ) (path front : Path) (step : Combinator) → IsAt paths place path → above path ≡ Some (front, step) → (k : ℕ) × IsAt paths k front
     front_at place (First c) front step at is = cc
     front_at place (Then other step' c) front step at is =
-        let node : Contains s.nodes (Then other step' c) = (program.same (Then other step' c)).0 (to_contains paths (Then other step' c) (at_among paths place (Then other step' c) at)) in
+        let node : Contains s.nodes (Then other step' c) = (program.same (Then other step' c)).0 (contains_from_among paths (Then other step' c) (at_among paths place (Then other step' c) at)) in
         subst (λ f. (k : ℕ) × IsAt paths k f) (one_front other front step' step is) (place_of_node other (closed.fronts other step' c node))
 
     -- 3. Ranges that instructions give hold their places once
@@ -72,7 +73,7 @@ module _ (s : Selectors) (paths : List Path) (p : Program) (program : IsProgramO
 
       module _ (P : Path → Type 0) (ranges : List (Range ℕ)) (h : HasRanges which paths p P ranges) where
         reached : (r : Range ℕ) → Among ranges r → IsReached which paths p P r
-        reached r a = (h.members r).0 (to_contains ranges r a)
+        reached r a = (h.members r).0 (contains_from_among ranges r a)
 
         apart : (r r' : Range ℕ) (place : ℕ) → Among ranges r → Among ranges r' → Among (places r) place → Among (places r') place → r ≡ r'
         apart r r' place a a' in_r in_r' =
@@ -84,9 +85,9 @@ module _ (s : Selectors) (paths : List Path) (p : Program) (program : IsProgramO
 
         pub hold_under : HoldOnce paths ranges (λ path. (front : Path) × (above path ≡ Some (front, step)) × P front)
         hold_under = record {
-          once = to_once (all_places ranges) (distinct_flat_map places ranges (to_distinct ranges h.once) (λ r a. distinct_range r.start (r.end - r.start)) apart);
+          once = AllPairs-from_Distinct (all_places ranges) (distinct_flat_map places ranges (distinct_from_pairs ranges h.once) (λ r a. distinct_range r.start (r.end - r.start)) apart);
           members = λ place. (
-            λ c. let at = among_flat_map places ranges place (to_among (all_places ranges) place c) in
+            λ c. let at = among_flat_map places ranges place (among_from_contains (all_places ranges) place c) in
                 let m = reached at.0 at.1 in
                 let under = ((range_of_reached m.0 m.1 m.2 at.0 m.3 m.4 m.5).0.members place).0 (within_places at.0 place at.2) in
                 (under.0, under.1, (m.1, under.2, m.6)),
@@ -100,8 +101,8 @@ module _ (s : Selectors) (paths : List Path) (p : Program) (program : IsProgramO
                 → (o : Option (Range ℕ)) → which i ≡ o → IsRangeOf paths o (Some (front, step)) → Contains (all_places ranges) place
             found place path front at under fits k i at_k at_i None is range = absurd (range place path at under)
             found place path front at under fits k i at_k at_i (Some r) is range =
-                let a : Among ranges r = to_among ranges r ((h.members r).1 (k, front, i, at_k, at_i, is, fits)) in
-                to_contains (all_places ranges) place (flat_map_among places ranges r place a (places_within r place ((range.0.members place).1 (path, at, under))))
+                let a : Among ranges r = among_from_contains ranges r ((h.members r).1 (k, front, i, at_k, at_i, is, fits)) in
+                contains_from_among (all_places ranges) place (flat_map_among places ranges r place a (places_within r place ((range.0.members place).1 (path, at, under))))
 
 -- 4. The active ranges
 
@@ -214,10 +215,10 @@ module _ (paths : List Path) (p : Program) where
             λ r. (
               λ h. elim (activated_from (length items) old item.hereditary_jumps r h) [
                 | inl a ↦ reached_by hereditary_jumps_of (SomeAncestorMatches outer) (SomeAncestorMatches (e ∷ outer)) (λ path fits. or_of (matches path e outer) _ (inr fits)) r ((before.1 r).0 a)
-                | inr a ↦ reached_by hereditary_jumps_of (Matches e outer) (SomeAncestorMatches (e ∷ outer)) (λ path fits. or_of (matches path e outer) _ (inl fits)) r ((is.hereditary_jumps.members r).0 (to_contains item.hereditary_jumps r a))
+                | inr a ↦ reached_by hereditary_jumps_of (Matches e outer) (SomeAncestorMatches (e ∷ outer)) (λ path fits. or_of (matches path e outer) _ (inl fits)) r ((is.hereditary_jumps.members r).0 (contains_from_among item.hereditary_jumps r a))
               ],
               λ h. activated_has (length items) old item.hereditary_jumps r (elim (or_parts (matches h.1 e outer) _ h.6) [
-                | inl fits ↦ inr (to_among item.hereditary_jumps r ((is.hereditary_jumps.members r).1 (h.0, h.1, h.2, h.3, h.4, h.5, fits)))
+                | inl fits ↦ inr (among_from_contains item.hereditary_jumps r ((is.hereditary_jumps.members r).1 (h.0, h.1, h.2, h.3, h.4, h.5, fits)))
                 | inr fits ↦ inl ((before.1 r).1 (h.0, h.1, h.2, h.3, h.4, h.5, fits))
               ]),
             ),
@@ -227,16 +228,16 @@ module _ (paths : List Path) (p : Program) where
   active_have items elements are =
       let all = active_are items elements are in
       record {
-        once = to_once (ranges_of_active (active_of items)) all.0;
-        members = λ r. (λ h. (all.1 r).0 (to_among (ranges_of_active (active_of items)) r h), λ h. to_contains (ranges_of_active (active_of items)) r ((all.1 r).1 h));
+        once = AllPairs-from_Distinct (ranges_of_active (active_of items)) all.0;
+        members = λ r. (λ h. (all.1 r).0 (among_from_contains (ranges_of_active (active_of items)) r h), λ h. contains_from_among (ranges_of_active (active_of items)) r ((all.1 r).1 h));
       }
 
   -- 5. The last item's jumps
 
   last_have : (items : List OpenItem) (elements : List Element) → AreItems paths p items elements → HasRanges jumps_of paths p (ParentMatches elements) (last_jumps items)
   last_have [] [] are = record {
-    once = to_once [] tt;
-    members = λ r. (λ h. absurd (to_among [] r h), λ h. let e = h.6 in cc);
+    once = AllPairs-from_Distinct [] tt;
+    members = λ r. (λ h. absurd (among_from_contains [] r h), λ h. let e = h.6 in cc);
   }
   last_have [] (e ∷ outer) are = absurd are
   last_have (item ∷ items) [] are = absurd are
@@ -271,10 +272,10 @@ module _ (elements : List Element) where
 module _ (paths : List Path) where
   entry_holds : (r : Range ℕ) → HoldsPlaces paths r None → HoldOnce paths (r ∷ []) (λ path. above path ≡ None)
   entry_holds r h = record {
-    once = to_once (all_places (r ∷ [])) (subst Distinct (sym (append-nil (places r))) (distinct_range r.start (r.end - r.start)));
+    once = AllPairs-from_Distinct (all_places (r ∷ [])) (subst Distinct (sym (append-nil (places r))) (distinct_range r.start (r.end - r.start)));
     members = λ place. (
-      λ c. (h.members place).0 (within_places r place (subst (λ ps. Among ps place) (append-nil (places r)) (to_among (all_places (r ∷ [])) place c))),
-      λ x. to_contains (all_places (r ∷ [])) place (subst (λ ps. Among ps place) (sym (append-nil (places r))) (places_within r place ((h.members place).1 x))),
+      λ c. (h.members place).0 (within_places r place (subst (λ ps. Among ps place) (append-nil (places r)) (among_from_contains (all_places (r ∷ [])) place c))),
+      λ x. contains_from_among (all_places (r ∷ [])) place (subst (λ ps. Among ps place) (sym (append-nil (places r))) (places_within r place ((h.members place).1 x))),
     );
   }
 
@@ -283,19 +284,19 @@ module _ (paths : List Path) where
   joined rs qs P Q R first second apart both =
       let whole : all_places (rs ++ qs) ≡ all_places rs ++ all_places qs = flat_map-append places rs qs in
       record {
-        once = to_once (all_places (rs ++ qs)) (subst Distinct (sym whole) (distinct_append (all_places rs) (all_places qs) (to_distinct (all_places rs) first.once) (to_distinct (all_places qs) second.once)
+        once = AllPairs-from_Distinct (all_places (rs ++ qs)) (subst Distinct (sym whole) (distinct_append (all_places rs) (all_places qs) (distinct_from_pairs (all_places rs) first.once) (distinct_from_pairs (all_places qs) second.once)
             (λ place a b.
-            let x = (first.members place).0 (to_contains (all_places rs) place a) in
-            let y = (second.members place).0 (to_contains (all_places qs) place b) in
+            let x = (first.members place).0 (contains_from_among (all_places rs) place a) in
+            let y = (second.members place).0 (contains_from_among (all_places qs) place b) in
             apart x.0 x.2 (subst Q (same_at paths place y.0 x.0 y.1 x.1) y.2))));
         members = λ place. (
-          λ c. elim (among_either (all_places rs) (all_places qs) place (subst (λ ps. Among ps place) whole (to_among (all_places (rs ++ qs)) place c))) [
-            | inl a ↦ let x = (first.members place).0 (to_contains (all_places rs) place a) in (x.0, x.1, (both x.0).1 (inl x.2))
-            | inr b ↦ let y = (second.members place).0 (to_contains (all_places qs) place b) in (y.0, y.1, (both y.0).1 (inr y.2))
+          λ c. elim (among_either (all_places rs) (all_places qs) place (subst (λ ps. Among ps place) whole (among_from_contains (all_places (rs ++ qs)) place c))) [
+            | inl a ↦ let x = (first.members place).0 (contains_from_among (all_places rs) place a) in (x.0, x.1, (both x.0).1 (inl x.2))
+            | inr b ↦ let y = (second.members place).0 (contains_from_among (all_places qs) place b) in (y.0, y.1, (both y.0).1 (inr y.2))
           ],
-          λ x. to_contains (all_places (rs ++ qs)) place (subst (λ ps. Among ps place) (sym whole) (elim ((both x.0).0 x.2) [
-            | inl fits ↦ among_front (all_places rs) (all_places qs) place (to_among (all_places rs) place ((first.members place).1 (x.0, x.1, fits)))
-            | inr fits ↦ among_back (all_places rs) (all_places qs) place (to_among (all_places qs) place ((second.members place).1 (x.0, x.1, fits)))
+          λ x. contains_from_among (all_places (rs ++ qs)) place (subst (λ ps. Among ps place) (sym whole) (elim ((both x.0).0 x.2) [
+            | inl fits ↦ among_front (all_places rs) (all_places qs) place (among_from_contains (all_places rs) place ((first.members place).1 (x.0, x.1, fits)))
+            | inr fits ↦ among_back (all_places rs) (all_places qs) place (among_from_contains (all_places qs) place ((second.members place).1 (x.0, x.1, fits)))
           ])),
         );
       }
@@ -326,10 +327,10 @@ ranges_are_inside s paths p items elements closed program are r (inl is) =
 ranges_are_inside s paths p items elements closed program are r (inr a) =
     elim (among_either (last_jumps items) (ranges_of_active (active_of items)) r a) [
       | inl j ↦
-          let h = ((last_have paths p items elements are).members r).0 (to_contains (last_jumps items) r j) in
+          let h = ((last_have paths p items elements are).members r).0 (contains_from_among (last_jumps items) r j) in
           inside Child ((range_of_reached s paths p program closed jumps_of Child (λ place path i at at'. (program.each place path i at at').jumps) h.0 h.1 h.2 r h.3 h.4 h.5).0)
       | inr j ↦
-          let h = ((active_have paths p items elements are).members r).0 (to_contains (ranges_of_active (active_of items)) r j) in
+          let h = ((active_have paths p items elements are).members r).0 (contains_from_among (ranges_of_active (active_of items)) r j) in
           inside Descendant ((range_of_reached s paths p program closed hereditary_jumps_of Descendant (λ place path i at at'. (program.each place path i at at').hereditary_jumps) h.0 h.1 h.2 r h.3 h.4 h.5).0)
     ]
   where
@@ -339,8 +340,8 @@ ranges_are_inside s paths p items elements closed program are r (inr a) =
 pub programs_have_each_node : ProgramsHaveEachNode
 programs_have_each_node s paths p closed program = record {
   count = program.count
-      ∙ same_length paths s.nodes (to_distinct paths program.once) (to_distinct s.nodes closed.once)
-      (λ path a. to_among s.nodes path ((program.same path).0 (to_contains paths path a)))
-      (λ path a. to_among paths path ((program.same path).1 (to_contains s.nodes path a)));
+      ∙ same_length paths s.nodes (distinct_from_pairs paths program.once) (distinct_from_pairs s.nodes closed.once)
+      (λ path a. among_from_contains s.nodes path ((program.same path).0 (contains_from_among paths path a)))
+      (λ path a. among_from_contains paths path ((program.same path).1 (contains_from_among s.nodes path a)));
   place = λ node h. let at = place_of_node s paths p program node h in (at.0, at.1, omega (arith, at_within paths at.0 node at.1, program.count));
 }

@@ -1,5 +1,5 @@
 -- Instructions that are run in parts.
-use Rattle.std.proofs.Common.{◌≡◌, ◌+◌, ◌-◌, ◌≤◌, ℕ, Bool, List, [], ◌∷◌, ◌++◌, length, take, drop, get_or, suc, Option, Some, None, true, false, cond, refl, sym, ap, ◌∙◌, arith}
+use Rattle.std.proofs.Common.{◌≡◌, ◌+◌, ◌-◌, ◌≤◌, ℕ, Bool, List, [], ◌∷◌, ◌++◌, length, take, drop, get_or, suc, Option, Some, None, true, false, cond, refl, sym, ap, ◌∙◌, arith, subst}
 use Rattle.std.specs.declared.ops.Range.{Range}
 use Rattle.std.proofs.lemmas.List.{take-append-drop, length-append, length-drop, length-take}
 use Rattle.std.proofs.lemmas.Grind.{flat_map-append}
@@ -122,7 +122,7 @@ length_parts instructions ranges n =
 
 -- 5. The first of some ranges
 
-module _ (instructions : List Instruction) (r : Range ℕ) (others : List (Range ℕ)) where
+module _ (instructions : List Instruction) {rs : List (Range ℕ)} {r : Range ℕ} {others : List (Range ℕ)} (first : rs ≡ r ∷ others) where
   abbrev here : List Instruction
   here = instructions_at instructions r
 
@@ -130,11 +130,14 @@ module _ (instructions : List Instruction) (r : Range ℕ) (others : List (Range
   later = all_at instructions others
 
   abbrev whole : List Instruction
-  whole = all_at instructions (r ∷ others)
+  whole = all_at instructions rs
 
-  module _ (tries : Tries) (runnable : AreRunnable instructions (r ∷ others) tries) (part : List Instruction) where
+  module _ {tries : Tries} (runnable : AreRunnable instructions rs tries) (part : List Instruction) where
+    run : AreRunnable instructions (r ∷ others) tries
+    run = subst (λ xs. AreRunnable instructions xs tries) first runnable
+
     is_inside : IsInsideOf instructions r
-    is_inside = runnable.inside 0 no_range (omega arith)
+    is_inside = run.inside 0 no_range (omega arith)
 
     length_here : length here ≡ r.end - r.start
     length_here = omega (arith, is_inside, length-take (r.end - r.start) (drop r.start instructions), length-drop r.start instructions)
@@ -143,20 +146,20 @@ module _ (instructions : List Instruction) (r : Range ℕ) (others : List (Range
     pub is_lent : (IsInsideOf instructions r → HasTriesLeft tries (r.end - r.start) → part ≡ here) → part ≡ here
     is_lent lent =
         let count = length-append here later in
-        lent is_inside (omega (arith, runnable.room.0, count, length_here), omega (arith, runnable.room.1, count, length_here))
+        lent is_inside (omega (arith, run.room.0, count, length_here), omega (arith, run.room.1, count, length_here))
 
     -- the others can be run after it
     pub others_run : part ≡ here → (mid : Tries) → names_counted mid ≤ names_counted tries + length part → attributes_counted mid ≤ attributes_counted tries + length part → AreRunnable instructions others mid
     others_run is mid names attributes =
         let count = length-append here later in
         record {
-          inside = λ k d within. runnable.inside (suc k) d (omega (arith, within));
-          room = (omega (arith, runnable.room.0, count, ap length is, names), omega (arith, runnable.room.1, count, ap length is, attributes));
+          inside = λ k d within. run.inside (suc k) d (omega (arith, within));
+          room = (omega (arith, run.room.0, count, ap length is, names), omega (arith, run.room.1, count, ap length is, attributes));
         }
 
   module _ (part : List Instruction) (is : part ≡ here) where
     split : whole ≡ part ++ later
-    split = ap (λ p. p ++ later) (sym is)
+    split = ap (all_at instructions) first ∙ ap (λ p. p ++ later) (sym is)
 
     pub length_split : length whole ≡ length part + length later
     length_split = ap length split ∙ length-append part later

@@ -17,7 +17,6 @@ use Rattle.lol_instructions.specs.declared.instruction.Instruction as code
 use Rattle.lol_instructions.specs.declared.name_value.NameValue.{NameValue}
 use Rattle.lol_instructions.specs.declared.name_value.NameValue.TheVariants.{True, False, Open}
 use Rattle.lol_vm.specs.Gathering.{Gathers}
-use Rattle.lol_vm.specs.InstructionLaws.{AreAsOpen, AreRangesOf, GatherAlike}
 use Rattle.lol_vm.specs.InstructionRuns.{IsInsideOf, instructions_at, all_at, value_seen, is_true, holds_seen, open_among, first_open_from, with_branch_if, gathered_by_names, gathered_with_attributes}
 use Rattle.lol_vm.specs.PlaceRuns.{Context, instruction_value, value_at, is_open_at, first_open, branch, step_with_attributes, step_by_names, run, run_by_names}
 use Rattle.lol_stack.specs.declared.execution_ctx.ExecutionCtx.{ExecutionCtx}
@@ -142,26 +141,38 @@ module _ (p : Program) (by_type : Bool) (instructions : List code.Instruction) (
 inside_each : (instructions : List code.Instruction) (ranges : List (Range ℕ)) → All (IsInsideOf instructions) ranges → (r : Range ℕ) → Among ranges r → IsInsideOf instructions r
 inside_each instructions ranges all r a = let at = contains_from_among ranges r a in subst (IsInsideOf instructions) at.2 (all at.0 r at.1)
 
-pub instructions_are_as_open : (p : Program) (by_type : Bool) (e : Element) (instructions : List code.Instruction) (ranges : List (Range ℕ)) → AreRangesOf p by_type instructions ranges
-    → AreAsOpen p by_type e instructions ranges
-instructions_are_as_open p by_type e instructions ranges are =
-    let at = at_all p by_type instructions are.same_code ranges (inside_each instructions ranges are.inside) in
-    record {
-      count = sym (length-map (all_at instructions ranges) (stands p by_type instructions are.same_code)) ∙ (sym (ap length at) ∙ length-map (all_places ranges) (slice_get p.instructions));
-      stop = same_stop p by_type instructions are.same_code e 0 (all_places ranges) (all_at instructions ranges) at ∙ as_it_is (first_open p e (all_places ranges));
-      opens = same_opens p by_type instructions are.same_code e (all_places ranges) (all_at instructions ranges) at;
-    }
-  where
-    as_it_is : (o : Option ℕ) → option_map (λ n. 0 + n) o ≡ o
-    as_it_is None = refl
-    as_it_is (Some n) = let same : 0 + n ≡ n = omega arith in ap Some same
+-- 3. The instructions of ranges
 
-pub instructions_gather : {E : Type 0} → (ids_of : E → Ids) (with_ids : E → Ids → E) → ((e : E) (w : Ids) → ids_of (with_ids e w) ≡ w)
-    → (p : Program) (by_type : Bool) (e : Element) (instructions : List code.Instruction) (ranges : List (Range ℕ)) (ctx : ExecutionCtx E) (context : Context)
-    → AreRangesOf p by_type instructions ranges → Gathers ids_of ctx.stack_item context → GatherAlike ids_of with_ids p by_type e instructions ranges ctx context
-instructions_gather ids_of with_ids keeps p by_type e instructions ranges ctx context are has =
-    let at = at_all p by_type instructions are.same_code ranges (inside_each instructions ranges are.inside) in
-    record {
-      attributes = gather_attributes p by_type instructions are.same_code e ids_of with_ids keeps (all_places ranges) (all_at instructions ranges) ctx context at has;
-      names = gather_names p by_type instructions are.same_code e ids_of with_ids keeps (all_places ranges) (all_at instructions ranges) ctx context at has;
-    }
+-- ranges inside the instructions of a program
+pub record AreRangesOf (p : Program) (by_type : Bool) (instructions : List code.Instruction) (ranges : List (Range ℕ)) : Type 0 where
+  pub same_code : p.instructions ≡ code_of by_type instructions
+  pub inside : All (IsInsideOf instructions) ranges
+
+-- As many are open, and the first open one stands at the same place.
+pub record AreAsOpen (p : Program) (by_type : Bool) (e : Element) (instructions : List code.Instruction) (ranges : List (Range ℕ)) : Type 0 where
+  pub count : length (all_at instructions ranges) ≡ length (all_places ranges)
+  pub stop : first_open_from (sight_of by_type e) 0 (all_at instructions ranges) ≡ first_open p e (all_places ranges)
+  pub opens : open_among (sight_of by_type e) (all_at instructions ranges) ≡ count_by (is_open_at p e) (all_places ranges)
+
+module _ (p : Program) (by_type : Bool) (e : Element) (instructions : List code.Instruction) (ranges : List (Range ℕ)) (are : AreRangesOf p by_type instructions ranges) where
+  at : map (slice_get p.instructions) (all_places ranges) ≡ map (stands p by_type instructions are.same_code) (all_at instructions ranges)
+  at = at_all p by_type instructions are.same_code ranges (inside_each instructions ranges are.inside)
+
+  pub instructions_are_as_open : AreAsOpen p by_type e instructions ranges
+  instructions_are_as_open = record {
+    count = sym (length-map (all_at instructions ranges) (stands p by_type instructions are.same_code)) ∙ (sym (ap length at) ∙ length-map (all_places ranges) (slice_get p.instructions));
+    stop = same_stop p by_type instructions are.same_code e 0 (all_places ranges) (all_at instructions ranges) at ∙ as_it_is (first_open p e (all_places ranges));
+    opens = same_opens p by_type instructions are.same_code e (all_places ranges) (all_at instructions ranges) at;
+  }
+    where
+      as_it_is : (o : Option ℕ) → option_map (λ n. 0 + n) o ≡ o
+      as_it_is None = refl
+      as_it_is (Some n) = let same : 0 + n ≡ n = omega arith in ap Some same
+
+  -- what is gathered with attributes, and what by names up to a stop, is what the places give
+  module _ {E : Type 0} (ids_of : E → Ids) (with_ids : E → Ids → E) (keeps : (e : E) (w : Ids) → ids_of (with_ids e w) ≡ w) (ctx : ExecutionCtx E) (context : Context) (has : Gathers ids_of ctx.stack_item context) where
+    pub attributes_gather : Gathers ids_of (gathered_with_attributes ids_of with_ids (sight_of by_type e) (tag_attributes e.tag) ctx (all_at instructions ranges)).stack_item (run p ctx.with_content e context (all_places ranges))
+    attributes_gather = gather_attributes p by_type instructions are.same_code e ids_of with_ids keeps (all_places ranges) (all_at instructions ranges) ctx context at has
+
+    pub names_gather : Gathers ids_of (gathered_by_names ids_of with_ids (sight_of by_type e) ctx (all_at instructions ranges)).stack_item (run_by_names p ctx.with_content e context (all_places ranges)).context
+    names_gather = gather_names p by_type instructions are.same_code e ids_of with_ids keeps (all_places ranges) (all_at instructions ranges) ctx context at has

@@ -19,9 +19,9 @@ use Rattle.lol_vm.specs.Answers.{document, document_from, after, is_dropped, ask
 use Rattle.lol_vm.specs.Refusals.{longest, longest_from}
 use Rattle.lol_vm.specs.DocumentLaws.{document_push, longest_push}
 use Rattle.lol_vm.proofs.Runs.{position-map}
-use Rattle.lol_base.specs.BoolLaws.{and-false, not_true}
+use Rattle.lol_base.specs.BoolLaws.{and-false, not_true, and-true}
 use Rattle.lol_program.specs.Programs.{Program, AreClosed, all_places, IsProgramOf}
-use Rattle.lol_vm.specs.Machines.{OpenItem, AreItems, HasRanges, Matches, ranges_to_run, jumps_of, hereditary_jumps_of}
+use Rattle.lol_vm.specs.Machines.{OpenItem, AreItems, HasRanges, Matches, jumps_of, hereditary_jumps_of}
 use Rattle.lol_vm.specs.PlaceRuns.{Context, context_of, run}
 use Rattle.lol_vm.specs.Standing.{Machine, AreTyped, TypedStand, AreCounted, StandsOn, StandsFor, counted_root, counted_last, counted_typed, counted, opened, cut, closed_count, ended, started, machine_after, Descend, IsOrdered, DocumentsAreOrdered, unfinished, finished, CountersArePlaces, or_root, new_machine, ranges_of_machine}
 use Rattle.lol_vm.proofs.Held.{ranges_hold_left_matches}
@@ -248,6 +248,16 @@ module _ (s : Selectors) (paths : List Path) (d : Document) (longest_so_far : �
         above = λ l n high. h.above l n (omega (arith, high));
       }
 
+  -- it opens it or not
+  finished_on : (m : Machine) (tag : StartTag) → StandsOn s paths m (after_start d tag false) (max longest_so_far (length d.open_elements)) → (context : Context)
+      → HasRanges jumps_of paths m.program (Matches (element_of d tag) d.open_elements) context.jumps
+      → HasRanges hereditary_jumps_of paths m.program (Matches (element_of d tag) d.open_elements) context.hereditary_jumps
+      → (opens : Bool) → StandsOn s paths (finished m opens tag.name context) (after_start d tag opens) (max longest_so_far (length (after_start d tag opens).open_elements))
+  finished_on m tag here context jumps hereditary false = here
+  finished_on m tag here context jumps hereditary true =
+      let sizes : max (max longest_so_far (length d.open_elements)) (suc (length d.open_elements)) ≡ max longest_so_far (suc (length d.open_elements)) = omega arith in
+      subst (StandsOn s paths (opened m tag.name context) (after_start d tag true)) sizes (opened_on m (max longest_so_far (length d.open_elements)) (omega arith) tag here context jumps hereditary)
+
 module _ (s : Selectors) (paths : List Path) (m : Machine) (d : Document) (most : ℕ) (ordered : IsOrdered d most) (stands : StandsOn s paths m d most) where
   as_many : length m.items ≡ length d.open_elements
   as_many = items_length paths m.program m.items d.open_elements stands.items
@@ -275,13 +285,6 @@ module _ (s : Selectors) (paths : List Path) (m : Machine) (d : Document) (most 
     counted = counted_stand tag;
     charged = same_slots (length d.open_elements) (omega arith);
   }
-
-  opened_stands : (tag : StartTag) (context : Context)
-      → HasRanges jumps_of paths m.program (Matches (element_of d tag) d.open_elements) context.jumps
-      → HasRanges hereditary_jumps_of paths m.program (Matches (element_of d tag) d.open_elements) context.hereditary_jumps
-      → StandsOn s paths (opened (counted m tag.name) tag.name context) (after_start d tag true) (max (max most (length d.open_elements)) (length (element_of d tag ∷ d.open_elements)))
-  opened_stands tag context jumps hereditary =
-      opened_on s paths d most ordered (counted m tag.name) (max most (length d.open_elements)) (omega arith) tag (counted_stands tag) context jumps hereditary
 
   cut_stands : (n : ℕ) → StandsOn s paths (cut n m) (record { events = d.events + 1; children = d.children; open_elements = drop n d.open_elements }) (max most (length (drop n d.open_elements)))
   cut_stands n = record {
@@ -322,13 +325,10 @@ module _ (s : Selectors) (paths : List Path) (m : Machine) (d : Document) (most 
       subst (λ xs. StandsOn s paths (ended m name) (record { events = d.events + 1; children = d.children; open_elements = xs }) (max most (length xs))) rest (cut_stands (closed_count place))
 
   started_stands : AreClosed s → (tag : StartTag) (opens : Bool) → StandsOn s paths (started m opens (element_of d tag)) (after_start d tag opens) (max most (length (after_start d tag opens).open_elements))
-  started_stands closed tag false = counted_stands tag
-  started_stands closed tag true =
+  started_stands closed tag opens =
       let held = ranges_hold_left_matches s paths m.program m.items d.open_elements closed stands.program stands.items in
-      let report = runs_give_reports s paths m.program (ranges_to_run m.program m.items) (element_of d tag) d.open_elements closed stands.program held in
-      let sizes : max (max most (length d.open_elements)) (suc (length d.open_elements)) ≡ max most (suc (length d.open_elements)) = omega arith in
-      subst (StandsOn s paths (opened (counted m tag.name) tag.name (context_of m.program true (element_of d tag) (all_places (ranges_to_run m.program m.items)))) (after_start d tag true)) sizes
-      (opened_stands tag (context_of m.program true (element_of d tag) (all_places (ranges_to_run m.program m.items))) report.jumps report.hereditary_jumps)
+      let report = runs_give_reports s paths m.program (ranges_of_machine m) (element_of d tag) d.open_elements closed stands.program held in
+      finished_on s paths d most ordered (counted m tag.name) tag (counted_stands tag) (context_of m.program true (element_of d tag) (all_places (ranges_of_machine m))) report.jumps report.hereditary_jumps opens
 
   one_more : (esi : Bool) → AreClosed s → (event : Event) → StandsOn s paths (machine_after s esi m d event) (after s esi d event) (max most (length (after s esi d event).open_elements))
   one_more esi closed (End name) = ended_stands name
@@ -344,16 +344,24 @@ new_stands s esi paths p item_bytes program = record {
   charged = refl;
 }
 
+-- Standing for one event more is standing on its document.
+module _ (s : Selectors) (esi : Bool) (events : List Event) (event : Event) (d : Document) (is : document s esi (events ++ event ∷ []) ≡ d) where
+  longest_as : longest s esi (events ++ event ∷ []) ≡ max (longest s esi events) (length d.open_elements)
+  longest_as = longest_push s esi empty events event ∙ ap (λ (d : Document). max (longest s esi events) (length d.open_elements)) (sym (document_push s esi empty events event) ∙ is)
+
+  for_on : (paths : List Path) (m : Machine) → StandsOn s paths m d (max (longest s esi events) (length d.open_elements)) → StandsFor s esi paths m (events ++ event ∷ [])
+  for_on paths m h = subst (λ n. StandsOn s paths m (document s esi (events ++ event ∷ [])) n) (sym longest_as) (subst (λ d'. StandsOn s paths m d' (max (longest s esi events) (length d.open_elements))) (sym is) h)
+
+  on_for : (paths : List Path) (m : Machine) → StandsFor s esi paths m (events ++ event ∷ []) → StandsOn s paths m d (max (longest s esi events) (length d.open_elements))
+  on_for paths m h = subst (λ d'. StandsOn s paths m d' (max (longest s esi events) (length d.open_elements))) is (subst (λ n. StandsOn s paths m (document s esi (events ++ event ∷ [])) n) longest_as h)
+
 -- A machine that stands for events stands for them with one more, whichever it is.
 pub standing_is_kept : (s : Selectors) (esi : Bool) (paths : List Path) (m : Machine) (events : List Event) (event : Event) → AreClosed s
     → StandsFor s esi paths m events
     → StandsFor s esi paths (machine_after s esi m (document s esi events) event) (events ++ event ∷ [])
 standing_is_kept s esi paths m events event closed stands =
-    let d = document s esi events in
-    let m' = machine_after s esi m d event in
-    subst (StandsOn s paths m' (document s esi (events ++ event ∷ []))) (sym (longest_push s esi empty events event))
-    (subst (λ d'. StandsOn s paths m' d' (max (longest s esi events) (length (after s esi d event).open_elements))) (sym (document_push s esi empty events event))
-    (one_more s paths m d (longest s esi events) (documents_are_ordered s esi events) stands esi closed event))
+    for_on s esi events event (after s esi (document s esi events) event) (document_push s esi empty events event) paths (machine_after s esi m (document s esi events) event)
+    (one_more s paths m (document s esi events) (longest s esi events) (documents_are_ordered s esi events) stands esi closed event)
 
 -- 6. Counters as places
 
@@ -380,44 +388,16 @@ module _ (s : Selectors) (esi : Bool) (events : List Event) (tag : StartTag) whe
   abbrev earlier : Document
   earlier = document s esi events
 
-  abbrev asked_for : Type 0
-  asked_for = asks s (element_of earlier tag) earlier.open_elements ≡ true
-
-  and_not : (a b : Bool) → a ≡ true → (b && not (a && true)) ≡ false
-  and_not a b h = ap (λ c. b && not (c && true)) h ∙ and-false b
-
-  and_asked : (a b finish : Bool) → finish ≡ true → (b && not (a && not finish)) ≡ b
-  and_asked a b finish h = ap (λ f. b && not (a && not f)) h ∙ not_dropped a b
-    where
-      not_dropped : (a b : Bool) → (b && not (a && false)) ≡ b
-      not_dropped true true = refl
-      not_dropped true false = refl
-      not_dropped false true = refl
-      not_dropped false false = refl
-
   -- the document after the event as dropped
-  pub after_unfinished : asked_for → document s esi (events ++ Start (unfinished tag) ∷ []) ≡ after_start earlier tag false
-  after_unfinished h = document_push s esi empty events (Start (unfinished tag)) ∙ ap (after_start earlier (unfinished tag)) (and_not (asks s (element_of earlier (unfinished tag)) earlier.open_elements) (has_content esi (unfinished tag)) (asks_by_names (element_of earlier tag) tag.attributes tag.self_closing false earlier.open_elements s ∙ h))
+  pub after_unfinished : asks s (element_of earlier tag) earlier.open_elements ≡ true → document s esi (events ++ Start (unfinished tag) ∷ []) ≡ after_start earlier tag false
+  after_unfinished asked =
+      let still = asks_by_names (element_of earlier tag) tag.attributes tag.self_closing false earlier.open_elements s ∙ asked in
+      document_push s esi empty events (Start (unfinished tag)) ∙ ap (after_start earlier (unfinished tag)) ((λ i. has_content esi (unfinished tag) && not (still i && true)) ∙ and-false (has_content esi (unfinished tag)))
 
   after_finished : tag.finish ≡ true → document s esi (events ++ Start tag ∷ []) ≡ after_start earlier tag (has_content esi tag)
-  after_finished h = document_push s esi empty events (Start tag) ∙ ap (after_start earlier tag) (and_asked (asks s (element_of earlier tag) earlier.open_elements) (has_content esi tag) tag.finish h)
-
-  longest_after : (event : Event) → longest s esi (events ++ event ∷ []) ≡ max (longest s esi events) (length (document s esi (events ++ event ∷ [])).open_elements)
-  longest_after event = longest_push s esi empty events event ∙ ap (λ (d : Document). max (longest s esi events) (length d.open_elements)) (sym (document_push s esi empty events event))
-
-  longest_as : (event : Event) (d : Document) → document s esi (events ++ event ∷ []) ≡ d → longest s esi (events ++ event ∷ []) ≡ max (longest s esi events) (length d.open_elements)
-  longest_as event d is = longest_after event ∙ ap (λ (d : Document). max (longest s esi events) (length d.open_elements)) is
-
-  -- standing for one event more is standing on its document
-  for_on : (paths : List Path) (m : Machine) (event : Event) (d : Document) → document s esi (events ++ event ∷ []) ≡ d → StandsOn s paths m d (max (longest s esi events) (length d.open_elements)) → StandsFor s esi paths m (events ++ event ∷ [])
-  for_on paths m event d is h =
-      subst (StandsOn s paths m (document s esi (events ++ event ∷ []))) (sym (longest_as event d is))
-      (subst (λ d'. StandsOn s paths m d' (max (longest s esi events) (length d.open_elements))) (sym is) h)
-
-  on_for : (paths : List Path) (m : Machine) (event : Event) (d : Document) → document s esi (events ++ event ∷ []) ≡ d → StandsFor s esi paths m (events ++ event ∷ []) → StandsOn s paths m d (max (longest s esi events) (length d.open_elements))
-  on_for paths m event d is h =
-      subst (λ d'. StandsOn s paths m d' (max (longest s esi events) (length d.open_elements))) is
-      (subst (StandsOn s paths m (document s esi (events ++ event ∷ []))) (longest_as event d is) h)
+  after_finished finish =
+      let asked = asks s (element_of earlier tag) earlier.open_elements in
+      document_push s esi empty events (Start tag) ∙ ap (after_start earlier tag) ((λ i. has_content esi tag && not (asked && not (finish i))) ∙ ((λ i. has_content esi tag && not (and-false asked i)) ∙ and-true (has_content esi tag)))
 
 -- A call that answers a request has counted the tag, and leaves the machine standing for the list with the event as dropped.
 pub requests_stand : (s : Selectors) (esi : Bool) (paths : List Path) (m : Machine) (events : List Event) (tag : StartTag)
@@ -425,7 +405,7 @@ pub requests_stand : (s : Selectors) (esi : Bool) (paths : List Path) (m : Machi
     → asks s (element_of (document s esi events) tag) (document s esi events).open_elements ≡ true
     → StandsFor s esi paths (counted m tag.name) (events ++ Start (unfinished tag) ∷ [])
 requests_stand s esi paths m events tag stands h =
-    for_on s esi events tag paths (counted m tag.name) (Start (unfinished tag)) (after_start (document s esi events) tag false) (after_unfinished s esi events tag h)
+    for_on s esi events (Start (unfinished tag)) (after_start (document s esi events) tag false) (after_unfinished s esi events tag h) paths (counted m tag.name)
     (counted_stands s paths m (document s esi events) (longest s esi events) (documents_are_ordered s esi events) stands tag)
 
 -- Finishing a request on that machine puts the finished event in its place.
@@ -440,23 +420,10 @@ pub finishing_is_kept : (s : Selectors) (esi : Bool) (paths : List Path) (m : Ma
 finishing_is_kept s esi paths m events tag context left closed finish h stands request =
     let d = document s esi events in
     let e = element_of d tag in
-    let ordered = documents_are_ordered s esi events in
-    let here = on_for s esi events tag paths m (Start (unfinished tag)) (after_start d tag false) (after_unfinished s esi events tag h) stands in
+    let here = on_for s esi events (Start (unfinished tag)) (after_start d tag false) (after_unfinished s esi events tag h) paths m stands in
     let held = ranges_hold_left_matches s paths m.program m.items d.open_elements closed here.program here.items in
-    let report = runs_give_reports s paths m.program (ranges_to_run m.program m.items) e d.open_elements closed here.program held in
-    let whole : run m.program true e context left ≡ context_of m.program true e (all_places (ranges_to_run m.program m.items)) =
-    requests_finish m.program true e (ranges_to_run m.program m.items) context left request tag.attributes tag.self_closing tag.finish in
-    let enough = ordered.enough in
-    for_on s esi events tag paths (finished m (has_content esi tag) tag.name (run m.program true e context left)) (Start tag) (after_start d tag (has_content esi tag)) (after_finished s esi events tag finish)
+    let report = runs_give_reports s paths m.program (ranges_of_machine m) e d.open_elements closed here.program held in
+    let whole = requests_finish m.program true e (ranges_of_machine m) context left request tag.attributes tag.self_closing tag.finish in
+    for_on s esi events (Start tag) (after_start d tag (has_content esi tag)) (after_finished s esi events tag finish) paths (finished m (has_content esi tag) tag.name (run m.program true e context left))
     (subst (λ c. StandsOn s paths (finished m (has_content esi tag) tag.name c) (after_start d tag (has_content esi tag)) (max (longest s esi events) (length (after_start d tag (has_content esi tag)).open_elements))) (sym whole)
-    (by_content s paths d (longest s esi events) ordered m tag here (context_of m.program true e (all_places (ranges_to_run m.program m.items))) report.jumps report.hereditary_jumps (has_content esi tag)))
-  where
-    by_content : (s : Selectors) (paths : List Path) (d : Document) (most : ℕ) (ordered : IsOrdered d most) (m : Machine) (tag : StartTag) (here : StandsOn s paths m (after_start d tag false) (max most (length d.open_elements))) (c : Context)
-        → HasRanges jumps_of paths m.program (Matches (element_of d tag) d.open_elements) c.jumps
-        → HasRanges hereditary_jumps_of paths m.program (Matches (element_of d tag) d.open_elements) c.hereditary_jumps
-        → (b : Bool) → StandsOn s paths (finished m b tag.name c) (after_start d tag b) (max most (length (after_start d tag b).open_elements))
-    by_content s paths d most ordered m tag here c jumps hereditary false = here
-    by_content s paths d most ordered m tag here c jumps hereditary true =
-        let sizes : max (max most (length d.open_elements)) (suc (length d.open_elements)) ≡ max most (suc (length d.open_elements)) = omega arith in
-        subst (StandsOn s paths (opened m tag.name c) (after_start d tag true)) sizes
-        (opened_on s paths d most ordered m (max most (length d.open_elements)) (omega arith) tag here c jumps hereditary)
+    (finished_on s paths d (longest s esi events) (documents_are_ordered s esi events) m tag here (context_of m.program true e (all_places (ranges_of_machine m))) report.jumps report.hereditary_jumps (has_content esi tag)))

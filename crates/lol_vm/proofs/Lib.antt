@@ -13,7 +13,6 @@ pub mod Runs
 pub mod RefusedRuns
 pub mod RunSteps
 pub mod TakenStarts
-pub mod Bools
 pub mod Lists
 pub mod Held
 pub mod Counted

@@ -1,24 +1,12 @@
 -- Lists: what they hold, and each once.
-use Rattle.std.proofs.Common.{◌≡◌, ◌≢◌, ℕ, zero, suc, ◌+◌, ◌<◌, ◌≤◌, Bool, true, false, cond, List, [], ◌∷◌, ◌++◌, length, map, filter, Some, ◌⊎◌, inl, inr, refl, sym, ap, ◌∙◌, subst, arith, Contains, AllPairs}
+use Rattle.std.proofs.Common.{◌≡◌, ℕ, zero, suc, ◌+◌, ◌<◌, ◌≤◌, Bool, true, false, cond, List, [], ◌∷◌, ◌++◌, length, map, filter, Some, ◌⊎◌, inl, inr, refl, sym, ap, ◌∙◌, subst, arith}
 use Rattle.std.specs.Prelude.{slice_get, flat_map, count_by}
 use Rattle.std.specs.List.{range_with_len, list_any}
-use Rattle.lol_base.specs.MemberLaws.{Among, Distinct, among_from_contains, contains_from_among, among_front, among_back, among_either, distinct_from_pairs, same_count, count_by-cons}
+use Rattle.lol_base.specs.MemberLaws.{Among, Distinct, among_front, among_back, among_either, same_count, count_by-cons}
 use Rattle.lol_base.specs.BoolLaws.{or_parts, or_of}
-use Rattle.lol_program.specs.NodeOnceLaws.{AllPairs-from_Distinct}
+use Rattle.std.proofs.lemmas.List.Sums.{length-filter}
 
 module _ {A : Type 0} where
-  pub to_contains : (xs : List A) (x : A) → Among xs x → Contains xs x
-  to_contains xs x h = contains_from_among xs x h
-
-  pub to_among : (xs : List A) (x : A) → Contains xs x → Among xs x
-  to_among xs x h = among_from_contains xs x h
-
-  pub to_once : (xs : List A) → Distinct xs → AllPairs (λ a b. a ≢ b) xs
-  to_once xs h = AllPairs-from_Distinct xs h
-
-  pub to_distinct : (xs : List A) → AllPairs (λ a b. a ≢ b) xs → Distinct xs
-  to_distinct xs h = distinct_from_pairs xs h
-
   -- 1. Appended lists
 
   pub distinct_append : (xs ys : List A) → Distinct xs → Distinct ys → ((x : A) → Among xs x → Among ys x → ⊥) → Distinct (xs ++ ys)
@@ -78,14 +66,6 @@ module _ {A : Type 0} where
     distinct_filter [] d = tt
     distinct_filter (y ∷ xs) d = distinct_cond (p y) y (filter p xs) (λ h. d.0 (among_filter xs y h).0) (distinct_filter xs d.1)
 
-    length_cond : (b : Bool) (y : A) (ys : List A) → length (cond b (y ∷ ys) ys) ≡ cond b 1 0 + length ys
-    length_cond true y ys = omega arith
-    length_cond false y ys = omega arith
-
-    pub count-filter : (xs : List A) → count_by p xs ≡ length (filter p xs)
-    count-filter [] = refl
-    count-filter (x ∷ xs) = count_by-cons p x xs ∙ (ap (λ n. cond (p x) 1 0 + n) (count-filter xs) ∙ sym (length_cond (p x) x (filter p xs)))
-
     pub any_among : (xs : List A) (x : A) → Among xs x → p x ≡ true → list_any p xs ≡ true
     any_among [] x h fits = absurd h
     any_among (y ∷ xs) x (inl is) fits = or_of (p y) (list_any p xs) (inl (ap p is ∙ fits))
@@ -101,11 +81,11 @@ module _ {A : Type 0} where
     -- those that pass, of two lists that share them, each once, are as many
     pub same_passing : (xs ys : List A) → Distinct xs → Distinct ys → ((x : A) → p x ≡ true → Among xs x → Among ys x) → ((x : A) → p x ≡ true → Among ys x → Among xs x) → count_by p xs ≡ count_by p ys
     same_passing xs ys dx dy to from =
-        count-filter xs
+        sym (length-filter p xs)
         ∙ (same_length (filter p xs) (filter p ys) (distinct_filter xs dx) (distinct_filter ys dy)
         (λ x h. let at = among_filter xs x h in filter_among ys x (to x at.1 at.0) at.1)
         (λ x h. let at = among_filter ys x h in filter_among xs x (from x at.1 at.0) at.1)
-        ∙ sym (count-filter ys))
+        ∙ length-filter p ys)
 
 -- 4. Lists of lists
 

@@ -6,14 +6,14 @@ use Rattle.std.proofs.lemmas.Bool.Decides.{Decides-eqb}
 use Rattle.lol_base.specs.StartTags.{StartTag}
 use Rattle.lol_instructions.specs.Tests.{Element}
 use Rattle.lol_program.specs.Paths.{Selectors}
-use Rattle.lol_base.specs.MemberLaws.{Among}
+use Rattle.lol_base.specs.MemberLaws.{Among, among_from_contains, contains_from_among}
 use Rattle.lol_vm.specs.Events.{Event, Start, End, has_content}
 use Rattle.lol_vm.specs.Documents.{Document, empty, element_of, after_start}
 use Rattle.lol_vm.specs.Answers.{Match, Started, Dropped, is_dropped, asks, report, matching_ids, name_tries, attribute_tries, after, answers_from}
 use Rattle.lol_vm.specs.RunLaws.{reports_id, SamePathsUnder, OneIdsPathsDecide}
 use Rattle.lol_vm.specs.ReportLaws.{among_matching_ids, matching_ids_among}
 use Rattle.lol_base.specs.BoolLaws.{same_bool}
-use Rattle.lol_vm.proofs.Lists.{to_contains, to_among, among_map, map_among, any_among, among_any}
+use Rattle.lol_vm.proofs.Lists.{among_map, map_among, any_among, among_any}
 
 module _ (s t : Selectors) (id : ℕ) (same : SamePathsUnder id s t) (esi : Bool) where
   abbrev is_id : Match → Bool
@@ -36,9 +36,9 @@ module _ (s t : Selectors) (id : ℕ) (same : SamePathsUnder id s t) (esi : Bool
     reported_alike : list_any is_id (report s esi e outer) ≡ list_any is_id (report t esi e outer)
     reported_alike = same_bool _ _
         (λ h. let m = among_matching_ids e outer s.pairs id (in_report s h) in
-        from_report t (matching_ids_among e outer t.pairs m.0 id (to_among t.pairs (m.0, id) ((same m.0).0 (to_contains s.pairs (m.0, id) m.1))) m.2))
+        from_report t (matching_ids_among e outer t.pairs m.0 id (among_from_contains t.pairs (m.0, id) ((same m.0).0 (contains_from_among s.pairs (m.0, id) m.1))) m.2))
         (λ h. let m = among_matching_ids e outer t.pairs id (in_report t h) in
-        from_report s (matching_ids_among e outer s.pairs m.0 id (to_among s.pairs (m.0, id) ((same m.0).1 (to_contains t.pairs (m.0, id) m.1))) m.2))
+        from_report s (matching_ids_among e outer s.pairs m.0 id (among_from_contains s.pairs (m.0, id) ((same m.0).1 (contains_from_among t.pairs (m.0, id) m.1))) m.2))
 
   abbrev NoneDropped : Selectors → Document → List Event → Type 0
   NoneDropped r d events = Among (answers_from r esi d events) Dropped → ⊥
@@ -73,4 +73,4 @@ module _ (s t : Selectors) (id : ℕ) (same : SamePathsUnder id s t) (esi : Bool
 
 pub one_ids_paths_decide : OneIdsPathsDecide
 one_ids_paths_decide s t id same esi events first second =
-    told_alike s t id same esi empty events (λ a. first (to_contains (answers_from s esi empty events) Dropped a)) (λ a. second (to_contains (answers_from t esi empty events) Dropped a))
+    told_alike s t id same esi empty events (λ a. first (contains_from_among (answers_from s esi empty events) Dropped a)) (λ a. second (contains_from_among (answers_from t esi empty events) Dropped a))

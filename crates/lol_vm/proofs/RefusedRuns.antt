@@ -132,9 +132,6 @@ stops_at_once s esi a events = λ n cause first. by_cause n cause first
     by_cause n Limit first = omega arith
     by_cause n Counter first = counter_comes_later s esi a events n first
 
-pub limits_not_at_once : (s : Selectors) (esi : Bool) (a : Allowance) (events : List Event) → StopsBeforeLimit s esi events Memory 0 (refused s esi a events)
-limits_not_at_once s esi a events = λ before later tag split runs first. inr refl
-
 -- an event that a run goes on after isn't refused
 pub none_refused : (s : Selectors) (esi : Bool) (item_bytes : ℕ) (limiter : Limiter) (before : List Event) → refused s esi (allowance_of item_bytes limiter) before ≡ None → (event : Event)
     → refused s esi (allowance_of item_bytes limiter) (before ++ event ∷ []) ≡ None → refusal_after s esi item_bytes limiter before event ≡ None

@@ -3,7 +3,7 @@ use Rattle.std.proofs.Common.{◌≡◌, ℕ, suc, ◌+◌, ◌-◌, ◌*◌, �
 use Rattle.std.specs.Prelude.{max, nat_lt, if◌then◌else◌}
 use Rattle.std.specs.List.{take-map, drop-map}
 use Rattle.std.proofs.lemmas.Bool.Decides.{nat_tests}
-use Rattle.std.proofs.lemmas.List.{length-map, length-drop, length-reverse, reverse-append, take-append-drop, take_at, drop_at}
+use Rattle.std.proofs.lemmas.List.{length-map, length-drop, length-reverse, take_at, drop_at}
 use Rattle.lol_base.specs.StartTags.{StartTag}
 use Rattle.lol_memory.specs.LimitedVec.{IsLimited}
 use Rattle.lol_memory.specs.Limiter.{Limiter, charged}
@@ -14,7 +14,7 @@ use Rattle.lol_instructions.specs.Tests.{Element}
 use Rattle.lol_vm.specs.Answers.{after, document}
 use Rattle.lol_vm.specs.Documents.{Document, empty, element_of, children_of, closed, place_of, inner_part, after_start, after_end}
 use Rattle.lol_vm.specs.Events.{Event, Start, End}
-use Rattle.lol_vm.specs.Follows.{Follows, IsCharged, IsRefusedFor, Stops, opens, refusal_after}
+use Rattle.lol_vm.specs.Follows.{Follows, IsCharged, IsRefusedFor, Stops, opens, refusal_after, StartedElement}
 use Rattle.lol_vm.specs.Refusals.{Cause, Limit, Counter, longest, exceeds, greatest_count}
 use Rattle.lol_vm.specs.RunRefusals.{allowance_of}
 use Rattle.lol_stack.specs.Stacks.{list_in, last_count}
@@ -22,7 +22,7 @@ use Rattle.lol_vm.specs.Standing.{closed_count}
 use Rattle.lol_vm.specs.Vms.{Vm, Stands, stack_in, data_in, slots_charged, slot_bytes, open_after}
 use Rattle.lol_vm.specs.declared.events.RunCause.{RunCause}
 use Rattle.lol_vm.specs.declared.events.RunCause.TheVariants.{MemoryLimitExceeded, CounterFull, Memory}
-use Rattle.lol_vm.specs.Follows.{StartedElement}
+use Rattle.lol_vm.proofs.Runs.{cut_reverse}
 use Rattle.lol_vm.proofs.CallerLemmas.{countable_after, many_open, no_room_for, room_for}
 use Rattle.lol_vm.proofs.Kept.{documents_are_ordered, outer_is}
 use Rattle.lol_vm.specs.ChargeLaws.{slots_rise, stays_within, passes_maximum}
@@ -30,12 +30,7 @@ use Rattle.lol_vm.proofs.RefusedRuns.{fits_on}
 use Rattle.lol_vm.specs.DocumentLaws.{document_push, longest_push}
 use Rattle.lol_vm.proofs.VmData.{slots_are_of_depth}
 
--- 1. Lists that are cut
-
-cut_at : {A : Type 0} (n : ℕ) (xs : List A) → reverse xs ≡ reverse (drop n xs) ++ reverse (take n xs)
-cut_at n xs = ap reverse (sym (take-append-drop n xs)) ∙ reverse-append (take n xs) (drop n xs)
-
--- 2. A run, one event on
+-- 1. A run, one event on
 
 module _ (s : Selectors) (esi : Bool) (item_bytes : ℕ) (before : Limiter) (vm : Vm StartedElement) (events : List Event) (now : Limiter) (f : Follows s esi item_bytes before vm events now) where
   abbrev d : Document
@@ -53,10 +48,16 @@ module _ (s : Selectors) (esi : Bool) (item_bytes : ℕ) (before : Limiter) (vm 
   within : before.usage + slots item_bytes most * item_bytes ≤ before.maximum
   within = subst (λ n. before.usage + n * item_bytes ≤ before.maximum) depth f.within
 
-  -- the elements that are open after a start tag
-  opened : (b : Bool) (tag : StartTag) → length (after_start d tag b).open_elements ≡ (if b then length d.open_elements + 1 else length d.open_elements)
-  opened true tag = omega arith
-  opened false tag = refl
+  -- the most where no element is opened, and where some are closed
+  no_more : most ≡ max most (length d.open_elements)
+  no_more = let e = enough in omega (arith, e)
+
+  no_more_at_end : (name : List ℕ) → most ≡ max most (length (after_end d name).open_elements)
+  no_more_at_end name =
+      let e = enough in
+      let shorter = length-drop (closed_count (place_of name d.open_elements)) d.open_elements in
+      let is = ap length (outer_is (place_of name d.open_elements) d.open_elements) in
+      omega (arith, e, shorter, is)
 
   stays : (b : Bool) (tag : StartTag) → (b ≡ true → IsLimited (list_in (stack_in vm)) now → ⊥) → before.usage + slots item_bytes (max most (length (after_start d tag b).open_elements)) * item_bytes ≤ before.maximum
   stays true tag unlimited =
@@ -64,10 +65,7 @@ module _ (s : Selectors) (esi : Bool) (item_bytes : ℕ) (before : Limiter) (vm 
       subst (λ n. before.usage + slots item_bytes (max most n) * item_bytes ≤ before.maximum) (sym many)
       (stays_within item_bytes (length d.open_elements) most enough (list_in (stack_in vm)) now before f.some f.word f.charged.0 (many_open s esi vm events f.stands) depth
       (ap (λ (l : Limiter). l.maximum) f.charged.1) (ap (λ (l : Limiter). l.usage) f.charged.1 ∙ ap (λ n. before.usage + n * item_bytes) depth) within (unlimited refl))
-  stays false tag unlimited =
-      let e = enough in
-      let same : most ≡ max most (length d.open_elements) = omega (arith, e) in
-      subst (λ n. before.usage + slots item_bytes n * item_bytes ≤ before.maximum) same within
+  stays false tag unlimited = subst (λ n. before.usage + slots item_bytes n * item_bytes ≤ before.maximum) no_more within
 
   passes : (tag : StartTag) → IsLimited (list_in (stack_in vm)) now → before.maximum < before.usage + slots item_bytes (max most (length (after_start d tag true).open_elements)) * item_bytes
   passes tag limited =
@@ -142,12 +140,7 @@ module _ (s : Selectors) (esi : Bool) (item_bytes : ℕ) (before : Limiter) (vm 
         by_tests true over is none = cc
         by_tests false true is none = cc
         by_tests false false is none = grind (arith, nat_tests, is)
-    fits_later (End name) none =
-        let e = enough in
-        let shorter = length-drop (closed_count (place_of name d.open_elements)) d.open_elements in
-        let is = ap length (outer_is (place_of name d.open_elements) d.open_elements) in
-        let same : most ≡ max most (length (after_end d name).open_elements) = omega (arith, e, shorter, is) in
-        subst (λ n. before.usage + slots item_bytes n * item_bytes ≤ before.maximum) same within
+    fits_later (End name) none = subst (λ n. before.usage + slots item_bytes n * item_bytes ≤ before.maximum) (no_more_at_end name) within
 
     more_slots_later : (e : Event) → slots item_bytes most ≤ slots item_bytes (max most (length (after s esi d e).open_elements))
     more_slots_later (Start tag) = by_content (opens s esi events tag)
@@ -156,16 +149,8 @@ module _ (s : Selectors) (esi : Bool) (item_bytes : ℕ) (before : Limiter) (vm 
         by_content true =
             let many : suc (length d.open_elements) ≡ length d.open_elements + 1 = omega arith in
             subst (λ n. slots item_bytes most ≤ slots item_bytes (max most n)) (sym many) (slots_rise item_bytes (length d.open_elements) most enough)
-        by_content false =
-            let e = enough in
-            let same : most ≡ max most (length d.open_elements) = omega (arith, e) in
-            subst (λ n. slots item_bytes most ≤ slots item_bytes n) same (omega arith)
-    more_slots_later (End name) =
-        let e = enough in
-        let shorter = length-drop (closed_count (place_of name d.open_elements)) d.open_elements in
-        let is = ap length (outer_is (place_of name d.open_elements) d.open_elements) in
-        let same : most ≡ max most (length (after_end d name).open_elements) = omega (arith, e, shorter, is) in
-        subst (λ n. slots item_bytes most ≤ slots item_bytes n) same (omega arith)
+        by_content false = subst (λ n. slots item_bytes most ≤ slots item_bytes n) no_more (omega arith)
+    more_slots_later (End name) = subst (λ n. slots item_bytes most ≤ slots item_bytes n) (no_more_at_end name) (omega arith)
 
     -- as many children as before, or one more of the parent, which isn't full
     countable_later : (e : Event) → refusal_after s esi item_bytes before events e ≡ None → (parent : Option ℕ) → children_of parent (after s esi d e).children ≤ greatest_count
@@ -217,7 +202,7 @@ module _ (s : Selectors) (esi : Bool) (item_bytes : ℕ) (before : Limiter) (vm 
       let none : slots_charged new - slots_charged vm ≡ 0 = omega (arith, same) in
       sym (ap (λ n. charged now (n * slot_bytes vm)) none ∙ ap (λ n. record now { usage = n }) (omega arith))
 
-  -- 3. End tags
+  -- 2. End tags
 
   module _ (name : List ℕ) where
     abbrev closing : ℕ
@@ -242,14 +227,14 @@ module _ (s : Selectors) (esi : Bool) (item_bytes : ℕ) (before : Limiter) (vm 
     kept_at : (n : ℕ) → map (λ (x : StartedElement). x.value) (take (length (drop n d.open_elements)) kept_data) ≡ reverse (numbers_of (drop n d.open_elements))
     kept_at n =
         sym (take-map (λ (x : StartedElement). x.value) (length (drop n d.open_elements)) kept_data)
-        ∙ (ap (take (length (drop n d.open_elements))) (f.numbers ∙ cut_at n (numbers_of d.open_elements))
+        ∙ (ap (take (length (drop n d.open_elements))) (f.numbers ∙ cut_reverse n (numbers_of d.open_elements))
         ∙ (take_at (reverse (drop n (numbers_of d.open_elements))) (reverse (take n (numbers_of d.open_elements))) (length (drop n d.open_elements)) (as_long n)
         ∙ ap reverse (drop-map (λ (e : Element). e.number) n d.open_elements)))
 
     handed_at : (n : ℕ) → map (λ (x : StartedElement). x.value) (drop (length (drop n d.open_elements)) kept_data) ≡ reverse (numbers_of (take n d.open_elements))
     handed_at n =
         sym (drop-map (λ (x : StartedElement). x.value) (length (drop n d.open_elements)) kept_data)
-        ∙ (ap (drop (length (drop n d.open_elements))) (f.numbers ∙ cut_at n (numbers_of d.open_elements))
+        ∙ (ap (drop (length (drop n d.open_elements))) (f.numbers ∙ cut_reverse n (numbers_of d.open_elements))
         ∙ (drop_at (reverse (drop n (numbers_of d.open_elements))) (reverse (take n (numbers_of d.open_elements))) (length (drop n d.open_elements)) (as_long n)
         ∙ ap reverse (take-map (λ (e : Element). e.number) n d.open_elements)))
 
@@ -267,7 +252,7 @@ module _ (s : Selectors) (esi : Bool) (item_bytes : ℕ) (before : Limiter) (vm 
         ap (λ (es : List Element). map (λ (x : StartedElement). x.value) (drop (length es) kept_data)) open_is
         ∙ (handed_at closing ∙ ap (λ (es : List Element). reverse (numbers_of es)) (sym (inner_is (place_of name d.open_elements))))
 
--- 4. A new machine
+-- 3. A new machine
 
 pub starts : (s : Selectors) (esi : Bool) (item_bytes : ℕ) (before : Limiter) (vm : Vm StartedElement) → 1 ≤ item_bytes → before.maximum < 2 ^ 64 → before.usage ≤ before.maximum
     → Stands s esi vm [] → slot_bytes vm ≡ item_bytes → data_in vm ≡ [] → Follows s esi item_bytes before vm [] before

@@ -1,33 +1,18 @@
 -- Documents and answers, as events come.
-use Rattle.std.proofs.Common.{◌≡◌, ℕ, ◌+◌, ◌-◌, ◌≤◌, Bool, not, cond, List, [], ◌∷◌, ◌++◌, map, reverse, take, drop, length, position, Some, None, refl, sym, ap, ◌∙◌, arith}
+use Rattle.std.proofs.Common.{◌≡◌, ℕ, ◌+◌, Bool, not, cond, List, [], ◌∷◌, ◌++◌, map, reverse, take, drop, length, position, Some, None, refl, sym, ap, ◌∙◌, arith}
 use Rattle.std.specs.List.{position_or_len}
 use Rattle.std.specs.Prelude.{nat_lt}
-use Rattle.std.proofs.lemmas.List.{reverse-append, map-append, length-map, length-reverse, length-drop, take-append-drop, take_at, drop_at}
+use Rattle.std.proofs.lemmas.List.{reverse-append, length-map, take-append-drop}
 use Rattle.lol_program.specs.Paths.{Selectors}
 use Rattle.lol_vm.specs.Events as events
-use Rattle.lol_vm.specs.Events.{Event, has_content, has_content_in}
+use Rattle.lol_vm.specs.Events.{Event}
 use Rattle.lol_vm.specs.Documents.{Document}
 use Rattle.lol_vm.specs.Answers.{after, document_from}
 
 -- 1. Lists
 
-map-reverse : {A B : Type 0} (f : A → B) (xs : List A) → map f (reverse xs) ≡ reverse (map f xs)
-map-reverse f [] = refl
-map-reverse f (x ∷ xs) =
-    ap (map f) (reverse-append (x ∷ []) xs) ∙ (map-append f (reverse xs) (x ∷ []) ∙ (ap (λ ys. ys ++ f x ∷ []) (map-reverse f xs) ∙ sym (reverse-append (f x ∷ []) (map f xs))))
-
-module _ {A : Type 0} (n : ℕ) (xs : List A) (within : n ≤ length xs) where
-  cut_reverse : reverse xs ≡ reverse (drop (length xs - n) xs) ++ reverse (take (length xs - n) xs)
-  cut_reverse = ap reverse (sym (take-append-drop (length xs - n) xs)) ∙ reverse-append (take (length xs - n) xs) (drop (length xs - n) xs)
-
-  back_length : length (reverse (drop (length xs - n) xs)) ≡ n
-  back_length = length-reverse _ ∙ (length-drop (length xs - n) xs ∙ omega arith)
-
-  pub take-reverse : take n (reverse xs) ≡ reverse (drop (length xs - n) xs)
-  take-reverse = ap (take n) cut_reverse ∙ take_at (reverse (drop (length xs - n) xs)) (reverse (take (length xs - n) xs)) n back_length
-
-  pub drop-reverse : drop n (reverse xs) ≡ reverse (take (length xs - n) xs)
-  drop-reverse = ap (drop n) cut_reverse ∙ drop_at (reverse (drop (length xs - n) xs)) (reverse (take (length xs - n) xs)) n back_length
+pub cut_reverse : {A : Type 0} (n : ℕ) (xs : List A) → reverse xs ≡ reverse (drop n xs) ++ reverse (take n xs)
+cut_reverse n xs = ap reverse (sym (take-append-drop n xs)) ∙ reverse-append (take n xs) (drop n xs)
 
 module _ {A B : Type 0} (p : B → Bool) (f : A → B) where
   place-map : (xs : List A) → position_or_len p (map f xs) ≡ position_or_len (λ x. p (f x)) xs

@@ -3,14 +3,13 @@ use Rattle.std.proofs.Common.{◌≡◌, ℕ, Bool, true, false, List, None, ref
 use Rattle.std.specs.Prelude.{nat_lt, not, ◌||◌, is_none}
 use Rattle.std.proofs.lemmas.Bool.Decides.{nat_tests}
 use Rattle.lol_base.specs.BoolLaws.{and_parts}
-use Rattle.lol_base.specs.MemberLaws.{Among}
+use Rattle.lol_base.specs.MemberLaws.{Among, among_from_contains}
 use Rattle.lol_instructions.specs.Compounds.{has_test_by_type}
 use Rattle.lol_program.specs.ClosedLaws.{among_flat_map}
 use Rattle.lol_program.specs.Paths.{Path, First, Then, Selectors, beginnings, last_compound}
 use Rattle.lol_program.specs.Programs.{above}
 use Rattle.lol_vm.specs.FreeTags.{AreAmong, AreSmall, SmallPairs, FlatPairs, is_flat, is_small, path_has_type}
 use Rattle.lol_vm.proofs.FreeTags.{all_parts}
-use Rattle.lol_vm.proofs.Lists.{to_among}
 
 neither : (a b : Bool) → (a || b) ≡ false → (a ≡ false) × (b ≡ false)
 neither true b h = cc
@@ -36,12 +35,12 @@ beginnings_alone (Then front step c) node alone h = cc
 module _ (s : Selectors) (pairs : List (Path × ℕ)) (among : AreAmong s pairs) where
   -- the pair that brought a node
   brought : (node : Path) → Contains s.nodes node → (pair : Path × ℕ) × Among pairs pair × Among (beginnings pair.0) node
-  brought node has = among_flat_map (λ pair. beginnings pair.0) pairs node (to_among _ node (among.nodes node has))
+  brought node has = among_flat_map (λ pair. beginnings pair.0) pairs node (among_from_contains _ node (among.nodes node has))
 
   pub small_if : ((pair : Path × ℕ) → Among pairs pair → is_small pair ≡ true) → AreSmall s
   small_if each = record {
     ids = λ path id has.
-        let small = and_parts (nat_lt id 32) (not (path_has_type path)) (each (path, id) (to_among pairs (path, id) (among.pairs path id has))) in
+        let small = and_parts (nat_lt id 32) (not (path_has_type path)) (each (path, id) (among_from_contains pairs (path, id) (among.pairs path id has))) in
         let below = small.0 in
         grind (arith, nat_tests, below);
     untyped = λ node has.

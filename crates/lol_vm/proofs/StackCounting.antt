@@ -4,7 +4,7 @@ use Rattle.std.specs.Prelude.{◌&&◌, ◌==◌, count_by, slice_get, slice_set
 use Rattle.std.specs.Option.{option_map}
 use Rattle.std.proofs.lemmas.Bool.Decides.{Decides-eqb}
 use Rattle.std.proofs.lemmas.Slice.Eq.{bytes_eq-Decides}
-use Rattle.lol_base.specs.BoolLaws.{and_parts}
+use Rattle.lol_base.specs.BoolLaws.{and_parts, same_bool}
 use Rattle.lol_base.specs.MemberLaws.{count_by-cons}
 use Rattle.lol_base.specs.Names.{same_name, lowercased}
 use Rattle.lol_base.specs.LocalNames.{Name, local_name, same_local_name}
@@ -16,12 +16,11 @@ use Rattle.lol_vm.specs.Standing.{Machine, AreTyped, AreCounted, counted, counte
 use Rattle.lol_vm.specs.Standing as standing
 use Rattle.lol_stack.specs.TypedCounts as typed
 use Rattle.lol_stack.specs.TypedCounts.{TypedCount, count_at}
-use Rattle.lol_stack.specs.Stacks.{items_in, typed_in, last_count, typed_count, count_or, counted_in, counted_if, counted_item, with_typed, count_by_type}
-use Rattle.lol_vm.specs.StackMachines.{item_shown, items_shown, children_shown, typed_shown, KeepsTyped, KeepsMachine, AreSeen}
+use Rattle.lol_stack.specs.Stacks.{items_in, typed_in, last_count, typed_count, count_or, counted_in, counted_if, counted_item, with_typed, count_by_type, root_count}
+use Rattle.lol_vm.specs.StackMachines.{item_shown, items_shown, children_shown, typed_shown, KeepsTyped, KeepsMachine}
 use Rattle.lol_stack.specs.declared.stack_item.StackItemOf.{StackItemOf}
 use Rattle.lol_stack.specs.declared.stack.StackOf.{StackOf}
 use Rattle.lol_stack.specs.declared.stack.StackNames.{StackNames}
-use Rattle.lol_base.specs.BoolLaws.{same_bool}
 use Rattle.lol_vm.proofs.Kept.{counters_are_places}
 use Rattle.lol_vm.proofs.StackMachines.{shown_push, items_counted}
 use Rattle.lol_stack.specs.ClimbLaws.{climb_counted}
@@ -42,7 +41,7 @@ pub last_at : {A : Type 0} (front : List A) (x : A) → slice_get (front ++ x �
 last_at [] x = refl
 last_at (y ∷ front) x = last_at front x
 
-last_set : {A : Type 0} (front : List A) (x y : A) → slice_set (front ++ x ∷ []) (length front) y ≡ front ++ y ∷ []
+pub last_set : {A : Type 0} (front : List A) (x y : A) → slice_set (front ++ x ∷ []) (length front) y ≡ front ++ y ∷ []
 last_set [] x y = refl
 last_set (z ∷ front) x y = ap (λ more. z ∷ more) (last_set front x y)
 
@@ -90,48 +89,39 @@ module _ {E : Type 0} where
   children_end : (s : StackOf Name StackNames E) (m : Machine) → KeepsMachine s m → (front : List (StackItemOf Name E)) (last : StackItemOf Name E) → items_in s ≡ front ++ last ∷ [] → m.children ≡ last.child_counter ∷ children_shown front
   children_end s m keeps front last whole = keeps.children ∙ (ap children_shown whole ∙ shown_push (λ (x : StackItemOf Name E). x.child_counter) front last)
 
-  counting : (s : StackOf Name StackNames E) (m : Machine) (name : List ℕ) → KeepsMachine s m → (m.program.by_type ≡ true → m.typed (length m.items) name < full_count)
-      → (items : List (StackItemOf Name E)) → items_in s ≡ items
-      → KeepsMachine (counted_in s (local_name name)) (counted m name)
-  counting s m name keeps free [] none =
-      let count = items_counted s m keeps in
-      let none_last : slice_get (items_in s) (length (items_in s) - 1) ≡ None = ap (λ xs. slice_get xs (length xs - 1)) none in
-      let no_children : m.children ≡ [] = keeps.children ∙ ap children_shown none in
-      let after = with_typed s (option_map (λ ts. typed.counted_by_type ts (length (items_in s)) (local_name name)) (typed_in s)) in
-      subst (λ o. KeepsMachine (counted_if after o) (counted m name)) (sym none_last) (record {
-        items = keeps.items;
-        root_children = (λ i. counted_root (no_children i) (keeps.root_children i));
-        children = ap counted_last no_children ∙ (sym no_children ∙ keeps.children);
-        typed = subst (λ top. KeepsTyped (option_map (λ ts. typed.counted_by_type ts top (local_name name)) (typed_in s)) m.program.by_type (length m.items) (counted_typed m.typed (length m.items) name)) count
-            (keeps_typed_counted (typed_in s) m.program.by_type (length m.items) m.typed name free keeps.typed);
-        item_bytes = keeps.item_bytes;
-        slots = keeps.slots;
-      })
-  counting s m name keeps free (x ∷ xs) some =
-      let count = items_counted s m keeps in
-      let end = ends x xs in
-      let whole : items_in s ≡ end.front ++ end.last ∷ [] = some ∙ end.whole in
-      let here : slice_get (items_in s) (length (items_in s) - 1) ≡ Some end.last =
-      ap (λ ys. slice_get ys (length ys - 1)) whole ∙ (ap (slice_get (end.front ++ end.last ∷ [])) (last_place end.front end.last) ∙ last_at end.front end.last) in
-      let set : slice_set (items_in s) (length (items_in s) - 1) (counted_item end.last) ≡ end.front ++ counted_item end.last ∷ [] =
-      ap (λ ys. slice_set ys (length ys - 1) (counted_item end.last)) whole
-      ∙ (ap (λ k. slice_set (end.front ++ end.last ∷ []) k (counted_item end.last)) (last_place end.front end.last) ∙ last_set end.front end.last (counted_item end.last)) in
-      let children = children_end s m keeps end.front end.last whole in
-      let after = with_typed s (option_map (λ ts. typed.counted_by_type ts (length (items_in s)) (local_name name)) (typed_in s)) in
-      subst (λ o. KeepsMachine (counted_if after o) (counted m name)) (sym here) (record {
-        items = keeps.items ∙ (ap items_shown whole ∙ (shown_push item_shown end.front end.last ∙ (sym (shown_push item_shown end.front (counted_item end.last)) ∙ sym (ap items_shown set))));
-        root_children = ap (λ cs. counted_root cs m.root_children) children ∙ keeps.root_children;
-        children = ap counted_last children ∙ (sym (shown_push (λ (y : StackItemOf Name E). y.child_counter) end.front (counted_item end.last)) ∙ sym (ap children_shown set));
-        typed = subst (λ top. KeepsTyped (option_map (λ ts. typed.counted_by_type ts top (local_name name)) (typed_in s)) m.program.by_type (length m.items) (counted_typed m.typed (length m.items) name)) count
-            (keeps_typed_counted (typed_in s) m.program.by_type (length m.items) m.typed name free keeps.typed);
-        item_bytes = keeps.item_bytes;
-        slots = keeps.slots;
-      })
+  module _ (s : StackOf Name StackNames E) (m : Machine) (name : List ℕ) (keeps : KeepsMachine s m) (free : m.program.by_type ≡ true → m.typed (length m.items) name < full_count) where
+    abbrev after : StackOf Name StackNames E
+    after = with_typed s (option_map (λ ts. typed.counted_by_type ts (length (items_in s)) (local_name name)) (typed_in s))
 
-  -- A child is counted, where no count by type is full.
-  pub counting_stack_keeps : (s : StackOf Name StackNames E) (m : Machine) (name : List ℕ)
-      → KeepsMachine s m → (m.program.by_type ≡ true → m.typed (length m.items) name < full_count) → KeepsMachine (counted_in s (local_name name)) (counted m name)
-  counting_stack_keeps s m name keeps free = counting s m name keeps free (items_in s) refl
+    typed_after : KeepsTyped (typed_in after) m.program.by_type (length m.items) (counted_typed m.typed (length m.items) name)
+    typed_after =
+        subst (λ top. KeepsTyped (option_map (λ ts. typed.counted_by_type ts top (local_name name)) (typed_in s)) m.program.by_type (length m.items) (counted_typed m.typed (length m.items) name)) (items_counted s m keeps)
+        (keeps_typed_counted (typed_in s) m.program.by_type (length m.items) m.typed name free keeps.typed)
+
+    by_last : (o : Option (StackItemOf Name E)) → m.items ≡ items_shown (items_in (counted_if after o)) → counted_root m.children m.root_children ≡ root_count (counted_if after o) → counted_last m.children ≡ children_shown (items_in (counted_if after o))
+        → KeepsMachine (counted_if after o) (counted m name)
+    by_last None items root children = record { items = items; root_children = root; children = children; typed = typed_after; item_bytes = keeps.item_bytes; slots = keeps.slots }
+    by_last (Some item) items root children = record { items = items; root_children = root; children = children; typed = typed_after; item_bytes = keeps.item_bytes; slots = keeps.slots }
+
+    counting : (items : List (StackItemOf Name E)) → items_in s ≡ items → KeepsMachine (counted_in s (local_name name)) (counted m name)
+    counting [] none =
+        let none_last : slice_get (items_in s) (length (items_in s) - 1) ≡ None = ap (λ xs. slice_get xs (length xs - 1)) none in
+        let no_children : m.children ≡ [] = keeps.children ∙ ap children_shown none in
+        subst (λ o. KeepsMachine (counted_if after o) (counted m name)) (sym none_last)
+        (by_last None keeps.items (λ i. counted_root (no_children i) (keeps.root_children i)) (ap counted_last no_children ∙ (sym no_children ∙ keeps.children)))
+    counting (x ∷ xs) some =
+        let end = ends x xs in
+        let whole : items_in s ≡ end.front ++ end.last ∷ [] = some ∙ end.whole in
+        let here : slice_get (items_in s) (length (items_in s) - 1) ≡ Some end.last =
+        ap (λ ys. slice_get ys (length ys - 1)) whole ∙ (ap (slice_get (end.front ++ end.last ∷ [])) (last_place end.front end.last) ∙ last_at end.front end.last) in
+        let set : slice_set (items_in s) (length (items_in s) - 1) (counted_item end.last) ≡ end.front ++ counted_item end.last ∷ [] =
+        ap (λ ys. slice_set ys (length ys - 1) (counted_item end.last)) whole
+        ∙ (ap (λ k. slice_set (end.front ++ end.last ∷ []) k (counted_item end.last)) (last_place end.front end.last) ∙ last_set end.front end.last (counted_item end.last)) in
+        let children = children_end s m keeps end.front end.last whole in
+        subst (λ o. KeepsMachine (counted_if after o) (counted m name)) (sym here)
+        (by_last (Some end.last) (keeps.items ∙ (ap items_shown whole ∙ (shown_push item_shown end.front end.last ∙ (sym (shown_push item_shown end.front (counted_item end.last)) ∙ sym (ap items_shown set)))))
+        (ap (λ cs. counted_root cs m.root_children) children ∙ keeps.root_children)
+        (ap counted_last children ∙ (sym (shown_push (λ (y : StackItemOf Name E). y.child_counter) end.front (counted_item end.last)) ∙ sym (ap children_shown set))))
 
   -- 4. What is seen
 
@@ -146,22 +136,15 @@ module _ {E : Type 0} where
       ∙ (ap (λ k. count_or s.root_child_counter (slice_get (end.front ++ end.last ∷ []) k)) (last_place end.front end.last)
       ∙ (ap (count_or s.root_child_counter) (last_at end.front end.last) ∙ sym (ap (λ cs. or_root cs m.root_children) (children_end s m keeps end.front end.last whole))))
 
-  -- They are seen once a child of that name is counted.
-  pub counters_are_seen : (s : StackOf Name StackNames E) (m : Machine) (name : List ℕ) → KeepsMachine s m → (m.program.by_type ≡ true → 0 < m.typed (length m.items) name) → AreSeen s m name
-  counters_are_seen s m name keeps some = record {
-    cumulative = seen_children s m keeps (items_in s) refl;
-    typed = subst (λ top. count_by_type (typed_in s) top (local_name name) ≡ (if m.program.by_type then Some (m.typed (length m.items) name) else None)) (items_counted s m keeps)
-        (seen_typed (typed_in s) m.program.by_type (length m.items) m.typed name keeps.typed some);
-  }
-
   -- the counters of a stack that counted a tag show its element's places
   pub seen_places : (s : StackOf Name StackNames E) (m : Machine) (d : Document) (tag : StartTag) → AreCounted m d → length m.items ≡ length d.open_elements → KeepsMachine s (counted m tag.name)
       → (last_count s ≡ (element_of d tag).position) × (typed_count s (local_name tag.name) ≡ (if m.program.by_type then Some (element_of d tag).typed_position else None))
   seen_places s m d tag counts sizes keeps =
       let places = counters_are_places m d tag counts sizes in
       let e = element_of d tag in
-      let seen = counters_are_seen s (counted m tag.name) tag.name keeps (λ by_type. let is = places.1 by_type in omega (arith, is)) in
-      (seen.cumulative ∙ places.0, seen.typed ∙ by_test m.program.by_type ((counted m tag.name).typed (length m.items) tag.name) e.typed_position (λ by_type. places.1 by_type))
+      let seen = subst (λ top. count_by_type (typed_in s) top (local_name tag.name) ≡ (if m.program.by_type then Some ((counted m tag.name).typed (length m.items) tag.name) else None)) (items_counted s (counted m tag.name) keeps)
+      (seen_typed (typed_in s) m.program.by_type (length m.items) (counted m tag.name).typed tag.name keeps.typed (λ by_type. let is = places.1 by_type in omega (arith, is))) in
+      (seen_children s (counted m tag.name) keeps (items_in s) refl ∙ places.0, seen ∙ by_test m.program.by_type ((counted m tag.name).typed (length m.items) tag.name) e.typed_position (λ by_type. places.1 by_type))
     where
       by_test : (b : Bool) (x y : ℕ) → (b ≡ true → x ≡ y) → (if b then Some x else None) ≡ (if b then Some y else None)
       by_test true x y same = ap Some (same refl)
@@ -169,7 +152,7 @@ module _ {E : Type 0} where
 
 -- 5. Children of a name are children
 
-fewer : {A : Type 0} (p r : A → Bool) → ((x : A) → p x ≡ true → r x ≡ true) → (xs : List A) → count_by p xs ≤ count_by r xs
+pub fewer : {A : Type 0} (p r : A → Bool) → ((x : A) → p x ≡ true → r x ≡ true) → (xs : List A) → count_by p xs ≤ count_by r xs
 fewer p r h [] = omega arith
 fewer p r h (x ∷ xs) =
     let own = count_by-cons p x xs in
@@ -207,3 +190,10 @@ typed_counts_are_fewer m d name counted sizes by_type = by_elements d.open_eleme
         let last : standing.innermost_count m ≡ children_of (Some e.number) d.children =
         ap (λ cs. or_root cs m.root_children) (counted.children ∙ ap (map (λ (x : Element). children_of (Some x.number) d.children)) some) in
         omega (arith, own, last, typed_fewer (Some e.number) name d.children)
+
+-- A child is counted, where the last element's counter isn't full.
+pub counting_stack_keeps : {E : Type 0} (s : StackOf Name StackNames E) (m : Machine) (d : Document) (name : List ℕ) → AreCounted m d → length m.items ≡ length d.open_elements → KeepsMachine s m → last_count s < full_count
+    → KeepsMachine (counted_in s (local_name name)) (counted m name)
+counting_stack_keeps s m d name are sizes keeps room =
+    let last = seen_children s m keeps (items_in s) refl in
+    counting s m name keeps (λ by_type. let fewer = typed_counts_are_fewer m d name are sizes by_type in omega (arith, fewer, last, room)) (items_in s) refl

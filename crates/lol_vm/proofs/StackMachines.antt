@@ -7,7 +7,7 @@ use Rattle.std.specs.List.{take-map}
 use Rattle.std.specs.Option.{option_map}
 use Rattle.std.proofs.lemmas.Bool.Decides.{nat_tests}
 use Rattle.std.proofs.lemmas.List.Quantifiers.{position-Some}
-use Rattle.std.proofs.lemmas.List.{length-drop, map-append, reverse-append, length-map, length-reverse}
+use Rattle.std.proofs.lemmas.List.{length-drop, map-append, reverse-append, length-map, length-reverse, drop_at}
 use Rattle.std.specs.Str.{bytes_eq}
 use Rattle.lol_base.specs.Names.{lowercased}
 use Rattle.lol_base.specs.LocalNames.{Name, local_name}
@@ -24,7 +24,7 @@ use Rattle.lol_vm.specs.StackMachines.{item_shown, items_shown, children_shown, 
 use Rattle.lol_stack.specs.declared.stack_item.StackItemOf.{StackItemOf}
 use Rattle.lol_stack.specs.declared.stack.StackOf.{StackOf}
 use Rattle.lol_stack.specs.declared.stack.StackNames.{StackNames}
-use Rattle.lol_vm.proofs.Runs.{drop-reverse}
+use Rattle.lol_vm.proofs.Runs.{cut_reverse}
 use Rattle.lol_vm.proofs.TypedLevels.{cut_to-all, shown_cut as typed_cut}
 
 -- 1. Lists, the last element first
@@ -91,9 +91,8 @@ module _ {E : Type 0} where
 
 shown_cut : {A B : Type 0} (f : A → B) (xs : List A) (n place : ℕ) → n + place ≡ length xs → drop n (reverse (map f xs)) ≡ reverse (map f (take place xs))
 shown_cut f xs n place sizes =
-    let count = length-map xs f in
-    let left : length (map f xs) - n ≡ place = omega (arith, sizes, count) in
-    drop-reverse n (map f xs) (omega (arith, sizes, count)) ∙ ap reverse (ap (λ k. take k (map f xs)) left ∙ take-map f place xs)
+    let back = length-reverse (drop place (map f xs)) ∙ length-drop place (map f xs) in
+    ap (drop n) (cut_reverse place (map f xs)) ∙ (drop_at (reverse (drop place (map f xs))) (reverse (take place (map f xs))) n (omega (arith, back, length-map xs f, sizes)) ∙ ap reverse (take-map f place xs))
 
 le_or_above : (level place k : ℕ) → cond (nat_le level place) k 0 ≡ cond (nat_lt place level) 0 k
 le_or_above level place k = grind (arith, nat_tests)

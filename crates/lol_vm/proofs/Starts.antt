@@ -1,7 +1,6 @@
 -- What the machine of the code runs for a start tag, and what that gives.
 use Rattle.std.proofs.Common.{◌≡◌, ℕ, suc, zero, reverse, ◌+◌, ◌-◌, ◌<◌, ◌≤◌, ◌^◌, Bool, true, false, cond, List, [], ◌∷◌, ◌++◌, length, map, drop, take, get_or, All, Option, Some, None, inl, inr, refl, sym, ap, ◌∙◌, subst, arith}
 use Rattle.std.specs.Prelude.{slice_get, if◌then◌else◌, count_by}
-use Rattle.std.proofs.lemmas.List.Concat.{length-flat_map}
 use Rattle.std.proofs.lemmas.List.Sums.{count_by-le-length}
 use Rattle.std.proofs.lemmas.List.{length-map, length-drop, length-reverse, map-append, reverse-append, reverse-reverse}
 use Rattle.std.proofs.lemmas.List.FromFn.{length-range_with_len}
@@ -31,8 +30,7 @@ use Rattle.lol_stack.specs.Contexts.{with_branch}
 use Rattle.lol_vm.specs.Gathering.{Gathers}
 use Rattle.lol_vm.specs.InstructionRuns.{AreRunnable, IsInsideOf, all_at, value_seen, is_true, holds_seen, first_open_from, with_branch_if, gathered_by_names, gathered_with_attributes}
 use Rattle.lol_stack.specs.WithRange.{no_range}
-use Rattle.lol_vm.specs.InstructionLaws.{AreRangesOf, AreAsOpen}
-use Rattle.lol_vm.specs.MachineLaws.{WholeStart, started_by_names, starts_open, from_number}
+use Rattle.lol_vm.specs.MachineLaws.{starts_open}
 use Rattle.lol_base.specs.ListLaws.{reverse-map}
 use Rattle.lol_stack.specs.Active.{activated, active_ranges_of}
 use Rattle.lol_stack.specs.SoundRangeLaws.{active_after-append}
@@ -53,10 +51,10 @@ use Rattle.lol_stack.specs.declared.stack.StackNames.{StackNames}
 use Rattle.lol_vm.proofs.Counted.{places_count_tries}
 use Rattle.lol_vm.proofs.Held.{ranges_are_inside, ranges_hold_left_matches, programs_have_each_node}
 use Rattle.lol_vm.proofs.InstructionLists.{offset_inside}
-use Rattle.lol_vm.proofs.InstructionPlaces.{instructions_are_as_open, instructions_gather}
+use Rattle.lol_vm.proofs.InstructionPlaces.{AreRangesOf, AreAsOpen, instructions_are_as_open, names_gather}
 use Rattle.lol_vm.proofs.StackCounting.{ends, last_at, last_place}
 use Rattle.lol_vm.proofs.StackMachines.{shown_push}
-use Rattle.lol_vm.proofs.Stops.{stopped_starts_are_whole, stops_leave, numbers_are_offsets}
+use Rattle.lol_vm.proofs.Stops.{stopped_starts_are_whole, stops_leave, numbers_are_offsets, WholeStart, started_by_names, from_number}
 
 -- 1. Lists
 
@@ -113,8 +111,24 @@ ranges_shown stack m prog keeps sound is =
 
 -- 3. What is run
 
-module _ {E : Type 0} (s : Selectors) (paths : List Path) (m : Machine) (outer : List Element) (closed : AreClosed s) (program : IsProgramOf s paths m.program) (items : AreItems paths m.program m.items outer)
-    (stack : StackOf Name StackNames E) (sound : IsSound stack) (prog : Program) (keeps : KeepsMachine stack m) (is : m.program ≡ program_shown prog) where
+-- What is run is that of a machine that stands on open elements, and the code's stack and program show it.
+pub record Running (E : Type 0) : Type 0 where
+  pub s : Selectors
+  pub paths : List Path
+  pub m : Machine
+  pub outer : List Element
+  pub closed : AreClosed s
+  pub program : IsProgramOf s paths m.program
+  pub items : AreItems paths m.program m.items outer
+  pub stack : StackOf Name StackNames E
+  pub sound : IsSound stack
+  pub prog : Program
+  pub keeps : KeepsMachine stack m
+  pub is : m.program ≡ program_shown prog
+
+module _ {E : Type 0} (r : Running E) where
+  open r use {s, paths, m, outer, closed, program, items, stack, sound, prog, keeps, is}
+
   abbrev ranges : List (Range ℕ)
   ranges = ranges_of_machine m
 
@@ -134,27 +148,27 @@ module _ {E : Type 0} (s : Selectors) (paths : List Path) (m : Machine) (outer :
   as_many = ap length shown ∙ length-map instructions (instruction_shown m.program.by_type)
 
   inside : All (IsInsideOf instructions) code_ranges
-  inside = all_among (IsInsideOf instructions) code_ranges (λ r a.
-      let among : Among (ranges_to_run m.program m.items) r = subst (λ rs. Among rs r) (ranges_shown stack m prog keeps sound is) a in
-      let within = ranges_are_inside s paths m.program m.items outer closed program items r among in
+  inside = all_among (IsInsideOf instructions) code_ranges (λ q a.
+      let among : Among (ranges_to_run m.program m.items) q = subst (λ rs. Among rs q) (ranges_shown stack m prog keeps sound is) a in
+      let within = ranges_are_inside s paths m.program m.items outer closed program items q among in
       (within.0, omega (arith, within.1, as_many)))
 
   pub are_ranges : AreRangesOf m.program m.program.by_type instructions code_ranges
   are_ranges = record { same_code = shown; inside = inside }
 
+  pub all_shown : all_places code_ranges ≡ all_places ranges
+  all_shown = ap all_places (ranges_shown stack m prog keeps sound is)
+
   module _ (e : Element) where
     pub as_open : AreAsOpen m.program m.program.by_type e instructions code_ranges
     as_open = instructions_are_as_open m.program m.program.by_type e instructions code_ranges are_ranges
-
-    pub all_shown : all_places code_ranges ≡ all_places ranges
-    all_shown = ap all_places (ranges_shown stack m prog keeps sound is)
 
     pub whole : (content : Bool) → WholeStart s m.program ranges e outer content
     whole content = stopped_starts_are_whole s paths m.program ranges e outer content closed program held
 
     -- so many instructions are run
     pub counted : length (all_at instructions code_ranges) ≡ name_tries s.nodes outer
-    counted = as_open.count ∙ (ap length all_shown ∙ (length-flat_map places ranges ∙ (places_count_tries s paths m.program ranges e outer closed program held).names))
+    counted = as_open.count ∙ (ap length all_shown ∙ (places_count_tries s paths m.program ranges e outer closed program held).names)
 
     pub within_bounds : name_tries s.nodes outer ≤ length instructions
     within_bounds =
@@ -293,28 +307,22 @@ module _ (p : programs.Program) (e : Element) where
       by_test false None later n h = cc
       by_test false (Some k) later n h = let next : suc k ≡ n = cc in let within = later k refl in omega (arith, next, within)
 
-module _ {E : Type 0} (s : Selectors) (paths : List Path) (m : Machine) (outer : List Element) (closed : AreClosed s) (program : IsProgramOf s paths m.program) (items : AreItems paths m.program m.items outer)
-    (stack : StackOf Name StackNames E) (sound : IsSound stack) (prog : Program) (keeps : KeepsMachine stack m) (is : m.program ≡ program_shown prog)
-    (ids : E → Ids) (with_ids : E → Ids → E) (lends : (w : E) (more : Ids) → ids (with_ids w more) ≡ more) (e : Element) (name : Name) (seen : sight_in stack name ≡ sight_of m.program.by_type e) where
+module _ {E : Type 0} (r : Running E) (ids : E → Ids) (with_ids : E → Ids → E) (lends : (w : E) (more : Ids) → ids (with_ids w more) ≡ more) (e : Element) (name : Name) (seen : sight_in r.stack name ≡ sight_of r.m.program.by_type e) where
+  open r use {s, m, outer, stack, prog}
+
   abbrev p : programs.Program
   p = m.program
 
   abbrev all : List Instruction
-  all = prog.instructions.items
+  all = instructions r
 
   abbrev tag_code : List (Range ℕ)
-  tag_code = ranges_to_run_in prog stack
+  tag_code = code_ranges r
 
   abbrev rs : List (Range ℕ)
-  rs = ranges_of_machine m
+  rs = ranges r
 
-  are : AreRangesOf p p.by_type all tag_code
-  are = are_ranges s paths m outer closed program items stack sound prog keeps is
-
-  same_places : all_places tag_code ≡ all_places rs
-  same_places = all_shown s paths m outer closed program items stack sound prog keeps is e
-
-  module _ (old new : ExecutionCtx E) (before after : Tries) (stop : Option Stop) (tried : AreTried ids with_ids (sight_in stack name) all tag_code old new before after stop) where
+  module _ {old new : ExecutionCtx E} {before after : Tries} {stop : Option Stop} (tried : AreTried ids with_ids (sight_in stack name) all tag_code old new before after stop) where
     pub stays : StaysThe old new
     stays = subst (StaysThe old) (sym tried.gathered) (names_stay ids with_ids (sight_in stack name) old (all_at all tag_code))
 
@@ -322,39 +330,39 @@ module _ {E : Type 0} (s : Selectors) (paths : List Path) (m : Machine) (outer :
     stop_shown =
         tried.stops
         ∙ (ap (λ z. first_open_from z 0 (all_at all tag_code)) seen
-        ∙ ((as_open s paths m outer closed program items stack sound prog keeps is e).stop ∙ ap (first_open p e) same_places))
+        ∙ ((as_open r e).stop ∙ ap (first_open p e) (all_shown r)))
 
     -- what was gathered is what the run by names gathers
     pub gathered : Gathers ids old.stack_item no_context → Gathers ids new.stack_item (content_of new.with_content (started_by_names p true e rs).context)
     gathered none =
-        let by_names = (instructions_gather ids with_ids lends p p.by_type e all tag_code old no_context are none).names in
+        let by_names = names_gather p p.by_type e all tag_code (are_ranges r) ids with_ids lends old no_context none in
         let is_new : gathered_by_names ids with_ids (sight_of p.by_type e) old (all_at all tag_code) ≡ new = sym (tried.gathered ∙ ap (λ z. gathered_by_names ids with_ids z old (all_at all tag_code)) seen) in
         let context : (run_by_names p old.with_content e no_context (all_places tag_code)).context ≡ content_of old.with_content (started_by_names p true e rs).context =
-        ap (λ ps. (run_by_names p old.with_content e no_context ps).context) same_places
+        ap (λ ps. (run_by_names p old.with_content e no_context ps).context) (all_shown r)
         ∙ (ap (λ x. (run_by_names p old.with_content e x (all_places rs)).context) (nothing_content old.with_content) ∙ by_names_content p old.with_content e no_context (all_places rs)) in
         subst (λ c. Gathers ids new.stack_item (content_of c (started_by_names p true e rs).context)) (sym stays.content)
         (subst (Gathers ids new.stack_item) context (subst (λ (x : ExecutionCtx E). Gathers ids x.stack_item (run_by_names p old.with_content e no_context (all_places tag_code)).context) is_new by_names))
 
   -- where no instruction needs attributes
-  module _ (old new : ExecutionCtx E) (before after : Tries) (tried : AreTried ids with_ids (sight_in stack name) all tag_code old new before after None) where
+  module _ {old new : ExecutionCtx E} {before after : Tries} (tried : AreTried ids with_ids (sight_in stack name) all tag_code old new before after None) where
     pub none_left : (started_by_names p true e rs).left ≡ []
-    none_left = stops_leave p true e no_context (all_places rs) ∙ ap (λ o. from_number o (all_places rs)) (sym (stop_shown old new before after None tried))
+    none_left = stops_leave p true e no_context (all_places rs) ∙ ap (λ o. from_number o (all_places rs)) (sym (stop_shown tried))
 
     pub gathered_all : (started_by_names p true e rs).context ≡ context_of p true e (all_places rs)
     gathered_all =
-        ap (λ ps. run p true e (started_by_names p true e rs).context ps) (sym none_left) ∙ (whole s paths m outer closed program items stack sound prog keeps is e true).whole
+        ap (λ ps. run p true e (started_by_names p true e rs).context ps) (sym none_left) ∙ (whole r e true).whole
 
     pub names_all : names_counted before ≡ 0 → names_counted after ≡ name_tries s.nodes outer
-    names_all none = omega (arith, none, tried.names, counted s paths m outer closed program items stack sound prog keeps is e)
+    names_all none = omega (arith, none, tried.names, counted r e)
 
     pub no_attributes : 0 ≡ attribute_tries s.nodes e outer
-    no_attributes = ap (count_by (is_open_at p e)) (sym none_left) ∙ (whole s paths m outer closed program items stack sound prog keeps is e true).attributes
+    no_attributes = ap (count_by (is_open_at p e)) (sym none_left) ∙ (whole r e true).attributes
 
     pub no_need : starts_open p e (started_by_names p true e rs).left ≡ false
     no_need = ap (starts_open p e) none_left
 
   -- where one does
-  module _ (old new : ExecutionCtx E) (before after : Tries) (stop : Stop) (tried : AreTried ids with_ids (sight_in stack name) all tag_code old new before after (Some stop)) where
+  module _ {old new : ExecutionCtx E} {before after : Tries} {stop : Stop} (tried : AreTried ids with_ids (sight_in stack name) all tag_code old new before after (Some stop)) where
     abbrev number : ℕ
     number = number_of all tag_code stop
 
@@ -362,7 +370,7 @@ module _ {E : Type 0} (s : Selectors) (paths : List Path) (m : Machine) (outer :
     stopped = get_or tag_code stop.range no_range
 
     found : first_open p e (all_places rs) ≡ Some number
-    found = sym (stop_shown old new before after (Some stop) tried)
+    found = sym (stop_shown tried)
 
     pub needs : starts_open p e (started_by_names p true e rs).left ≡ true
     needs = ap (starts_open p e) (stops_leave p true e no_context (all_places rs) ∙ ap (λ o. from_number o (all_places rs)) found) ∙ first_is_open p e (all_places rs) number found
@@ -374,12 +382,12 @@ module _ {E : Type 0} (s : Selectors) (paths : List Path) (m : Machine) (outer :
         let front = take stop.range tag_code in
         let back = drop (stop.range + 1) tag_code in
         let parts = around tag_code stop.range no_range within.0 in
-        let same_count = (instructions_are_as_open p p.by_type e all front (record { same_code = are.same_code; inside = All-take (IsInsideOf all) stop.range tag_code are.inside })).count in
+        let same_count = (instructions_are_as_open p p.by_type e all front (record { same_code = (are_ranges r).same_code; inside = All-take (IsInsideOf all) stop.range tag_code (are_ranges r).inside })).count in
         let inside = offset_inside all tag_code stop within in
         let sizes = length-range_with_len stopped.start (stopped.end - stopped.start) in
         stops_leave p true e no_context (all_places rs)
         ∙ (ap (λ o. from_number o (all_places rs)) found
-        ∙ (ap (drop number) (sym same_places ∙ ap all_places parts)
+        ∙ (ap (drop number) (sym (all_shown r) ∙ ap all_places parts)
         ∙ (ap (λ n. drop (n + stop.offset) (all_places (front ++ stopped ∷ back))) same_count
         ∙ (numbers_are_offsets front stopped back stop.offset (omega (arith, inside, sizes))
         ∙ ap (λ ps. ps ++ all_places back) (range_after stopped.start stopped.end stop.offset inside)))))

@@ -1,33 +1,35 @@
 -- Runs that stop and go on.
 use Rattle.lol_vm.specs.Machines.{HoldOnce, LeftMatches}
-use Rattle.std.proofs.Common.{◌≡◌, ℕ, suc, ◌+◌, Bool, true, false, cond, not, List, [], ◌∷◌, ◌++◌, length, drop, Option, Some, None, inl, inr, refl, sym, ap, ◌∙◌, subst, arith, append_assoc}
+use Rattle.std.proofs.Common.{◌≡◌, ℕ, suc, ◌+◌, Bool, true, false, cond, not, List, [], ◌∷◌, ◌++◌, length, drop, Option, Some, None, inl, inr, refl, sym, ap, ◌∙◌, subst, arith, append_assoc, Contains}
 use Rattle.std.specs.Prelude.{slice_get, count_by, option_to_list, ◌&&◌, ◌||◌, ◌≤◌}
 use Rattle.std.specs.declared.ops.Range.{Range}
 use Rattle.std.specs.List.{list_any}
-use Rattle.std.proofs.lemmas.List.{append-nil, append_cancel_right, length-append}
-use Rattle.std.proofs.lemmas.List.{drop-append-le}
+use Rattle.std.proofs.lemmas.List.{append-nil, append_cancel_right, drop-append-le}
 use Rattle.std.proofs.Math.Seq.{drop-append-add}
 use Rattle.std.proofs.lemmas.Grind.{flat_map-append}
-use Rattle.std.proofs.lemmas.List.Concat.{length-flat_map}
 use Rattle.std.specs.Option.{option_map}
 use Rattle.lol_base.specs.StartTags.{Attribute}
 use Rattle.lol_instructions.specs.Tests.{Element, is_html}
 use Rattle.lol_program.specs.Paths.{Path, Selectors, last_compound}
 use Rattle.lol_base.specs.MemberLaws.{count_by-cons, Among, among_from_contains, contains_from_among}
 use Rattle.lol_vm.specs.Matching.{left_matches}
-use Rattle.lol_vm.specs.Answers.{needs_attributes, asks}
+use Rattle.lol_vm.specs.Answers.{needs_attributes, asks, attribute_tries}
 use Rattle.lol_base.specs.BoolLaws.{or_of}
 use Rattle.lol_instructions.specs.Compounds.{is_open, Decides, by_names, with_rest}
 use Rattle.lol_program.specs.Programs.{Instruction, Program, IsAt, IsProgramOf, places, all_places, AreClosed}
 use Rattle.lol_instructions.specs.declared.name_value.NameValue.{NameValue}
 use Rattle.lol_instructions.specs.declared.name_value.NameValue.TheVariants.{True, False, Open}
 use Rattle.lol_program.specs.ValueLaws.{values_decide, values_are_by_names}
-use Rattle.lol_vm.specs.PlaceRuns.{Context, no_context, Stop, given_by, gathered_from_places, context_of, branch, step_with_attributes, step_by_names, run, run_by_names, instruction_value, value_at, is_open_at, first_open, ids_list, jumps_list, hereditary_jumps_list, places_from}
+use Rattle.lol_vm.specs.PlaceRuns.{Context, no_context, Stop, given_by, gathered_from_places, context_of, branch, step_with_attributes, step_by_names, run, run_by_names, instruction_value, value_at, is_open_at, first_open, ids_list, jumps_list, hereditary_jumps_list}
 use Rattle.lol_vm.proofs.Held.{path_at}
 use Rattle.lol_vm.proofs.Counted.{places_count_tries}
-use Rattle.lol_vm.specs.MachineLaws.{from_number, with_context, ValuesDecideAt, IsStop, starts_open, WholeStart, IsRequest, started_by_names}
+use Rattle.lol_vm.specs.MachineLaws.{starts_open, IsRequest}
 
 -- 1. Runs gather
+
+-- what one context gathered, and then the other
+abbrev with_context : Context → Context → Context
+with_context a b = record { ids = a.ids ++ b.ids; jumps = a.jumps ++ b.jumps; hereditary_jumps = a.hereditary_jumps ++ b.hereditary_jumps }
 
 nothing_more : {A : Type 0} (b : Bool) (xs ys : List A) → ys ≡ [] → xs ≡ xs ++ cond b ys ys
 nothing_more true xs ys h = sym (append-nil xs) ∙ ap (λ zs. xs ++ zs) (sym h)
@@ -74,6 +76,29 @@ run-append p content e context [] qs = refl
 run-append p content e context (place ∷ ps) qs = run-append p content e (step_with_attributes content e context (slice_get p.instructions place)) ps qs
 
 -- 2. Stops
+
+-- every place is that of an instruction whose value by names decides, at this element
+abbrev ValuesDecideAt : Program → Element → List ℕ → Type 0
+ValuesDecideAt p e ps = (place : ℕ) (i : Instruction) → Contains ps place → IsAt p.instructions place i → Decides (i.value e) (i.holds e)
+
+-- Where a run by names stops: no place before the stop is open, and the context is what those places give with the attributes, whichever
+-- they are; no place is left, or the first that is left is open. Going on from there gives what a whole run gives.
+pub record IsStop (p : Program) (content : Bool) (e : Element) (context : Context) (ps : List ℕ) (stop : Stop) : Type 0 where
+  pub before : List ℕ
+  pub parts : ps ≡ before ++ stop.left
+  pub closed : (place : ℕ) → Contains before place → is_open_at p e place ≡ false
+  pub ran : stop.context ≡ run p content e context before
+  pub stops : list_any (is_open_at p e) ps ≡ starts_open p e stop.left
+  pub goes_on : run p content e stop.context stop.left ≡ run p content e context ps
+
+-- the places without so many at the front; none at all where there is no number
+abbrev pub from_number : Option ℕ → List ℕ → List ℕ
+from_number None ps = []
+from_number (Some n) ps = drop n ps
+
+-- the run by names of a start tag over these ranges
+abbrev pub started_by_names : Program → Bool → Element → List (Range ℕ) → Stop
+started_by_names p content e ranges = run_by_names p content e no_context (all_places ranges)
 
 -- at a place that isn't open both steps are the same
 same_step : (content : Bool) (e : Element) (context : Context) (o : Option Instruction) → is_open (instruction_value e o) ≡ false → ((i : Instruction) → o ≡ Some i → Decides (i.value e) (i.holds e))
@@ -150,7 +175,7 @@ stops_leave p content e context (place ∷ ps) = by_test (is_open_at p e place) 
 
 -- The places of ranges without those before an offset in one of them are those from that offset on.
 pub numbers_are_offsets : (front : List (Range ℕ)) (r : Range ℕ) (back : List (Range ℕ)) (offset : ℕ) → offset ≤ length (places r)
-    → drop (length (all_places front) + offset) (all_places (front ++ r ∷ back)) ≡ places_from offset (r ∷ back)
+    → drop (length (all_places front) + offset) (all_places (front ++ r ∷ back)) ≡ drop offset (places r) ++ all_places back
 numbers_are_offsets front r back offset within =
     ap (drop (length (all_places front) + offset)) (flat_map-append places front (r ∷ back))
     ∙ (drop-append-add (all_places front) (all_places (r ∷ back)) offset ∙ drop-append-le offset (places r) (all_places back) within)
@@ -188,20 +213,25 @@ left_counted test (place ∷ before) left h =
     left_counted test before left (λ k a. h k (inr a))
     ∙ sym (count_by-cons test place (before ++ left) ∙ (ap (λ b. cond b 1 0 + count_by test (before ++ left)) (h place (inl refl)) ∙ omega arith))
 
+-- A start tag that stops and goes on: it stops exactly if some node needs attributes, gives what a run with attributes gives, and the
+-- tries by attributes are the open places that are left.
+pub record WholeStart (s : Selectors) (p : Program) (ranges : List (Range ℕ)) (e : Element) (outer : List Element) (content : Bool) : Type 0 where
+  pub asks : starts_open p e (started_by_names p content e ranges).left ≡ list_any (needs_attributes e outer) s.nodes
+  pub whole : run p content e (started_by_names p content e ranges).context (started_by_names p content e ranges).left ≡ context_of p content e (all_places ranges)
+  pub attributes : count_by (is_open_at p e) (started_by_names p content e ranges).left ≡ attribute_tries s.nodes e outer
+
 pub stopped_starts_are_whole : (s : Selectors) (paths : List Path) (p : Program) (ranges : List (Range ℕ)) (e : Element) (outer : List Element)
     (content : Bool) → AreClosed s → IsProgramOf s paths p → HoldOnce paths ranges (LeftMatches outer)
     → WholeStart s p ranges e outer content
 stopped_starts_are_whole s paths p ranges e outer content closed program held =
     let stop = runs_stop_where_asked p content e no_context (all_places ranges) (λ place i h at. decides_at s paths p program e place i at) in
     let tries = places_count_tries s paths p ranges e outer closed program held in
-    let left = (run_by_names p content e no_context (all_places ranges)).left in
-    let lengths : length stop.before + length left ≡ length (all_places ranges) = sym (ap length stop.parts ∙ length-append stop.before left) in
     record {
-      stop = stop;
-      asks = sym stop.stops ∙ (places_count_tries s paths p ranges e outer closed program held).asks;
+      asks = sym stop.stops ∙ tries.asks;
       whole = stop.goes_on ∙ runs_gather p content e no_context (all_places ranges);
-      names = lengths ∙ (length-flat_map places ranges ∙ tries.names);
-      attributes = left_counted (is_open_at p e) stop.before left (λ place a. stop.closed place (contains_from_among stop.before place a)) ∙ (ap (count_by (is_open_at p e)) (sym stop.parts) ∙ tries.attributes);
+      attributes =
+          left_counted (is_open_at p e) stop.before (run_by_names p content e no_context (all_places ranges)).left (λ place a. stop.closed place (contains_from_among stop.before place a))
+          ∙ (ap (count_by (is_open_at p e)) (sym stop.parts) ∙ tries.attributes);
     }
 
 -- A run by names that stops gives a request.

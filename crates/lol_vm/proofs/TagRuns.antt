@@ -1,5 +1,5 @@
 -- Runs over ranges, one after the other.
-use Rattle.std.proofs.Common.{◌≡◌, ◌+◌, ◌-◌, ◌<◌, ◌≤◌, ℕ, List, ◌∷◌, length, take, drop, drop-cons, get_or, suc, Some, None, refl, sym, ap, ◌∙◌, arith, subst}
+use Rattle.std.proofs.Common.{◌≡◌, ◌+◌, ◌-◌, ◌<◌, ◌≤◌, ℕ, List, ◌∷◌, length, take, drop, drop-cons, get_or, suc, refl, sym, ap, ◌∙◌, arith, subst}
 use Rattle.std.specs.declared.ops.Range.{Range}
 use Rattle.std.proofs.lemmas.List.{length-take, length-drop}
 use Rattle.lol_memory.specs.Ids.{Ids}
@@ -10,10 +10,10 @@ use Rattle.lol_instructions.specs.declared.instruction.Instruction.{Instruction}
 use Rattle.lol_instructions.specs.declared.tries.Tries.{Tries}
 use Rattle.lol_stack.specs.WithRange.{no_range}
 use Rattle.lol_stack.specs.declared.execution_ctx.ExecutionCtx.{ExecutionCtx}
-use Rattle.lol_vm.specs.InstructionRuns.{AreRunnable, HasTriesLeft, IsInsideOf, all_at, instructions_at, open_among, first_open_from, gathered_by_names, gathered_with_attributes}
+use Rattle.lol_vm.specs.InstructionRuns.{AreRunnable, HasTriesLeft, IsInsideOf, all_at, instructions_at, open_among, gathered_with_attributes}
 use Rattle.lol_vm.specs.TagRuns.{AreExecuted, AreWithin, IsStopIn, ranges_from, rest_of}
 use Rattle.lol_vm.specs.declared.tag_runs.Stop.{Stop}
-use Rattle.lol_vm.proofs.InstructionLists.{is_lent, others_run, offset_inside, length_parts, length_split, opens_split, stop_next, stop_here, names_next, names_here, attributes_next}
+use Rattle.lol_vm.proofs.InstructionLists.{is_lent, offset_inside, length_parts, length_split, opens_split, attributes_next}
 
 -- 1. What is so of some instructions, ranges and what tests see is so of the same
 
@@ -23,63 +23,24 @@ of_same P {all = all} {ranges = ranges} {rs = rs} {t = t} same_all same_ranges s
 
 -- 2. The ranges from one of them on
 
-pub first_left : (ranges : List (Range ℕ)) (k : ℕ) (r : Range ℕ) → k < length ranges → r ≡ get_or ranges k no_range → drop k ranges ≡ r ∷ drop (k + 1) ranges
-first_left ranges k r within is =
-    let next : suc k ≡ k + 1 = omega arith in
-    drop-cons ranges k no_range within ∙ (λ i. sym is i ∷ drop (next i) ranges)
+module _ (instructions : List Instruction) (ranges : List (Range ℕ)) (k : ℕ) (r : Range ℕ) (within : k < length ranges) (is : r ≡ get_or ranges k no_range) where
+  pub first_left : drop k ranges ≡ r ∷ drop (k + 1) ranges
+  first_left =
+      let next : suc k ≡ k + 1 = omega arith in
+      drop-cons ranges k no_range within ∙ (λ i. sym is i ∷ drop (next i) ranges)
 
-module _ (instructions : List Instruction) (ranges : List (Range ℕ)) (k : ℕ) (r : Range ℕ) (first : drop k ranges ≡ r ∷ drop (k + 1) ranges) (part : List Instruction) where
-  abbrev others : List (Range ℕ)
-  others = drop (k + 1) ranges
-
-  abbrev left : List Instruction
-  left = all_at instructions (drop k ranges)
-
-  abbrev later : List Instruction
-  later = all_at instructions others
-
-  module _ (tries : Tries) (runs : AreRunnable instructions (drop k ranges) tries) where
-    run : AreRunnable instructions (r ∷ others) tries
-    run = subst (λ rs. AreRunnable instructions rs tries) first runs
-
-    -- its instructions are what is lent
-    pub lent : (IsInsideOf instructions r → HasTriesLeft tries (r.end - r.start) → part ≡ instructions_at instructions r) → part ≡ instructions_at instructions r
-    lent = is_lent instructions r others tries run part
-
-    pub runs_on : part ≡ instructions_at instructions r → (mid : Tries) → names_counted mid ≤ names_counted tries + length part → attributes_counted mid ≤ attributes_counted tries + length part → AreRunnable instructions others mid
-    runs_on is = others_run instructions r others tries run part is
-
-  module _ (is : part ≡ instructions_at instructions r) where
-    pub length_left : length left ≡ length part + length later
-    length_left = ap (λ rs. length (all_at instructions rs)) first ∙ length_split instructions r others part is
+  module _ {now : Tries} (runs : AreRunnable instructions (drop k ranges) now) (part : List Instruction) (lent : IsInsideOf instructions r → HasTriesLeft now (r.end - r.start) → part ≡ instructions_at instructions r) where
+    pub part_is : part ≡ instructions_at instructions r
+    part_is = is_lent instructions first_left runs part lent
 
     pub length_next : length (all_at instructions (take (k + 1) ranges)) ≡ length (all_at instructions (take k ranges)) + length part
-    length_next = omega (arith, length_parts instructions ranges k, length_parts instructions ranges (k + 1), length_left)
+    length_next = omega (arith, length_parts instructions ranges k, length_parts instructions ranges (k + 1), length_split instructions first_left part part_is)
 
     -- at most so many are tried by names, up to this range and in it
-    pub tried_within : (s : Sight) (old now new : Tries) → names_counted now ≡ names_counted old + length (all_at instructions (take k ranges)) → attributes_counted now ≡ attributes_counted old
+    pub tried_within : (s : Sight) (old new : Tries) → names_counted now ≡ names_counted old + length (all_at instructions (take k ranges)) → attributes_counted now ≡ attributes_counted old
         → names_counted new ≤ names_counted now + length part → attributes_counted new ≡ attributes_counted now → AreWithin s instructions ranges old new 0
-    tried_within s old now new names attributes names_bound same = record { names = omega (arith, names, names_bound, length_left, length_parts instructions ranges k); attributes = omega (arith, attributes, same) }
-
-    module _ (s t : Sight) (same : t ≡ s) where
-      pub opens_left : open_among s left ≡ open_among t part + open_among s later
-      opens_left = ap (λ rs. open_among s (all_at instructions rs)) first ∙ opens_split instructions r others part is t s same
-
-      pub stops_next : (n : ℕ) → first_open_from t 0 part ≡ None → first_open_from s n left ≡ first_open_from s (n + length part) later
-      stops_next n none = ap (λ rs. first_open_from s n (all_at instructions rs)) first ∙ stop_next instructions r others part is t s same n none
-
-      pub stops_here : (n offset : ℕ) → first_open_from t 0 part ≡ Some offset → first_open_from s n left ≡ Some (n + offset)
-      stops_here n offset some = ap (λ rs. first_open_from s n (all_at instructions rs)) first ∙ stop_here instructions r others part is t s same n offset some
-
-      module _ {E : Type 0} (ids : E → Ids) (with_ids : E → Ids → E) (ctx new : ExecutionCtx E) where
-        pub gathers_next : first_open_from t 0 part ≡ None → new ≡ gathered_by_names ids with_ids t ctx part → gathered_by_names ids with_ids s ctx left ≡ gathered_by_names ids with_ids s new later
-        gathers_next none is_new = ap (λ rs. gathered_by_names ids with_ids s ctx (all_at instructions rs)) first ∙ names_next instructions r others part is t s same ids with_ids ctx new none is_new
-
-        pub gathers_here : (offset : ℕ) → first_open_from t 0 part ≡ Some offset → new ≡ gathered_by_names ids with_ids t ctx part → new ≡ gathered_by_names ids with_ids s ctx left
-        gathers_here offset some is_new = names_here instructions r others part is t s same ids with_ids ctx new offset some is_new ∙ sym (ap (λ rs. gathered_by_names ids with_ids s ctx (all_at instructions rs)) first)
-
-        pub gathers_whole : (a : TagAttributes) → new ≡ gathered_with_attributes ids with_ids t a ctx part → gathered_with_attributes ids with_ids s a ctx left ≡ gathered_with_attributes ids with_ids s a new later
-        gathers_whole a is_new = ap (λ rs. gathered_with_attributes ids with_ids s a ctx (all_at instructions rs)) first ∙ attributes_next instructions r others part is t s same ids with_ids ctx new a is_new
+    tried_within s old new names attributes names_bound same =
+        record { names = omega (arith, names, names_bound, length_split instructions first_left part part_is, length_parts instructions ranges k); attributes = omega (arith, attributes, same) }
 
 -- 3. The rest of a range, and then the ranges after it
 
@@ -95,7 +56,7 @@ module _ (instructions : List Instruction) (ranges : List (Range ℕ)) (stop : S
       → (IsInsideOf instructions left → HasTriesLeft tries (left.end - left.start) → part ≡ instructions_at instructions left) → part ≡ instructions_at instructions rest
   rest_lent r left at is value =
       let left_is : left ≡ rest = subst (λ q. q.start + stop.offset ≤ q.end → left ≡ record { start = q.start + stop.offset; end = q.end }) at is (offset_inside instructions ranges stop is_stop) in
-      is_lent instructions rest (drop (stop.range + 1) ranges) tries runnable part (subst (λ q. IsInsideOf instructions q → HasTriesLeft tries (q.end - q.start) → part ≡ instructions_at instructions q) left_is value)
+      is_lent instructions {r = rest} {others = drop (stop.range + 1) ranges} refl runnable part (subst (λ q. IsInsideOf instructions q → HasTriesLeft tries (q.end - q.start) → part ≡ instructions_at instructions q) left_is value)
 
   -- there are some
   pub rest_some : part ≡ instructions_at instructions rest → 0 < length part
@@ -119,9 +80,9 @@ module _ {E : Type 0} (ids : E → Ids) (with_ids : E → Ids → E) (s t : Sigh
   executed_from a old between new some gathered names attributes later =
       let rest = subst (λ z. AreExecuted ids with_ids z instructions others between new mid after a 0) same later in
       record {
-        gathered = rest.gathered ∙ sym (attributes_next instructions r others part is s s refl ids with_ids old between a gathered);
-        names = omega (arith, rest.names, names, some, length_split instructions r others part is);
-        attributes = omega (arith, rest.attributes, attributes, opens_split instructions r others part is s s refl);
+        gathered = rest.gathered ∙ sym (attributes_next instructions {r = r} {others = others} refl part is s s refl ids with_ids old between a gathered);
+        names = omega (arith, rest.names, names, some, length_split instructions {r = r} {others = others} refl part is);
+        attributes = omega (arith, rest.attributes, attributes, opens_split instructions {r = r} {others = others} refl part is s s refl);
       }
 
   pub within_from : 0 < length part → names_counted mid ≤ names_counted before + (length part - 1) → attributes_counted mid ≤ attributes_counted before + open_among s part
@@ -129,6 +90,6 @@ module _ {E : Type 0} (ids : E → Ids) (with_ids : E → Ids → E) (s t : Sigh
   within_from some names attributes later =
       let rest = subst (λ z. AreWithin z instructions others mid after 0) same later in
       record {
-        names = omega (arith, rest.names, names, some, length_split instructions r others part is);
-        attributes = omega (arith, rest.attributes, attributes, opens_split instructions r others part is s s refl);
+        names = omega (arith, rest.names, names, some, length_split instructions {r = r} {others = others} refl part is);
+        attributes = omega (arith, rest.attributes, attributes, opens_split instructions {r = r} {others = others} refl part is s s refl);
       }

@@ -1,13 +1,11 @@
 -- A start tag, and its rest if that is handed over.
 use Rattle.std.proofs.Common.{◌≡◌, ℕ, ◌+◌, ◌-◌, ◌≤◌, ◌<◌, ◌*◌, Bool, true, false, not, List, [], ◌∷◌, ◌++◌, length, map, reverse, Option, Some, None, refl, sym, ap, ◌∙◌, subst, arith}
-use Rattle.std.specs.Prelude.{max, ◌&&◌, if◌then◌else◌, ◌^◌, ◌⊎◌}
-use Rattle.std.proofs.lemmas.List.{length-append, length-map, map_push, reverse-append}
-use Rattle.lol_base.specs.LocalNames.{Name}
+use Rattle.std.specs.Prelude.{◌&&◌, if◌then◌else◌}
+use Rattle.std.proofs.lemmas.List.{length-append, map_push, reverse-append}
 use Rattle.lol_base.specs.StartTags.{StartTag}
 use Rattle.lol_memory.specs.Ids.{Ids}
 use Rattle.lol_memory.specs.LimitedVec.{IsLimited}
-use Rattle.lol_memory.specs.Limiter.{Limiter, Passes, charged}
-use Rattle.lol_memory.specs.Slots.{minimum_slots}
+use Rattle.lol_memory.specs.Limiter.{Limiter, charged}
 use Rattle.lol_memory.specs.declared.match_info.MatchInfo.{MatchInfo}
 use Rattle.lol_instructions.specs.Counters.{full_count}
 use Rattle.lol_program.specs.Paths.{Selectors}
@@ -19,14 +17,12 @@ use Rattle.lol_stack.specs.Calls.{IsCalledAtEach}
 use Rattle.lol_vm.specs.Documents.{Document, after_start, element_of, empty}
 use Rattle.lol_vm.specs.Events.{Event, Start, has_content}
 use Rattle.lol_vm.specs.EventRuns.{GoesByStart, IsRunOf, machine_of}
-use Rattle.lol_vm.specs.Follows.{Follows, IsCharged, IsDropped, IsTaken, opens}
+use Rattle.lol_vm.specs.Follows.{Follows, IsCharged, IsDropped, IsTaken, opens, StartedElement}
 use Rattle.lol_vm.specs.Views.{match_of}
-use Rattle.lol_stack.specs.Stacks.{items_in, list_in, last_count}
+use Rattle.lol_stack.specs.Stacks.{list_in, last_count}
 use Rattle.lol_vm.specs.Vms.{Vm, Stands, IsAnswered, IsPending, AreOpened, info_of, stack_in, tries_in, data_in, slots_charged, slot_bytes}
 use Rattle.lol_vm.specs.declared.error.AuxStartTagInfoRequest.{AuxStartTagInfoRequest}
 use Rattle.lol_vm.specs.declared.event_run.EventRun.{EventRun}
-use Rattle.lol_stack.specs.declared.stack_item.StackItemOf.{StackItemOf}
-use Rattle.lol_vm.specs.Follows.{StartedElement}
 use Rattle.lol_vm.proofs.CallerLemmas.{is_left, unfinished_is}
 use Rattle.lol_vm.proofs.RunSteps.{charged_later, follows_on, not_refused}
 use Rattle.lol_vm.proofs.Runs.{events-document}
@@ -51,23 +47,6 @@ module _ (s : Selectors) (esi : Bool) (events : List Event) (tag : StartTag) whe
       stands = a.stands;
       opened = subst (λ xs. AreOpened ids_of (has_content esi tag) a.matched xs (data_in new)) kept a.opened;
     }
-
--- what `IsLimited` looks at
-abbrev Limits : ℕ → ℕ → ℕ → Limiter → Type 0
-Limits many slots bytes l =
-    (slots ≤ many) × ((2 ^ 64 ≤ max slots (minimum_slots bytes) * bytes) ⊎ (2 ^ 64 ≤ slots + max slots (minimum_slots bytes)) ⊎ Passes l (max slots (minimum_slots bytes) * bytes))
-
-module _ {E : Type 0} where
-  -- with as many elements and slots, as much can be charged
-  pub limited_since : (old mid : Vm E) (now later : Limiter) → data_in mid ≡ data_in old → slots_charged mid ≡ slots_charged old → slot_bytes mid ≡ slot_bytes old → later ≡ now
-      → IsLimited (list_in (stack_in old)) now → IsLimited (list_in (stack_in mid)) later
-  limited_since old mid now later kept slots bytes same h =
-      let many : length (items_in old.stack) ≡ length (items_in mid.stack) =
-      sym (length-map (items_in old.stack) (λ (x : StackItemOf Name E). x.element_data)) ∙ (ap length (sym kept) ∙ length-map (items_in mid.stack) (λ (x : StackItemOf Name E). x.element_data)) in
-      subst (λ (l : Limiter). Limits (length (items_in mid.stack)) (slots_charged mid) (slot_bytes mid) l) (sym same)
-      (subst (λ b. Limits (length (items_in mid.stack)) (slots_charged mid) b now) (sym bytes)
-      (subst (λ n. Limits (length (items_in mid.stack)) n (slot_bytes old) now) (sym slots)
-      (subst (λ n. Limits n (slots_charged old) (slot_bytes old) now) many h)))
 
 module _ {E F : Type 0} (ids_of : E → Ids) (step : F → MatchInfo → Unit {0} → F → Type 0) (s : Selectors) (esi : Bool) (events : List Event) (tag : StartTag) (old new : Vm E) (f g : F) where
   pub taken_stands : (taken : Option Bool) → IsTaken ids_of step s esi events tag taken old new f g → Stands s esi new (events ++ Start tag ∷ [])

@@ -22,8 +22,8 @@ module _ (s : Selectors) (closed : AreClosed s) (esi : Bool) where
   by_tests : (d : Document) (tag : StartTag) (asked finish : Bool) → asks s (element_of d tag) d.open_elements ≡ asked → tag.finish ≡ finish
       → IsToldAlike d (if asked && finish then Start tag else Start (bare_tag tag.name tag.namespace)) (Start tag)
   by_tests d tag true true asked finish = record { answered = refl; later = documents_self s closed esi (after s esi d (Start tag)) }
-  by_tests d tag true false asked finish = record { answered = dropped_answered s closed esi d tag asked finish; later = dropped_after s closed esi d tag asked finish }
-  by_tests d tag false finish asked is = record { answered = unasked_answered s closed esi d tag asked; later = unasked_after s closed esi d tag asked }
+  by_tests d tag true false asked finish = record { answered = dropped_answered s closed esi d tag [] false false asked finish refl; later = dropped_after s closed esi d tag [] false false asked finish refl }
+  by_tests d tag false finish asked is = record { answered = unasked_answered s closed esi d tag [] false false asked; later = unasked_after s closed esi d tag [] false false asked }
 
   told_alike : (d : Document) (event : Event) → IsToldAlike d (told_of s d event) event
   told_alike d (Start tag) = by_tests d tag (asks s (element_of d tag) d.open_elements) tag.finish refl refl

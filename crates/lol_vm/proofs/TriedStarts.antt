@@ -1,36 +1,56 @@
 -- What trying a counted start tag by its name comes to.
-use Rattle.std.proofs.Common.{◌≡◌, Result, Ok, ◌<◌, Bool, true, false, List, Option, Some, None, refl, sym, ap, ◌∙◌, subst, inl, inr}
-use Rattle.std.specs.Prelude.{◌⊎◌}
+use Rattle.std.proofs.Common.{◌≡◌, Result, Ok, ◌<◌, Bool, true, false, List, Option, Some, None, refl, sym, ap, ◌∙◌, subst, inl, inr, ◌+◌, not, [], ◌∷◌, ◌++◌, length, arith}
+use Rattle.std.specs.Prelude.{◌⊎◌, ◌||◌, ◌&&◌}
 use Rattle.std.specs.Result.{IfOk, IsOk}
-use Rattle.lol_base.specs.LocalNames.{Name}
+use Rattle.lol_base.specs.LocalNames.{Name, local_name}
 use Rattle.lol_base.specs.StartTags.{StartTag}
 use Rattle.lol_base.specs.declared.namespace.Namespace.{Namespace}
 use Rattle.lol_memory.specs.Ids.{Ids, ascending}
 use Rattle.lol_memory.specs.declared.match_info.MatchInfo.{MatchInfo}
 use Rattle.lol_instructions.specs.Counters.{full_count}
-use Rattle.lol_instructions.specs.Tests.{is_html}
+use Rattle.lol_instructions.specs.Tests.{is_html, Element}
 use Rattle.lol_instructions.specs.Tries.{names_counted, attributes_counted}
 use Rattle.lol_instructions.specs.declared.tries.Tries.{Tries}
 use Rattle.lol_program.specs.Paths.{Selectors}
 use Rattle.lol_stack.specs.Calls.{IsCalledAtEach, reports}
 use Rattle.lol_stack.specs.Contexts.{IsNewItem}
-use Rattle.lol_stack.specs.Stacks.{counted_in, last_count, list_in}
+use Rattle.lol_stack.specs.Stacks.{counted_in, last_count, list_in, items_in, typed_count, element_data_of}
 use Rattle.lol_stack.specs.declared.execution_ctx.ExecutionCtx.{ExecutionCtx}
 use Rattle.lol_stack.specs.declared.stack.StackNames.{StackNames}
 use Rattle.lol_stack.specs.declared.stack.StackOf.{StackOf}
 use Rattle.lol_memory.specs.LimitedVec.{IsLimited}
 use Rattle.lol_memory.specs.Limiter.{Limiter}
 use Rattle.lol_vm.specs.Due.{IsDue}
-use Rattle.lol_vm.specs.Events.{Event, has_content}
-use Rattle.lol_vm.specs.InstructionRuns.{NeedNoMemory}
+use Rattle.lol_vm.specs.Events.{Event, has_content, Start}
+use Rattle.lol_vm.specs.InstructionRuns.{NeedNoMemory, AreRunnable}
 use Rattle.lol_vm.specs.TagRuns.{AreTried, ranges_to_run_in, sight_in}
 use Rattle.lol_vm.specs.TriedStarts.{OfStop, IsBegun, IsNewContext, IsTried, IsTriedAs, IsTriedByName, left_at}
-use Rattle.lol_vm.specs.Vms.{Vm, Stands, IsTagOf, IsAnswered, IsReported, IsTriedAtMost, IsPending, IsEntered, is_asked_for}
+use Rattle.lol_vm.specs.Vms.{Vm, Stands, IsTagOf, IsAnswered, IsReported, IsTriedAtMost, IsPending, IsEntered, is_asked_for, Shows, content_of}
 use Rattle.lol_vm.specs.declared.tag_runs.RecoveryPoint.{RecoveryPoint}
 use Rattle.lol_vm.specs.declared.tag_runs.RecoveryPoint.TheVariants.{AtOnce, At}
 use Rattle.lol_vm.specs.declared.tag_runs.Stop.{Stop}
 use Rattle.lol_vm.proofs.VmRefusals.{limited_counted, was_limited}
-use Rattle.lol_vm.proofs.VmStarts.{answered, has_content_still, has_reported, none_tried, pending_at_once, pending_stop, tried_as, tried_at_most}
+use Rattle.std.specs.List.{list_any}
+use Rattle.lol_instructions.specs.Compiled.{sight_of}
+use Rattle.lol_program.specs.Programs.{all_places}
+use Rattle.lol_vm.specs.Answers.{needs_attributes, asks, is_dropped, document, ascending_once}
+use Rattle.lol_vm.specs.Documents.{Document, element_of}
+use Rattle.lol_vm.specs.Gathering.{Gathers}
+use Rattle.lol_vm.specs.PlaceRuns.{Context, no_context, context_of}
+use Rattle.lol_stack.specs.SoundStacks.{IsSound}
+use Rattle.lol_vm.specs.StackMachines.{KeepsMachine}
+use Rattle.lol_vm.specs.Standing.{Machine, StandsFor, counted, opened, started, ranges_of_machine, unfinished}
+use Rattle.lol_stack.specs.declared.stack_item.StackItemOf.{StackItemOf}
+use Rattle.lol_vm.proofs.Answered.{starts_answer, AnswersStart}
+use Rattle.lol_vm.proofs.GatheringLemmas.{new_elements_gather, gathered_ids_ascend}
+use Rattle.lol_vm.proofs.Kept.{items_length, requests_stand, standing_is_kept}
+use Rattle.lol_stack.specs.SoundLaws.{counting_keeps_sound}
+use Rattle.lol_vm.proofs.StackCounting.{counting_stack_keeps, seen_places}
+use Rattle.lol_vm.proofs.Starts.{Running, all_shown, content_ids, counted as run_count, gathered, gathered_all, left_places, names_all, names_left, needs, no_attributes, no_need, runnable, stays}
+use Rattle.lol_base.specs.BoolLaws.{and-true, or-right_true}
+use Rattle.lol_vm.proofs.Stops.{foreign_tags_ask, stops_are_requests, started_by_names}
+use Rattle.lol_vm.proofs.VmStarts.{IsComplete, answered, counted_data, none_tried}
+use Rattle.std.specs.declared.alloc.AllocError.{AllocError}
 
 -- 1. How it is tried
 
@@ -41,10 +61,6 @@ module _ {E R : Type 0} (ids : E → Ids) (with_ids : E → Ids → E) (old new 
       subst (λ r. IsTried ids with_ids old new ctx next r tag) at
       (subst (λ b. IsTriedAs ids with_ids old new ctx next result b (has_content old.enable_esi_tags tag)) (sym html) (subst (IsTriedByName ids with_ids old new ctx next result) is h))
 
-pub asked_at_once : {E : Type 0} (R : Type 0) (ids : E → Ids) (with_ids : E → Ids → E) (vm : Vm E) (ctx : ExecutionCtx E) (tag : StartTag) → is_html tag.namespace ≡ false → IsTried {R = R} ids with_ids vm vm ctx ctx (Ok (Some AtOnce)) tag
-asked_at_once R ids with_ids vm ctx tag foreign =
-    subst (λ b. IsTriedAs {R = R} ids with_ids vm vm ctx ctx (Ok (Some AtOnce)) b (has_content vm.enable_esi_tags tag)) (sym foreign) (refl, refl, refl)
-
 same_point : {R : Type 0} (result : Result (Option RecoveryPoint) R) (point : RecoveryPoint) → result ≡ Ok (Some AtOnce) → result ≡ Ok (Some point) → AtOnce ≡ point
 same_point result point at_once at = cc
 
@@ -53,11 +69,59 @@ not_at_end result at at_once = cc
 
 -- 2. What comes of it
 
-module _ {E R : Type 0} (ids : E → Ids) (with_ids : E → Ids → E) (lends : (w : E) (more : Ids) → ids (with_ids w more) ≡ more) (vm : Vm E) (name : Name) (ns : Namespace) (s : Selectors) (esi : Bool) (events : List Event) (tag : StartTag)
-    (st : Stands s esi vm events) (named : IsTagOf name ns tag) (stack : StackOf Name StackNames E) (counted_is : stack ≡ counted_in vm.stack name) (room : last_count vm.stack < full_count)
-    (ctx next : ExecutionCtx E) (before : Tries) (new : Vm E) (result : Result (Option RecoveryPoint) R)
-    (item : IsNewItem ids name ctx.stack_item) (namespace : ctx.ns ≡ ns) (content : ctx.with_content ≡ true) (no_names : names_counted before ≡ 0) (no_attributes : attributes_counted before ≡ 0)
-    (tried : IsTagOf ctx.stack_item.local_name ctx.ns tag → IsTried ids with_ids (record vm { stack = stack; tries = before }) new ctx next result tag) where
+-- A start tag of this name and namespace was counted, and tried by its name.
+pub record Trial {E R : Type 0} (ids : E → Ids) (with_ids : E → Ids → E) (vm new : Vm E) (name : Name) (ns : Namespace) (next : ExecutionCtx E) (result : Result (Option RecoveryPoint) R) : Type 0 where
+  pub lends : (w : E) (more : Ids) → ids (with_ids w more) ≡ more
+  pub ctx : ExecutionCtx E
+  pub item : IsNewItem ids name ctx.stack_item
+  pub namespace : ctx.ns ≡ ns
+  pub content : ctx.with_content ≡ true
+  pub room : last_count vm.stack < full_count
+  pub stack : StackOf Name StackNames E
+  pub counted_is : stack ≡ counted_in vm.stack name
+  pub before : Tries
+  pub no_names : names_counted before ≡ 0
+  pub no_attributes : attributes_counted before ≡ 0
+  pub tried : (tag : StartTag) → IsTagOf ctx.stack_item.local_name ctx.ns tag → IsTried ids with_ids (record vm { stack = stack; tries = before }) new ctx next result tag
+
+pub named_so : {E : Type 0} {ids : E → Ids} {name : Name} {own ns : Namespace} {item : StackItemOf Name E} → IsNewItem ids name item → own ≡ ns → (tag : StartTag) → IsTagOf name ns tag → IsTagOf item.local_name own tag
+named_so item namespace tag named = (item.name ∙ named.0, named.1 ∙ sym namespace)
+
+abbrev pub trial_of : {E R : Type 0} {ids : E → Ids} {with_ids : E → Ids → E} {vm new : Vm E} {name : Name} {ns : Namespace} {next : ExecutionCtx E} {result : Result (Option RecoveryPoint) R} → ((w : E) (more : Ids) → ids (with_ids w more) ≡ more)
+    → (ctx : ExecutionCtx E) → IsNewItem ids name ctx.stack_item → ctx.ns ≡ ns → ctx.with_content ≡ true → last_count vm.stack < full_count
+    → (stack : StackOf Name StackNames E) → stack ≡ counted_in vm.stack name → (before : Tries) → names_counted before ≡ 0 → attributes_counted before ≡ 0
+    → ((tag : StartTag) → IsTagOf ctx.stack_item.local_name ctx.ns tag → IsTried ids with_ids (record vm { stack = stack; tries = before }) new ctx next result tag) → Trial ids with_ids vm new name ns next result
+trial_of lends ctx item namespace content room stack is before names attributes tried = record {
+  lends = lends;
+  ctx = ctx;
+  item = item;
+  namespace = namespace;
+  content = content;
+  room = room;
+  stack = stack;
+  counted_is = is;
+  before = before;
+  no_names = names;
+  no_attributes = attributes;
+  tried = tried;
+}
+
+module _ {E R : Type 0} {ids : E → Ids} {with_ids : E → Ids → E} {vm new : Vm E} {name : Name} {ns : Namespace} {next : ExecutionCtx E} {result : Result (Option RecoveryPoint) R} (t : Trial ids with_ids vm new name ns next result)
+    (s : Selectors) (esi : Bool) (events : List Event) (tag : StartTag) (st : Stands s esi vm events) (named : IsTagOf name ns tag) where
+  open t use {lends, ctx, item, stack, before}
+
+  abbrev m : Machine
+  m = st.machine
+
+  abbrev d : Document
+  d = document s esi events
+
+  abbrev e : Element
+  e = element_of d tag
+
+  abbrev x : Context
+  x = context_of m.program true e (all_places (ranges_of_machine m))
+
   abbrev start : Vm E
   start = record vm { stack = stack; tries = before }
 
@@ -67,98 +131,173 @@ module _ {E R : Type 0} (ids : E → Ids) (with_ids : E → Ids → E) (lends : 
   abbrev opens : Bool
   opens = has_content vm.enable_esi_tags tag
 
+  sizes : length m.items ≡ length d.open_elements
+  sizes = items_length st.paths m.program m.items d.open_elements st.standing.items
+
+  stack_is : stack ≡ counted_in vm.stack (local_name tag.name)
+  stack_is = t.counted_is ∙ ap (counted_in vm.stack) named.0
+
+  keeps : KeepsMachine stack (counted m tag.name)
+  keeps = subst (λ x. KeepsMachine x (counted m tag.name)) (sym stack_is) (counting_stack_keeps vm.stack m d tag.name st.standing.counted sizes st.shows.stack t.room)
+
+  sound : IsSound stack
+  sound = subst (λ (x : StackOf Name StackNames E). IsSound x) (sym stack_is) (counting_keeps_sound vm.stack (local_name tag.name) st.shows.sound)
+
+  seen : sight_in stack name ≡ sight_of m.program.by_type e
+  seen =
+      let places = seen_places stack m d tag st.standing.counted sizes keeps in
+      let typed = ap (λ n. typed_count stack n) named.0 ∙ places.1 in
+      λ i. record { name = (named.0 i).lowercased; position = places.0 i; typed_position = typed i }
+
+  answers : AnswersStart s m e d.open_elements
+  answers = starts_answer s esi st.paths m events tag st.closed st.standing
+
+  abbrev running : Running E
+  running = record { s = s; paths = st.paths; m = counted m tag.name; outer = d.open_elements; closed = st.closed; program = st.standing.program; items = st.standing.items; stack = stack; sound = sound; prog = vm.program; keeps = keeps; is = st.shows.program }
+
+  shown_now : (after : Tries) → Shows (record vm { stack = stack; tries = after }) (counted m tag.name)
+  shown_now after = record { stack = keeps; sound = sound; program = st.shows.program }
+
+  -- once it asks for the rest, it stands for the events with this one dropped
+  abbrev request_stands : (after : Tries) → asks s e d.open_elements ≡ true → Stands s esi (record vm { stack = stack; tries = after }) (events ++ Start (unfinished tag) ∷ [])
+  request_stands after asked = record { paths = st.paths; machine = counted m tag.name; closed = st.closed; shows = shown_now after; standing = requests_stand s esi st.paths m events tag st.standing asked; switch = st.switch; unfailed = st.unfailed }
+
   is_tried : IsTried ids with_ids start new ctx next result tag
-  is_tried = tried (item.name ∙ named.0, named.1 ∙ sym namespace)
+  is_tried = t.tried tag (named_so item t.namespace tag named)
 
   opens_is : opens ≡ has_content esi tag
   opens_is = ap (λ b. has_content b tag) st.switch
 
+  -- outside HTML it is asked for at once
+  pending_at_once : is_html tag.namespace ≡ false → IsPending ids s esi events tag start (left_at ctx AtOnce)
+  pending_at_once foreign =
+      let asked : asks s e d.open_elements ≡ true = ap (λ b. not b || list_any (needs_attributes e d.open_elements) s.nodes) foreign in
+      record {
+        stands = request_stands before asked;
+        asks = asked;
+        context = no_context;
+        left = all_places (ranges_of_machine m);
+        is_request = foreign_tags_ask m.program true e (ranges_of_machine m) foreign;
+        named = named_so item t.namespace tag named;
+        sight = ap (sight_in stack) item.name ∙ seen;
+        childless = item.children;
+        gathered = subst (λ c. Gathers ids ctx.stack_item (content_of c no_context)) (sym t.content) (new_elements_gather ids name ctx.stack_item item);
+        goes_on = (foreign, refl, t.content);
+        stopped = tt;
+        places_left = sym (all_shown running);
+        names = ap (λ n. n + length (all_places (ranges_of_machine m))) t.no_names ∙ omega arith;
+        attributes = t.no_attributes;
+      }
+
   -- one of HTML was tried by its name
-  pub of_html : is_html tag.namespace ≡ true → IsTriedByName ids with_ids start new ctx next result opens
-  of_html html = subst (λ b. IsTriedAs ids with_ids start new ctx next result b opens) html is_tried
+  module _ (html : is_html tag.namespace ≡ true) where
+    by_name : IsTriedByName ids with_ids start new ctx next result opens
+    by_name = subst (λ b. IsTriedAs ids with_ids start new ctx next result b opens) html is_tried
 
-  module _ (html : is_html tag.namespace ≡ true) (found : Option RecoveryPoint) (at : result ≡ Ok found) where
-    abbrev by_name : ExecutionCtx E
-    by_name = record ctx { with_content = opens }
+    can_run : AreRunnable vm.program.instructions.items (ranges_to_run_in vm.program stack) before
+    can_run = runnable running e before t.no_names t.no_attributes by_name.size
 
-    no_tries : attributes_counted new.tries ≡ 0
-    no_tries = (of_html html).attributes ∙ no_attributes
+    abbrev Tried : Name → Option Stop → Type 0
+    Tried own stop = AreTried ids with_ids (sight_in stack own) vm.program.instructions.items (ranges_to_run_in vm.program stack) (record ctx { with_content = opens }) next before new.tries stop
 
-    abbrev WasTried : Option Stop → Type 0
-    WasTried stop = AreTried ids with_ids (sight_in stack name) vm.program.instructions.items (ranges_to_run_in vm.program stack) by_name next before new.tries stop
+    was_tried : (found : Option RecoveryPoint) → result ≡ Ok found → OfStop (Tried name) found
+    was_tried found at = subst (λ own. OfStop (Tried own) found) item.name (subst (λ r. IfOk r (OfStop (Tried ctx.stack_item.local_name))) at (by_name.tried can_run))
 
-    was_tried : OfStop WasTried found
-    was_tried =
-        tried_as ids with_ids lends vm name ns s esi events tag st named stack counted_is room by_name next before new.tries no_names no_attributes (of_html html).size
-        ctx.stack_item.local_name item.name found
-        (λ runnable. subst (λ r. IfOk r (OfStop (λ stop. AreTried ids with_ids (sight_in stack ctx.stack_item.local_name) vm.program.instructions.items (ranges_to_run_in vm.program stack) by_name next before new.tries stop))) at
-        ((of_html html).tried runnable))
+    has_gathered : {stop : Option Stop} → Tried name stop → Gathers ids next.stack_item (content_of next.with_content (started_by_names m.program true e (ranges_of_machine m)).context)
+    has_gathered tried = gathered running ids with_ids lends e name seen tried (new_elements_gather ids name ctx.stack_item item)
 
-  -- it stopped
-  pub stopped_pending : (point : RecoveryPoint) → result ≡ Ok (Some point) → new ≡ ended → IsPending ids s esi events tag new (record { ctx = next; point = point })
-  stopped_pending point at kept = subst (λ (v : Vm E). IsPending ids s esi events tag v (record { ctx = next; point = point })) (sym kept) (by_namespace (is_html tag.namespace) refl is_tried)
-    where
-      by_point : (html : is_html tag.namespace ≡ true) (point : RecoveryPoint) (at : result ≡ Ok (Some point)) → OfStop (WasTried html (Some point) at) (Some point) → IsPending ids s esi events tag ended (record { ctx = next; point = point })
-      by_point html AtOnce at tried = absurd tried
-      by_point html (At stop) at tried =
-          pending_stop ids with_ids lends vm name ns s esi events tag st named stack counted_is room (by_name html (Some (At stop)) at) next before new.tries item opens_is namespace html no_names (no_tries html (Some (At stop)) at) stop tried
+    pending_stop : (stop : Stop) → Tried name (Some stop) → IsPending ids s esi events tag ended (left_at next (At stop))
+    pending_stop stop tried =
+        let open_there = needs running ids with_ids lends e name seen tried in
+        let asked : asks s e d.open_elements ≡ true = sym answers.asked ∙ or-right_true (not (is_html tag.namespace)) _ open_there in
+        let same = stays running ids with_ids lends e name seen tried in
+        record {
+          stands = request_stands new.tries asked;
+          asks = asked;
+          context = (started_by_names m.program true e (ranges_of_machine m)).context;
+          left = (started_by_names m.program true e (ranges_of_machine m)).left;
+          is_request = stops_are_requests s st.paths m.program true e (ranges_of_machine m) st.standing.program open_there;
+          named = (same.name ∙ (item.name ∙ named.0), named.1 ∙ sym (same.namespace ∙ t.namespace));
+          sight = ap (sight_in stack) (same.name ∙ item.name) ∙ seen;
+          childless = same.children ∙ item.children;
+          gathered = has_gathered tried;
+          goes_on = (html, same.content ∙ opens_is);
+          stopped = tried.within;
+          places_left = left_places running ids with_ids lends e name seen tried;
+          names = names_left running ids with_ids lends e name seen tried t.no_names;
+          attributes = by_name.attributes ∙ t.no_attributes;
+        }
 
-      by_namespace : (html : Bool) → is_html tag.namespace ≡ html → IsTriedAs ids with_ids start new ctx next result html opens → IsPending ids s esi events tag ended (record { ctx = next; point = point })
-      by_namespace true html h = by_point html point at (was_tried html (Some point) at)
-      by_namespace false html h =
-          let pending = pending_at_once ids with_ids lends vm name ns s esi events tag st named stack counted_is room html ctx before item namespace content no_names no_attributes in
-          let at_once : AtOnce ≡ point = same_point result point h.0 at in
-          subst (λ p. IsPending ids s esi events tag ended (record { ctx = next; point = p })) at_once
-          (subst (λ (c : ExecutionCtx E). IsPending ids s esi events tag ended (record { ctx = c; point = AtOnce })) (sym h.1)
-          (subst (λ (v : Vm E). IsPending ids s esi events tag (record vm { stack = stack; tries = v.tries }) (record { ctx = ctx; point = AtOnce })) (sym h.2) pending))
-
-  -- it was run to its end
-  module _ (at : result ≡ Ok None) where
-    html_at_end : is_html tag.namespace ≡ true
-    html_at_end = by_namespace (is_html tag.namespace) is_tried
-      where
-        by_namespace : (html : Bool) → IsTriedAs ids with_ids start new ctx next result html opens → html ≡ true
-        by_namespace true h = refl
-        by_namespace false h = absurd (not_at_end result at h.0)
-
-    pub ended_answered : new ≡ ended → {F : Type 0} (step : F → MatchInfo → Unit {0} → F → Type 0) (f g : F) (last : Vm E)
-        → IsCalledAtEach step f (reports next.with_content (ascending (ids next.stack_item.element_data))) g
-        → IsEntered next.with_content next.stack_item new last → IsAnswered ids step s esi events tag false vm last f g
-    ended_answered kept step f g last called entered =
-        let html = html_at_end in
-        answered ids with_ids lends vm name ns s esi events tag st named stack counted_is room (by_name html None at) next before new.tries item opens_is namespace html no_names (no_tries html None at) (was_tried html None at)
-        step f g last called (subst (λ (v : Vm E). IsEntered next.with_content next.stack_item v last) kept entered)
-
-    pub ended_reported : {F : Type 0} (step : F → MatchInfo → Unit {0} → F → Type 0) (f g : F)
-        → IsCalledAtEach step f (reports next.with_content (ascending (ids next.stack_item.element_data))) g
-        → IsReported step s esi events tag false new.tries f g
-    ended_reported step f g called =
-        let html = html_at_end in
-        has_reported ids with_ids lends vm name ns s esi events tag st named stack counted_is room (by_name html None at) next before new.tries item opens_is namespace html no_names (no_tries html None at) (was_tried html None at)
-        step f g called
-
-    pub ended_content : next.with_content ≡ has_content esi tag
-    ended_content =
-        let html = html_at_end in
-        has_content_still ids with_ids lends vm name ns s esi events tag st named stack counted_is room (by_name html None at) next before new.tries item opens_is namespace html no_names (no_tries html None at) (was_tried html None at)
+    -- it was run to its end
+    complete_now : Tried name None → IsComplete ids s esi events tag false next x new.tries
+    complete_now tried =
+        let same = stays running ids with_ids lends e name seen tried in
+        let closed_all = no_need running ids with_ids lends e name seen tried in
+        let content = same.content ∙ opens_is in
+        let all : Gathers ids next.stack_item (content_of (has_content esi tag) x) =
+        subst (Gathers ids next.stack_item) (λ i. content_of (content i) (gathered_all running ids with_ids lends e name seen tried i)) (has_gathered tried) in
+        record {
+          asks = sym answers.asked ∙ (λ i. not (html i) || closed_all i);
+          kept = refl;
+          content = content;
+          matched = gathered_ids_ascend ids next.stack_item (content_of (has_content esi tag) x) all ∙ (ap ascending_once (content_ids (has_content esi tag) x) ∙ answers.matched);
+          item = record { named = same.name ∙ (item.name ∙ named.0); jumps = all.jumps; hereditary_jumps = all.hereditary_jumps; children = same.children ∙ item.children };
+          names = names_all running ids with_ids lends e name seen tried t.no_names;
+          attributes = (by_name.attributes ∙ t.no_attributes) ∙ no_attributes running ids with_ids lends e name seen tried;
+        }
 
   -- no more nodes were tried than the definition tries, refused or not
-  pub most_tried : (last : Tries) → last ≡ new.tries → IsTriedAtMost s esi events tag last
-  most_tried last same = by_namespace (is_html tag.namespace) is_tried
+  pub most_tried : IsTriedAtMost s esi events tag new.tries
+  most_tried = by_namespace (is_html tag.namespace) refl is_tried
     where
-      by_namespace : (html : Bool) → IsTriedAs ids with_ids start new ctx next result html opens → IsTriedAtMost s esi events tag last
-      by_namespace true t =
-          tried_at_most ids with_ids lends vm name ns s esi events tag st named stack counted_is room before new.tries last no_names no_attributes t.attributes same t.size
-          ctx.stack_item.local_name item.name t.within
-      by_namespace false h = none_tried s esi events tag before last (same ∙ ap (λ (v : Vm E). v.tries) h.2) no_names no_attributes
+      by_namespace : (b : Bool) → is_html tag.namespace ≡ b → IsTriedAs ids with_ids start new ctx next result b opens → IsTriedAtMost s esi events tag new.tries
+      by_namespace true html h =
+          let most = h.within (can_run html) in
+          record { names = omega (arith, most.names, t.no_names, run_count running e); attributes = omega (arith, h.attributes, t.no_attributes) }
+      by_namespace false html h = none_tried s esi events tag before new.tries (ap (λ (v : Vm E). v.tries) h.2) t.no_names t.no_attributes
 
   -- where it needs no memory it isn't refused
   pub never_refused : NeedNoMemory (has_content esi tag) vm.program.instructions.items → IsOk result
   never_refused free = by_namespace (is_html tag.namespace) is_tried
     where
-      by_namespace : (html : Bool) → IsTriedAs ids with_ids start new ctx next result html opens → IsOk result
-      by_namespace true t = t.free (subst (λ b. NeedNoMemory b vm.program.instructions.items) (sym opens_is) free)
-      by_namespace false t = subst (λ r. IsOk r) (sym t.0) refl
+      by_namespace : (b : Bool) → IsTriedAs ids with_ids start new ctx next result b opens → IsOk result
+      by_namespace true h = h.free (subst (λ b. NeedNoMemory b vm.program.instructions.items) (sym opens_is) free)
+      by_namespace false h = subst (λ r. IsOk r) (sym h.0) refl
+
+  module _ (new_is : new ≡ ended) where
+    -- it stopped
+    pub pending : (point : RecoveryPoint) → result ≡ Ok (Some point) → IsPending ids s esi events tag new (left_at next point)
+    pending point at = subst (λ (v : Vm E). IsPending ids s esi events tag v (left_at next point)) (sym new_is) (by_namespace (is_html tag.namespace) refl is_tried)
+      where
+        by_point : (html : is_html tag.namespace ≡ true) (point : RecoveryPoint) → OfStop (Tried html name) (Some point) → IsPending ids s esi events tag ended (left_at next point)
+        by_point html AtOnce tried = absurd tried
+        by_point html (At stop) tried = pending_stop html stop tried
+
+        by_namespace : (b : Bool) → is_html tag.namespace ≡ b → IsTriedAs ids with_ids start new ctx next result b opens → IsPending ids s esi events tag ended (left_at next point)
+        by_namespace true html h = by_point html point (was_tried html (Some point) at)
+        by_namespace false html h =
+            subst (λ p. IsPending ids s esi events tag ended (left_at next p)) (same_point result point h.0 at)
+            (subst (λ (c : ExecutionCtx E). IsPending ids s esi events tag ended (left_at c AtOnce)) (sym h.1)
+            (subst (λ (v : Vm E). IsPending ids s esi events tag (record vm { stack = stack; tries = v.tries }) (left_at ctx AtOnce)) (sym h.2) (pending_at_once html)))
+
+    -- it was run to its end
+    module _ (at : result ≡ Ok None) where
+      pub complete : IsComplete ids s esi events tag false next x new.tries
+      complete = by_namespace (is_html tag.namespace) refl is_tried
+        where
+          by_namespace : (b : Bool) → is_html tag.namespace ≡ b → IsTriedAs ids with_ids start new ctx next result b opens → IsComplete ids s esi events tag false next x new.tries
+          by_namespace true html h = complete_now html (was_tried html None at)
+          by_namespace false html h = absurd (not_at_end result at h.0)
+
+      pub answered_now : {F : Type 0} (step : F → MatchInfo → Unit {0} → F → Type 0) (f g : F) (last : Vm E)
+          → IsCalledAtEach step f (reports next.with_content (ascending (ids next.stack_item.element_data))) g
+          → IsEntered next.with_content next.stack_item new last → IsAnswered ids step s esi events tag false vm last f g
+      answered_now step f g last called entered =
+          let opened : (has_content esi tag && not (is_dropped s e d.open_elements)) ≡ has_content esi tag =
+          (λ i. has_content esi tag && not (complete.asks i && not tag.finish)) ∙ and-true (has_content esi tag) in
+          answered complete called vm stack st.paths (counted m tag.name) (shown_now new.tries) (ap (λ (x : StackOf Name StackNames E). element_data_of (items_in x)) t.counted_is ∙ counted_data vm.stack name) st.closed
+          (subst (λ b. StandsFor s esi st.paths (started m b e) (events ++ Start tag ∷ [])) opened (standing_is_kept s esi st.paths m events (Start tag) st.closed st.standing))
+          st.switch st.unfailed last (subst (λ (v : Vm E). IsEntered next.with_content next.stack_item v last) new_is entered)
 
 -- 3. What comes of a start tag that was begun
 
@@ -166,63 +305,48 @@ pub new_context : {E : Type 0} (ids : E → Ids) (name : Name) (ctx : ExecutionC
 new_context ids name ctx item content =
     (record { name = refl; ids = item.ids; jumps = item.jumps; hereditary_jumps = item.hereditary_jumps; children = item.children; directive = item.directive }, content)
 
--- It is one of this name and namespace.
 pub record Began {E : Type 0} (ids : E → Ids) (with_ids : E → Ids → E) (vm new : Vm E) (name : Name) (ns : Namespace) (next : ExecutionCtx E) (stopped : Option RecoveryPoint) : Type 0 where
-  pub lends : (w : E) (more : Ids) → ids (with_ids w more) ≡ more
-  pub ctx : ExecutionCtx E
-  pub item : IsNewItem ids name ctx.stack_item
-  pub namespace : ctx.ns ≡ ns
-  pub content : ctx.with_content ≡ true
-  pub begun : IsBegun ids with_ids vm new ctx next stopped
+  pub trial : Trial {R = AllocError} ids with_ids vm new name ns next (Ok stopped)
+  pub kept : new ≡ record vm { stack = trial.stack; tries = new.tries }
 
 pub began : {E : Type 0} {ids : E → Ids} {with_ids : E → Ids → E} {vm new : Vm E} {name : Name} {ns : Namespace} {ctx next : ExecutionCtx E} {stopped : Option RecoveryPoint} → ((w : E) (more : Ids) → ids (with_ids w more) ≡ more)
     → IsNewItem ids name ctx.stack_item → ctx.ns ≡ ns → ctx.with_content ≡ true → IsBegun ids with_ids vm new ctx next stopped → Began ids with_ids vm new name ns next stopped
-began {ctx = ctx} lends item namespace content begun = record { lends = lends; ctx = ctx; item = item; namespace = namespace; content = content; begun = begun }
+began {vm = vm} {ctx = ctx} lends item namespace content b = record {
+  trial = trial_of lends ctx item namespace content b.room b.stack (b.counted ∙ ap (counted_in vm.stack) item.name) b.before b.names b.attributes b.tried;
+  kept = b.kept;
+}
 
 module _ {E : Type 0} {ids : E → Ids} {with_ids : E → Ids → E} {vm new : Vm E} {name : Name} {ns : Namespace} {next : ExecutionCtx E} {stopped : Option RecoveryPoint} (b : Began ids with_ids vm new name ns next stopped) where
-  counted_is : b.begun.stack ≡ counted_in vm.stack name
-  counted_is = b.begun.counted ∙ ap (counted_in vm.stack) b.item.name
-
   -- counting a child changes nothing of what can be charged
+  stack_now : new.stack ≡ counted_in vm.stack name
+  stack_now = ap (λ (v : Vm E). v.stack) b.kept ∙ b.trial.counted_is
+
   pub begun_due : (l : Limiter) → IsDue vm l → IsDue new l
-  begun_due l due = subst (λ (x : StackOf Name StackNames E). IsLimited (list_in x) l) (sym (ap (λ (v : Vm E). v.stack) b.begun.kept ∙ counted_is)) (limited_counted vm.stack name l due)
+  begun_due l due = subst (λ (x : StackOf Name StackNames E). IsLimited (list_in x) l) (sym stack_now) (limited_counted vm.stack name l due)
 
   pub begun_was_due : (l : Limiter) → IsDue new l → IsDue vm l
-  begun_was_due l due = was_limited vm.stack name l (subst (λ (x : StackOf Name StackNames E). IsLimited (list_in x) l) (ap (λ (v : Vm E). v.stack) b.begun.kept ∙ counted_is) due)
+  begun_was_due l due = was_limited vm.stack name l (subst (λ (x : StackOf Name StackNames E). IsLimited (list_in x) l) stack_now due)
 
   module _ (s : Selectors) (esi : Bool) (events : List Event) (tag : StartTag) (st : Stands s esi vm events) (named : IsTagOf name ns tag) where
     -- a machine that was refused answers no more
     pub begun_unfailed : new.failed ≡ false
-    begun_unfailed = ap (λ (v : Vm E). v.failed) b.begun.kept ∙ st.unfailed
+    begun_unfailed = ap (λ (v : Vm E). v.failed) b.kept ∙ st.unfailed
 
     pub begun_pending : (point : RecoveryPoint) → stopped ≡ Some point → IsPending ids s esi events tag new (left_at next point)
-    begun_pending point at =
-        stopped_pending ids with_ids b.lends vm name ns s esi events tag st named b.begun.stack counted_is b.begun.room b.ctx next b.begun.before new (Ok stopped) b.item b.namespace b.content b.begun.names b.begun.attributes (b.begun.tried tag)
-        point (ap Ok at) b.begun.kept
+    begun_pending point at = pending b.trial s esi events tag st named b.kept point (ap Ok at)
 
-    module _ (at : stopped ≡ None) where
-      pub begun_answered : {F : Type 0} (step : F → MatchInfo → Unit {0} → F → Type 0) (f g : F) (last : Vm E)
-          → IsCalledAtEach step f (reports next.with_content (ascending (ids next.stack_item.element_data))) g
-          → IsEntered next.with_content next.stack_item new last → IsAnswered ids step s esi events tag false vm last f g
-      begun_answered step f g last called entered =
-          ended_answered ids with_ids b.lends vm name ns s esi events tag st named b.begun.stack counted_is b.begun.room b.ctx next b.begun.before new (Ok stopped) b.item b.namespace b.content b.begun.names b.begun.attributes (b.begun.tried tag)
-          (ap Ok at) b.begun.kept step f g last called entered
+    pub begun_complete : stopped ≡ None → IsComplete ids s esi events tag false next (context_of st.machine.program true (element_of (document s esi events) tag) (all_places (ranges_of_machine st.machine))) new.tries
+    begun_complete at = complete b.trial s esi events tag st named b.kept (ap Ok at)
 
-      pub begun_reported : {F : Type 0} (step : F → MatchInfo → Unit {0} → F → Type 0) (f g : F)
-          → IsCalledAtEach step f (reports next.with_content (ascending (ids next.stack_item.element_data))) g
-          → IsReported step s esi events tag false new.tries f g
-      begun_reported step f g called =
-          ended_reported ids with_ids b.lends vm name ns s esi events tag st named b.begun.stack counted_is b.begun.room b.ctx next b.begun.before new (Ok stopped) b.item b.namespace b.content b.begun.names b.begun.attributes (b.begun.tried tag)
-          (ap Ok at) step f g called
-
-      pub begun_content : next.with_content ≡ has_content esi tag
-      begun_content =
-          ended_content ids with_ids b.lends vm name ns s esi events tag st named b.begun.stack counted_is b.begun.room b.ctx next b.begun.before new (Ok stopped) b.item b.namespace b.content b.begun.names b.begun.attributes (b.begun.tried tag) (ap Ok at)
+    pub begun_answered : stopped ≡ None → {F : Type 0} (step : F → MatchInfo → Unit {0} → F → Type 0) (f g : F) (last : Vm E)
+        → IsCalledAtEach step f (reports next.with_content (ascending (ids next.stack_item.element_data))) g
+        → IsEntered next.with_content next.stack_item new last → IsAnswered ids step s esi events tag false vm last f g
+    begun_answered at = answered_now b.trial s esi events tag st named b.kept (ap Ok at)
 
 -- a report of a start tag whose attributes are asked for, or not
-pub reported_if : {F : Type 0} {step : F → MatchInfo → Unit {0} → F → Type 0} (s : Selectors) (esi : Bool) (events : List Event) (tag : StartTag) (asked : Bool) (tries : Tries) (f g : F)
-    → is_asked_for s esi events tag ≡ asked → IsReported step s esi events tag asked tries f g → IsReported step s esi events tag (is_asked_for s esi events tag) tries f g
-reported_if {step = step} s esi events tag asked tries f g asks h = subst (λ a. IsReported step s esi events tag a tries f g) (sym asks) h
+pub reported_if : {F : Type 0} {step : F → MatchInfo → Unit {0} → F → Type 0} {s : Selectors} {esi : Bool} {events : List Event} {tag : StartTag} {asked : Bool} {tries : Tries} {f g : F}
+    → IsReported step s esi events tag asked tries f g → IsReported step s esi events tag (is_asked_for s esi events tag) tries f g
+reported_if {step = step} {s} {esi} {events} {tag} {tries = tries} {f} {g} h = subst (λ a. IsReported step s esi events tag a tries f g) (sym h.asks) h
 
 pub whole_since : {P Q R : Type 0} → P ⊎ Q → (Q → R) → P ⊎ R
 whole_since (inl p) f = inl p

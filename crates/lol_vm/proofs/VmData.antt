@@ -1,8 +1,8 @@
 -- Machines with other data of their last element.
-use Rattle.std.proofs.Common.{◌≡◌, ℕ, suc, zero, ◌-◌, List, [], ◌∷◌, ◌++◌, length, map, Option, Some, None, refl, sym, ap, subst, ◌∙◌, arith}
+use Rattle.std.proofs.Common.{◌≡◌, ℕ, suc, zero, ◌-◌, List, [], ◌∷◌, ◌++◌, length, map, Option, Some, None, refl, sym, ap, subst, ◌∙◌}
 use Rattle.std.specs.Prelude.{reverse, slice_get, slice_set}
 use Rattle.std.specs.Option.{option_map}
-use Rattle.std.proofs.lemmas.List.{length-append, length-map}
+use Rattle.std.proofs.lemmas.List.{length-map}
 use Rattle.lol_base.specs.LocalNames.{Name}
 use Rattle.lol_memory.specs.Slots.{slots}
 use Rattle.lol_vm.specs.Machines.{ranges_of_active}
@@ -22,11 +22,10 @@ use Rattle.lol_vm.specs.Vms.{Vm, Shows, instructions_in, data_in}
 use Rattle.lol_stack.specs.declared.stack_item.StackItemOf.{StackItemOf}
 use Rattle.lol_stack.specs.declared.stack.StackOf.{StackOf}
 use Rattle.lol_stack.specs.declared.stack.StackNames.{StackNames}
+use Rattle.lol_base.specs.PlaceLaws.{some_is}
+use Rattle.lol_vm.proofs.StackCounting.{last_at, last_place, last_set}
 
 module _ {E : Type 0} (w : E) where
-  same_item : (x : StackItemOf Name E) (xs : List (StackItemOf Name E)) (k : ℕ) (item : StackItemOf Name E) → slice_get (x ∷ xs) zero ≡ Some item → x ≡ item
-  same_item x xs k item at = cc
-
   module _ (s : StackOf Name StackNames E) where
     abbrev changed : Option (StackItemOf Name E) → List (StackItemOf Name E)
     changed o = with_data_if (items_in s) (length (items_in s) - 1) w o
@@ -56,7 +55,7 @@ module _ {E : Type 0} (w : E) where
   get_set : {B : Type 0} (f : Option (StackItemOf Name E) → B) → ((item : StackItemOf Name E) → f (Some (with_data item w)) ≡ f (Some item))
       → (xs : List (StackItemOf Name E)) (k j : ℕ) (item : StackItemOf Name E) → slice_get xs k ≡ Some item → f (slice_get (slice_set xs k (with_data item w)) j) ≡ f (slice_get xs j)
   get_set f same [] k j item at = refl
-  get_set f same (x ∷ xs) zero zero item at = same item ∙ ap (λ y. f (Some y)) (sym (same_item x xs zero item at))
+  get_set f same (x ∷ xs) zero zero item at = same item ∙ ap (λ y. f (Some y)) (sym (some_is at))
   get_set f same (x ∷ xs) zero (suc j) item at = refl
   get_set f same (x ∷ xs) (suc k) zero item at = refl
   get_set f same (x ∷ xs) (suc k) (suc j) item at = get_set f same xs k j item at
@@ -143,38 +142,9 @@ module _ {E : Type 0} where
   abbrev data_of : List (StackItemOf Name E) → List E
   data_of items = map (λ item. item.element_data) items
 
-  tails : (x o : E) (xs os : List E) → x ∷ xs ≡ o ∷ os → xs ≡ os
-  tails x o xs os is = cc
-
-  heads : (x o : E) (xs os : List E) → x ∷ xs ≡ o ∷ os → x ≡ o
-  heads x o xs os is = cc
-
-  last_is : (items : List (StackItemOf Name E)) (outer : List E) (last : E) → data_of items ≡ outer ++ last ∷ [] → option_map (λ (item : StackItemOf Name E). item.element_data) (slice_get items (length items - 1)) ≡ Some last
-  last_is [] [] last is = cc
-  last_is [] (o ∷ outer) last is = cc
-  last_is (x ∷ []) [] last is = ap Some (heads x.element_data last [] [] is)
-  last_is (x ∷ []) (o ∷ outer) last is = let sizes = ap length is in absurd (omega (arith, sizes, length-append outer (last ∷ [])))
-  last_is (x ∷ y ∷ items) [] last is = let sizes = ap length is in absurd (omega (arith, sizes, length-map items (λ (item : StackItemOf Name E). item.element_data)))
-  last_is (x ∷ y ∷ items) (o ∷ outer) last is =
-      let place : length (x ∷ y ∷ items) - 1 ≡ suc (length (y ∷ items) - 1) = omega arith in
-      ap (λ k. option_map (λ (item : StackItemOf Name E). item.element_data) (slice_get (x ∷ y ∷ items) k)) place
-      ∙ last_is (y ∷ items) outer last (tails x.element_data o (data_of (y ∷ items)) (outer ++ last ∷ []) is)
-
   set_at : (x : StackItemOf Name E) (items : List (StackItemOf Name E)) (k : ℕ) (w : E) (o : Option (StackItemOf Name E)) → with_data_if (x ∷ items) (suc k) w o ≡ x ∷ with_data_if items k w o
   set_at x items k w None = refl
   set_at x items k w (Some item) = refl
-
-  last_set : (items : List (StackItemOf Name E)) (outer : List E) (last w : E) → data_of items ≡ outer ++ last ∷ [] → data_of (with_data_at items (length items - 1) w) ≡ outer ++ w ∷ []
-  last_set [] [] last w is = cc
-  last_set [] (o ∷ outer) last w is = cc
-  last_set (x ∷ []) [] last w is = refl
-  last_set (x ∷ []) (o ∷ outer) last w is = let sizes = ap length is in absurd (omega (arith, sizes, length-append outer (last ∷ [])))
-  last_set (x ∷ y ∷ items) [] last w is = let sizes = ap length is in absurd (omega (arith, sizes, length-map items (λ (item : StackItemOf Name E). item.element_data)))
-  last_set (x ∷ y ∷ items) (o ∷ outer) last w is =
-      let place : length (x ∷ y ∷ items) - 1 ≡ suc (length (y ∷ items) - 1) = omega arith in
-      ap (λ k. data_of (with_data_at (x ∷ y ∷ items) k w)) place
-      ∙ (ap data_of (set_at x (y ∷ items) (length (y ∷ items) - 1) w (slice_get (y ∷ items) (length (y ∷ items) - 1)))
-      ∙ (λ i. heads x.element_data o (data_of (y ∷ items)) (outer ++ last ∷ []) is i ∷ last_set (y ∷ items) outer last w (tails x.element_data o (data_of (y ∷ items)) (outer ++ last ∷ []) is) i))
 
   data_at : (items : List (StackItemOf Name E)) (k : ℕ) → option_map (λ (item : StackItemOf Name E). item.element_data) (slice_get items k) ≡ slice_get (data_of items) k
   data_at [] k = refl
@@ -196,7 +166,9 @@ module _ {E : Type 0} where
   last_data_change vm w = data_set (items_in vm.stack) _ w ∙ ap (λ n. slice_set (data_in vm) (n - 1) w) (as_many (items_in vm.stack))
 
   pub data_with : (vm : Vm E) (outer : List E) (last w : E) → data_in vm ≡ outer ++ last ∷ [] → data_in (with_current_in vm w) ≡ outer ++ w ∷ []
-  data_with vm outer last w is = last_set (items_in vm.stack) outer last w is
+  data_with vm outer last w is =
+      last_data_change vm w ∙ (ap (λ ds. slice_set ds (length ds - 1) w) is ∙ (ap (λ k. slice_set (outer ++ last ∷ []) k w) (last_place outer last) ∙ last_set outer last w))
 
   pub last_data : (vm : Vm E) (outer : List E) (last : E) → data_in vm ≡ outer ++ last ∷ [] → option_map (λ (item : StackItemOf Name E). item.element_data) (slice_get (items_in vm.stack) (length (items_in vm.stack) - 1)) ≡ Some last
-  last_data vm outer last is = last_is (items_in vm.stack) outer last is
+  last_data vm outer last is =
+      last_data_are_lent vm ∙ (ap (λ ds. slice_get ds (length ds - 1)) is ∙ (ap (slice_get (outer ++ last ∷ [])) (last_place outer last) ∙ last_at outer last))

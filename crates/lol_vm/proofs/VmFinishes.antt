@@ -1,11 +1,10 @@
 -- Requests that are finished, and what the machine of the code answers to them.
 use Rattle.std.proofs.Common.{◌≡◌, ℕ, suc, zero, ◌+◌, ◌<◌, ◌≤◌, ◌^◌, Bool, true, false, not, List, [], ◌∷◌, ◌++◌, length, drop, get_or, All, refl, sym, ap, ◌∙◌, subst, arith}
-use Rattle.std.specs.Prelude.{◌&&◌, ◌||◌, if◌then◌else◌, count_by}
+use Rattle.std.specs.Prelude.{◌||◌, count_by}
 use Rattle.std.proofs.lemmas.List.{length-append}
-use Rattle.std.proofs.lemmas.List.Concat.{length-flat_map}
 use Rattle.std.proofs.lemmas.List.Elements.{All-drop}
 use Rattle.std.specs.declared.ops.Range.{Range}
-use Rattle.lol_base.specs.MemberLaws.{map-map, contains_from_among}
+use Rattle.lol_base.specs.MemberLaws.{contains_from_among}
 use Rattle.lol_base.specs.StartTags.{StartTag}
 use Rattle.lol_base.specs.declared.namespace.Namespace.{Namespace}
 use Rattle.lol_base.specs.declared.namespace.Namespace.TheVariants.{Html, Svg, MathML}
@@ -13,41 +12,38 @@ use Rattle.lol_memory.specs.Ids.{Ids, ascending}
 use Rattle.lol_memory.specs.declared.match_info.MatchInfo.{MatchInfo}
 use Rattle.lol_instructions.specs.Attributes.{tag_attributes}
 use Rattle.lol_program.specs.Paths.{Selectors}
-use Rattle.lol_program.specs.Programs.{places, all_places}
+use Rattle.lol_program.specs.Programs.{all_places}
 use Rattle.lol_instructions.specs.Tests.{Element, is_html}
-use Rattle.lol_instructions.specs.Tries.{names_counted, attributes_counted}
 use Rattle.lol_instructions.specs.declared.instruction.Instruction.{Instruction}
 use Rattle.lol_instructions.specs.declared.tries.Tries.{Tries}
-use Rattle.lol_vm.specs.Answers.{Match, Started, Dropped, answer, document, ascending_once, matching_ids, name_tries, attribute_tries, report}
+use Rattle.lol_vm.specs.Answers.{document, ascending_once, attribute_tries}
 use Rattle.lol_stack.specs.Calls.{IsCalledAtEach, reports}
 use Rattle.lol_vm.specs.Documents.{Document, element_of}
 use Rattle.lol_vm.specs.Events.{Event, Start, has_content, has_content_in}
 use Rattle.lol_vm.specs.Gathering.{Gathers}
 use Rattle.lol_vm.specs.InstructionRuns.{gathered_with_attributes, AreRunnable, IsInsideOf, all_at, open_among}
 use Rattle.lol_stack.specs.WithRange.{no_range}
-use Rattle.lol_vm.specs.InstructionLaws.{AreRangesOf}
-use Rattle.lol_vm.specs.MachineLaws.{GivesReport, TriesAreExact, starts_open}
-use Rattle.lol_vm.specs.Machines.{AreItems, HoldOnce, LeftMatches}
+use Rattle.lol_vm.specs.MachineLaws.{starts_open}
+use Rattle.lol_vm.specs.Machines.{AreItems}
 use Rattle.lol_vm.specs.PlaceRuns.{Context, no_context, context_of, is_open_at, run}
-use Rattle.lol_vm.specs.StackMachines.{IsItemOf}
-use Rattle.lol_vm.specs.Standing.{Machine, StandsFor, ranges_of_machine}
+use Rattle.lol_vm.specs.Standing.{Machine, StandsFor, ranges_of_machine, finished}
 use Rattle.lol_vm.specs.TagRuns.{AreExecuted, AreWithin, IsPointIn, ranges_left, ranges_to_run_in, sight_in, tried_at}
 use Rattle.lol_vm.specs.VmLaws.{RequestsTryAtMost}
-use Rattle.lol_vm.specs.Vms.{Vm, Shows, IsAnswered, IsReported, IsTriedAtMost, IsEntered, IsPending, GoesOnAt, content_at, content_of, info_of, data_in}
+use Rattle.lol_vm.specs.Vms.{Vm, IsAnswered, IsTriedAtMost, IsEntered, IsPending, GoesOnAt, content_at, content_of}
 use Rattle.lol_vm.specs.declared.error.AuxStartTagInfoRequest.{AuxStartTagInfoRequest}
 use Rattle.lol_stack.specs.declared.execution_ctx.ExecutionCtx.{ExecutionCtx}
 use Rattle.lol_vm.specs.declared.tag_runs.RecoveryPoint.{RecoveryPoint}
 use Rattle.lol_vm.specs.declared.tag_runs.RecoveryPoint.TheVariants.{AtOnce, At}
 use Rattle.lol_vm.proofs.Answered.{in_order}
-use Rattle.lol_vm.proofs.Counted.{places_count_tries}
+use Rattle.lol_vm.proofs.Counted.{places_count_tries, TriesAreExact}
 use Rattle.lol_vm.proofs.Gathered.{runs_give_reports}
 use Rattle.lol_vm.proofs.GatheringLemmas.{gathered_ids_ascend}
 use Rattle.lol_vm.proofs.InstructionLists.{offset_inside}
-use Rattle.lol_vm.proofs.InstructionPlaces.{instructions_are_as_open, instructions_gather}
+use Rattle.lol_vm.proofs.InstructionPlaces.{AreRangesOf, attributes_gather, instructions_are_as_open}
 use Rattle.lol_vm.proofs.Kept.{after_unfinished, finishing_is_kept}
-use Rattle.lol_vm.proofs.Starts.{StaysThe, held, are_ranges, within_bounds, attributes_stay, run_content, content_ids}
+use Rattle.lol_vm.proofs.Starts.{Running, StaysThe, held, are_ranges, within_bounds, attributes_stay, run_content, content_ids}
 use Rattle.lol_vm.proofs.Stops.{left_counted, requests_finish}
-use Rattle.lol_vm.proofs.VmStarts.{opened_if, entered_stands, map-id, opened_as}
+use Rattle.lol_vm.proofs.VmStarts.{IsComplete, answered}
 
 -- 1. Content
 
@@ -98,43 +94,35 @@ module _ {E : Type 0} (ids : E → Ids) (vm : Vm E) (s : Selectors) (esi : Bool)
   items : AreItems pending.stands.paths m.program m.items d.open_elements
   items = subst (λ (x : Document). AreItems pending.stands.paths m.program m.items x.open_elements) (after_unfinished s esi events tag pending.asks) pending.stands.standing.items
 
-  are : AreRangesOf m.program m.program.by_type all (ranges_to_run_in vm.program vm.stack)
-  are = are_ranges s pending.stands.paths m d.open_elements pending.stands.closed pending.stands.standing.program items vm.stack pending.stands.shows.sound vm.program pending.stands.shows.stack pending.stands.shows.program
+  abbrev running : Running E
+  running = record { s = s; paths = pending.stands.paths; m = m; outer = d.open_elements; closed = pending.stands.closed; program = pending.stands.standing.program; items = items; stack = vm.stack; sound = pending.stands.shows.sound; prog = vm.program; keeps = pending.stands.shows.stack; is = pending.stands.shows.program }
 
   are_left : AreRangesOf m.program m.program.by_type all left_code
   are_left = record {
-    same_code = are.same_code;
-    inside = left_inside all (ranges_to_run_in vm.program vm.stack) are.inside request.point pending.stopped;
+    same_code = (are_ranges running).same_code;
+    inside = left_inside all (ranges_to_run_in vm.program vm.stack) (are_ranges running).inside request.point pending.stopped;
   }
+
+  tries_all : TriesAreExact s m.program rs e d.open_elements
+  tries_all = places_count_tries s pending.stands.paths m.program rs e d.open_elements pending.stands.closed pending.stands.standing.program (held running)
 
   left_count : length (all_at all left_code) ≡ length pending.left
   left_count = (instructions_are_as_open m.program m.program.by_type e all left_code are_left).count ∙ ap length (sym pending.places_left)
 
-  all_count : length (all_places rs) ≡ name_tries s.nodes d.open_elements
-  all_count =
-      length-flat_map places rs
-      ∙ (places_count_tries s pending.stands.paths m.program rs e d.open_elements pending.stands.closed pending.stands.standing.program
-      (held s pending.stands.paths m d.open_elements pending.stands.closed pending.stands.standing.program items vm.stack pending.stands.shows.sound vm.program pending.stands.shows.stack pending.stands.shows.program)).names
-
   pub can_finish : length all < 2 ^ 63 → AreRunnable all left_code vm.tries
   can_finish size =
-      let bounds = within_bounds s pending.stands.paths m d.open_elements pending.stands.closed pending.stands.standing.program items vm.stack pending.stands.shows.sound vm.program pending.stands.shows.stack pending.stands.shows.program e in
+      let bounds = within_bounds running e in
       let names = pending.names in
       let tried = at_most_one request.point in
       let parts = ap length pending.is_request.parts ∙ length-append pending.is_request.before pending.left in
       record {
         inside = are_left.inside;
-        room = (omega (arith, names, tried, left_count, all_count, bounds, size), omega (arith, pending.attributes, left_count, parts, all_count, bounds, size));
+        room = (omega (arith, names, tried, left_count, tries_all.names, bounds, size), omega (arith, pending.attributes, left_count, parts, tries_all.names, bounds, size));
       }
     where
       at_most_one : (point : RecoveryPoint) → tried_at point ≤ 1
       at_most_one AtOnce = omega arith
       at_most_one (At stop) = omega arith
-
-  tries_all : TriesAreExact s m.program rs e d.open_elements
-  tries_all =
-      places_count_tries s pending.stands.paths m.program rs e d.open_elements pending.stands.closed pending.stands.standing.program
-      (held s pending.stands.paths m d.open_elements pending.stands.closed pending.stands.standing.program items vm.stack pending.stands.shows.sound vm.program pending.stands.shows.stack pending.stands.shows.program)
 
   -- as many are open among those that are left as the definition tries by attributes
   opens_left : open_among (sight_in vm.stack request.ctx.stack_item.local_name) (all_at all left_code) ≡ attribute_tries s.nodes e d.open_elements
@@ -150,7 +138,7 @@ module _ {E : Type 0} (ids : E → Ids) (vm : Vm E) (s : Selectors) (esi : Bool)
   open_tried =
       let names = pending.names in
       let before = ap length pending.is_request.parts ∙ length-append pending.is_request.before pending.left in
-      record { names = omega (arith, names, all_count, before, one_left request.point pending.goes_on); attributes = omega (arith, pending.attributes) }
+      record { names = omega (arith, names, tries_all.names, before, one_left request.point pending.goes_on); attributes = omega (arith, pending.attributes) }
     where
       some_left : (left : List ℕ) → starts_open m.program e left ≡ true → 1 ≤ length left
       some_left [] h = cc
@@ -165,7 +153,7 @@ module _ {E : Type 0} (ids : E → Ids) (vm : Vm E) (s : Selectors) (esi : Bool)
       one_left (At stop) h = some_left pending.left (starts (is_html tag.namespace) (starts_open m.program e pending.left) h.0 pending.is_request.asks)
 
   pub tried_at_most : (after : Tries) → AreWithin (sight_in vm.stack request.ctx.stack_item.local_name) all left_code vm.tries after (tried_at request.point) → IsTriedAtMost s esi events tag after
-  tried_at_most after within = record { names = omega (arith, within.names, pending.names, left_count, all_count); attributes = omega (arith, within.attributes, pending.attributes, opens_left) }
+  tried_at_most after within = record { names = omega (arith, within.names, pending.names, left_count, tries_all.names); attributes = omega (arith, within.attributes, pending.attributes, opens_left) }
 
   content_now : (self_closing : Bool) → self_closing ≡ tag.self_closing → content_at request.point request.ctx.with_content self_closing ≡ has_content esi tag
   content_now self_closing is = by_point request.point (pending.goes_on)
@@ -196,86 +184,45 @@ module _ {E : Type 0} (ids : E → Ids) (vm : Vm E) (s : Selectors) (esi : Bool)
     abbrev Executed : Type 0
     Executed = AreExecuted ids with_ids (sight_in vm.stack request.ctx.stack_item.local_name) all left_code ctx new_ctx vm.tries after (tag_attributes tag) (tried_at request.point)
 
+    abbrev x : Context
+    x = context_of m.program true e (all_places rs)
+
     module _ (executed : Executed) where
-      same : StaysThe ctx new_ctx
-      same = subst (StaysThe ctx) (sym executed.gathered) (attributes_stay ids with_ids (sight_in vm.stack request.ctx.stack_item.local_name) (tag_attributes tag) ctx (all_at all left_code))
-
-      pub has_content_still : new_ctx.with_content ≡ has_content esi tag
-      has_content_still = same.content ∙ content_now self_closing is_closing
-
-      abbrev x : Context
-      x = context_of m.program true e (all_places rs)
-
-      is_held : HoldOnce pending.stands.paths rs (LeftMatches d.open_elements)
-      is_held = held s pending.stands.paths m d.open_elements pending.stands.closed pending.stands.standing.program items vm.stack pending.stands.shows.sound vm.program pending.stands.shows.stack pending.stands.shows.program
-
-      given : GivesReport s pending.stands.paths m.program x e d.open_elements
-      given = runs_give_reports s pending.stands.paths m.program rs e d.open_elements pending.stands.closed pending.stands.standing.program is_held
-
       finishes : run m.program true e pending.context pending.left ≡ x
       finishes = requests_finish m.program true e rs pending.context pending.left pending.is_request tag.attributes tag.self_closing tag.finish
 
       all_gathered : Gathers ids new_ctx.stack_item (content_of (has_content esi tag) x)
       all_gathered =
-          let gathers = (instructions_gather ids with_ids lends m.program m.program.by_type e all left_code ctx (content_of ctx.with_content pending.context) are_left (gathered_before self_closing)).attributes in
+          let gathers = attributes_gather m.program m.program.by_type e all left_code are_left ids with_ids lends ctx (content_of ctx.with_content pending.context) (gathered_before self_closing) in
           let new_is = executed.gathered ∙ ap (λ z. gathered_with_attributes ids with_ids z (tag_attributes tag) ctx (all_at all left_code)) pending.sight in
           let ran : run m.program ctx.with_content e (content_of ctx.with_content pending.context) (all_places left_code) ≡ content_of (has_content esi tag) x =
           ap (run m.program ctx.with_content e (content_of ctx.with_content pending.context)) (sym pending.places_left)
           ∙ (run_content m.program ctx.with_content e pending.context pending.left ∙ (λ i. content_of (content_now self_closing is_closing i) (finishes i))) in
           subst (λ (c : ExecutionCtx E). Gathers ids c.stack_item (content_of (has_content esi tag) x)) (sym new_is) (subst (Gathers ids _) ran gathers)
 
-      is_matched : ascending (ids new_ctx.stack_item.element_data) ≡ matching_ids s.pairs e d.open_elements
-      is_matched = gathered_ids_ascend ids new_ctx.stack_item (content_of (has_content esi tag) x) all_gathered ∙ (ap ascending_once (content_ids (has_content esi tag) x) ∙ in_order x.ids s e d.open_elements given.ids)
-
-      pub has_reported : {F : Type 0} (step : F → MatchInfo → Unit {0} → F → Type 0) (f g : F) → IsCalledAtEach step f (reports new_ctx.with_content (ascending (ids new_ctx.stack_item.element_data))) g
-          → IsReported step s esi events tag true after f g
-      has_reported step f g called =
+      pub complete : IsComplete ids s esi events tag true new_ctx x after
+      complete =
+          let same : StaysThe ctx new_ctx = subst (StaysThe ctx) (sym executed.gathered) (attributes_stay ids with_ids (sight_in vm.stack request.ctx.stack_item.local_name) (tag_attributes tag) ctx (all_at all left_code)) in
+          let given = runs_give_reports s pending.stands.paths m.program rs e d.open_elements pending.stands.closed pending.stands.standing.program (held running) in
           record {
             asks = pending.asks;
-            called = subst (λ infos. IsCalledAtEach step f infos g)
-                ((λ i. reports (has_content_still i) (is_matched i)) ∙ sym (map-map info_of (λ id. record { id = id; with_content = has_content esi tag }) (matching_ids s.pairs e d.open_elements))) called;
-            names = omega (arith, executed.names, pending.names, left_count, all_count);
-            attributes = executed.attributes ∙ (ap (λ n. n + open_among (sight_in vm.stack request.ctx.stack_item.local_name) (all_at all left_code)) pending.attributes ∙ (zero_more _ ∙ opens_left));
+            kept = ap not finish;
+            content = same.content ∙ content_now self_closing is_closing;
+            matched = gathered_ids_ascend ids new_ctx.stack_item (content_of (has_content esi tag) x) all_gathered ∙ (ap ascending_once (content_ids (has_content esi tag) x) ∙ in_order x.ids s e d.open_elements given.ids);
+            item = record { named = same.name ∙ pending.named.0; jumps = all_gathered.jumps; hereditary_jumps = all_gathered.hereditary_jumps; children = same.children ∙ pending.childless };
+            names = omega (arith, executed.names, pending.names, left_count, tries_all.names);
+            attributes = omega (arith, executed.attributes, pending.attributes, opens_left);
           }
-        where
-          zero_more : (n : ℕ) → 0 + n ≡ n
-          zero_more n = omega arith
 
-      pub answered : {F : Type 0} (step : F → MatchInfo → Unit {0} → F → Type 0) (f g : F) (next : Vm E)
+      pub answered_now : {F : Type 0} (step : F → MatchInfo → Unit {0} → F → Type 0) (f g : F) (next : Vm E)
           → IsCalledAtEach step f (reports new_ctx.with_content (ascending (ids new_ctx.stack_item.element_data))) g
           → IsEntered new_ctx.with_content new_ctx.stack_item (record vm { tries = after }) next
           → IsAnswered ids step s esi events tag true vm next f g
-      answered step f g next called entered =
-          let told_all = has_reported step f g called in
-          let told : answer s esi d (Start tag) ≡ Started (report s esi e d.open_elements) true (names_counted after) (attributes_counted after) =
-          (λ i. if (pending.asks i && not (finish i)) then Dropped else Started (report s esi e d.open_elements) (pending.asks i) (name_tries s.nodes d.open_elements) (attribute_tries s.nodes e d.open_elements))
-          ∙ (λ i. Started (report s esi e d.open_elements) true (sym told_all.names i) (sym told_all.attributes i)) in
-          let item : IsItemOf new_ctx.stack_item tag.name (content_of (has_content esi tag) x) = record {
-            named = same.name ∙ pending.named.0;
-            jumps = all_gathered.jumps;
-            hereditary_jumps = all_gathered.hereditary_jumps;
-            children = same.children ∙ pending.childless;
-          } in
-          let shown_now : Shows (record vm { tries = after }) m = record { stack = pending.stands.shows.stack; sound = pending.stands.shows.sound; program = pending.stands.shows.program } in
-          let entering = entered_stands vm vm.stack after m shown_now tag.name x new_ctx.stack_item next (has_content esi tag) item
-          (subst (λ b. IsEntered b new_ctx.stack_item (record vm { tries = after }) next) has_content_still entered) in
-          record {
-            matched = report s esi e d.open_elements;
-            answered = told ∙ (λ i. Started (report s esi e d.open_elements) true (names_counted (sym entering.tries i)) (attributes_counted (sym entering.tries i)));
-            reported = told_all.called;
-            stands = record {
-              paths = pending.stands.paths;
-              machine = opened_if (has_content esi tag) m tag.name x;
-              closed = pending.stands.closed;
-              shows = entering.shows;
-              standing = subst (λ c. StandsFor s esi pending.stands.paths (opened_if (has_content esi tag) m tag.name c) (events ++ Start tag ∷ [])) finishes
-                  (finishing_is_kept s esi pending.stands.paths m events tag pending.context pending.left pending.stands.closed finish pending.asks pending.stands.standing pending.is_request);
-              switch = entering.switch ∙ pending.stands.switch;
-              unfailed = entering.failed ∙ pending.stands.unfailed;
-            };
-            opened = opened_as ids (has_content esi tag) (report s esi e d.open_elements) new_ctx.stack_item (is_matched ∙ sym (map-map (λ (r : Match). r.id) (λ id. record { id = id; with_content = has_content esi tag }) (matching_ids s.pairs e d.open_elements) ∙ map-id (matching_ids s.pairs e d.open_elements)))
-                (data_in vm) (data_in next) (data_in vm) refl entering.has;
-          }
+      answered_now step f g next called entered =
+          answered complete called vm vm.stack pending.stands.paths m (record { stack = pending.stands.shows.stack; sound = pending.stands.shows.sound; program = pending.stands.shows.program }) refl pending.stands.closed
+          (subst (λ c. StandsFor s esi pending.stands.paths (finished m (has_content esi tag) tag.name c) (events ++ Start tag ∷ [])) finishes
+          (finishing_is_kept s esi pending.stands.paths m events tag pending.context pending.left pending.stands.closed finish pending.asks pending.stands.standing pending.is_request))
+          pending.stands.switch pending.stands.unfailed next entered
 
 pub requests_try_at_most : {E : Type 0} → RequestsTryAtMost E
 requests_try_at_most ids s esi events tag vm request pending = open_tried ids vm s esi events tag request pending

@@ -1,5 +1,5 @@
 -- What survives a refusal, and what end tags do.
-use Rattle.std.proofs.Common.{◌≡◌, ◌-◌, Result, Ok, Err, ℕ, ◌<◌, ◌≤◌, Bool, true, false, List, [], ◌∷◌, ◌++◌, length, take, drop, Option, Some, None, refl, sym, ap, ◌∙◌, subst, arith}
+use Rattle.std.proofs.Common.{◌≡◌, ◌-◌, Result, Ok, Err, ℕ, ◌<◌, ◌≤◌, Bool, true, false, List, [], ◌∷◌, ◌++◌, length, take, drop, Option, Some, None, refl, sym, ap, ◌∙◌, subst, arith, ◌↔◌}
 use Rattle.std.specs.Result.{OnOk, OnErr, IsOk}
 use Rattle.std.specs.Prelude.{slice_get, max, nat_lt, if◌then◌else◌}
 use Rattle.std.specs.List.{take-map, drop-map}
@@ -27,7 +27,7 @@ use Rattle.lol_vm.specs.Events.{Event, End}
 use Rattle.lol_stack.specs.SoundStacks.{IsSound}
 use Rattle.lol_vm.specs.StackMachines.{KeepsMachine, IsNew}
 use Rattle.lol_stack.specs.Stacks.{items_in, list_in, slots_in, places_in, last_count, counted_in, counted_if, counted_item, with_typed, closed_from, element_data_of, place_to_close, last_below, IsSame, IsEnded, IsEndedAt}
-use Rattle.lol_vm.specs.Standing.{Machine, new_machine, AreCounted, IsOrdered, counted, ended}
+use Rattle.lol_vm.specs.Standing.{Machine, new_machine, IsOrdered, counted, ended}
 use Rattle.lol_vm.specs.Views.{selectors}
 use Rattle.lol_memory.specs.declared.limited_vec.PushError.{PushError}
 use Rattle.lol_memory.specs.declared.limited_vec.PushError.TheVariants as pushes
@@ -47,7 +47,7 @@ use Rattle.lol_stack.specs.declared.stack.StackOf.{StackOf}
 use Rattle.lol_stack.specs.declared.stack.StackNames.{StackNames}
 use Rattle.lol_vm.proofs.Kept.{items_length, counted_stands, ended_stands, documents_are_ordered, ordered_start, ordered_end, new_stands, standing_is_kept}
 use Rattle.lol_stack.specs.SoundLaws.{new_is_sound, same_is_sound, closing_keeps_sound, counting_keeps_sound}
-use Rattle.lol_vm.proofs.StackCounting.{counting_stack_keeps, seen_children, typed_counts_are_fewer}
+use Rattle.lol_vm.proofs.StackCounting.{counting_stack_keeps}
 use Rattle.lol_vm.proofs.StackEnds.{ending_stack_keeps}
 use Rattle.lol_vm.proofs.VmStarts.{counted_data}
 use Rattle.lol_vm.proofs.StackMachines.{new_stack_keeps, items_counted, same_stack_keeps}
@@ -95,10 +95,7 @@ module _ {E : Type 0} where
       let m = h.machine in
       let d = h.document in
       let tag : StartTag = record { name = bytes; namespace = Html; attributes = []; self_closing = false; finish = false } in
-      let are : AreCounted m d = record { root = h.standing.counted.root; children = h.standing.counted.children; typed = h.standing.counted.typed } in
-      let sizes = items_length h.paths m.program m.items d.open_elements h.standing.items in
-      let last = seen_children vm.stack m h.shows.stack (items_in vm.stack) refl in
-      let keeps = counting_stack_keeps vm.stack m bytes h.shows.stack (λ by_type. let fewer = typed_counts_are_fewer m d bytes are sizes by_type in omega (arith, fewer, last, room)) in
+      let keeps = counting_stack_keeps vm.stack m d bytes h.standing.counted (items_length h.paths m.program m.items d.open_elements h.standing.items) h.shows.stack room in
       record {
         selectors = h.selectors;
         paths = h.paths;
@@ -261,139 +258,83 @@ module _ {E : Type 0} (ctx : ExecutionCtx E) (point : RecoveryPoint) (old new : 
   pub requested_refused : (result : Result (Unit {0}) (VmError E)) → IsRequested ctx point old new result → (error : VmError E) → result ≡ Err error → IsRefusal error → has_failed new ≡ true
   requested_refused result h error is refusal = failed_after error (requested_as result error h is) refusal
 
--- what an element that wasn't opened answers
-module _ {E : Type 0} (pushed : PushError) (error : VmError E) (is : error ≡ push_error pushed) where
-  pub push_isnt_failed : error ≡ Failed → ⊥
-  push_isnt_failed at = by_push pushed (sym is ∙ at)
-    where
-      by_push : (p : PushError) → push_error {E = E} p ≡ Failed → ⊥
-      by_push (pushes.Limit e) at = cc
-      by_push (pushes.Memory e) at = cc
+-- 6. Errors
 
-  pub push_isnt_full : error ≡ CounterFull → ⊥
-  push_isnt_full at = by_push pushed (sym is ∙ at)
-    where
-      by_push : (p : PushError) → push_error {E = E} p ≡ CounterFull → ⊥
-      by_push (pushes.Limit e) at = cc
-      by_push (pushes.Memory e) at = cc
+pub never_both : {T X : Type 0} {v : T} {e : X} (r : Result T X) → r ≡ Ok v → r ≡ Err e → ⊥
+never_both r ok err = cc
 
-  pub push_isnt_silent : IsSilent error → ⊥
-  push_isnt_silent silent = by_push pushed (subst IsSilent is silent)
+pub error_is : {T X : Type 0} {a b : X} → ◌≡◌ {A = Result T X} (Err a) (Err b) → a ≡ b
+error_is is = cc
+
+-- a machine's answer as a start tag's refusal
+abbrev refusal_in : {E : Type 0} → VmError E → Option StartTagError
+refusal_in (InfoRequest request) = None
+refusal_in (MemoryLimitExceeded error) = Some refusals.MemoryLimitExceeded
+refusal_in (Memory error) = Some refusals.Memory
+refusal_in CounterFull = Some refusals.CounterFull
+refusal_in Failed = Some refusals.Failed
+
+answered_by : (E : Type 0) (r : StartTagError) → refusal_in {E = E} (vm_error r) ≡ Some r
+answered_by E refusals.MemoryLimitExceeded = refl
+answered_by E refusals.CounterFull = refl
+answered_by E refusals.Memory = refl
+answered_by E refusals.Failed = refl
+
+module _ {E : Type 0} where
+  -- where an element wasn't opened, neither a request nor what is answered before a report
+  pub push_isnt_silent : (p : PushError) (error other : VmError E) → error ≡ push_error p → error ≡ other → IsSilent other → ⊥
+  push_isnt_silent p error other is at silent = by_push p (subst IsSilent (sym at ∙ is) silent)
     where
       by_push : (p : PushError) → IsSilent {E = E} (push_error p) → ⊥
       by_push (pushes.Limit e) silent = silent
       by_push (pushes.Memory e) silent = silent
 
-  pub push_isnt_asked : (request : AuxStartTagInfoRequest E) → error ≡ InfoRequest request → ⊥
-  push_isnt_asked request at = by_push pushed (sym is ∙ at)
-    where
-      by_push : (p : PushError) → push_error {E = E} p ≡ InfoRequest request → ⊥
-      by_push (pushes.Limit e) at = cc
-      by_push (pushes.Memory e) at = cc
+  pub push_is_limit : (p : PushError) (error : VmError E) → error ≡ push_error p → error ≡ MemoryLimitExceeded (record {}) → p ≡ pushes.Limit (record {})
+  push_is_limit (pushes.Limit e) error is at = refl
+  push_is_limit (pushes.Memory e) error is at = cc
 
-  pub push_is_limit : error ≡ MemoryLimitExceeded (record {}) → pushed ≡ pushes.Limit (record {})
-  push_is_limit at = by_push pushed (sym is ∙ at)
-    where
-      by_push : (p : PushError) → push_error {E = E} p ≡ MemoryLimitExceeded (record {}) → p ≡ pushes.Limit (record {})
-      by_push (pushes.Limit e) at = refl
-      by_push (pushes.Memory e) at = cc
+  module _ (r : StartTagError) (error : VmError E) (is : error ≡ vm_error r) where
+    pub refused_isnt_asked : (request : AuxStartTagInfoRequest E) → error ≡ InfoRequest request → ⊥
+    refused_isnt_asked request at = let none : None ≡ Some r = ap refusal_in (sym at ∙ is) ∙ answered_by E r in cc
+
+    pub refused_as : (t : StartTagError) → error ≡ vm_error t → r ≡ t
+    refused_as t at = let same : Some r ≡ Some t = sym (answered_by E r) ∙ (ap refusal_in (sym is ∙ at) ∙ answered_by E t) in cc
+
+    -- it is answered exactly if the call before refused so
+    pub refused_alike : {A B P : Type 0} (result : Result A StartTagError) (t : StartTagError) → result ≡ Err r → (result ≡ Err t) ↔ P → (◌≡◌ {A = Result B (VmError E)} (Err error) (Err (vm_error t))) ↔ P
+    refused_alike result t made exact = (
+      λ at. exact.0 (made ∙ ap Err (refused_as t (error_is at))),
+      λ p. let found = exact.1 p in let same : r ≡ t = cc in ap Err (is ∙ ap vm_error same),
+    )
+
+    -- one by the parent's counter is answered as such
+    pub refused_full_only : r ≡ refusals.CounterFull → IsAskedOrFull error
+    refused_full_only full = subst IsAskedOrFull (sym (is ∙ ap vm_error full)) tt
+
+pub refused_same : {A B P : Type 0} (result : Result A StartTagError) (r t : StartTagError) → result ≡ Err r → (result ≡ Err t) ↔ P → (◌≡◌ {A = Result B StartTagError} (Err r) (Err t)) ↔ P
+refused_same result r t made exact = (λ at. exact.0 (made ∙ ap Err (error_is at)), λ p. let found = exact.1 p in let same : r ≡ t = cc in ap Err same)
 
 -- what a child that wasn't counted answers
-module _ (child : AddChildError) (error : StartTagError) (is : error ≡ refused_child child) where
-  pub refused_child_isnt_failed : error ≡ refusals.Failed → ⊥
-  refused_child_isnt_failed at = by_child child (sym is ∙ at)
-    where
-      by_child : (c : AddChildError) → refused_child c ≡ refusals.Failed → ⊥
-      by_child children.CounterFull at = cc
-      by_child (children.Memory e) at = cc
+pub refused_child_full : (child : AddChildError) (r : StartTagError) → r ≡ refused_child child → r ≡ refusals.CounterFull → child ≡ children.CounterFull
+refused_child_full children.CounterFull r is at = refl
+refused_child_full (children.Memory e) r is at = cc
 
-  pub refused_child_isnt_limit : error ≡ refusals.MemoryLimitExceeded → ⊥
-  refused_child_isnt_limit at = by_child child (sym is ∙ at)
-    where
-      by_child : (c : AddChildError) → refused_child c ≡ refusals.MemoryLimitExceeded → ⊥
-      by_child children.CounterFull at = cc
-      by_child (children.Memory e) at = cc
+pub refused_child_isnt : (child : AddChildError) (r : StartTagError) → r ≡ refused_child child → (r ≡ refusals.Failed → ⊥) × (r ≡ refusals.MemoryLimitExceeded → ⊥)
+refused_child_isnt children.CounterFull r is = (λ failed. cc, λ limit. cc)
+refused_child_isnt (children.Memory e) r is = (λ failed. cc, λ limit. cc)
 
-  pub refused_child_full : error ≡ refusals.CounterFull → child ≡ children.CounterFull
-  refused_child_full at = by_child child (sym is ∙ at)
-    where
-      by_child : (c : AddChildError) → refused_child c ≡ refusals.CounterFull → c ≡ children.CounterFull
-      by_child children.CounterFull at = refl
-      by_child (children.Memory e) at = cc
+-- and an element that wasn't opened, as a start tag's refusal
+pub refused_push_is : (p q : PushError) (r : StartTagError) → r ≡ refused_push p → r ≡ refused_push q → p ≡ q
+refused_push_is (pushes.Limit e) (pushes.Limit f) r is at = refl
+refused_push_is (pushes.Limit e) (pushes.Memory f) r is at = cc
+refused_push_is (pushes.Memory e) (pushes.Limit f) r is at = cc
+refused_push_is (pushes.Memory e) (pushes.Memory f) r is at = refl
 
--- the same, as a start tag's refusal
-module _ (pushed : PushError) (error : StartTagError) (is : error ≡ refused_push pushed) where
-  pub refused_push_isnt_failed : error ≡ refusals.Failed → ⊥
-  refused_push_isnt_failed at = by_push pushed (sym is ∙ at)
-    where
-      by_push : (p : PushError) → refused_push p ≡ refusals.Failed → ⊥
-      by_push (pushes.Limit e) at = cc
-      by_push (pushes.Memory e) at = cc
+pub refused_push_isnt : (p : PushError) (r : StartTagError) → r ≡ refused_push p → (r ≡ refusals.Failed → ⊥) × (r ≡ refusals.CounterFull → ⊥)
+refused_push_isnt (pushes.Limit e) r is = (λ failed. cc, λ full. cc)
+refused_push_isnt (pushes.Memory e) r is = (λ failed. cc, λ full. cc)
 
-  pub refused_push_isnt_full : error ≡ refusals.CounterFull → ⊥
-  refused_push_isnt_full at = by_push pushed (sym is ∙ at)
-    where
-      by_push : (p : PushError) → refused_push p ≡ refusals.CounterFull → ⊥
-      by_push (pushes.Limit e) at = cc
-      by_push (pushes.Memory e) at = cc
-
-  pub refused_push_limit : error ≡ refusals.MemoryLimitExceeded → pushed ≡ pushes.Limit (record {})
-  refused_push_limit at = by_push pushed (sym is ∙ at)
-    where
-      by_push : (p : PushError) → refused_push p ≡ refusals.MemoryLimitExceeded → p ≡ pushes.Limit (record {})
-      by_push (pushes.Limit e) at = refl
-      by_push (pushes.Memory e) at = cc
-
-  pub refused_push_memory : error ≡ refusals.Memory → pushed ≡ pushes.Memory (record {})
-  refused_push_memory at = by_push pushed (sym is ∙ at)
-    where
-      by_push : (p : PushError) → refused_push p ≡ refusals.Memory → p ≡ pushes.Memory (record {})
-      by_push (pushes.Limit e) at = cc
-      by_push (pushes.Memory e) at = refl
-
--- a start tag's refusal as the machine's answer
-module _ {E : Type 0} (refused : StartTagError) (error : VmError E) (is : error ≡ vm_error refused) where
-  pub refused_isnt_asked : (request : AuxStartTagInfoRequest E) → error ≡ InfoRequest request → ⊥
-  refused_isnt_asked request at = by_error refused (sym is ∙ at)
-    where
-      by_error : (r : StartTagError) → vm_error {E = E} r ≡ InfoRequest request → ⊥
-      by_error refusals.MemoryLimitExceeded at = cc
-      by_error refusals.CounterFull at = cc
-      by_error refusals.Memory at = cc
-      by_error refusals.Failed at = cc
-
-  pub refused_as_failed : error ≡ Failed → refused ≡ refusals.Failed
-  refused_as_failed at = by_error refused (sym is ∙ at)
-    where
-      by_error : (r : StartTagError) → vm_error {E = E} r ≡ Failed → r ≡ refusals.Failed
-      by_error refusals.MemoryLimitExceeded at = cc
-      by_error refusals.CounterFull at = cc
-      by_error refusals.Memory at = cc
-      by_error refusals.Failed at = refl
-
-  pub refused_as_full : error ≡ CounterFull → refused ≡ refusals.CounterFull
-  refused_as_full at = by_error refused (sym is ∙ at)
-    where
-      by_error : (r : StartTagError) → vm_error {E = E} r ≡ CounterFull → r ≡ refusals.CounterFull
-      by_error refusals.MemoryLimitExceeded at = cc
-      by_error refusals.CounterFull at = refl
-      by_error refusals.Memory at = cc
-      by_error refusals.Failed at = cc
-
-  pub refused_as_limit : error ≡ MemoryLimitExceeded (record {}) → refused ≡ refusals.MemoryLimitExceeded
-  refused_as_limit at = by_error refused (sym is ∙ at)
-    where
-      by_error : (r : StartTagError) → vm_error {E = E} r ≡ MemoryLimitExceeded (record {}) → r ≡ refusals.MemoryLimitExceeded
-      by_error refusals.MemoryLimitExceeded at = refl
-      by_error refusals.CounterFull at = cc
-      by_error refusals.Memory at = cc
-      by_error refusals.Failed at = cc
-
-  -- one by the parent's counter is answered as such
-  pub refused_full_only : refused ≡ refusals.CounterFull → IsAskedOrFull error
-  refused_full_only full = subst IsAskedOrFull (sym (is ∙ ap vm_error full)) tt
-
--- 6. Calls that open no element
+-- 7. Calls that open no element
 
 module _ {E : Type 0} where
   -- the stack is alike, as where an element couldn't be opened
@@ -448,7 +389,7 @@ pub on_err_both : {T X P Q R : Type 0} (r : Result T X) → (P → Q → R) → 
 on_err_both (Ok v) f p q = tt
 on_err_both (Err e) f p q = f p q
 
--- 7. Limits
+-- 8. Limits
 
 limited_if : {E : Type 0} (s : StackOf Name StackNames E) (o : Option (StackItemOf Name E)) (l : Limiter) → IsLimited (list_in s) l → IsLimited (list_in (counted_if s o)) l
 limited_if s None l h = h

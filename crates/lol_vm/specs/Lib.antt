@@ -32,6 +32,5 @@ pub mod RunLaws
 pub mod AskedRuns
 pub mod StackMachines
 pub mod Gathering
-pub mod InstructionLaws
 pub mod ChargeLaws
 pub mod DocumentLaws

@@ -1,10 +1,10 @@
 -- What the places of a program give, run for a start tag.
-use Rattle.std.specs.Prelude.{ℕ, Bool, if◌then◌else◌, List, [], ◌∷◌, ◌++◌, flat_map, drop, slice_get, Option, Some, None, option_to_list, suc}
+use Rattle.std.specs.Prelude.{ℕ, Bool, if◌then◌else◌, List, [], ◌∷◌, ◌++◌, flat_map, slice_get, Option, Some, None, option_to_list, suc}
 use Rattle.std.specs.declared.ops.Range.{Range}
 use Rattle.std.specs.Option.{option_map}
 use Rattle.lol_instructions.specs.Tests.{Element}
 use Rattle.lol_instructions.specs.Compounds.{is_open}
-use Rattle.lol_program.specs.Programs.{Instruction, Program, places, all_places}
+use Rattle.lol_program.specs.Programs.{Instruction, Program}
 use Rattle.lol_instructions.specs.declared.name_value.NameValue.{NameValue}
 use Rattle.lol_instructions.specs.declared.name_value.NameValue.TheVariants.{True, False}
 
@@ -90,12 +90,6 @@ run_by_names p content e context [] = record { context = context; left = [] }
 run_by_names p content e context (place ∷ ps) =
     if is_open_at p e place then record { context = context; left = place ∷ ps }
     else run_by_names p content e (step_by_names content context (value_at p e place) (slice_get p.instructions place)) ps
-
--- 3. The rest of ranges from an offset in the first of them
-
-abbrev pub places_from : ℕ → List (Range ℕ) → List ℕ
-places_from offset [] = []
-places_from offset (r ∷ ranges) = drop offset (places r) ++ all_places ranges
 
 -- how many places stand before the first open one
 abbrev pub first_open : Program → Element → List ℕ → Option ℕ

@@ -66,219 +66,142 @@ full id = record { id = id; with_content = true }
 abbrev void : ℕ → Match
 void id = record { id = id; with_content = false }
 
+-- without ESI and with it
+abbrev row : List (Path × ℕ) → List Event → List Answer → WorkedRun
+row pairs events answers = record { pairs = pairs; esi = false; events = events; answers = answers }
+
+abbrev row_with_esi : List (Path × ℕ) → List Event → List Answer → WorkedRun
+row_with_esi pairs events answers = record { pairs = pairs; esi = true; events = events; answers = answers }
+
+-- one compound, under 0
+abbrev one : Compound → List (Path × ℕ)
+one c = (First c, 0) ∷ []
+
 -- `div p` under 0 and `div > p` under 1
 abbrev pub descendant_and_child : WorkedRun
-descendant_and_child =
-    record {
-      pairs = (Then (First (named (codes "div"))) Descendant (named (codes "p")), 0) ∷ (Then (First (named (codes "div"))) Child (named (codes "p")), 1) ∷ [];
-      esi = false;
-      events = start (codes "div") ∷ start (codes "section") ∷ start (codes "p") ∷ End (codes "div") ∷ [];
-      answers = Started [] false 1 0 ∷ Started [] false 3 0 ∷ Started (full 0 ∷ []) false 2 0 ∷ Ended (0 ∷ 1 ∷ 2 ∷ []) ∷ [];
-    }
+descendant_and_child = row ((Then (First (named (codes "div"))) Descendant (named (codes "p")), 0) ∷ (Then (First (named (codes "div"))) Child (named (codes "p")), 1) ∷ [])
+    (start (codes "div") ∷ start (codes "section") ∷ start (codes "p") ∷ End (codes "div") ∷ [])
+    (Started [] false 1 0 ∷ Started [] false 3 0 ∷ Started (full 0 ∷ []) false 2 0 ∷ Ended (0 ∷ 1 ∷ 2 ∷ []) ∷ [])
 
 -- `.a p` under 0 and `p` under 1
 abbrev pub class_above : WorkedRun
-class_above =
-    record {
-      pairs = (Then (First (alone (class (codes "a")))) Descendant (named (codes "p")), 0) ∷ (First (named (codes "p")), 1) ∷ [];
-      esi = false;
-      events = start_with (codes "div") (codes "class") (codes "a") ∷ start (codes "p") ∷ [];
-      answers = Started [] true 2 1 ∷ Started (full 0 ∷ full 1 ∷ []) true 3 1 ∷ [];
-    }
+class_above = row ((Then (First (alone (class (codes "a")))) Descendant (named (codes "p")), 0) ∷ (First (named (codes "p")), 1) ∷ [])
+    (start_with (codes "div") (codes "class") (codes "a") ∷ start (codes "p") ∷ [])
+    (Started [] true 2 1 ∷ Started (full 0 ∷ full 1 ∷ []) true 3 1 ∷ [])
 
 -- `div div` under 0: as many tries at each depth
 abbrev pub nested_divs : WorkedRun
-nested_divs =
-    record {
-      pairs = (Then (First (named (codes "div"))) Descendant (named (codes "div")), 0) ∷ [];
-      esi = false;
-      events = start (codes "div") ∷ start (codes "div") ∷ start (codes "div") ∷ End (codes "div") ∷ start (codes "div") ∷ [];
-      answers = Started [] false 1 0 ∷ Started (full 0 ∷ []) false 2 0 ∷ Started (full 0 ∷ []) false 2 0 ∷ Ended (2 ∷ []) ∷ Started (full 0 ∷ []) false 2 0 ∷ [];
-    }
+nested_divs = row ((Then (First (named (codes "div"))) Descendant (named (codes "div")), 0) ∷ [])
+    (start (codes "div") ∷ start (codes "div") ∷ start (codes "div") ∷ End (codes "div") ∷ start (codes "div") ∷ [])
+    (Started [] false 1 0 ∷ Started (full 0 ∷ []) false 2 0 ∷ Started (full 0 ∷ []) false 2 0 ∷ Ended (2 ∷ []) ∷ Started (full 0 ∷ []) false 2 0 ∷ [])
 
 -- `:not(div.foo)` under 0: attributes are asked for where the name fits
 abbrev pub not_a_compound : WorkedRun
-not_a_compound =
-    record {
-      pairs = (First (alone (none_of (compound (name (codes "div") ∷ class (codes "foo") ∷ []) ∷ []))), 0) ∷ [];
-      esi = false;
-      events = start (codes "div") ∷ start (codes "p") ∷ start_with (codes "div") (codes "class") (codes "foo") ∷ [];
-      answers = Started (full 0 ∷ []) true 1 1 ∷ Started (full 0 ∷ []) false 1 0 ∷ Started [] true 1 1 ∷ [];
-    }
+not_a_compound = row (one (alone (none_of (compound (name (codes "div") ∷ class (codes "foo") ∷ []) ∷ []))))
+    (start (codes "div") ∷ start (codes "p") ∷ start_with (codes "div") (codes "class") (codes "foo") ∷ [])
+    (Started (full 0 ∷ []) true 1 1 ∷ Started (full 0 ∷ []) false 1 0 ∷ Started [] true 1 1 ∷ [])
 
 -- `:not(:not(a, b))` under 0
 abbrev pub not_neither : WorkedRun
-not_neither =
-    record {
-      pairs = (First (alone (none_of (alone (none_of (named (codes "a") ∷ named (codes "b") ∷ [])) ∷ []))), 0) ∷ [];
-      esi = false;
-      events = start (codes "a") ∷ start (codes "b") ∷ start (codes "c") ∷ [];
-      answers = Started (full 0 ∷ []) false 1 0 ∷ Started (full 0 ∷ []) false 1 0 ∷ Started [] false 1 0 ∷ [];
-    }
+not_neither = row (one (alone (none_of (alone (none_of (named (codes "a") ∷ named (codes "b") ∷ [])) ∷ []))))
+    (start (codes "a") ∷ start (codes "b") ∷ start (codes "c") ∷ [])
+    (Started (full 0 ∷ []) false 1 0 ∷ Started (full 0 ∷ []) false 1 0 ∷ Started [] false 1 0 ∷ [])
 
 -- `:not(.a, p)` under 0
 abbrev pub neither_class_nor_name : WorkedRun
-neither_class_nor_name =
-    record {
-      pairs = (First (alone (none_of (alone (class (codes "a")) ∷ named (codes "p") ∷ []))), 0) ∷ [];
-      esi = false;
-      events = start (codes "p") ∷ start_with (codes "div") (codes "class") (codes "b") ∷ [];
-      answers = Started [] false 1 0 ∷ Started (full 0 ∷ []) true 1 1 ∷ [];
-    }
+neither_class_nor_name = row (one (alone (none_of (alone (class (codes "a")) ∷ named (codes "p") ∷ []))))
+    (start (codes "p") ∷ start_with (codes "div") (codes "class") (codes "b") ∷ [])
+    (Started [] false 1 0 ∷ Started (full 0 ∷ []) true 1 1 ∷ [])
 
 -- `div:not([a*=""])` under 0
 abbrev pub not_an_empty_substring : WorkedRun
-not_an_empty_substring =
-    record {
-      pairs = (First (compound (none_of (alone (OfAttributes (Compares (codes "a") Substring [] CaseSensitive)) ∷ []) ∷ name (codes "div") ∷ [])), 0) ∷ [];
-      esi = false;
-      events = start (codes "div") ∷ start (codes "p") ∷ [];
-      answers = Started (full 0 ∷ []) true 1 1 ∷ Started [] false 1 0 ∷ [];
-    }
+not_an_empty_substring = row (one (compound (none_of (alone (OfAttributes (Compares (codes "a") Substring [] CaseSensitive)) ∷ []) ∷ name (codes "div") ∷ [])))
+    (start (codes "div") ∷ start (codes "p") ∷ [])
+    (Started (full 0 ∷ []) true 1 1 ∷ Started [] false 1 0 ∷ [])
 
 -- `:not(*)` under 0 and `:not(|a)` under 1
 abbrev pub nothing_and_anything : WorkedRun
-nothing_and_anything =
-    record {
-      pairs = (First (alone (none_of (alone (OfName AnyName) ∷ []))), 0) ∷ (First (alone (none_of (compound (name (codes "a") ∷ OfName NoName ∷ []) ∷ []))), 1) ∷ [];
-      esi = false;
-      events = start (codes "a") ∷ [];
-      answers = Started (full 1 ∷ []) false 2 0 ∷ [];
-    }
+nothing_and_anything = row ((First (alone (none_of (alone (OfName AnyName) ∷ []))), 0) ∷ (First (alone (none_of (compound (name (codes "a") ∷ OfName NoName ∷ []) ∷ []))), 1) ∷ [])
+    (start (codes "a") ∷ [])
+    (Started (full 1 ∷ []) false 2 0 ∷ [])
 
 -- `:is(a.x, p)` under 0
 abbrev pub some_compound : WorkedRun
-some_compound =
-    record {
-      pairs = (First (alone (some_of (compound (name (codes "a") ∷ class (codes "x") ∷ []) ∷ named (codes "p") ∷ []))), 0) ∷ [];
-      esi = false;
-      events = start (codes "p") ∷ start_with (codes "a") (codes "class") (codes "x") ∷ start (codes "div") ∷ [];
-      answers = Started (full 0 ∷ []) false 1 0 ∷ Started (full 0 ∷ []) true 1 1 ∷ Started [] false 1 0 ∷ [];
-    }
+some_compound = row (one (alone (some_of (compound (name (codes "a") ∷ class (codes "x") ∷ []) ∷ named (codes "p") ∷ []))))
+    (start (codes "p") ∷ start_with (codes "a") (codes "class") (codes "x") ∷ start (codes "div") ∷ [])
+    (Started (full 0 ∷ []) false 1 0 ∷ Started (full 0 ∷ []) true 1 1 ∷ Started [] false 1 0 ∷ [])
 
 -- `:not(:is(a, b))` under 0
 abbrev pub none_of_some : WorkedRun
-none_of_some =
-    record {
-      pairs = (First (alone (none_of (alone (some_of (named (codes "a") ∷ named (codes "b") ∷ [])) ∷ []))), 0) ∷ [];
-      esi = false;
-      events = start (codes "a") ∷ start (codes "c") ∷ [];
-      answers = Started [] false 1 0 ∷ Started (full 0 ∷ []) false 1 0 ∷ [];
-    }
+none_of_some = row (one (alone (none_of (alone (some_of (named (codes "a") ∷ named (codes "b") ∷ [])) ∷ []))))
+    (start (codes "a") ∷ start (codes "c") ∷ [])
+    (Started [] false 1 0 ∷ Started (full 0 ∷ []) false 1 0 ∷ [])
 
 -- `:is(h1, h2) > a` under 0
 abbrev pub child_of_some : WorkedRun
-child_of_some =
-    record {
-      pairs = (Then (First (alone (some_of (named (codes "h1") ∷ named (codes "h2") ∷ [])))) Child (named (codes "a")), 0) ∷ [];
-      esi = false;
-      events = start (codes "h1") ∷ start (codes "a") ∷ End (codes "h1") ∷ start (codes "p") ∷ start (codes "a") ∷ [];
-      answers = Started [] false 1 0 ∷ Started (full 0 ∷ []) false 2 0 ∷ Ended (0 ∷ 1 ∷ []) ∷ Started [] false 1 0 ∷ Started [] false 1 0 ∷ [];
-    }
+child_of_some = row ((Then (First (alone (some_of (named (codes "h1") ∷ named (codes "h2") ∷ [])))) Child (named (codes "a")), 0) ∷ [])
+    (start (codes "h1") ∷ start (codes "a") ∷ End (codes "h1") ∷ start (codes "p") ∷ start (codes "a") ∷ [])
+    (Started [] false 1 0 ∷ Started (full 0 ∷ []) false 2 0 ∷ Ended (0 ∷ 1 ∷ []) ∷ Started [] false 1 0 ∷ Started [] false 1 0 ∷ [])
 
 -- `br:first-child` under 0 and `p:nth-child(2)` under 1: an element without content counts
 abbrev pub second_child : WorkedRun
-second_child =
-    record {
-      pairs =
-          (First (compound (OfName (IsNthChild (record { step = pos 0; offset = pos 1 })) ∷ name (codes "br") ∷ [])), 0)
-          ∷ (First (compound (OfName (IsNthChild (record { step = pos 0; offset = pos 2 })) ∷ name (codes "p") ∷ [])), 1) ∷ [];
-      esi = false;
-      events = start (codes "br") ∷ start (codes "p") ∷ [];
-      answers = Started (void 0 ∷ []) false 2 0 ∷ Started (full 1 ∷ []) false 2 0 ∷ [];
-    }
+second_child = row ((First (compound (OfName (IsNthChild (record { step = pos 0; offset = pos 1 })) ∷ name (codes "br") ∷ [])), 0) ∷ (First (compound (OfName (IsNthChild (record { step = pos 0; offset = pos 2 })) ∷ name (codes "p") ∷ [])), 1) ∷ [])
+    (start (codes "br") ∷ start (codes "p") ∷ [])
+    (Started (void 0 ∷ []) false 2 0 ∷ Started (full 1 ∷ []) false 2 0 ∷ [])
 
 -- `span:nth-of-type(2)` under 0, whatever the case of names
 abbrev pub second_span : WorkedRun
-second_span =
-    record {
-      pairs = (First (compound (OfName (IsNthOfType (record { step = pos 0; offset = pos 2 })) ∷ name (codes "span") ∷ [])), 0) ∷ [];
-      esi = false;
-      events = start (codes "div") ∷ start (codes "span") ∷ End (codes "span") ∷ start (codes "SPAN") ∷ [];
-      answers = Started [] false 1 0 ∷ Started [] false 1 0 ∷ Ended (1 ∷ []) ∷ Started (full 0 ∷ []) false 1 0 ∷ [];
-    }
+second_span = row (one (compound (OfName (IsNthOfType (record { step = pos 0; offset = pos 2 })) ∷ name (codes "span") ∷ [])))
+    (start (codes "div") ∷ start (codes "span") ∷ End (codes "span") ∷ start (codes "SPAN") ∷ [])
+    (Started [] false 1 0 ∷ Started [] false 1 0 ∷ Ended (1 ∷ []) ∷ Started (full 0 ∷ []) false 1 0 ∷ [])
 
 -- `[type="TEXT"]` under 0, without case in HTML alone
 abbrev pub caseless_in_html : WorkedRun
-caseless_in_html =
-    record {
-      pairs = (First (alone (OfAttributes (Compares (codes "type") Equal (codes "TEXT") AsciiCaseInsensitiveIfInHtmlElementInHtmlDocument))), 0) ∷ [];
-      esi = false;
-      events = start_with (codes "input") (codes "type") (codes "text")
-          ∷ start_in Svg (codes "input") (record { name = codes "type"; value = Some (codes "text") } ∷ []) false true ∷ [];
-      answers = Started (void 0 ∷ []) true 1 1 ∷ Started [] true 1 1 ∷ [];
-    }
+caseless_in_html = row (one (alone (OfAttributes (Compares (codes "type") Equal (codes "TEXT") AsciiCaseInsensitiveIfInHtmlElementInHtmlDocument))))
+    (start_with (codes "input") (codes "type") (codes "text") ∷ start_in Svg (codes "input") (record { name = codes "type"; value = Some (codes "text") } ∷ []) false true ∷ [])
+    (Started (void 0 ∷ []) true 1 1 ∷ Started [] true 1 1 ∷ [])
 
 -- `[a*=""]` under 0, which is never true, and `:not([a*=""])` under 1
 abbrev pub empty_operand : WorkedRun
-empty_operand =
-    record {
-      pairs = (First (alone (OfAttributes (Compares (codes "a") Substring [] CaseSensitive))), 0)
-          ∷ (First (alone (none_of (alone (OfAttributes (Compares (codes "a") Substring [] CaseSensitive)) ∷ []))), 1) ∷ [];
-      esi = false;
-      events = start_with (codes "p") (codes "a") (codes "x") ∷ [];
-      answers = Started (full 1 ∷ []) true 2 2 ∷ [];
-    }
+empty_operand = row ((First (alone (OfAttributes (Compares (codes "a") Substring [] CaseSensitive))), 0) ∷ (First (alone (none_of (alone (OfAttributes (Compares (codes "a") Substring [] CaseSensitive)) ∷ []))), 1) ∷ [])
+    (start_with (codes "p") (codes "a") (codes "x") ∷ [])
+    (Started (full 1 ∷ []) true 2 2 ∷ [])
 
 -- `*` under 0, with ESI: its names are void as they are spelled
 abbrev pub esi_names : WorkedRun
-esi_names =
-    record {
-      pairs = (First (alone (OfName AnyName)), 0) ∷ [];
-      esi = true;
-      events = start (codes "esi:include") ∷ start (codes "ESI:INCLUDE") ∷ End (codes "esi:include") ∷ [];
-      answers = Started (void 0 ∷ []) false 1 0 ∷ Started (full 0 ∷ []) false 1 0 ∷ Ended (1 ∷ []) ∷ [];
-    }
+esi_names = row_with_esi (one (alone (OfName AnyName)))
+    (start (codes "esi:include") ∷ start (codes "ESI:INCLUDE") ∷ End (codes "esi:include") ∷ [])
+    (Started (void 0 ∷ []) false 1 0 ∷ Started (full 0 ∷ []) false 1 0 ∷ Ended (1 ∷ []) ∷ [])
 
 -- `:nth-child(2)` under 0: a dropped tag counts and isn't opened
 abbrev pub dropped_tag : WorkedRun
-dropped_tag =
-    record {
-      pairs = (First (alone (OfName (IsNthChild (record { step = pos 0; offset = pos 2 })))), 0) ∷ [];
-      esi = false;
-      events = start_in Svg (codes "g") [] false false ∷ start (codes "p") ∷ End (codes "g") ∷ [];
-      answers = Dropped ∷ Started (full 0 ∷ []) false 1 0 ∷ Ended [] ∷ [];
-    }
+dropped_tag = row (one (alone (OfName (IsNthChild (record { step = pos 0; offset = pos 2 })))))
+    (start_in Svg (codes "g") [] false false ∷ start (codes "p") ∷ End (codes "g") ∷ [])
+    (Dropped ∷ Started (full 0 ∷ []) false 1 0 ∷ Ended [] ∷ [])
 
 -- `circle` under 0: attributes are always asked for outside HTML, and a tag that closes itself isn't opened
 abbrev pub self_closing_tag : WorkedRun
-self_closing_tag =
-    record {
-      pairs = (First (named (codes "circle")), 0) ∷ [];
-      esi = false;
-      events = start_in Svg (codes "circle") [] true true ∷ End (codes "circle") ∷ [];
-      answers = Started (void 0 ∷ []) true 1 0 ∷ Ended [] ∷ [];
-    }
+self_closing_tag = row (one (named (codes "circle")))
+    (start_in Svg (codes "circle") [] true true ∷ End (codes "circle") ∷ [])
+    (Started (void 0 ∷ []) true 1 0 ∷ Ended [] ∷ [])
 
 -- `a[href]` under 0: attributes are asked for where the name fits
 abbrev pub links : WorkedRun
-links =
-    record {
-      pairs = (First (compound (OfAttributes (HasAttribute (codes "href")) ∷ name (codes "a") ∷ [])), 0) ∷ [];
-      esi = false;
-      events = start_with (codes "a") (codes "href") (codes "http://example.com") ∷ start (codes "a") ∷ start (codes "div") ∷ [];
-      answers = Started (full 0 ∷ []) true 1 1 ∷ Started [] true 1 1 ∷ Started [] false 1 0 ∷ [];
-    }
+links = row (one (compound (OfAttributes (HasAttribute (codes "href")) ∷ name (codes "a") ∷ [])))
+    (start_with (codes "a") (codes "href") (codes "http://example.com") ∷ start (codes "a") ∷ start (codes "div") ∷ [])
+    (Started (full 0 ∷ []) true 1 1 ∷ Started [] true 1 1 ∷ Started [] false 1 0 ∷ [])
 
 -- `:nth-child(-2n+3)` under 0: the first and the third, and an `html` tag that closes itself is opened
 abbrev pub negative_step : WorkedRun
-negative_step =
-    record {
-      pairs = (First (alone (OfName (IsNthChild (record { step = negsuc 1; offset = pos 3 })))), 0) ∷ [];
-      esi = false;
-      events = start_in Html (codes "a") [] true true ∷ End (codes "a") ∷ start (codes "b") ∷ End (codes "b") ∷ start (codes "c") ∷ End (codes "c") ∷ start (codes "d") ∷ [];
-      answers = Started (full 0 ∷ []) false 1 0 ∷ Ended (0 ∷ []) ∷ Started [] false 1 0 ∷ Ended (2 ∷ []) ∷ Started (full 0 ∷ []) false 1 0 ∷ Ended (4 ∷ []) ∷ Started [] false 1 0 ∷ [];
-    }
+negative_step = row (one (alone (OfName (IsNthChild (record { step = negsuc 1; offset = pos 3 })))))
+    (start_in Html (codes "a") [] true true ∷ End (codes "a") ∷ start (codes "b") ∷ End (codes "b") ∷ start (codes "c") ∷ End (codes "c") ∷ start (codes "d") ∷ [])
+    (Started (full 0 ∷ []) false 1 0 ∷ Ended (0 ∷ []) ∷ Started [] false 1 0 ∷ Ended (2 ∷ []) ∷ Started (full 0 ∷ []) false 1 0 ∷ Ended (4 ∷ []) ∷ Started [] false 1 0 ∷ [])
 
 -- `mi` under 0 in MathML: asked for, and opened unless the tag closes itself
 abbrev pub of_mathml : WorkedRun
-of_mathml =
-    record {
-      pairs = (First (named (codes "mi")), 0) ∷ [];
-      esi = false;
-      events = start_in MathML (codes "mi") [] true true ∷ start_in MathML (codes "mi") [] false true ∷ End (codes "mi") ∷ start_in MathML (codes "mi") [] false false ∷ [];
-      answers = Started (void 0 ∷ []) true 1 0 ∷ Started (full 0 ∷ []) true 1 0 ∷ Ended (1 ∷ []) ∷ Dropped ∷ [];
-    }
+of_mathml = row (one (named (codes "mi")))
+    (start_in MathML (codes "mi") [] true true ∷ start_in MathML (codes "mi") [] false true ∷ End (codes "mi") ∷ start_in MathML (codes "mi") [] false false ∷ [])
+    (Started (void 0 ∷ []) true 1 0 ∷ Started (full 0 ∷ []) true 1 0 ∷ Ended (1 ∷ []) ∷ Dropped ∷ [])
 
 -- An HTML element with these attributes, at a third place that is the second of its name
 abbrev pub element_with_attributes : List Attribute → Element

@@ -1,18 +1,12 @@
 -- When a stack keeps what a machine keeps of the open elements.
 use Rattle.std.specs.Prelude.{ℕ, ◌≡◌, Bool, true, false, if◌then◌else◌, List, [], map, reverse, length, Option, Some, None, unwrap_or}
-use Rattle.std.specs.Option.{option_copied}
-use Rattle.lol_base.specs.StartTags.{StartTag}
 use Rattle.lol_base.specs.LocalNames.{Name, local_name}
-use Rattle.lol_instructions.specs.Compiled.{sight, sight_of}
-use Rattle.lol_instructions.specs.declared.selector_state.SelectorState.{SelectorState}
-use Rattle.lol_vm.specs.Documents.{Document, element_of}
 use Rattle.lol_vm.specs.Machines.{OpenItem}
 use Rattle.lol_vm.specs.PlaceRuns.{Context}
-use Rattle.lol_vm.specs.Standing.{Machine, AreCounted, new_machine, counted, opened, ended}
-use Rattle.lol_vm.specs.Standing as standing
+use Rattle.lol_vm.specs.Standing.{Machine}
 use Rattle.lol_stack.specs.TypedCounts.{TypedCount, count_at, cut_to}
 use Rattle.lol_stack.specs.TypedLaws.{levels_in, Climb}
-use Rattle.lol_stack.specs.Stacks.{items_in, slots_in, active_in, typed_in, last_count, typed_count, root_count, item_bytes_in, list_in}
+use Rattle.lol_stack.specs.Stacks.{items_in, slots_in, active_in, typed_in, root_count, item_bytes_in, list_in}
 use Rattle.lol_stack.specs.declared.stack_item.StackItemOf.{StackItemOf}
 use Rattle.lol_stack.specs.declared.stack.StackOf.{StackOf}
 use Rattle.lol_stack.specs.declared.stack.StackNames.{StackNames}
@@ -70,16 +64,3 @@ pub record IsItemOf {E : Type 0} (item : StackItemOf Name E) (name : List ℕ) (
   pub jumps : context.jumps ≡ item.jumps
   pub hereditary_jumps : context.hereditary_jumps ≡ item.hereditary_jumps
   pub children : item.child_counter ≡ 0
-
--- the counters of the innermost open element, or of the root, for a child of this name
-pub record AreSeen {E : Type 0} (s : StackOf Name StackNames E) (m : Machine) (name : List ℕ) : Type 0 where
-  pub cumulative : last_count s ≡ standing.innermost_count m
-  pub typed : typed_count s (local_name name) ≡ (if m.program.by_type then Some (m.typed (length m.items) name) else None)
-
--- What tests see through a state of these counters, once a start tag is counted, is what they see of its element.
-abbrev pub StatesShowElements : Type 0 → Type 0
-StatesShowElements E =
-    (s : StackOf Name StackNames E) (m : Machine) (d : Document) (tag : StartTag) (state : SelectorState)
-    → AreCounted m d → length m.items ≡ length d.open_elements → KeepsMachine s (counted m tag.name)
-    → state.cumulative.now ≡ last_count s → option_copied state.typed ≡ typed_count s (local_name tag.name)
-    → sight state (local_name tag.name) ≡ sight_of m.program.by_type (element_of d tag)

@@ -1,20 +1,19 @@
 -- When a machine stands for events.
-use Rattle.std.specs.Prelude.{ℕ, suc, ◌+◌, ◌≡◌, ◌≤◌, ◌<◌, ◌&&◌, ◌||◌, count_by, ◌==◌, not, Bool, true, false, if◌then◌else◌, nat_le, List, [], ◌∷◌, ◌++◌, map, drop, length, position, Option, Some, None}
+use Rattle.std.specs.Prelude.{ℕ, suc, ◌+◌, ◌≡◌, ◌≤◌, ◌<◌, ◌&&◌, ◌==◌, not, Bool, true, false, if◌then◌else◌, nat_le, List, [], ◌∷◌, map, drop, length, position, Option, Some, None}
 use Rattle.std.specs.declared.ops.Range.{Range}
 use Rattle.std.specs.Str.{bytes_eq}
 use Rattle.lol_base.specs.Names.{lowercased, same_name}
 use Rattle.lol_base.specs.StartTags.{StartTag}
 use Rattle.lol_memory.specs.Slots.{slots, slots_after}
-use Rattle.lol_instructions.specs.Tests.{Element, is_html}
+use Rattle.lol_instructions.specs.Tests.{Element}
 use Rattle.lol_program.specs.Paths.{Path, Selectors}
 use Rattle.lol_vm.specs.Events.{Event, Start, End, has_content}
 use Rattle.lol_vm.specs.Documents.{Document, Child, element_of, children_of, typed_children_of}
-use Rattle.lol_vm.specs.Answers.{document, is_dropped, asks, ascending_once, matching_ids, name_tries, attribute_tries}
+use Rattle.lol_vm.specs.Answers.{document, is_dropped}
 use Rattle.lol_vm.specs.Refusals.{longest}
-use Rattle.lol_program.specs.Programs.{Program, IsProgramOf, AreClosed, all_places}
+use Rattle.lol_program.specs.Programs.{Program, IsProgramOf, all_places}
 use Rattle.lol_vm.specs.Machines.{OpenItem, AreItems, ranges_to_run}
-use Rattle.lol_vm.specs.PlaceRuns.{Context, context_of, is_open_at, run}
-use Rattle.lol_vm.specs.MachineLaws.{IsRequest, starts_open, started_by_names, sum_of_lengths}
+use Rattle.lol_vm.specs.PlaceRuns.{Context, context_of}
 
 -- A machine: its program, its open items, the innermost first; how many children the root and each open
 -- element had, and of each name, by level (0 is the root's, then from the outermost element on); the size and number of its slots.
@@ -157,15 +156,6 @@ CountersArePlaces =
     × (m.program.by_type ≡ true
     → (counted m tag.name).typed (length m.items) tag.name ≡ (element_of d tag).typed_position)
 
--- What a machine answers to a start tag: what it asks, reports and counts is what the definition says.
-pub record AnswersStart (s : Selectors) (m : Machine) (e : Element) (outer : List Element) : Type 0 where
-  pub asked :
-      (not (is_html e.tag.namespace) || starts_open m.program e (started_by_names m.program true e (ranges_of_machine m)).left)
-      ≡ asks s e outer
-  pub matched : ascending_once (context_of m.program true e (all_places (ranges_of_machine m))).ids ≡ matching_ids s.pairs e outer
-  pub names : sum_of_lengths (ranges_of_machine m) ≡ name_tries s.nodes outer
-  pub attributes : count_by (is_open_at m.program e) (all_places (ranges_of_machine m)) ≡ attribute_tries s.nodes e outer
-
 -- 5. Requests
 
 -- the tag as the event of a request that isn't finished
@@ -174,15 +164,3 @@ unfinished tag = record { name = tag.name; namespace = tag.namespace; attributes
 
 abbrev pub finished : Machine → Bool → List ℕ → Context → Machine
 finished m opens name context = if opens then opened m name context else m
-
--- Finishing a request on that machine puts the finished event in its place.
-abbrev pub FinishingIsKept : Type 0
-FinishingIsKept =
-    (s : Selectors) (esi : Bool) (paths : List Path) (m : Machine) (events : List Event) (tag : StartTag)
-    (context : Context) (left : List ℕ) → AreClosed s → tag.finish ≡ true
-    → asks s (element_of (document s esi events) tag) (document s esi events).open_elements ≡ true
-    → StandsFor s esi paths m (events ++ Start (unfinished tag) ∷ [])
-    → IsRequest m.program true (element_of (document s esi events) tag) (ranges_of_machine m) context left
-    → StandsFor s esi paths
-    (finished m (has_content esi tag) tag.name (run m.program true (element_of (document s esi events) tag) context left))
-    (events ++ Start tag ∷ [])

@@ -1,4 +1,4 @@
-use Rattle.std.proofs.Common.{of_calls, ◌≡◌, ℕ, ◌+◌, ◌<◌, List, [], ◌∷◌, ◌++◌, ap, sym, subst, ◌∙◌, arith, map, take, drop, length, get_or}
+use Rattle.std.proofs.Common.{of_calls, ◌≡◌, ℕ, ◌+◌, ◌<◌, List, [], ◌∷◌, ◌++◌, ap, sym, subst, ◌∙◌, arith, map, take, drop, length, get_or, inr}
 use Rattle.std.proofs.lemmas.Fn.{FoldsTo-push}
 use Rattle.std.proofs.lemmas.List.{map_push, map-append, append_assoc, take_more, take_all, take-append-drop, length-map, length-take-le}
 use Rattle.lol_vm.specs.Answers.{answers}
@@ -32,37 +32,35 @@ module _ (all : List TagEvent) (n : ℕ) (event : TagEvent) (within : n < length
   before_counts : length before ≡ n
   before_counts = length-map (take n all) event_of ∙ length-take-le n all (omega (arith, within))
 
-pub returns-in-Err-clause-cause : goal.returns-in-Err-clause-cause
-returns-in-Err-clause-cause g c = λ s esi item_bytes limiter r.
+pub returns-in-Err : goal.returns-in-Err
+returns-in-Err g c =
     let all = c.args.events.now in
     let n = c.loop-number.number in
     let event = c.index-events-number.result in
     let within = c.loop-number-test.true in
     let read = c.index-events-number.is in
-    let now = c.loop-number.invariant.runs s esi item_bytes limiter r in
-    let a = allowance_of item_bytes limiter in
-    let stops = c.in-Err.ensures.stops s esi item_bytes limiter (before all n event within read) now in
-    let is = stops_for s esi item_bytes limiter (before all n event within read) (later all n event within read) (event_of event) now.follows.fits c.in-Err.cause stops in
-    subst (λ k. StopsFor c.in-Err.cause k (refused s esi a (map event_of all))) (before_counts all n event within read)
-    (subst (λ es. StopsFor c.in-Err.cause (length (before all n event within read)) (refused s esi a es)) (sym (all_are all n event within read)) is)
-
-pub returns-in-Err-clause-due : goal.returns-in-Err-clause-due
-returns-in-Err-clause-due g c = λ s esi item_bytes limiter r.
-    let all = c.args.events.now in
-    let n = c.loop-number.number in
-    let event = c.index-events-number.result in
-    let within = c.loop-number-test.true in
-    let read = c.index-events-number.is in
-    let now = c.loop-number.invariant.runs s esi item_bytes limiter r in
-    let a = allowance_of item_bytes limiter in
-    let stops = c.in-Err.ensures.stops s esi item_bytes limiter (before all n event within read) now in
-    let is = stops_before_limit s esi item_bytes limiter (before all n event within read) (later all n event within read) (event_of event) now.follows.fits c.in-Err.cause stops in
-    subst (λ k. StopsBeforeLimit s esi (map event_of all) c.in-Err.cause k (refused s esi a (map event_of all))) (before_counts all n event within read)
-    (subst (λ es. StopsBeforeLimit s esi es c.in-Err.cause (length (before all n event within read)) (refused s esi a es)) (sym (all_are all n event within read)) is)
-
-pub returns-in-Err-clause-charged : goal.returns-in-Err-clause-charged
-returns-in-Err-clause-charged g c = λ s esi item_bytes before r.
-    c.in-Err.ensures.charged s esi item_bytes before (map event_of (take c.loop-number.number c.args.events.now)) (c.loop-number.invariant.runs s esi item_bytes before r)
+    let front = before all n event within read in
+    let so_far = c.loop-number.invariant in
+    let many = before_counts all n event within read in
+    let whole = all_are all n event within read in
+    record {
+      again = so_far.callable;
+      ok = tt;
+      fits = tt;
+      refused = λ s esi item_bytes limiter r. so_far.told s esi item_bytes limiter r;
+      event = inr within;
+      cause = λ s esi item_bytes limiter r.
+          let now = so_far.runs s esi item_bytes limiter r in
+          let is = stops_for s esi item_bytes limiter front (later all n event within read) (event_of event) now.follows.fits c.in-Err.cause (c.in-Err.ensures.stops s esi item_bytes limiter front now) in
+          subst (λ k. StopsFor c.in-Err.cause k (refused s esi (allowance_of item_bytes limiter) (map event_of all))) many
+          (subst (λ es. StopsFor c.in-Err.cause (length front) (refused s esi (allowance_of item_bytes limiter) es)) (sym whole) is);
+      due = λ s esi item_bytes limiter r.
+          let now = so_far.runs s esi item_bytes limiter r in
+          let is = stops_before_limit s esi item_bytes limiter front (later all n event within read) (event_of event) now.follows.fits c.in-Err.cause (c.in-Err.ensures.stops s esi item_bytes limiter front now) in
+          subst (λ k. StopsBeforeLimit s esi (map event_of all) c.in-Err.cause k (refused s esi (allowance_of item_bytes limiter) (map event_of all))) many
+          (subst (λ es. StopsBeforeLimit s esi es c.in-Err.cause (length front) (refused s esi (allowance_of item_bytes limiter) es)) (sym whole) is);
+      charged = λ s esi item_bytes limiter r. c.in-Err.ensures.charged s esi item_bytes limiter front (so_far.runs s esi item_bytes limiter r);
+    }
 
 pub loop-number-preserved : goal.loop-number-preserved
 loop-number-preserved g c =

@@ -18,32 +18,33 @@ begun limiter made word within value = made limiter (omega (arith, word)) (omega
 
 pub release-requires : goal.release-requires
 release-requires g c =
-    (released c.args.item_bytes c.args.limiter.now c.answer_events-answered.new.run.vm c.answer_events-answered.new.limiter
-    (c.answer_events-answered.ensures.charged (selectors c.args.ast) c.args.enable_esi_tags c.args.item_bytes c.args.limiter.now (begun c.args.limiter.now c.in-Ok.ensures c.current_usage-usage.ensures.word c.current_usage-usage.ensures.within c.current_usage-usage.ensures.value))).0
+    let r = begun c.args.limiter.now c.in-Ok.ensures c.current_usage-usage.ensures.word c.current_usage-usage.ensures.within c.current_usage-usage.ensures.value in
+    let charged = c.answer_events-answered.ensures.charged (selectors c.args.ast) c.args.enable_esi_tags c.args.item_bytes c.args.limiter.now r in
+    (released c.args.item_bytes c.args.limiter.now c.answer_events-answered.new.run.vm c.answer_events-answered.new.limiter charged).0
 
 pub prove-unreachable-requires : goal.prove-unreachable-requires
 prove-unreachable-requires g c =
-    c.if-prove.true (c.current_usage.ensures.value ∙ (ap (λ (l : Limiter). l.usage) (c.release.ensures ∙ (released c.args.item_bytes c.args.limiter.now c.answer_events-answered.new.run.vm c.answer_events-answered.new.limiter
-    (c.answer_events-answered.ensures.charged (selectors c.args.ast) c.args.enable_esi_tags c.args.item_bytes c.args.limiter.now (begun c.args.limiter.now c.in-Ok.ensures c.current_usage-usage.ensures.word c.current_usage-usage.ensures.within c.current_usage-usage.ensures.value))).1) ∙ sym c.current_usage-usage.ensures.value))
+    let r = begun c.args.limiter.now c.in-Ok.ensures c.current_usage-usage.ensures.word c.current_usage-usage.ensures.within c.current_usage-usage.ensures.value in
+    let charged = c.answer_events-answered.ensures.charged (selectors c.args.ast) c.args.enable_esi_tags c.args.item_bytes c.args.limiter.now r in
+    let same = released c.args.item_bytes c.args.limiter.now c.answer_events-answered.new.run.vm c.answer_events-answered.new.limiter charged in
+    c.if-prove.true (c.current_usage.ensures.value ∙ (ap (λ (l : Limiter). l.usage) (c.release.ensures ∙ same.1) ∙ sym c.current_usage-usage.ensures.value))
 
 pub returns-in_default-clause-cause : goal.returns-in_default-clause-cause
 returns-in_default-clause-cause g c = stops_at_once (selectors c.args.ast) c.args.enable_esi_tags (allowance_of c.args.item_bytes c.args.limiter.now) (map event_of c.args.events.now)
 
-pub returns-clause-ok : goal.returns-clause-ok
-returns-clause-ok g c = on_ok_weaker c.answer_events-answered.result (λ ok. ok _ _ c.args.item_bytes c.args.limiter.now (begun c.args.limiter.now c.in-Ok.ensures c.current_usage-usage.ensures.word c.current_usage-usage.ensures.within c.current_usage-usage.ensures.value)) c.answer_events-answered.ensures.ok
-
-pub returns-clause-fits : goal.returns-clause-fits
-returns-clause-fits g c = on_ok_weaker c.answer_events-answered.result (λ fits. fits _ _ c.args.item_bytes c.args.limiter.now (begun c.args.limiter.now c.in-Ok.ensures c.current_usage-usage.ensures.word c.current_usage-usage.ensures.within c.current_usage-usage.ensures.value)) c.answer_events-answered.ensures.fits
-
-pub returns-clause-refused : goal.returns-clause-refused
-returns-clause-refused g c = IfErr-weaker c.answer_events-answered.result _ _ (λ stop told. told _ _ c.args.item_bytes c.args.limiter.now (begun c.args.limiter.now c.in-Ok.ensures c.current_usage-usage.ensures.word c.current_usage-usage.ensures.within c.current_usage-usage.ensures.value)) c.answer_events-answered.ensures.refused
-
-pub returns-clause-cause : goal.returns-clause-cause
-returns-clause-cause g c = IfErr-weaker c.answer_events-answered.result _ _ (λ stop told. told _ _ c.args.item_bytes c.args.limiter.now (begun c.args.limiter.now c.in-Ok.ensures c.current_usage-usage.ensures.word c.current_usage-usage.ensures.within c.current_usage-usage.ensures.value)) c.answer_events-answered.ensures.cause
-
-pub returns-clause-due : goal.returns-clause-due
-returns-clause-due g c = IfErr-weaker c.answer_events-answered.result _ _ (λ stop told. told _ _ c.args.item_bytes c.args.limiter.now (begun c.args.limiter.now c.in-Ok.ensures c.current_usage-usage.ensures.word c.current_usage-usage.ensures.within c.current_usage-usage.ensures.value)) c.answer_events-answered.ensures.due
-
-pub returns-clause-usage : goal.returns-clause-usage
-returns-clause-usage g c = c.release.ensures ∙ (released c.args.item_bytes c.args.limiter.now c.answer_events-answered.new.run.vm c.answer_events-answered.new.limiter
-    (c.answer_events-answered.ensures.charged (selectors c.args.ast) c.args.enable_esi_tags c.args.item_bytes c.args.limiter.now (begun c.args.limiter.now c.in-Ok.ensures c.current_usage-usage.ensures.word c.current_usage-usage.ensures.within c.current_usage-usage.ensures.value))).1
+pub returns : goal.returns
+returns g c =
+    let r = begun c.args.limiter.now c.in-Ok.ensures c.current_usage-usage.ensures.word c.current_usage-usage.ensures.within c.current_usage-usage.ensures.value in
+    let result = c.answer_events-answered.result in
+    let told = c.answer_events-answered.ensures in
+    let charged = told.charged (selectors c.args.ast) c.args.enable_esi_tags c.args.item_bytes c.args.limiter.now r in
+    record {
+      again = told.again;
+      ok = on_ok_weaker result (λ ok. ok _ _ c.args.item_bytes c.args.limiter.now r) told.ok;
+      fits = on_ok_weaker result (λ fits. fits _ _ c.args.item_bytes c.args.limiter.now r) told.fits;
+      refused = IfErr-weaker result _ _ (λ stop so. so _ _ c.args.item_bytes c.args.limiter.now r) told.refused;
+      event = told.event;
+      cause = IfErr-weaker result _ _ (λ stop so. so _ _ c.args.item_bytes c.args.limiter.now r) told.cause;
+      due = IfErr-weaker result _ _ (λ stop so. so _ _ c.args.item_bytes c.args.limiter.now r) told.due;
+      usage = c.release.ensures ∙ (released c.args.item_bytes c.args.limiter.now c.answer_events-answered.new.run.vm c.answer_events-answered.new.limiter charged).1;
+    }

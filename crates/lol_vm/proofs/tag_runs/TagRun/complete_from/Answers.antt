@@ -24,8 +24,8 @@ returns-in_err-complete_instructions-clause-within g c = λ is_stop runnable.
     let is = rest_lent all ranges stop is_stop c.args.tries.now runnable part r c.range_from-left.result c.range.ensures c.range_from-left.ensures c.instructions_in-part.ensures.value in
     let some = rest_some all ranges stop is_stop c.args.tries.now runnable part is in
     record {
-      names = omega (arith, told.names_bound, some, length_split all (rest_of ranges stop) (drop (stop.range + 1) ranges) part is);
-      attributes = omega (arith, told.attributes_bound, opens_split all (rest_of ranges stop) (drop (stop.range + 1) ranges) part is s s refl);
+      names = omega (arith, told.names_bound, some, length_split all {r = rest_of ranges stop} {others = drop (stop.range + 1) ranges} refl part is);
+      attributes = omega (arith, told.attributes_bound, opens_split all {r = rest_of ranges stop} {others = drop (stop.range + 1) ranges} refl part is s s refl);
     }
 
 pub returns-in_err-complete_instructions-clause-free : goal.returns-in_err-complete_instructions-clause-free
@@ -49,7 +49,7 @@ module _ (g : given.Over) (c : goal.After-exec_from g) (is_stop : IsStopIn c.arg
   others_can : AreRunnable c.args.self.now.instructions.now (drop (c.args.stop.range + 1) (ranges_of c.args.self.now)) c.complete_instructions.new.tries
   others_can =
       let told = c.in_ok-complete_instructions.ensures in
-      others_run c.args.self.now.instructions.now rest (drop (c.args.stop.range + 1) (ranges_of c.args.self.now)) c.args.tries.now runnable c.instructions_in-part.result.now is c.complete_instructions.new.tries
+      others_run c.args.self.now.instructions.now {r = rest} refl runnable c.instructions_in-part.result.now is c.complete_instructions.new.tries
       (omega (arith, told.names_bound))
       (omega (arith, told.attributes_bound, open_at_most (sight c.args.self.now.state c.args.ctx.now.stack_item.local_name) c.instructions_in-part.result.now))
 

@@ -1,9 +1,9 @@
-use Rattle.std.proofs.Common.{◌≡◌, ◌<◌, drop, arith, sym, ap, ◌∙◌, subst}
+use Rattle.std.proofs.Common.{◌≡◌, ◌<◌, drop, arith, sym, ap, ◌∙◌, subst, length}
 use Rattle.lol_instructions.specs.Compiled.{sight}
-use Rattle.lol_vm.specs.InstructionRuns.{NeedNoMemory, AreRunnable, instructions_at}
+use Rattle.lol_vm.specs.InstructionRuns.{NeedNoMemory, AreRunnable}
 use Rattle.lol_vm.specs.TagRuns.{ranges_of}
-use Rattle.lol_vm.proofs.InstructionLists.{open_at_most}
-use Rattle.lol_vm.proofs.TagRuns.{first_left, lent, runs_on, length_left, opens_left, gathers_whole}
+use Rattle.lol_vm.proofs.InstructionLists.{open_at_most, attributes_next, length_split, opens_split, others_run}
+use Rattle.lol_vm.proofs.TagRuns.{first_left, part_is}
 use Rattle.lol_vm.proofs.VmRefusals.{err_is_not_ok}
 use Rattle.lol_vm.proofs.tag_runs.TagRun.exec_from.Goals as goal
 
@@ -11,7 +11,6 @@ pub loop-index-preserved : goal.loop-index-preserved
 loop-index-preserved g c =
     let all = c.args.self.now.instructions.now in
     let ranges = ranges_of c.args.self.now in
-    let now = c.loop-index.tries in
     let k = c.loop-index.index in
     let so_far = c.loop-index.invariant in
     let part = c.instructions_in-part.result.now in
@@ -20,18 +19,16 @@ loop-index-preserved g c =
     let s = sight c.args.self.now.state c.args.ctx.now.stack_item.local_name in
     let same : t ≡ s = ap (sight c.args.self.now.state) so_far.name in
     let r = c.range.result.now in
-    let first = first_left ranges k r (subst (λ n. k < n) c.len-index-end.ensures c.loop-index-test.true) c.range.ensures in
-    let is : AreRunnable all (drop c.args.first ranges) c.args.tries.now → part ≡ instructions_at all r =
-    λ runnable. lent all ranges k r first part now (so_far.runs runnable) c.instructions_in-part.ensures.value in
+    let within : k < length ranges = subst (λ n. k < n) c.len-index-end.ensures c.loop-index-test.true in
+    let first = first_left all ranges k r within c.range.ensures in
+    let is = λ (runnable : AreRunnable all (drop c.args.first ranges) c.args.tries.now). part_is all ranges k r within c.range.ensures (so_far.runs runnable) part c.instructions_in-part.ensures.value in
     record {
-      runs = λ runnable. runs_on all ranges k r first part now (so_far.runs runnable) (is runnable) c.exec_instructions.new.tries (omega (arith, told.names)) (omega (arith, told.attributes, open_at_most t part));
-      names = λ runnable. omega (arith, told.names, so_far.names runnable, length_left all ranges k r first part (is runnable));
-      attributes = λ runnable. omega (arith, told.attributes, so_far.attributes runnable, opens_left all ranges k r first part (is runnable) s t same);
+      runs = λ runnable. others_run all first (so_far.runs runnable) part (is runnable) c.exec_instructions.new.tries (omega (arith, told.names)) (omega (arith, told.attributes, open_at_most t part));
+      names = λ runnable. omega (arith, told.names, so_far.names runnable, length_split all first part (is runnable));
+      attributes = λ runnable. omega (arith, told.attributes, so_far.attributes runnable, opens_split all first part (is runnable) t s same);
       name = told.name ∙ so_far.name;
       content = told.content ∙ so_far.content;
-      rest = λ runnable.
-          so_far.rest runnable
-          ∙ gathers_whole all ranges k r first part (is runnable) s t same g.E.ElementData.ids g.E.ElementData.with_ids c.loop-index.ctx c.exec_instructions.new.ctx c.args.matcher.now told.ctx;
+      rest = λ runnable. so_far.rest runnable ∙ attributes_next all first part (is runnable) t s same g.E.ElementData.ids g.E.ElementData.with_ids c.loop-index.ctx c.exec_instructions.new.ctx c.args.matcher.now told.ctx;
     }
 
 -- 2. It was refused
@@ -44,14 +41,13 @@ returns-in_err-exec_instructions-clause-within g c = λ runnable.
     let so_far = c.loop-index.invariant in
     let part = c.instructions_in-part.result.now in
     let told = c.exec_instructions.ensures in
-    let t = sight c.args.self.now.state c.loop-index.ctx.stack_item.local_name in
-    let s = sight c.args.self.now.state c.args.ctx.now.stack_item.local_name in
     let r = c.range.result.now in
-    let first = first_left ranges k r (subst (λ n. k < n) c.len-index-end.ensures c.loop-index-test.true) c.range.ensures in
-    let is = lent all ranges k r first part c.loop-index.tries (so_far.runs runnable) c.instructions_in-part.ensures.value in
+    let within : k < length ranges = subst (λ n. k < n) c.len-index-end.ensures c.loop-index-test.true in
+    let first = first_left all ranges k r within c.range.ensures in
+    let is = part_is all ranges k r within c.range.ensures (so_far.runs runnable) part c.instructions_in-part.ensures.value in
     record {
-      names = omega (arith, told.names_bound, so_far.names runnable, length_left all ranges k r first part is);
-      attributes = omega (arith, told.attributes_bound, so_far.attributes runnable, opens_left all ranges k r first part is s t (ap (sight c.args.self.now.state) so_far.name));
+      names = omega (arith, told.names_bound, so_far.names runnable, length_split all first part is);
+      attributes = omega (arith, told.attributes_bound, so_far.attributes runnable, opens_split all first part is _ _ (ap (sight c.args.self.now.state) so_far.name));
     }
 
 pub returns-in_err-exec_instructions-clause-free : goal.returns-in_err-exec_instructions-clause-free

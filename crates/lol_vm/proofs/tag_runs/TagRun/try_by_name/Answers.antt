@@ -3,50 +3,13 @@ use Rattle.lol_instructions.specs.Compiled.{sight}
 use Rattle.lol_instructions.specs.Tries.{names_counted}
 use Rattle.lol_vm.specs.InstructionRuns.{NeedNoMemory, AreRunnable, all_at, instructions_at, tried_until, first_open_from}
 use Rattle.lol_vm.specs.TagRuns.{ranges_of}
-use Rattle.lol_vm.proofs.TagRuns.{first_left, lent, runs_on, length_next, stops_next, stops_here, gathers_next, gathers_here, tried_within}
+use Rattle.lol_vm.proofs.TagRuns.{first_left, part_is, length_next, tried_within}
+use Rattle.lol_vm.proofs.InstructionLists.{names_here, names_next, others_run, stop_here, stop_next}
 use Rattle.lol_vm.proofs.VmRefusals.{err_is_not_ok}
 use Rattle.lol_vm.proofs.tag_runs.TagRun.try_by_name.Goals as goal
 
 pub loop-index-preserved : goal.loop-index-preserved
 loop-index-preserved g c =
-    let ids = g.E.ElementData.ids in
-    let with_ids = g.E.ElementData.with_ids in
-    let all = c.args.self.now.instructions.now in
-    let ranges = ranges_of c.args.self.now in
-    let now = c.loop-index.tries in
-    let k = c.loop-index.index in
-    let so_far = c.loop-index.invariant in
-    let part = c.instructions_in-part.result.now in
-    let told = c.in_ok-offset.ensures in
-    let t = sight c.args.self.now.state c.loop-index.ctx.stack_item.local_name in
-    let s = sight c.args.self.now.state c.args.ctx.now.stack_item.local_name in
-    let same : t ≡ s = ap (sight c.args.self.now.state) so_far.name in
-    let r = c.range.result.now in
-    let first = first_left ranges k r (subst (λ n. k < n) c.len-index-end.ensures c.loop-index-test.true) c.range.ensures in
-    let is : AreRunnable all ranges c.args.tries.now → part ≡ instructions_at all r =
-    λ runnable. lent all ranges k r first part now (so_far.runs runnable) c.instructions_in-part.ensures.value in
-    let passed : names_counted c.try_instructions.new.tries ≡ names_counted now + length part =
-    told.names ∙ ap (λ o. names_counted now + tried_until o (length part)) c.in_default.is in
-    let none : first_open_from t 0 part ≡ None = sym told.stop ∙ c.in_default.is in
-    record {
-      runs = λ runnable. runs_on all ranges k r first part now (so_far.runs runnable) (is runnable) c.try_instructions.new.tries (omega (arith, told.names_bound)) (omega (arith, told.attributes));
-      names = λ runnable. omega (arith, passed, so_far.names runnable, length_next all ranges k r first part (is runnable));
-      attributes = told.attributes ∙ so_far.attributes;
-      name = told.name ∙ so_far.name;
-      content = told.content ∙ so_far.content;
-      stop = λ runnable.
-          so_far.stop runnable
-          ∙ (stops_next all ranges k r first part (is runnable) s t same (length (all_at all (take k ranges))) none
-          ∙ ap (λ n. first_open_from s n (all_at all (drop (k + 1) ranges))) (sym (length_next all ranges k r first part (is runnable))));
-      rest = λ runnable. so_far.rest runnable ∙ gathers_next all ranges k r first part (is runnable) s t same ids with_ids c.loop-index.ctx c.try_instructions.new.ctx none told.ctx;
-    }
-
--- 2. It stopped
-
-pub returns-in-Some-clause-tried : goal.returns-in-Some-clause-tried
-returns-in-Some-clause-tried g c = λ runnable.
-    let ids = g.E.ElementData.ids in
-    let with_ids = g.E.ElementData.with_ids in
     let all = c.args.self.now.instructions.now in
     let ranges = ranges_of c.args.self.now in
     let now = c.loop-index.tries in
@@ -59,45 +22,67 @@ returns-in-Some-clause-tried g c = λ runnable.
     let same : t ≡ s = ap (sight c.args.self.now.state) so_far.name in
     let r = c.range.result.now in
     let within : k < length ranges = subst (λ n. k < n) c.len-index-end.ensures c.loop-index-test.true in
-    let first = first_left ranges k r within c.range.ensures in
-    let is : part ≡ instructions_at all r = lent all ranges k r first part now (so_far.runs runnable) c.instructions_in-part.ensures.value in
+    let first = first_left all ranges k r within c.range.ensures in
+    let is = λ (runnable : AreRunnable all ranges c.args.tries.now). part_is all ranges k r within c.range.ensures (so_far.runs runnable) part c.instructions_in-part.ensures.value in
+    let next = λ (runnable : AreRunnable all ranges c.args.tries.now). length_next all ranges k r within c.range.ensures (so_far.runs runnable) part c.instructions_in-part.ensures.value in
+    let passed : names_counted c.try_instructions.new.tries ≡ names_counted now + length part =
+    told.names ∙ ap (λ o. names_counted now + tried_until o (length part)) c.in_default.is in
+    let none : first_open_from t 0 part ≡ None = sym told.stop ∙ c.in_default.is in
+    record {
+      runs = λ runnable. others_run all first (so_far.runs runnable) part (is runnable) c.try_instructions.new.tries (omega (arith, told.names_bound)) (omega (arith, told.attributes));
+      names = λ runnable. omega (arith, passed, so_far.names runnable, next runnable);
+      attributes = told.attributes ∙ so_far.attributes;
+      name = told.name ∙ so_far.name;
+      content = told.content ∙ so_far.content;
+      stop = λ runnable.
+          so_far.stop runnable
+          ∙ (stop_next all first part (is runnable) t s same (length (all_at all (take k ranges))) none
+          ∙ ap (λ n. first_open_from s n (all_at all (drop (k + 1) ranges))) (sym (next runnable)));
+      rest = λ runnable. so_far.rest runnable ∙ names_next all first part (is runnable) t s same g.E.ElementData.ids g.E.ElementData.with_ids c.loop-index.ctx c.try_instructions.new.ctx none told.ctx;
+    }
+
+-- 2. It stopped
+
+pub returns-in-Some-clause-tried : goal.returns-in-Some-clause-tried
+returns-in-Some-clause-tried g c = λ runnable.
+    let all = c.args.self.now.instructions.now in
+    let ranges = ranges_of c.args.self.now in
+    let now = c.loop-index.tries in
+    let k = c.loop-index.index in
+    let so_far = c.loop-index.invariant in
+    let part = c.instructions_in-part.result.now in
+    let told = c.in_ok-offset.ensures in
+    let t = sight c.args.self.now.state c.loop-index.ctx.stack_item.local_name in
+    let s = sight c.args.self.now.state c.args.ctx.now.stack_item.local_name in
+    let same : t ≡ s = ap (sight c.args.self.now.state) so_far.name in
+    let r = c.range.result.now in
+    let within : k < length ranges = subst (λ n. k < n) c.len-index-end.ensures c.loop-index-test.true in
+    let first = first_left all ranges k r within c.range.ensures in
+    let is = part_is all ranges k r within c.range.ensures (so_far.runs runnable) part c.instructions_in-part.ensures.value in
     let some : first_open_from t 0 part ≡ Some c.in-Some.offset = sym told.stop ∙ c.in-Some.is in
-    let before = length (all_at all (take k ranges)) in
     let passed : names_counted c.try_instructions.new.tries ≡ names_counted now + (c.in-Some.offset + 1) = told.names ∙ ap (λ o. names_counted now + tried_until o (length part)) c.in-Some.is in
     record {
-      stops = sym (so_far.stop runnable ∙ stops_here all ranges k r first part is s t same before c.in-Some.offset some);
+      stops = sym (so_far.stop runnable ∙ stop_here all first part is t s same (length (all_at all (take k ranges))) c.in-Some.offset some);
       within = (within, subst (λ q. c.in-Some.offset < length (instructions_at all q)) c.range.ensures (omega (arith, passed, told.names_bound, ap length is)));
-      gathered = gathers_here all ranges k r first part is s t same ids with_ids c.loop-index.ctx c.try_instructions.new.ctx c.in-Some.offset some told.ctx ∙ sym (so_far.rest runnable);
+      gathered = names_here all first part is t s same g.E.ElementData.ids g.E.ElementData.with_ids c.loop-index.ctx c.try_instructions.new.ctx c.in-Some.offset some told.ctx ∙ sym (so_far.rest runnable);
       names = omega (arith, passed, so_far.names runnable);
     }
 
 pub returns-in-Some-clause-within : goal.returns-in-Some-clause-within
 returns-in-Some-clause-within g c = λ runnable.
-    let all = c.args.self.now.instructions.now in
-    let ranges = ranges_of c.args.self.now in
-    let k = c.loop-index.index in
     let so_far = c.loop-index.invariant in
-    let part = c.instructions_in-part.result.now in
     let told = c.try_instructions.ensures in
-    let r = c.range.result.now in
-    let first = first_left ranges k r (subst (λ n. k < n) c.len-index-end.ensures c.loop-index-test.true) c.range.ensures in
-    tried_within all ranges k r first part (lent all ranges k r first part c.loop-index.tries (so_far.runs runnable) c.instructions_in-part.ensures.value) _ c.args.tries.now c.loop-index.tries _
-    (so_far.names runnable) so_far.attributes told.names_bound told.attributes
+    tried_within c.args.self.now.instructions.now (ranges_of c.args.self.now) c.loop-index.index c.range.result.now (subst (λ n. c.loop-index.index < n) c.len-index-end.ensures c.loop-index-test.true) c.range.ensures
+    (so_far.runs runnable) c.instructions_in-part.result.now c.instructions_in-part.ensures.value _ c.args.tries.now _ (so_far.names runnable) so_far.attributes told.names_bound told.attributes
 
 -- 3. It was refused
 
 pub returns-in_err-offset-clause-within : goal.returns-in_err-offset-clause-within
 returns-in_err-offset-clause-within g c = λ runnable.
-    let all = c.args.self.now.instructions.now in
-    let ranges = ranges_of c.args.self.now in
-    let k = c.loop-index.index in
     let so_far = c.loop-index.invariant in
-    let part = c.instructions_in-part.result.now in
     let told = c.try_instructions.ensures in
-    let r = c.range.result.now in
-    let first = first_left ranges k r (subst (λ n. k < n) c.len-index-end.ensures c.loop-index-test.true) c.range.ensures in
-    tried_within all ranges k r first part (lent all ranges k r first part c.loop-index.tries (so_far.runs runnable) c.instructions_in-part.ensures.value) _ c.args.tries.now c.loop-index.tries _
-    (so_far.names runnable) so_far.attributes told.names_bound told.attributes
+    tried_within c.args.self.now.instructions.now (ranges_of c.args.self.now) c.loop-index.index c.range.result.now (subst (λ n. c.loop-index.index < n) c.len-index-end.ensures c.loop-index-test.true) c.range.ensures
+    (so_far.runs runnable) c.instructions_in-part.result.now c.instructions_in-part.ensures.value _ c.args.tries.now _ (so_far.names runnable) so_far.attributes told.names_bound told.attributes
 
 pub returns-in_err-offset-clause-free : goal.returns-in_err-offset-clause-free
 returns-in_err-offset-clause-free g c = λ free.

@@ -1,24 +1,26 @@
-use Rattle.std.proofs.Common.{◌≡◌, true, inr, refl, sym, ◌∙◌, subst, Bool, List}
+use Rattle.std.proofs.Common.{true, inr, refl, sym, ◌∙◌, subst, Bool, List}
 use Rattle.std.specs.Result.{IfOk, IsOk}
 use Rattle.std.proofs.lemmas.Result.{on_err_weaker}
 use Rattle.lol_base.specs.StartTags.{StartTag}
 use Rattle.lol_instructions.specs.Attributes.{tag_attributes}
-use Rattle.lol_instructions.specs.declared.tries.Tries.{Tries}
 use Rattle.lol_program.specs.Paths.{Selectors}
 use Rattle.lol_stack.specs.declared.execution_ctx.ExecutionCtx.{ExecutionCtx}
-use Rattle.lol_memory.specs.Ids.{ascending}
-use Rattle.lol_memory.specs.declared.match_info.MatchInfo.{MatchInfo}
-use Rattle.lol_stack.specs.Calls.{IsCalledAtEach, reports}
 use Rattle.lol_memory.specs.declared.limited_vec.PushError.TheVariants as pushes
 use Rattle.lol_vm.specs.Events.{Event, has_content}
 use Rattle.lol_vm.specs.InstructionRuns.{AreRunnable, NeedNoMemory}
 use Rattle.lol_vm.specs.TagRuns.{AreExecuted, AreWithin, IsPointIn, ranges_left, ranges_to_run_in, sight_in, tried_at}
 use Rattle.lol_vm.specs.TriedStarts.{left_at}
-use Rattle.lol_vm.specs.Vms.{IsPending, IsReported, IsRestOf, IsTriedAtMost, content_at}
+use Rattle.lol_vm.specs.Vms.{IsPending, IsRestOf, IsTriedAtMost, content_at}
 use Rattle.lol_vm.proofs.FreeTags.{finished_closed, is_alone_free, is_closed_free, memory_instead, void_is_closed}
 use Rattle.lol_vm.proofs.TagRuns.{of_same}
-use Rattle.lol_vm.proofs.VmFinishes.{tried_at_most, has_reported, has_content_still, answered, can_finish}
-use Rattle.lol_vm.proofs.VmRefusals.{err_is_not_ok, not_false, reported_with, on_ok_both, opens_nothing_both, same_opens_nothing}
+use Rattle.lol_vm.proofs.VmFinishes.{answered_now, can_finish, complete, tried_at_most}
+use Rattle.lol_vm.proofs.VmStarts.{IsComplete, reported}
+use Rattle.lol_vm.specs.Answers.{document}
+use Rattle.lol_vm.specs.Documents.{element_of}
+use Rattle.lol_vm.specs.PlaceRuns.{context_of}
+use Rattle.lol_vm.specs.Standing.{ranges_of_machine}
+use Rattle.lol_program.specs.Programs.{all_places}
+use Rattle.lol_vm.proofs.VmRefusals.{err_is_not_ok, not_false, on_ok_both, opens_nothing_both, same_opens_nothing}
 use Rattle.lol_vm.proofs.vm.VmOf+Program+LocalName+StackNames+E.finish.Given as given
 use Rattle.lol_vm.proofs.vm.VmOf+Program+LocalName+StackNames+E.finish.Goals as goal
 
@@ -72,24 +74,17 @@ module _ (g : given.Over) (c : goal.After-answer g) (s : Selectors) (esi : Bool)
       subst (λ b. AreExecuted ids with_ids s_now all left (record c.args.ctx { with_content = b }) new_ctx vm.tries after (tag_attributes tag) (tried_at point)) c.content_at.ensures
       (subst (λ a. AreExecuted ids with_ids s_now all left ctx new_ctx vm.tries after a (tried_at point)) seen done)
 
-  content_is : IsRestOf c.args.aux_info tag → c.complete.new.ctx.with_content ≡ has_content esi tag
-  content_is rest =
-      has_content_still g.E.ElementData.ids c.args.self.now s esi events tag (left_at c.args.ctx c.args.point) pending g.E.ElementData.with_ids g.met.E.ElementData.ids_of_changed c.args.aux_info.self_closing (sym rest.1) rest.2
+  told : IsRestOf c.args.aux_info tag → IsComplete g.E.ElementData.ids s esi events tag true c.complete.new.ctx (context_of pending.stands.machine.program true (element_of (document s esi events) tag) (all_places (ranges_of_machine pending.stands.machine))) c.complete.new.tries
+  told rest =
+      complete g.E.ElementData.ids c.args.self.now s esi events tag (left_at c.args.ctx c.args.point) pending g.E.ElementData.with_ids g.met.E.ElementData.ids_of_changed c.args.aux_info.self_closing (sym rest.1) rest.2
       c.complete.new.ctx c.complete.new.tries (executed rest)
-
-  reported : IsRestOf c.args.aux_info tag → (last : Tries) → last ≡ c.complete.new.tries → {F : Type 0} (step : F → MatchInfo → Unit {0} → F → Type 0) (f h : F)
-      → IsCalledAtEach step f (reports c.complete.new.ctx.with_content (ascending (g.E.ElementData.ids c.complete.new.ctx.stack_item.element_data))) h → IsReported step s esi events tag true last f h
-  reported rest last same step f h called =
-      reported_with step s esi events tag true f h c.complete.new.tries last same
-      (has_reported g.E.ElementData.ids c.args.self.now s esi events tag (left_at c.args.ctx c.args.point) pending g.E.ElementData.with_ids g.met.E.ElementData.ids_of_changed c.args.aux_info.self_closing (sym rest.1) rest.2
-      c.complete.new.ctx c.complete.new.tries (executed rest) step f h called)
 
 pub returns-clause-answered : goal.returns-clause-answered
 returns-clause-answered g c =
     on_ok_both c.answer.result
     (λ entered within s esi events tag pending rest. (
-      λ opens. within (content_is g c s esi events tag pending rest ∙ opens),
-      answered g.E.ElementData.ids c.args.self.now s esi events tag (left_at c.args.ctx c.args.point) pending g.E.ElementData.with_ids g.met.E.ElementData.ids_of_changed c.args.aux_info.self_closing
+      λ opens. within ((told g c s esi events tag pending rest).content ∙ opens),
+      answered_now g.E.ElementData.ids c.args.self.now s esi events tag (left_at c.args.ctx c.args.point) pending g.E.ElementData.with_ids g.met.E.ElementData.ids_of_changed c.args.aux_info.self_closing
           (sym rest.1) rest.2 c.complete.new.ctx c.complete.new.tries (executed g c s esi events tag pending rest) _ c.args.match_handler.now c.answer.new.match_handler c.answer.new.self c.answer.ensures.reported entered,
     ))
     c.answer.ensures.ok c.answer.ensures.within
@@ -102,7 +97,7 @@ pub returns-clause-limited : goal.returns-clause-limited
 returns-clause-limited g c = λ limit.
     let opens = c.answer.ensures.limited.0 limit in (
       opens.1,
-      λ s esi events tag pending rest. (sym (content_is g c s esi events tag pending rest) ∙ opens.0, reported g c s esi events tag pending rest c.answer.new.self.tries c.answer.ensures.tries _ _ _ c.answer.ensures.reported),
+      λ s esi events tag pending rest. let all = told g c s esi events tag pending rest in (sym all.content ∙ opens.0, reported all c.answer.ensures.reported _ c.answer.ensures.tries),
     )
 
 pub returns-clause-free : goal.returns-clause-free
@@ -126,7 +121,7 @@ returns-clause-due g c = λ error is due s esi events tag pending flat.
 
 pub returns-clause-all_or_none : goal.returns-clause-all_or_none
 returns-clause-all_or_none g c = λ error is. inr (
-  λ s esi events tag pending rest. reported g c s esi events tag pending rest c.answer.new.self.tries c.answer.ensures.tries _ _ _ c.answer.ensures.reported,
+  λ s esi events tag pending rest. reported (told g c s esi events tag pending rest) c.answer.ensures.reported _ c.answer.ensures.tries,
   λ due.
       let opens = not_false c.complete.new.ctx.with_content (λ closed. err_is_not_ok c.answer.result (pushes.Memory error) is (c.answer.ensures.closed closed)) in
       memory_instead c.answer.result error is (c.answer.ensures.limited.1 (opens, due)),

@@ -1,8 +1,0 @@
-use Rattle.std.proofs.Common.{rules}
-use Rattle.lol_vm.proofs.error.VmErrorFromAddChildError.from.Goals as goal
-
-pub returns-in-Memory : goal.returns-in-Memory
-returns-in-Memory c = search rules
-
-pub returns-in-CounterFull : goal.returns-in-CounterFull
-returns-in-CounterFull c = search rules
