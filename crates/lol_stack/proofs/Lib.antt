@@ -3,5 +3,4 @@ pub mod NameMaps
 pub mod Refusals
 pub mod StackLists
 pub mod EsiNames
-pub mod TypedFunctions
 pub mod StackLevels

@@ -20,6 +20,7 @@ pub mod TypedLaws
 pub mod LevelLaws
 pub mod TypedListLaws
 pub mod ClimbLaws
+pub mod TypedFunctions
 pub mod LevelledStacks
 pub mod SoundPlaceLaws
 pub mod SoundRangeLaws

@@ -1,8 +1,8 @@
 -- The places that ranges hold, counted.
-use Rattle.std.proofs.Common.{◌≡◌, ℕ, Bool, true, List, length, sym, ap, ◌∙◌, ◌&&◌}
+use Rattle.std.proofs.Common.{◌≡◌, ℕ, Bool, true, List, length, sym, ap, ◌∙◌, ◌&&◌, arith}
 use Rattle.std.specs.Prelude.{count_by}
 use Rattle.std.specs.declared.ops.Range.{Range}
-use Rattle.std.specs.List.{list_any}
+use Rattle.std.specs.List.{list_any, range_with_len}
 use Rattle.lol_instructions.specs.Tests.{Element}
 use Rattle.lol_program.specs.Paths.{Path, Selectors, last_compound}
 use Rattle.lol_base.specs.MemberLaws.{Among, same_count, among_from_contains, contains_from_among, distinct_from_pairs}
@@ -14,7 +14,7 @@ use Rattle.lol_instructions.specs.Compounds.{is_open, by_names}
 use Rattle.lol_program.specs.Programs.{Program, IsAt, IsProgramOf, AreClosed, all_places}
 use Rattle.lol_vm.specs.Machines.{HoldOnce, LeftMatches}
 use Rattle.lol_vm.specs.PlaceRuns.{instruction_value, is_open_at}
-use Rattle.lol_vm.proofs.Lists.{is_at, is_at_of, is_at_is, below, among_below, distinct_below, count_by_places, count_same, count_all, same_passing, any_among, among_any}
+use Rattle.lol_vm.proofs.Lists.{is_at, is_at_of, is_at_is, distinct_range, range_among, count_by_places, count_same, count_all, same_passing, any_among, among_any}
 use Rattle.lol_vm.proofs.Held.{instruction_at, place_of_node}
 
 module _ (s : Selectors) (paths : List Path) (p : Program) (closed : AreClosed s) (program : IsProgramOf s paths p) where
@@ -39,9 +39,9 @@ module _ (s : Selectors) (paths : List Path) (p : Program) (closed : AreClosed s
     places_counted q left =
         nodes_counted q
         ∙ (count_by_places q paths
-        ∙ same_passing (is_at q paths) (below (length paths)) all (distinct_below (length paths)) (distinct_from_pairs all held.once)
+        ∙ same_passing (is_at q paths) (range_with_len 0 (length paths)) all (distinct_range 0 (length paths)) (distinct_from_pairs all held.once)
         (λ place fits h. let at = is_at_of q paths place fits in held_at place at.0 at.1 (left at.0 at.2))
-        (λ place fits h. let at = is_at_of q paths place fits in among_below (length paths) place (at_within paths place at.0 at.1)))
+        (λ place fits h. let at = is_at_of q paths place fits in range_among 0 (length paths) place (omega arith) (omega (arith, at_within paths place at.0 at.1))))
 
     names_counted : length all ≡ name_tries s.nodes outer
     names_counted =

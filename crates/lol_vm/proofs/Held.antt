@@ -131,63 +131,42 @@ module _ (place : ℕ) where
   with_one : (active : List (Range ℕ × ℕ)) (q : Range ℕ) → ranges_of_active (active ++ (q, place) ∷ []) ≡ ranges_of_active active ++ q ∷ []
   with_one active q = map-append (λ (a : Range ℕ × ℕ). a.0) active ((q, place) ∷ [])
 
-  activated_distinct : (active : List (Range ℕ × ℕ)) (ranges : List (Range ℕ)) → Distinct (ranges_of_active active) → Distinct (ranges_of_active (activated active place ranges))
-  activated_distinct active [] d = d
-  activated_distinct active (q ∷ ranges) d = by_test (is_range_active active q) refl (activated_distinct active ranges d) (λ more. activated_distinct (active ++ (q, place) ∷ []) ranges more)
+  abbrev with_next : List (Range ℕ × ℕ) → Range ℕ → List (Range ℕ × ℕ)
+  with_next active q = if is_range_active active q then active else active ++ (q, place) ∷ []
+
+  next_is : (active : List (Range ℕ × ℕ)) (q r : Range ℕ) → Among (ranges_of_active (with_next active q)) r ↔ (Among (ranges_of_active active) r ⊎ (q ≡ r))
+  next_is active q r = by_test (is_range_active active q) refl
+    where
+      by_test : (b : Bool) → is_range_active active q ≡ b → Among (ranges_of_active (if b then active else active ++ (q, place) ∷ [])) r ↔ (Among (ranges_of_active active) r ⊎ (q ≡ r))
+      by_test true is = (λ old. inl old, λ h. elim h [ inl old ↦ old | inr same ↦ subst (Among (ranges_of_active active)) same (active_among active q is) ])
+      by_test false is = (
+        λ h. elim (among_either (ranges_of_active active) (q ∷ []) r (subst (λ rs. Among rs r) (with_one active q) h)) [ inl old ↦ inl old | inr (inl same) ↦ inr same | inr (inr none) ↦ absurd none ],
+        λ h. subst (λ rs. Among rs r) (sym (with_one active q)) (elim h [ inl old ↦ among_front (ranges_of_active active) (q ∷ []) r old | inr same ↦ among_back (ranges_of_active active) (q ∷ []) r (inl same) ]),
+      )
+
+  next_distinct : (active : List (Range ℕ × ℕ)) (q : Range ℕ) → Distinct (ranges_of_active active) → Distinct (ranges_of_active (with_next active q))
+  next_distinct active q d = by_test (is_range_active active q) refl
     where
       new_one : is_range_active active q ≡ false → (r : Range ℕ) → Among (ranges_of_active active) r → Among (q ∷ []) r → ⊥
       new_one is r old (inl same) = true≢false (sym (among_active active q (subst (Among (ranges_of_active active)) (sym same) old)) ∙ is)
       new_one is r old (inr a) = absurd a
 
-      by_test : (b : Bool) → is_range_active active q ≡ b → Distinct (ranges_of_active (activated active place ranges))
-          → (Distinct (ranges_of_active (active ++ (q, place) ∷ [])) → Distinct (ranges_of_active (activated (active ++ (q, place) ∷ []) place ranges)))
-          → Distinct (ranges_of_active (activated (if b then active else active ++ (q, place) ∷ []) place ranges))
-      by_test true is kept added = kept
-      by_test false is kept added = added (subst Distinct (sym (with_one active q)) (distinct_append (ranges_of_active active) (q ∷ []) d (λ a. absurd a, tt) (new_one is)))
+      by_test : (b : Bool) → is_range_active active q ≡ b → Distinct (ranges_of_active (if b then active else active ++ (q, place) ∷ []))
+      by_test true is = d
+      by_test false is = subst Distinct (sym (with_one active q)) (distinct_append (ranges_of_active active) (q ∷ []) d (λ a. absurd a, tt) (new_one is))
 
-  activated_from : (active : List (Range ℕ × ℕ)) (ranges : List (Range ℕ)) (r : Range ℕ) → Among (ranges_of_active (activated active place ranges)) r → Among (ranges_of_active active) r ⊎ Among ranges r
-  activated_from active [] r a = inl a
-  activated_from active (q ∷ ranges) r a = by_test (is_range_active active q) (activated_from active ranges r) (activated_from (active ++ (q, place) ∷ []) ranges r) a
-    where
-      later : Among (ranges_of_active active) r ⊎ Among ranges r → Among (ranges_of_active active) r ⊎ Among (q ∷ ranges) r
-      later (inl old) = inl old
-      later (inr new) = inr (inr new)
+  activated_distinct : (active : List (Range ℕ × ℕ)) (ranges : List (Range ℕ)) → Distinct (ranges_of_active active) → Distinct (ranges_of_active (activated active place ranges))
+  activated_distinct active [] d = d
+  activated_distinct active (q ∷ ranges) d = activated_distinct (with_next active q) ranges (next_distinct active q d)
 
-      one : Among (ranges_of_active active) r ⊎ Among (q ∷ []) r → Among (ranges_of_active active) r ⊎ Among (q ∷ ranges) r
-      one (inl old) = inl old
-      one (inr (inl same)) = inr (inl same)
-      one (inr (inr a)) = absurd a
-
-      added : Among (ranges_of_active (active ++ (q, place) ∷ [])) r ⊎ Among ranges r → Among (ranges_of_active active) r ⊎ Among (q ∷ ranges) r
-      added (inl old) = one (among_either (ranges_of_active active) (q ∷ []) r (subst (λ rs. Among rs r) (with_one active q) old))
-      added (inr new) = inr (inr new)
-
-      by_test : (b : Bool) → (Among (ranges_of_active (activated active place ranges)) r → Among (ranges_of_active active) r ⊎ Among ranges r)
-          → (Among (ranges_of_active (activated (active ++ (q, place) ∷ []) place ranges)) r → Among (ranges_of_active (active ++ (q, place) ∷ [])) r ⊎ Among ranges r)
-          → Among (ranges_of_active (activated (if b then active else active ++ (q, place) ∷ []) place ranges)) r → Among (ranges_of_active active) r ⊎ Among (q ∷ ranges) r
-      by_test true kept more a = later (kept a)
-      by_test false kept more a = added (more a)
-
-  activated_has : (active : List (Range ℕ × ℕ)) (ranges : List (Range ℕ)) (r : Range ℕ) → Among (ranges_of_active active) r ⊎ Among ranges r → Among (ranges_of_active (activated active place ranges)) r
-  activated_has active [] r (inl old) = old
-  activated_has active [] r (inr new) = absurd new
-  activated_has active (q ∷ ranges) r h = by_test (is_range_active active q) refl (activated_has active ranges r) (activated_has (active ++ (q, place) ∷ []) ranges r)
-    where
-      kept : is_range_active active q ≡ true → Among (ranges_of_active active) r ⊎ Among (q ∷ ranges) r → Among (ranges_of_active active) r ⊎ Among ranges r
-      kept is (inl old) = inl old
-      kept is (inr (inl same)) = inl (subst (Among (ranges_of_active active)) same (active_among active q is))
-      kept is (inr (inr new)) = inr new
-
-      added : Among (ranges_of_active active) r ⊎ Among (q ∷ ranges) r → Among (ranges_of_active (active ++ (q, place) ∷ [])) r ⊎ Among ranges r
-      added (inl old) = inl (subst (λ rs. Among rs r) (sym (with_one active q)) (among_front (ranges_of_active active) (q ∷ []) r old))
-      added (inr (inl same)) = inl (subst (λ rs. Among rs r) (sym (with_one active q)) (among_back (ranges_of_active active) (q ∷ []) r (inl same)))
-      added (inr (inr new)) = inr new
-
-      by_test : (b : Bool) → is_range_active active q ≡ b → (Among (ranges_of_active active) r ⊎ Among ranges r → Among (ranges_of_active (activated active place ranges)) r)
-          → (Among (ranges_of_active (active ++ (q, place) ∷ [])) r ⊎ Among ranges r → Among (ranges_of_active (activated (active ++ (q, place) ∷ []) place ranges)) r)
-          → Among (ranges_of_active (activated (if b then active else active ++ (q, place) ∷ []) place ranges)) r
-      by_test true is has more = has (kept is h)
-      by_test false is has more = more (added h)
+  activated_is : (active : List (Range ℕ × ℕ)) (ranges : List (Range ℕ)) (r : Range ℕ) → Among (ranges_of_active (activated active place ranges)) r ↔ (Among (ranges_of_active active) r ⊎ Among ranges r)
+  activated_is active [] r = (λ a. inl a, λ h. elim h [ inl old ↦ old | inr none ↦ absurd none ])
+  activated_is active (q ∷ ranges) r =
+      let more = activated_is (with_next active q) ranges r in
+      let here = next_is active q r in (
+        λ a. elim (more.0 a) [ inl old ↦ elim (here.0 old) [ inl o ↦ inl o | inr is ↦ inr (inl is) ] | inr new ↦ inr (inr new) ],
+        λ h. more.1 (elim h [ inl old ↦ inl (here.1 (inl old)) | inr (inl is) ↦ inl (here.1 (inr is)) | inr (inr new) ↦ inr new ]),
+      )
 
 abbrev SomeAncestorMatches : List Element → Path → Type 0
 SomeAncestorMatches elements path = some_ancestor_passes (matches path) elements ≡ true
@@ -213,11 +192,11 @@ module _ (paths : List Path) (p : Program) where
           let old : List (Range ℕ × ℕ) = active_of items in (
             activated_distinct (length items) old item.hereditary_jumps before.0,
             λ r. (
-              λ h. elim (activated_from (length items) old item.hereditary_jumps r h) [
+              λ h. elim ((activated_is (length items) old item.hereditary_jumps r).0 h) [
                 | inl a ↦ reached_by hereditary_jumps_of (SomeAncestorMatches outer) (SomeAncestorMatches (e ∷ outer)) (λ path fits. or_of (matches path e outer) _ (inr fits)) r ((before.1 r).0 a)
                 | inr a ↦ reached_by hereditary_jumps_of (Matches e outer) (SomeAncestorMatches (e ∷ outer)) (λ path fits. or_of (matches path e outer) _ (inl fits)) r ((is.hereditary_jumps.members r).0 (contains_from_among item.hereditary_jumps r a))
               ],
-              λ h. activated_has (length items) old item.hereditary_jumps r (elim (or_parts (matches h.1 e outer) _ h.6) [
+              λ h. (activated_is (length items) old item.hereditary_jumps r).1 (elim (or_parts (matches h.1 e outer) _ h.6) [
                 | inl fits ↦ inr (among_from_contains item.hereditary_jumps r ((is.hereditary_jumps.members r).1 (h.0, h.1, h.2, h.3, h.4, h.5, fits)))
                 | inr fits ↦ inl ((before.1 r).1 (h.0, h.1, h.2, h.3, h.4, h.5, fits))
               ]),

@@ -28,8 +28,6 @@ pub mod Alike
 pub mod Unasked
 pub mod ToldRuns
 pub mod StackMachines
-pub mod TypedLevels
-pub mod TypedCounting
 pub mod StackCounting
 pub mod GatheringLemmas
 pub mod InstructionLists

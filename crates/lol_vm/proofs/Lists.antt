@@ -1,5 +1,5 @@
 -- Lists: what they hold, and each once.
-use Rattle.std.proofs.Common.{◌≡◌, ℕ, zero, suc, ◌+◌, ◌<◌, ◌≤◌, Bool, true, false, cond, List, [], ◌∷◌, ◌++◌, length, map, filter, Some, ◌⊎◌, inl, inr, refl, sym, ap, ◌∙◌, subst, arith}
+use Rattle.std.proofs.Common.{◌≡◌, ℕ, zero, suc, ◌+◌, ◌<◌, ◌≤◌, Bool, true, false, cond, List, [], ◌∷◌, ◌++◌, length, map, filter, Some, ◌⊎◌, inl, inr, refl, sym, ap, ◌∙◌, subst, arith, ◌-◌}
 use Rattle.std.specs.Prelude.{slice_get, flat_map, count_by}
 use Rattle.std.specs.List.{range_with_len, list_any}
 use Rattle.lol_base.specs.MemberLaws.{Among, Distinct, among_front, among_back, among_either, same_count, count_by-cons}
@@ -163,47 +163,30 @@ module _ {A : Type 0} (q : A → Bool) where
   is_at_is (y ∷ xs) zero x at = let is : y ≡ x = cc in ap q is
   is_at_is (y ∷ xs) (suc k) x at = is_at_is xs k x at
 
--- the numbers below n
-pub below : ℕ → List ℕ
-below zero = []
-below (suc n) = zero ∷ map suc (below n)
-
-pub among_below : (n k : ℕ) → k < n → Among (below n) k
-unfolding below
-among_below zero k h = absurd (omega (arith, h))
-among_below (suc n) zero h = inl refl
-among_below (suc n) (suc k) h = inr (map_among suc (below n) k (among_below n k (omega (arith, h))))
-
-distinct_map : {A B : Type 0} (f : A → B) → ((x y : A) → f x ≡ f y → x ≡ y) → (xs : List A) → Distinct xs → Distinct (map f xs)
-distinct_map f one [] d = tt
-distinct_map f one (x ∷ xs) d = (λ again. let at = among_map f xs (f x) again in d.0 (subst (Among xs) (one at.0 x at.2) at.1), distinct_map f one xs d.1)
-
-zero_not_suc : (ns : List ℕ) → Among (map suc ns) zero → ⊥
-zero_not_suc ns h = let at = among_map suc ns zero h in omega (arith, at.2)
-
-pub distinct_below : (n : ℕ) → Distinct (below n)
-unfolding below
-distinct_below zero = tt
-distinct_below (suc n) = (zero_not_suc (below n), distinct_map suc (λ x y h. omega (arith, h)) (below n) (distinct_below n))
-
-count-map : {A B : Type 0} (p : B → Bool) (f : A → B) (xs : List A) → count_by p (map f xs) ≡ count_by (λ x. p (f x)) xs
-count-map p f [] = refl
-count-map p f (x ∷ xs) = count_by-cons p (f x) (map f xs) ∙ (ap (λ n. cond (p (f x)) 1 0 + n) (count-map p f xs) ∙ sym (count_by-cons (λ y. p (f y)) x xs))
-
-pub count_by_places : {A : Type 0} (q : A → Bool) (xs : List A) → count_by q xs ≡ count_by (is_at q xs) (below (length xs))
-unfolding below is_at
-count_by_places q [] = refl
-count_by_places q (x ∷ xs) =
-    count_by-cons q x xs
-    ∙ (ap (λ n. cond (q x) 1 0 + n) (count_by_places q xs ∙ sym (count-map (is_at q (x ∷ xs)) suc (below (length xs))))
-    ∙ sym (count_by-cons (is_at q (x ∷ xs)) zero (map suc (below (length xs)))))
-
 pub count_same : {A : Type 0} (p r : A → Bool) (xs : List A) → ((x : A) → Among xs x → p x ≡ r x) → count_by p xs ≡ count_by r xs
 count_same p r [] h = refl
 count_same p r (x ∷ xs) h =
     count_by-cons p x xs
     ∙ ((λ i. cond (h x (inl refl) i) 1 0 + count_same p r xs (λ y a. h y (inr a)) i)
     ∙ sym (count_by-cons r x xs))
+
+-- the elements that pass, by their places from a number on
+count_from : {A : Type 0} (q : A → Bool) (xs : List A) (a : ℕ) → count_by q xs ≡ count_by (λ k. is_at q xs (k - a)) (range_with_len a (length xs))
+unfolding is_at
+count_from q [] a = refl
+count_from q (x ∷ xs) a =
+    let here : 0 ≡ a - a = omega arith in
+    let rest = count_same (λ k. is_at q xs (k - (a + 1))) (λ k. is_at q (x ∷ xs) (k - a)) (range_with_len (a + 1) (length xs)) (λ k h.
+    let above = among_range (a + 1) (length xs) k h in
+    let next : suc (k - (a + 1)) ≡ k - a = omega (arith, above.0) in
+    ap (is_at q (x ∷ xs)) next) in
+    count_by-cons q x xs
+    ∙ ((λ i. cond (ap (is_at q (x ∷ xs)) here i) 1 0 + (count_from q xs (a + 1) ∙ rest) i)
+    ∙ sym (count_by-cons (λ k. is_at q (x ∷ xs) (k - a)) a (range_with_len (a + 1) (length xs))))
+
+pub count_by_places : {A : Type 0} (q : A → Bool) (xs : List A) → count_by q xs ≡ count_by (is_at q xs) (range_with_len 0 (length xs))
+count_by_places q xs =
+    count_from q xs 0 ∙ count_same (λ k. is_at q xs (k - 0)) (is_at q xs) (range_with_len 0 (length xs)) (λ k h. let same : k - 0 ≡ k = omega arith in ap (is_at q xs) same)
 
 pub count_all : {A : Type 0} (p : A → Bool) (xs : List A) → ((x : A) → Among xs x → p x ≡ true) → count_by p xs ≡ length xs
 count_all p xs h = count_same p (λ x. true) xs h ∙ all_counted xs

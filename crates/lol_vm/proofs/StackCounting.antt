@@ -17,14 +17,14 @@ use Rattle.lol_vm.specs.Standing as standing
 use Rattle.lol_stack.specs.TypedCounts as typed
 use Rattle.lol_stack.specs.TypedCounts.{TypedCount, count_at}
 use Rattle.lol_stack.specs.Stacks.{items_in, typed_in, last_count, typed_count, count_or, counted_in, counted_if, counted_item, with_typed, count_by_type, root_count}
-use Rattle.lol_vm.specs.StackMachines.{item_shown, items_shown, children_shown, typed_shown, KeepsTyped, KeepsMachine}
+use Rattle.lol_vm.specs.StackMachines.{item_shown, items_shown, children_shown, KeepsTyped, KeepsMachine}
 use Rattle.lol_stack.specs.declared.stack_item.StackItemOf.{StackItemOf}
 use Rattle.lol_stack.specs.declared.stack.StackOf.{StackOf}
 use Rattle.lol_stack.specs.declared.stack.StackNames.{StackNames}
 use Rattle.lol_vm.proofs.Kept.{counters_are_places}
 use Rattle.lol_vm.proofs.StackMachines.{shown_push, items_counted}
-use Rattle.lol_stack.specs.ClimbLaws.{climb_counted}
-use Rattle.lol_vm.proofs.TypedCounting.{shown_at_top, shown_counted, shown_elsewhere}
+use Rattle.lol_stack.specs.ClimbLaws.{counting_stands}
+use Rattle.lol_stack.specs.TypedFunctions.{counting_adds_one, counts_at_their_level}
 
 -- 1. The last of a list
 
@@ -56,26 +56,29 @@ name_either_way a b =
     (λ h. (bytes_eq-Decides (lowercased b) (lowercased a)).1 (sym ((bytes_eq-Decides (lowercased a) (lowercased b)).0 h)))
     (λ h. (bytes_eq-Decides (lowercased a) (lowercased b)).1 (sym ((bytes_eq-Decides (lowercased b) (lowercased a)).0 h)))
 
+level_either_way : (a b : ℕ) → (a == b) ≡ (b == a)
+level_either_way a b = same_bool _ _ (λ h. (Decides-eqb b a).1 (sym ((Decides-eqb a b).0 h))) (λ h. (Decides-eqb a b).1 (sym ((Decides-eqb b a).0 h)))
+
+one_if : (b : Bool) (n : ℕ) → n + (if b then 1 else 0) ≡ cond b (n + 1) n
+one_if true n = refl
+one_if false n = omega arith
+
 keeps_typed_counted : (kept : Option (List TypedCount)) (by_type : Bool) (top : ℕ) (counts : ℕ → List ℕ → ℕ) (name : List ℕ) → (by_type ≡ true → counts top name < full_count)
     → KeepsTyped kept by_type top counts → KeepsTyped (option_map (λ ts. typed.counted_by_type ts top (local_name name)) kept) by_type top (counted_typed counts top name)
 keeps_typed_counted None by_type top counts name free keeps = keeps
-keeps_typed_counted (Some ts) by_type top counts name free keeps = (keeps.0, climb_counted top ts (local_name name) keeps.1, λ level q. by_test level q (level == top) refl)
-  where
-    by_test : (level : ℕ) (q : List ℕ) (b : Bool) → (level == top) ≡ b → cond (b && same_name q name) (counts level q + 1) (counts level q) ≡ typed_shown (typed.counted_by_type ts top (local_name name)) level (local_name q)
-    by_test level q true at =
-        let here : level ≡ top = (Decides-eqb level top).0 at in
-        let own = keeps.2 top q in
-        subst (λ l. cond (same_name q name) (counts l q + 1) (counts l q) ≡ typed_shown (typed.counted_by_type ts top (local_name name)) l (local_name q)) (sym here)
-        ((λ i. cond (sym (name_either_way name q) i) (own i + 1) (own i))
-        ∙ sym (shown_counted top ts (local_name name) (local_name q) keeps.1 (subst (λ n. n < full_count) (keeps.2 top name) (free keeps.0))))
-    by_test level q false at =
-        keeps.2 level q ∙ sym (shown_elsewhere top level ts (local_name name) (local_name q) keeps.1 (λ is. let same = (Decides-eqb level top).1 is in cc))
+keeps_typed_counted (Some ts) by_type top counts name free keeps = (
+  keeps.0,
+  counting_stands ts top top (local_name name) keeps.1 (omega arith),
+  λ level q. sym (
+      counting_adds_one ts top (local_name name) (subst (λ n. n < full_count) (keeps.2 top name) (free keeps.0)) level (lowercased q)
+      ∙ ((λ i. sym (keeps.2 level q) i + (if (level_either_way top level i && name_either_way name q i) then 1 else 0)) ∙ one_if ((level == top) && same_name q name) (counts level q))),
+)
 
 seen_typed : (kept : Option (List TypedCount)) (by_type : Bool) (top : ℕ) (counts : ℕ → List ℕ → ℕ) (name : List ℕ) → KeepsTyped kept by_type top counts → (by_type ≡ true → 0 < counts top name)
     → count_by_type kept top (local_name name) ≡ (if by_type then Some (counts top name) else None)
 seen_typed None by_type top counts name keeps some = sym (ap (λ b. if b then Some (counts top name) else None) keeps)
 seen_typed (Some ts) by_type top counts name keeps some =
-    let is : counts top name ≡ unwrap_or (count_at ts top (local_name name)) 0 = keeps.2 top name ∙ shown_at_top top ts (local_name name) keeps.1 in
+    let is : counts top name ≡ unwrap_or (count_at ts top (local_name name)) 0 = keeps.2 top name ∙ sym (counts_at_their_level ts top (local_name name) (keeps.1.rise (local_name name))) in
     by_count (count_at ts top (local_name name)) (counts top name) is (some keeps.0) ∙ sym (ap (λ b. if b then Some (counts top name) else None) keeps.0)
   where
     by_count : (o : Option ℕ) (n : ℕ) → n ≡ unwrap_or o 0 → 0 < n → o ≡ Some n

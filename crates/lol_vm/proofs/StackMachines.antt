@@ -1,16 +1,15 @@
 -- Stacks that keep what a machine keeps.
 use Rattle.lol_vm.specs.PlaceRuns.{Context}
 use Rattle.lol_program.specs.Programs.{Program}
-use Rattle.std.proofs.Common.{◌≡◌, ℕ, suc, ◌+◌, ◌-◌, ◌<◌, ◌≤◌, Bool, true, false, cond, List, [], ◌∷◌, ◌++◌, length, map, reverse, take, drop, position, Option, Some, None, refl, sym, ap, ◌∙◌, subst, arith}
-use Rattle.std.specs.Prelude.{nat_lt, nat_le, if◌then◌else◌}
+use Rattle.std.proofs.Common.{◌≡◌, ℕ, suc, ◌+◌, ◌-◌, ◌<◌, ◌≤◌, Bool, true, false, List, [], ◌∷◌, ◌++◌, length, map, reverse, take, drop, position, Option, Some, None, refl, sym, ap, ◌∙◌, subst, arith, ◌&&◌}
+use Rattle.std.specs.Prelude.{nat_le, if◌then◌else◌}
 use Rattle.std.specs.List.{take-map}
 use Rattle.std.specs.Option.{option_map}
-use Rattle.std.proofs.lemmas.Bool.Decides.{nat_tests}
 use Rattle.std.proofs.lemmas.List.Quantifiers.{position-Some}
 use Rattle.std.proofs.lemmas.List.{length-drop, map-append, reverse-append, length-map, length-reverse, drop_at}
 use Rattle.std.specs.Str.{bytes_eq}
 use Rattle.lol_base.specs.Names.{lowercased}
-use Rattle.lol_base.specs.LocalNames.{Name, local_name}
+use Rattle.lol_base.specs.LocalNames.{Name}
 use Rattle.lol_memory.specs.LimitedVec.{LimitedVec}
 use Rattle.lol_memory.specs.Slots.{slots_after}
 use Rattle.lol_memory.specs.SlotLaws.{slots_pushed}
@@ -18,14 +17,16 @@ use Rattle.lol_vm.specs.Machines.{OpenItem}
 use Rattle.lol_stack.specs.TypedCounts.{TypedCount, cut_to}
 use Rattle.lol_vm.specs.Standing.{Machine, cut, closed_count, ended, new_machine, opened}
 use Rattle.lol_stack.specs.TypedLaws.{levels_in}
-use Rattle.lol_stack.specs.ClimbLaws.{climb_lower, climb_cut}
 use Rattle.lol_stack.specs.Stacks.{items_in, typed_in, IsSame, IsClosed, IsEndedAt, IsPushed}
 use Rattle.lol_vm.specs.StackMachines.{item_shown, items_shown, children_shown, KeepsTyped, KeepsMachine, IsNew, IsItemOf}
 use Rattle.lol_stack.specs.declared.stack_item.StackItemOf.{StackItemOf}
 use Rattle.lol_stack.specs.declared.stack.StackOf.{StackOf}
 use Rattle.lol_stack.specs.declared.stack.StackNames.{StackNames}
 use Rattle.lol_vm.proofs.Runs.{cut_reverse}
-use Rattle.lol_vm.proofs.TypedLevels.{cut_to-all, shown_cut as typed_cut}
+use Rattle.lol_stack.specs.ClimbLaws.{climb_top, cutting_stands, none_stand, not_above, stand_lower}
+use Rattle.lol_stack.specs.TypedFunctions.{cutting_drops_above}
+use Rattle.lol_stack.specs.TypedLaws.{Climb}
+use Rattle.lol_stack.specs.TypedCounts.{all_above}
 
 -- 1. Lists, the last element first
 
@@ -39,7 +40,7 @@ shown_length f xs = length-reverse (map f xs) ∙ length-map xs f
 
 keeps_typed_above : (typed : Option (List TypedCount)) (by_type : Bool) (a b : ℕ) (counts : ℕ → List ℕ → ℕ) → a ≤ b → KeepsTyped typed by_type a counts → KeepsTyped typed by_type b counts
 keeps_typed_above None by_type a b counts h keeps = keeps
-keeps_typed_above (Some ts) by_type a b counts h keeps = (keeps.0, climb_lower a b (levels_in ts) h keeps.1, keeps.2)
+keeps_typed_above (Some ts) by_type a b counts h keeps = (keeps.0, stand_lower a b ts h keeps.1, keeps.2)
 
 -- 3. Stacks
 
@@ -58,7 +59,7 @@ module _ {E : Type 0} where
   }
     where
       by_test : (by_type : Bool) → KeepsTyped (if by_type then Some [] else None) by_type 0 (λ level name. 0)
-      by_test true = (refl, tt, λ level name. refl)
+      by_test true = (refl, none_stand 0, λ level name. refl)
       by_test false = refl
 
   pub same_stack_keeps : (old new : StackOf Name StackNames E) (m : Machine) → KeepsMachine old m → IsSame old new → KeepsMachine new m
@@ -94,23 +95,25 @@ shown_cut f xs n place sizes =
     let back = length-reverse (drop place (map f xs)) ∙ length-drop place (map f xs) in
     ap (drop n) (cut_reverse place (map f xs)) ∙ (drop_at (reverse (drop place (map f xs))) (reverse (take place (map f xs))) n (omega (arith, back, length-map xs f, sizes)) ∙ ap reverse (take-map f place xs))
 
-le_or_above : (level place k : ℕ) → cond (nat_le level place) k 0 ≡ cond (nat_lt place level) 0 k
-le_or_above level place k = grind (arith, nat_tests)
+cut_to-all : (top : ℕ) (ts : List TypedCount) → Climb top (levels_in ts) → cut_to top ts ≡ ts
+cut_to-all top [] c = refl
+cut_to-all top (t ∷ ts) c =
+    (λ i. if (not_above top t.level (climb_top top t.level (levels_in ts) c) i && all_above top ts) then [] else t ∷ cut_to top ts) ∙ ap (λ rest. t ∷ rest) (cut_to-all top ts c.1)
 
 keeps_typed_cut : (typed : Option (List TypedCount)) (by_type : Bool) (top place : ℕ) (counts : ℕ → List ℕ → ℕ) → KeepsTyped typed by_type top counts
     → KeepsTyped (option_map (cut_to place) typed) by_type place (λ level name. if nat_le level place then counts level name else 0)
 keeps_typed_cut None by_type top place counts keeps = keeps
 keeps_typed_cut (Some ts) by_type top place counts keeps = (
   keeps.0,
-  climb_cut top place ts keeps.1,
-  λ level name. le_or_above level place (counts level name) ∙ (ap (cond (nat_lt place level) 0) (keeps.2 level name) ∙ sym (typed_cut top place level ts (local_name name) keeps.1)),
+  cutting_stands ts top place keeps.1,
+  λ level name. ap (λ n. if nat_le level place then n else 0) (keeps.2 level name) ∙ sym (cutting_drops_above ts place top keeps.1.climb level (lowercased name)),
 )
 
 keeps_typed_stray : (typed : Option (List TypedCount)) (by_type : Bool) (top : ℕ) (counts : ℕ → List ℕ → ℕ) → KeepsTyped typed by_type top counts
     → KeepsTyped typed by_type top (λ level name. if nat_le level top then counts level name else 0)
 keeps_typed_stray None by_type top counts keeps = keeps
 keeps_typed_stray (Some ts) by_type top counts keeps =
-    subst (λ xs. KeepsTyped (Some xs) by_type top (λ level name. if nat_le level top then counts level name else 0)) (cut_to-all top top ts keeps.1 (omega arith))
+    subst (λ xs. KeepsTyped (Some xs) by_type top (λ level name. if nat_le level top then counts level name else 0)) (cut_to-all top ts keeps.1.climb)
     (keeps_typed_cut (Some ts) by_type top top counts keeps)
 
 -- the place, from the outermost on, of the innermost item of a name

@@ -26,6 +26,7 @@ use Rattle.lol_vm.specs.declared.event_run.EventRun.{EventRun}
 use Rattle.lol_vm.proofs.CallerLemmas.{is_left, unfinished_is}
 use Rattle.lol_vm.proofs.RunSteps.{charged_later, follows_on, not_refused}
 use Rattle.lol_vm.proofs.Runs.{events-document}
+use Rattle.lol_base.specs.BoolLaws.{and-false, and-true}
 
 module _ (s : Selectors) (esi : Bool) (events : List Event) (tag : StartTag) where
   module _ {E F : Type 0} (ids_of : E → Ids) (old mid : Vm E) (request : AuxStartTagInfoRequest E) (pending : IsPending ids_of s esi events tag mid request) (kept : data_in mid ≡ data_in old) where
@@ -83,14 +84,6 @@ module _ (s : Selectors) (esi : Bool) (item_bytes : ℕ) (before : Limiter) (vm 
   shown [] = refl
   shown (m ∷ matched) = ap (λ ms. m ∷ ms) (shown matched)
 
-  opens_nothing : (content drop : Bool) → drop ≡ true → (content && not drop) ≡ false
-  opens_nothing true drop is = ap not is
-  opens_nothing false drop is = refl
-
-  opens_content : (content drop : Bool) → drop ≡ false → (content && not drop) ≡ content
-  opens_content true drop is = ap not is
-  opens_content false drop is = refl
-
   module _ (new : Vm StartedElement) (later : Limiter) (stands : Stands s esi new (events ++ Start tag ∷ [])) (bytes : slot_bytes new ≡ slot_bytes vm) (charge : later ≡ charged now ((slots_charged new - slots_charged vm) * slot_bytes vm))
       (room : last_count (stack_in vm) ≡ full_count → ⊥) (unlimited : opens s esi events tag ≡ true → IsLimited (list_in (stack_in vm)) now → ⊥) where
     goes_on : (b : Bool) → opens s esi events tag ≡ b → events_of (data_in new) ≡ reverse (numbers_of (opened_if b)) → Follows s esi item_bytes before new (events ++ Start tag ∷ []) later
@@ -102,7 +95,7 @@ module _ (s : Selectors) (esi : Bool) (item_bytes : ℕ) (before : Limiter) (vm 
     start_charged = charged_later s esi item_bytes before vm events now f (Start tag) (not_refused s esi item_bytes before vm events now f tag room unlimited) new later stands bytes charge
 
     follows_dropped : {F : Type 0} (g h : F) → IsDropped s esi events tag vm new g h → Follows s esi item_bytes before new (events ++ Start tag ∷ []) later
-    follows_dropped g h is = goes_on false (opens_nothing (has_content esi tag) drops is.dropped) (ap events_of is.kept ∙ f.numbers)
+    follows_dropped g h is = goes_on false ((λ i. has_content esi tag && not (is.dropped i)) ∙ and-false (has_content esi tag)) (ap events_of is.kept ∙ f.numbers)
 
     module _ {F : Type 0} (ids_of : StartedElement → Ids) (step : F → MatchInfo → Unit {0} → F → Type 0) (asked : Bool) (mid : Vm StartedElement) (g h : F) (a : IsAnswered ids_of step s esi events tag asked vm mid g h)
         (number open_before : ℕ) (place : number ≡ length events) (open_is : open_before ≡ length (data_in vm))
@@ -125,7 +118,7 @@ module _ (s : Selectors) (esi : Bool) (item_bytes : ℕ) (before : Limiter) (vm 
           ∙ ((λ i. f.numbers i ++ sym events_before i ∷ []) ∙ sym (reverse-append (d.events ∷ []) (numbers_of d.open_elements))))
 
       follows_started : Follows s esi item_bytes before new (events ++ Start tag ∷ []) later
-      follows_started = goes_on (has_content esi tag) (opens_content (has_content esi tag) drops isnt_dropped) (numbers (has_content esi tag) a.opened)
+      follows_started = goes_on (has_content esi tag) ((λ i. has_content esi tag && not (isnt_dropped i)) ∙ and-true (has_content esi tag)) (numbers (has_content esi tag) a.opened)
 
 -- A tag that was taken, its element numbered, is one more that the run has answered.
 module _ (s : Selectors) (esi : Bool) (item_bytes : ℕ) (before : Limiter) (run : EventRun) (events : List Event) (now : Limiter) (r : IsRunOf s esi item_bytes before run events now) (tag : StartTag)

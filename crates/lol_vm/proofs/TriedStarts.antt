@@ -1,5 +1,5 @@
 -- What trying a counted start tag by its name comes to.
-use Rattle.std.proofs.Common.{◌≡◌, Result, Ok, ◌<◌, Bool, true, false, List, Option, Some, None, refl, sym, ap, ◌∙◌, subst, inl, inr, ◌+◌, not, [], ◌∷◌, ◌++◌, length, arith}
+use Rattle.std.proofs.Common.{◌≡◌, Result, Ok, ◌<◌, Bool, true, false, List, Option, Some, None, refl, sym, ap, ◌∙◌, subst, inl, inr, ◌+◌, not, [], ◌∷◌, ◌++◌, length, arith, ◌↔◌}
 use Rattle.std.specs.Prelude.{◌⊎◌, ◌||◌, ◌&&◌}
 use Rattle.std.specs.Result.{IfOk, IsOk}
 use Rattle.lol_base.specs.LocalNames.{Name, local_name}
@@ -29,7 +29,7 @@ use Rattle.lol_vm.specs.Vms.{Vm, Stands, IsTagOf, IsAnswered, IsReported, IsTrie
 use Rattle.lol_vm.specs.declared.tag_runs.RecoveryPoint.{RecoveryPoint}
 use Rattle.lol_vm.specs.declared.tag_runs.RecoveryPoint.TheVariants.{AtOnce, At}
 use Rattle.lol_vm.specs.declared.tag_runs.Stop.{Stop}
-use Rattle.lol_vm.proofs.VmRefusals.{limited_counted, was_limited}
+use Rattle.lol_vm.proofs.VmRefusals.{limited_counted}
 use Rattle.std.specs.List.{list_any}
 use Rattle.lol_instructions.specs.Compiled.{sight_of}
 use Rattle.lol_program.specs.Programs.{all_places}
@@ -321,11 +321,8 @@ module _ {E : Type 0} {ids : E → Ids} {with_ids : E → Ids → E} {vm new : V
   stack_now : new.stack ≡ counted_in vm.stack name
   stack_now = ap (λ (v : Vm E). v.stack) b.kept ∙ b.trial.counted_is
 
-  pub begun_due : (l : Limiter) → IsDue vm l → IsDue new l
-  begun_due l due = subst (λ (x : StackOf Name StackNames E). IsLimited (list_in x) l) (sym stack_now) (limited_counted vm.stack name l due)
-
-  pub begun_was_due : (l : Limiter) → IsDue new l → IsDue vm l
-  begun_was_due l due = was_limited vm.stack name l (subst (λ (x : StackOf Name StackNames E). IsLimited (list_in x) l) stack_now due)
+  pub begun_due : (l : Limiter) → IsDue vm l ↔ IsDue new l
+  begun_due l = subst (λ (x : StackOf Name StackNames E). IsDue vm l ↔ IsLimited (list_in x) l) (sym stack_now) (limited_counted vm.stack name l)
 
   module _ (s : Selectors) (esi : Bool) (events : List Event) (tag : StartTag) (st : Stands s esi vm events) (named : IsTagOf name ns tag) where
     -- a machine that was refused answers no more

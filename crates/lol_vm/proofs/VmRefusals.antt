@@ -8,7 +8,6 @@ use Rattle.std.proofs.lemmas.List.{length-set, length-map, length-take, take_all
 use Rattle.lol_base.specs.LocalNames.{Name, local_name}
 use Rattle.lol_base.specs.StartTags.{StartTag}
 use Rattle.lol_base.specs.declared.namespace.Namespace.TheVariants.{Html}
-use Rattle.lol_memory.specs.declared.match_info.MatchInfo.{MatchInfo}
 use Rattle.lol_memory.specs.LimitedVec.{LimitedVec, IsLimited}
 use Rattle.lol_memory.specs.Limiter.{Limiter}
 use Rattle.lol_program.specs.Asts.{nodes_of}
@@ -20,7 +19,6 @@ use Rattle.lol_program.specs.declared.program.Program.{Program}
 use Rattle.lol_program.specs.Paths.{Selectors}
 use Rattle.lol_program.specs.ProgramViews.{program_shown}
 use Rattle.lol_instructions.specs.Tests.{Element}
-use Rattle.lol_instructions.specs.declared.tries.Tries.{Tries}
 use Rattle.lol_vm.specs.Answers.{document}
 use Rattle.lol_vm.specs.Documents.{Document, after_start, after_end}
 use Rattle.lol_vm.specs.Events.{Event, End}
@@ -37,7 +35,7 @@ use Rattle.lol_vm.specs.declared.error.StartTagError.TheVariants as refusals
 use Rattle.lol_stack.specs.declared.stack.AddChildError.{AddChildError}
 use Rattle.lol_stack.specs.declared.stack.AddChildError.TheVariants as children
 use Rattle.lol_vm.specs.declared.error.AuxStartTagInfoRequest.{AuxStartTagInfoRequest}
-use Rattle.lol_vm.specs.Vms.{Vm, Shows, Stands, HasOpen, IsReported, IsRefusal, IsRequested, IsSilent, has_failed, open_after, data_in, OpensNothing, StaysFailed}
+use Rattle.lol_vm.specs.Vms.{Vm, Shows, Stands, HasOpen, IsRefusal, IsRequested, IsSilent, has_failed, open_after, data_in, OpensNothing, StaysFailed}
 use Rattle.lol_vm.specs.declared.error.VmError.{VmError}
 use Rattle.lol_vm.specs.declared.error.VmError.TheVariants.{InfoRequest, MemoryLimitExceeded, Memory, CounterFull, Failed}
 use Rattle.lol_stack.specs.declared.execution_ctx.ExecutionCtx.{ExecutionCtx}
@@ -162,22 +160,18 @@ module _ {E : Type 0} where
         unfailed = same_failed ∙ h.unfailed;
       }
 
-  record EndsAt (vm new : Vm E) (n : ℕ) (o : Option ℕ) : Type 0 where
+  -- what stays, and what is handed out, where so many elements stay and an end tag closes those from a place on
+  pub record EndsAt (vm new : Vm E) (n : ℕ) (o : Option ℕ) : Type 0 where
     pub kept : data_in new ≡ take n (data_in vm)
     pub handed : element_data_of (closed_from o (items_in vm.stack)) ≡ drop n (data_in vm)
 
-  -- what stays, and what is handed out
-  pub record EndsData (vm new : Vm E) (name : List ℕ) (elements : List Element) : Type 0 where
-    pub kept : data_in new ≡ take (length (open_after name elements)) (data_in vm)
-    pub handed : element_data_of (closed_from (place_to_close vm.stack (local_name name)) (items_in vm.stack)) ≡ drop (length (open_after name elements)) (data_in vm)
-
-  pub ends_data : (vm new : Vm E) (elements : List Element) (name : List ℕ) → IsEnded vm.stack (local_name name) new.stack → new.program ≡ vm.program → new.enable_esi_tags ≡ vm.enable_esi_tags → HasOpen vm elements → EndsData vm new name elements
+  pub ends_data : (vm new : Vm E) (elements : List Element) (name : List ℕ) → IsEnded vm.stack (local_name name) new.stack → new.program ≡ vm.program → new.enable_esi_tags ≡ vm.enable_esi_tags → HasOpen vm elements
+      → EndsAt vm new (length (open_after name elements)) (place_to_close vm.stack (local_name name))
   ends_data vm new elements name is same_program same_switch h =
       let after = has_open_ended vm new elements name is same_program same_switch h in
       let many : length (open_after name elements) ≡ length (items_in new.stack) =
       sym (ap length after.same) ∙ (sym (items_length after.paths after.machine.program after.machine.items after.document.open_elements after.standing.items) ∙ items_counted new.stack after.machine after.shows.stack) in
-      let at_end = by_place (place_to_close vm.stack (local_name name)) (λ k at. below (length (items_in vm.stack)) (places_in vm.stack (local_name name)) k at) is (length (open_after name elements)) many in
-      record { kept = at_end.kept; handed = at_end.handed }
+      by_place (place_to_close vm.stack (local_name name)) (λ k at. below (length (items_in vm.stack)) (places_in vm.stack (local_name name)) k at) is (length (open_after name elements)) many
     where
       by_place : (o : Option ℕ) → ((k : ℕ) → o ≡ Some k → k < length (items_in vm.stack)) → IsEndedAt o vm.stack new.stack → (n : ℕ) → n ≡ length (items_in new.stack)
           → EndsAt vm new n o
@@ -391,24 +385,15 @@ on_err_both (Err e) f p q = f p q
 
 -- 8. Limits
 
-limited_if : {E : Type 0} (s : StackOf Name StackNames E) (o : Option (StackItemOf Name E)) (l : Limiter) → IsLimited (list_in s) l → IsLimited (list_in (counted_if s o)) l
-limited_if s None l h = h
-limited_if s (Some item) l h = (subst (λ n. slots_in s ≤ n) (sym (length-set (items_in s) (length (items_in s) - 1) (counted_item item))) h.0, h.1)
+limited_if : {E : Type 0} (s : StackOf Name StackNames E) (o : Option (StackItemOf Name E)) (l : Limiter) → IsLimited (list_in s) l ↔ IsLimited (list_in (counted_if s o)) l
+limited_if s None l = (λ h. h, λ h. h)
+limited_if s (Some item) l =
+    let many = length-set (items_in s) (length (items_in s) - 1) (counted_item item) in
+    (λ h. (subst (λ n. slots_in s ≤ n) (sym many) h.0, h.1), λ h. (subst (λ n. slots_in s ≤ n) many h.0, h.1))
 
 -- counting a child changes nothing of what can be charged
-pub limited_counted : {E : Type 0} (s : StackOf Name StackNames E) (name : Name) (l : Limiter) → IsLimited (list_in s) l → IsLimited (list_in (counted_in s name)) l
-limited_counted s name l h = limited_if (with_typed s _) (slice_get (items_in s) (length (items_in s) - 1)) l h
-
-was_limited_if : {E : Type 0} (s : StackOf Name StackNames E) (o : Option (StackItemOf Name E)) (l : Limiter) → IsLimited (list_in (counted_if s o)) l → IsLimited (list_in s) l
-was_limited_if s None l h = h
-was_limited_if s (Some item) l h = (subst (λ n. slots_in s ≤ n) (length-set (items_in s) (length (items_in s) - 1) (counted_item item)) h.0, h.1)
-
-pub was_limited : {E : Type 0} (s : StackOf Name StackNames E) (name : Name) (l : Limiter) → IsLimited (list_in (counted_in s name)) l → IsLimited (list_in s) l
-was_limited s name l h = was_limited_if (with_typed s _) (slice_get (items_in s) (length (items_in s) - 1)) l h
-
--- the same tries
-pub reported_with : {F : Type 0} (step : F → MatchInfo → Unit {0} → F → Type 0) (s : Selectors) (esi : Bool) (events : List Event) (tag : StartTag) (asked : Bool) (f g : F) (tries next : Tries) → next ≡ tries → IsReported step s esi events tag asked tries f g → IsReported step s esi events tag asked next f g
-reported_with step s esi events tag asked f g tries next is h = subst (λ ts. IsReported step s esi events tag asked ts f g) (sym is) h
+pub limited_counted : {E : Type 0} (s : StackOf Name StackNames E) (name : Name) (l : Limiter) → IsLimited (list_in s) l ↔ IsLimited (list_in (counted_in s name)) l
+limited_counted s name l = limited_if (with_typed s _) (slice_get (items_in s) (length (items_in s) - 1)) l
 
 pub not_false : (b : Bool) → (b ≡ false → ⊥) → b ≡ true
 not_false true h = refl

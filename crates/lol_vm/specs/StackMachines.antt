@@ -1,11 +1,12 @@
 -- When a stack keeps what a machine keeps of the open elements.
-use Rattle.std.specs.Prelude.{ℕ, ◌≡◌, Bool, true, false, if◌then◌else◌, List, [], map, reverse, length, Option, Some, None, unwrap_or}
+use Rattle.std.specs.Prelude.{ℕ, ◌≡◌, Bool, true, false, if◌then◌else◌, List, [], map, reverse, length, Option, Some, None}
 use Rattle.lol_base.specs.LocalNames.{Name, local_name}
 use Rattle.lol_vm.specs.Machines.{OpenItem}
 use Rattle.lol_vm.specs.PlaceRuns.{Context}
 use Rattle.lol_vm.specs.Standing.{Machine}
-use Rattle.lol_stack.specs.TypedCounts.{TypedCount, count_at, cut_to}
-use Rattle.lol_stack.specs.TypedLaws.{levels_in, Climb}
+use Rattle.lol_stack.specs.TypedCounts.{TypedCount}
+use Rattle.lol_stack.specs.TypedLaws.{StandUpTo, typed_of}
+use Rattle.lol_base.specs.Names.{lowercased}
 use Rattle.lol_stack.specs.Stacks.{items_in, slots_in, active_in, typed_in, root_count, item_bytes_in, list_in}
 use Rattle.lol_stack.specs.declared.stack_item.StackItemOf.{StackItemOf}
 use Rattle.lol_stack.specs.declared.stack.StackOf.{StackOf}
@@ -28,15 +29,11 @@ module _ {E : Type 0} where
 
 -- 2. Counts by type
 
--- what was counted of a name at a level: by its last counter, once those above the level are dropped
-abbrev pub typed_shown : List TypedCount → ℕ → Name → ℕ
-typed_shown ts level name = unwrap_or (count_at (cut_to level ts) level name) 0
-
 -- children are counted by type where the program asks for it, at the levels up to that of the innermost element
 abbrev pub KeepsTyped : Option (List TypedCount) → Bool → ℕ → (ℕ → List ℕ → ℕ) → Type 0
 KeepsTyped None by_type top typed = by_type ≡ false
 KeepsTyped (Some ts) by_type top typed =
-    (by_type ≡ true) × Climb top (levels_in ts) × ((level : ℕ) (name : List ℕ) → typed level name ≡ typed_shown ts level (local_name name))
+    (by_type ≡ true) × StandUpTo top ts × ((level : ℕ) (name : List ℕ) → typed level name ≡ typed_of ts level (lowercased name))
 
 -- 3. Keeping
 

@@ -1,4 +1,4 @@
-use Rattle.lol_stack.proofs.TypedFunctions.{counting_adds_one, cutting_drops_above, counts_at_their_level}
+use Rattle.lol_stack.specs.TypedFunctions.{counting_adds_one, cutting_drops_above, counts_at_their_level}
 use Rattle.lol_stack.proofs.stack_laws.typed_counts_are_a_function.Goals as goal
 
 pub returns-clause-counting : goal.returns-clause-counting

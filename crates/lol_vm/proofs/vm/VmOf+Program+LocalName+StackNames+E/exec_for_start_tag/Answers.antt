@@ -12,7 +12,7 @@ use Rattle.lol_vm.specs.declared.error.VmError.{VmError}
 use Rattle.lol_vm.specs.declared.error.VmError.TheVariants.{CounterFull, Failed, InfoRequest, Memory}
 use Rattle.lol_vm.proofs.CallerLemmas.{charges_both, charges_unopened}
 use Rattle.lol_vm.proofs.FreeTags.{asked_only, limit_only, not_for_memory, void_is_closed, void_unspelled}
-use Rattle.lol_vm.proofs.TriedStarts.{began, begun_answered, begun_complete, begun_due, begun_pending, begun_unfailed, begun_was_due, named_so, new_context}
+use Rattle.lol_vm.proofs.TriedStarts.{began, begun_answered, begun_complete, begun_due, begun_pending, begun_unfailed, named_so, new_context}
 use Rattle.lol_vm.proofs.VmStarts.{reported, requested_is}
 use Rattle.lol_vm.proofs.VmRefusals.{error_is, never_both, push_isnt_silent, push_is_limit, refused_alike, refused_as, refused_full_only, refused_isnt_asked, requested_as, requested_ok, requested_refused, not_false, err_is_not_ok, on_err, opens_nothing_both, opens_nothing_of, requested_keeps, same_opens_nothing, stays_unfailed, unfailed_before}
 use Rattle.lol_vm.proofs.vm.VmOf+Program+LocalName+StackNames+E.exec_for_start_tag.Goals as goal
@@ -93,7 +93,7 @@ returns-in-Ok-answer g c =
     record {
       again = c.answer.ensures.again;
       answered = λ s esi events tag stands named. (
-        λ opens limited. c.in-Ok-answer.ensures.within ((begun_complete b s esi events tag stands named c.in_default.is).content ∙ opens) (begun_due b c.args.limiter.now limited),
+        λ opens limited. c.in-Ok-answer.ensures.within ((begun_complete b s esi events tag stands named c.in_default.is).content ∙ opens) ((begun_due b c.args.limiter.now).0 limited),
         begun_answered b s esi events tag stands named c.in_default.is _ c.args.match_handler.now c.answer.new.match_handler c.answer.new.self c.in-Ok-answer.ensures.reported c.in-Ok-answer.ensures.ok,
       );
       asked = λ request is. cc;
@@ -122,7 +122,7 @@ returns-in-Err-answer g c =
     let never = λ (closed : c.begin.new.ctx.with_content ≡ false). err_is_not_ok c.answer.result pushed c.in-Err-answer.is (c.answer.ensures.closed closed) in
     -- where it can't be charged, that is why
     let limit = λ (e : VmError _) (same : e ≡ error) (due : IsDue c.args.self.now c.args.limiter.now).
-    limit_only c.answer.result pushed e c.in-Err-answer.is (c.answer.ensures.limited.1 (not_false c.begin.new.ctx.with_content never, begun_due b c.args.limiter.now due)) (same ∙ from) in
+    limit_only c.answer.result pushed e c.in-Err-answer.is (c.answer.ensures.limited.1 (not_false c.begin.new.ctx.with_content never, (begun_due b c.args.limiter.now).0 due)) (same ∙ from) in
     record {
       again = c.answer.ensures.again;
       answered = tt;
@@ -135,7 +135,7 @@ returns-in-Err-answer g c =
       silent = λ e is silent. absurd (push_isnt_silent pushed error e from (error_is is) silent);
       limited = λ limit.
           let opens = c.answer.ensures.limited.0 (c.in-Err-answer.is ∙ ap Err (push_is_limit pushed error from (error_is limit))) in (
-            begun_was_due b c.args.limiter.now opens.1,
+            (begun_due b c.args.limiter.now).1 opens.1,
             λ s esi events tag stands named.
                 let all = begun_complete b s esi events tag stands named c.in_default.is in
                 (sym all.content ∙ opens.0, reported all c.in-Err-answer.ensures.reported _ c.answer.ensures.tries),

@@ -5,7 +5,7 @@ use Rattle.lol_vm.specs.Vms.{IsTriedAtMost}
 use Rattle.lol_vm.specs.declared.error.StartTagError.TheVariants as refusals
 use Rattle.lol_vm.proofs.CallerLemmas.{charges_both, charges_unopened}
 use Rattle.lol_vm.proofs.FreeTags.{memory_instead, void_is_closed}
-use Rattle.lol_vm.proofs.TriedStarts.{began, begun_answered, begun_complete, begun_due, begun_pending, begun_was_due, named_so, new_context, reported_if, whole_since}
+use Rattle.lol_vm.proofs.TriedStarts.{began, begun_answered, begun_complete, begun_due, begun_pending, named_so, new_context, reported_if, whole_since}
 use Rattle.lol_vm.proofs.VmStarts.{reported}
 use Rattle.lol_vm.proofs.TakenStarts.{answered_since}
 use Rattle.lol_vm.proofs.VmRefusals.{error_is, never_both, refused_push_is, refused_push_isnt, refused_same, not_false, err_is_not_ok, opens_nothing_both, opens_nothing_of, stays_unfailed, unfailed_before}
@@ -46,7 +46,7 @@ returns-in-Ok-finish g c =
       again = c.finish.ensures.again;
       answered = λ s esi events tag stands named rest.
           let told = c.in-Ok-finish.ensures.answered s esi events tag (begun_pending b s esi events tag stands named c.in-Some.point c.in-Some.is) (rest refl) in (
-            λ opens due. told.0 opens (begun_due b c.args.limiter.now due),
+            λ opens due. told.0 opens ((begun_due b c.args.limiter.now).0 due),
             answered_since s esi events tag _ _ c.args.self.now c.begin.new.self c.finish.new.self c.args.match_handler.now _ c.finish.new.match_handler left.unchanged refl told.1,
           );
       charges = charges_both (charges_unopened left c.begin.ensures.bytes) c.finish.ensures.charges;
@@ -79,7 +79,7 @@ returns-in-Err-finish g c =
       silent = λ is. absurd (elim is [ inl full ↦ isnt.1 (error_is full) | inr failed ↦ isnt.0 (error_is failed) ]);
       limited = λ limit.
           let due = c.finish.ensures.limited (c.in-Err-finish.is ∙ ap Err (refused_push_is pushed (pushes.Limit (record {})) c.from.result c.from.ensures (error_is limit))) in (
-            begun_was_due b c.args.limiter.now due.0,
+            (begun_due b c.args.limiter.now).1 due.0,
             λ s esi events tag stands named rest.
                 let told = due.1 s esi events tag (begun_pending b s esi events tag stands named c.in-Some.point c.in-Some.is) rest in
                 (told.0, reported_if told.1),
@@ -87,12 +87,12 @@ returns-in-Err-finish g c =
       free = λ s esi events tag stands named takes. absurd (err_is_not_ok c.finish.result pushed c.in-Err-finish.is (c.finish.ensures.free s esi events tag (begun_pending b s esi events tag stands named c.in-Some.point c.in-Some.is) takes));
       tried = λ s esi events tag stands named. c.finish.ensures.tried s esi events tag (begun_pending b s esi events tag stands named c.in-Some.point c.in-Some.is);
       due = λ due s esi events tag stands named flat memory.
-          c.finish.ensures.due _ (c.in-Err-finish.is ∙ ap Err (refused_push_is pushed (pushes.Memory (record {})) c.from.result c.from.ensures memory)) (begun_due b c.args.limiter.now due) s esi events tag
+          c.finish.ensures.due _ (c.in-Err-finish.is ∙ ap Err (refused_push_is pushed (pushes.Memory (record {})) c.from.result c.from.ensures memory)) ((begun_due b c.args.limiter.now).0 due) s esi events tag
           (begun_pending b s esi events tag stands named c.in-Some.point c.in-Some.is) flat;
       all_or_none = λ is.
           whole_since (c.finish.ensures.all_or_none _ (c.in-Err-finish.is ∙ ap Err (refused_push_is pushed (pushes.Memory (record {})) c.from.result c.from.ensures (error_is is)))) (λ after. (
             λ s esi events tag stands named rest. reported_if (after.0 s esi events tag (begun_pending b s esi events tag stands named c.in-Some.point c.in-Some.is) rest),
-            λ due. after.1 (begun_due b c.args.limiter.now due),
+            λ due. after.1 ((begun_due b c.args.limiter.now).0 due),
           ));
     }
 
@@ -104,7 +104,7 @@ returns-in-Ok-answer g c =
     record {
       again = c.answer.ensures.again;
       answered = λ s esi events tag stands named rest. (
-        λ opens due. c.in-Ok-answer.ensures.within ((begun_complete b s esi events tag stands named c.in_default.is).content ∙ opens) (begun_due b c.args.limiter.now due),
+        λ opens due. c.in-Ok-answer.ensures.within ((begun_complete b s esi events tag stands named c.in_default.is).content ∙ opens) ((begun_due b c.args.limiter.now).0 due),
         begun_answered b s esi events tag stands named c.in_default.is _ c.args.match_handler.now c.answer.new.match_handler c.answer.new.self c.in-Ok-answer.ensures.reported c.in-Ok-answer.ensures.ok,
       );
       charges = charges_both (charges_unopened (c.begin.ensures.left c.args.limiter.now) c.begin.ensures.bytes) c.answer.ensures.charges;
@@ -132,7 +132,7 @@ returns-in-Err-answer g c =
     -- memory isn't refused where it can't be charged
     let room = λ (memory : error ≡ refusals.Memory) (due : IsDue c.args.self.now c.args.limiter.now).
     memory_instead c.answer.result _ (c.in-Err-answer.is ∙ ap Err (refused_push_is pushed (pushes.Memory (record {})) error from memory))
-    (c.answer.ensures.limited.1 (not_false c.begin.new.ctx.with_content never, begun_due b c.args.limiter.now due)) in
+    (c.answer.ensures.limited.1 (not_false c.begin.new.ctx.with_content never, (begun_due b c.args.limiter.now).0 due)) in
     record {
       again = c.answer.ensures.again;
       answered = tt;
@@ -144,7 +144,7 @@ returns-in-Err-answer g c =
       silent = λ is. absurd (elim is [ inl full ↦ isnt.1 (error_is full) | inr failed ↦ isnt.0 (error_is failed) ]);
       limited = λ limit.
           let opens = c.answer.ensures.limited.0 (c.in-Err-answer.is ∙ ap Err (refused_push_is pushed (pushes.Limit (record {})) error from (error_is limit))) in (
-            begun_was_due b c.args.limiter.now opens.1,
+            (begun_due b c.args.limiter.now).1 opens.1,
             λ s esi events tag stands named rest.
                 let all = begun_complete b s esi events tag stands named c.in_default.is in
                 (sym all.content ∙ opens.0, reported_if (reported all c.in-Err-answer.ensures.reported _ c.answer.ensures.tries)),
