@@ -8,7 +8,7 @@ use Rattle.lol_memory.specs.Slots.{slots}
 use Rattle.lol_program.specs.Paths.{Selectors}
 use Rattle.lol_stack.specs.Stacks.{list_in}
 use Rattle.lol_vm.specs.Answers.{after, document, is_dropped}
-use Rattle.lol_vm.specs.DocumentLaws.{document_push, longest_push}
+use Rattle.lol_vm.specs.AnswerLaws.{document_push, longest_push}
 use Rattle.lol_vm.specs.Documents.{Document, empty, element_of, children_of, place_of, outer_part, after_start, after_end}
 use Rattle.lol_vm.specs.Events.{Event, Start, End, has_content}
 use Rattle.lol_vm.specs.Refusals.{greatest_count, longest}

@@ -7,12 +7,12 @@ use Rattle.lol_program.specs.Nodes.{selectors_of}
 use Rattle.lol_program.specs.PairNodeLaws.{nodes_of-AreNodes}
 use Rattle.lol_program.specs.Paths.{Selectors}
 use Rattle.lol_vm.specs.Answers.{Answer, after, answer, answers, answers_from, document}
-use Rattle.lol_vm.specs.DocumentLaws.{answers_append}
+use Rattle.lol_vm.specs.AnswerLaws.{answers_append}
 use Rattle.lol_vm.specs.Documents.{Document, empty}
 use Rattle.lol_vm.specs.EventRuns.{IsRunOf}
 use Rattle.lol_vm.specs.Events.{Event}
 use Rattle.lol_vm.specs.Laws.{SameSelectors}
-use Rattle.lol_vm.specs.OrderLaws.{order_changes_nothing}
+use Rattle.lol_vm.specs.AnswerLaws.{order_changes_nothing}
 use Rattle.lol_vm.specs.Refusals.{Cause, refused}
 use Rattle.lol_vm.specs.RunRefusals.{allowance_of}
 use Rattle.lol_vm.specs.Views.{selectors}

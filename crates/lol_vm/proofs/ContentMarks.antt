@@ -10,8 +10,8 @@ use Rattle.lol_vm.specs.Documents.{element_of}
 use Rattle.lol_vm.specs.Answers.{Match, Started, Dropped, is_dropped, asks, report, matching_ids, name_tries, attribute_tries}
 use Rattle.lol_vm.specs.RunLaws.{MarksTellContent}
 use Rattle.lol_base.specs.BoolLaws.{and_parts, and_of, or_parts, or_of}
-use Rattle.lol_vm.proofs.Lists.{among_map}
 use Rattle.lol_base.specs.MemberLaws.{among_from_contains}
+use Rattle.lol_vm.specs.ReportLaws.{among_map}
 
 abbrev NoContentIn : Namespace → Bool → StartTag → Type 0
 NoContentIn namespace esi tag =

@@ -15,8 +15,7 @@ use Rattle.lol_program.specs.IdSetLaws.{listed_if_held, held}
 use Rattle.lol_vm.specs.Answers.{ascending_once}
 use Rattle.lol_vm.specs.ReportLaws.{ascending_is_determined, ascending_ascends, pairs_from_ascends, among_ascending, ascending_among}
 use Rattle.lol_stack.specs.Contexts.{with_branch, IsNewItem}
-use Rattle.lol_vm.specs.PlaceRuns.{Context, branch, no_context}
-use Rattle.lol_vm.specs.Gathering.{Gathers}
+use Rattle.lol_vm.specs.PlaceRuns.{Context, branch, no_context, Gathers}
 use Rattle.lol_stack.specs.declared.execution_ctx.ExecutionCtx.{ExecutionCtx}
 
 -- A new element has gathered nothing.

@@ -18,8 +18,9 @@ use Rattle.lol_program.specs.Programs.{Instruction, Program, IsWithin, IsAt, Hol
 use Rattle.lol_vm.specs.Machines.{OpenItem, ranges_to_run, IsReached, HasRanges, IsItem, AreItems, Matches, HoldOnce, LeftMatches, active_of, last_jumps, ranges_of_active, jumps_of, hereditary_jumps_of}
 use Rattle.lol_stack.specs.Active.{activated, is_range_active, is_same_range}
 use Rattle.lol_vm.specs.MachineLaws.{ProgramsHaveEachNode, RangesHoldLeftMatches}
-use Rattle.lol_vm.proofs.Lists.{same_length, distinct_append, among_at, among_flat_map, flat_map_among, distinct_flat_map, among_range, range_among, distinct_range, among_map, map_among, any_among, among_any}
+use Rattle.lol_vm.proofs.Lists.{same_length, distinct_append, among_at, among_flat_map, flat_map_among, distinct_flat_map, among_range, range_among, distinct_range, any_among, among_any}
 use Rattle.lol_program.specs.NodeOnceLaws.{AllPairs-from_Distinct}
+use Rattle.lol_vm.specs.ReportLaws.{among_map, map_among}
 
 -- 1. Ranges and the places in them
 

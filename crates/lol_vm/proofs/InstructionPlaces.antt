@@ -16,12 +16,12 @@ use Rattle.lol_instructions.specs.Tests.{Element}
 use Rattle.lol_instructions.specs.declared.instruction.Instruction as code
 use Rattle.lol_instructions.specs.declared.name_value.NameValue.{NameValue}
 use Rattle.lol_instructions.specs.declared.name_value.NameValue.TheVariants.{True, False, Open}
-use Rattle.lol_vm.specs.Gathering.{Gathers}
+use Rattle.lol_vm.specs.PlaceRuns.{Gathers, Context, instruction_value, value_at, is_open_at, branch, step_with_attributes, run}
 use Rattle.lol_vm.specs.InstructionRuns.{IsInsideOf, instructions_at, all_at, value_seen, is_true, holds_seen, open_among, first_open_from, with_branch_if, gathered_by_names, gathered_with_attributes}
-use Rattle.lol_vm.specs.PlaceRuns.{Context, instruction_value, value_at, is_open_at, first_open, branch, step_with_attributes, step_by_names, run, run_by_names}
 use Rattle.lol_stack.specs.declared.execution_ctx.ExecutionCtx.{ExecutionCtx}
 use Rattle.lol_vm.proofs.GatheringLemmas.{branches_gather}
 use Rattle.lol_base.specs.PlaceLaws.{within_at}
+use Rattle.lol_vm.proofs.Stops.{first_open, step_by_names, run_by_names}
 
 -- 1. What stands at the places of ranges
 

@@ -17,7 +17,7 @@ use Rattle.lol_vm.specs.Events.{Event, Start, End, has_content}
 use Rattle.lol_vm.specs.Documents.{Document, Child, empty, element_of, parent_of, same_parent, children_of, typed_children_of, place_of, outer_part, after_start, after_end}
 use Rattle.lol_vm.specs.Answers.{document, document_from, after, is_dropped, asks}
 use Rattle.lol_vm.specs.Refusals.{longest, longest_from}
-use Rattle.lol_vm.specs.DocumentLaws.{document_push, longest_push}
+use Rattle.lol_vm.specs.AnswerLaws.{document_push, longest_push}
 use Rattle.lol_vm.proofs.Runs.{position-map}
 use Rattle.lol_base.specs.BoolLaws.{and-false, not_true, and-true}
 use Rattle.lol_program.specs.Programs.{Program, AreClosed, all_places, IsProgramOf}

@@ -8,7 +8,6 @@ mod VmRefusals
 mod VmData
 mod FreeTags
 mod SmallSelectors
-pub mod Trees
 pub mod Runs
 pub mod RefusedRuns
 pub mod RunSteps

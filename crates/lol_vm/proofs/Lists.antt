@@ -1,10 +1,11 @@
 -- Lists: what they hold, and each once.
-use Rattle.std.proofs.Common.{◌≡◌, ℕ, zero, suc, ◌+◌, ◌<◌, ◌≤◌, Bool, true, false, cond, List, [], ◌∷◌, ◌++◌, length, map, filter, Some, ◌⊎◌, inl, inr, refl, sym, ap, ◌∙◌, subst, arith, ◌-◌}
+use Rattle.std.proofs.Common.{◌≡◌, ℕ, zero, suc, ◌+◌, ◌<◌, ◌≤◌, Bool, true, false, cond, List, [], ◌∷◌, ◌++◌, length, filter, Some, ◌⊎◌, inl, inr, refl, sym, ap, ◌∙◌, subst, arith, ◌-◌}
 use Rattle.std.specs.Prelude.{slice_get, flat_map, count_by}
 use Rattle.std.specs.List.{range_with_len, list_any}
-use Rattle.lol_base.specs.MemberLaws.{Among, Distinct, among_front, among_back, among_either, same_count, count_by-cons}
-use Rattle.lol_base.specs.BoolLaws.{or_parts, or_of}
+use Rattle.lol_base.specs.MemberLaws.{Among, Distinct, among_front, among_back, among_either, same_count, count_by-cons, contains_from_among, among_from_contains}
 use Rattle.std.proofs.lemmas.List.Sums.{length-filter}
+use Rattle.std.proofs.lemmas.List.Folds.{Any-from_list_any, list_any-from_Any}
+use Rattle.lol_vm.specs.ReportLaws.{among_filter, filter_among}
 
 module _ {A : Type 0} where
   -- 1. Appended lists
@@ -33,58 +34,27 @@ module _ {A : Type 0} where
   same_length xs ys dx dy to from = sym (all_counted xs) ∙ (same_count (λ x. true) xs ys dx dy to from ∙ all_counted ys)
 
   module _ (p : A → Bool) where
-    among_cond : (b : Bool) (y : A) (ys : List A) (x : A) → Among (cond b (y ∷ ys) ys) x → ((b ≡ true) × (y ≡ x)) ⊎ Among ys x
-    among_cond true y ys x (inl is) = inl (refl, is)
-    among_cond true y ys x (inr h) = inr h
-    among_cond false y ys x h = inr h
-
-    cond_front : (b : Bool) (y : A) (ys : List A) → b ≡ true → Among (cond b (y ∷ ys) ys) y
-    cond_front true y ys h = inl refl
-    cond_front false y ys h = cc
-
-    cond_back : (b : Bool) (y : A) (ys : List A) (x : A) → Among ys x → Among (cond b (y ∷ ys) ys) x
-    cond_back true y ys x h = inr h
-    cond_back false y ys x h = h
-
-    pub among_filter : (xs : List A) (x : A) → Among (filter p xs) x → Among xs x × (p x ≡ true)
-    among_filter [] x h = absurd h
-    among_filter (y ∷ xs) x h = elim (among_cond (p y) y (filter p xs) x h) [
-      | inl here ↦ (inl here.1, subst (λ z. p z ≡ true) here.1 here.0)
-      | inr later ↦ let rest = among_filter xs x later in (inr rest.0, rest.1)
-    ]
-
-    pub filter_among : (xs : List A) (x : A) → Among xs x → p x ≡ true → Among (filter p xs) x
-    filter_among [] x h fits = absurd h
-    filter_among (y ∷ xs) x (inl is) fits = subst (λ z. Among (filter p (y ∷ xs)) z) is (cond_front (p y) y (filter p xs) (ap p is ∙ fits))
-    filter_among (y ∷ xs) x (inr h) fits = cond_back (p y) y (filter p xs) x (filter_among xs x h fits)
-
     distinct_cond : (b : Bool) (y : A) (ys : List A) → (Among ys y → ⊥) → Distinct ys → Distinct (cond b (y ∷ ys) ys)
     distinct_cond true y ys fresh d = (fresh, d)
     distinct_cond false y ys fresh d = d
 
     pub distinct_filter : (xs : List A) → Distinct xs → Distinct (filter p xs)
     distinct_filter [] d = tt
-    distinct_filter (y ∷ xs) d = distinct_cond (p y) y (filter p xs) (λ h. d.0 (among_filter xs y h).0) (distinct_filter xs d.1)
+    distinct_filter (y ∷ xs) d = distinct_cond (p y) y (filter p xs) (λ h. d.0 (among_filter p xs y h).0) (distinct_filter xs d.1)
 
     pub any_among : (xs : List A) (x : A) → Among xs x → p x ≡ true → list_any p xs ≡ true
-    any_among [] x h fits = absurd h
-    any_among (y ∷ xs) x (inl is) fits = or_of (p y) (list_any p xs) (inl (ap p is ∙ fits))
-    any_among (y ∷ xs) x (inr h) fits = or_of (p y) (list_any p xs) (inr (any_among xs x h fits))
+    any_among xs x h fits = let at = contains_from_among xs x h in list_any-from_Any p xs (at.0, x, at.1, at.2, fits)
 
     pub among_any : (xs : List A) → list_any p xs ≡ true → (x : A) × Among xs x × (p x ≡ true)
-    among_any [] h = cc
-    among_any (y ∷ xs) h = elim (or_parts (p y) (list_any p xs) h) [
-      | inl fits ↦ (y, inl refl, fits)
-      | inr later ↦ let rest = among_any xs later in (rest.0, inr rest.1, rest.2)
-    ]
+    among_any xs h = let found = Any-from_list_any p xs h in (found.1, among_from_contains xs found.1 (found.0, found.2, found.3), found.4)
 
     -- those that pass, of two lists that share them, each once, are as many
     pub same_passing : (xs ys : List A) → Distinct xs → Distinct ys → ((x : A) → p x ≡ true → Among xs x → Among ys x) → ((x : A) → p x ≡ true → Among ys x → Among xs x) → count_by p xs ≡ count_by p ys
     same_passing xs ys dx dy to from =
         sym (length-filter p xs)
         ∙ (same_length (filter p xs) (filter p ys) (distinct_filter xs dx) (distinct_filter ys dy)
-        (λ x h. let at = among_filter xs x h in filter_among ys x (to x at.1 at.0) at.1)
-        (λ x h. let at = among_filter ys x h in filter_among xs x (from x at.1 at.0) at.1)
+        (λ x h. let at = among_filter p xs x h in filter_among p ys x (to x at.1 at.0) at.1)
+        (λ x h. let at = among_filter p ys x h in filter_among p xs x (from x at.1 at.0) at.1)
         ∙ length-filter p ys)
 
 -- 4. Lists of lists
@@ -109,17 +79,6 @@ module _ {A B : Type 0} (f : A → List B) where
       distinct_append (f x) (flat_map f xs) (each x (inl refl))
       (distinct_flat_map xs d.1 (λ z h. each z (inr h)) (λ z z' y h h' a a'. apart z z' y (inr h) (inr h') a a'))
       (λ y here later. let at = among_flat_map xs y later in d.0 (subst (Among xs) (sym (apart x at.0 y (inl refl) (inr at.1) here at.2)) at.1))
-
-module _ {A B : Type 0} (f : A → B) where
-  pub among_map : (xs : List A) (y : B) → Among (map f xs) y → (x : A) × Among xs x × (f x ≡ y)
-  among_map [] y h = absurd h
-  among_map (x ∷ xs) y (inl is) = (x, inl refl, is)
-  among_map (x ∷ xs) y (inr h) = let rest = among_map xs y h in (rest.0, inr rest.1, rest.2)
-
-  pub map_among : (xs : List A) (x : A) → Among xs x → Among (map f xs) (f x)
-  map_among [] x h = absurd h
-  map_among (y ∷ xs) x (inl is) = inl (ap f is)
-  map_among (y ∷ xs) x (inr h) = inr (map_among xs x h)
 
 -- 5. Consecutive numbers
 

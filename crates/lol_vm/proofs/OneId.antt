@@ -11,9 +11,9 @@ use Rattle.lol_vm.specs.Events.{Event, Start, End, has_content}
 use Rattle.lol_vm.specs.Documents.{Document, empty, element_of, after_start}
 use Rattle.lol_vm.specs.Answers.{Match, Started, Dropped, is_dropped, asks, report, matching_ids, name_tries, attribute_tries, after, answers_from}
 use Rattle.lol_vm.specs.RunLaws.{reports_id, SamePathsUnder, OneIdsPathsDecide}
-use Rattle.lol_vm.specs.ReportLaws.{among_matching_ids, matching_ids_among}
+use Rattle.lol_vm.specs.ReportLaws.{among_matching_ids, matching_ids_among, among_map, map_among}
 use Rattle.lol_base.specs.BoolLaws.{same_bool}
-use Rattle.lol_vm.proofs.Lists.{among_map, map_among, any_among, among_any}
+use Rattle.lol_vm.proofs.Lists.{any_among, among_any}
 
 module _ (s t : Selectors) (id : ℕ) (same : SamePathsUnder id s t) (esi : Bool) where
   abbrev is_id : Match → Bool

@@ -27,7 +27,7 @@ use Rattle.lol_vm.proofs.CallerLemmas.{countable_after, many_open, no_room_for, 
 use Rattle.lol_vm.proofs.Kept.{documents_are_ordered, outer_is}
 use Rattle.lol_vm.specs.ChargeLaws.{slots_rise, stays_within, passes_maximum}
 use Rattle.lol_vm.proofs.RefusedRuns.{fits_on}
-use Rattle.lol_vm.specs.DocumentLaws.{document_push, longest_push}
+use Rattle.lol_vm.specs.AnswerLaws.{document_push, longest_push}
 use Rattle.lol_vm.proofs.VmData.{slots_are_of_depth}
 
 -- 1. A run, one event on

@@ -9,24 +9,22 @@ use Rattle.std.proofs.lemmas.List.Quantifiers.{position-Some}
 use Rattle.std.proofs.lemmas.List.{length-drop, map-append, reverse-append, length-map, length-reverse, drop_at}
 use Rattle.std.specs.Str.{bytes_eq}
 use Rattle.lol_base.specs.Names.{lowercased}
-use Rattle.lol_base.specs.LocalNames.{Name}
+use Rattle.lol_base.specs.LocalNames.{Name, local_name}
 use Rattle.lol_memory.specs.LimitedVec.{LimitedVec}
 use Rattle.lol_memory.specs.Slots.{slots_after}
 use Rattle.lol_memory.specs.SlotLaws.{slots_pushed}
 use Rattle.lol_vm.specs.Machines.{OpenItem}
-use Rattle.lol_stack.specs.TypedCounts.{TypedCount, cut_to}
+use Rattle.lol_stack.specs.TypedCounts.{TypedCount, cut_to, all_above}
 use Rattle.lol_vm.specs.Standing.{Machine, cut, closed_count, ended, new_machine, opened}
-use Rattle.lol_stack.specs.TypedLaws.{levels_in}
-use Rattle.lol_stack.specs.Stacks.{items_in, typed_in, IsSame, IsClosed, IsEndedAt, IsPushed}
-use Rattle.lol_vm.specs.StackMachines.{item_shown, items_shown, children_shown, KeepsTyped, KeepsMachine, IsNew, IsItemOf}
+use Rattle.lol_stack.specs.TypedLaws.{levels_in, Climb}
+use Rattle.lol_stack.specs.Stacks.{items_in, typed_in, IsSame, IsClosed, IsEndedAt, IsPushed, active_in, list_in, root_count}
+use Rattle.lol_vm.specs.StackMachines.{item_shown, items_shown, children_shown, KeepsTyped, KeepsMachine}
 use Rattle.lol_stack.specs.declared.stack_item.StackItemOf.{StackItemOf}
 use Rattle.lol_stack.specs.declared.stack.StackOf.{StackOf}
 use Rattle.lol_stack.specs.declared.stack.StackNames.{StackNames}
 use Rattle.lol_vm.proofs.Runs.{cut_reverse}
 use Rattle.lol_stack.specs.ClimbLaws.{climb_top, cutting_stands, none_stand, not_above, stand_lower}
 use Rattle.lol_stack.specs.TypedFunctions.{cutting_drops_above}
-use Rattle.lol_stack.specs.TypedLaws.{Climb}
-use Rattle.lol_stack.specs.TypedCounts.{all_above}
 
 -- 1. Lists, the last element first
 
@@ -43,6 +41,20 @@ keeps_typed_above None by_type a b counts h keeps = keeps
 keeps_typed_above (Some ts) by_type a b counts h keeps = (keeps.0, stand_lower a b ts h keeps.1, keeps.2)
 
 -- 3. Stacks
+
+-- a new stack, which counts by type where the program asks for it
+pub record IsNew {E : Type 0} (s : StackOf Name StackNames E) (by_type : Bool) (item_bytes : ℕ) : Type 0 where
+  pub items : list_in s ≡ record { items = []; slots = 0; item_bytes = item_bytes }
+  pub root : root_count s ≡ 0
+  pub active : active_in s ≡ []
+  pub typed : typed_in s ≡ (if by_type then Some [] else None)
+
+-- an element that has what was gathered, and no children yet
+pub record IsItemOf {E : Type 0} (item : StackItemOf Name E) (name : List ℕ) (context : Context) : Type 0 where
+  pub named : item.local_name ≡ local_name name
+  pub jumps : context.jumps ≡ item.jumps
+  pub hereditary_jumps : context.hereditary_jumps ≡ item.hereditary_jumps
+  pub children : item.child_counter ≡ 0
 
 module _ {E : Type 0} where
   pub items_counted : (s : StackOf Name StackNames E) (m : Machine) → KeepsMachine s m → length m.items ≡ length (items_in s)

@@ -27,7 +27,7 @@ use Rattle.lol_program.specs.declared.program.Program.{Program}
 use Rattle.lol_instructions.specs.declared.tries.Tries.{Tries}
 use Rattle.lol_vm.specs.Answers.{name_tries, attribute_tries}
 use Rattle.lol_stack.specs.Contexts.{with_branch}
-use Rattle.lol_vm.specs.Gathering.{Gathers}
+use Rattle.lol_vm.specs.PlaceRuns.{Gathers, Context, no_context, context_of, branch, is_open_at, value_at, run, step_with_attributes}
 use Rattle.lol_vm.specs.InstructionRuns.{AreRunnable, IsInsideOf, all_at, value_seen, is_true, holds_seen, first_open_from, with_branch_if, gathered_by_names, gathered_with_attributes}
 use Rattle.lol_stack.specs.WithRange.{no_range}
 use Rattle.lol_vm.specs.MachineLaws.{starts_open}
@@ -37,7 +37,6 @@ use Rattle.lol_stack.specs.SoundRangeLaws.{active_after-append}
 use Rattle.lol_stack.specs.SoundStacks.{IsSound, hereditary_jumps_in}
 use Rattle.lol_vm.specs.Machines.{AreItems, HoldOnce, LeftMatches, active_of, last_jumps, ranges_of_active, ranges_to_run}
 use Rattle.lol_vm.specs.Matching as matching
-use Rattle.lol_vm.specs.PlaceRuns.{Context, no_context, context_of, branch, is_open_at, value_at, first_open, run, run_by_names, step_by_names, step_with_attributes}
 use Rattle.lol_vm.specs.StackMachines.{KeepsMachine, item_shown, items_shown}
 use Rattle.lol_stack.specs.Stacks.{items_in, active_in}
 use Rattle.lol_vm.specs.Standing.{Machine, ranges_of_machine}
@@ -54,7 +53,7 @@ use Rattle.lol_vm.proofs.InstructionLists.{offset_inside}
 use Rattle.lol_vm.proofs.InstructionPlaces.{AreRangesOf, AreAsOpen, instructions_are_as_open, names_gather}
 use Rattle.lol_vm.proofs.StackCounting.{ends, last_at, last_place}
 use Rattle.lol_vm.proofs.StackMachines.{shown_push}
-use Rattle.lol_vm.proofs.Stops.{stopped_starts_are_whole, stops_leave, numbers_are_offsets, WholeStart, started_by_names, from_number}
+use Rattle.lol_vm.proofs.Stops.{stopped_starts_are_whole, stops_leave, numbers_are_offsets, WholeStart, started_by_names, from_number, first_open, run_by_names, step_by_names}
 
 -- 1. Lists
 

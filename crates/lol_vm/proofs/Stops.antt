@@ -1,7 +1,7 @@
 -- Runs that stop and go on.
 use Rattle.lol_vm.specs.Machines.{HoldOnce, LeftMatches}
 use Rattle.std.proofs.Common.{◌≡◌, ℕ, suc, ◌+◌, Bool, true, false, cond, not, List, [], ◌∷◌, ◌++◌, length, drop, Option, Some, None, inl, inr, refl, sym, ap, ◌∙◌, subst, arith, append_assoc, Contains}
-use Rattle.std.specs.Prelude.{slice_get, count_by, option_to_list, ◌&&◌, ◌||◌, ◌≤◌}
+use Rattle.std.specs.Prelude.{slice_get, count_by, option_to_list, ◌&&◌, ◌||◌, ◌≤◌, if◌then◌else◌}
 use Rattle.std.specs.declared.ops.Range.{Range}
 use Rattle.std.specs.List.{list_any}
 use Rattle.std.proofs.lemmas.List.{append-nil, append_cancel_right, drop-append-le}
@@ -20,7 +20,7 @@ use Rattle.lol_program.specs.Programs.{Instruction, Program, IsAt, IsProgramOf, 
 use Rattle.lol_instructions.specs.declared.name_value.NameValue.{NameValue}
 use Rattle.lol_instructions.specs.declared.name_value.NameValue.TheVariants.{True, False, Open}
 use Rattle.lol_program.specs.ValueLaws.{values_decide, values_are_by_names}
-use Rattle.lol_vm.specs.PlaceRuns.{Context, no_context, Stop, given_by, gathered_from_places, context_of, branch, step_with_attributes, step_by_names, run, run_by_names, instruction_value, value_at, is_open_at, first_open, ids_list, jumps_list, hereditary_jumps_list}
+use Rattle.lol_vm.specs.PlaceRuns.{Context, no_context, given_by, gathered_from_places, context_of, branch, step_with_attributes, run, instruction_value, value_at, is_open_at, ids_list, jumps_list, hereditary_jumps_list}
 use Rattle.lol_vm.proofs.Held.{path_at}
 use Rattle.lol_vm.proofs.Counted.{places_count_tries}
 use Rattle.lol_vm.specs.MachineLaws.{starts_open, IsRequest}
@@ -76,6 +76,27 @@ run-append p content e context [] qs = refl
 run-append p content e context (place ∷ ps) qs = run-append p content e (step_with_attributes content e context (slice_get p.instructions place)) ps qs
 
 -- 2. Stops
+
+-- Where a run without attributes ends: what it gathered, and the places that are left. None are left, or the first of them is open.
+pub record Stop : Type 0 where
+  pub context : Context
+  pub left : List ℕ
+
+abbrev pub step_by_names : Bool → Context → NameValue → Option Instruction → Context
+step_by_names content context True (Some i) = branch content context i
+step_by_names content context _ _ = context
+
+-- Runs places without attributes, up to the first whose value by names is open.
+abbrev pub run_by_names : Program → Bool → Element → Context → List ℕ → Stop
+run_by_names p content e context [] = record { context = context; left = [] }
+run_by_names p content e context (place ∷ ps) =
+    if is_open_at p e place then record { context = context; left = place ∷ ps }
+    else run_by_names p content e (step_by_names content context (value_at p e place) (slice_get p.instructions place)) ps
+
+-- how many places stand before the first open one
+abbrev pub first_open : Program → Element → List ℕ → Option ℕ
+first_open p e [] = None
+first_open p e (place ∷ ps) = if is_open_at p e place then Some 0 else option_map suc (first_open p e ps)
 
 -- every place is that of an instruction whose value by names decides, at this element
 abbrev ValuesDecideAt : Program → Element → List ℕ → Type 0

@@ -35,8 +35,7 @@ use Rattle.lol_instructions.specs.Compiled.{sight_of}
 use Rattle.lol_program.specs.Programs.{all_places}
 use Rattle.lol_vm.specs.Answers.{needs_attributes, asks, is_dropped, document, ascending_once}
 use Rattle.lol_vm.specs.Documents.{Document, element_of}
-use Rattle.lol_vm.specs.Gathering.{Gathers}
-use Rattle.lol_vm.specs.PlaceRuns.{Context, no_context, context_of}
+use Rattle.lol_vm.specs.PlaceRuns.{Gathers, Context, no_context, context_of}
 use Rattle.lol_stack.specs.SoundStacks.{IsSound}
 use Rattle.lol_vm.specs.StackMachines.{KeepsMachine}
 use Rattle.lol_vm.specs.Standing.{Machine, StandsFor, counted, opened, started, ranges_of_machine, unfinished}

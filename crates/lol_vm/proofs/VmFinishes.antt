@@ -20,12 +20,11 @@ use Rattle.lol_vm.specs.Answers.{document, ascending_once, attribute_tries}
 use Rattle.lol_stack.specs.Calls.{IsCalledAtEach, reports}
 use Rattle.lol_vm.specs.Documents.{Document, element_of}
 use Rattle.lol_vm.specs.Events.{Event, Start, has_content, has_content_in}
-use Rattle.lol_vm.specs.Gathering.{Gathers}
+use Rattle.lol_vm.specs.PlaceRuns.{Gathers, Context, no_context, context_of, is_open_at, run}
 use Rattle.lol_vm.specs.InstructionRuns.{gathered_with_attributes, AreRunnable, IsInsideOf, all_at, open_among}
 use Rattle.lol_stack.specs.WithRange.{no_range}
 use Rattle.lol_vm.specs.MachineLaws.{starts_open}
 use Rattle.lol_vm.specs.Machines.{AreItems}
-use Rattle.lol_vm.specs.PlaceRuns.{Context, no_context, context_of, is_open_at, run}
 use Rattle.lol_vm.specs.Standing.{Machine, StandsFor, ranges_of_machine, finished}
 use Rattle.lol_vm.specs.TagRuns.{AreExecuted, AreWithin, IsPointIn, ranges_left, ranges_to_run_in, sight_in, tried_at}
 use Rattle.lol_vm.specs.VmLaws.{RequestsTryAtMost}

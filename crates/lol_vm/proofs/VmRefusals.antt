@@ -23,7 +23,7 @@ use Rattle.lol_vm.specs.Answers.{document}
 use Rattle.lol_vm.specs.Documents.{Document, after_start, after_end}
 use Rattle.lol_vm.specs.Events.{Event, End}
 use Rattle.lol_stack.specs.SoundStacks.{IsSound}
-use Rattle.lol_vm.specs.StackMachines.{KeepsMachine, IsNew}
+use Rattle.lol_vm.specs.StackMachines.{KeepsMachine}
 use Rattle.lol_stack.specs.Stacks.{items_in, list_in, slots_in, places_in, last_count, counted_in, counted_if, counted_item, with_typed, closed_from, element_data_of, place_to_close, last_below, IsSame, IsEnded, IsEndedAt}
 use Rattle.lol_vm.specs.Standing.{Machine, new_machine, IsOrdered, counted, ended}
 use Rattle.lol_vm.specs.Views.{selectors}
@@ -48,7 +48,7 @@ use Rattle.lol_stack.specs.SoundLaws.{new_is_sound, same_is_sound, closing_keeps
 use Rattle.lol_vm.proofs.StackCounting.{counting_stack_keeps}
 use Rattle.lol_vm.proofs.StackEnds.{ending_stack_keeps}
 use Rattle.lol_vm.proofs.VmStarts.{counted_data}
-use Rattle.lol_vm.proofs.StackMachines.{new_stack_keeps, items_counted, same_stack_keeps}
+use Rattle.lol_vm.proofs.StackMachines.{IsNew, new_stack_keeps, items_counted, same_stack_keeps}
 
 -- 1. Machines that stand
 

@@ -17,7 +17,6 @@ use Rattle.lol_stack.specs.Calls.{IsCalledAtEach, reports}
 use Rattle.lol_vm.specs.Documents.{Document, element_of}
 use Rattle.lol_vm.specs.Events.{Event, Start, has_content}
 use Rattle.lol_vm.specs.PlaceRuns.{Context}
-use Rattle.lol_vm.specs.StackMachines.{IsItemOf}
 use Rattle.lol_stack.specs.Stacks.{items_in, counted_in, counted_item, counted_if, with_typed, element_data_of}
 use Rattle.lol_vm.specs.Standing.{Machine, StandsFor, opened, finished}
 use Rattle.lol_vm.specs.Vms.{IsRequested, Vm, Shows, IsAnswered, IsReported, IsTriedAtMost, IsPending, IsEntered, AreOpened, content_of, info_of, data_in}
@@ -30,7 +29,7 @@ use Rattle.lol_stack.specs.declared.stack.StackOf.{StackOf}
 use Rattle.lol_stack.specs.declared.stack.StackNames.{StackNames}
 use Rattle.lol_vm.specs.declared.tag_runs.RecoveryPoint.{RecoveryPoint}
 use Rattle.lol_stack.specs.SoundLaws.{opening_keeps_sound}
-use Rattle.lol_vm.proofs.StackMachines.{opening_stack_keeps}
+use Rattle.lol_vm.proofs.StackMachines.{IsItemOf, opening_stack_keeps}
 use Rattle.lol_vm.proofs.Starts.{no_attributes}
 use Rattle.lol_program.specs.Programs.{AreClosed}
 

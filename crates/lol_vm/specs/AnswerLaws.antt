@@ -1,12 +1,39 @@
--- Selectors whose pairs give the same ids, that ask for the same and have as many nodes of each kind answer alike.
-use Rattle.std.proofs.Common.{◌≡◌, ℕ, Bool, ◌&&◌, not, cond, List, [], ◌∷◌, map, refl, ap, ◌∙◌}
-use Rattle.std.specs.Prelude.{count_by}
-use Rattle.lol_instructions.specs.Tests.{Element}
-use Rattle.lol_program.specs.Paths.{Path, Selectors}
+-- What documents and answers are after more events, and of selectors that answer alike.
+use Rattle.std.proofs.Common.{◌≡◌, Bool, List, [], ◌∷◌, ◌++◌, length, refl, ap, ◌∙◌, arith, ℕ, ◌&&◌, not, cond, map, true, ◌||◌}
+use Rattle.std.specs.Prelude.{max, count_by, nat_lt, Some, None, Contains}
+use Rattle.lol_program.specs.Paths.{Selectors, Path}
+use Rattle.lol_vm.specs.Answers.{after, answer, answers_from, document_from, Started, Dropped, matching_ids, needs_attributes, asks}
+use Rattle.lol_vm.specs.Documents.{Document, element_of, after_start, empty}
 use Rattle.lol_vm.specs.Events.{Event, Start, End, has_content}
-use Rattle.lol_vm.specs.Documents.{Document, element_of, after_start}
+use Rattle.lol_vm.specs.Refusals.{longest_from, Allowance, Limit, Counter, exceeds, greatest_count, refusal, or_later, refused_from}
+use Rattle.lol_instructions.specs.Tests.{Element, is_html}
 use Rattle.lol_vm.specs.Matching.{left_matches}
-use Rattle.lol_vm.specs.Answers.{Started, Dropped, matching_ids, needs_attributes, asks, answer, after, answers_from}
+use Rattle.std.specs.List.{list_any}
+use Rattle.std.proofs.lemmas.List.Folds.{Any-from_list_any, list_any-from_Any}
+use Rattle.lol_base.specs.BoolLaws.{same_bool}
+use Rattle.lol_base.specs.MemberLaws.{Among, among_from_contains, contains_from_among, distinct_from_pairs, same_count}
+use Rattle.lol_vm.specs.Laws.{SameSelectors, OrderChangesNothing}
+use Rattle.lol_vm.specs.ReportLaws.{matching_ids-same}
+
+-- 1. More events
+
+module _ (s : Selectors) (esi : Bool) where
+  pub document_push : (d : Document) (before : List Event) (event : Event) → document_from s esi d (before ++ event ∷ []) ≡ after s esi (document_from s esi d before) event
+  document_push d [] event = refl
+  document_push d (e ∷ before) event = document_push (after s esi d e) before event
+
+  -- the most elements that were open
+  pub longest_push : (d : Document) (events : List Event) (event : Event) → longest_from s esi d (events ++ event ∷ []) ≡ max (longest_from s esi d events) (length (after s esi (document_from s esi d events) event).open_elements)
+  longest_push d [] event = refl
+  longest_push d (e ∷ events) event =
+      ap (max (length d.open_elements)) (longest_push (after s esi d e) events event) ∙ omega arith
+
+  -- the answers to later events come after those to the events before
+  pub answers_append : (d : Document) (before later : List Event) → answers_from s esi d (before ++ later) ≡ answers_from s esi d before ++ answers_from s esi (document_from s esi d before) later
+  answers_append d [] later = refl
+  answers_append d (e ∷ before) later = ap (λ told. answer s esi d e ∷ told) (answers_append (after s esi d e) before later)
+
+-- 2. Selectors whose pairs give the same ids, that ask for the same and have as many nodes of each kind
 
 module _ (s t : Selectors) (esi : Bool) (same_ids : (e : Element) (outer : List Element) → matching_ids s.pairs e outer ≡ matching_ids t.pairs e outer)
     (same_asks : (e : Element) (outer : List Element) → asks s e outer ≡ asks t e outer) (same_counts : (p : Path → Bool) → count_by p s.nodes ≡ count_by p t.nodes) where
@@ -28,3 +55,45 @@ module _ (s t : Selectors) (esi : Bool) (same_ids : (e : Element) (outer : List 
   same_answers d (event ∷ events) =
       (λ i. same_answer d event i ∷ answers_from s esi (same_after d event i) events)
       ∙ ap (λ more. answer t esi d event ∷ more) (same_answers (after t esi d event) events)
+
+-- 3. The order of pairs and nodes
+
+-- a test that some element passes
+passes_too : {T : Type 0} (p : T → Bool) (xs ys : List T) → ((x : T) → Contains xs x → Contains ys x) → list_any p xs ≡ true → list_any p ys ≡ true
+passes_too p xs ys to some =
+    let found = Any-from_list_any p xs some in
+    let there = to found.1 (found.0, found.2, found.3) in
+    list_any-from_Any p ys (there.0, found.1, there.1, there.2, found.4)
+
+among_too : {T : Type 0} (xs ys : List T) → ((x : T) → Contains xs x → Contains ys x) → (x : T) → Among xs x → Among ys x
+among_too xs ys to x a = among_from_contains ys x (to x (contains_from_among xs x a))
+
+module _ (s t : Selectors) (same : SameSelectors s t) (esi : Bool) where
+  module _ (e : Element) (outer : List Element) where
+    same_ids : matching_ids s.pairs e outer ≡ matching_ids t.pairs e outer
+    same_ids = matching_ids-same e outer s.pairs t.pairs (among_too s.pairs t.pairs (λ p. (same.pairs p).0)) (among_too t.pairs s.pairs (λ p. (same.pairs p).1))
+
+    same_asks : asks s e outer ≡ asks t e outer
+    same_asks =
+        ap (λ b. not (is_html e.tag.namespace) || b)
+        (same_bool _ _ (passes_too (needs_attributes e outer) s.nodes t.nodes (λ n. (same.nodes n).0)) (passes_too (needs_attributes e outer) t.nodes s.nodes (λ n. (same.nodes n).1)))
+
+  same_tries : (p : Path → Bool) → count_by p s.nodes ≡ count_by p t.nodes
+  same_tries p = same_count p s.nodes t.nodes (distinct_from_pairs s.nodes same.each_once) (distinct_from_pairs t.nodes same.each_once') (among_too s.nodes t.nodes (λ n. (same.nodes n).0)) (among_too t.nodes s.nodes (λ n. (same.nodes n).1))
+
+  after_same : (d : Document) (event : Event) → after s esi d event ≡ after t esi d event
+  after_same = same_after s t esi same_ids same_asks same_tries
+
+  same_refusal : (a : Allowance) (d : Document) (most : ℕ) (event : Event) → refusal s esi a d most event ≡ refusal t esi a d most event
+  same_refusal a d most (Start tag) =
+      λ i. cond (nat_lt greatest_count (element_of d tag).position) (Some Counter) (cond (exceeds a (max most (length (after_same d (Start tag) i).open_elements))) (Some Limit) None)
+  same_refusal a d most (End name) = refl
+
+  same_refused : (a : Allowance) (d : Document) (most : ℕ) (events : List Event) → refused_from s esi a d most events ≡ refused_from t esi a d most events
+  same_refused a d most [] = refl
+  same_refused a d most (event ∷ events) =
+      (λ i. or_later d.events (same_refusal a d most event i) (refused_from s esi a (after_same d event i) (max most (length (after_same d event i).open_elements)) events))
+      ∙ ap (or_later d.events (refusal t esi a d most event)) (same_refused a (after t esi d event) (max most (length (after t esi d event).open_elements)) events)
+
+pub order_changes_nothing : OrderChangesNothing
+order_changes_nothing s t same esi events = (same_answers s t esi (same_ids s t same esi) (same_asks s t same esi) (same_tries s t same esi) empty events, λ a. same_refused s t same esi a empty 0 events)

@@ -2,7 +2,6 @@ pub mod Events
 pub mod Documents
 pub mod Matching
 pub mod Answers
-pub mod AnswerLaws
 pub mod Refusals
 pub mod RunRefusals
 pub mod Rows
@@ -21,8 +20,8 @@ pub mod Due
 pub mod VmLaws
 pub mod InstructionRuns
 pub mod Laws
-pub mod OrderLaws
 pub mod ReportLaws
+pub mod AnswerLaws
 pub mod TagRuns
 pub mod Machines
 pub mod PlaceRuns
@@ -31,6 +30,4 @@ pub mod Standing
 pub mod RunLaws
 pub mod AskedRuns
 pub mod StackMachines
-pub mod Gathering
 pub mod ChargeLaws
-pub mod DocumentLaws

@@ -1,12 +1,13 @@
 -- What the places of a program give, run for a start tag.
-use Rattle.std.specs.Prelude.{ℕ, Bool, if◌then◌else◌, List, [], ◌∷◌, ◌++◌, flat_map, slice_get, Option, Some, None, option_to_list, suc}
+use Rattle.std.specs.Prelude.{ℕ, Bool, if◌then◌else◌, List, [], ◌∷◌, ◌++◌, flat_map, slice_get, Option, Some, None, option_to_list, ◌≡◌, ◌↔◌, true, Contains}
 use Rattle.std.specs.declared.ops.Range.{Range}
-use Rattle.std.specs.Option.{option_map}
 use Rattle.lol_instructions.specs.Tests.{Element}
 use Rattle.lol_instructions.specs.Compounds.{is_open}
 use Rattle.lol_program.specs.Programs.{Instruction, Program}
 use Rattle.lol_instructions.specs.declared.name_value.NameValue.{NameValue}
-use Rattle.lol_instructions.specs.declared.name_value.NameValue.TheVariants.{True, False}
+use Rattle.lol_instructions.specs.declared.name_value.NameValue.TheVariants.{False}
+use Rattle.lol_memory.specs.Ids.{Ids, has}
+use Rattle.lol_stack.specs.declared.stack_item.StackItemOf.{StackItemOf}
 
 -- 1. What all places give
 
@@ -75,23 +76,10 @@ value_at p e place = instruction_value e (slice_get p.instructions place)
 abbrev pub is_open_at : Program → Element → ℕ → Bool
 is_open_at p e place = is_open (value_at p e place)
 
--- Where a run without attributes ends: what it gathered, and the places that are left. None are left, or the first of them is open.
-pub record Stop : Type 0 where
-  pub context : Context
-  pub left : List ℕ
+-- 3. When the element of a start tag has that
 
-abbrev pub step_by_names : Bool → Context → NameValue → Option Instruction → Context
-step_by_names content context True (Some i) = branch content context i
-step_by_names content context _ _ = context
-
--- Runs places without attributes, up to the first whose value by names is open.
-abbrev pub run_by_names : Program → Bool → Element → Context → List ℕ → Stop
-run_by_names p content e context [] = record { context = context; left = [] }
-run_by_names p content e context (place ∷ ps) =
-    if is_open_at p e place then record { context = context; left = place ∷ ps }
-    else run_by_names p content e (step_by_names content context (value_at p e place) (slice_get p.instructions place)) ps
-
--- how many places stand before the first open one
-abbrev pub first_open : Program → Element → List ℕ → Option ℕ
-first_open p e [] = None
-first_open p e (place ∷ ps) = if is_open_at p e place then Some 0 else option_map suc (first_open p e ps)
+-- The ids of the element's data are those that were gathered, and its ranges too; `ids_of` is what the data mean.
+pub record Gathers {N E : Type 0} (ids_of : E → Ids) (item : StackItemOf N E) (context : Context) : Type 0 where
+  pub ids : (id : ℕ) → (has (ids_of item.element_data) id ≡ true) ↔ Contains context.ids id
+  pub jumps : context.jumps ≡ item.jumps
+  pub hereditary_jumps : context.hereditary_jumps ≡ item.hereditary_jumps

@@ -1,40 +1,70 @@
 -- What a report holds.
-use Rattle.std.proofs.Common.{◌≡◌, ℕ, suc, ◌<◌, Bool, true, false, cond, List, [], ◌∷◌, map, filter, Contains, ◌⊎◌, inl, inr, refl, sym, ap, ◌∙◌, subst, arith}
+use Rattle.std.proofs.Common.{◌≡◌, ℕ, suc, ◌<◌, get_or, Bool, true, false, cond, List, [], ◌∷◌, map, filter, Contains, ◌⊎◌, inl, inr, refl, sym, ap, ◌∙◌, subst, arith}
 use Rattle.std.specs.Prelude.{nat_lt, ◌==◌}
-use Rattle.std.specs.List.{AllByRecursion}
 use Rattle.std.proofs.lemmas.Bool.Decides.{Decides-ltb, Decides-eqb}
-use Rattle.std.proofs.lemmas.List.Elements.{All-from_recursion}
 use Rattle.std.proofs.lemmas.List.Kept.{AllPairs-cons}
 use Rattle.lol_instructions.specs.Tests.{Element}
 use Rattle.lol_program.specs.Paths.{Path, Selectors}
+use Rattle.lol_base.specs.ListLaws.{get_or-any}
 use Rattle.lol_base.specs.MemberLaws.{Among, among_from_contains, contains_from_among}
 use Rattle.lol_vm.specs.Matching.{matches}
 use Rattle.lol_vm.specs.Answers.{with_number, ascending_once, matching_ids, report}
 use Rattle.lol_vm.specs.Laws.{IsStrictlyAscending, AscendingIsDetermined, IsReport, ids_of}
 
--- 1. Strictly ascending lists
+-- 1. Members of filtered and mapped lists
+
+module _ {A : Type 0} (p : A → Bool) where
+  among_cond : (b : Bool) (y : A) (ys : List A) (x : A) → Among (cond b (y ∷ ys) ys) x → ((b ≡ true) × (y ≡ x)) ⊎ Among ys x
+  among_cond true y ys x (inl is) = inl (refl, is)
+  among_cond true y ys x (inr h) = inr h
+  among_cond false y ys x h = inr h
+
+  cond_front : (b : Bool) (y : A) (ys : List A) → b ≡ true → Among (cond b (y ∷ ys) ys) y
+  cond_front true y ys h = inl refl
+  cond_front false y ys h = cc
+
+  cond_back : (b : Bool) (y : A) (ys : List A) (x : A) → Among ys x → Among (cond b (y ∷ ys) ys) x
+  cond_back true y ys x h = inr h
+  cond_back false y ys x h = h
+
+  pub among_filter : (xs : List A) (x : A) → Among (filter p xs) x → Among xs x × (p x ≡ true)
+  among_filter [] x h = absurd h
+  among_filter (y ∷ xs) x h = elim (among_cond (p y) y (filter p xs) x h) [
+    | inl here ↦ (inl here.1, subst (λ z. p z ≡ true) here.1 here.0)
+    | inr later ↦ let rest = among_filter xs x later in (inr rest.0, rest.1)
+  ]
+
+  pub filter_among : (xs : List A) (x : A) → Among xs x → p x ≡ true → Among (filter p xs) x
+  filter_among [] x h fits = absurd h
+  filter_among (y ∷ xs) x (inl is) fits = subst (λ z. Among (filter p (y ∷ xs)) z) is (cond_front (p y) y (filter p xs) (ap p is ∙ fits))
+  filter_among (y ∷ xs) x (inr h) fits = cond_back (p y) y (filter p xs) x (filter_among xs x h fits)
+
+module _ {A B : Type 0} (f : A → B) where
+  pub among_map : (xs : List A) (y : B) → Among (map f xs) y → (x : A) × Among xs x × (f x ≡ y)
+  among_map [] y h = absurd h
+  among_map (x ∷ xs) y (inl is) = (x, inl refl, is)
+  among_map (x ∷ xs) y (inr h) = let rest = among_map xs y h in (rest.0, inr rest.1, rest.2)
+
+  pub map_among : (xs : List A) (x : A) → Among xs x → Among (map f xs) (f x)
+  map_among [] x h = absurd h
+  map_among (y ∷ xs) x (inl is) = inl (ap f is)
+  map_among (y ∷ xs) x (inr h) = inr (map_among xs x h)
+
+-- 2. Strictly ascending lists
 
 abbrev Ascends : List ℕ → Type 0
 Ascends [] = Unit {0}
-Ascends (n ∷ ns) = AllByRecursion (λ m. n < m) ns × Ascends ns
+Ascends (n ∷ ns) = ((m : ℕ) → Among ns m → n < m) × Ascends ns
 
 pub pairs_from_ascends : (ns : List ℕ) → Ascends ns → IsStrictlyAscending ns
 pairs_from_ascends [] h = λ i j d below within. absurd (omega (arith, within))
-pairs_from_ascends (n ∷ ns) h = AllPairs-cons (λ m k. m < k) n ns (All-from_recursion (λ m. n < m) ns h.0) (pairs_from_ascends ns h.1)
-
-all_above : (n : ℕ) (ns : List ℕ) → ((m : ℕ) → Among ns m → n < m) → AllByRecursion (λ m. n < m) ns
-all_above n [] h = tt
-all_above n (m ∷ ns) h = (h m (inl refl), all_above n ns (λ k a. h k (inr a)))
-
-above_all : (n : ℕ) (ns : List ℕ) → AllByRecursion (λ m. n < m) ns → (m : ℕ) → Among ns m → n < m
-above_all n [] h m a = absurd a
-above_all n (k ∷ ns) h m (inl is) = subst (λ m. n < m) is h.0
-above_all n (k ∷ ns) h m (inr a) = above_all n ns h.1 m a
+pairs_from_ascends (n ∷ ns) h =
+    AllPairs-cons (λ m k. m < k) n ns (λ i d within. h.0 (get_or ns i d) (among_from_contains ns (get_or ns i d) (i, within, get_or-any ns i (get_or ns i d) d within))) (pairs_from_ascends ns h.1)
 
 pub ascends_from_pairs : (ns : List ℕ) → IsStrictlyAscending ns → Ascends ns
 ascends_from_pairs [] h = tt
 ascends_from_pairs (n ∷ ns) h = (
-  all_above n ns (λ m a. let at = contains_from_among ns m a in subst (λ k. n < k) at.2 (h 0 (suc at.0) m (omega arith) (omega (arith, at.1)))),
+  λ m a. let at = contains_from_among ns m a in subst (λ k. n < k) at.2 (h 0 (suc at.0) m (omega arith) (omega (arith, at.1))),
   ascends_from_pairs ns (λ i j d below within. h (suc i) (suc j) d (omega (arith, below)) (omega (arith, within))),
 )
 
@@ -49,15 +79,15 @@ determined (m ∷ ms) (n ∷ ns) hm hn to from =
     first : Among (n ∷ ns) m → Among (m ∷ ms) n → m ≡ n
     first (inl is) b = sym is
     first (inr a) (inl is) = is
-    first (inr a) (inr b) = absurd (omega (arith, above_all n ns hn.0 m a, above_all m ms hm.0 n b))
+    first (inr a) (inr b) = absurd (omega (arith, hn.0 m a, hm.0 n b))
 
     after : m ≡ n → (k : ℕ) → Among ms k → Among (n ∷ ns) k → Among ns k
     after same k a (inr b) = b
-    after same k a (inl is) = absurd (omega (arith, above_all m ms hm.0 k a, is, same))
+    after same k a (inl is) = absurd (omega (arith, hm.0 k a, is, same))
 
     before : m ≡ n → (k : ℕ) → Among ns k → Among (m ∷ ms) k → Among ms k
     before same k a (inr b) = b
-    before same k a (inl is) = absurd (omega (arith, above_all n ns hn.0 k a, is, same))
+    before same k a (inl is) = absurd (omega (arith, hn.0 k a, is, same))
 
 pub ascending_is_determined : AscendingIsDetermined
 ascending_is_determined ms ns hm hn same =
@@ -65,7 +95,7 @@ ascending_is_determined ms ns hm hn same =
     (λ n a. among_from_contains ns n ((same n).0 (contains_from_among ms n a)))
     (λ n a. among_from_contains ms n ((same n).1 (contains_from_among ns n a)))
 
--- 2. A number in its place
+-- 3. A number in its place
 
 module _ (n : ℕ) where
   in_place : (x : ℕ) (xs : List ℕ) → (P : List ℕ → Type 0) → (n < x → P (n ∷ x ∷ xs)) → (n ≡ x → P (x ∷ xs)) → (x < n → P (x ∷ with_number n xs)) → P (with_number n (x ∷ xs))
@@ -94,13 +124,13 @@ module _ (n : ℕ) where
       (λ greater h. elim h [ inl is ↦ inl is | inr a ↦ inr (more a) ])
 
   with_number_ascends : (xs : List ℕ) → Ascends xs → Ascends (with_number n xs)
-  with_number_ascends [] h = (tt, tt)
+  with_number_ascends [] h = (λ m a. absurd a, tt)
   with_number_ascends (x ∷ xs) h = let more = with_number_ascends xs h.1 in in_place x xs Ascends
-      (λ less. (all_above n (x ∷ xs) (λ m a. elim a [ inl is ↦ subst (λ k. n < k) is less | inr b ↦ omega (arith, less, above_all x xs h.0 m b) ]), h))
+      (λ less. (λ m a. elim a [ inl is ↦ subst (λ k. n < k) is less | inr b ↦ omega (arith, less, h.0 m b) ], h))
       (λ same. h)
-      (λ greater. (all_above x (with_number n xs) (λ m a. elim (among_with_number xs m a) [ inl is ↦ subst (λ k. x < k) is greater | inr b ↦ above_all x xs h.0 m b ]), more))
+      (λ greater. (λ m a. elim (among_with_number xs m a) [ inl is ↦ subst (λ k. x < k) is greater | inr b ↦ h.0 m b ], more))
 
--- 3. Reports
+-- 4. Reports
 
 pub ascending_ascends : (ns : List ℕ) → Ascends (ascending_once ns)
 ascending_ascends [] = tt
@@ -124,33 +154,13 @@ Matching pairs e outer id = (path : Path) × Among pairs (path, id) × (matches 
 
 module _ (e : Element) (outer : List Element) where
   found : (pairs : List (Path × ℕ)) (id : ℕ) → Among (ids_matching pairs e outer) id → Matching pairs e outer id
-  found [] id h = absurd h
-  found (pair ∷ pairs) id h = by_test (matches pair.0 e outer) refl h (found pairs id)
-    where
-      wider : Matching pairs e outer id → Matching (pair ∷ pairs) e outer id
-      wider m = (m.0, inr m.1, m.2)
-
-      by_test : (b : Bool) → matches pair.0 e outer ≡ b
-          → Among (map (λ (p : Path × ℕ). p.1) (cond b (pair ∷ filter (λ (p : Path × ℕ). matches p.0 e outer) pairs) (filter (λ (p : Path × ℕ). matches p.0 e outer) pairs))) id
-          → (Among (ids_matching pairs e outer) id → Matching pairs e outer id)
-          → Matching (pair ∷ pairs) e outer id
-      by_test true fits (inl is) more = (pair.0, inl (λ i. (pair.0, is i)), fits)
-      by_test true fits (inr a) more = wider (more a)
-      by_test false fits a more = wider (more a)
+  found pairs id h =
+      let at = among_map (λ (p : Path × ℕ). p.1) (filter (λ (p : Path × ℕ). matches p.0 e outer) pairs) id h in
+      let pair = among_filter (λ (p : Path × ℕ). matches p.0 e outer) pairs at.0 at.1 in
+      (at.0.0, subst (λ n. Among pairs (at.0.0, n)) at.2 pair.0, pair.1)
 
   kept : (pairs : List (Path × ℕ)) (path : Path) (id : ℕ) → Among pairs (path, id) → matches path e outer ≡ true → Among (ids_matching pairs e outer) id
-  kept [] path id h fits = h
-  kept (pair ∷ pairs) path id (inl is) fits = at_head (matches pair.0 e outer) (ap (λ (p : Path × ℕ). matches p.0 e outer) is ∙ fits)
-    where
-      at_head : (b : Bool) → b ≡ true → Among (map (λ (p : Path × ℕ). p.1) (cond b (pair ∷ filter (λ (p : Path × ℕ). matches p.0 e outer) pairs) (filter (λ (p : Path × ℕ). matches p.0 e outer) pairs))) id
-      at_head true h = inl (ap (λ (p : Path × ℕ). p.1) is)
-      at_head false h = cc
-  kept (pair ∷ pairs) path id (inr a) fits = after (matches pair.0 e outer) (kept pairs path id a fits)
-    where
-      after : (b : Bool) → Among (ids_matching pairs e outer) id
-          → Among (map (λ (p : Path × ℕ). p.1) (cond b (pair ∷ filter (λ (p : Path × ℕ). matches p.0 e outer) pairs) (filter (λ (p : Path × ℕ). matches p.0 e outer) pairs))) id
-      after true h = inr h
-      after false h = h
+  kept pairs path id h fits = map_among (λ (p : Path × ℕ). p.1) (filter (λ (p : Path × ℕ). matches p.0 e outer) pairs) (path, id) (filter_among (λ (p : Path × ℕ). matches p.0 e outer) pairs (path, id) h fits)
 
   pub among_matching_ids : (pairs : List (Path × ℕ)) (id : ℕ) → Among (matching_ids pairs e outer) id → Matching pairs e outer id
   among_matching_ids pairs id h = found pairs id (among_ascending _ id h)

@@ -27,12 +27,9 @@ pub record WorkedRun : Type 0 where
 abbrev pub Holds : WorkedRun → Type 0
 Holds row = answers (selectors_of row.pairs) row.esi row.events ≡ row.answers
 
--- a compound of some tests, and of one
-abbrev compound : List Test → Compound
-compound tests = all_of tests
-
+-- a compound of one test
 abbrev alone : Test → Compound
-alone test = compound (test ∷ [])
+alone test = all_of (test ∷ [])
 
 abbrev name : List ℕ → Test
 name bytes = OfName (HasName bytes)
@@ -97,7 +94,7 @@ nested_divs = row ((Then (First (named (codes "div"))) Descendant (named (codes 
 
 -- `:not(div.foo)` under 0: attributes are asked for where the name fits
 abbrev pub not_a_compound : WorkedRun
-not_a_compound = row (one (alone (none_of (compound (name (codes "div") ∷ class (codes "foo") ∷ []) ∷ []))))
+not_a_compound = row (one (alone (none_of (all_of (name (codes "div") ∷ class (codes "foo") ∷ []) ∷ []))))
     (start (codes "div") ∷ start (codes "p") ∷ start_with (codes "div") (codes "class") (codes "foo") ∷ [])
     (Started (full 0 ∷ []) true 1 1 ∷ Started (full 0 ∷ []) false 1 0 ∷ Started [] true 1 1 ∷ [])
 
@@ -115,19 +112,19 @@ neither_class_nor_name = row (one (alone (none_of (alone (class (codes "a")) ∷
 
 -- `div:not([a*=""])` under 0
 abbrev pub not_an_empty_substring : WorkedRun
-not_an_empty_substring = row (one (compound (none_of (alone (OfAttributes (Compares (codes "a") Substring [] CaseSensitive)) ∷ []) ∷ name (codes "div") ∷ [])))
+not_an_empty_substring = row (one (all_of (none_of (alone (OfAttributes (Compares (codes "a") Substring [] CaseSensitive)) ∷ []) ∷ name (codes "div") ∷ [])))
     (start (codes "div") ∷ start (codes "p") ∷ [])
     (Started (full 0 ∷ []) true 1 1 ∷ Started [] false 1 0 ∷ [])
 
 -- `:not(*)` under 0 and `:not(|a)` under 1
 abbrev pub nothing_and_anything : WorkedRun
-nothing_and_anything = row ((First (alone (none_of (alone (OfName AnyName) ∷ []))), 0) ∷ (First (alone (none_of (compound (name (codes "a") ∷ OfName NoName ∷ []) ∷ []))), 1) ∷ [])
+nothing_and_anything = row ((First (alone (none_of (alone (OfName AnyName) ∷ []))), 0) ∷ (First (alone (none_of (all_of (name (codes "a") ∷ OfName NoName ∷ []) ∷ []))), 1) ∷ [])
     (start (codes "a") ∷ [])
     (Started (full 1 ∷ []) false 2 0 ∷ [])
 
 -- `:is(a.x, p)` under 0
 abbrev pub some_compound : WorkedRun
-some_compound = row (one (alone (some_of (compound (name (codes "a") ∷ class (codes "x") ∷ []) ∷ named (codes "p") ∷ []))))
+some_compound = row (one (alone (some_of (all_of (name (codes "a") ∷ class (codes "x") ∷ []) ∷ named (codes "p") ∷ []))))
     (start (codes "p") ∷ start_with (codes "a") (codes "class") (codes "x") ∷ start (codes "div") ∷ [])
     (Started (full 0 ∷ []) false 1 0 ∷ Started (full 0 ∷ []) true 1 1 ∷ Started [] false 1 0 ∷ [])
 
@@ -145,13 +142,13 @@ child_of_some = row ((Then (First (alone (some_of (named (codes "h1") ∷ named 
 
 -- `br:first-child` under 0 and `p:nth-child(2)` under 1: an element without content counts
 abbrev pub second_child : WorkedRun
-second_child = row ((First (compound (OfName (IsNthChild (record { step = pos 0; offset = pos 1 })) ∷ name (codes "br") ∷ [])), 0) ∷ (First (compound (OfName (IsNthChild (record { step = pos 0; offset = pos 2 })) ∷ name (codes "p") ∷ [])), 1) ∷ [])
+second_child = row ((First (all_of (OfName (IsNthChild (record { step = pos 0; offset = pos 1 })) ∷ name (codes "br") ∷ [])), 0) ∷ (First (all_of (OfName (IsNthChild (record { step = pos 0; offset = pos 2 })) ∷ name (codes "p") ∷ [])), 1) ∷ [])
     (start (codes "br") ∷ start (codes "p") ∷ [])
     (Started (void 0 ∷ []) false 2 0 ∷ Started (full 1 ∷ []) false 2 0 ∷ [])
 
 -- `span:nth-of-type(2)` under 0, whatever the case of names
 abbrev pub second_span : WorkedRun
-second_span = row (one (compound (OfName (IsNthOfType (record { step = pos 0; offset = pos 2 })) ∷ name (codes "span") ∷ [])))
+second_span = row (one (all_of (OfName (IsNthOfType (record { step = pos 0; offset = pos 2 })) ∷ name (codes "span") ∷ [])))
     (start (codes "div") ∷ start (codes "span") ∷ End (codes "span") ∷ start (codes "SPAN") ∷ [])
     (Started [] false 1 0 ∷ Started [] false 1 0 ∷ Ended (1 ∷ []) ∷ Started (full 0 ∷ []) false 1 0 ∷ [])
 
@@ -187,7 +184,7 @@ self_closing_tag = row (one (named (codes "circle")))
 
 -- `a[href]` under 0: attributes are asked for where the name fits
 abbrev pub links : WorkedRun
-links = row (one (compound (OfAttributes (HasAttribute (codes "href")) ∷ name (codes "a") ∷ [])))
+links = row (one (all_of (OfAttributes (HasAttribute (codes "href")) ∷ name (codes "a") ∷ [])))
     (start_with (codes "a") (codes "href") (codes "http://example.com") ∷ start (codes "a") ∷ start (codes "div") ∷ [])
     (Started (full 0 ∷ []) true 1 1 ∷ Started [] true 1 1 ∷ Started [] false 1 0 ∷ [])
 
@@ -250,7 +247,7 @@ pub record AreValues : Type 0 where
   pub some_of_open : value_here (some_of (named (codes "q") ∷ alone (class (codes "a")) ∷ [])) ≡ Open
   pub some_of_true : value_here (some_of (alone (class (codes "a")) ∷ named (codes "p") ∷ [])) ≡ True
   pub some_of_none : value_here (some_of []) ≡ False
-  pub false_and_open : value_here (some_of (compound (class (codes "a") ∷ name (codes "q") ∷ []) ∷ [])) ≡ False
+  pub false_and_open : value_here (some_of (all_of (class (codes "a") ∷ name (codes "q") ∷ []) ∷ [])) ≡ False
 
 -- `*` under 0, over so many nested `d`, with items of 64 bytes and a fresh limiter of this maximum: what is refused
 abbrev pub refused_at : ℕ → ℕ → Option (ℕ × Cause)

@@ -1,13 +1,12 @@
 -- When a stack keeps what a machine keeps of the open elements.
-use Rattle.std.specs.Prelude.{ℕ, ◌≡◌, Bool, true, false, if◌then◌else◌, List, [], map, reverse, length, Option, Some, None}
-use Rattle.lol_base.specs.LocalNames.{Name, local_name}
+use Rattle.std.specs.Prelude.{ℕ, ◌≡◌, Bool, true, false, List, map, reverse, length, Option, Some, None}
+use Rattle.lol_base.specs.LocalNames.{Name}
 use Rattle.lol_vm.specs.Machines.{OpenItem}
-use Rattle.lol_vm.specs.PlaceRuns.{Context}
 use Rattle.lol_vm.specs.Standing.{Machine}
 use Rattle.lol_stack.specs.TypedCounts.{TypedCount}
 use Rattle.lol_stack.specs.TypedLaws.{StandUpTo, typed_of}
 use Rattle.lol_base.specs.Names.{lowercased}
-use Rattle.lol_stack.specs.Stacks.{items_in, slots_in, active_in, typed_in, root_count, item_bytes_in, list_in}
+use Rattle.lol_stack.specs.Stacks.{items_in, slots_in, typed_in, root_count, item_bytes_in}
 use Rattle.lol_stack.specs.declared.stack_item.StackItemOf.{StackItemOf}
 use Rattle.lol_stack.specs.declared.stack.StackOf.{StackOf}
 use Rattle.lol_stack.specs.declared.stack.StackNames.{StackNames}
@@ -45,19 +44,3 @@ pub record KeepsMachine {E : Type 0} (s : StackOf Name StackNames E) (m : Machin
   pub typed : KeepsTyped (typed_in s) m.program.by_type (length m.items) m.typed
   pub item_bytes : m.item_bytes ≡ item_bytes_in s
   pub slots : m.slots ≡ slots_in s
-
--- What is so of a new stack, and what each call keeps.
-
--- a new stack, which counts by type where the program asks for it
-pub record IsNew {E : Type 0} (s : StackOf Name StackNames E) (by_type : Bool) (item_bytes : ℕ) : Type 0 where
-  pub items : list_in s ≡ record { items = []; slots = 0; item_bytes = item_bytes }
-  pub root : root_count s ≡ 0
-  pub active : active_in s ≡ []
-  pub typed : typed_in s ≡ (if by_type then Some [] else None)
-
--- an element that has what was gathered, and no children yet
-pub record IsItemOf {E : Type 0} (item : StackItemOf Name E) (name : List ℕ) (context : Context) : Type 0 where
-  pub named : item.local_name ≡ local_name name
-  pub jumps : context.jumps ≡ item.jumps
-  pub hereditary_jumps : context.hereditary_jumps ≡ item.hereditary_jumps
-  pub children : item.child_counter ≡ 0

@@ -21,9 +21,8 @@ use Rattle.lol_vm.specs.Answers.{report, name_tries, attribute_tries, Match, Sta
 use Rattle.lol_stack.specs.Calls.{IsCalledAtEach}
 use Rattle.lol_vm.specs.Documents.{Document, element_of, place_of, outer_part}
 use Rattle.lol_vm.specs.Events.{Event, Start, has_content}
-use Rattle.lol_vm.specs.Gathering.{Gathers}
+use Rattle.lol_vm.specs.PlaceRuns.{Gathers, Context, no_context}
 use Rattle.lol_vm.specs.MachineLaws.{IsRequest}
-use Rattle.lol_vm.specs.PlaceRuns.{Context, no_context}
 use Rattle.lol_stack.specs.SoundStacks.{IsSound}
 use Rattle.lol_vm.specs.StackMachines.{KeepsMachine}
 use Rattle.lol_stack.specs.Stacks.{items_in, element_data_of, slots_in, item_bytes_in, IsPushed}

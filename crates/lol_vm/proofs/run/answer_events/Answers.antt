@@ -2,7 +2,7 @@ use Rattle.std.proofs.Common.{of_calls, ◌≡◌, ℕ, ◌+◌, ◌<◌, List, 
 use Rattle.std.proofs.lemmas.Fn.{FoldsTo-push}
 use Rattle.std.proofs.lemmas.List.{map_push, map-append, append_assoc, take_more, take_all, take-append-drop, length-map, length-take-le}
 use Rattle.lol_vm.specs.Answers.{answers}
-use Rattle.lol_vm.specs.DocumentLaws.{answers_append}
+use Rattle.lol_vm.specs.AnswerLaws.{answers_append}
 use Rattle.lol_vm.specs.Documents.{empty}
 use Rattle.lol_vm.specs.Events.{Event}
 use Rattle.lol_vm.specs.EventRuns.{IsRunOf}
