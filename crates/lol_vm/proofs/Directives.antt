@@ -13,15 +13,6 @@ use Rattle.lol_stack.specs.contracts.stack_item.StackDirective.{the_type}
 use Rattle.lol_stack.specs.declared.stack_item.StackDirective.{StackDirective}
 use Rattle.lol_stack.specs.declared.stack_item.StackDirective.TheVariants.{Push, PushIfNotSelfClosing, PopImmediately}
 
-pub foreign_if : (ns : Namespace) (esi : Bool) (name : List ℕ) → sameb the_type (directive_in ns esi name) PushIfNotSelfClosing ≡ true → is_html ns ≡ false
-foreign_if Html esi name h = by_test (is_void name || (esi && is_esi name)) h
-  where
-    by_test : (b : Bool) → sameb the_type (cond b PopImmediately Push) PushIfNotSelfClosing ≡ true → true ≡ false
-    by_test true h = cc
-    by_test false h = cc
-foreign_if Svg esi name h = refl
-foreign_if MathML esi name h = refl
-
 pub html_if : (ns : Namespace) (esi : Bool) (name : List ℕ) → sameb the_type (directive_in ns esi name) PushIfNotSelfClosing ≡ false → is_html ns ≡ true
 html_if Html esi name h = refl
 html_if Svg esi name h = cc

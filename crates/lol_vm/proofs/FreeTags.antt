@@ -6,7 +6,6 @@ use Rattle.std.specs.Option.{IsNone}
 use Rattle.std.proofs.lemmas.List.{length-map}
 use Rattle.std.proofs.lemmas.Slice.Eq.{bytes_eq-Decides}
 use Rattle.std.specs.declared.ops.Range.{Range}
-use Rattle.lol_base.specs.BoolLaws.{and_parts}
 use Rattle.lol_base.specs.LocalNames.{is_hash, local_name}
 use Rattle.lol_base.specs.MemberLaws.{Among, contains_from_among}
 use Rattle.lol_base.specs.Names.{is_void, is_esi, lowercased, same_name, void_names}
@@ -45,13 +44,13 @@ use Rattle.lol_vm.specs.declared.tag_runs.RecoveryPoint.TheVariants.{AtOnce, At}
 use Rattle.lol_base.specs.PlaceLaws.{at_among, within_at}
 use Rattle.std.specs.declared.alloc.AllocError.{AllocError}
 use Rattle.lol_vm.proofs.Lists.{among_any}
+use Rattle.std.proofs.lemmas.List.Elements.{All-contains}
+use Rattle.std.proofs.lemmas.List.Sums.{AllPass-from_list_all}
 
 -- 1. Void names
 
 pub all_parts : {A : Type 0} (p : A → Bool) (xs : List A) → list_all p xs ≡ true → (x : A) → Among xs x → p x ≡ true
-all_parts p [] all x a = absurd a
-all_parts p (y ∷ xs) all x (inl is) = ap p (sym is) ∙ (and_parts (p y) (list_all p xs) all).0
-all_parts p (y ∷ xs) all x (inr a) = all_parts p xs (and_parts (p y) (list_all p xs) all).1 x a
+all_parts p xs all x a = All-contains (λ y. p y ≡ true) xs x (AllPass-from_list_all p xs all) (contains_from_among xs x a)
 
 -- each void name is a hash
 void_hashes : list_all (λ name. is_hash (lowercased name)) void_names ≡ true

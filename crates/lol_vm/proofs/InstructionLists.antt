@@ -14,7 +14,7 @@ use Rattle.lol_instructions.specs.Running.{tries_of_attributes}
 use Rattle.lol_instructions.specs.declared.name_value.NameValue.{NameValue}
 use Rattle.lol_instructions.specs.declared.name_value.NameValue.TheVariants.{True, False, Open}
 use Rattle.lol_instructions.specs.declared.instruction.Instruction.{Instruction}
-use Rattle.lol_vm.specs.InstructionRuns.{NeedNoMemory, value_seen, holds_seen, is_true, with_branch_if, open_among, first_open_from, gathered_by_names, gathered_with_attributes, instructions_at, all_at, AreRunnable, IsInsideOf, HasTriesLeft}
+use Rattle.lol_vm.specs.InstructionRuns.{value_seen, holds_seen, is_true, with_branch_if, open_among, first_open_from, gathered_by_names, gathered_with_attributes, instructions_at, all_at, AreRunnable, IsInsideOf, HasTriesLeft}
 use Rattle.lol_vm.specs.TagRuns.{IsStopIn}
 use Rattle.lol_stack.specs.WithRange.{no_range}
 use Rattle.lol_vm.specs.declared.tag_runs.Stop.{Stop}
@@ -110,9 +110,6 @@ open_split s all i others is = ap (open_among s) is ∙ open_first s i others
 
 pub open_at_most : (s : Sight) (instructions : List Instruction) → open_among s instructions ≤ length instructions
 open_at_most s instructions = count_by-le-length (λ i. is_open (value_seen s i)) instructions
-
-pub free_rest : (content : Bool) (i : Instruction) (others : List Instruction) → NeedNoMemory content (i ∷ others) → NeedNoMemory content others
-free_rest content i others free = λ k d within. free (suc k) d (omega (arith, within))
 
 -- what comes before some of the ranges, and from them on
 pub length_parts : (instructions : List Instruction) (ranges : List (Range ℕ)) (n : ℕ) → length (all_at instructions (take n ranges)) + length (all_at instructions (drop n ranges)) ≡ length (all_at instructions ranges)

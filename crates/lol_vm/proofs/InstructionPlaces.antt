@@ -22,6 +22,7 @@ use Rattle.lol_stack.specs.declared.execution_ctx.ExecutionCtx.{ExecutionCtx}
 use Rattle.lol_vm.proofs.GatheringLemmas.{branches_gather}
 use Rattle.lol_base.specs.PlaceLaws.{within_at}
 use Rattle.lol_vm.proofs.Stops.{first_open, step_by_names, run_by_names}
+use Rattle.std.proofs.lemmas.List.Elements.{All-contains}
 
 -- 1. What stands at the places of ranges
 
@@ -138,9 +139,6 @@ module _ (p : Program) (by_type : Bool) (instructions : List code.Instruction) (
           by_value False passed failed = failed
           by_value Open passed failed = has
 
-inside_each : (instructions : List code.Instruction) (ranges : List (Range ℕ)) → All (IsInsideOf instructions) ranges → (r : Range ℕ) → Among ranges r → IsInsideOf instructions r
-inside_each instructions ranges all r a = let at = contains_from_among ranges r a in subst (IsInsideOf instructions) at.2 (all at.0 r at.1)
-
 -- 3. The instructions of ranges
 
 -- ranges inside the instructions of a program
@@ -156,7 +154,7 @@ pub record AreAsOpen (p : Program) (by_type : Bool) (e : Element) (instructions 
 
 module _ (p : Program) (by_type : Bool) (e : Element) (instructions : List code.Instruction) (ranges : List (Range ℕ)) (are : AreRangesOf p by_type instructions ranges) where
   at : map (slice_get p.instructions) (all_places ranges) ≡ map (stands p by_type instructions are.same_code) (all_at instructions ranges)
-  at = at_all p by_type instructions are.same_code ranges (inside_each instructions ranges are.inside)
+  at = at_all p by_type instructions are.same_code ranges (λ r a. All-contains (IsInsideOf instructions) ranges r are.inside (contains_from_among ranges r a))
 
   pub instructions_are_as_open : AreAsOpen p by_type e instructions ranges
   instructions_are_as_open = record {

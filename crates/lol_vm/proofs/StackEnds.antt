@@ -17,7 +17,7 @@ use Rattle.lol_stack.specs.declared.stack_item.StackItemOf.{StackItemOf}
 use Rattle.lol_stack.specs.declared.stack.StackOf.{StackOf}
 use Rattle.lol_stack.specs.declared.stack.StackNames.{StackNames}
 use Rattle.lol_stack.specs.SoundLaws.{ends_at_last}
-use Rattle.lol_vm.proofs.StackMachines.{shown_length, items_counted, place_of_last, ended_at_last_keeps}
+use Rattle.lol_vm.proofs.StackMachines.{found_within, shown_length, items_counted, place_of_last, ended_at_last_keeps}
 
 -- 1. The first place at which a test passes, with one element more
 
@@ -33,14 +33,6 @@ module _ {A : Type 0} (p : A → Bool) where
           → (if b then Some i else position_from p (i + 1) (ys ++ y ∷ [])) ≡ option_or (if b then Some i else position_from p (i + 1) ys) (if p y then Some (i + suc (length ys)) else None)
       by_test true later = refl
       by_test false later = later ∙ ap (λ k. option_or (position_from p (i + 1) ys) (if p y then Some k else None)) sizes
-
-  place_within : (i : ℕ) (ys : List A) (k : ℕ) → position_from p i ys ≡ Some k → k < i + length ys
-  place_within i [] k is = cc
-  place_within i (y ∷ ys) k is = by_test (p y) (λ h. place_within (i + 1) ys k h) is
-    where
-      by_test : (b : Bool) → (position_from p (i + 1) ys ≡ Some k → k < (i + 1) + length ys) → (if b then Some i else position_from p (i + 1) ys) ≡ Some k → k < i + suc (length ys)
-      by_test true later h = let here : i ≡ k = cc in omega (arith, here)
-      by_test false later h = let within = later h in omega (arith, within)
 
 -- 2. The last element of a name
 
@@ -62,7 +54,7 @@ module _ (name : List ℕ) where
       let count = shown_length item_shown xs in
       ap (λ ys. option_map (from_last place (suc (length xs))) (position_from is_named 0 ys)) turned
       ∙ (ap (option_map (from_last place (suc (length xs)))) (place_push is_named 0 (items_shown xs) (item_shown x))
-      ∙ by_place (position_from is_named 0 (items_shown xs)) (λ k h. omega (arith, place_within is_named 0 (items_shown xs) k h, count)) (last_is (place + 1) xs) (is_named (item_shown x)) count)
+      ∙ by_place (position_from is_named 0 (items_shown xs)) (λ k h. omega (arith, found_within is_named (items_shown xs) k (position_from-zero is_named (items_shown xs) ∙ h), count)) (last_is (place + 1) xs) (is_named (item_shown x)) count)
     where
       by_place : (o : Option ℕ) → ((k : ℕ) → o ≡ Some k → k < length xs) → option_map (from_last (place + 1) (length xs)) o ≡ last_place_from (place + 1) xs (local_name name)
           → (b : Bool) → length (items_shown xs) ≡ length xs

@@ -132,7 +132,7 @@ keeps_typed_stray (Some ts) by_type top counts keeps =
 abbrev pub place_of_last : Machine → List ℕ → Option ℕ
 place_of_last m name = option_map (λ k. length m.items - (k + 1)) (position (λ (item : OpenItem). bytes_eq item.name (lowercased name)) m.items)
 
-found_within : (p : OpenItem → Bool) (xs : List OpenItem) (k : ℕ) → position p xs ≡ Some k → k < length xs
+pub found_within : (p : OpenItem → Bool) (xs : List OpenItem) (k : ℕ) → position p xs ≡ Some k → k < length xs
 found_within p xs k is = (position-Some p xs k (record { name = []; jumps = []; hereditary_jumps = [] }) is).0
 
 module _ {E : Type 0} (old new : StackOf Name StackNames E) (m : Machine) (keeps : KeepsMachine old m) where

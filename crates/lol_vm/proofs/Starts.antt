@@ -1,15 +1,15 @@
 -- What the machine of the code runs for a start tag, and what that gives.
-use Rattle.std.proofs.Common.{◌≡◌, ℕ, suc, zero, reverse, ◌+◌, ◌-◌, ◌<◌, ◌≤◌, ◌^◌, Bool, true, false, cond, List, [], ◌∷◌, ◌++◌, length, map, drop, take, get_or, All, Option, Some, None, inl, inr, refl, sym, ap, ◌∙◌, subst, arith}
+use Rattle.std.proofs.Common.{◌≡◌, ℕ, suc, zero, reverse, ◌+◌, ◌-◌, ◌<◌, ◌≤◌, ◌^◌, Bool, true, false, cond, List, [], ◌∷◌, ◌++◌, length, map, drop, take, get_or, All, Option, Some, None, refl, sym, ap, ◌∙◌, subst, arith, Contains, drop-cons}
 use Rattle.std.specs.Prelude.{slice_get, if◌then◌else◌, count_by}
 use Rattle.std.proofs.lemmas.List.Sums.{count_by-le-length}
-use Rattle.std.proofs.lemmas.List.{length-map, length-drop, length-reverse, map-append, reverse-append, reverse-reverse}
+use Rattle.std.proofs.lemmas.List.{length-map, length-drop, length-reverse, map-append, reverse-append, reverse-reverse, take-append-drop}
 use Rattle.std.proofs.lemmas.List.FromFn.{length-range_with_len}
-use Rattle.std.proofs.lemmas.List.Elements.{All-take}
+use Rattle.std.proofs.lemmas.List.Elements.{All-contains_itself, All-weaker, All-take}
 use Rattle.std.specs.Option.{option_map}
 use Rattle.std.specs.List.{range_with_len}
 use Rattle.std.specs.declared.ops.Range.{Range}
 use Rattle.lol_base.specs.LocalNames.{Name}
-use Rattle.lol_base.specs.MemberLaws.{Among}
+use Rattle.lol_base.specs.MemberLaws.{Among, among_from_contains}
 use Rattle.lol_memory.specs.Ids.{Ids}
 use Rattle.lol_instructions.specs.Attributes.{TagAttributes}
 use Rattle.lol_instructions.specs.Compiled.{Sight, sight_of}
@@ -57,19 +57,11 @@ use Rattle.lol_vm.proofs.Stops.{stopped_starts_are_whole, stops_leave, numbers_a
 
 -- 1. Lists
 
-all_among : {A : Type 0} (P : A → Type 0) (xs : List A) → ((x : A) → Among xs x → P x) → All P xs
-all_among P [] each zero d within = absurd (omega (arith, within))
-all_among P [] each (suc k) d within = absurd (omega (arith, within))
-all_among P (x ∷ xs) each zero d within = each x (inl refl)
-all_among P (x ∷ xs) each (suc k) d within = all_among P xs (λ y a. each y (inr a)) k d (omega (arith, within))
-
 -- a list around one of its elements
 around : {A : Type 0} (xs : List A) (k : ℕ) (d : A) → k < length xs → xs ≡ take k xs ++ get_or xs k d ∷ drop (k + 1) xs
-around [] k d within = absurd (omega (arith, within))
-around (x ∷ xs) zero d within = refl
-around (x ∷ xs) (suc k) d within =
-    let next : suc k + 1 ≡ suc (k + 1) = omega arith in
-    ap (λ ys. x ∷ ys) (around xs k d (omega (arith, within))) ∙ ap (λ n. x ∷ (take k xs ++ get_or xs k d ∷ drop n (x ∷ xs))) (sym next)
+around xs k d within =
+    let next : suc k ≡ k + 1 = omega arith in
+    sym (take-append-drop k xs) ∙ ap (λ ys. take k xs ++ ys) (drop-cons xs k d within ∙ (λ i. get_or xs k d ∷ drop (next i) xs))
 
 -- 2. What a stack shows
 
@@ -147,10 +139,10 @@ module _ {E : Type 0} (r : Running E) where
   as_many = ap length shown ∙ length-map instructions (instruction_shown m.program.by_type)
 
   inside : All (IsInsideOf instructions) code_ranges
-  inside = all_among (IsInsideOf instructions) code_ranges (λ q a.
-      let among : Among (ranges_to_run m.program m.items) q = subst (λ rs. Among rs q) (ranges_shown stack m prog keeps sound is) a in
+  inside = All-weaker (Contains code_ranges) (IsInsideOf instructions) (λ q c.
+      let among : Among (ranges_to_run m.program m.items) q = subst (λ rs. Among rs q) (ranges_shown stack m prog keeps sound is) (among_from_contains code_ranges q c) in
       let within = ranges_are_inside s paths m.program m.items outer closed program items q among in
-      (within.0, omega (arith, within.1, as_many)))
+      (within.0, omega (arith, within.1, as_many))) code_ranges (All-contains_itself code_ranges)
 
   pub are_ranges : AreRangesOf m.program m.program.by_type instructions code_ranges
   are_ranges = record { same_code = shown; inside = inside }
@@ -288,23 +280,19 @@ range_after start end offset inside =
         ap (λ k. drop (suc offset) (range_with_len start k)) more ∙ (dropped_range (start + 1) offset n ∙ ap (λ k. range_with_len k n) at)
 
 module _ (p : programs.Program) (e : Element) where
-  first_is_open : (ps : List ℕ) (n : ℕ) → first_open p e ps ≡ Some n → starts_open p e (drop n ps) ≡ true
-  first_is_open [] n found = cc
-  first_is_open (place ∷ ps) n found = by_test (is_open_at p e place) refl (first_open p e ps) (first_is_open ps) n found
+  -- the first open place is within, and open
+  first_is : (ps : List ℕ) (n : ℕ) → first_open p e ps ≡ Some n → (n < length ps) × (starts_open p e (drop n ps) ≡ true)
+  first_is [] n found = cc
+  first_is (place ∷ ps) n found = by_test (is_open_at p e place) refl (first_open p e ps) (first_is ps) n found
     where
-      by_test : (b : Bool) → is_open_at p e place ≡ b → (o : Option ℕ) → ((k : ℕ) → o ≡ Some k → starts_open p e (drop k ps) ≡ true) → (n : ℕ) → (if b then Some 0 else option_map suc o) ≡ Some n → starts_open p e (drop n (place ∷ ps)) ≡ true
-      by_test true is o later n h = let first : 0 ≡ n = cc in subst (λ k. starts_open p e (drop k (place ∷ ps)) ≡ true) first is
+      by_test : (b : Bool) → is_open_at p e place ≡ b → (o : Option ℕ) → ((k : ℕ) → o ≡ Some k → (k < length ps) × (starts_open p e (drop k ps) ≡ true)) → (n : ℕ) → (if b then Some 0 else option_map suc o) ≡ Some n
+          → (n < suc (length ps)) × (starts_open p e (drop n (place ∷ ps)) ≡ true)
+      by_test true is o later n h = let first : 0 ≡ n = cc in (omega (arith, first), subst (λ k. starts_open p e (drop k (place ∷ ps)) ≡ true) first is)
       by_test false is None later n h = cc
-      by_test false is (Some k) later n h = let next : suc k ≡ n = cc in subst (λ m. starts_open p e (drop m (place ∷ ps)) ≡ true) next (later k refl)
-
-  first_is_within : (ps : List ℕ) (n : ℕ) → first_open p e ps ≡ Some n → n < length ps
-  first_is_within [] n found = cc
-  first_is_within (place ∷ ps) n found = by_test (is_open_at p e place) (first_open p e ps) (first_is_within ps) n found
-    where
-      by_test : (b : Bool) (o : Option ℕ) → ((k : ℕ) → o ≡ Some k → k < length ps) → (n : ℕ) → (if b then Some 0 else option_map suc o) ≡ Some n → n < suc (length ps)
-      by_test true o later n h = let first : 0 ≡ n = cc in omega (arith, first)
-      by_test false None later n h = cc
-      by_test false (Some k) later n h = let next : suc k ≡ n = cc in let within = later k refl in omega (arith, next, within)
+      by_test false is (Some k) later n h =
+          let next : suc k ≡ n = cc in
+          let rest = later k refl in
+          (omega (arith, next, rest.0), subst (λ m. starts_open p e (drop m (place ∷ ps)) ≡ true) next rest.1)
 
 module _ {E : Type 0} (r : Running E) (ids : E → Ids) (with_ids : E → Ids → E) (lends : (w : E) (more : Ids) → ids (with_ids w more) ≡ more) (e : Element) (name : Name) (seen : sight_in r.stack name ≡ sight_of r.m.program.by_type e) where
   open r use {s, m, outer, stack, prog}
@@ -372,7 +360,7 @@ module _ {E : Type 0} (r : Running E) (ids : E → Ids) (with_ids : E → Ids �
     found = sym (stop_shown tried)
 
     pub needs : starts_open p e (started_by_names p true e rs).left ≡ true
-    needs = ap (starts_open p e) (stops_leave p true e no_context (all_places rs) ∙ ap (λ o. from_number o (all_places rs)) found) ∙ first_is_open p e (all_places rs) number found
+    needs = ap (starts_open p e) (stops_leave p true e no_context (all_places rs) ∙ ap (λ o. from_number o (all_places rs)) found) ∙ (first_is p e (all_places rs) number found).1
 
     -- what is left are the places of the ranges from the stop on
     pub left_places : (started_by_names p true e rs).left ≡ all_places (ranges_from tag_code stop)
@@ -394,4 +382,4 @@ module _ {E : Type 0} (r : Running E) (ids : E → Ids) (with_ids : E → Ids �
     pub names_left : names_counted before ≡ 0 → names_counted after + length (started_by_names p true e rs).left ≡ length (all_places rs) + 1
     names_left none =
         let left = ap length (stops_leave p true e no_context (all_places rs) ∙ ap (λ o. from_number o (all_places rs)) found) ∙ length-drop number (all_places rs) in
-        omega (arith, none, tried.names, left, first_is_within p e (all_places rs) number found)
+        omega (arith, none, tried.names, left, (first_is p e (all_places rs) number found).0)

@@ -31,10 +31,6 @@ use Rattle.lol_vm.specs.MachineLaws.{starts_open, IsRequest}
 abbrev with_context : Context → Context → Context
 with_context a b = record { ids = a.ids ++ b.ids; jumps = a.jumps ++ b.jumps; hereditary_jumps = a.hereditary_jumps ++ b.hereditary_jumps }
 
-nothing_more : {A : Type 0} (b : Bool) (xs ys : List A) → ys ≡ [] → xs ≡ xs ++ cond b ys ys
-nothing_more true xs ys h = sym (append-nil xs) ∙ ap (λ zs. xs ++ zs) (sym h)
-nothing_more false xs ys h = sym (append-nil xs) ∙ ap (λ zs. xs ++ zs) (sym h)
-
 if_more : {A : Type 0} (b : Bool) (xs ys zs : List A) → cond b (xs ++ ys) xs ++ cond b zs [] ≡ xs ++ cond b (ys ++ zs) []
 if_more true xs ys zs = append_assoc xs ys zs
 if_more false xs ys zs = refl

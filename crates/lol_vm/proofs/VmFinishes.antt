@@ -1,8 +1,8 @@
 -- Requests that are finished, and what the machine of the code answers to them.
-use Rattle.std.proofs.Common.{◌≡◌, ℕ, suc, zero, ◌+◌, ◌<◌, ◌≤◌, ◌^◌, Bool, true, false, not, List, [], ◌∷◌, ◌++◌, length, drop, get_or, All, refl, sym, ap, ◌∙◌, subst, arith}
+use Rattle.std.proofs.Common.{◌≡◌, ℕ, ◌+◌, ◌<◌, ◌≤◌, ◌^◌, Bool, true, false, not, List, [], ◌∷◌, ◌++◌, length, drop, get_or, All, refl, sym, ap, ◌∙◌, subst, arith}
 use Rattle.std.specs.Prelude.{◌||◌, count_by}
 use Rattle.std.proofs.lemmas.List.{length-append}
-use Rattle.std.proofs.lemmas.List.Elements.{All-drop}
+use Rattle.std.proofs.lemmas.List.Elements.{All-cons, All-drop}
 use Rattle.std.specs.declared.ops.Range.{Range}
 use Rattle.lol_base.specs.MemberLaws.{contains_from_among}
 use Rattle.lol_base.specs.StartTags.{StartTag}
@@ -59,12 +59,8 @@ foreign_content tag esi foreign = by_namespace tag.namespace foreign
 module _ (instructions : List Instruction) (ranges : List (Range ℕ)) (inside : All (IsInsideOf instructions) ranges) where
   left_inside : (point : RecoveryPoint) → IsPointIn instructions ranges point → All (IsInsideOf instructions) (ranges_left ranges point)
   left_inside AtOnce is = inside
-  left_inside (At stop) is = one_more (IsInsideOf instructions) _ (drop (stop.range + 1) ranges) first (All-drop (IsInsideOf instructions) (stop.range + 1) ranges inside)
+  left_inside (At stop) is = All-cons (IsInsideOf instructions) _ (drop (stop.range + 1) ranges) first (All-drop (IsInsideOf instructions) (stop.range + 1) ranges inside)
     where
-      one_more : {A : Type 0} (P : A → Type 0) (x : A) (xs : List A) → P x → All P xs → All P (x ∷ xs)
-      one_more P x xs here later zero d within = here
-      one_more P x xs here later (suc k) d within = later k d (omega (arith, within))
-
       first : IsInsideOf instructions (record { start = (get_or ranges stop.range no_range).start + stop.offset; end = (get_or ranges stop.range no_range).end })
       first = (offset_inside instructions ranges stop is, (inside stop.range no_range is.0).1)
 

@@ -1,6 +1,6 @@
 -- Start tags that the machine of the code counted, and what it answers to them.
-use Rattle.std.proofs.Common.{map-id, ◌≡◌, ℕ, Result, Err, suc, zero, ◌-◌, Bool, true, false, not, List, [], ◌∷◌, ◌++◌, length, map, Option, Some, None, refl, sym, ap, ◌∙◌, subst, arith}
-use Rattle.std.specs.Prelude.{◌&&◌, if◌then◌else◌, slice_get, slice_set}
+use Rattle.std.proofs.Common.{map-id, ◌≡◌, ℕ, Result, Err, ◌-◌, Bool, true, false, not, List, [], ◌∷◌, ◌++◌, length, map, Option, Some, None, refl, sym, ap, ◌∙◌, subst, arith}
+use Rattle.std.specs.Prelude.{◌&&◌, if◌then◌else◌, slice_get}
 use Rattle.std.proofs.lemmas.List.{map-append}
 use Rattle.lol_base.specs.LocalNames.{Name}
 use Rattle.lol_base.specs.MemberLaws.{map-map}
@@ -28,7 +28,7 @@ use Rattle.lol_stack.specs.declared.stack_item.StackItemOf.{StackItemOf}
 use Rattle.lol_stack.specs.declared.stack.StackOf.{StackOf}
 use Rattle.lol_stack.specs.declared.stack.StackNames.{StackNames}
 use Rattle.lol_vm.specs.declared.tag_runs.RecoveryPoint.{RecoveryPoint}
-use Rattle.lol_stack.specs.SoundLaws.{opening_keeps_sound}
+use Rattle.lol_stack.specs.SoundLaws.{set_keeps, opening_keeps_sound}
 use Rattle.lol_vm.proofs.StackMachines.{IsItemOf, opening_stack_keeps}
 use Rattle.lol_vm.proofs.Starts.{no_attributes}
 use Rattle.lol_program.specs.Programs.{AreClosed}
@@ -36,14 +36,9 @@ use Rattle.lol_program.specs.Programs.{AreClosed}
 -- 1. Data
 
 module _ {E : Type 0} where
-  data_set : (xs : List (StackItemOf Name E)) (k : ℕ) (item : StackItemOf Name E) → slice_get xs k ≡ Some item → element_data_of (slice_set xs k (counted_item item)) ≡ element_data_of xs
-  data_set [] k item at = refl
-  data_set (x ∷ xs) zero item at = let same : x ≡ item = cc in ap (λ (y : StackItemOf Name E). y.element_data ∷ element_data_of xs) (sym same)
-  data_set (x ∷ xs) (suc k) item at = ap (λ ds. x.element_data ∷ ds) (data_set xs k item at)
-
   data_if : (s : StackOf Name StackNames E) (o : Option (StackItemOf Name E)) → o ≡ slice_get (items_in s) (length (items_in s) - 1) → element_data_of (items_in (counted_if s o)) ≡ element_data_of (items_in s)
   data_if s None at = refl
-  data_if s (Some item) at = data_set (items_in s) (length (items_in s) - 1) item (sym at)
+  data_if s (Some item) at = set_keeps (λ (i : StackItemOf Name E). i.element_data) (items_in s) (length (items_in s) - 1) item (counted_item item) (sym at) refl
 
 -- counting a child changes no data
 pub counted_data : {E : Type 0} (s : StackOf Name StackNames E) (name : Name) → element_data_of (items_in (counted_in s name)) ≡ element_data_of (items_in s)

@@ -1,3 +1,5 @@
+use Rattle.std.proofs.lemmas.List.Elements.{All-tail}
+use Rattle.lol_instructions.specs.declared.instruction.Instruction.{Instruction}
 use Rattle.lol_instructions.specs.Compiled.{Sight, sight}
 use Rattle.lol_instructions.specs.Running.{tries_of_attributes}
 use Rattle.lol_vm.specs.InstructionRuns.{value_seen, NeedNoMemory, open_among}
@@ -5,9 +7,10 @@ use Rattle.lol_vm.proofs.instruction_runs.complete_instructions.Given as given
 use Rattle.std.proofs.Common.{◌≡◌, ◌+◌, ◌∷◌, arith, ap, rules, subst, sym, ◌∙◌}
 use Rattle.std.proofs.lemmas.Grind.{common_steps}
 use Rattle.std.proofs.lemmas.Result.{IfOk-weaker}
-use Rattle.lol_vm.proofs.InstructionLists.{open_split, free_rest}
+use Rattle.lol_vm.proofs.InstructionLists.{open_split}
 use Rattle.lol_vm.proofs.instruction_runs.complete_instructions.Goals as goal
 use Rattle.lol_vm.proofs.instruction_runs.complete_instructions.Goals.{in-Some-complete_exec_with_attrs+in_ok-add_execution_branch, in_default-complete_exec_with_attrs}
+use Rattle.lol_stack.specs.Contexts.{NeedsNoMemory}
 
 module _ (g : given.Over) (c : goal.After-exec_instructions g) where
   abbrev s : Sight
@@ -38,7 +41,7 @@ returns-clause-attributes g c =
 
 pub returns-clause-free : goal.returns-clause-free
 returns-clause-free g c = λ free.
-    c.exec_instructions.ensures.free (subst (λ b. NeedNoMemory b c.in-Some.others.now) (sym (content g c)) (free_rest c.args.ctx.now.with_content c.in-Some.first.now c.in-Some.others.now (subst (NeedNoMemory c.args.ctx.now.with_content) (split g c) free)))
+    c.exec_instructions.ensures.free (subst (λ b. NeedNoMemory b c.in-Some.others.now) (sym (content g c)) (All-tail (λ (i : Instruction). NeedsNoMemory c.args.ctx.now.with_content i.associated_branch) c.in-Some.first.now c.in-Some.others.now (subst (NeedNoMemory c.args.ctx.now.with_content) (split g c) free)))
 
 pub returns-clause-attributes_bound : goal.returns-clause-attributes_bound
 returns-clause-attributes_bound g c = omega (arith, c.exec_instructions.ensures.attributes_bound, c.complete_exec_with_attrs.ensures.attributes, opens g c)
