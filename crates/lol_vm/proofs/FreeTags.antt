@@ -1,8 +1,10 @@
 -- Start tags that take no memory.
-use Rattle.std.proofs.Common.{◌≡◌, ℕ, suc, zero, ◌<◌, Bool, true, false, cond, true≢false, List, [], ◌∷◌, length, map, Option, Some, None, Result, Err, refl, sym, ap, ◌∙◌, subst, arith, inl, inr, get_or, Contains}
+use Rattle.std.proofs.Common.{◌≡◌, ℕ, ◌<◌, Bool, true, false, cond, true≢false, List, length, Option, Some, None, Result, Err, refl, sym, ap, ◌∙◌, subst, arith, inl, inr, get_or, Contains}
 use Rattle.std.specs.Prelude.{◌||◌, ◌⊎◌, slice_get, not, ◌&&◌}
-use Rattle.std.specs.List.{list_any, list_all}
-use Rattle.std.specs.Option.{IsNone}
+use Rattle.std.specs.List.{list_all}
+use Rattle.std.specs.Option.{IsNone, option_map}
+use Rattle.std.proofs.lemmas.Option.{slice_get-map, slice_get-get_or}
+use Rattle.lol_base.specs.BoolLaws.{not_true}
 use Rattle.std.proofs.lemmas.List.{length-map}
 use Rattle.std.proofs.lemmas.Slice.Eq.{bytes_eq-Decides}
 use Rattle.std.specs.declared.ops.Range.{Range}
@@ -81,24 +83,22 @@ module _ (s : Selectors) (paths : List Path) (prog : Program) (small : AreSmall 
   abbrev all : List Instruction
   all = prog.instructions.items
 
-  shown_at : (is : List Instruction) (k : ℕ) (d : Instruction) → k < length is → slice_get (map (instruction_shown prog.enable_nth_of_type) is) k ≡ Some (instruction_shown prog.enable_nth_of_type (get_or is k d))
-  shown_at [] k d within = absurd (omega (arith, within))
-  shown_at (i ∷ is) zero d within = refl
-  shown_at (i ∷ is) (suc k) d within = shown_at is k d (omega (arith, within))
-
   module _ (k : ℕ) (d : Instruction) (within : k < length all) where
+    abbrev shown : Instruction → programs.Instruction
+    shown = instruction_shown prog.enable_nth_of_type
+
     abbrev instruction : programs.Instruction
-    instruction = instruction_shown prog.enable_nth_of_type (get_or all k d)
+    instruction = shown (get_or all k d)
 
     -- the path whose place it has, and what it means
     path_at : (path : Path) × (slice_get paths k ≡ Some path)
     path_at =
         let count = program.count in
-        let many = length-map all (instruction_shown prog.enable_nth_of_type) in
+        let many = length-map all shown in
         within_at paths k (omega (arith, count, many, within))
 
     means : programs.IsInstruction s paths path_at.0 instruction
-    means = program.each k path_at.0 instruction path_at.1 (shown_at all k d within)
+    means = program.each k path_at.0 instruction path_at.1 (slice_get-map shown all k ∙ ap (option_map shown) (slice_get-get_or all k d within))
 
     ids_small : AllSmall (get_or all k d).associated_branch.matched_ids
     ids_small = λ q held. small.ids path_at.0 q ((means.ids q).0 (listed_if_held (get_or all k d).associated_branch.matched_ids q held))
@@ -127,13 +127,10 @@ module _ (s : Selectors) (paths : List Path) (prog : Program) (small : AreSmall 
     ),
   )
 
-  none_by_type : (ps : List Path) → ((path : Path) → Among ps path → Contains paths path) → list_any (λ path. has_test_by_type (last_compound path)) ps ≡ false
-  none_by_type [] each = refl
-  none_by_type (path ∷ ps) each =
-      ap (λ b. b || list_any (λ p. has_test_by_type (last_compound p)) ps) (small.untyped path ((program.same path).0 (each path (inl refl)))) ∙ none_by_type ps (λ p a. each p (inr a))
-
   pub not_by_type : prog.enable_nth_of_type ≡ false
-  not_by_type = program.by_type ∙ none_by_type paths (λ path a. contains_from_among paths path a)
+  not_by_type = program.by_type ∙ not_true _ (λ typed.
+      let found = among_any (λ path. has_test_by_type (last_compound path)) paths typed in
+      true≢false (sym found.2 ∙ small.untyped found.0 ((program.same found.0).0 (contains_from_among paths found.0 found.1))))
 
 pub untyped : (typed : Option (List TypedCount)) (by_type : Bool) (top : ℕ) (count : ℕ → List ℕ → ℕ) → KeepsTyped typed by_type top count → by_type ≡ false → IsNone typed
 untyped None by_type top count keeps without = refl

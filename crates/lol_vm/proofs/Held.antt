@@ -8,7 +8,7 @@ use Rattle.std.proofs.lemmas.Bool.Decides.{Decides-eqb}
 use Rattle.lol_css.specs.declared.selector.Combinator.{Combinator}
 use Rattle.lol_css.specs.declared.selector.Combinator.TheVariants.{Child, Descendant}
 use Rattle.lol_instructions.specs.Tests.{Element}
-use Rattle.lol_program.specs.Paths.{Path, First, Then, Selectors}
+use Rattle.lol_program.specs.Paths.{Path, First, Then, Selectors, last_compound}
 use Rattle.lol_base.specs.MemberLaws.{contains_from_among, Among, Distinct, among_front, among_back, among_either, among_from_contains, distinct_from_pairs}
 use Rattle.lol_vm.specs.Matching.{matches, left_matches, parent_passes, some_ancestor_passes}
 use Rattle.lol_base.specs.BoolLaws.{and_parts, and_of, or_parts, or_of}
@@ -239,15 +239,9 @@ module _ (elements : List Element) where
   none_left (First c) h = refl
   none_left (Then front step c) h = cc
 
-  child_left : (path : Path) → Under Child (ParentMatches elements) path → left_matches path elements ≡ true
-  child_left (First c) h = let e = h.1 in cc
-  child_left (Then front Child c) h = subst (ParentMatches elements) (sym (one_front front h.0 Child Child h.1)) h.2
-  child_left (Then front Descendant c) h = absurd (not_child (sym (one_step front h.0 Descendant Child h.1)))
-
-  descendant_left : (path : Path) → Under Descendant (SomeAncestorMatches elements) path → left_matches path elements ≡ true
-  descendant_left (First c) h = let e = h.1 in cc
-  descendant_left (Then front Child c) h = absurd (not_child (one_step front h.0 Child Descendant h.1))
-  descendant_left (Then front Descendant c) h = subst (SomeAncestorMatches elements) (sym (one_front front h.0 Descendant Descendant h.1)) h.2
+  left_under : (path front : Path) (step : Combinator) → above path ≡ Some (front, step) → left_matches path elements ≡ left_matches (Then front step (last_compound path)) elements
+  left_under (First c) front step is = cc
+  left_under (Then other step' c) front step is = λ i. left_matches (Then (one_front other front step' step is i) (one_step other front step' step is i) c) elements
 
 module _ (paths : List Path) where
   entry_holds : (r : Range ℕ) → HoldsPlaces paths r None → HoldOnce paths (r ∷ []) (λ path. above path ≡ None)
@@ -297,7 +291,7 @@ ranges_hold_left_matches s paths p items elements closed program are =
     joined paths (p.entry ∷ []) (last_jumps items ++ ranges_of_active (active_of items)) (λ path. above path ≡ None) (λ path. Under Child (ParentMatches elements) path ⊎ Under Descendant (SomeAncestorMatches elements) path) (LeftMatches elements)
     (entry_holds paths p.entry program.entry) below
     (λ path none either_. elim either_ [ inl h ↦ none_under path Child (ParentMatches elements) none h | inr h ↦ none_under path Descendant (SomeAncestorMatches elements) none h ])
-    (λ path. (left_of elements path, λ h. elim h [ inl none ↦ none_left elements path none | inr (inl c) ↦ child_left elements path c | inr (inr d) ↦ descendant_left elements path d ]))
+    (λ path. (left_of elements path, λ h. elim h [ inl none ↦ none_left elements path none | inr (inl c) ↦ left_under elements path c.0 Child c.1 ∙ c.2 | inr (inr d) ↦ left_under elements path d.0 Descendant d.1 ∙ d.2 ]))
 
 -- Each of them lies within the instructions.
 pub ranges_are_inside : (s : Selectors) (paths : List Path) (p : Program) (items : List OpenItem) (elements : List Element) → AreClosed s → IsProgramOf s paths p → AreItems paths p items elements

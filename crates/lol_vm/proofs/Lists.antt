@@ -1,6 +1,7 @@
 -- Lists: what they hold, and each once.
-use Rattle.std.proofs.Common.{◌≡◌, ℕ, zero, suc, ◌+◌, ◌<◌, ◌≤◌, Bool, true, false, cond, List, [], ◌∷◌, ◌++◌, length, filter, Some, ◌⊎◌, inl, inr, refl, sym, ap, ◌∙◌, subst, arith, ◌-◌}
+use Rattle.std.proofs.Common.{◌≡◌, ℕ, zero, suc, ◌+◌, ◌<◌, ◌≤◌, Bool, true, false, cond, List, [], ◌∷◌, ◌++◌, length, filter, Some, inl, inr, refl, sym, ap, ◌∙◌, subst, arith, ◌-◌}
 use Rattle.std.specs.Prelude.{slice_get, flat_map, count_by}
+use Rattle.std.proofs.lemmas.List.FromFn.{length-range_with_len, get_or-range_with_len}
 use Rattle.std.specs.List.{range_with_len, list_any}
 use Rattle.lol_base.specs.MemberLaws.{Among, Distinct, among_front, among_back, among_either, same_count, count_by-cons, contains_from_among, among_from_contains}
 use Rattle.std.proofs.lemmas.List.Sums.{length-filter}
@@ -88,15 +89,9 @@ among_range a (suc n) k (inl is) = (omega (arith, is), omega (arith, is))
 among_range a (suc n) k (inr h) = let rest = among_range (a + 1) n k h in (omega (arith, rest.0), omega (arith, rest.1))
 
 pub range_among : (a n k : ℕ) → a ≤ k → k < a + n → Among (range_with_len a n) k
-range_among a zero k low high = absurd (omega (arith, low, high))
-range_among a (suc n) k low high = first_or (split a k low) (λ above. range_among (a + 1) n k above (omega (arith, high)))
-  where
-    split : (a k : ℕ) → a ≤ k → (a ≡ k) ⊎ (a + 1 ≤ k)
-    split a k low = grind arith
-
-    first_or : (a ≡ k) ⊎ (a + 1 ≤ k) → (a + 1 ≤ k → Among (range_with_len (a + 1) n) k) → Among (range_with_len a (suc n)) k
-    first_or (inl is) later = inl is
-    first_or (inr above) later = inr (later above)
+range_among a n k low high =
+    let within : k - a < n = omega (arith, low, high) in
+    among_from_contains (range_with_len a n) k (k - a, subst (λ m. k - a < m) (sym (length-range_with_len a n)) within, get_or-range_with_len a n (k - a) k within ∙ omega (arith, low))
 
 pub distinct_range : (a n : ℕ) → Distinct (range_with_len a n)
 distinct_range a zero = tt

@@ -1,15 +1,15 @@
 -- Which start tags report an id.
-use Rattle.std.proofs.Common.{◌≡◌, ℕ, Bool, true, false, cond, List, [], ◌∷◌, map, inl, inr, refl, sym, ap, ◌∙◌, subst}
+use Rattle.std.proofs.Common.{◌≡◌, ℕ, Bool, true, false, cond, List, [], ◌∷◌, map, Contains, inl, inr, refl, sym, ap, ◌∙◌, subst}
 use Rattle.std.specs.Prelude.{◌==◌, ◌&&◌, not}
 use Rattle.std.specs.List.{list_any}
 use Rattle.std.proofs.lemmas.Bool.Decides.{Decides-eqb}
 use Rattle.lol_base.specs.StartTags.{StartTag}
 use Rattle.lol_instructions.specs.Tests.{Element}
-use Rattle.lol_program.specs.Paths.{Selectors}
+use Rattle.lol_program.specs.Paths.{Path, Selectors}
 use Rattle.lol_base.specs.MemberLaws.{Among, among_from_contains, contains_from_among}
 use Rattle.lol_vm.specs.Events.{Event, Start, End, has_content}
 use Rattle.lol_vm.specs.Documents.{Document, empty, element_of, after_start}
-use Rattle.lol_vm.specs.Answers.{Match, Started, Dropped, is_dropped, asks, report, matching_ids, name_tries, attribute_tries, after, answers_from}
+use Rattle.lol_vm.specs.Answers.{Answer, Match, Started, Dropped, is_dropped, asks, report, matching_ids, name_tries, attribute_tries, after, answers_from}
 use Rattle.lol_vm.specs.RunLaws.{reports_id, SamePathsUnder, OneIdsPathsDecide}
 use Rattle.lol_vm.specs.ReportLaws.{among_matching_ids, matching_ids_among, among_map, map_among}
 use Rattle.lol_base.specs.BoolLaws.{same_bool}
@@ -23,22 +23,23 @@ module _ (s t : Selectors) (id : ℕ) (same : SamePathsUnder id s t) (esi : Bool
     abbrev as_match : ℕ → Match
     as_match n = record { id = n; with_content = has_content esi e.tag }
 
-    in_report : (r : Selectors) → list_any is_id (report r esi e outer) ≡ true → Among (matching_ids r.pairs e outer) id
-    in_report r h =
-        let m = among_any is_id (report r esi e outer) h in
-        let at = among_map as_match (matching_ids r.pairs e outer) m.0 m.1 in
-        let is : at.0 ≡ id = ap (λ (x : Match). x.id) at.2 ∙ (Decides-eqb m.0.id id).0 m.2 in
-        subst (Among (matching_ids r.pairs e outer)) is at.1
-
-    from_report : (r : Selectors) → Among (matching_ids r.pairs e outer) id → list_any is_id (report r esi e outer) ≡ true
-    from_report r a = any_among is_id (report r esi e outer) (as_match id) (map_among as_match (matching_ids r.pairs e outer) id a) ((Decides-eqb id id).1 refl)
+    goes_over : (r q : Selectors) → ((path : Path) → Contains r.pairs (path, id) → Contains q.pairs (path, id)) → list_any is_id (report r esi e outer) ≡ true → list_any is_id (report q esi e outer) ≡ true
+    goes_over r q over h =
+        let found = among_any is_id (report r esi e outer) h in
+        let at = among_map as_match (matching_ids r.pairs e outer) found.0 found.1 in
+        let is : at.0 ≡ id = ap (λ (x : Match). x.id) at.2 ∙ (Decides-eqb found.0.id id).0 found.2 in
+        let m = among_matching_ids e outer r.pairs id (subst (Among (matching_ids r.pairs e outer)) is at.1) in
+        let there = matching_ids_among e outer q.pairs m.0 id (among_from_contains q.pairs (m.0, id) (over m.0 (contains_from_among r.pairs (m.0, id) m.1))) m.2 in
+        any_among is_id (report q esi e outer) (as_match id) (map_among as_match (matching_ids q.pairs e outer) id there) ((Decides-eqb id id).1 refl)
 
     reported_alike : list_any is_id (report s esi e outer) ≡ list_any is_id (report t esi e outer)
-    reported_alike = same_bool _ _
-        (λ h. let m = among_matching_ids e outer s.pairs id (in_report s h) in
-        from_report t (matching_ids_among e outer t.pairs m.0 id (among_from_contains t.pairs (m.0, id) ((same m.0).0 (contains_from_among s.pairs (m.0, id) m.1))) m.2))
-        (λ h. let m = among_matching_ids e outer t.pairs id (in_report t h) in
-        from_report s (matching_ids_among e outer s.pairs m.0 id (among_from_contains s.pairs (m.0, id) ((same m.0).1 (contains_from_among t.pairs (m.0, id) m.1))) m.2))
+    reported_alike = same_bool _ _ (goes_over s t (λ path. (same path).0)) (goes_over t s (λ path. (same path).1))
+
+  -- what a start tag is answered
+  abbrev answered : Selectors → Document → StartTag → Bool → Answer
+  answered r d tag dropped =
+      let e = element_of d tag in
+      cond dropped Dropped (Started (report r esi e d.open_elements) (asks r e d.open_elements) (name_tries r.nodes d.open_elements) (attribute_tries r.nodes e d.open_elements))
 
   abbrev NoneDropped : Selectors → Document → List Event → Type 0
   NoneDropped r d events = Among (answers_from r esi d events) Dropped → ⊥
@@ -47,15 +48,12 @@ module _ (s t : Selectors) (id : ℕ) (same : SamePathsUnder id s t) (esi : Bool
   not_dropped : (r : Selectors) (d : Document) (tag : StartTag) (events : List Event) → NoneDropped r d (Start tag ∷ events) → is_dropped r (element_of d tag) d.open_elements ≡ false
   not_dropped r d tag events none = by_test (is_dropped r (element_of d tag) d.open_elements) (λ h. none (inl h))
     where
-      by_test : (b : Bool)
-          → (cond b Dropped (Started (report r esi (element_of d tag) d.open_elements) (asks r (element_of d tag) d.open_elements) (name_tries r.nodes d.open_elements) (attribute_tries r.nodes (element_of d tag) d.open_elements)) ≡ Dropped → ⊥)
-          → b ≡ false
+      by_test : (b : Bool) → (answered r d tag b ≡ Dropped → ⊥) → b ≡ false
       by_test true h = absurd (h refl)
       by_test false h = refl
 
   abbrev told : Selectors → Document → StartTag → Bool → Bool
-  told r d tag dropped =
-      reports_id id (cond dropped Dropped (Started (report r esi (element_of d tag) d.open_elements) (asks r (element_of d tag) d.open_elements) (name_tries r.nodes d.open_elements) (attribute_tries r.nodes (element_of d tag) d.open_elements)))
+  told r d tag dropped = reports_id id (answered r d tag dropped)
 
   told_alike : (d : Document) (events : List Event) → NoneDropped s d events → NoneDropped t d events → map (reports_id id) (answers_from s esi d events) ≡ map (reports_id id) (answers_from t esi d events)
   told_alike d [] first second = refl
