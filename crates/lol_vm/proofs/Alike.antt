@@ -24,6 +24,10 @@ use Rattle.lol_vm.specs.Matching.{matches, left_matches, parent_passes, some_anc
 use Rattle.lol_vm.proofs.Lists.{count_same, any_among}
 use Rattle.lol_vm.proofs.Runs.{position-map}
 
+-- the answer to a start tag of an element, by whether it is dropped
+abbrev pub started_if : Selectors → Bool → Element → List Element → Bool → Answer
+started_if s esi e outer dropped = cond dropped Dropped (Started (report s esi e outer) (asks s e outer) (name_tries s.nodes outer) (attribute_tries s.nodes e outer))
+
 -- 1. Tests that agree on a list
 
 module _ {A : Type 0} (p r : A → Bool) where
@@ -117,7 +121,7 @@ module _ (s : Selectors) (closed : AreClosed s) where
   module _ (esi : Bool) where
     -- the answer to a start tag of an element
     abbrev pub started : Element → List Element → Answer
-    started e outer = cond (is_dropped s e outer) Dropped (Started (report s esi e outer) (asks s e outer) (name_tries s.nodes outer) (attribute_tries s.nodes e outer))
+    started e outer = started_if s esi e outer (is_dropped s e outer)
 
     -- elements of which the nodes say the same are answered alike
     module _ (x y : Element) (xs ys : List Element)
@@ -292,11 +296,8 @@ module _ (s : Selectors) (closed : AreClosed s) where
         other_drops : is_dropped s other d.open_elements ≡ true
         other_drops = λ i. (sym asks_alike ∙ asked) i && not (still i)
 
-        abbrev started_of : Element → Answer
-        started_of x = Started (report s esi x d.open_elements) (asks s x d.open_elements) (name_tries s.nodes d.open_elements) (attribute_tries s.nodes x d.open_elements)
-
         pub dropped_answered : answer s esi d (Start changed) ≡ answer s esi d (Start tag)
-        dropped_answered = ap (λ b. cond b Dropped (started_of other)) other_drops ∙ sym (ap (λ b. cond b Dropped (started_of e)) drops)
+        dropped_answered = ap (started_if s esi other d.open_elements) other_drops ∙ sym (ap (started_if s esi e d.open_elements) drops)
 
         opened_alike : (a b : Bool) → a ≡ false → b ≡ false → Alike (cond a (other ∷ d.open_elements) d.open_elements) (cond b (e ∷ d.open_elements) d.open_elements)
         opened_alike false false h h' = alike_self d.open_elements

@@ -1,5 +1,5 @@
 -- Content marks, and what end tags close.
-use Rattle.std.proofs.Common.{◌≡◌, ◌≢◌, ℕ, Bool, true, false, ◌||◌, not, cond, ◌⊎◌, ◌↔◌, inl, inr, refl, sym, ap, subst, Contains}
+use Rattle.std.proofs.Common.{◌≡◌, ◌≢◌, ℕ, Bool, true, false, ◌||◌, not, ◌⊎◌, ◌↔◌, inl, inr, refl, sym, ap, subst, Contains}
 use Rattle.std.specs.Prelude.{◌&&◌}
 use Rattle.lol_base.specs.Names.{is_void, is_esi}
 use Rattle.lol_base.specs.StartTags.{StartTag}
@@ -7,11 +7,12 @@ use Rattle.lol_base.specs.declared.namespace.Namespace.{Namespace}
 use Rattle.lol_base.specs.declared.namespace.Namespace.TheVariants.{Html, Svg, MathML}
 use Rattle.lol_vm.specs.Events.{has_content, has_content_in}
 use Rattle.lol_vm.specs.Documents.{element_of}
-use Rattle.lol_vm.specs.Answers.{Match, Started, Dropped, is_dropped, asks, report, matching_ids, name_tries, attribute_tries}
+use Rattle.lol_vm.specs.Answers.{Match, Started, is_dropped, report, matching_ids}
 use Rattle.lol_vm.specs.RunLaws.{MarksTellContent}
 use Rattle.lol_base.specs.BoolLaws.{and_parts, and_of, or_parts, or_of}
 use Rattle.lol_base.specs.MemberLaws.{among_from_contains}
 use Rattle.lol_vm.specs.ReportLaws.{among_map}
+use Rattle.lol_vm.proofs.Alike.{started_if}
 
 abbrev NoContentIn : Namespace → Bool → StartTag → Type 0
 NoContentIn namespace esi tag =
@@ -52,8 +53,6 @@ marks_tell_content s esi d tag matched asked names attributes is m h =
     let mark : has_content esi tag ≡ m.with_content = ap (λ (x : Match). x.with_content) at.2 in
     subst (λ b. (b ≡ false) ↔ NoContentIn tag.namespace esi tag) mark (no_content tag.namespace esi tag)
   where
-    by_test : (dropped : Bool)
-        → cond dropped Dropped (Started (report s esi (element_of d tag) d.open_elements) (asks s (element_of d tag) d.open_elements) (name_tries s.nodes d.open_elements) (attribute_tries s.nodes (element_of d tag) d.open_elements))
-        ≡ Started matched asked names attributes → report s esi (element_of d tag) d.open_elements ≡ matched
+    by_test : (dropped : Bool) → started_if s esi (element_of d tag) d.open_elements dropped ≡ Started matched asked names attributes → report s esi (element_of d tag) d.open_elements ≡ matched
     by_test true e = cc
     by_test false e = cc

@@ -1,5 +1,5 @@
 -- Which start tags report an id.
-use Rattle.std.proofs.Common.{◌≡◌, ℕ, Bool, true, false, cond, List, [], ◌∷◌, map, Contains, inl, inr, refl, sym, ap, ◌∙◌, subst}
+use Rattle.std.proofs.Common.{◌≡◌, ℕ, Bool, true, false, List, [], ◌∷◌, map, Contains, inl, inr, refl, sym, ap, ◌∙◌, subst}
 use Rattle.std.specs.Prelude.{◌==◌, ◌&&◌, not}
 use Rattle.std.specs.List.{list_any}
 use Rattle.std.proofs.lemmas.Bool.Decides.{Decides-eqb}
@@ -9,11 +9,12 @@ use Rattle.lol_program.specs.Paths.{Path, Selectors}
 use Rattle.lol_base.specs.MemberLaws.{Among, among_from_contains, contains_from_among}
 use Rattle.lol_vm.specs.Events.{Event, Start, End, has_content}
 use Rattle.lol_vm.specs.Documents.{Document, empty, element_of, after_start}
-use Rattle.lol_vm.specs.Answers.{Answer, Match, Started, Dropped, is_dropped, asks, report, matching_ids, name_tries, attribute_tries, after, answers_from}
+use Rattle.lol_vm.specs.Answers.{Match, Dropped, is_dropped, report, matching_ids, after, answers_from}
 use Rattle.lol_vm.specs.RunLaws.{reports_id, SamePathsUnder, OneIdsPathsDecide}
 use Rattle.lol_vm.specs.ReportLaws.{among_matching_ids, matching_ids_among, among_map, map_among}
 use Rattle.lol_base.specs.BoolLaws.{same_bool}
 use Rattle.lol_vm.proofs.Lists.{any_among, among_any}
+use Rattle.lol_vm.proofs.Alike.{started_if}
 
 module _ (s t : Selectors) (id : ℕ) (same : SamePathsUnder id s t) (esi : Bool) where
   abbrev is_id : Match → Bool
@@ -35,12 +36,6 @@ module _ (s t : Selectors) (id : ℕ) (same : SamePathsUnder id s t) (esi : Bool
     reported_alike : list_any is_id (report s esi e outer) ≡ list_any is_id (report t esi e outer)
     reported_alike = same_bool _ _ (goes_over s t (λ path. (same path).0)) (goes_over t s (λ path. (same path).1))
 
-  -- what a start tag is answered
-  abbrev answered : Selectors → Document → StartTag → Bool → Answer
-  answered r d tag dropped =
-      let e = element_of d tag in
-      cond dropped Dropped (Started (report r esi e d.open_elements) (asks r e d.open_elements) (name_tries r.nodes d.open_elements) (attribute_tries r.nodes e d.open_elements))
-
   abbrev NoneDropped : Selectors → Document → List Event → Type 0
   NoneDropped r d events = Among (answers_from r esi d events) Dropped → ⊥
 
@@ -48,12 +43,12 @@ module _ (s t : Selectors) (id : ℕ) (same : SamePathsUnder id s t) (esi : Bool
   not_dropped : (r : Selectors) (d : Document) (tag : StartTag) (events : List Event) → NoneDropped r d (Start tag ∷ events) → is_dropped r (element_of d tag) d.open_elements ≡ false
   not_dropped r d tag events none = by_test (is_dropped r (element_of d tag) d.open_elements) (λ h. none (inl h))
     where
-      by_test : (b : Bool) → (answered r d tag b ≡ Dropped → ⊥) → b ≡ false
+      by_test : (b : Bool) → (started_if r esi (element_of d tag) d.open_elements b ≡ Dropped → ⊥) → b ≡ false
       by_test true h = absurd (h refl)
       by_test false h = refl
 
   abbrev told : Selectors → Document → StartTag → Bool → Bool
-  told r d tag dropped = reports_id id (answered r d tag dropped)
+  told r d tag dropped = reports_id id (started_if r esi (element_of d tag) d.open_elements dropped)
 
   told_alike : (d : Document) (events : List Event) → NoneDropped s d events → NoneDropped t d events → map (reports_id id) (answers_from s esi d events) ≡ map (reports_id id) (answers_from t esi d events)
   told_alike d [] first second = refl

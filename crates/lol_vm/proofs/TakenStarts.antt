@@ -1,6 +1,6 @@
 -- A start tag, and its rest if that is handed over.
 use Rattle.std.proofs.Common.{◌≡◌, ℕ, ◌+◌, ◌-◌, ◌≤◌, ◌<◌, ◌*◌, Bool, true, false, not, List, [], ◌∷◌, ◌++◌, length, map, reverse, Option, Some, None, refl, sym, ap, ◌∙◌, subst, arith}
-use Rattle.std.specs.Prelude.{◌&&◌, if◌then◌else◌}
+use Rattle.std.specs.Prelude.{◌&&◌}
 use Rattle.std.proofs.lemmas.List.{length-append, map_push, reverse-append}
 use Rattle.lol_base.specs.StartTags.{StartTag}
 use Rattle.lol_memory.specs.Ids.{Ids}
@@ -12,7 +12,7 @@ use Rattle.lol_program.specs.Paths.{Selectors}
 use Rattle.lol_instructions.specs.Tests.{Element}
 use Rattle.lol_instructions.specs.Tries.{names_counted, attributes_counted}
 use Rattle.lol_vm.specs.Answers as answers
-use Rattle.lol_vm.specs.Answers.{Answer, Match, answer, asks, attribute_tries, document, is_dropped, name_tries, report}
+use Rattle.lol_vm.specs.Answers.{Match, answer, document, is_dropped}
 use Rattle.lol_stack.specs.Calls.{IsCalledAtEach}
 use Rattle.lol_vm.specs.Documents.{Document, after_start, element_of, empty}
 use Rattle.lol_vm.specs.Events.{Event, Start, has_content}
@@ -26,6 +26,7 @@ use Rattle.lol_vm.specs.declared.event_run.EventRun.{EventRun}
 use Rattle.lol_vm.proofs.CallerLemmas.{is_left, unfinished_is}
 use Rattle.lol_vm.proofs.RunSteps.{charged_later, follows_on, not_refused}
 use Rattle.lol_vm.proofs.Runs.{events-document}
+use Rattle.lol_vm.proofs.Alike.{started_if}
 use Rattle.lol_base.specs.BoolLaws.{and-false, and-true}
 
 module _ (s : Selectors) (esi : Bool) (events : List Event) (tag : StartTag) where
@@ -71,14 +72,8 @@ module _ (s : Selectors) (esi : Bool) (item_bytes : ℕ) (before : Limiter) (vm 
   abbrev opened_if : Bool → List Element
   opened_if b = (after_start d tag b).open_elements
 
-  -- the answer, by whether the tag is dropped
-  abbrev told_if : Bool → Answer
-  told_if b =
-      if b then answers.Dropped
-      else answers.Started (report s esi (element_of d tag) d.open_elements) (asks s (element_of d tag) d.open_elements) (name_tries s.nodes d.open_elements) (attribute_tries s.nodes (element_of d tag) d.open_elements)
-
-  told : (b : Bool) → drops ≡ b → answer s esi d (Start tag) ≡ told_if b
-  told b is = ap told_if is
+  told : (b : Bool) → drops ≡ b → answer s esi d (Start tag) ≡ started_if s esi (element_of d tag) d.open_elements b
+  told b is = ap (started_if s esi (element_of d tag) d.open_elements) is
 
   shown : (matched : List Match) → map match_of (map info_of matched) ≡ matched
   shown [] = refl
@@ -104,7 +99,7 @@ module _ (s : Selectors) (esi : Bool) (item_bytes : ℕ) (before : Limiter) (vm 
       isnt_dropped : drops ≡ false
       isnt_dropped = by_drop drops (sym (told drops refl) ∙ a.answered)
         where
-          by_drop : (b : Bool) → told_if b ≡ answers.Started a.matched asked (names_counted (tries_in mid)) (attributes_counted (tries_in mid)) → b ≡ false
+          by_drop : (b : Bool) → started_if s esi (element_of d tag) d.open_elements b ≡ answers.Started a.matched asked (names_counted (tries_in mid)) (attributes_counted (tries_in mid)) → b ≡ false
           by_drop true is = cc
           by_drop false is = refl
 
