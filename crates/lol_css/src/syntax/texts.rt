@@ -46,7 +46,7 @@ impl<'a> Name<'a> {
     pub(crate) fn to_text(self, alloc: Global) -> Result<CssString, AllocError>
         ensures { IfOk result (λ s. s ≡ utf8 (points_of self.entry)) }
     {
-        let mut text = String::new(alloc);
+        let mut text = String::with_capacity(alloc, self.text.len())?;
         let mut rest = self;
         while let Some((c, after)) = rest.split_first() {
             text.push(c)?;
@@ -59,7 +59,7 @@ impl<'a> Name<'a> {
     pub(crate) fn to_lowercase_text(self, alloc: Global) -> Result<CssString, AllocError>
         ensures { IfOk result (λ s. s ≡ utf8 (lowercase (points_of self.entry))) }
     {
-        let mut text = String::new(alloc);
+        let mut text = String::with_capacity(alloc, self.text.len())?;
         let mut rest = self;
         while let Some((c, after)) = rest.split_first() {
             text.push(c.to_ascii_lowercase())?;
