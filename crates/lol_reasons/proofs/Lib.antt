@@ -1,0 +1,2 @@
+mod Witnesses
+mod Reasons

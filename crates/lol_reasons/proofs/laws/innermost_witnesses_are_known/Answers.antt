@@ -1,0 +1,5 @@
+use Rattle.lol_reasons.proofs.Witnesses.{innermost_is_known}
+use Rattle.lol_reasons.proofs.laws.innermost_witnesses_are_known.Goals as goal
+
+pub returns : goal.returns
+returns c = innermost_is_known

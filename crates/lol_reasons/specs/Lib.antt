@@ -1,0 +1,5 @@
+pub mod Witnesses
+pub mod Explanations
+pub mod WitnessLaws
+pub mod ReasonLaws
+pub mod Rows

@@ -1,0 +1,5 @@
+//! Why an element is reported: for each selector that matches it, the elements that its compounds are passed by.
+#![tactic(auto)]
+
+pub mod laws;
+pub mod rows;
