@@ -3,3 +3,5 @@ pub mod PlainListed
 pub mod PlainIds
 pub mod PlainClosings
 pub mod PlainTrees
+pub mod PlainWritten
+pub mod PlainExplained

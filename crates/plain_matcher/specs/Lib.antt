@@ -1,3 +1,4 @@
 pub mod PlainElements
 pub mod PlainNodes
 pub mod Plain
+pub mod PlainReasons

@@ -1,9 +1,14 @@
-//! The answers to a list of tags by the definitions alone, slowly.
+//! The answers to a list of tags, and the reasons for them, by the definitions alone, slowly.
 #![tactic(auto)]
 
 mod plain;
+mod plain_compound;
 mod plain_document;
 mod plain_element;
 mod plain_nodes;
+mod plain_run;
+mod plain_witness;
 
 pub use plain::{PlainAnswer, plain_answers};
+pub use plain_run::plain_reasons;
+pub use plain_witness::{PlainReason, PlainText};

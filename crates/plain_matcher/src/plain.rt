@@ -75,7 +75,7 @@ fn answers_of(
 }
 
 /// Answers one event.
-fn answer<'e>(
+pub(crate) fn answer<'e>(
     alloc: Global,
     nodes: &[PlainNode<'_>],
     enable_esi_tags: bool,

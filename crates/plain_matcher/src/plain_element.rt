@@ -138,7 +138,11 @@ fn operands_pass(
 }
 
 #[cycle(passing)]
-fn test_passes(alloc: Global, test: &Test, element: &PlainElement<'_>) -> Result<bool, AllocError>
+pub(crate) fn test_passes(
+    alloc: Global,
+    test: &Test,
+    element: &PlainElement<'_>,
+) -> Result<bool, AllocError>
     ensures { IfOk result (λ passes. passes ≡ holds (test_shown test.now) (element_shown element.now)) }
 {
     match test {

@@ -1,0 +1,23 @@
+use Rattle.std.proofs.Common.{◌≡◌, ◌++◌, ap, ◌∙◌, map}
+use Rattle.std.proofs.lemmas.Result.{IfOk-weaker}
+use Rattle.lol_program.specs.Asts.{trees_of}
+use Rattle.lol_program.specs.Paths.{First}
+use Rattle.lol_vm.specs.Views.{event_of}
+use Rattle.lol_reasons.specs.Explanations.{added_by, explanations}
+use Rattle.plain_matcher.specs.PlainNodes.{node_shown, nodes_listed, selectors_listed}
+use Rattle.plain_matcher.specs.PlainReasons.{text_shown}
+use Rattle.plain_matcher.proofs.PlainTrees.{listed_explanations}
+use Rattle.plain_matcher.proofs.plain_run.plain_reasons.Goals as goal
+
+pub returns : goal.returns
+returns c =
+    let esi = c.args.enable_esi_tags in
+    let added = added_by (map text_shown c.args.texts.now) in
+    let events = map event_of c.args.events.now in
+    let trees = trees_of c.args.ast.now in
+    let listed : map node_shown c.deref.result.now ≡ nodes_listed First trees =
+    ap (map node_shown) c.deref.ensures.value ∙ c.in_ok-list_nodes.ensures
+    ∙ (λ i. map node_shown (c.new-nodes.ensures.items i) ++ nodes_listed First (c.root.ensures i)) in
+    IfOk-weaker c.explanations_of.result _ _
+    (λ told is. is ∙ ap (λ nodes. explanations (selectors_listed nodes) esi added events) listed ∙ listed_explanations trees esi added events)
+    c.explanations_of.ensures
