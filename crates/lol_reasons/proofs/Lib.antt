@@ -1,2 +1,4 @@
 mod Witnesses
 mod Reasons
+mod Climbing
+mod Climbs

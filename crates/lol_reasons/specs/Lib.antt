@@ -3,3 +3,5 @@ pub mod Explanations
 pub mod WitnessLaws
 pub mod ReasonLaws
 pub mod Rows
+pub mod Matched
+pub mod Climbing

@@ -3,3 +3,6 @@
 
 pub mod laws;
 pub mod rows;
+mod witness;
+
+pub use witness::witness_of;

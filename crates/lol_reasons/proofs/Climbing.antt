@@ -1,0 +1,299 @@
+-- What a program and the items of open elements tell of a node that matched.
+use Rattle.std.proofs.Common.{◌≡◌, ℕ, zero, suc, ◌+◌, ◌≤◌, Bool, true, false, cond, ◌||◌, ◌⊎◌, true≢false, List, [], ◌∷◌, ◌++◌, length, map, Option, Some, None, inl, inr, ⊎_elim, refl, sym, ap, ◌∙◌, subst, arith}
+use Rattle.std.specs.Prelude.{slice_get, nat_le}
+use Rattle.std.specs.declared.ops.Range.{Range}
+use Rattle.std.proofs.lemmas.Bool.Decides.{Decides-ltb, leb_tells}
+use Rattle.lol_base.specs.BoolLaws.{and_parts, and_of, or_parts, or_of, same_bool}
+use Rattle.lol_base.specs.MemberLaws.{Among, among_from_contains, contains_from_among}
+use Rattle.lol_base.specs.PlaceLaws.{some_is, at_among, same_at, at_within, within_at}
+use Rattle.lol_css.specs.declared.selector.Combinator.{Combinator}
+use Rattle.lol_css.specs.declared.selector.Combinator.TheVariants.{Child, Descendant}
+use Rattle.lol_instructions.specs.Tests.{Element}
+use Rattle.lol_instructions.specs.Compounds.{Compound}
+use Rattle.lol_instructions.specs.declared.instruction.Instruction as code
+use Rattle.lol_program.specs.Paths.{Path, First, Then, Selectors}
+use Rattle.lol_program.specs.Programs.{Instruction, Program, IsWithin, IsAt, HoldsPlaces, IsRangeOf, IsProgramOf, AreClosed, above, range_by}
+use Rattle.lol_program.specs.ProgramViews.{instruction_shown, program_shown}
+use Rattle.lol_program.specs.StepLaws.{one_front, one_step}
+use Rattle.lol_program.specs.declared.program.Program as program
+use Rattle.lol_vm.specs.Machines.{OpenItem, IsItem, AreItems}
+use Rattle.lol_vm.specs.Matching.{matches, some_ancestor_passes}
+use Rattle.lol_reasons.specs.Climbing.{is_within, have_place, has_place, node_above_from, nearest_giving}
+use Rattle.lol_reasons.specs.Witnesses.{given_at_nearest}
+use Rattle.lol_reasons.specs.declared.witness.NodeAbove.{NodeAbove}
+
+-- 1. Places in ranges
+
+le_of : (a b : ℕ) → nat_le a b ≡ true → a ≤ b
+le_of a b h = ⊎_elim (λ yes. yes.1) (λ no. absurd (true≢false (sym h ∙ no.0))) (leb_tells a b)
+
+of_le : (a b : ℕ) → a ≤ b → nat_le a b ≡ true
+of_le a b h = ⊎_elim (λ yes. yes.0) (λ no. absurd (omega (arith, h, no.1))) (leb_tells a b)
+
+within_of : (place : ℕ) (r : Range ℕ) → is_within place r ≡ true → IsWithin place r
+within_of place r h = let parts = and_parts _ _ h in (le_of r.start place parts.0, (Decides-ltb place r.end).0 parts.1)
+
+of_within : (place : ℕ) (r : Range ℕ) → IsWithin place r → is_within place r ≡ true
+of_within place r h = and_of _ _ (of_le r.start place h.0) ((Decides-ltb place r.end).1 h.1)
+
+record Holding (ranges : List (Range ℕ)) (place : ℕ) : Type 0 where
+  range : Range ℕ
+  among : Among ranges range
+  within : IsWithin place range
+
+holding : (ranges : List (Range ℕ)) (place : ℕ) → have_place ranges place ≡ true → Holding ranges place
+holding [] place h = cc
+holding (r ∷ ranges) place h = by_part (or_parts (is_within place r) (have_place ranges place) h) (holding ranges place)
+  where
+    by_part : (is_within place r ≡ true) ⊎ (have_place ranges place ≡ true) → (have_place ranges place ≡ true → Holding ranges place) → Holding (r ∷ ranges) place
+    by_part (inl here) later = record { range = r; among = inl refl; within = within_of place r here }
+    by_part (inr there) later = let found = later there in record { range = found.range; among = inr found.among; within = found.within }
+
+held : (ranges : List (Range ℕ)) (place : ℕ) (r : Range ℕ) → Among ranges r → IsWithin place r → have_place ranges place ≡ true
+held [] place r h within = absurd h
+held (x ∷ ranges) place r (inl same) within = or_of _ _ (inl (ap (is_within place) same ∙ of_within place r within))
+held (x ∷ ranges) place r (inr h) within = or_of _ _ (inr (held ranges place r h within))
+
+has_some : (o : Option (Range ℕ)) (place : ℕ) → has_place o place ≡ true → (r : Range ℕ) × (o ≡ Some r) × IsWithin place r
+has_some None place h = cc
+has_some (Some r) place h = (r, refl, within_of place r h)
+
+some_has : (o : Option (Range ℕ)) (place : ℕ) (r : Range ℕ) → o ≡ Some r → IsWithin place r → has_place o place ≡ true
+some_has o place r is within = ap (λ x. has_place x place) is ∙ of_within place r within
+
+among_at : {A : Type 0} (xs : List A) (x : A) → Among xs x → (k : ℕ) × (slice_get xs k ≡ Some x)
+among_at [] x h = absurd h
+among_at (y ∷ xs) x (inl is) = (zero, ap Some is)
+among_at (y ∷ xs) x (inr h) = let at = among_at xs x h in (suc at.0, at.1)
+
+at_map : {A B : Type 0} (f : A → B) (xs : List A) (k : ℕ) (x : A) → slice_get xs k ≡ Some x → slice_get (map f xs) k ≡ Some (f x)
+at_map f [] k x at = cc
+at_map f (y ∷ xs) zero x at = ap (λ z. Some (f z)) (some_is at)
+at_map f (y ∷ xs) (suc k) x at = at_map f xs k x at
+
+map_at : {A B : Type 0} (f : A → B) (xs : List A) (k : ℕ) (y : B) → slice_get (map f xs) k ≡ Some y → (x : A) × (slice_get xs k ≡ Some x) × (f x ≡ y)
+map_at f [] k y at = cc
+map_at f (z ∷ xs) zero y at = (z, refl, some_is at)
+map_at f (z ∷ xs) (suc k) y at = map_at f xs k y at
+
+-- 2. The node above
+
+module _ (s : Selectors) (paths : List Path) (p : Program) (closed : AreClosed s) (is : IsProgramOf s paths p) where
+  under : (step : Combinator) (front : Path) (k : ℕ) (i : Instruction) (r : Range ℕ) → IsAt paths k front → IsAt p.instructions k i → range_by step i ≡ Some r
+      → (place : ℕ) (path : Path) → IsWithin place r → IsAt paths place path → above path ≡ Some (front, step)
+  under step front k i r at code_at gives place path within path_at =
+      let found = (holds step (is.each k front i at code_at).jumps (is.each k front i at code_at).hereditary_jumps gives).members place in
+      let there = found.0 within in
+      ap above (same_at paths place path there.0 path_at there.1) ∙ there.2
+    where
+      holds : (step : Combinator) → IsRangeOf paths i.jumps (Some (front, Child)) → IsRangeOf paths i.hereditary_jumps (Some (front, Descendant)) → range_by step i ≡ Some r → HoldsPlaces paths r (Some (front, step))
+      holds Child jumps hereditary gives = (subst (λ o. IsRangeOf paths o (Some (front, Child))) gives jumps).0
+      holds Descendant jumps hereditary gives = (subst (λ o. IsRangeOf paths o (Some (front, Descendant))) gives hereditary).0
+
+  pub record Linked (front : Path) (step : Combinator) (place : ℕ) : Type 0 where
+    at : ℕ
+    instruction : Instruction
+    range : Range ℕ
+    path_at : IsAt paths at front
+    code_at : IsAt p.instructions at instruction
+    gives : range_by step instruction ≡ Some range
+    within : IsWithin place range
+
+  pub linked : (front : Path) (step : Combinator) (c : Compound) (place : ℕ) → IsAt paths place (Then front step c) → Linked front step place
+  linked front step c place at =
+      let node = (is.same (Then front step c)).0 (contains_from_among paths (Then front step c) (at_among paths place (Then front step c) at)) in
+      let above_it = among_at paths front (among_from_contains paths front ((is.same front).1 (closed.fronts front step c node))) in
+      let code_at = within_at p.instructions above_it.0 (omega (arith, at_within paths above_it.0 front above_it.1, is.count)) in
+      let each = is.each above_it.0 front code_at.0 above_it.1 code_at.1 in
+      let ranged = by_step code_at.0 step each.jumps each.hereditary_jumps in
+      let held = holds (range_by step code_at.0) refl ranged in
+      record { at = above_it.0; instruction = code_at.0; range = held.0; path_at = above_it.1; code_at = code_at.1; gives = held.1; within = held.2 }
+    where
+      by_step : (i : Instruction) (step : Combinator) → IsRangeOf paths i.jumps (Some (front, Child)) → IsRangeOf paths i.hereditary_jumps (Some (front, Descendant)) → IsRangeOf paths (range_by step i) (Some (front, step))
+      by_step i Child jumps hereditary = jumps
+      by_step i Descendant jumps hereditary = hereditary
+
+      holds : {given : Option (Range ℕ)} (o : Option (Range ℕ)) → given ≡ o → IsRangeOf paths o (Some (front, step)) → (r : Range ℕ) × (given ≡ Some r) × IsWithin place r
+      holds None is none = absurd (none place (Then front step c) at refl)
+      holds (Some r) is some = (r, is, (some.0.members place).1 (Then front step c, at, refl))
+
+-- what the node at a place stands under
+abbrev pub StandsUnder : List Path → Path → Option NodeAbove → Type 0
+StandsUnder paths (First c) o = o ≡ None
+StandsUnder paths (Then front step c) o = (a : NodeAbove) × (o ≡ Some a) × IsAt paths a.place front × (a.step ≡ step)
+
+module _ (by_type : Bool) (place : ℕ) where
+  abbrev shown : code.Instruction → Instruction
+  shown i = instruction_shown by_type i
+
+  -- an instruction that gives a range with the place
+  record Gives (all : List code.Instruction) (a : NodeAbove) : Type 0 where
+    instruction : code.Instruction
+    at : IsAt all a.place instruction
+    range : Range ℕ
+    gives : range_by a.step (shown instruction) ≡ Some range
+    within : IsWithin place range
+
+  found_gives : (all instructions : List code.Instruction) (n : ℕ) → ((j : ℕ) (i : code.Instruction) → IsAt instructions j i → IsAt all (n + j) i)
+      → (a : NodeAbove) → node_above_from n instructions place ≡ Some a → Gives all a
+  found_gives all [] n inside a h = cc
+  found_gives all (i ∷ instructions) n inside a h =
+      by_tests (has_place i.associated_branch.jumps place) refl (has_place i.associated_branch.hereditary_jumps place) refl h
+      (found_gives all instructions (n + 1) (λ j x at. subst (λ k. IsAt all k x) (omega arith) (inside (suc j) x at)) a)
+    where
+      here : IsAt all n i
+      here = subst (λ k. IsAt all k i) (omega arith) (inside zero i refl)
+
+      by_tests : (b : Bool) → has_place i.associated_branch.jumps place ≡ b → (d : Bool) → has_place i.associated_branch.hereditary_jumps place ≡ d
+          → cond b (Some (record { place = n; step = Child })) (cond d (Some (record { place = n; step = Descendant })) (node_above_from (n + 1) instructions place)) ≡ Some a
+          → (node_above_from (n + 1) instructions place ≡ Some a → Gives all a) → Gives all a
+      by_tests true is d isnt h later =
+          let r = has_some i.associated_branch.jumps place is in
+          subst (Gives all) (some_is h) (record { instruction = i; at = here; range = r.0; gives = r.1; within = r.2 })
+      by_tests false is true isnt h later =
+          let r = has_some i.associated_branch.hereditary_jumps place isnt in
+          subst (Gives all) (some_is h) (record { instruction = i; at = here; range = r.0; gives = r.1; within = r.2 })
+      by_tests false is false isnt h later = later h
+
+  not_missed : (instructions : List code.Instruction) (n k : ℕ) (i : code.Instruction) (step : Combinator) (r : Range ℕ) → IsAt instructions k i → range_by step (shown i) ≡ Some r → IsWithin place r
+      → node_above_from n instructions place ≡ None → ⊥
+  not_missed [] n k i step r at gives within h = cc
+  not_missed (x ∷ instructions) n k i step r at gives within h =
+      by_tests (has_place x.associated_branch.jumps place) refl (has_place x.associated_branch.hereditary_jumps place) refl h k at
+      (λ k at. not_missed instructions (n + 1) k i step r at gives within)
+    where
+      here : (step : Combinator) → x ≡ i → range_by step (shown i) ≡ Some r → has_place x.associated_branch.jumps place ≡ false → has_place x.associated_branch.hereditary_jumps place ≡ false → ⊥
+      here Child same gives no_jump no_hereditary = true≢false (sym (some_has x.associated_branch.jumps place r (ap (λ (y : code.Instruction). y.associated_branch.jumps) same ∙ gives) within) ∙ no_jump)
+      here Descendant same gives no_jump no_hereditary = true≢false (sym (some_has x.associated_branch.hereditary_jumps place r (ap (λ (y : code.Instruction). y.associated_branch.hereditary_jumps) same ∙ gives) within) ∙ no_hereditary)
+
+      by_tests : (b : Bool) → has_place x.associated_branch.jumps place ≡ b → (d : Bool) → has_place x.associated_branch.hereditary_jumps place ≡ d
+          → cond b (Some (record { place = n; step = Child })) (cond d (Some (record { place = n; step = Descendant })) (node_above_from (n + 1) instructions place)) ≡ None
+          → (k : ℕ) → IsAt (x ∷ instructions) k i → ((k : ℕ) → IsAt instructions k i → node_above_from (n + 1) instructions place ≡ None → ⊥) → ⊥
+      by_tests true is d isnt h k at later = cc
+      by_tests false is true isnt h k at later = cc
+      by_tests false is false isnt h zero at later = here step (some_is at) gives is isnt
+      by_tests false is false isnt h (suc k) at later = later k at h
+
+module _ (s : Selectors) (paths : List Path) (code_program : program.Program) (closed : AreClosed s) (is : IsProgramOf s paths (program_shown code_program)) where
+  abbrev instructions : List code.Instruction
+  instructions = code_program.instructions.items
+
+  abbrev by_type : Bool
+  by_type = code_program.enable_nth_of_type
+
+  -- the path of an instruction that gives the place
+  front_of : (place : ℕ) (path : Path) → IsAt paths place path → (a : NodeAbove) → node_above_from 0 instructions place ≡ Some a
+      → (front : Path) × IsAt paths a.place front × (above path ≡ Some (front, a.step))
+  front_of place path at a h =
+      let g = found_gives by_type place instructions instructions 0 (λ j i there. subst (λ k. IsAt instructions k i) (omega arith) there) a h in
+      let code_at = at_map (instruction_shown by_type) instructions a.place g.instruction g.at in
+      let front = within_at paths a.place (omega (arith, at_within (program_shown code_program).instructions a.place (instruction_shown by_type g.instruction) code_at, is.count)) in
+      (front.0, front.1, under s paths (program_shown code_program) closed is a.step front.0 a.place (instruction_shown by_type g.instruction) g.range front.1 code_at g.gives place path g.within at)
+
+  pub stands_under : (place : ℕ) (path : Path) → IsAt paths place path → StandsUnder paths path (node_above_from 0 instructions place)
+  stands_under place (First c) at = none (node_above_from 0 instructions place) refl
+    where
+      none : (o : Option NodeAbove) → node_above_from 0 instructions place ≡ o → o ≡ None
+      none None is = refl
+      none (Some a) is = let f = front_of place (First c) at a is in absurd (cc)
+  stands_under place (Then front step c) at = some (node_above_from 0 instructions place) refl
+    where
+      some : (o : Option NodeAbove) → node_above_from 0 instructions place ≡ o → StandsUnder paths (Then front step c) o
+      some None none =
+          let l = linked s paths (program_shown code_program) closed is front step c place at in
+          let i = map_at (instruction_shown by_type) instructions l.at l.instruction l.code_at in
+          absurd (not_missed by_type place instructions 0 l.at i.0 step l.range i.1 (ap (range_by step) i.2 ∙ l.gives) l.within none)
+      some (Some a) found =
+          let f = front_of place (Then front step c) at a found in
+          (a, refl, subst (λ x. IsAt paths a.place x) (sym (one_front front f.0 step a.step f.2)) f.1, sym (one_step front f.0 step a.step f.2))
+
+-- 3. The element that a step leads to
+
+-- a step was taken: so many items and elements are left, and the element's innermost witness goes on there
+pub record Reached (paths : List Path) (p : Program) (front : Path) (give : Element → List Element → List ℕ) (items : List OpenItem) (around : List Element)
+    (o : Option ℕ) (given : List ℕ) : Type 0 where
+  pub inner : List OpenItem
+  pub item : OpenItem
+  pub outer : List OpenItem
+  pub parts : items ≡ inner ++ item ∷ outer
+  pub nearer : List Element
+  pub element : Element
+  pub beyond : List Element
+  pub elements : around ≡ nearer ++ element ∷ beyond
+  pub as_many : length beyond ≡ length outer
+  pub found : o ≡ Some (length outer)
+  pub are_items : AreItems paths p outer beyond
+  pub fits : matches front element beyond ≡ true
+  pub gives : given ≡ give element beyond
+
+pub same_lengths : (paths : List Path) (p : Program) (items : List OpenItem) (elements : List Element) → AreItems paths p items elements → length elements ≡ length items
+same_lengths paths p [] [] h = refl
+same_lengths paths p [] (e ∷ outer) h = absurd h
+same_lengths paths p (item ∷ items) [] h = absurd h
+same_lengths paths p (item ∷ items) (e ∷ outer) h = ap suc (same_lengths paths p items outer h.1)
+
+module _ (s : Selectors) (paths : List Path) (p : Program) (closed : AreClosed s) (is : IsProgramOf s paths p) (front : Path) (c : Compound) (place : ℕ) where
+  -- an item gives the place exactly if the path before it matches its element
+  gives_if : IsAt paths place (Then front Descendant c) → (item : OpenItem) (a : Element) (around : List Element) → IsItem paths p item a around
+      → have_place item.hereditary_jumps place ≡ matches front a around
+  gives_if at item a around h = same_bool _ _
+      (λ has.
+      let held_by = holding item.hereditary_jumps place has in
+      let by = (h.hereditary_jumps.members held_by.range).0 (contains_from_among item.hereditary_jumps held_by.range held_by.among) in
+      let same = one_front front by.1 Descendant Descendant (under s paths p closed is Descendant by.1 by.0 by.2 held_by.range by.3 by.4 by.5 place (Then front Descendant c) held_by.within at) in
+      ap (λ f. matches f a around) same ∙ by.6)
+      (λ fits.
+      let l = linked s paths p closed is front Descendant c place at in
+      held item.hereditary_jumps place l.range
+      (among_from_contains item.hereditary_jumps l.range ((h.hereditary_jumps.members l.range).1 (l.at, front, l.instruction, l.path_at, l.code_at, l.gives, fits))) l.within)
+
+  module _ (give : Element → List Element → List ℕ) where
+    pub nearest_reached : IsAt paths place (Then front Descendant c) → (items : List OpenItem) (around : List Element) → AreItems paths p items around
+        → some_ancestor_passes (λ a o. matches front a o) around ≡ true
+        → Reached paths p front give items around (nearest_giving place items) (given_at_nearest (λ a o. matches front a o) give around)
+    nearest_reached at [] [] h fits = cc
+    nearest_reached at [] (a ∷ around) h fits = absurd h
+    nearest_reached at (item ∷ items) [] h fits = absurd h
+    nearest_reached at (item ∷ items) (a ∷ around) h fits =
+        by_test (matches front a around) refl (have_place item.hereditary_jumps place) (gives_if at item a around h.0) fits (nearest_reached at items around h.1)
+      where
+        by_test : (b : Bool) → matches front a around ≡ b → (d : Bool) → d ≡ matches front a around
+            → (b || some_ancestor_passes (λ a o. matches front a o) around) ≡ true
+            → (some_ancestor_passes (λ a o. matches front a o) around ≡ true
+            → Reached paths p front give items around (nearest_giving place items) (given_at_nearest (λ a o. matches front a o) give around))
+            → Reached paths p front give (item ∷ items) (a ∷ around) (cond d (Some (length items)) (nearest_giving place items))
+            (cond b (give a around) (given_at_nearest (λ a o. matches front a o) give around))
+        by_test true is true same passes later = record {
+          inner = [];
+          item = item;
+          outer = items;
+          parts = refl;
+          nearer = [];
+          element = a;
+          beyond = around;
+          elements = refl;
+          as_many = same_lengths paths p items around h.1;
+          found = refl;
+          are_items = h.1;
+          fits = is;
+          gives = refl;
+        }
+        by_test true is false same passes later = absurd (true≢false (sym (same ∙ is)))
+        by_test false is true same passes later = absurd (true≢false (same ∙ is))
+        by_test false is false same passes later =
+            let r = later passes in
+            record {
+              inner = item ∷ r.inner;
+              item = r.item;
+              outer = r.outer;
+              parts = ap (λ l. item ∷ l) r.parts;
+              nearer = a ∷ r.nearer;
+              element = r.element;
+              beyond = r.beyond;
+              elements = ap (λ l. a ∷ l) r.elements;
+              as_many = r.as_many;
+              found = r.found;
+              are_items = r.are_items;
+              fits = r.fits;
+              gives = r.gives;
+            }

@@ -1,0 +1,131 @@
+//! Which open elements a node's path was matched by, as the machine's program and its open elements tell.
+
+ghost use Rattle.std.specs.Prelude.{ℕ, ◌≡◌, List, Some, IfOk, IfSome, ◌<◌, ◌↔◌, IsSome, length};
+ghost use Rattle.lol_instructions.specs.Tests.{Element};
+ghost use Rattle.lol_program.specs.Paths.{Path, Selectors};
+ghost use Rattle.lol_program.specs.ProgramViews.{program_shown};
+ghost use Rattle.lol_vm.specs.StackMachines.{items_shown};
+ghost use Rattle.lol_reasons.specs.Matched.{HasMatched};
+ghost use Rattle.lol_reasons.specs.Climbing.{has_place, have_place, is_within, nearest_giving, node_above_from, reached_by};
+ghost use Rattle.lol_reasons.specs.Witnesses.{innermost_witness};
+
+use lol_css::Combinator;
+use lol_instructions::{AddressRange, Instruction};
+use lol_program::Program;
+use lol_stack::StackItem;
+use std::alloc::{AllocError, Global};
+
+/// What a node stands under: the place of the node that is one compound shorter, and the step from it.
+#[derive(Clone, Copy)]
+pub(crate) struct NodeAbove {
+    pub place: usize,
+    pub step: Combinator,
+}
+
+/// The innermost witness of the path of a node that matched an element: the numbers of the start tags whose elements the path's compounds
+/// are passed by, the last compound's first.
+///
+/// `place` is the node's in the program, `number` the element's start tag, `outer` are the open elements around it, the outermost first, and
+/// `numbers` theirs. Only their ranges are read, so the element itself needn't be open.
+///
+/// It looks at each instruction of the program for each compound, and at most once at each range of the open elements.
+///
+/// # Errors
+/// Out of memory.
+pub fn witness_of<E>(
+    alloc: Global,
+    program: &Program,
+    place: usize,
+    number: usize,
+    outer: &[StackItem<'static, E>],
+    numbers: &[usize],
+) -> Result<Vec<usize>, AllocError>
+    requires { length numbers.now ≡ length outer.now }
+    ensures { IfOk result (λ witness.
+        (s : Selectors) (paths : List Path) (path : Path) (e : Element) (around : List Element)
+        → HasMatched s paths (program_shown program.now) place path (items_shown outer.now) numbers.now e around
+        → number ≡ e.number → innermost_witness path e around ≡ Some witness.items) }
+{
+    let mut witness = vec![in alloc; number]?;
+    let mut node = place;
+    let mut left = outer.len();
+    while let Some(above) = node_above(&program.instructions, node) {
+        let Some(at) = element_reached(above.step, node, &outer[..left]) else {
+            return Ok(witness);
+        };
+        let reached = numbers[at];
+        witness.push(reached)?;
+        node = above.place;
+        left = at;
+    }
+    Ok(witness)
+}
+
+/// What the node at a place stands under, if it isn't a root.
+fn node_above(instructions: &[Instruction], place: usize) -> Option<NodeAbove>
+    ensures { result ≡ node_above_from 0 instructions.now place }
+{
+    for (front, instruction) in instructions.iter().enumerate() {
+        let branch = &instruction.associated_branch;
+        if is_in(&branch.jumps, place) {
+            return Some(NodeAbove {
+                place: front,
+                step: Combinator::Child,
+            });
+        }
+        if is_in(&branch.hereditary_jumps, place) {
+            return Some(NodeAbove {
+                place: front,
+                step: Combinator::Descendant,
+            });
+        }
+    }
+    None
+}
+
+fn is_in(range: &Option<AddressRange>, place: usize) -> bool
+    ensures { result ≡ has_place range.now place }
+{
+    match range {
+        Some(range) => range.start <= place && place < range.end,
+        None => false,
+    }
+}
+
+/// How many elements are around the one that the step to a node leads to.
+fn element_reached<E>(
+    step: Combinator,
+    place: usize,
+    outer: &[StackItem<'static, E>],
+) -> Option<usize>
+    ensures value { result ≡ reached_by step place (items_shown outer.now) }
+    ensures within { IfSome result (λ at. at < length outer.now) }
+{
+    match step {
+        Combinator::Child => outer.len().checked_sub(1),
+        Combinator::Descendant => nearest_element(place, outer),
+    }
+}
+
+/// How many elements are around the nearest one that gives a range with the place to all inside it.
+fn nearest_element<E>(place: usize, outer: &[StackItem<'static, E>]) -> Option<usize>
+    ensures value { result ≡ nearest_giving place (items_shown outer.now) }
+    ensures within { IfSome result (λ at. at < length outer.now) }
+{
+    let mut left = outer.len();
+    while left > 0 {
+        left -= 1;
+        if are_with(outer[left].hereditary_jumps.as_slice(), place) {
+            return Some(left);
+        }
+    }
+    None
+}
+
+fn are_with(ranges: &[AddressRange], place: usize) -> bool
+    ensures { result ≡ have_place ranges.now place }
+{
+    ranges
+        .iter()
+        .any(|range| range.start <= place && place < range.end)
+}
