@@ -61,17 +61,17 @@ has_some (Some r) place h = (r, refl, within_of place r h)
 some_has : (o : Option (Range ℕ)) (place : ℕ) (r : Range ℕ) → o ≡ Some r → IsWithin place r → has_place o place ≡ true
 some_has o place r is within = ap (λ x. has_place x place) is ∙ of_within place r within
 
-among_at : {A : Type 0} (xs : List A) (x : A) → Among xs x → (k : ℕ) × (slice_get xs k ≡ Some x)
+pub among_at : {A : Type 0} (xs : List A) (x : A) → Among xs x → (k : ℕ) × (slice_get xs k ≡ Some x)
 among_at [] x h = absurd h
 among_at (y ∷ xs) x (inl is) = (zero, ap Some is)
 among_at (y ∷ xs) x (inr h) = let at = among_at xs x h in (suc at.0, at.1)
 
-at_map : {A B : Type 0} (f : A → B) (xs : List A) (k : ℕ) (x : A) → slice_get xs k ≡ Some x → slice_get (map f xs) k ≡ Some (f x)
+pub at_map : {A B : Type 0} (f : A → B) (xs : List A) (k : ℕ) (x : A) → slice_get xs k ≡ Some x → slice_get (map f xs) k ≡ Some (f x)
 at_map f [] k x at = cc
 at_map f (y ∷ xs) zero x at = ap (λ z. Some (f z)) (some_is at)
 at_map f (y ∷ xs) (suc k) x at = at_map f xs k x at
 
-map_at : {A B : Type 0} (f : A → B) (xs : List A) (k : ℕ) (y : B) → slice_get (map f xs) k ≡ Some y → (x : A) × (slice_get xs k ≡ Some x) × (f x ≡ y)
+pub map_at : {A B : Type 0} (f : A → B) (xs : List A) (k : ℕ) (y : B) → slice_get (map f xs) k ≡ Some y → (x : A) × (slice_get xs k ≡ Some x) × (f x ≡ y)
 map_at f [] k y at = cc
 map_at f (z ∷ xs) zero y at = (z, refl, some_is at)
 map_at f (z ∷ xs) (suc k) y at = map_at f xs k y at

@@ -28,12 +28,12 @@ module _ {A : Type 0} where
   reverse_more xs k d within = ap reverse (take_more xs k d within) ∙ reverse-append (take k xs) (get_or xs k d ∷ [])
 
   -- a list from its left-th item on, seen from there: what is before x is at the length of what is after it
-  record Cut (xs : List A) (left : ℕ) (x : A) (post : List A) : Type 0 where
-    rest : reverse (take (length post) xs) ≡ post
-    at : (d : A) → get_or xs (length post) d ≡ x
-    below : length post < left
+  pub record Cut (xs : List A) (left : ℕ) (x : A) (post : List A) : Type 0 where
+    pub rest : reverse (take (length post) xs) ≡ post
+    pub at : (d : A) → get_or xs (length post) d ≡ x
+    pub below : length post < left
 
-  cut : (xs : List A) (left : ℕ) (pre : List A) (x : A) (post : List A) → left ≤ length xs → reverse (take left xs) ≡ pre ++ x ∷ post → Cut xs left x post
+  pub cut : (xs : List A) (left : ℕ) (pre : List A) (x : A) (post : List A) → left ≤ length xs → reverse (take left xs) ≡ pre ++ x ∷ post → Cut xs left x post
   cut xs zero [] x post within h = cc
   cut xs zero (y ∷ pre) x post within h = cc
   cut xs (suc k) [] x post within h =

@@ -2,3 +2,5 @@ mod Witnesses
 mod Reasons
 mod Climbing
 mod Climbs
+mod Nodes
+mod Around

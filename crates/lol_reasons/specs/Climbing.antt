@@ -1,9 +1,10 @@
 -- What a program and the items of open elements say of the place of a node: the node above, and the element that the step comes from.
-use Rattle.std.specs.Prelude.{ℕ, ◌+◌, Bool, false, ◌&&◌, if◌then◌else◌, nat_le, nat_lt, List, [], ◌∷◌, length, Option, Some, None}
+use Rattle.std.specs.Prelude.{ℕ, ◌+◌, Bool, false, ◌&&◌, if◌then◌else◌, nat_le, nat_lt, List, [], ◌∷◌, length, Option, Some, None, ◌==◌}
 use Rattle.std.specs.List.{list_any}
 use Rattle.std.specs.declared.ops.Range.{Range}
 use Rattle.lol_css.specs.declared.selector.Combinator.{Combinator}
 use Rattle.lol_css.specs.declared.selector.Combinator.TheVariants.{Child, Descendant}
+use Rattle.lol_memory.specs.Ids.{ascending}
 use Rattle.lol_instructions.specs.declared.instruction.Instruction.{Instruction}
 use Rattle.lol_vm.specs.Machines.{OpenItem}
 use Rattle.lol_reasons.specs.declared.witness.NodeAbove.{NodeAbove}
@@ -37,3 +38,12 @@ abbrev pub reached_by : Combinator → ℕ → List OpenItem → Option ℕ
 reached_by Child place [] = None
 reached_by Child place (item ∷ outer) = Some (length outer)
 reached_by Descendant place items = nearest_giving place items
+
+-- the first of these instructions, which stand from a place on, that has an id
+abbrev pub has_number : List ℕ → ℕ → Bool
+has_number ns n = list_any (λ m. m == n) ns
+
+abbrev pub node_with_from : ℕ → List Instruction → ℕ → Option ℕ
+node_with_from place [] id = None
+node_with_from place (i ∷ instructions) id =
+    if has_number (ascending i.associated_branch.matched_ids) id then Some place else node_with_from (place + 1) instructions id

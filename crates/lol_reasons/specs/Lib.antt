@@ -5,3 +5,4 @@ pub mod ReasonLaws
 pub mod Rows
 pub mod Matched
 pub mod Climbing
+pub mod MachinesShow

@@ -1,6 +1,7 @@
 //! Laws of witnesses and reasons, each the contract of an empty function.
 
 ghost use Rattle.lol_reasons.specs.WitnessLaws.{InnermostIsKnown, InnermostIsOnlyOne, InnermostIsWitness, InnermostWhereMatches, MatchesByWitness, NoneIsNearer, NoneIsNearerInDocuments, WitnessesAreComplete};
+ghost use Rattle.lol_reasons.specs.MachinesShow.{MachinesShowAround};
 ghost use Rattle.lol_reasons.specs.ReasonLaws.{EachHasOneReason, PairsAreAdded, ReasonsAreExact, ReasonsGiveReport, ReasonsStay, RunsAreExplained};
 
 /// A path matches exactly if there is a witness, which has a number for each compound; the innermost
@@ -48,4 +49,10 @@ pub fn reasons_explain_reports()
 pub fn reasons_explain_runs()
     ensures explained { RunsAreExplained }
     ensures stay { ReasonsStay }
+{}
+
+/// A machine that was told of a start tag, last of all, has the items of the elements around that tag's, whether its element was opened or
+/// not: what `witness_of` reads of it.
+pub fn machines_show_around<E>()
+    ensures { MachinesShowAround E }
 {}

@@ -5,4 +5,4 @@ pub mod laws;
 pub mod rows;
 mod witness;
 
-pub use witness::witness_of;
+pub use witness::{witness_of, witness_under};

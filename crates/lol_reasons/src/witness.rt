@@ -1,16 +1,20 @@
 //! Which open elements a node's path was matched by, as the machine's program and its open elements tell.
 
-ghost use Rattle.std.specs.Prelude.{ℕ, ◌≡◌, List, Some, IfOk, IfSome, ◌<◌, ◌↔◌, IsSome, length};
+ghost use Rattle.std.specs.Prelude.{ℕ, ◌≡◌, true, List, Some, IfOk, IfSome, ◌<◌, ◌↔◌, IsSome, length};
+ghost use Rattle.std.specs.Option.{option_map};
+ghost use Rattle.lol_memory.specs.Ids.{ascending};
 ghost use Rattle.lol_instructions.specs.Tests.{Element};
 ghost use Rattle.lol_program.specs.Paths.{Path, Selectors};
 ghost use Rattle.lol_program.specs.ProgramViews.{program_shown};
+ghost use Rattle.lol_vm.specs.Matching.{matches};
 ghost use Rattle.lol_vm.specs.StackMachines.{items_shown};
-ghost use Rattle.lol_reasons.specs.Matched.{HasMatched};
-ghost use Rattle.lol_reasons.specs.Climbing.{has_place, have_place, is_within, nearest_giving, node_above_from, reached_by};
+ghost use Rattle.lol_reasons.specs.Matched.{HasMatched, IsAlone, IsAround};
+ghost use Rattle.lol_reasons.specs.Climbing.{has_number, has_place, have_place, is_within, nearest_giving, node_above_from, node_with_from, reached_by};
 ghost use Rattle.lol_reasons.specs.Witnesses.{innermost_witness};
 
 use lol_css::Combinator;
 use lol_instructions::{AddressRange, Instruction};
+use lol_memory::{DenseHashSet, MatchId};
 use lol_program::Program;
 use lol_stack::StackItem;
 use std::alloc::{AllocError, Global};
@@ -59,6 +63,49 @@ pub fn witness_of<E>(
         left = at;
     }
     Ok(witness)
+}
+
+/// The same for an id that one path alone was added under: nothing if the program has no node with it.
+///
+/// Where each item of each selector is added under an id of its own, the ids of a report are the items that match, and their witnesses are
+/// the reasons of the report.
+pub fn witness_under<E>(
+    alloc: Global,
+    program: &Program,
+    id: MatchId,
+    number: usize,
+    outer: &[StackItem<'static, E>],
+    numbers: &[usize],
+) -> Result<Option<Vec<usize>>, AllocError>
+    requires { length numbers.now ≡ length outer.now }
+    ensures { IfOk result (λ found.
+        (s : Selectors) (paths : List Path) (path : Path) (e : Element) (around : List Element)
+        → IsAround s paths (program_shown program.now) (items_shown outer.now) numbers.now around → IsAlone s path id
+        → matches path e around ≡ true → number ≡ e.number
+        → innermost_witness path e around ≡ option_map (λ witness. witness.items) found) }
+{
+    let Some(place) = node_with(&program.instructions, id) else {
+        return Ok(None);
+    };
+    Ok(Some(witness_of(alloc, program, place, number, outer, numbers)?))
+}
+
+/// The place of the first node that has an id.
+fn node_with(instructions: &[Instruction], id: MatchId) -> Option<usize>
+    ensures { result ≡ node_with_from 0 instructions.now id }
+{
+    for (place, instruction) in instructions.iter().enumerate() {
+        if has_id(&instruction.associated_branch.matched_ids, id) {
+            return Some(place);
+        }
+    }
+    None
+}
+
+fn has_id(ids: &DenseHashSet, id: MatchId) -> bool
+    ensures { result ≡ has_number (ascending ids.now) id }
+{
+    ids.iter().any(|other| other == id)
 }
 
 /// What the node at a place stands under, if it isn't a root.
