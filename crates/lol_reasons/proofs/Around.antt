@@ -9,7 +9,7 @@ use Rattle.lol_program.specs.ProgramViews.{program_shown}
 use Rattle.lol_stack.specs.Stacks.{items_in}
 use Rattle.lol_stack.specs.declared.stack_item.StackItemOf.{StackItemOf}
 use Rattle.lol_vm.specs.Answers.{document}
-use Rattle.lol_vm.specs.DocumentLaws.{document_push}
+use Rattle.lol_vm.specs.AnswerLaws.{document_push}
 use Rattle.lol_vm.specs.Documents.{Document, empty, element_of}
 use Rattle.lol_vm.specs.Events.{Start}
 use Rattle.lol_vm.specs.Follows.{opens}
