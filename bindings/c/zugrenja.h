@@ -6,7 +6,8 @@
      handles of their own at the same time;
    - a pointer beside a length points to so many bytes, numbers or structs, or is null where the length is 0; all others aren't null;
    - what a call writes to overlaps nothing else that it is given.
-   All else is allowed: each call answers a status for whatever numbers and bytes it gets, in whatever order the calls come. */
+   All else is allowed: each call answers for whatever numbers and bytes it gets, in whatever order the calls come, and all but zugrenja_text
+   answer a status, which that call puts into words. */
 #ifndef ZUGRENJA_H
 #define ZUGRENJA_H
 
@@ -52,6 +53,9 @@ enum {
     /* The last tag has opened no element. */
     ZUGRENJA_NOT_OPENED = 18
 };
+
+/* The bytes that each text of zugrenja_text fits into. */
+enum { ZUGRENJA_TEXT = 96 };
 
 /* Namespaces of elements. */
 enum { ZUGRENJA_HTML = 0, ZUGRENJA_SVG = 1, ZUGRENJA_MATHML = 2 };
@@ -149,6 +153,11 @@ uint32_t zugrenja_tries(zugrenja_matcher *matcher, uint64_t *names, uint64_t *at
 /* Frees the matcher. The handle may be used again.
    GOOD, NO_MATCHER. */
 uint32_t zugrenja_free(zugrenja_matcher *matcher);
+
+/* Writes the beginning that fits of what a status says, and returns the length of all of it, at most ZUGRENJA_TEXT. If the status is
+   NOT_ACCEPTED it is what the refusal's cause says, in the words of lol_html; `cause` and `combinator` count for nothing else, and may be 0.
+   It is English, and no 0 ends it. It needs no handle and no memory. */
+size_t zugrenja_text(uint32_t status, uint32_t cause, uint32_t combinator, uint8_t *out, size_t out_len);
 
 /* Runs a script (docs/SCRIPT.md), and writes the beginning of its output that fits into `out`, whole if it fits. Bytes after the output
    stay as they were. `written` is the length of the whole output: if it is greater than `out_len` the rest is lost, and a call with so many

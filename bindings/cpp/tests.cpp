@@ -147,7 +147,7 @@ template <typename Call> static status thrown(Call call) {
     try {
         call();
     } catch (const zugrenja::error &error) {
-        WANT(error.what() == std::string(zugrenja::message(error.code())));
+        WANT(error.what() == zugrenja::message(error.code()));
         return error.code();
     }
     return status::good;
@@ -163,7 +163,7 @@ static void throws_what_is_refused() {
         WANT(false);
     } catch (const zugrenja::selector_error &error) {
         WANT(error.cause() == cause::unsupported_combinator && error.offset() == 5 && error.refusal().item == 1);
-        WANT(error.what() == std::string("combinator that isn't supported at byte 5, in item 1 of the list"));
+        WANT(error.what() == std::string("Unsupported combinator `+` in selector. (item 1, byte 5)"));
     }
     matcher.add(0, "b[x]");
     matcher.build();

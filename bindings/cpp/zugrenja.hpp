@@ -50,29 +50,6 @@ enum class status : std::uint32_t {
     not_opened = ZUGRENJA_NOT_OPENED
 };
 
-inline const char *message(status status) {
-    switch (status) {
-    case status::good: return "good";
-    case status::needs_attributes: return "the attributes are asked for";
-    case status::out_of_memory: return "out of memory";
-    case status::no_matcher: return "there is no matcher";
-    case status::in_use: return "there is a matcher already";
-    case status::not_built: return "the matcher isn't built yet";
-    case status::built: return "the matcher is built already";
-    case status::not_utf8: return "the text isn't UTF-8";
-    case status::not_accepted: return "the text isn't accepted as a selector";
-    case status::no_namespace: return "there is no such namespace";
-    case status::limit: return "the open elements would take more than the memory limit";
-    case status::counter: return "the parent has as many children as can be counted";
-    case status::tag_out_of_memory: return "out of memory for a start tag";
-    case status::failed: return "an earlier start tag was refused";
-    case status::not_asked: return "no start tag waits for its attributes";
-    case status::outside: return "an attribute lies outside the text";
-    case status::not_opened: return "the last tag has opened no element";
-    }
-    return "unknown status";
-}
-
 // Why a text isn't accepted as a selector: the causes of zugrenja.h.
 enum class cause : std::uint32_t {
     unexpected_token = ZUGRENJA_UNEXPECTED_TOKEN,
@@ -90,25 +67,6 @@ enum class cause : std::uint32_t {
     unsupported_syntax = ZUGRENJA_UNSUPPORTED_SYNTAX
 };
 
-inline const char *message(cause cause) {
-    switch (cause) {
-    case cause::unexpected_token: return "unexpected token";
-    case cause::unexpected_end: return "unexpected end";
-    case cause::missing_attribute_name: return "no attribute name after [";
-    case cause::empty_selector: return "empty selector";
-    case cause::dangling_combinator: return "nothing after a combinator";
-    case cause::unexpected_token_in_attribute: return "unexpected token in an attribute selector";
-    case cause::unsupported_pseudo_class_or_element: return "pseudo-class or pseudo-element that isn't supported";
-    case cause::nested_negation: return ":not in a :not";
-    case cause::namespaced_selector: return "name with a namespace";
-    case cause::invalid_class_name: return "no class name after .";
-    case cause::empty_negation: return "empty :not";
-    case cause::unsupported_combinator: return "combinator that isn't supported";
-    case cause::unsupported_syntax: return "syntax that isn't supported";
-    }
-    return "unknown cause";
-}
-
 // Why a text isn't accepted, for an unsupported combinator which one, and where: the item of the list and the byte offset, both from 0.
 struct refusal {
     zugrenja::cause cause = cause::unexpected_token;
@@ -116,6 +74,18 @@ struct refusal {
     std::size_t item = 0;
     std::size_t offset = 0;
 };
+
+// What a status says.
+inline std::string message(status status, const refusal &why = {}) {
+    std::uint8_t text[ZUGRENJA_TEXT];
+    std::size_t length = zugrenja_text(std::uint32_t(status), std::uint32_t(why.cause), why.combinator, text, sizeof text);
+    return std::string(reinterpret_cast<const char *>(text), length);
+}
+
+// What a refusal says: its cause, and where.
+inline std::string message(const refusal &why) {
+    return message(status::not_accepted, why) + " (item " + std::to_string(why.item) + ", byte " + std::to_string(why.offset) + ")";
+}
 
 #if defined(__cpp_exceptions)
 // A call was refused. Where memory was refused std::bad_alloc is thrown instead.
@@ -136,9 +106,7 @@ private:
 class selector_error : public error {
 public:
     explicit selector_error(const zugrenja::refusal &refusal)
-        : error(status::not_accepted, std::string(message(refusal.cause)) + " at byte " + std::to_string(refusal.offset) +
-                                          ", in item " + std::to_string(refusal.item) + " of the list"),
-          refusal_(refusal) {}
+        : error(status::not_accepted, message(refusal)), refusal_(refusal) {}
 
     const zugrenja::refusal &refusal() const noexcept { return refusal_; }
     zugrenja::cause cause() const noexcept { return refusal_.cause; }

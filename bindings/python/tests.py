@@ -66,23 +66,25 @@ class Tags(unittest.TestCase):
 
     def test_refusals(self) -> None:
         matcher = Matcher(["p"], max_memory=0)
-        for reason in ("limit", "an earlier start tag was refused"):
+        for status in (12, 15):
             with self.assertRaises(TagError) as raised:
                 matcher.start("p")
-            self.assertEqual(raised.exception.reason, reason)
+            self.assertEqual(raised.exception.status, status)
+        self.assertEqual(str(raised.exception), "an earlier start tag was refused: no other is answered")
         with self.assertRaises(TagError):
             matcher.add(1, "p")
         matcher.close()
         matcher.close()
         with self.assertRaises(TagError) as raised:
             matcher.start("p")
-        self.assertEqual(raised.exception.reason, "the matcher is closed")
+        self.assertEqual(str(raised.exception), "the handle has no matcher")
 
     def test_selectors_that_are_not_accepted(self) -> None:
         with Matcher() as matcher:
             with self.assertRaises(SelectorError) as raised:
                 matcher.add(2**32 - 1, "img, a + img")
             self.assertEqual((raised.exception.cause, raised.exception.item, raised.exception.offset), ("UnsupportedCombinator(+)", 1, 5))
+            self.assertEqual(str(raised.exception), "Unsupported combinator `+` in selector. (item 1, byte 5) in 'img, a + img'")
             for text in (b"\xff", "\udcff"):
                 with self.assertRaises(SelectorError):
                     matcher.add(0, text)

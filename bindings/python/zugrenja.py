@@ -16,33 +16,29 @@ from pathlib import Path
 from typing import NamedTuple
 
 GOOD, NEEDS_ATTRIBUTES, BAD_LINE, REFUSED, OUT_OF_MEMORY, NO_MATCHER = range(6)
-BUILT, NOT_UTF8, NOT_ACCEPTED = 8, 9, 10
+BUILT, NOT_UTF8, NOT_ACCEPTED, LIMIT, COUNTER = 8, 9, 10, 12, 13
 NAMESPACES = {"html": 0, "svg": 1, "mathml": 2}
 CAUSES = (
     "UnexpectedToken", "UnexpectedEnd", "MissingAttributeName", "EmptySelector", "DanglingCombinator", "UnexpectedTokenInAttribute",
     "UnsupportedPseudoClassOrElement", "NestedNegation", "NamespacedSelector", "InvalidClassName", "EmptyNegation",
     "UnsupportedCombinator", "UnsupportedSyntax",
 )
-REASONS = {
-    5: "the matcher is closed", 7: "the matcher isn't built", 8: "selectors come before the first tag", 12: "limit", 13: "counter",
-    15: "an earlier start tag was refused",
-}
 
 
 class SelectorError(ValueError):
     """A text isn't accepted as a selector: the cause, and where, as the item of the list and the byte offset, both from 0."""
 
-    def __init__(self, text: str, cause: str, item: int, offset: int) -> None:
-        super().__init__(f"{cause} (item {item}, byte {offset}) in {text!r}")
+    def __init__(self, text: str, cause: str, says: str, item: int, offset: int) -> None:
+        super().__init__(f"{says} (item {item}, byte {offset}) in {text!r}")
         self.text, self.cause, self.item, self.offset = text, cause, item, offset
 
 
 class TagError(RuntimeError):
-    """A tag wasn't answered: its reason is `limit` or `counter` for one that is refused, after which no start tag is answered."""
+    """A tag wasn't answered: its status is LIMIT or COUNTER for one that is refused, after which no start tag is answered."""
 
     def __init__(self, status: int) -> None:
-        self.status, self.reason = status, REASONS.get(status, f"status {status}")
-        super().__init__(self.reason)
+        self.status = status
+        super().__init__(_text(status))
 
 
 class ScriptError(ValueError):
@@ -103,9 +99,10 @@ def _library() -> ctypes.CDLL:
         "tries": [out, out, out],
         "free": [out],
         "run_script": [text, size, text, size, out],
+        "text": [number, number, number, text, size],
     }.items():
         call = getattr(library, f"zugrenja_{name}")
-        call.restype, call.argtypes = number, arguments
+        call.restype, call.argtypes = size if name == "text" else number, arguments
     return library
 
 
@@ -114,6 +111,13 @@ _LIBRARY = _library()
 
 def _bytes(text: str | bytes) -> bytes:
     return text if isinstance(text, bytes) else text.encode("utf-8", "surrogateescape")
+
+
+def _text(status: int, cause: int = 0, combinator: int = 0) -> str:
+    """What a status says, or a cause if the status is NOT_ACCEPTED."""
+    text = ctypes.create_string_buffer(96)
+    length = _LIBRARY.zugrenja_text(status, cause, combinator, text, len(text))
+    return text.raw[:length].decode()
 
 
 class Matcher:
@@ -167,10 +171,11 @@ class Matcher:
         text, refusal = _bytes(selector), _Refusal()
         status = _LIBRARY.zugrenja_add(self._at, id, text, len(text), ctypes.addressof(refusal))
         if status == NOT_UTF8:
-            raise SelectorError(str(selector), "not UTF-8", 0, 0)
+            raise SelectorError(str(selector), "not UTF-8", _text(status), 0, 0)
         if status == NOT_ACCEPTED:
             combinator = f"({chr(refusal.combinator)})" if refusal.combinator else ""
-            raise SelectorError(str(selector), CAUSES[refusal.cause] + combinator, refusal.item, refusal.offset)
+            says = _text(status, refusal.cause, refusal.combinator)
+            raise SelectorError(str(selector), CAUSES[refusal.cause] + combinator, says, refusal.item, refusal.offset)
         self._check(status)
 
     def _begin(self) -> None:

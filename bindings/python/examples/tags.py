@@ -8,7 +8,7 @@ from collections.abc import Iterable, Iterator
 from pathlib import Path
 
 sys.path.insert(0, str(Path(__file__).resolve().parent.parent))
-from zugrenja import Matcher, SelectorError, TagError  # noqa: E402
+from zugrenja import LIMIT, Matcher, SelectorError, TagError  # noqa: E402
 
 BEFORE = (b"limit", b"esi", b"tries", b"select")
 
@@ -56,7 +56,7 @@ def run(script: bytes) -> tuple[str, int]:
                 try:
                     out.append(answer(matcher, len(out), fields, [b"tries"] in lines))
                 except TagError as error:
-                    return "".join(out) + f"refused {error.reason}\n", 3
+                    return "".join(out) + f"refused {'limit' if error.status == LIMIT else 'counter'}\n", 3
     return "".join(out), 0
 
 

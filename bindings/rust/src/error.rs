@@ -53,28 +53,40 @@ impl Cause {
             _ => panic!("no cause has the number {cause}: the archive is of another version"),
         }
     }
+
+    /// Its number, and the combinator's code point or 0.
+    fn numbers(&self) -> (u32, u32) {
+        match *self {
+            Cause::UnexpectedToken => (0, 0),
+            Cause::UnexpectedEnd => (1, 0),
+            Cause::MissingAttributeName => (2, 0),
+            Cause::EmptySelector => (3, 0),
+            Cause::DanglingCombinator => (4, 0),
+            Cause::UnexpectedTokenInAttribute => (5, 0),
+            Cause::UnsupportedPseudoClassOrElement => (6, 0),
+            Cause::NestedNegation => (7, 0),
+            Cause::NamespacedSelector => (8, 0),
+            Cause::InvalidClassName => (9, 0),
+            Cause::EmptyNegation => (10, 0),
+            Cause::UnsupportedCombinator(combinator) => (11, combinator.into()),
+            Cause::UnsupportedSyntax => (12, 0),
+        }
+    }
 }
 
 impl fmt::Display for Cause {
     fn fmt(&self, f: &mut fmt::Formatter<'_>) -> fmt::Result {
-        f.write_str(match self {
-            Cause::UnexpectedToken => "unexpected token",
-            Cause::UnexpectedEnd => "unexpected end",
-            Cause::MissingAttributeName => "no attribute name after `[`",
-            Cause::EmptySelector => "empty selector",
-            Cause::DanglingCombinator => "nothing after a combinator",
-            Cause::UnexpectedTokenInAttribute => "unexpected token in an attribute selector",
-            Cause::UnsupportedPseudoClassOrElement => "pseudo-class or pseudo-element that isn't supported",
-            Cause::NestedNegation => "`:not` in a `:not`",
-            Cause::NamespacedSelector => "name with a namespace",
-            Cause::InvalidClassName => "no class name after `.`",
-            Cause::EmptyNegation => "empty `:not`",
-            Cause::UnsupportedCombinator(combinator) => {
-                return write!(f, "combinator `{combinator}`, which isn't supported")
-            }
-            Cause::UnsupportedSyntax => "syntax that isn't supported",
-        })
+        let (cause, combinator) = self.numbers();
+        write_text(f, ffi::NOT_ACCEPTED, cause, combinator)
     }
+}
+
+/// Writes what the library says of a status, and of a cause if the status is that of a text that isn't accepted.
+fn write_text(f: &mut fmt::Formatter<'_>, status: u32, cause: u32, combinator: u32) -> fmt::Result {
+    let mut text = [0; ffi::TEXT];
+    // SAFETY: `text` lives.
+    let length = unsafe { ffi::zugrenja_text(status, cause, combinator, text.as_mut_ptr(), text.len()) };
+    f.write_str(&String::from_utf8_lossy(&text[..length]))
 }
 
 /// Why a call was refused. What has changed then stands at each call.
@@ -137,19 +149,18 @@ impl Error {
 
 impl fmt::Display for Error {
     fn fmt(&self, f: &mut fmt::Formatter<'_>) -> fmt::Result {
-        f.write_str(match self {
-            Error::Selector { cause, item, offset } => {
-                return write!(f, "{cause} at byte {offset}, in item {item} of the list")
-            }
-            Error::OutOfMemory => "out of memory",
-            Error::MemoryLimitExceeded => "the open elements would take more than the memory limit",
-            Error::CounterFull => "the parent has as many children as can be counted",
-            Error::TagOutOfMemory => "out of memory for a start tag",
-            Error::Failed => "an earlier start tag was refused",
-            Error::NotAsked => "no start tag waits for its attributes",
-            Error::OutsideText => "an attribute lies outside the text",
-            Error::NotOpened => "the last tag has opened no element",
-        })
+        let status = match self {
+            Error::Selector { cause, item, offset } => return write!(f, "{cause} (item {item}, byte {offset})"),
+            Error::OutOfMemory => ffi::OUT_OF_MEMORY,
+            Error::MemoryLimitExceeded => ffi::LIMIT,
+            Error::CounterFull => ffi::COUNTER,
+            Error::TagOutOfMemory => ffi::TAG_OUT_OF_MEMORY,
+            Error::Failed => ffi::FAILED,
+            Error::NotAsked => ffi::NOT_ASKED,
+            Error::OutsideText => ffi::OUTSIDE,
+            Error::NotOpened => ffi::NOT_OPENED,
+        };
+        write_text(f, status, 0, 0)
     }
 }
 
@@ -160,17 +171,22 @@ mod tests {
     use super::*;
 
     #[test]
-    fn statuses_are_errors_of_their_own() {
-        let statuses = [4, 12, 13, 14, 15, 16, 17, 18];
-        let shown: std::collections::HashSet<_> = statuses.map(|status| Error::of(status).to_string()).into();
-        assert_eq!(shown.len(), statuses.len());
+    fn statuses_are_put_into_words() {
+        assert_eq!(Error::of(4).to_string(), "out of memory");
+        assert_eq!(Error::of(14).to_string(), "out of memory");
+        assert_eq!(Error::of(18).to_string(), "the last tag has opened no element");
+        let shown: std::collections::HashSet<_> = (12..19).map(|status| Error::of(status).to_string()).collect();
+        assert_eq!(shown.len(), 7);
     }
 
     #[test]
     fn causes_are_their_own() {
+        for cause in 0..13 {
+            assert_eq!(Cause::of(cause, 43).numbers().0, cause);
+        }
         let shown: std::collections::HashSet<_> = (0..13).map(|cause| Cause::of(cause, 43).to_string()).collect();
         assert_eq!(shown.len(), 13);
-        assert_eq!(Cause::of(11, 0x7e), Cause::UnsupportedCombinator('~'));
+        assert_eq!(Cause::of(11, 0x7e).to_string(), "Unsupported combinator `~` in selector.");
     }
 
     #[test]

@@ -6,7 +6,7 @@
 //! - a pointer before a length points to as many bytes, numbers or structs, and every other pointer to one value, all of which live;
 //! - what a pointer to `mut` points to overlaps nothing else that is given.
 //!
-//! Nothing else is owed: whatever the numbers, the bytes and the order of the calls, the answer is a status. What single functions write
+//! Nothing else is owed: whatever the numbers, the bytes and the order of the calls, there is an answer. What single functions write
 //! stands at them.
 
 use std::ptr;
@@ -24,6 +24,9 @@ pub const FAILED: u32 = 15;
 pub const NOT_ASKED: u32 = 16;
 pub const OUTSIDE: u32 = 17;
 pub const NOT_OPENED: u32 = 18;
+
+/// `ZUGRENJA_TEXT`.
+pub const TEXT: usize = 96;
 
 /// `zugrenja_matcher`.
 #[repr(C)]
@@ -115,6 +118,9 @@ extern "C" {
 
     /// GOOD, NO_MATCHER.
     pub fn zugrenja_free(matcher: *mut Handle) -> u32;
+
+    /// The length of a text, at most [`TEXT`]. Writes what fits of it. It needs no handle.
+    pub fn zugrenja_text(status: u32, cause: u32, combinator: u32, out: *mut u8, out_len: usize) -> usize;
 
     /// GOOD, BAD_LINE, REFUSED, OUT_OF_MEMORY. Writes `written` always, and of `out` what fits of the output. It needs no handle.
     pub fn zugrenja_run_script(

@@ -178,7 +178,7 @@ impl Builder {
     ///
     /// let refused = Builder::new()?.add(0, "img, a + img").unwrap_err();
     /// assert_eq!(refused, Error::Selector { cause: Cause::UnsupportedCombinator('+'), item: 1, offset: 5 });
-    /// assert_eq!(refused.to_string(), "combinator `+`, which isn't supported at byte 5, in item 1 of the list");
+    /// assert_eq!(refused.to_string(), "Unsupported combinator `+` in selector. (item 1, byte 5)");
     /// # Ok::<(), Error>(())
     /// ```
     pub fn add(&mut self, id: u32, selectors: &str) -> Result<(), Error> {

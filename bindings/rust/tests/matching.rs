@@ -48,7 +48,7 @@ fn each_cause_has_its_place() {
 #[test]
 fn errors_say_cause_and_place() {
     let refused = Matcher::new(["a", "b, c:root"]).unwrap_err();
-    let shown = "pseudo-class or pseudo-element that isn't supported at byte 3, in item 1 of the list";
+    let shown = "Unsupported pseudo-class or pseudo-element in selector. (item 1, byte 3)";
     assert_eq!(refused.to_string(), shown);
     assert!(refused.source().is_none());
     let boxed: Box<dyn std::error::Error + Send + Sync> = refused.into();

@@ -2,3 +2,4 @@ pub mod Numbers
 pub mod Held
 pub mod Sessions
 pub mod Tags
+pub mod Texts

@@ -14,6 +14,7 @@ mod status;
 mod tags;
 #[cfg(test)]
 mod tests;
+mod texts;
 
 ghost use Rattle.std.specs.Prelude.{◌≡◌, ◌≢◌, length};
 ghost use Rattle.lol_script.specs.Scripts.{output};
