@@ -64,7 +64,8 @@ static void call_new(model *m) {
 static void call_add(model *m) {
     zugrenja_refusal refusal = {99, 99, 99, 99};
     text t = word(TEXTS, sizeof TEXTS / sizeof *TEXTS);
-    uint32_t status = zugrenja_add(&m->matcher, draw(300), t.bytes, t.len, &refusal);
+    uint32_t ids[] = {draw(300), draw(300), UINT32_MAX - draw(3), draw(UINT32_MAX) * 2 + draw(2)};
+    uint32_t status = zugrenja_add(&m->matcher, ids[draw(4)], t.bytes, t.len, &refusal);
     if (m->stage != ADDING) {
         assert(status == (m->stage == NONE ? ZUGRENJA_NO_MATCHER : ZUGRENJA_BUILT));
     } else {
@@ -180,13 +181,22 @@ static void call_value(model *m) {
     }
 }
 
+static void call_text(model *m) {
+    uint8_t text[ZUGRENJA_TEXT + 1];
+    size_t room = draw(sizeof text);
+    memset(text, 0, sizeof text);
+    size_t length = zugrenja_text(m->stage == NONE ? draw(UINT32_MAX) : draw(20), draw(14), draw(2) ? '+' : draw(128), room ? text : NULL, room);
+    assert(length > 0 && length <= ZUGRENJA_TEXT);
+    assert(strlen((const char *)text) == (length < room ? length : room));
+}
+
 static void call_free(model *m) {
     assert(zugrenja_free(&m->matcher) == (m->stage == NONE ? ZUGRENJA_NO_MATCHER : ZUGRENJA_GOOD));
     m->stage = NONE;
 }
 
 int main(int argc, char **argv) {
-    static void (*const CALLS[])(model *) = {call_new, call_add, call_build, call_start, call_finish, call_end, call_report, call_value};
+    static void (*const CALLS[])(model *) = {call_new, call_add, call_build, call_start, call_finish, call_end, call_report, call_value, call_text};
     static model models[HANDLES];
     unsigned long count = argc > 1 ? strtoul(argv[1], NULL, 10) : 100000;
     state = argc > 2 ? strtoull(argv[2], NULL, 10) : 1;
@@ -198,8 +208,8 @@ int main(int argc, char **argv) {
         } else if (kind < 3 && m->stage == ADDING) {
             call_build(m);
         } else {
-            uint32_t chosen = draw(m->stage == ADDING && draw(40) ? 2 : 12);
-            CALLS[chosen < 8 ? chosen : 3 + chosen % 2](m);
+            uint32_t chosen = draw(m->stage == ADDING && draw(40) ? 2 : 13);
+            CALLS[chosen < 9 ? chosen : 3 + chosen % 2](m);
         }
     }
     for (int place = 0; place < HANDLES; place++) {

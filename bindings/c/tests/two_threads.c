@@ -1,7 +1,10 @@
-/* Two threads with a matcher each: both get the answers of one. */
+/* Two threads with a matcher each: both get the answers of one. two_threads [TAGS], which each is told of. */
 #include "zugrenja.h"
 #include <pthread.h>
 #include <stdio.h>
+#include <stdlib.h>
+
+static size_t tags = 200000;
 
 /* Tells a matcher of its own of many tags: a sum over what is reported, or 0 if a call is refused. */
 static void *tell(void *sum_out) {
@@ -11,7 +14,7 @@ static void *tell(void *sum_out) {
     if (zugrenja_new(&m, SIZE_MAX, 64, 0) || zugrenja_add(&m, 3, (const uint8_t *)"div > p, p p", 12, &refusal) || zugrenja_build(&m)) {
         return NULL;
     }
-    for (size_t tag = 1; tag <= 200000; tag++) {
+    for (size_t tag = 1; tag <= tags; tag++) {
         const char *name = tag % 3 ? "p" : "div";
         if (zugrenja_start(&m, (const uint8_t *)name, tag % 3 ? 1 : 3, ZUGRENJA_HTML, &matched)) {
             return NULL;
@@ -26,9 +29,10 @@ static void *tell(void *sum_out) {
     return NULL;
 }
 
-int main(void) {
+int main(int argc, char **argv) {
     pthread_t threads[2];
     size_t alone = 0, sums[2] = {0, 0};
+    tags = argc > 1 ? strtoul(argv[1], NULL, 10) : tags;
     tell(&alone);
     for (int thread = 0; thread < 2; thread++) {
         if (pthread_create(&threads[thread], NULL, tell, &sums[thread])) {
