@@ -1,5 +1,5 @@
 //! Links `libzugrenja_c.a`, and `liblibc_c.a`, through which it asks for memory. They are sought in the folder that `ZUGRENJA_LIB_DIR`
-//! names; without it, where the repository's builds leave them, and in the kit that `rt` belongs to.
+//! names; without it, where the repository's builds leave them, and in the kit that `rt` belongs to. The one made last is taken.
 
 use std::env;
 use std::path::{Path, PathBuf};
@@ -28,14 +28,18 @@ fn main() {
     let folders = folders();
     for archive in ARCHIVES {
         let file = format!("lib{archive}.a");
-        let Some(folder) = folders.iter().find(|folder| folder.join(&file).is_file()) else {
+        let found: Vec<_> = folders.iter().map(|folder| folder.join(&file)).filter(|file| file.is_file()).collect();
+        let made = |file: &&PathBuf| file.metadata().and_then(|file| file.modified()).ok();
+        let Some(folder) = found.iter().max_by_key(made).and_then(|file| file.parent()) else {
             let sought: Vec<_> = folders.iter().map(|folder| folder.display().to_string()).collect();
             panic!(
                 "no {file} in {}: `rt lib` in crates/zugrenja_c builds it, or set ZUGRENJA_LIB_DIR",
                 sought.join(", ")
             );
         };
-        println!("cargo:rerun-if-changed={}", folder.join(&file).display());
+        for file in &found {
+            println!("cargo:rerun-if-changed={}", file.display());
+        }
         println!("cargo:rustc-link-search=native={}", folder.display());
         println!("cargo:rustc-link-lib=static={archive}");
     }
