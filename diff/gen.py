@@ -234,15 +234,42 @@ def many_ids(r: random.Random) -> list:
     return settings(r) + lines + Tags(r, words).lines(r.choice((3, 10)))
 
 
+def many_selectors(r: random.Random) -> list:
+    """Hundreds or thousands of selectors: most name a class, an id or an attribute that few others name."""
+    words = Vocabulary(r, NAMES, ATTRIBUTES)
+    selectors = Selectors(r, words, r.random() < 0.8)
+    count = r.choices((500, 1000, 2000, 5000), (12, 5, 2, 1))[0]
+    drawn = lambda: r.randrange(count // 2)
+
+    def text() -> str:
+        name = selectors.name()
+        return r.choice((f".c{drawn()}", f"#i{drawn()}", f"{name}.c{drawn()}", f"{name} > .c{drawn()}", f"{name}:not(.c{drawn()})",
+                         f".c{drawn()} .c{drawn()}", f"[data-a{drawn()}]", f'{name}[id="i{drawn()}"]', selectors.item(2)))
+
+    def start() -> bytes:
+        return b"%s\tclass=%s\tid=i%d" % (tags.start((0,)), " ".join(f"c{drawn()}" for _ in range(r.choice((1, 2, 4)))).encode(), drawn())
+
+    ids = [r.choice((number, identity(r))) for number in range(count)]
+    tags = Tags(r, words)
+    lines = settings(r) + [select(number, text()) for number in ids]
+    return lines + [r.choice((start, start, tags.start, tags.end))() for _ in range(r.choice((3, 8)))]
+
+
+# How often each kind is drawn, where none is asked for. `many_selectors` is drawn only where it is.
 KINDS = {matching: 46, odd_names: 8, without_case: 7, each_without_case: 6, refused: 14, bad_line: 6, limits: 4,
          deep: 3, wide: 2,
          long_values: 2, many_ids: 2, great_selectors: 1}
 
 
-def case(seed: int, number: int) -> bytes:
-    """The script of this number under this seed."""
+def kind_named(name: str):
+    """The kind of this name."""
+    return {kind.__name__: kind for kind in (*KINDS, many_selectors)}[name]
+
+
+def case(seed: int, number: int, kind=None) -> bytes:
+    """The script of this number under this seed, of a kind if one is given."""
     r = random.Random(f"{seed} {number}")
-    lines = r.choices(list(KINDS), list(KINDS.values()))[0](r)
+    lines = (kind or r.choices(list(KINDS), list(KINDS.values()))[0])(r)
     if r.random() < 0.04:
         lines.insert(r.randrange(len(lines) + 1), b"")
     return b"\n".join(lines) + r.choice((b"\n",) * 20 + (b"",))
