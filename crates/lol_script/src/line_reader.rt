@@ -12,10 +12,16 @@ use std::alloc::Global;
 use std::io::Read;
 use std::marker::Model;
 
-/// The lines of a reader, one by one. LF ends a line, but for the last. It takes the memory of 64 KB and a line.
+/// How many bytes are read at a time.
+const CHUNK_LEN: usize = 65536;
+
+/// The lines of a reader, one by one. LF ends a line, but for the last. It takes the memory of 128 KB and a line.
 #[derive(Drop)]
 pub struct LineReader {
     bytes: Vec<u8>,
+
+    /// Where a read puts its bytes. It has its length with the first read.
+    chunk: Vec<u8>,
 
     // The line.
     start: usize,
@@ -50,6 +56,7 @@ impl LineReader {
     {
         LineReader {
             bytes: Vec::new(alloc),
+            chunk: Vec::new(alloc),
             start: 0,
             end: 0,
             next: 0,
@@ -101,7 +108,8 @@ impl LineReader {
         self.start = 0;
         self.end = 0;
         self.next = 0;
-        let place = read_to_line_feed(&mut self.bytes, reader)?;
+        make_chunk(&mut self.chunk)?;
+        let place = read_to_line_feed(&mut self.bytes, &mut self.chunk, reader)?;
         self.go_to(place);
         Ok(())
     }
@@ -148,15 +156,27 @@ fn forget_first(bytes: &mut Vec<u8>, count: usize)
     bytes.truncate(kept);
 }
 
+/// Gives the chunk its length, unless it has it.
+fn make_chunk(chunk: &mut Vec<u8>) -> Result<(), RunFault>
+    ensures room { OnOk result (0 < length chunk.new.items) }
+    ensures fault { IfErr result (λ fault. fault ≡ RunFault.Memory) }
+{
+    if chunk.is_empty() && chunk.resize(CHUNK_LEN, 0).is_err() {
+        return Err(RunFault::Memory);
+    }
+    Ok(())
+}
+
 /// Appends what is read, up to the first LF or the end, and returns the place of that LF. Where one comes, more may be appended after it.
-// Inlined, its 64 KB would be stepped through on the stack for each line.
 #[inline(never)]
 fn read_to_line_feed<R: Read>(
     bytes: &mut Vec<u8>,
+    chunk: &mut [u8],
     reader: &mut Counted<R>,
 ) -> Result<Option<usize>, RunFault>
     requires failures { failures_of reader.old < u64.MAX }
     requires none { list_any is_line_feed bytes.old.items ≡ false }
+    requires room { 0 < length chunk.old }
     ensures read { OnOk result ((more : List ℕ)
         × Reads R.remaining reader.old reader.new more × (bytes.new.items ≡ bytes.old.items ++ more)) }
     ensures kept { (more : List ℕ) × (bytes.new.items ≡ bytes.old.items ++ more) }
@@ -165,10 +185,9 @@ fn read_to_line_feed<R: Read>(
     ensures fault { IfErr result (λ fault. IsReadFault reader.old reader.new fault) }
     ensures unchanged { OnOk result (failures_of reader.new ≡ failures_of reader.old) }
 {
-    let mut chunk = [0u8; 65536];
     loop {
         let scanned = bytes.len();
-        let count = reader.read(&mut chunk)?;
+        let count = reader.read(chunk)?;
         if count == 0 {
             return Ok(None);
         }

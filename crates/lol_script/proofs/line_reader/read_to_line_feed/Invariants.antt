@@ -10,7 +10,7 @@ invariant-loop-count g l =
       read : (more : List ℕ) × Reads g.R.Read.remaining l.fn.reader l.reader more × (l.bytes.items ≡ l.fn.bytes.items ++ more);
       none : list_any is_line_feed l.bytes.items ≡ false;
       failures : failures_of l.reader ≡ failures_of l.fn.reader;
-      room : length l.chunk ≡ 65536;
+      room : length l.chunk ≡ length l.fn.chunk;
     }
 
 abbrev pub decreases-loop-count : goal.decreases-loop-count
