@@ -1,6 +1,6 @@
 //! The lines of a run as they are written.
 
-ghost use Rattle.std.specs.Prelude.{◌≡◌, ◌∷◌, [], ◌++◌, OnOk, decimal, false, true};
+ghost use Rattle.std.specs.Prelude.{◌≡◌, ◌∷◌, [], ◌++◌, ◌≤◌, OnOk, decimal, false, true};
 ghost use Rattle.lol_base.specs.CodePoints.{line_feed};
 ghost use Rattle.lol_vm.specs.Views.{match_of};
 ghost use Rattle.lol_instructions.specs.Tries.{names_counted, attributes_counted};
@@ -94,16 +94,24 @@ impl FieldList {
     }
 }
 
-/// Adds a number in decimal digits.
-#[tactic(auto, using(std::proofs::lemmas::Fmt::decimal_digit, std::proofs::lemmas::Fmt::decimal_step))]
+/// Adds a number in decimal digits. Most have one.
+#[tactic(auto, using(std::proofs::lemmas::Fmt::decimal_digit))]
+#[inline(always)]
 pub fn push_number(text: &mut Vec<u8>, number: u64) -> Result<(), AllocError>
     ensures { OnOk result (text.new.items ≡ text.old.items ++ decimal number) }
 {
-    // Most ids have one digit or two.
     if number < 10 {
         text.push(b'0' + number as u8)?;
         return Ok(());
     }
+    push_digits(text, number)
+}
+
+/// Adds a number of several digits.
+fn push_digits(text: &mut Vec<u8>, number: u64) -> Result<(), AllocError>
+    requires { 10 ≤ number }
+    ensures { OnOk result (text.new.items ≡ text.old.items ++ decimal number) }
+{
     if number < 100 {
         text.push(b'0' + (number / 10) as u8)?;
         text.push(b'0' + (number % 10) as u8)?;
