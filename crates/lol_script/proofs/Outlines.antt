@@ -1,13 +1,13 @@
 -- Attributes at their outlines.
-use Rattle.std.proofs.Common.{◌≡◌, ℕ, ◌+◌, ◌-◌, ◌≤◌, cond, List, [], ◌∷◌, ◌++◌, length, length-take, map, take, drop, position, Option, Some, None, sym, ap, ◌∙◌, arith, append_assoc}
+use Rattle.std.proofs.Common.{◌≡◌, ℕ, ◌+◌, ◌-◌, ◌≤◌, ◌&&◌, Bool, true, false, refl, cond, List, [], ◌∷◌, ◌++◌, length, length-take, map, take, drop, position, Option, Some, None, sym, ap, ◌∙◌, arith, append_assoc}
 use Rattle.std.specs.Prelude.{slice_range}
-use Rattle.std.specs.List.{slice_split, position_or_len}
+use Rattle.std.specs.List.{list_all, slice_split, position_or_len}
 use Rattle.std.proofs.lemmas.List.{take_all, take-take, drop-take, drop-drop, take_rest, map_push}
 use Rattle.std.proofs.lemmas.List.Folds.{list_any_at, list_any_none}
 use Rattle.std.proofs.lemmas.List.Sums.{fails_before_first, passes_at_first}
 use Rattle.lol_base.specs.StartTags.{Attribute, attribute_of}
 use Rattle.lol_base.specs.declared.start_tag.AttributeOutline.{AttributeOutline}
-use Rattle.lol_script.specs.Script.{is_tab, is_equals, attribute_at}
+use Rattle.lol_script.specs.Script.{is_tab, is_equals, is_named, attribute_at}
 use Rattle.lol_script.proofs.Fields.{pos_in, pos_at, within_position, split_none, split_some}
 
 abbrev attribute_with : List ℕ → Option (List ℕ) → Attribute
@@ -63,3 +63,29 @@ module _ (text : List ℕ) (outlines : List AttributeOutline) (outline : Attribu
       map_push (attribute_of text) outlines outline
       ∙ ap (λ (attributes : List Attribute). map (attribute_of text) outlines ++ attributes)
       (ap (λ (a : Attribute). a ∷ []) (is ∙ ap attribute_at (take_rest text start)) ∙ sym (ap (map attribute_at) (split_none (drop start text) h)))
+
+abbrev are_named : List (List ℕ) → Bool
+are_named fields = list_all is_named (map attribute_at fields)
+
+both_named : (named first one rest : Bool) → first ≡ one → ((named && first) && rest) ≡ (named && (one && rest))
+both_named true first one rest same = ap (λ (b : Bool). b && rest) same
+both_named false first one rest same = refl
+
+module _ (text : List ℕ) (start : ℕ) (named first : Bool) where
+  -- whether the fields up to a tab and after it are named
+  pub names_more : (place : ℕ) → position is_tab (drop start text) ≡ Some place → first ≡ is_named (attribute_at (slice_range text start (start + place)))
+      → ((named && first) && are_named (slice_split is_tab (drop (start + (place + 1)) text))) ≡ (named && are_named (slice_split is_tab (drop start text)))
+  names_more place h is =
+      let field : slice_range text start (start + place) ≡ take place (drop start text) = ap (λ k. take k (drop start text)) (omega arith) in
+      let split : slice_split is_tab (drop start text) ≡ take place (drop start text) ∷ slice_split is_tab (drop (start + (place + 1)) text) =
+      split_some (drop start text) place h ∙ ap (λ rest. take place (drop start text) ∷ slice_split is_tab rest) (drop-drop (place + 1) start text) in
+      both_named named first _ _ (is ∙ ap (λ f. is_named (attribute_at f)) field) ∙ ap (λ fields. named && are_named fields) (sym split)
+
+  -- and whether the last field is
+  pub names_last : position is_tab (drop start text) ≡ None → first ≡ is_named (attribute_at (drop start text))
+      → (named && first) ≡ (named && are_named (slice_split is_tab (drop start text)))
+  names_last h is = ap (λ (b : Bool). named && b) (is ∙ one (is_named (attribute_at (drop start text)))) ∙ ap (λ fields. named && are_named fields) (sym (split_none (drop start text) h))
+    where
+      one : (b : Bool) → b ≡ (b && true)
+      one true = refl
+      one false = refl

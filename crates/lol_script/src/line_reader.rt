@@ -15,7 +15,7 @@ use std::marker::Model;
 /// How many bytes are read at a time.
 const CHUNK_LEN: usize = 65536;
 
-/// The lines of a reader, one by one. LF ends a line, but for the last. It takes the memory of 128 KB and a line.
+/// The lines of a reader, one by one. LF ends a line, but for the last. It takes the memory of 128 KB, or of 64 KB and the longest line.
 #[derive(Drop)]
 pub struct LineReader {
     bytes: Vec<u8>,

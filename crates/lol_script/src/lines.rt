@@ -1,14 +1,17 @@
 //! The lines of a script.
 
-ghost use Rattle.std.specs.Prelude.{◌≡◌, ◌≢◌, ◌<◌, ◌∷◌, ◌++◌, ◌==◌, [], List, ℕ, MatchOption, IfSome, IfNone, Some, None, Bool, true, false, map, length, option_map, position, if◌then◌else◌};
+ghost use Rattle.std.specs.Prelude.{◌≡◌, ◌≢◌, ◌<◌, ◌∷◌, ◌++◌, ◌==◌, [], List, ℕ, MatchOption, IfOk, IfSome, IfNone, Some, None, Bool, true, false, map, length, option_map, position, if◌then◌else◌};
 ghost use Rattle.std.specs.Str.{is_utf8};
 ghost use Rattle.std.specs.List.{slice_split, list_all};
 ghost use Rattle.lol_base.specs.CodePoints.{tab};
 ghost use Rattle.lol_script.specs.Script.{is_tab, is_named, attribute_at, namespace_at, number_up_to, limit_at, select_at, start_at, end_at, of_kind, line_at};
-ghost use Rattle.lol_script.specs.Lines.{fields_of, said_by};
+ghost use Rattle.lol_base.specs.declared.start_tag.AttributeOutline.{AttributeOutline};
+ghost use Rattle.lol_script.specs.Lines.{HasOutlines, fields_of, said_by};
 
-use lol_vm::Namespace;
+use crate::tags::cut_attributes;
+use lol_vm::{AttributeBuffer, Namespace};
 use memchr::memchr;
+use std::alloc::AllocError;
 
 /// What a line says.
 #[derive(Clone, Copy, Debug, PartialEq, Eq)]
@@ -132,7 +135,8 @@ fn text_of(bytes: &[u8]) -> Option<&str>
 
 #[tactic(auto, using(crate::proofs::Fields::limit_too_long))]
 fn limit_of(rest: &[u8]) -> Option<Line<'_>>
-    ensures { option_map said_by result ≡ limit_at (slice_split is_tab rest.now) }
+    ensures said { option_map said_by result ≡ limit_at (slice_split is_tab rest.now) }
+    ensures outlines { (outlines : List AttributeOutline) → IfSome result (HasOutlines outlines) }
 {
     if cut(rest).is_some() {
         return None;
@@ -143,7 +147,8 @@ fn limit_of(rest: &[u8]) -> Option<Line<'_>>
 
 #[tactic(auto, using(crate::proofs::Fields::select_by_cut))]
 fn select_of(rest: &[u8]) -> Option<Line<'_>>
-    ensures { option_map said_by result ≡ select_at (slice_split is_tab rest.now) }
+    ensures said { option_map said_by result ≡ select_at (slice_split is_tab rest.now) }
+    ensures outlines { (outlines : List AttributeOutline) → IfSome result (HasOutlines outlines) }
 {
     let (digits, text) = cut(rest)?;
     let id = id_of(digits)?;
@@ -174,62 +179,67 @@ fn namespace_of(field: &[u8]) -> Option<(Namespace, bool)>
 }
 
 /// Whether an attribute has a name.
-fn has_name(attribute: &[u8]) -> bool
+#[inline(always)]
+pub fn has_name(attribute: &[u8]) -> bool
     ensures { result ≡ is_named (attribute_at attribute.now) }
 {
     attribute.first().is_some_and(|b| *b != b'=')
 }
 
-/// Whether each attribute has a name.
-fn have_names(attributes: &[u8]) -> bool
-    ensures { result ≡ list_all is_named (map attribute_at (slice_split is_tab attributes.now)) }
-{
-    let mut rest = attributes;
-    while let Some((attribute, others)) = cut(rest) {
-        if !has_name(attribute) {
-            return false;
-        }
-        rest = others;
-    }
-    has_name(rest)
-}
-
-/// A start tag in a namespace, by what follows that, which may be that it closes itself.
+/// A start tag in a namespace, by what follows that, which may be that it closes itself. Its attributes are cut into the outlines.
 #[inline(always)]
-fn start_in(namespace: (Namespace, bool), rest: &[u8], finish: bool) -> Option<Line<'_>>
-    ensures { (field : List ℕ) → Some namespace ≡ namespace_at field
-        → option_map said_by result ≡ start_at finish (field ∷ slice_split is_tab rest.now) }
+fn start_in<'s>(
+    namespace: (Namespace, bool),
+    rest: &'s [u8],
+    finish: bool,
+    outlines: &mut AttributeBuffer,
+) -> Result<Option<Line<'s>>, AllocError>
+    ensures said { IfOk result (λ line. (field : List ℕ) → Some namespace ≡ namespace_at field
+        → option_map said_by line ≡ start_at finish (field ∷ slice_split is_tab rest.now)) }
+    ensures outlines { IfOk result (λ line. IfSome line (HasOutlines outlines.new.items)) }
 {
     let (name, attributes) = first_field(rest);
-    if name.is_empty() || !attributes.is_none_or(have_names) {
-        return None;
+    let named = cut_attributes(attributes, outlines)?;
+    if name.is_empty() || !named {
+        return Ok(None);
     }
     let (ns, self_closing) = namespace;
-    Some(Line::Start(StartLine {
+    Ok(Some(Line::Start(StartLine {
         name,
         ns,
         self_closing,
         attributes,
         finish,
-    }))
+    })))
 }
 
 /// A start tag, by what follows the kind of its line. Most are of HTML.
 #[inline(always)]
-fn start_of(rest: &[u8], finish: bool) -> Option<Line<'_>>
-    ensures { option_map said_by result ≡ start_at finish (slice_split is_tab rest.now) }
+fn start_of<'s>(
+    rest: &'s [u8],
+    finish: bool,
+    outlines: &mut AttributeBuffer,
+) -> Result<Option<Line<'s>>, AllocError>
+    ensures said { IfOk result (λ line. option_map said_by line ≡ start_at finish (slice_split is_tab rest.now)) }
+    ensures outlines { IfOk result (λ line. IfSome line (HasOutlines outlines.new.items)) }
 {
     if let Some(rest) = after_kind(rest, b"html") {
-        return start_in((Namespace::Html, false), rest, finish);
+        return start_in((Namespace::Html, false), rest, finish, outlines);
     }
-    let (namespace, rest) = cut(rest)?;
-    start_in(namespace_of(namespace)?, rest, finish)
+    let Some((namespace, rest)) = cut(rest) else {
+        return Ok(None);
+    };
+    match namespace_of(namespace) {
+        Some(namespace) => start_in(namespace, rest, finish, outlines),
+        None => Ok(None),
+    }
 }
 
 #[tactic(auto, using(crate::proofs::Fields::end_too_long))]
 #[inline(always)]
 fn end_of(rest: &[u8]) -> Option<Line<'_>>
-    ensures { option_map said_by result ≡ end_at (slice_split is_tab rest.now) }
+    ensures said { option_map said_by result ≡ end_at (slice_split is_tab rest.now) }
+    ensures outlines { (outlines : List AttributeOutline) → IfSome result (HasOutlines outlines) }
 {
     if cut(rest).is_some() || rest.is_empty() {
         return None;
@@ -251,7 +261,8 @@ fn after_kind<'s>(bytes: &'s [u8], kind: &[u8]) -> Option<&'s [u8]>
 
 /// A line of one field.
 fn bare_line(kind: &[u8]) -> Option<Line<'static>>
-    ensures { option_map said_by result ≡ of_kind kind.now [] }
+    ensures said { option_map said_by result ≡ of_kind kind.now [] }
+    ensures outlines { (outlines : List AttributeOutline) → IfSome result (HasOutlines outlines) }
 {
     if kind == b"esi".as_slice() {
         Some(Line::Setting(Setting::Esi))
@@ -262,22 +273,29 @@ fn bare_line(kind: &[u8]) -> Option<Line<'static>>
     }
 }
 
-/// What a line says, or nothing where it has none of the forms.
+/// What a line says, or nothing where it has none of the forms. The attributes of a start tag are cut into the outlines.
+///
+/// # Errors
+/// `AllocError`, out of memory.
 #[inline(always)]
-pub fn line_of(bytes: &[u8]) -> Option<Line<'_>>
-    ensures { option_map said_by result ≡ line_at bytes.now }
+pub fn line_of<'s>(
+    bytes: &'s [u8],
+    outlines: &mut AttributeBuffer,
+) -> Result<Option<Line<'s>>, AllocError>
+    ensures said { IfOk result (λ line. option_map said_by line ≡ line_at bytes.now) }
+    ensures outlines { IfOk result (λ line. IfSome line (HasOutlines outlines.new.items)) }
 {
     if let Some(rest) = after_kind(bytes, b"start") {
-        start_of(rest, true)
+        start_of(rest, true, outlines)
     } else if let Some(rest) = after_kind(bytes, b"end") {
-        end_of(rest)
+        Ok(end_of(rest))
     } else if let Some(rest) = after_kind(bytes, b"drop") {
-        start_of(rest, false)
+        start_of(rest, false, outlines)
     } else if let Some(rest) = after_kind(bytes, b"select") {
-        select_of(rest)
+        Ok(select_of(rest))
     } else if let Some(rest) = after_kind(bytes, b"limit") {
-        limit_of(rest)
+        Ok(limit_of(rest))
     } else {
-        bare_line(bytes)
+        Ok(bare_line(bytes))
     }
 }

@@ -30,7 +30,7 @@ pub enum Status {
 }
 
 /// Reads a script to its end, answering each tag as its line is read, and writes its output whole (docs/SCRIPT.md). It takes the memory of
-/// the output, of the open elements, and of 64 KB or the longest line.
+/// the output, of the open elements, of 64 KB for reads, and of 64 KB or the longest line.
 ///
 /// # Errors
 /// `Memory` where memory was refused, `Read` where a read failed: then nothing is written. `Write` where a write failed: then a

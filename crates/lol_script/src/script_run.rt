@@ -9,7 +9,7 @@ ghost use Rattle.lol_vm.specs.RunRefusals.{StopsFor, allowance_of};
 ghost use Rattle.lol_vm.specs.Views.{match_of};
 ghost use Rattle.lol_script.specs.Answering.{Answers, ForAnswers, HasTags, IsEnded, IsStarted, IsTagIfFirst};
 ghost use Rattle.lol_script.specs.FieldLists.{AddsField};
-ghost use Rattle.lol_script.specs.Lines.{start_tag_of};
+ghost use Rattle.lol_script.specs.Lines.{AreOutlinesOf, start_tag_of};
 ghost use Rattle.lol_script.specs.Output.{shown_match};
 ghost use Rattle.lol_script.specs.Readings.{ForReading, Stops};
 ghost use Rattle.lol_script.specs.Scripts as scripts;
@@ -78,21 +78,23 @@ impl ScriptRun {
         if line.is_empty() {
             return Ok(());
         }
-        match line_of(line) {
-            Some(Line::Start(start)) => match self.take_start(start) {
+        match line_of(line, &mut self.outlines) {
+            Ok(Some(Line::Start(start))) => match self.take_start(start) {
                 Ok(()) => Ok(()),
                 Err(_) => Err(Stop::Fault(RunFault::Memory)),
             },
-            Some(Line::End { name }) => match self.take_end(name) {
+            Ok(Some(Line::End { name })) => match self.take_end(name) {
                 Ok(()) => Ok(()),
                 Err(_) => Err(Stop::Fault(RunFault::Memory)),
             },
-            None | Some(Line::Setting(_)) => Err(malformed(number)),
+            Ok(None) | Ok(Some(Line::Setting(_))) => Err(malformed(number)),
+            Err(_) => Err(Stop::Fault(RunFault::Memory)),
         }
     }
 
-    /// Answers a start tag, unless a tag was refused.
+    /// Answers a start tag, whose attributes were cut, unless a tag was refused.
     fn take_start(&mut self, line: StartLine<'_>) -> Result<(), AllocError>
+        requires { AreOutlinesOf line.attributes self.old.outlines.items }
         ensures { OnOk result (ForAnswers self.old (λ s.
             Answers self.new (with_event s (Start (start_tag_of line.entry))))) }
     {
@@ -102,7 +104,7 @@ impl ScriptRun {
         let answered = answer_start(
             &mut self.run,
             line,
-            &mut self.outlines,
+            &self.outlines,
             &mut self.limiter,
             &mut self.fields,
         );
@@ -167,10 +169,11 @@ impl ScriptRun {
 fn answer_start(
     run: &mut EventRun,
     line: StartLine<'_>,
-    outlines: &mut AttributeBuffer,
+    outlines: &AttributeBuffer,
     limiter: &mut SharedMemoryLimiter,
     matched: &mut FieldList,
 ) -> Result<Option<bool>, RunCause>
+    requires { AreOutlinesOf line.attributes outlines.now.items }
     ensures goes { IfOk result (λ taken. ForRunOfEvents run.old limiter.old (λ s esi item_bytes before events.
         IsStarted s esi item_bytes before run.new events (start_tag_of line.entry) limiter.new taken matched.new)) }
     ensures refused { IfErr result (λ cause. cause ≢ RunCause.Memory
@@ -179,9 +182,7 @@ fn answer_start(
         (refused s esi (allowance_of item_bytes before) (events ++ Start (start_tag_of line.entry) ∷ later)))) }
 {
     matched.clear();
-    let Ok(rest) = handed_over(line, outlines) else {
-        return Err(RunCause::Memory);
-    };
+    let rest = handed_over(line, outlines);
     let mut handler = |info: MatchInfo|
         ensures { AddsField (shown_match (match_of info)) matched.entry.now matched.exit.now }
     {

@@ -16,7 +16,7 @@ use crate::bad_line::{BadLine, Cause};
 use crate::device::{Counted, RunFault};
 use crate::line_reader::LineReader;
 use crate::lines::{Line, Setting, line_of};
-use lol_vm::{Ast, Selector, SelectorError};
+use lol_vm::{Ast, AttributeBuffer, Selector, SelectorError};
 use std::alloc::Global;
 use std::io::Read;
 
@@ -56,7 +56,13 @@ impl Settings {
     }
 
     /// Takes a line; returns false where it is that of a tag, and is left.
-    fn take_line(&mut self, alloc: Global, number: usize, line: &[u8]) -> Result<bool, Stop>
+    fn take_line(
+        &mut self,
+        alloc: Global,
+        number: usize,
+        line: &[u8],
+        outlines: &mut AttributeBuffer,
+    ) -> Result<bool, Stop>
         ensures taken { IfOk result (λ taken. ForReading self.old (λ s.
             MatchBool taken (ReadsScript self.new (with_bytes number s line.now))
             ((self.new ≡ self.old) × IsTagLine (line_at line.now)))) }
@@ -65,13 +71,14 @@ impl Settings {
         if line.is_empty() {
             return Ok(true);
         }
-        match line_of(line) {
-            None => Err(malformed(number)),
-            Some(Line::Setting(setting)) => {
+        match line_of(line, outlines) {
+            Err(_) => Err(Stop::Fault(RunFault::Memory)),
+            Ok(None) => Err(malformed(number)),
+            Ok(Some(Line::Setting(setting))) => {
                 self.take(alloc, number, setting)?;
                 Ok(true)
             }
-            Some(Line::Start(_)) | Some(Line::End { .. }) => Ok(false),
+            Ok(Some(Line::Start(_))) | Ok(Some(Line::End { .. })) => Ok(false),
         }
     }
 
@@ -143,11 +150,12 @@ pub fn read_settings<R: Read>(
     ensures unchanged { OnOk result (failures_of reader.new ≡ failures_of reader.old) }
 {
     let mut settings = Settings::new(alloc);
+    let mut outlines = AttributeBuffer::new(alloc);
     loop {
         if let Err(fault) = lines.advance(reader) {
             return Err(Stop::Fault(fault));
         }
-        if !settings.take_line(alloc, lines.number(), lines.line())? {
+        if !settings.take_line(alloc, lines.number(), lines.line(), &mut outlines)? {
             return Ok(Some(settings));
         }
         if lines.is_last() {

@@ -1,12 +1,13 @@
 //! The tags of a script.
 
-ghost use Rattle.std.specs.Prelude.{◌≡◌, ◌≤◌, IfOk, IfSome, OnOk, All, length, position, slice_range};
+ghost use Rattle.std.specs.Prelude.{◌≡◌, ◌≤◌, IfOk, IfSome, OnOk, All, length, map, position, slice_range};
+ghost use Rattle.std.specs.List.{list_all, slice_split};
 ghost use Rattle.lol_base.specs.StartTags.{attribute_of, OutlineIsInside, RangesAreInside};
 ghost use Rattle.lol_vm.specs.Follows.{IsHandedOver};
-ghost use Rattle.lol_script.specs.Script.{is_equals, attribute_at};
-ghost use Rattle.lol_script.specs.Lines.{AreOutlinesOf, start_tag_of};
+ghost use Rattle.lol_script.specs.Script.{is_equals, is_named, is_tab, attribute_at};
+ghost use Rattle.lol_script.specs.Lines.{AreOutlinesOf, fields_of, start_tag_of};
 
-use crate::lines::{StartLine, byte_place};
+use crate::lines::{StartLine, byte_place, has_name};
 use lol_vm::{AttributeBuffer, AttributeOutline, AuxStartTagInfo, Bytes, Range};
 use std::alloc::AllocError;
 
@@ -38,44 +39,61 @@ fn outline_of(text: &[u8], start: usize, end: usize) -> AttributeOutline
     }
 }
 
-/// Writes the outlines of attributes that are separated by TAB in the place of those that are there.
-pub fn fill_outlines(outlines: &mut AttributeBuffer, text: &[u8]) -> Result<(), AllocError>
-    ensures attributes { OnOk result (AreOutlinesOf text.now outlines.new.items) }
+/// Writes the outlines of attributes that are separated by TAB in the place of those that are there. Returns whether each has a name.
+fn fill_outlines(outlines: &mut AttributeBuffer, text: &[u8]) -> Result<bool, AllocError>
+    ensures named { IfOk result (λ named.
+        named ≡ list_all is_named (map attribute_at (slice_split is_tab text.now))) }
+    ensures attributes { OnOk result
+        (map (attribute_of text.now) outlines.new.items ≡ map attribute_at (slice_split is_tab text.now)) }
     ensures inside { OnOk result (All (OutlineIsInside text.now) outlines.new.items) }
 {
     outlines.clear();
+    let mut named = true;
     let mut start = 0;
     while let Some(place) = byte_place(b'\t', &text[start..]) {
+        named &= has_name(&text[start..start + place]);
         outlines.push(outline_of(text, start, start + place))?;
         start += place + 1;
     }
-    Ok(outlines.push(outline_of(text, start, text.len()))?)
+    named &= has_name(&text[start..]);
+    outlines.push(outline_of(text, start, text.len()))?;
+    Ok(named)
 }
 
-/// What is handed over of a start line, if its attributes are: they are cut into the outlines.
-pub fn handed_over<'l: 't, 't>(
-    line: StartLine<'l>,
-    outlines: &'t mut AttributeBuffer,
-) -> Result<Option<AuxStartTagInfo<'t>>, AllocError>
-    ensures handed { IfOk result (λ rest. IsHandedOver rest (start_tag_of line.entry)) }
-    ensures inside { IfOk result (λ rest. IfSome rest RangesAreInside) }
+/// Writes the outlines of a line's attributes in the place of those that are there. Returns whether each has a name.
+#[inline(always)]
+pub fn cut_attributes(
+    attributes: Option<&[u8]>,
+    outlines: &mut AttributeBuffer,
+) -> Result<bool, AllocError>
+    ensures named { IfOk result (λ named. named ≡ list_all is_named (map attribute_at (fields_of attributes.entry))) }
+    ensures outlines { OnOk result (AreOutlinesOf attributes.entry outlines.new.items) }
 {
-    if !line.finish {
-        return Ok(None);
-    }
-    let input = match line.attributes {
-        Some(text) => {
-            fill_outlines(outlines, text)?;
-            Bytes::new(text)
-        }
+    match attributes {
+        Some(text) => fill_outlines(outlines, text),
         None => {
             outlines.clear();
-            Bytes::new(b"")
+            Ok(true)
         }
-    };
-    Ok(Some(AuxStartTagInfo {
-        input,
+    }
+}
+
+/// What is handed over of a start line, if its attributes are.
+pub fn handed_over<'l: 't, 't>(
+    line: StartLine<'l>,
+    outlines: &'t AttributeBuffer,
+) -> Option<AuxStartTagInfo<'t>>
+    requires { AreOutlinesOf line.attributes outlines.now.items }
+    ensures handed { IsHandedOver result (start_tag_of line.entry) }
+    ensures inside { IfSome result RangesAreInside }
+{
+    if !line.finish {
+        return None;
+    }
+    let text = line.attributes.unwrap_or(b"");
+    Some(AuxStartTagInfo {
+        input: Bytes::new(text),
         attr_buffer: outlines,
         self_closing: line.self_closing,
-    }))
+    })
 }

@@ -8,13 +8,10 @@ use Rattle.lol_script.specs.Output.{comma_list, shown_match}
 use Rattle.lol_script.proofs.ListedFields.{HasListed, list_is, listed_more, map_through}
 use Rattle.lol_script.proofs.script_run.answer_start.Goals as goal
 
-pub returns-in_default-clause-refused : goal.returns-in_default-clause-refused
-returns-in_default-clause-refused c = λ other. absurd (other refl)
-
 pub returns-clause-goes : goal.returns-clause-goes
 returns-clause-goes c = IfOk-weaker c.start.result _ _
     (λ taken goes s esi item_bytes before events r.
-    let gone = goes s esi item_bytes before events (start_tag_of c.args.line) r (c.new.ensures, refl) c.in-Ok.ensures.handed in
+    let gone = goes s esi item_bytes before events (start_tag_of c.args.line) r (c.new.ensures, refl) c.handed_over-rest.ensures.handed in
     let shown = λ (info : MatchInfo). shown_match (match_of info) in
     let listed = chained_keeps _ (λ (xs : List MatchInfo) q. (q.0.ghost_name ≡ c.handler-1.given) × HasListed shown xs q.0.now)
     (λ xs q x v j k. (k.met.1.0 ∙ j.0, listed_more shown xs x q.0.now v.0.now j.1 k.met.1.1)) _ _ _ (refl, λ _. (c.clear.ensures.0, c.clear.ensures.1)) gone.called in
@@ -29,5 +26,5 @@ returns-clause-goes c = IfOk-weaker c.start.result _ _
 
 pub returns-clause-refused : goal.returns-clause-refused
 returns-clause-refused c = IfErr-weaker c.start.result _ _
-    (λ cause refused other s esi item_bytes before events r later. refused s esi item_bytes before events (start_tag_of c.args.line) r (c.new.ensures, refl) c.in-Ok.ensures.handed later)
+    (λ cause refused other s esi item_bytes before events r later. refused s esi item_bytes before events (start_tag_of c.args.line) r (c.new.ensures, refl) c.handed_over-rest.ensures.handed later)
     c.start.ensures.refused

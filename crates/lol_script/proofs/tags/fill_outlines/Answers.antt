@@ -3,9 +3,9 @@ use Rattle.std.specs.List.{slice_split}
 use Rattle.std.proofs.lemmas.List.{take_rest}
 use Rattle.std.proofs.lemmas.List.Elements.{All-push}
 use Rattle.lol_base.specs.StartTags.{attribute_of, OutlineIsInside}
-use Rattle.lol_script.specs.Script.{is_tab, attribute_at}
+use Rattle.lol_script.specs.Script.{is_named, is_tab, attribute_at}
 use Rattle.lol_script.proofs.Fields.{within_some}
-use Rattle.lol_script.proofs.Outlines.{attributes_more, attributes_last}
+use Rattle.lol_script.proofs.Outlines.{attributes_more, attributes_last, names_more, names_last}
 use Rattle.lol_script.proofs.tags.fill_outlines.Goals as goal
 
 pub loop-place-preserved : goal.loop-place-preserved
@@ -20,6 +20,8 @@ loop-place-preserved c =
       attributes =
           ap (λ outlines. map (attribute_of text) outlines ++ map attribute_at (slice_split is_tab (drop (start + (place + 1)) text))) items
           ∙ (attributes_more text c.loop-place.outlines.items c.outline_of.result start place found c.outline_of.ensures.attribute ∙ c.loop-place.invariant.attributes);
+      named =
+          names_more text start c.loop-place.named c.has_name-named.result place found c.has_name-named.ensures ∙ c.loop-place.invariant.named;
       inside =
           subst (All (OutlineIsInside text)) (sym items)
           (All-push (OutlineIsInside text) c.loop-place.outlines.items c.outline_of.result c.loop-place.invariant.inside c.outline_of.ensures.inside);
@@ -32,3 +34,10 @@ returns-clause-attributes c =
     let none : position is_tab (drop start text) ≡ None = sym (c.in_default.ensures ∙ ap (position is_tab) (take_rest text start)) in
     ap (map (attribute_of text)) c.in_ok-push-2.ensures.items
     ∙ (attributes_last text c.loop-place.outlines.items c.outline_of-2.result start none c.outline_of-2.ensures.attribute ∙ c.loop-place.invariant.attributes)
+
+pub returns-clause-named : goal.returns-clause-named
+returns-clause-named c =
+    let text = c.args.text.now in
+    let start = c.loop-place.start in
+    let none : position is_tab (drop start text) ≡ None = sym (c.in_default.ensures ∙ ap (position is_tab) (take_rest text start)) in
+    names_last text start c.loop-place.named c.has_name-named-2.result none (c.has_name-named-2.ensures ∙ ap (λ f. is_named (attribute_at f)) (take_rest text start)) ∙ c.loop-place.invariant.named

@@ -1,12 +1,12 @@
-use Rattle.std.proofs.Common.{◌≡◌, ◌≢◌, ◌==◌, [], List, ℕ, Some, length, sym, ap, ◌∙◌}
-use Rattle.std.specs.Prelude.{option_map}
-use Rattle.lol_script.specs.Lines.{said_by}
+use Rattle.std.proofs.Common.{rules, ◌≡◌, ◌≢◌, ◌==◌, [], List, ℕ, Ok, Some, length, ap, ◌∙◌}
+use Rattle.lol_script.specs.declared.lines.Line.TheVariants.{Setting}
+use Rattle.lol_script.proofs.ReadOn.{at_ok}
 use Rattle.lol_script.proofs.Scripts.{with_bytes-line}
 use Rattle.lol_script.proofs.settings.Settings.take_line.Goals as goal
 
-pub returns-in_ok-take-in-Some-Setting-clause-taken : goal.returns-in_ok-take-in-Some-Setting-clause-taken
-returns-in_ok-take-in-Some-Setting-clause-taken c = λ s reading.
+pub returns-in_ok-take-in-Ok-Some-Setting-clause-taken : goal.returns-in_ok-take-in-Ok-Some-Setting-clause-taken
+returns-in_ok-take-in-Ok-Some-Setting-clause-taken c = λ s reading.
     let some : c.args.line.now ≢ [] = λ (none : c.args.line.now ≡ []). let h = ap (λ (bytes : List ℕ). length bytes == 0) none in cc in
-    let said = ap (option_map said_by) (sym (c.in-Some-Setting.is ∙ ap Some c.in-Some-Setting.field-0-is)) ∙ c.line_of.ensures in
-    let taken = c.in_ok-take-in-Some-Setting.ensures.taken s reading in
+    let said = at_ok _ c.line_of.result (Some (Setting c.in-Ok-Some-Setting.setting)) (let is : c.line_of.result ≡ Ok (Some (Setting c.in-Ok-Some-Setting.setting)) = search rules in is) c.line_of.ensures.said in
+    let taken = c.in_ok-take-in-Ok-Some-Setting.ensures.taken s reading in
     (taken.0, taken.1, with_bytes-line c.args.number s c.args.line.now _ some said ∙ taken.2)
