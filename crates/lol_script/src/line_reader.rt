@@ -90,7 +90,6 @@ impl LineReader {
     ///
     /// # Errors
     /// `Read` where a read failed, an interrupted one too; `Memory` where memory was refused, or the lines can't be counted any more.
-    #[inline]
     pub fn advance<R: Read>(&mut self, reader: &mut Counted<R>) -> Result<(), RunFault>
         requires { failures_of reader.old < u64.MAX }
         ensures next { OnOk result (GoesOn R.remaining reader.old reader.new self.old self.new) }

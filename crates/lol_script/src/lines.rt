@@ -1,6 +1,6 @@
 //! The lines of a script.
 
-ghost use Rattle.std.specs.Prelude.{◌≡◌, ◌≢◌, ◌<◌, ◌∷◌, ◌++◌, ◌==◌, [], List, ℕ, MatchOption, IfOk, IfSome, IfNone, Some, None, Bool, true, false, map, length, option_map, position, if◌then◌else◌};
+ghost use Rattle.std.specs.Prelude.{◌≡◌, ◌≢◌, ◌<◌, ◌∷◌, ◌++◌, ◌==◌, [], List, ℕ, MatchOption, IfOk, IfSome, IfNone, Some, None, Bool, true, false, map, length, option_map, position, if◌then◌else◌, codes};
 ghost use Rattle.std.specs.Str.{is_utf8};
 ghost use Rattle.std.specs.List.{slice_split, list_all};
 ghost use Rattle.lol_base.specs.CodePoints.{tab};
@@ -213,7 +213,21 @@ fn start_in<'s>(
     })))
 }
 
-/// A start tag, by what follows the kind of its line. Most are of HTML.
+/// A namespace, whether the tag closes itself, and what follows, by what follows the kind of a line. Most tags are of HTML.
+#[inline(always)]
+fn namespaced(rest: &[u8]) -> Option<((Namespace, bool), &[u8])>
+    ensures none { IfNone result ((finish : Bool) → start_at finish (slice_split is_tab rest.now) ≡ None) }
+    ensures some { IfSome result (λ found. (field : List ℕ) × (Some found.0 ≡ namespace_at field)
+        × (slice_split is_tab rest.now ≡ field ∷ slice_split is_tab found.1.now)) }
+{
+    if let Some(rest) = after_kind(rest, b"html") {
+        return Some(((Namespace::Html, false), rest));
+    }
+    let (namespace, rest) = cut(rest)?;
+    Some((namespace_of(namespace)?, rest))
+}
+
+/// A start tag, by what follows the kind of its line.
 #[inline(always)]
 fn start_of<'s>(
     rest: &'s [u8],
@@ -223,14 +237,8 @@ fn start_of<'s>(
     ensures said { IfOk result (λ line. option_map said_by line ≡ start_at finish (slice_split is_tab rest.now)) }
     ensures outlines { IfOk result (λ line. IfSome line (HasOutlines outlines.new.items)) }
 {
-    if let Some(rest) = after_kind(rest, b"html") {
-        return start_in((Namespace::Html, false), rest, finish, outlines);
-    }
-    let Some((namespace, rest)) = cut(rest) else {
-        return Ok(None);
-    };
-    match namespace_of(namespace) {
-        Some(namespace) => start_in(namespace, rest, finish, outlines),
+    match namespaced(rest) {
+        Some((namespace, rest)) => start_in(namespace, rest, finish, outlines),
         None => Ok(None),
     }
 }
@@ -273,6 +281,27 @@ fn bare_line(kind: &[u8]) -> Option<Line<'static>>
     }
 }
 
+/// What a line says that is neither of a start tag whose attributes may be asked for nor of an end tag.
+#[inline(never)]
+fn other_line<'s>(
+    bytes: &'s [u8],
+    outlines: &mut AttributeBuffer,
+) -> Result<Option<Line<'s>>, AllocError>
+    ensures said { IfOk result (λ line. ((rest : List ℕ) → bytes.now ≢ codes "start" ++ tab ∷ rest)
+        → ((rest : List ℕ) → bytes.now ≢ codes "end" ++ tab ∷ rest) → option_map said_by line ≡ line_at bytes.now) }
+    ensures outlines { IfOk result (λ line. IfSome line (HasOutlines outlines.new.items)) }
+{
+    if let Some(rest) = after_kind(bytes, b"drop") {
+        start_of(rest, false, outlines)
+    } else if let Some(rest) = after_kind(bytes, b"select") {
+        Ok(select_of(rest))
+    } else if let Some(rest) = after_kind(bytes, b"limit") {
+        Ok(limit_of(rest))
+    } else {
+        Ok(bare_line(bytes))
+    }
+}
+
 /// What a line says, or nothing where it has none of the forms. The attributes of a start tag are cut into the outlines.
 ///
 /// # Errors
@@ -289,13 +318,7 @@ pub fn line_of<'s>(
         start_of(rest, true, outlines)
     } else if let Some(rest) = after_kind(bytes, b"end") {
         Ok(end_of(rest))
-    } else if let Some(rest) = after_kind(bytes, b"drop") {
-        start_of(rest, false, outlines)
-    } else if let Some(rest) = after_kind(bytes, b"select") {
-        Ok(select_of(rest))
-    } else if let Some(rest) = after_kind(bytes, b"limit") {
-        Ok(limit_of(rest))
     } else {
-        Ok(bare_line(bytes))
+        other_line(bytes, outlines)
     }
 }
