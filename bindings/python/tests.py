@@ -10,7 +10,9 @@ from zugrenja import Match, Matcher, Refused, ScriptError, SelectorError, TagErr
 HERE = Path(__file__).resolve().parent
 EXAMPLES = HERE.parent.parent / "examples"
 sys.path[:0] = [str(HERE.parent), str(HERE / "examples")]
+import calls  # noqa: E402
 import cases  # noqa: E402
+import table  # noqa: E402
 import tags  # noqa: E402
 
 
@@ -40,6 +42,28 @@ class StoredCases(unittest.TestCase):
         for script, answer, status in cases.cases():
             with self.subTest(script=script):
                 self.assertEqual(tags.run(script), (answer.decode(), status))
+
+
+class TableOfCalls(unittest.TestCase):
+    def test_by_the_functions(self) -> None:
+        for case in calls.cases():
+            handle = table.Functions()
+            for call in case.calls:
+                with self.subTest(case=case.name, call=call.line):
+                    self.assertEqual(handle.call(call), call.answer)
+            handle.free()
+
+    def test_by_matcher(self) -> None:
+        made = every = 0
+        for case in calls.cases():
+            typed = table.Typed()
+            for place, call in enumerate(case.calls):
+                with self.subTest(case=case.name, call=call.line):
+                    answer = typed.call(call, case.calls[place + 1 :])
+                    self.assertIn(answer, (None, call.answer))
+                made, every = made + (answer is not None), every + 1
+        print(f"\n{every - made} of {every} calls of the table aren't for Matcher to make")
+        self.assertGreater(made, 2000)
 
 
 class Tags(unittest.TestCase):
