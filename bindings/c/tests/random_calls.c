@@ -1,4 +1,6 @@
-/* Random calls in random order on a hundred handles: random_calls COUNT SEED. Each status is one that the model of the handle allows. */
+/* Random calls in random order on a hundred handles: random_calls COUNT SEED. Each status is as a model of the handle wants it, each report
+   and what each end tag closes as in the script of what the handle was told, and each value as it was given. */
+#include "recording.h"
 #include "zugrenja.h"
 #include <assert.h>
 #include <stdio.h>
@@ -12,7 +14,8 @@ typedef struct {
     zugrenja_matcher matcher;
     enum { NONE, ADDING, BUILT } stage;
     int failed, waits, opened;
-    size_t open, matched;
+    size_t matched;
+    recording told;
 } model;
 
 static uint64_t state;
@@ -22,14 +25,15 @@ static uint32_t draw(uint32_t below) {
     return (uint32_t)(state >> 33) % below;
 }
 
-static const char *const TEXTS[] = {"div", "p", "div > p", "a[href]", "*", "p:nth-child(2)", ".b", "#c, div a", "a + b", "", "[", "svg|a",
-                                    "p::before", "\xff\xfe", ":not(p)", "div p a b", "a:nth-of-type(odd)"};
-static const char *const NAMES[] = {"div", "p", "a", "br", "DIV", "svg", "rect", "", "b", "i"};
-
-typedef struct {
-    const uint8_t *bytes;
-    size_t len;
-} text;
+static const char *const TEXTS[] = {
+    "div", "p", "div > p", "a[href]", "*", "p:nth-child(2)", ".b", "#c, div a", "a + b", "", "[", "svg|a", "p::before", "\xff\xfe", ":not(p)",
+    "div p a b", "a:nth-of-type(odd)", "a[href^='p' i] > *", "div *:not(#c, .b)", ":is(p, svg) rect", "esi\\:include, b i", "[class~=x] a[href=page]",
+    ", a", "p:hover", "div\n>\ti:nth-of-type(2)"};
+static const char *const NAMES[] = {"div", "p", "a", "br", "DIV", "svg", "rect", "", "b", "i", "esi:include", "A"};
+static const char *const CAUSES[] = {
+    "UnexpectedToken", "UnexpectedEnd", "MissingAttributeName", "EmptySelector", "DanglingCombinator", "UnexpectedTokenInAttribute",
+    "UnsupportedPseudoClassOrElement", "NestedNegation", "NamespacedSelector", "InvalidClassName", "EmptyNegation",
+    "UnsupportedCombinator", "UnsupportedSyntax"};
 
 /* One of some words, or null, or random bytes. */
 static text word(const char *const *words, uint32_t count) {
@@ -50,14 +54,17 @@ static text word(const char *const *words, uint32_t count) {
 }
 
 static void call_new(model *m) {
-    size_t limits[] = {SIZE_MAX, SIZE_MAX, 100000, 512, 0};
-    size_t bytes[] = {64, 0, 1, SIZE_MAX, 1000};
-    uint32_t status = zugrenja_new(&m->matcher, limits[draw(5)], bytes[draw(5)], draw(3));
+    static const size_t LIMITS[] = {SIZE_MAX, SIZE_MAX, SIZE_MAX, 100000, 100000, 3000, 512, 0};
+    static const size_t BYTES[] = {64, 64, 64, 64, 0, 1, 1000, SIZE_MAX};
+    size_t max_memory = LIMITS[draw(8)], element_bytes = BYTES[draw(8)];
+    uint32_t esi = draw(3);
+    uint32_t status = zugrenja_new(&m->matcher, max_memory, element_bytes, esi);
     assert(status == (m->stage == NONE ? ZUGRENJA_GOOD : ZUGRENJA_IN_USE));
     if (status == ZUGRENJA_GOOD) {
         m->stage = ADDING;
         m->failed = m->waits = m->opened = 0;
-        m->open = m->matched = 0;
+        m->matched = 0;
+        record_new(&m->told, max_memory, element_bytes, esi);
     }
 }
 
@@ -65,11 +72,16 @@ static void call_add(model *m) {
     zugrenja_refusal refusal = {99, 99, 99, 99};
     text t = word(TEXTS, sizeof TEXTS / sizeof *TEXTS);
     uint32_t ids[] = {draw(300), draw(300), UINT32_MAX - draw(3), draw(UINT32_MAX) * 2 + draw(2)};
-    uint32_t status = zugrenja_add(&m->matcher, ids[draw(4)], t.bytes, t.len, &refusal);
+    uint32_t id = ids[draw(4)], status = zugrenja_add(&m->matcher, id, t.bytes, t.len, &refusal);
     if (m->stage != ADDING) {
         assert(status == (m->stage == NONE ? ZUGRENJA_NO_MATCHER : ZUGRENJA_BUILT));
+    } else if (status == ZUGRENJA_GOOD) {
+        append_selector(&m->told.script, id, t);
+    } else if (status == ZUGRENJA_NOT_UTF8) {
+        check_refused(t, "form", 0);
     } else {
-        assert(status == ZUGRENJA_GOOD || status == ZUGRENJA_NOT_UTF8 || status == ZUGRENJA_NOT_ACCEPTED);
+        assert(status == ZUGRENJA_NOT_ACCEPTED && refusal.cause <= ZUGRENJA_UNSUPPORTED_SYNTAX);
+        check_refused(t, CAUSES[refusal.cause], refusal.combinator);
     }
     assert(status == ZUGRENJA_NOT_ACCEPTED ? refusal.cause <= ZUGRENJA_UNSUPPORTED_SYNTAX && refusal.offset <= t.len : refusal.cause == 99);
 }
@@ -94,11 +106,10 @@ static int is_early(const model *m, uint32_t status) {
 static void note(model *m, uint32_t status, size_t matched) {
     uint32_t opened;
     m->waits = status == ZUGRENJA_NEEDS_ATTRIBUTES;
-    m->failed = m->failed || (status >= ZUGRENJA_LIMIT && status <= ZUGRENJA_TAG_OUT_OF_MEMORY);
+    m->failed = m->failed || status == ZUGRENJA_LIMIT || status == ZUGRENJA_COUNTER;
     m->matched = matched;
     assert(zugrenja_has_opened(&m->matcher, &opened) == ZUGRENJA_GOOD && opened <= (status == ZUGRENJA_GOOD));
     m->opened = (int)opened;
-    m->open += opened;
 }
 
 static void call_start(model *m) {
@@ -120,14 +131,22 @@ static void call_start(model *m) {
     }
     assert(status <= ZUGRENJA_NEEDS_ATTRIBUTES || status == ZUGRENJA_LIMIT || status == ZUGRENJA_COUNTER);
     note(m, status, matched);
+    if (m->waits) {
+        record_waiting(&m->told, name_space, name);
+    } else {
+        record_start(&m->told, &m->matcher, name_space, name, status, matched);
+    }
 }
 
 static void call_finish(model *m) {
-    static const uint8_t TEXT[] = "href=page class='b' id=c";
-    zugrenja_attribute places[] = {{0, 4, 5, 9, 1}, {10, 15, 17, 18, 1}, {20, 22, 23, 24, 7}, {0, 1, 9, 0, 0}, {0, 4, 5, 99, 1}, {9, SIZE_MAX, 0, 0, 0}};
-    size_t first = draw(6), count = draw((uint32_t)(6 - first) + 1), matched = 99;
-    int outside = first + count > 4 && count > 0;
-    uint32_t status = zugrenja_finish(&m->matcher, TEXT, sizeof TEXT - 1, count ? places + first : NULL, count, draw(3), &matched);
+    static const uint8_t TEXT[] = "href=page class='b x' id=c";
+    static const zugrenja_attribute PLACES[] = {{22, 24, 25, 26, 7}, {10, 15, 17, 20, 1}, {0, 4, 5, 9, 1}, {10, 15, 17, 18, 1}, {0, 4, 7, 7, 1},
+                                                {22, 24, 17, 18, 1}, {0, 1, 9, 0, 0}, {0, 4, 5, 99, 1}, {9, SIZE_MAX, 0, 0, 0}};
+    size_t first = draw(9), count = draw((uint32_t)(9 - first) + 1), matched = 99;
+    int outside = first + count > 7 && count > 0;
+    uint32_t closes = draw(3);
+    const zugrenja_attribute *places = count > 0 ? PLACES + first : NULL;
+    uint32_t status = zugrenja_finish(&m->matcher, TEXT, sizeof TEXT - 1, places, count, closes, &matched);
     assert(status == ZUGRENJA_GOOD || matched == 0);
     if (is_early(m, status)) {
         return;
@@ -138,6 +157,7 @@ static void call_finish(model *m) {
     }
     assert(status == ZUGRENJA_GOOD || status == ZUGRENJA_LIMIT || status == ZUGRENJA_COUNTER);
     note(m, status, matched);
+    record_finish(&m->told, &m->matcher, TEXT, places, count, closes != 0, status, matched);
 }
 
 static void call_end(model *m) {
@@ -149,11 +169,8 @@ static void call_end(model *m) {
         assert(closed == 0);
         return;
     }
-    assert(status == ZUGRENJA_GOOD && closed <= m->open);
-    for (size_t place = 0; place < closed && place < room; place++) {
-        assert(values[place] == 0 || (values[place] >> 32) == 7);
-    }
-    m->open -= closed;
+    assert(status == ZUGRENJA_GOOD);
+    record_end(&m->told, name, closed, values, room);
     m->waits = m->opened = 0;
     m->matched = 0;
 }
@@ -175,9 +192,14 @@ static void call_report(model *m) {
 }
 
 static void call_value(model *m) {
-    uint32_t status = zugrenja_set_value(&m->matcher, (7ull << 32) + draw(1000));
-    if (!is_early(m, status)) {
-        assert(status == (m->opened ? ZUGRENJA_GOOD : ZUGRENJA_NOT_OPENED));
+    uint64_t value = ((uint64_t)draw(UINT32_MAX) << 32) + draw(1000);
+    uint32_t status = zugrenja_set_value(&m->matcher, value);
+    if (is_early(m, status)) {
+        return;
+    }
+    assert(status == (m->opened ? ZUGRENJA_GOOD : ZUGRENJA_NOT_OPENED));
+    if (m->opened) {
+        m->told.open[m->told.open_len - 1].value = value;
     }
 }
 
@@ -191,6 +213,9 @@ static void call_text(model *m) {
 }
 
 static void call_free(model *m) {
+    if (m->stage != NONE) {
+        record_done(&m->told);
+    }
     assert(zugrenja_free(&m->matcher) == (m->stage == NONE ? ZUGRENJA_NO_MATCHER : ZUGRENJA_GOOD));
     m->stage = NONE;
 }
@@ -205,7 +230,7 @@ int main(int argc, char **argv) {
         uint32_t kind = draw(300);
         if (kind == 0) {
             call_free(m);
-        } else if (kind < 3 && m->stage == ADDING) {
+        } else if (kind < 10 && m->stage == ADDING) {
             call_build(m);
         } else {
             uint32_t chosen = draw(m->stage == ADDING && draw(40) ? 2 : 13);
@@ -215,6 +240,8 @@ int main(int argc, char **argv) {
     for (int place = 0; place < HANDLES; place++) {
         call_free(&models[place]);
         assert(zugrenja_free(&models[place].matcher) == ZUGRENJA_NO_MATCHER);
+        record_free(&models[place].told);
     }
-    printf("%lu random calls, seed %s: all as the model allows\n", count, argc > 2 ? argv[2] : "1");
+    printf("%lu random calls, seed %s: all as the model wants; as in %lu scripts %lu tags, %lu of them under ids, and %lu elements closed\n", count,
+           argc > 2 ? argv[2] : "1", compared_runs, compared_tags, compared_reports, compared_closed);
 }
