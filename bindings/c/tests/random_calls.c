@@ -142,7 +142,8 @@ static void call_finish(model *m) {
     static const uint8_t TEXT[] = "href=page class='b x' id=c";
     static const zugrenja_attribute PLACES[] = {{22, 24, 25, 26, 7}, {10, 15, 17, 20, 1}, {0, 4, 5, 9, 1}, {10, 15, 17, 18, 1}, {0, 4, 7, 7, 1},
                                                 {22, 24, 17, 18, 1}, {0, 1, 9, 0, 0}, {0, 4, 5, 99, 1}, {9, SIZE_MAX, 0, 0, 0}};
-    size_t first = draw(9), count = draw((uint32_t)(9 - first) + 1), matched = 99;
+    uint32_t end = draw(4) ? 7 : 9;
+    size_t first = draw(end), count = draw(end - (uint32_t)first + 1), matched = 99;
     int outside = first + count > 7 && count > 0;
     uint32_t closes = draw(3);
     const zugrenja_attribute *places = count > 0 ? PLACES + first : NULL;
@@ -234,7 +235,8 @@ int main(int argc, char **argv) {
             call_build(m);
         } else {
             uint32_t chosen = draw(m->stage == ADDING && draw(40) ? 2 : 13);
-            CALLS[chosen < 9 ? chosen : 3 + chosen % 2](m);
+            chosen = m->waits && draw(2) ? 4 : chosen < 9 ? chosen : 3 + chosen % 2;
+            CALLS[chosen](m);
         }
     }
     for (int place = 0; place < HANDLES; place++) {

@@ -68,9 +68,11 @@ static void append_selector(buffer *b, uint32_t id, text t) {
     append(b, "\n", 1);
 }
 
-/* A tag's name: one that no script can have becomes one of its own, which no selector has. */
+/* A tag's name: one that no script can have becomes `?` and its bytes in hexadecimal, and so does each that begins with `?`. No selector has
+   such a name. */
 static void append_name(buffer *b, text name) {
-    if (name.len > 0 && memchr(name.bytes, '\t', name.len) == NULL && memchr(name.bytes, '\n', name.len) == NULL) {
+    int is_sayable = name.len > 0 && memchr(name.bytes, '\t', name.len) == NULL && memchr(name.bytes, '\n', name.len) == NULL;
+    if (is_sayable && name.bytes[0] != '?') {
         append(b, name.bytes, name.len);
         return;
     }
@@ -81,18 +83,34 @@ static void append_name(buffer *b, text name) {
     }
 }
 
+/* Where the line begins in which two outputs differ first. */
+static size_t line_of_difference(const buffer *a, const buffer *b) {
+    size_t line = 0;
+    for (size_t place = 0; place < a->len && place < b->len && a->bytes[place] == b->bytes[place]; place++) {
+        line = a->bytes[place] == '\n' ? place + 1 : line;
+    }
+    return line;
+}
+
+static int line_len(const buffer *b, size_t line) {
+    const uint8_t *end = line < b->len ? memchr(b->bytes + line, '\n', b->len - line) : NULL;
+    return (int)(end != NULL ? (size_t)(end - b->bytes) - line : b->len - line);
+}
+
 /* Runs a script: its status has to be as is wanted, and its output. */
 static void run_as(const buffer *script, uint32_t status, const buffer *wanted) {
-    size_t room = wanted->len + 64, written = 0;
-    uint8_t *out = malloc(room);
-    assert(out != NULL);
-    uint32_t ended = zugrenja_run_script(script->bytes, script->len, out, room, &written);
-    if (ended != status || written != wanted->len || (written > 0 && memcmp(out, wanted->bytes, written) != 0)) {
-        fprintf(stderr, "the script\n%.*s\nends with %u and\n%.*s\nthe handle's answers with %u and\n%.*s\n", (int)script->len, script->bytes,
-                ended, (int)(written < room ? written : room), out, status, (int)wanted->len, wanted->bytes);
+    buffer out = {NULL, 0, wanted->len + 64};
+    out.bytes = malloc(out.room);
+    assert(out.bytes != NULL);
+    uint32_t ended = zugrenja_run_script(script->bytes, script->len, out.bytes, out.room, &out.len);
+    if (ended != status || out.len != wanted->len || (out.len > 0 && memcmp(out.bytes, wanted->bytes, out.len) != 0)) {
+        out.len = out.len < out.room ? out.len : out.room;
+        size_t line = line_of_difference(&out, wanted);
+        fprintf(stderr, "%.*sThe script ends with %u, the handle's answers with %u. They differ in\n%.*s\n%.*s\n", (int)script->len,
+                script->bytes, ended, status, line_len(&out, line), out.bytes + line, line_len(wanted, line), wanted->bytes + line);
         abort();
     }
-    free(out);
+    free(out.bytes);
     compared_runs++;
 }
 
