@@ -81,21 +81,21 @@ class Functions:
         if status != zugrenja.GOOD:
             return status, []
         mark = "" if self.opened()[1] == [1] else "/"
-        count, ids = self.ids_of(ROOM)
+        _, count, ids = self.ids_within(ROOM)
         return status, [joined(ids, mark)] if count == matched else ["matched isn't how many ids there are"]
 
-    def ids_of(self, room: int) -> tuple[int, list[int]]:
+    def ids_within(self, room: int) -> tuple[int, int, list[int]]:
         array = (ctypes.c_uint32 * room)()
-        self.status = self.function("ids", ctypes.addressof(array), room, self.counted)
-        return self.count.value, array[: self.count.value]
+        status = self.function("ids", ctypes.addressof(array), room, self.counted)
+        return status, self.count.value, array[: self.count.value]
 
     def ids(self) -> tuple[int, list]:
-        ids = self.ids_of(ROOM)[1]
-        return self.status, [joined(ids)]
+        status, _, ids = self.ids_within(ROOM)
+        return status, [joined(ids)]
 
     def ids_in(self, room: str) -> tuple[int, list]:
-        count, ids = self.ids_of(number(room))
-        return self.status, [count, joined(ids)]
+        status, count, ids = self.ids_within(number(room))
+        return status, [count, joined(ids)]
 
     def end(self, name: bytes) -> tuple[int, list]:
         status, (_, values) = self.end_in(name, str(ROOM))
