@@ -30,7 +30,8 @@ pub(crate) struct NodeAbove {
 /// are passed by, the last compound's first.
 ///
 /// `place` is the node's in the program, `number` the element's start tag, `outer` are the open elements around it, the outermost first, and
-/// `numbers` theirs. Only their ranges are read, so the element itself needn't be open.
+/// `numbers` theirs: where these aren't as many, it is the element's number alone. Only their ranges are read, so the element itself needn't
+/// be open.
 ///
 /// It looks at each instruction of the program for each compound, and at most once at each range of the open elements.
 ///
@@ -44,13 +45,15 @@ pub fn witness_of<E>(
     outer: &[StackItem<'static, E>],
     numbers: &[usize],
 ) -> Result<Vec<usize>, AllocError>
-    requires { length numbers.now ≡ length outer.now }
     ensures { IfOk result (λ witness.
         (s : Selectors) (paths : List Path) (path : Path) (e : Element) (around : List Element)
         → HasMatched s paths (program_shown program.now) place path (items_shown outer.now) numbers.now e around
         → number ≡ e.number → innermost_witness path e around ≡ Some witness.items) }
 {
     let mut witness = vec![in alloc; number]?;
+    if numbers.len() != outer.len() {
+        return Ok(witness);
+    }
     let mut node = place;
     let mut left = outer.len();
     while let Some(above) = node_above(&program.instructions, node) {
@@ -77,7 +80,6 @@ pub fn witness_under<E>(
     outer: &[StackItem<'static, E>],
     numbers: &[usize],
 ) -> Result<Option<Vec<usize>>, AllocError>
-    requires { length numbers.now ≡ length outer.now }
     ensures { IfOk result (λ found.
         (s : Selectors) (paths : List Path) (path : Path) (e : Element) (around : List Element)
         → IsAround s paths (program_shown program.now) (items_shown outer.now) numbers.now around → IsAlone s path id

@@ -66,7 +66,8 @@ pub fn cut_attributes(
     attributes: Option<&[u8]>,
     outlines: &mut AttributeBuffer,
 ) -> Result<bool, AllocError>
-    ensures named { IfOk result (λ named. named ≡ list_all is_named (map attribute_at (fields_of attributes.entry))) }
+    ensures named { IfOk result (λ named.
+        named ≡ list_all is_named (map attribute_at (fields_of attributes.entry))) }
     ensures outlines { OnOk result (AreOutlinesOf attributes.entry outlines.new.items) }
 {
     match attributes {

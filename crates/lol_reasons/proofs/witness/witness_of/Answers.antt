@@ -1,9 +1,11 @@
 use Rattle.std.proofs.Common.{◌≡◌, Some, length, map, reverse, sym, ap, ◌∙◌, subst, arith}
-use Rattle.std.proofs.lemmas.List.{length-map, length-take-le, take-map}
+use Rattle.std.proofs.lemmas.List.{length-map, length-reverse, length-take-le, take-map}
 use Rattle.lol_vm.specs.StackMachines.{item_shown}
 use Rattle.lol_program.specs.ProgramViews.{program_shown}
 use Rattle.lol_reasons.specs.Climbing.{node_above_from}
-use Rattle.lol_reasons.proofs.Climbs.{Climbs, ends, goes_on, not_lost}
+use Rattle.lol_instructions.specs.Tests.{Element}
+use Rattle.lol_reasons.proofs.Climbing.{same_lengths}
+use Rattle.lol_reasons.proofs.Climbs.{Climbs, begins, ends, goes_on, not_lost}
 use Rattle.lol_reasons.proofs.witness.witness_of.Goals as goal
 
 pub loop-above-preserved : goal.loop-above-preserved
@@ -18,7 +20,7 @@ loop-above-preserved g c =
       climbs = λ s paths path e around h same.
           subst (Climbs paths (program_shown c.args.program.now) path e around items c.args.numbers.now c.in-Some.above.place at) (sym c.in_ok-push.ensures.items)
           (goes_on s paths c.args.program.now h.around.closed h.around.program path e around items c.args.numbers.now c.loop-above.node c.loop-above.left c.loop-above.witness.items
-          (omega (arith, c.loop-above.invariant.within, many)) (c.requires ∙ sym many) (c.loop-above.invariant.climbs s paths path e around h same) c.in-Some.above above at _
+          (omega (arith, c.loop-above.invariant.within, many)) (omega (arith, c.if-numbers-outer.false, many)) (c.loop-above.invariant.climbs s paths path e around h same) c.in-Some.above above at _
           (ap reverse (sym (take-map item_shown c.loop-above.left c.args.outer.now))) (sym c.element_reached.ensures.value ∙ c.in-Some-element_reached.is) 0);
     }
 
@@ -29,7 +31,7 @@ returns-in_default-element_reached g c s paths path e around h same =
     let above : node_above_from 0 c.args.program.now.instructions.items c.loop-above.node ≡ Some c.in-Some.above =
     ap (λ l. node_above_from 0 l c.loop-above.node) (sym c.deref.ensures.value) ∙ sym c.node_above.ensures ∙ c.in-Some.is in
     absurd (not_lost s paths c.args.program.now h.around.closed h.around.program path e around items c.args.numbers.now c.loop-above.node c.loop-above.left c.loop-above.witness.items
-    (omega (arith, c.loop-above.invariant.within, many)) (c.requires ∙ sym many) (c.loop-above.invariant.climbs s paths path e around h same) c.in-Some.above above _
+    (omega (arith, c.loop-above.invariant.within, many)) (omega (arith, c.if-numbers-outer.false, many)) (c.loop-above.invariant.climbs s paths path e around h same) c.in-Some.above above _
     (ap reverse (sym (take-map item_shown c.loop-above.left c.args.outer.now))) (sym c.element_reached.ensures.value ∙ c.in_default-element_reached.is))
 
 pub returns : goal.returns
@@ -37,5 +39,30 @@ returns g c s paths path e around h same =
     let items = map item_shown c.args.outer.now in
     let many : length items ≡ length c.args.outer.now = length-map c.args.outer.now item_shown in
     ends s paths c.args.program.now h.around.closed h.around.program path e around items c.args.numbers.now c.loop-above.node c.loop-above.left c.loop-above.witness.items
-    (omega (arith, c.loop-above.invariant.within, many)) (c.requires ∙ sym many) (c.loop-above.invariant.climbs s paths path e around h same)
+    (omega (arith, c.loop-above.invariant.within, many)) (omega (arith, c.if-numbers-outer.false, many)) (c.loop-above.invariant.climbs s paths path e around h same)
     (ap (λ l. node_above_from 0 l c.loop-above.node) (sym c.deref.ensures.value) ∙ sym c.node_above.ensures ∙ c.in_default.is) h.matched
+
+pub returns-then-numbers-outer : goal.returns-then-numbers-outer
+returns-then-numbers-outer g c s paths path e around h same =
+    let items = map item_shown c.args.outer.now in
+    absurd (omega (
+      arith,
+      c.if-numbers-outer.true,
+      same_lengths paths (program_shown c.args.program.now) (reverse items) around h.around.are_items,
+      ap length h.around.are_numbers,
+      length-map around (λ (a : Element). a.number),
+      length-reverse c.args.numbers.now,
+      length-reverse items,
+      length-map c.args.outer.now item_shown,
+    ))
+
+pub loop-above-init : goal.loop-above-init
+loop-above-init g c =
+    let items = map item_shown c.args.outer.now in
+    let many : length items ≡ length c.args.outer.now = length-map c.args.outer.now item_shown in
+    record {
+      within = omega arith;
+      climbs = λ s paths path e around h same.
+          begins s paths (program_shown c.args.program.now) c.args.place path items c.args.numbers.now e around c.args.number (length c.args.outer.now) c.in_ok-witness.witness.items h
+          (omega (arith, many)) (omega (arith, c.if-numbers-outer.false)) same c.in_ok-witness.ensures.items;
+    }
