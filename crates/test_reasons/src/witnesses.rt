@@ -107,5 +107,6 @@ fn of_no_node(rt: HostRuntime) -> Result<(), Fail> {
     let none: Vec<StackItem<'static, Numbered>> = Vec::new(alloc);
     assert!(rt; witness_under(alloc, &program, 1, 0, &none, &[])?.is_none());
     assert!(rt; witness_of(alloc, &program, 0, 3, &none, &[])?.as_slice() == [3].as_slice());
+    assert!(rt; witness_of(alloc, &program, 0, 3, &none, &[2])?.as_slice() == [3].as_slice());
     Ok(())
 }
