@@ -9,13 +9,7 @@ mod matcher;
 mod matches;
 mod past;
 mod reading;
-#[cfg(test)]
-mod readme;
 mod tags;
-#[cfg(test)]
-mod tests;
-#[cfg(test)]
-mod uses;
 
 pub use builder::MatcherBuilder;
 pub use error::{AddError, MatcherError};

@@ -4,7 +4,7 @@ ghost use Rattle.std.specs.Prelude.{◌↔◌, ◌<◌, IfOk, IsTrue, length, tr
 ghost use Rattle.lol_matcher.specs.Answering.{reported_in};
 ghost use Rattle.lol_matcher.specs.Noted.{handed};
 
-use crate::{Attributes, AuxStartTagInfo, Matcher, MatcherError, Namespace};
+use lol_matcher::{Attributes, AuxStartTagInfo, Matcher, MatcherError, Namespace};
 use std::test::Fail;
 
 /// Whether a start tag is reported under some id.

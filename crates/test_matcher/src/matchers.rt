@@ -1,6 +1,6 @@
 //! A matcher on small pages.
 
-use crate::{
+use lol_matcher::{
     AddError, AttributeBuffer, AttributeOutline, Attributes, AuxStartTagInfo, Bytes, ElementValue,
     ErrorLocation, Matcher, MatcherError, Namespace, Range, SelectorError, Started,
 };

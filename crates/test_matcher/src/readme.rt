@@ -1,6 +1,6 @@
 //! README's lines.
 
-use crate::{Attributes, MatchInfo, Matcher, Namespace, Started};
+use lol_matcher::{Attributes, MatchInfo, Matcher, Namespace, Started};
 use std::alloc::{AllocError, Global};
 use std::test::Fail;
 
