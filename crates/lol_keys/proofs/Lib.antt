@@ -1,0 +1,3 @@
+pub mod RightKeys
+pub mod Counting
+pub mod TriedNodes

@@ -1,0 +1,300 @@
+-- The keys of a compound are right.
+use Rattle.std.proofs.Common.{◌≡◌, ℕ, Bool, true, false, cond, not, ◌||◌, List, [], ◌∷◌, ◌++◌, map, Option, Some, None, ◌⊎◌, inl, inr, refl, sym, ap, ◌∙◌, subst}
+use Rattle.lol_base.specs.Names.{same_name, lowercased}
+use Rattle.lol_base.specs.BoolLaws.{and_parts, not_true}
+use Rattle.lol_instructions.specs.Tests.{Element, AnyName, NoName, HasName, IsNthChild, IsNthOfType, HasId, HasClass, HasAttribute, Compares, attribute_holds, attribute_value, find_attribute, words, has_value, compares, compared, ignores_case}
+use Rattle.lol_instructions.specs.Compounds.{Test, OfName, OfAttributes, NoneOf, SomeOf, Compound, NoTests, AndTest, Compounds, NoCompounds, OrCompound, holds, all_hold, value_of_bool, both, opposite, either, test_by_names, by_names, some_by_names}
+use Rattle.lol_instructions.specs.declared.name_value.NameValue.{NameValue}
+use Rattle.lol_instructions.specs.declared.name_value.NameValue.TheVariants.{True, False, Open}
+use Rattle.lol_keys.specs.Keys.{AttributeKey, ById, ByClass, ByAttribute, first_of, first_read, read_name, read_id, read_class, read_attribute, name_key, attribute_key, test_opens, compound_opens, rest_opens, some_open, others_open, without_any, without_name, opens_where_named, unless_named, one_key, both_keys, is_another_name, test_of_key, lacks, AreKeysOf, no_keys, same_key, words_of}
+use Rattle.lol_keys.specs.KeyLaws.{KeysAreOfTags}
+use Rattle.std.specs.Prelude.{codes, option_to_list, unwrap_or}
+use Rattle.std.specs.Option.{option_map}
+use Rattle.std.specs.Str.{bytes_eq}
+use Rattle.std.specs.List.{list_any}
+use Rattle.lol_base.specs.BoolLaws.{or-false}
+use Rattle.lol_base.specs.StartTags.{Attribute}
+
+some_injective : {T : Type 0} (x y : T) → Some x ≡ Some y → x ≡ y
+some_injective x y h = ap (of_some x) h
+  where
+    of_some : {T : Type 0} → T → Option T → T
+    of_some d None = d
+    of_some d (Some z) = z
+
+-- 1. A key that was read comes from a test that must hold
+
+module _ {K : Type 0} (read : Test → Option K) (P : K → Type 0) (e : Element) (each : (test : Test) (key : K) → read test ≡ Some key → holds test e ≡ true → P key) where
+  read_right : (c : Compound) (key : K) → first_read read c ≡ Some key → all_hold c e ≡ true → P key
+  read_right NoTests key h all = cc
+  read_right (AndTest test tests) key h all = by_first (read test) refl h (λ found. read_right tests key found (and_parts (holds test e) (all_hold tests e) all).1)
+    where
+      by_first : (o : Option K) → read test ≡ o → first_of o (first_read read tests) ≡ Some key → (first_read read tests ≡ Some key → P key) → P key
+      by_first None is found later = later found
+      by_first (Some k) is found later = each test key (is ∙ found) (and_parts (holds test e) (all_hold tests e) all).0
+
+-- an attribute that a value is compared with is there
+there_if_compared : (o : Option (List ℕ)) (test : List ℕ → Bool) → has_value o test ≡ true → has_value o (λ value. true) ≡ true
+there_if_compared None test h = h
+there_if_compared (Some value) test h = refl
+
+id_right : (e : Element) (test : Test) (key : AttributeKey) → read_id test ≡ Some key → holds test e ≡ true → attribute_holds (test_of_key key) e ≡ true
+id_right e (OfName test) key h = cc
+id_right e (OfAttributes (HasId id)) key h = λ all. subst (λ k. attribute_holds (test_of_key k) e ≡ true) (some_injective (ById id) key h) all
+id_right e (OfAttributes (HasClass name)) key h = cc
+id_right e (OfAttributes (HasAttribute name)) key h = cc
+id_right e (OfAttributes (Compares name operator operand case)) key h = cc
+id_right e (NoneOf _) key h = cc
+id_right e (SomeOf _) key h = cc
+
+class_right : (e : Element) (test : Test) (key : AttributeKey) → read_class test ≡ Some key → holds test e ≡ true → attribute_holds (test_of_key key) e ≡ true
+class_right e (OfName test) key h = cc
+class_right e (OfAttributes (HasId id)) key h = cc
+class_right e (OfAttributes (HasClass name)) key h = λ all. subst (λ k. attribute_holds (test_of_key k) e ≡ true) (some_injective (ByClass name) key h) all
+class_right e (OfAttributes (HasAttribute name)) key h = cc
+class_right e (OfAttributes (Compares name operator operand case)) key h = cc
+class_right e (NoneOf _) key h = cc
+class_right e (SomeOf _) key h = cc
+
+attribute_right : (e : Element) (test : Test) (key : AttributeKey) → read_attribute test ≡ Some key → holds test e ≡ true → attribute_holds (test_of_key key) e ≡ true
+attribute_right e (OfName test) key h = cc
+attribute_right e (OfAttributes (HasId id)) key h = cc
+attribute_right e (OfAttributes (HasClass name)) key h = cc
+attribute_right e (OfAttributes (HasAttribute name)) key h = λ all. subst (λ k. attribute_holds (test_of_key k) e ≡ true) (some_injective (ByAttribute name) key h) all
+attribute_right e (OfAttributes (Compares name operator operand case)) key h = λ all.
+    subst (λ k. attribute_holds (test_of_key k) e ≡ true) (some_injective (ByAttribute (lowercased name)) key h)
+    (there_if_compared (attribute_value (lowercased name) e.tag) (λ value. compares operator (compared (ignores_case case e.tag.namespace) value) (compared (ignores_case case e.tag.namespace) operand)) all)
+attribute_right e (NoneOf _) key h = cc
+attribute_right e (SomeOf _) key h = cc
+
+key_right : (e : Element) (c : Compound) (key : AttributeKey) → attribute_key c ≡ Some key → all_hold c e ≡ true → attribute_holds (test_of_key key) e ≡ true
+key_right e c key h all = by_id (first_read read_id c) refl h
+  where
+    by_class : (o : Option AttributeKey) → first_read read_class c ≡ o → first_of o (first_read read_attribute c) ≡ Some key → attribute_holds (test_of_key key) e ≡ true
+    by_class None is found = read_right read_attribute (λ k. attribute_holds (test_of_key k) e ≡ true) e (attribute_right e) c key found all
+    by_class (Some k) is found = read_right read_class (λ k. attribute_holds (test_of_key k) e ≡ true) e (class_right e) c key (is ∙ found) all
+
+    by_id : (o : Option AttributeKey) → first_read read_id c ≡ o → first_of o (first_of (first_read read_class c) (first_read read_attribute c)) ≡ Some key → attribute_holds (test_of_key key) e ≡ true
+    by_id None is found = by_class (first_read read_class c) refl found
+    by_id (Some k) is found = read_right read_id (λ k. attribute_holds (test_of_key k) e ≡ true) e (id_right e) c key (is ∙ found) all
+
+pub lacking_fails : (e : Element) (c : Compound) → lacks (attribute_key c) e ≡ true → all_hold c e ≡ false
+lacking_fails e c h = by_key (attribute_key c) refl h
+  where
+    by_key : (o : Option AttributeKey) → attribute_key c ≡ o → lacks o e ≡ true → all_hold c e ≡ false
+    by_key None is lack = cc
+    by_key (Some key) is lack = not_true (all_hold c e) (λ all. let has = key_right e c key is all in cc)
+
+-- 2. Another name makes the value by names false
+
+both-right_false : (v : NameValue) → both v False ≡ False
+both-right_false True = refl
+both-right_false False = refl
+both-right_false Open = refl
+
+name_false : (e : Element) (test : Test) (name : List ℕ) → read_name test ≡ Some name → not (same_name e.tag.name name) ≡ true → test_by_names test e ≡ False
+name_false e (OfName AnyName) name h = cc
+name_false e (OfName NoName) name h = cc
+name_false e (OfName (HasName own)) name h = λ other.
+    let differs : same_name e.tag.name own ≡ false = ap (same_name e.tag.name) (some_injective own name h) ∙ negated (same_name e.tag.name name) other in
+    ap value_of_bool differs
+  where
+    negated : (b : Bool) → not b ≡ true → b ≡ false
+    negated true h = sym h
+    negated false h = refl
+name_false e (OfName (IsNthChild nth)) name h = cc
+name_false e (OfName (IsNthOfType nth)) name h = cc
+name_false e (OfAttributes test) name h = cc
+name_false e (NoneOf _) name h = cc
+name_false e (SomeOf _) name h = cc
+
+named_false : (e : Element) (c : Compound) (name : List ℕ) → name_key c ≡ Some name → not (same_name e.tag.name name) ≡ true → by_names c e ≡ False
+named_false e NoTests name h other = cc
+named_false e (AndTest test tests) name h other = by_first (read_name test) refl h (λ found. named_false e tests name found other)
+  where
+    by_first : (o : Option (List ℕ)) → read_name test ≡ o → first_of o (name_key tests) ≡ Some name → (name_key tests ≡ Some name → by_names tests e ≡ False) → by_names (AndTest test tests) e ≡ False
+    by_first None is found later = ap (both (test_by_names test e)) (later found) ∙ both-right_false (test_by_names test e)
+    by_first (Some k) is found later = ap (λ (v : NameValue). both v (by_names tests e)) (name_false e test name (is ∙ found) other)
+
+pub another_name_is_false : (e : Element) (c : Compound) → is_another_name (name_key c) e ≡ true → by_names c e ≡ False
+another_name_is_false e c h = by_key (name_key c) refl h
+  where
+    by_key : (o : Option (List ℕ)) → name_key c ≡ o → is_another_name o e ≡ true → by_names c e ≡ False
+    by_key None is other = cc
+    by_key (Some name) is other = named_false e c name is other
+
+-- 3. What is surely open
+
+-- what is open stays open with what isn't false, and or what isn't true
+open_with : (v : NameValue) → (v ≡ True) ⊎ (v ≡ Open) → both Open v ≡ Open
+open_with v (inl h) = ap (both Open) h
+open_with v (inr h) = ap (both Open) h
+
+open_or : (v : NameValue) → (v ≡ False) ⊎ (v ≡ Open) → either Open v ≡ Open
+open_or v (inl h) = ap (either Open) h
+open_or v (inr h) = ap (either Open) h
+
+module _ (e : Element) where
+  mutual
+    open_test : (test : Test) → test_opens test ≡ true → test_by_names test e ≡ Open
+    open_test (OfName test) h = cc
+    open_test (OfAttributes test) h = refl
+    open_test (NoneOf compounds) h = ap opposite (open_some compounds h)
+    open_test (SomeOf compounds) h = open_some compounds h
+
+    open_compound : (c : Compound) → compound_opens c ≡ true → by_names c e ≡ Open
+    open_compound NoTests h = cc
+    open_compound (AndTest test tests) h =
+        let parts = and_parts (test_opens test) (rest_opens tests) h in
+        ap (λ (v : NameValue). both v (by_names tests e)) (open_test test parts.0) ∙ open_with (by_names tests e) (open_rest tests parts.1)
+
+    open_rest : (c : Compound) → rest_opens c ≡ true → (by_names c e ≡ True) ⊎ (by_names c e ≡ Open)
+    open_rest NoTests h = inl refl
+    open_rest (AndTest test tests) h =
+        let parts = and_parts (test_opens test) (rest_opens tests) h in
+        inr (ap (λ (v : NameValue). both v (by_names tests e)) (open_test test parts.0) ∙ open_with (by_names tests e) (open_rest tests parts.1))
+
+    open_some : (cs : Compounds) → some_open cs ≡ true → some_by_names cs e ≡ Open
+    open_some NoCompounds h = cc
+    open_some (OrCompound c cs) h =
+        let parts = and_parts (compound_opens c) (others_open cs) h in
+        ap (λ (v : NameValue). either v (some_by_names cs e)) (open_compound c parts.0) ∙ open_or (some_by_names cs e) (open_others cs parts.1)
+
+    open_others : (cs : Compounds) → others_open cs ≡ true → (some_by_names cs e ≡ False) ⊎ (some_by_names cs e ≡ Open)
+    open_others NoCompounds h = inl refl
+    open_others (OrCompound c cs) h =
+        let parts = and_parts (compound_opens c) (others_open cs) h in
+        inr (ap (λ (v : NameValue). either v (some_by_names cs e)) (open_compound c parts.0) ∙ open_or (some_by_names cs e) (open_others cs parts.1))
+
+  -- tests of any name are true
+  without_any_same : (c : Compound) → by_names (without_any c) e ≡ by_names c e
+  without_any_same NoTests = refl
+  without_any_same (AndTest (OfName AnyName) tests) = without_any_same tests
+  without_any_same (AndTest (OfName NoName) tests) = ap (both False) (without_any_same tests)
+  without_any_same (AndTest (OfName (HasName name)) tests) = ap (both (value_of_bool (same_name e.tag.name name))) (without_any_same tests)
+  without_any_same (AndTest (OfName (IsNthChild nth)) tests) = ap (both (test_by_names (OfName (IsNthChild nth)) e)) (without_any_same tests)
+  without_any_same (AndTest (OfName (IsNthOfType nth)) tests) = ap (both (test_by_names (OfName (IsNthOfType nth)) e)) (without_any_same tests)
+  without_any_same (AndTest (OfAttributes test) tests) = ap (both Open) (without_any_same tests)
+  without_any_same (AndTest (NoneOf cs) tests) = ap (both (test_by_names (NoneOf cs) e)) (without_any_same tests)
+  without_any_same (AndTest (SomeOf cs) tests) = ap (both (test_by_names (SomeOf cs) e)) (without_any_same tests)
+
+  without_any_key : (c : Compound) → name_key (without_any c) ≡ name_key c
+  without_any_key NoTests = refl
+  without_any_key (AndTest (OfName AnyName) tests) = without_any_key tests
+  without_any_key (AndTest (OfName NoName) tests) = without_any_key tests
+  without_any_key (AndTest (OfName (HasName name)) tests) = refl
+  without_any_key (AndTest (OfName (IsNthChild nth)) tests) = without_any_key tests
+  without_any_key (AndTest (OfName (IsNthOfType nth)) tests) = without_any_key tests
+  without_any_key (AndTest (OfAttributes test) tests) = without_any_key tests
+  without_any_key (AndTest (NoneOf cs) tests) = without_any_key tests
+  without_any_key (AndTest (SomeOf cs) tests) = without_any_key tests
+
+  -- the test of the name is true where it isn't another
+  without_name_same : (c : Compound) → is_another_name (name_key c) e ≡ false → by_names (without_name c) e ≡ by_names c e
+  without_name_same NoTests h = refl
+  without_name_same (AndTest (OfName AnyName) tests) h = ap (both True) (without_name_same tests h)
+  without_name_same (AndTest (OfName NoName) tests) h = ap (both False) (without_name_same tests h)
+  without_name_same (AndTest (OfName (HasName name)) tests) h = ap (λ b. both (value_of_bool b) (by_names tests e)) (sym (not_another (same_name e.tag.name name) h))
+    where
+      not_another : (b : Bool) → not b ≡ false → b ≡ true
+      not_another true h = refl
+      not_another false h = sym h
+  without_name_same (AndTest (OfName (IsNthChild nth)) tests) h = ap (both (test_by_names (OfName (IsNthChild nth)) e)) (without_name_same tests h)
+  without_name_same (AndTest (OfName (IsNthOfType nth)) tests) h = ap (both (test_by_names (OfName (IsNthOfType nth)) e)) (without_name_same tests h)
+  without_name_same (AndTest (OfAttributes test) tests) h = ap (both Open) (without_name_same tests h)
+  without_name_same (AndTest (NoneOf cs) tests) h = ap (both (test_by_names (NoneOf cs) e)) (without_name_same tests h)
+  without_name_same (AndTest (SomeOf cs) tests) h = ap (both (test_by_names (SomeOf cs) e)) (without_name_same tests h)
+
+  pub opens_is_open : (c : Compound) → opens_where_named c ≡ true → is_another_name (name_key c) e ≡ false → by_names c e ≡ Open
+  opens_is_open c h named =
+      sym (without_name_same (without_any c) (ap (λ o. is_another_name o e) (without_any_key c) ∙ named) ∙ without_any_same c)
+      ∙ open_compound (without_name (without_any c)) h
+
+-- 4. The choices are right
+
+pub both_keys_are_right : (c : Compound) → AreKeysOf (both_keys c) c
+both_keys_are_right c = record {
+  by_name = λ e h. another_name_is_false e c h;
+  by_attributes = λ e h. lacking_fails e c h;
+  opens = λ e h named. opens_is_open e c h named;
+}
+
+unless_named_lacks : (name : Option (List ℕ)) (key : Option AttributeKey) (e : Element) → lacks (unless_named name key) e ≡ true → lacks key e ≡ true
+unless_named_lacks None key e h = h
+unless_named_lacks (Some name) key e h = cc
+
+pub one_key_is_right : (c : Compound) → AreKeysOf (one_key c) c
+one_key_is_right c = record {
+  by_name = λ e h. another_name_is_false e c h;
+  by_attributes = λ e h. lacking_fails e c (unless_named_lacks (name_key c) (attribute_key c) e h);
+  opens = λ e h named. opens_is_open e c h named;
+}
+
+pub no_keys_are_right : (c : Compound) → AreKeysOf no_keys c
+no_keys_are_right c = record { by_name = λ e h. cc; by_attributes = λ e h. cc; opens = λ e h named. cc }
+
+-- 5. The keys of a tag
+
+any_append : {T : Type 0} (p : T → Bool) (xs ys : List T) → list_any p (xs ++ ys) ≡ (list_any p xs || list_any p ys)
+any_append p [] ys = refl
+any_append p (x ∷ xs) ys = by_test (p x) (any_append p xs ys)
+  where
+    by_test : (b : Bool) → list_any p (xs ++ ys) ≡ (list_any p xs || list_any p ys) → (b || list_any p (xs ++ ys)) ≡ ((b || list_any p xs) || list_any p ys)
+    by_test true more = refl
+    by_test false more = more
+
+any_map : {A B : Type 0} (p : B → Bool) (f : A → B) (xs : List A) → list_any p (map f xs) ≡ list_any (λ x. p (f x)) xs
+any_map p f [] = refl
+any_map p f (x ∷ xs) = ap (λ b. p (f x) || b) (any_map p f xs)
+
+any_never : {A : Type 0} (xs : List A) → list_any (λ x. false) xs ≡ false
+any_never [] = refl
+any_never (x ∷ xs) = any_never xs
+
+value_passes : (o : Option (List ℕ)) (test : List ℕ → Bool) → has_value o test ≡ list_any test (option_to_list o)
+value_passes None test = refl
+value_passes (Some value) test = sym (or-false (test value))
+
+words_pass : (o : Option (List ℕ)) (test : List ℕ → Bool) → has_value o (λ value. list_any test (words value)) ≡ list_any test (words_of o)
+words_pass None test = refl
+words_pass (Some value) test = refl
+
+names_pass : (name : List ℕ) (attributes : List Attribute) → has_value (option_map (λ (a : Attribute). unwrap_or a.value []) (find_attribute name attributes)) (λ value. true) ≡ list_any (λ (a : Attribute). bytes_eq (lowercased a.name) name) attributes
+names_pass name [] = refl
+names_pass name (a ∷ more) = by_test (bytes_eq (lowercased a.name) name) (names_pass name more)
+  where
+    by_test : (b : Bool) → has_value (option_map (λ (x : Attribute). unwrap_or x.value []) (find_attribute name more)) (λ value. true) ≡ list_any (λ (x : Attribute). bytes_eq (lowercased x.name) name) more
+        → has_value (option_map (λ (x : Attribute). unwrap_or x.value []) (cond b (Some a) (find_attribute name more))) (λ value. true) ≡ (b || list_any (λ (x : Attribute). bytes_eq (lowercased x.name) name) more)
+    by_test true h = refl
+    by_test false h = h
+
+-- of three parts only one is looked at
+module _ (ids classes : List (List ℕ)) (attributes : List Attribute) where
+  in_parts : (key : AttributeKey) → list_any (same_key key) (map ById ids ++ (map ByClass classes ++ map (λ (a : Attribute). ByAttribute (lowercased a.name)) attributes))
+      ≡ (list_any (λ id. same_key key (ById id)) ids || (list_any (λ name. same_key key (ByClass name)) classes || list_any (λ (a : Attribute). same_key key (ByAttribute (lowercased a.name))) attributes))
+  in_parts key =
+      any_append (same_key key) (map ById ids) (map ByClass classes ++ map (λ (a : Attribute). ByAttribute (lowercased a.name)) attributes)
+      ∙ (λ i. any_map (same_key key) ById ids i || (any_append (same_key key) (map ByClass classes) (map (λ (a : Attribute). ByAttribute (lowercased a.name)) attributes)
+      ∙ (λ j. any_map (same_key key) ByClass classes j || any_map (same_key key) (λ (a : Attribute). ByAttribute (lowercased a.name)) attributes j)) i)
+
+pub keys_are_of_tags : KeysAreOfTags
+keys_are_of_tags (ById id) e =
+    let ids = option_to_list (attribute_value (codes "id") e.tag) in
+    let classes = words_of (attribute_value (codes "class") e.tag) in
+    value_passes (attribute_value (codes "id") e.tag) (λ value. bytes_eq value id)
+    ∙ sym (or-false (list_any (λ value. bytes_eq value id) ids))
+    ∙ (λ i. list_any (λ value. bytes_eq value id) ids || (sym (any_never classes) i || sym (any_never e.tag.attributes) i))
+    ∙ sym (in_parts ids classes e.tag.attributes (ById id))
+keys_are_of_tags (ByClass name) e =
+    let ids = option_to_list (attribute_value (codes "id") e.tag) in
+    let classes = words_of (attribute_value (codes "class") e.tag) in
+    words_pass (attribute_value (codes "class") e.tag) (λ word. bytes_eq word name)
+    ∙ sym (or-false (list_any (λ word. bytes_eq word name) classes))
+    ∙ (λ i. sym (any_never ids) i || (list_any (λ word. bytes_eq word name) classes || sym (any_never e.tag.attributes) i))
+    ∙ sym (in_parts ids classes e.tag.attributes (ByClass name))
+keys_are_of_tags (ByAttribute name) e =
+    let ids = option_to_list (attribute_value (codes "id") e.tag) in
+    let classes = words_of (attribute_value (codes "class") e.tag) in
+    names_pass name e.tag.attributes
+    ∙ (λ i. sym (any_never ids) i || (sym (any_never classes) i || list_any (λ (a : Attribute). bytes_eq (lowercased a.name) name) e.tag.attributes))
+    ∙ sym (in_parts ids classes e.tag.attributes (ByAttribute name))

@@ -1,0 +1,4 @@
+pub mod Keys
+pub mod KeyTries
+pub mod KeyLaws
+pub mod Rows

@@ -1,0 +1,34 @@
+//! Laws of keys, and of what is tried by them.
+
+ghost use Rattle.lol_keys.specs.KeyLaws.{KeysAreRight, KeysAreOfTags, MatchingNodesAreTried, TriedPairsGiveIds, NamesKeepAsks, AsksByTries, FirstStepSeesNoRest, TriesAreAtMost, TriesAndSparedAreAll, NoKeysAreExact, CallsAreCounted, CallsAskWhereAsked, OrderChangesNoTries, AnswersAreSparing};
+
+/// What a key rules out by name is false by names, and what it rules out by attributes doesn't hold; a tag has the keys of its id, its
+/// classes and its attributes' names.
+pub fn keys_rule_out_what_fails()
+    ensures right { KeysAreRight }
+    ensures tags { KeysAreOfTags }
+{}
+
+/// What matches is tried, and what is tried gives the same ids.
+pub fn matching_nodes_are_tried()
+    ensures nodes { MatchingNodesAreTried }
+    ensures ids { TriedPairsGiveIds }
+{}
+
+/// Attributes are asked for exactly as before, and that is known before the rest of the tag is.
+pub fn keys_keep_requests()
+    ensures names { NamesKeepAsks }
+    ensures tries { AsksByTries }
+    ensures calls { CallsAskWhereAsked }
+    ensures unseen { FirstStepSeesNoRest }
+{}
+
+/// Both counts are those of the calls, at most the exact ones, with what is ruled out the exact ones, and the same in each order.
+pub fn tries_are_spared()
+    ensures calls { CallsAreCounted }
+    ensures most { TriesAreAtMost }
+    ensures all { TriesAndSparedAreAll }
+    ensures exact { NoKeysAreExact }
+    ensures order { OrderChangesNoTries }
+    ensures answers { AnswersAreSparing }
+{}
