@@ -1,6 +1,6 @@
 -- Worked rows: whole runs of selectors that are read from texts (Selectors 4, "Combinators", "Selector Lists" and "Child-indexed
 -- Pseudo-classes"), counters and limits at their edges.
-use Rattle.std.specs.Prelude.{ℕ, ◌≡◌, ◌+◌, Bool, false, if◌then◌else◌, List, [], ◌∷◌, ◌++◌, map, replicate, length, max, Option, Some, None, codes}
+use Rattle.std.specs.Prelude.{ℕ, ◌≡◌, Bool, false, if◌then◌else◌, List, [], ◌∷◌, ◌++◌, map, replicate, length, max, Option, Some, None, codes}
 use Rattle.lol_base.specs.declared.namespace.Namespace.TheVariants.{Html, Svg}
 use Rattle.lol_program.specs.Paths.{Selectors}
 use Rattle.lol_vm.specs.Events.{Event, Start, End}

@@ -4,5 +4,6 @@
 
 pub mod caseless_names;
 pub mod void_names;
+pub mod worked_answers;
 pub mod worked_runs;
 pub mod worked_texts;

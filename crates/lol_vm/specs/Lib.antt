@@ -4,7 +4,6 @@ pub mod Matching
 pub mod Answers
 pub mod Refusals
 pub mod RunRefusals
-pub mod Rows
 pub mod Views
 pub mod VmErrors
 pub mod Vms

@@ -7,7 +7,6 @@ mod events;
 mod instruction_runs;
 pub mod laws;
 pub mod machine_laws;
-pub mod rows;
 mod run;
 pub mod run_laws;
 mod started;

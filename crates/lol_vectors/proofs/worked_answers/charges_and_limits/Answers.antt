@@ -1,6 +1,6 @@
 use Rattle.std.proofs.Common.{rules}
 use Rattle.lol_base.specs.Names.{void_names, esi_names}
-use Rattle.lol_vm.proofs.rows.values_by_names.Goals as goal
+use Rattle.lol_vectors.proofs.worked_answers.charges_and_limits.Goals as goal
 
 pub returns : goal.returns
 unfolding void_names esi_names

@@ -1,6 +1,6 @@
 use Rattle.std.proofs.Common.{rules}
 use Rattle.lol_base.specs.Names.{void_names, esi_names}
-use Rattle.lol_vm.proofs.rows.answers_to_tags.Goals as goal
+use Rattle.lol_vectors.proofs.worked_answers.answers_to_functions.Goals as goal
 
 pub returns : goal.returns
 unfolding void_names esi_names
