@@ -9,7 +9,7 @@ use Rattle.std.proofs.Math.ListN.{length-set}
 use Rattle.std.proofs.lemmas.Nat.{le_or_l, le_or_r}
 use Rattle.std.specs.Int.Bits.{or_zero_l}
 use Rattle.lol_memory.specs.declared.sparse_words.SparseWord.{SparseWord}
-use Rattle.lol_memory.specs.SparseWords.{no_word, place_at, bits_at, word_at, Ascend, word_count, all_words, IsSparse, IsAt, IsGapFor, HasPlace}
+use Rattle.lol_memory.specs.SparseWords.{no_word, place_at, bits_at, word_at, Ascend, word_count, all_words, IsSparse, IsScattered, IsAt, IsGapFor, HasPlace}
 use Rattle.lol_memory.specs.Ids.{HasRoom, HasRoomFor}
 use Rattle.lol_memory.specs.Words.{ids_held, held_words, IsTrim, IsMarked, IsJoined, AreDense}
 use Rattle.lol_memory.specs.WordsOf.{words_of, IsInForm, HasWord, IsList}
@@ -113,14 +113,6 @@ gathered_all ws list ascend all j =
     ]
 
 -- ---- words with their places from a list of all
--- those of the first n words that hold ids, and the first
-pub record IsScattered (list : List ℕ) (n : ℕ) (ws : List SparseWord) : Type 0 where
-  pub first : 0 < n → (0 < length ws) × (place_at ws 0 ≡ 0)
-  pub below : (i : ℕ) → i < length ws → place_at ws i < n
-  pub ascend : Ascend ws
-  pub held : (i : ℕ) → 0 < i → i < length ws → bits_at ws i ≢ 0
-  pub same : (j : ℕ) → j < n → word_at ws j ≡ get_or list j 0
-
 module _ (ws : List SparseWord) (w : SparseWord) (below : (i : ℕ) → i < length ws → place_at ws i < w.place) where
   gap : IsGapFor ws w.place (length ws)
   gap = record { in_range = omega arith; lower = below; higher = λ j low high. absurd (omega arith) }

@@ -1,5 +1,6 @@
 pub mod UnionLemmas
 pub mod FormLemmas
+pub mod MergeLemmas
 pub mod HeldLemmas
 pub mod SparseLemmas
 pub mod WordsLemmas

@@ -1,5 +1,5 @@
 -- Words with their places, in ascending order: those that aren't there are 0.
-use Rattle.std.specs.Prelude.{◌≡◌, ◌≢◌, ℕ, ◌+◌, ◌-◌, ◌<◌, ◌≤◌, List, [], ◌∷◌, length, map, nat_eq, cond, slice_index_or}
+use Rattle.std.specs.Prelude.{◌≡◌, ◌≢◌, ℕ, ◌+◌, ◌-◌, ◌<◌, ◌≤◌, ◌⊎◌, List, [], ◌∷◌, length, get_or, map, nat_eq, cond, slice_index_or}
 use Rattle.std.specs.List.{range_with_len}
 use Rattle.lol_memory.specs.declared.sparse_words.SparseWord.{SparseWord}
 
@@ -51,3 +51,23 @@ pub record IsGapFor (ws : List SparseWord) (place i : ℕ) : Type 0 where
 -- a word of the place is there
 abbrev pub HasPlace : List SparseWord → ℕ → Type 0
 HasPlace ws place = (i : ℕ) × IsAt ws place i
+
+-- those of the first n words of a list that hold ids, and the first
+pub record IsScattered (list : List ℕ) (n : ℕ) (ws : List SparseWord) : Type 0 where
+  pub first : 0 < n → (0 < length ws) × (place_at ws 0 ≡ 0)
+  pub below : (i : ℕ) → i < length ws → place_at ws i < n
+  pub ascend : Ascend ws
+  pub held : (i : ℕ) → 0 < i → i < length ws → bits_at ws i ≢ 0
+  pub same : (j : ℕ) → j < n → word_at ws j ≡ get_or list j 0
+
+-- the words before the index i are of places below n, and the others of places from n on
+pub record IsCut (ws : List SparseWord) (i n : ℕ) : Type 0 where
+  pub in_range : i ≤ length ws
+  pub before : (k : ℕ) → k < i → place_at ws k < n
+  pub from : (k : ℕ) → i ≤ k → k < length ws → n ≤ place_at ws k
+
+-- the lower of the first places of two lists from the indices i and j on
+pub record IsLowest (ws : List SparseWord) (i : ℕ) (vs : List SparseWord) (j place : ℕ) : Type 0 where
+  pub first : i < length ws → place ≤ place_at ws i
+  pub second : j < length vs → place ≤ place_at vs j
+  pub there : ((i < length ws) × (place_at ws i ≡ place)) ⊎ ((j < length vs) × (place_at vs j ≡ place))

@@ -66,8 +66,8 @@ impl DenseHashSet {
         Ok(())
     }
 
-    /// Adds the ids of `other`: 32 at a time where both sets are dense, and else one by one. It is refused only where memory is wanted and
-    /// isn't there: never where the set has room for each of these ids.
+    /// Adds the ids of `other`, 32 at a time: in place where both sets are dense or there is room for each, and else by words that are made
+    /// anew from those of both. It is refused only where memory is wanted and isn't there: never where the set has room for each of these ids.
     pub fn union(&mut self, other: &DenseHashSet) -> Result<(), AllocError>
         ensures ok { OnOk result (self.new ≡ joined self.old other.now) }
         ensures free { HasRoomFor self.old other.now → IsOk result }
@@ -99,7 +99,7 @@ impl DenseHashSet {
         self.add_each(other)
     }
 
-    /// Adds the ids of `other` one by one: in place where there is room for each, or else in a copy.
+    /// Adds the ids of `other`: in place where there is room for each, or else by words that are made anew from those of both.
     fn add_each(&mut self, other: &DenseHashSet) -> Result<(), AllocError>
         ensures ok { OnOk result (self.new ≡ joined self.old other.now) }
         ensures free { HasRoomFor self.old other.now → IsOk result }
@@ -109,11 +109,7 @@ impl DenseHashSet {
             self.mark_each(other);
             return Ok(());
         }
-        let mut both = self.try_clone()?;
-        for id in other.iter() {
-            both.insert(id)?;
-        }
-        *self = both;
+        self.words = self.words.merge(self.alloc, &other.words)?;
         Ok(())
     }
 

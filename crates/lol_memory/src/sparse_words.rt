@@ -1,7 +1,7 @@
 //! The words of a set that is sparse, each with its place.
 
-ghost use Rattle.std.specs.Prelude.{◌≡◌, ◌≢◌, ◌≤◌, ◌<◌, ◌+◌, ◌^◌, ℕ, length, get_or, IfOk, IfErr};
-ghost use Rattle.lol_memory.specs.SparseWords.{Ascend, IsAt, IsGapFor, IsSparse, all_words, word_at, word_count};
+ghost use Rattle.std.specs.Prelude.{◌≡◌, ◌≢◌, ◌≤◌, ◌<◌, ◌+◌, ◌^◌, ℕ, length, get_or, bit_or, IfOk, IfErr, IfSome, IfNone};
+ghost use Rattle.lol_memory.specs.SparseWords.{Ascend, IsAt, IsCut, IsGapFor, IsLowest, IsScattered, IsSparse, all_words, word_at, word_count};
 
 use crate::words::count_held;
 use std::alloc::{AllocError, Global};
@@ -48,6 +48,24 @@ pub(crate) fn gather(
     Ok(list)
 }
 
+/// The first of the words of a list and those that hold ids, with their places. There is room for one word more.
+pub(crate) fn placed(words: &[u32], alloc: Global) -> Result<Vec<SparseWord>, AllocError>
+    requires some { 0 < length words.now }
+    requires few { length words.now ≤ 2 ^ 32 }
+    ensures { IfOk result (λ sparse. IsScattered words.now (length words.now) sparse.items) }
+{
+    let mut sparse = Vec::with_capacity(alloc, count_held(&words[1..]) + 2)?;
+    for (place, bits) in words.iter().enumerate() {
+        if place == 0 || *bits != 0 {
+            sparse.push(SparseWord {
+                place: place as u32,
+                bits: *bits,
+            })?;
+        }
+    }
+    Ok(sparse)
+}
+
 /// The first of the words of a list and those that hold ids, with their places, and `last` after them.
 pub(crate) fn scatter(
     words: &[u32],
@@ -62,15 +80,58 @@ pub(crate) fn scatter(
     ensures same { IfOk result (λ sparse. (j : ℕ) → j ≢ last.place → word_at sparse.items j ≡ get_or words.now j 0) }
     ensures count { IfOk result (λ sparse. length (all_words sparse.items) ≡ last.place + 1) }
 {
-    let mut sparse = Vec::with_capacity(alloc, count_held(&words[1..]) + 2)?;
-    for (place, bits) in words.iter().enumerate() {
-        if place == 0 || *bits != 0 {
-            sparse.push(SparseWord {
-                place: place as u32,
-                bits: *bits,
-            })?;
-        }
-    }
+    let mut sparse = placed(words, alloc)?;
     sparse.push(last)?;
     Ok(sparse)
+}
+
+/// The words of two lists in one, each place once with the bits of both. It goes through each list once.
+pub(crate) fn merge(
+    words: &[SparseWord],
+    more: &[SparseWord],
+    alloc: Global,
+) -> Result<Vec<SparseWord>, AllocError>
+    requires sparse { IsSparse words.now }
+    requires more { IsSparse more.now }
+    ensures sparse { IfOk result (λ both. IsSparse both.items) }
+    ensures bits { IfOk result (λ both. (j : ℕ)
+        → word_at both.items j ≡ bit_or (word_at words.now j) (word_at more.now j)) }
+{
+    let mut both = Vec::with_capacity(alloc, words.len() + more.len())?;
+    let mut index = 0;
+    let mut more_index = 0;
+    while let Some(place) = lowest(words, index, more, more_index) {
+        let bits = take_at(words, &mut index, place) | take_at(more, &mut more_index, place);
+        both.push(SparseWord { place, bits })?;
+    }
+    Ok(both)
+}
+
+/// The lowest place among the words of two lists, of which those from these indices on are left.
+fn lowest(words: &[SparseWord], index: usize, more: &[SparseWord], more_index: usize) -> Option<u32>
+    ensures some { IfSome result (IsLowest words.now index more.now more_index) }
+    ensures none { IfNone result ((length words.now ≤ index) × (length more.now ≤ more_index)) }
+{
+    match (words.get(index), more.get(more_index)) {
+        (Some(word), Some(other)) => Some(word.place.min(other.place)),
+        (Some(word), None) => Some(word.place),
+        (None, Some(other)) => Some(other.place),
+        (None, None) => None,
+    }
+}
+
+/// The bits of the word at `place`, or none; the words from `index` on are left, and `place` is no higher than these.
+fn take_at(words: &[SparseWord], index: &mut usize, place: u32) -> u32
+    requires ascend { Ascend words.now }
+    requires cut { IsCut words.now index.old place }
+    ensures bits { result ≡ word_at words.now place }
+    ensures cut { IsCut words.now index.new (place + 1) }
+{
+    match words.get(*index) {
+        Some(word) if word.place == place => {
+            *index += 1;
+            word.bits
+        }
+        _ => 0,
+    }
 }

@@ -1,9 +1,10 @@
 //! The words of a set of ids.
 
 ghost use Rattle.std.specs.Prelude.{◌≡◌, ◌≢◌, ◌≤◌, ◌<◌, ◌+◌, ◌*◌, ◌^◌, ◌↔◌, ℕ, length, max, get_or, bit_or, ◌⊎◌, OnOk, OnErr, IfOk, IsOk, IsTrue, IfSome, IsNone, not, nat_eq, filter};
-ghost use Rattle.lol_memory.specs.Words.{AreDense, IsMarked, IsJoined, held_words};
+ghost use Rattle.lol_memory.specs.Words.{AreDense, IsMarked, IsJoined, IsTrim, held_words};
+ghost use Rattle.lol_memory.specs.SparseWords.{IsSparse, all_words, word_at};
 
-use crate::sparse_words::{SparseWord, find, gather, scatter, word_count};
+use crate::sparse_words::{SparseWord, find, gather, merge, placed, scatter, word_count};
 use std::alloc::{AllocError, Global};
 use std::slice;
 
@@ -201,6 +202,73 @@ impl Words {
             Words::Sparse(_) => {}
         }
         Ok(())
+    }
+
+    /// The words of both, in the form for what they hold. It goes through the words of each once, and takes memory for both.
+    pub(crate) fn merge(&self, alloc: Global, other: &Words) -> Result<Words, AllocError>
+        requires form { IsInForm self.now }
+        requires other_form { IsInForm other.now }
+        requires trim { IsTrim (words_of self.now) }
+        requires other_trim { IsTrim (words_of other.now) }
+        ensures form { IfOk result (λ both. IsInForm both) }
+        ensures joined { IfOk result (λ both. IsJoined (words_of self.now) (words_of other.now) (words_of both)) }
+    {
+        let both = self.merge_words(alloc, other)?;
+        Words::in_form(alloc, both)
+    }
+
+    /// The words of both, those that hold ids and the first, with their places.
+    fn merge_words(&self, alloc: Global, other: &Words) -> Result<Vec<SparseWord>, AllocError>
+        requires form { IsInForm self.now }
+        requires few { length (words_of self.now) ≤ 2 ^ 27 }
+        requires other_form { IsInForm other.now }
+        requires other_few { length (words_of other.now) ≤ 2 ^ 27 }
+        ensures sparse { IfOk result (λ both. IsSparse both.items) }
+        ensures bits { IfOk result (λ both. (j : ℕ)
+            → word_at both.items j ≡ bit_or (get_or (words_of self.now) j 0) (get_or (words_of other.now) j 0)) }
+    {
+        match other {
+            Words::Inline(word) => self.merge_placed(alloc, &placed(slice::from_ref(word), alloc)?),
+            Words::Heap(words) => self.merge_placed(alloc, &placed(words, alloc)?),
+            Words::Sparse(words) => self.merge_placed(alloc, words),
+        }
+    }
+
+    /// These words and `more`, those that hold ids and the first, with their places.
+    fn merge_placed(
+        &self,
+        alloc: Global,
+        more: &[SparseWord],
+    ) -> Result<Vec<SparseWord>, AllocError>
+        requires form { IsInForm self.now }
+        requires few { length (words_of self.now) ≤ 2 ^ 27 }
+        requires more { IsSparse more.now }
+        ensures sparse { IfOk result (λ both. IsSparse both.items) }
+        ensures bits { IfOk result (λ both. (j : ℕ)
+            → word_at both.items j ≡ bit_or (get_or (words_of self.now) j 0) (word_at more.now j)) }
+    {
+        match self {
+            Words::Inline(word) => merge(&placed(slice::from_ref(word), alloc)?, more, alloc),
+            Words::Heap(words) => merge(&placed(words, alloc)?, more, alloc),
+            Words::Sparse(words) => merge(words, more, alloc),
+        }
+    }
+
+    /// The form for what these words hold.
+    fn in_form(alloc: Global, words: Vec<SparseWord>) -> Result<Words, AllocError>
+        requires sparse { IsSparse words.items }
+        requires few { length (all_words words.items) ≤ 2 ^ 27 }
+        ensures form { IfOk result (λ made. IsInForm made) }
+        ensures same { IfOk result (λ made. words_of made ≡ all_words words.items) }
+    {
+        let len = word_count(&words);
+        if len == 1 {
+            return Ok(Words::Inline(words[0].bits));
+        }
+        if len <= 16 + 4 * (words.len() - 1) {
+            return Ok(Words::Heap(gather(&words, alloc, len)?));
+        }
+        Ok(Words::Sparse(words))
     }
 
     /// Whether the words are the same.

@@ -231,6 +231,55 @@ fn are_joined_in_each_form(rt: HostRuntime) -> Result<(), Fail> {
     Ok(())
 }
 
+/// The ids of every `step`th word from `first` on, `count` of them.
+fn far_apart(alloc: Global, first: u32, step: u32, count: u32) -> Result<Vec<u32>, AllocError> {
+    let mut ids = Vec::new(alloc);
+    for place in 0..count {
+        ids.push(32u32.wrapping_mul(first.wrapping_add(step.wrapping_mul(place))))?;
+    }
+    Ok(ids)
+}
+
+/// What two sets of far ids have: words in turn, all of one after those of the other, some or all in both, and so many that both
+/// together make a list.
+const FAR: [[u32; 3]; 6] = [
+    [500, 1_000, 300],
+    [400_000, 1_000, 300],
+    [0, 1_500, 200],
+    [0, 1_000, 300],
+    [1, 1, 40],
+    [1, 4, 75_000],
+];
+
+#[test]
+fn are_joined_if_their_ids_are_far_apart(rt: HostRuntime) -> Result<(), Fail> {
+    let ids = far_apart(rt.alloc(), 0, 1_000, 300)?;
+    for [first, step, count] in FAR {
+        let others = far_apart(rt.alloc(), first, step, count)?;
+        assert!(rt;
+            is_joined(rt.alloc(), ids.as_slice(), others.as_slice())?,
+            "{first} {step}"
+        );
+    }
+    Ok(())
+}
+
+/// Two sets of 100,000 ids, each in a word of its own: what the union takes grows with what they hold.
+#[test]
+fn are_joined_if_they_are_large(rt: HostRuntime) -> Result<(), Fail> {
+    let mut set = set_of(
+        rt.alloc(),
+        far_apart(rt.alloc(), 0, 400, 100_000)?.as_slice(),
+    )?;
+    let others = set_of(
+        rt.alloc(),
+        far_apart(rt.alloc(), 200, 400, 100_000)?.as_slice(),
+    )?;
+    set.union(&others)?;
+    assert!(rt; set.iter().eq((0..200_000u32).map(|place| 6_400 * place)));
+    Ok(())
+}
+
 /// Whether a set that takes the ids in turn has those of an ordered set after each, and room for the last.
 fn follows(alloc: Global, ids: &[u32]) -> Result<bool, AllocError> {
     let mut set = DenseHashSet::new(alloc);

@@ -1,12 +1,17 @@
-use Rattle.std.proofs.Common.{sym, subst}
-use Rattle.lol_memory.proofs.UnionLemmas.{HasAlso, also_more, also_all, all_yielded}
+use Rattle.std.proofs.Common.{◌∙◌}
+use Rattle.lol_memory.specs.Ids.{union}
+use Rattle.lol_memory.specs.WordsOf.{words_of}
+use Rattle.lol_memory.proofs.WordsLemmas.{joined}
 use Rattle.lol_memory.proofs.dense_hash_set.DenseHashSet.add_each.Goals as goal
 
-pub loop-id-preserved : goal.loop-id-preserved
-loop-id-preserved c =
-    subst (HasAlso c.args.self.now _) (sym c.in_ok-insert.ensures.ok) (also_more c.args.self.now c.loop-id.both c.loop-id.yielded c.in-Some.id c.loop-id.invariant)
+pub invariant_of-self : goal.invariant_of-self
+invariant_of-self c =
+    let here = words_of c.self.inside.words in
+    let more = words_of c.other.inside.words in
+    ((joined here more (words_of c.in_ok-self-inside.field-0) c.self.invariant.0 c.other.invariant.0 c.in_ok-self-inside.ensures.joined).0, c.in_ok-self-inside.ensures.form)
 
 pub returns-clause-ok : goal.returns-clause-ok
 returns-clause-ok c =
-    let all = all_yielded c.args.other.now c.into_iter-id-iterator.result (cc) c.loop-id.yielded _ c.loop-id.yielded_by _ _ c.in-None.is c.next.ensures.steps in
-    also_all c.args.self.now c.args.other.now _ (subst (λ ids. HasAlso c.args.self.now ids c.loop-id.both) all c.loop-id.invariant)
+    let here = words_of c.self.inside.words in
+    let more = words_of c.other.inside.words in
+    (joined here more (words_of c.in_ok-self-inside.field-0) c.self.invariant.0 c.other.invariant.0 c.in_ok-self-inside.ensures.joined).1 ∙ (λ i. union (c.self.view_is i) (c.other.view_is i))
