@@ -188,6 +188,22 @@ node_same place free middle more_free old first second i before m n s t =
       above = λ k a. get_set_other second place k i (λ q. omega (arith, a, q, before, m, n)) ∙ (t.above k a ∙ s.above k (omega (arith, a, n)));
     }
 
+-- what is the same elsewhere after an instruction was put at the place is so as before it
+pub placed_same : (place low high : ℕ) (old placed new : List code.Instruction) (i : code.Instruction) → placed ≡ slice_set old place i → place < low → low ≤ high
+    → SameElsewhere place low high placed new → SameElsewhere place low high old new
+placed_same place low high old placed new i is before after same =
+    let same : SameElsewhere place low high (slice_set old place i) new = subst (λ list. SameElsewhere place low high list new) is same in record {
+      count = same.count ∙ length-set old place i;
+      below = λ k a q. same.below k a q ∙ get_set_other old place k i q;
+      above = λ k a. same.above k a ∙ get_set_other old place k i (λ q. omega (arith, a, q, before, after));
+    }
+
+-- it still stands there after what is under it was laid out
+pub placed_stays : (place free middle more_free : ℕ) (old placed first second : List code.Instruction) (i : code.Instruction) → placed ≡ slice_set old place i → place < length old → place < free → free ≤ middle
+    → SameOutside free middle placed first → SameOutside middle more_free first second → slice_get second place ≡ Some i
+placed_stays place free middle more_free old placed first second i is within before after s t =
+    t.below place (omega (arith, before, after)) ∙ (s.below place before ∙ (ap (λ list. slice_get list place) is ∙ get_set_here old place i within))
+
 pub width_is : (nodes : List AstNode) → width (forest_of nodes) ≡ length nodes
 width_is [] = refl
 width_is (n ∷ nodes) = ap suc (width_is nodes)

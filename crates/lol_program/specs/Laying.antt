@@ -1,10 +1,14 @@
 -- How far a layout has come.
-use Rattle.std.specs.Prelude.{ℕ, ◌+◌, ◌<◌, ◌≤◌, ◌≡◌, ◌≢◌, suc, Bool, List, length, slice_get, Some}
+use Rattle.std.specs.Prelude.{ℕ, ◌+◌, ◌<◌, ◌≤◌, ◌≡◌, ◌≢◌, suc, Bool, List, length, slice_get, slice_set, Option, Some}
 use Rattle.lol_program.specs.Forest.{Forest, none, more, size}
 use Rattle.lol_program.specs.Layouts.{width, instruction_of, any_by_type}
-use Rattle.lol_program.specs.Compiling.{Serves}
+use Rattle.lol_program.specs.Compiling.{Serves, AreCompiledTests}
 use Rattle.lol_program.specs.Programs.{Instruction}
 use Rattle.lol_program.specs.ProgramViews.{code_of}
+use Rattle.std.specs.declared.ops.Range.{Range}
+use Rattle.lol_memory.specs.Ids.{Ids}
+use Rattle.lol_instructions.specs.Compounds.{Compound}
+use Rattle.lol_instructions.specs.Compiled.{tests_in}
 use Rattle.lol_instructions.specs.declared.instruction.Instruction as code
 
 -- how many nodes there are under the roots
@@ -36,3 +40,19 @@ pub record SameElsewhere {A : Type 0} (place low high : ℕ) (old new : List A) 
   pub count : length new ≡ length old
   pub below : (k : ℕ) → k < low → k ≢ place → slice_get new k ≡ slice_get old k
   pub above : (k : ℕ) → high ≤ k → slice_get new k ≡ slice_get old k
+
+-- an instruction of these ids and tests stands at the place, and all others as before
+pub record IsPlaced (place : ℕ) (ids : Ids) (compound : Compound) (old new : List code.Instruction) : Type 0 where
+  pub instruction : code.Instruction
+  pub is : new ≡ slice_set old place instruction
+  pub ids_are : instruction.associated_branch.matched_ids ≡ ids
+  pub tests_are : AreCompiledTests (tests_in instruction.predicate) compound
+
+-- the instruction at the place has these ranges, and all else is as before
+pub record HasJumps (place : ℕ) (jumps hereditary_jumps : Option (Range ℕ)) (old new : List code.Instruction) : Type 0 where
+  pub instruction : code.Instruction
+  pub is : new ≡ slice_set old place instruction
+  pub jumps_are : instruction.associated_branch.jumps ≡ jumps
+  pub hereditary_are : instruction.associated_branch.hereditary_jumps ≡ hereditary_jumps
+  pub kept : (i : code.Instruction) → slice_get old place ≡ Some i
+      → (instruction.predicate ≡ i.predicate) × (instruction.associated_branch.matched_ids ≡ i.associated_branch.matched_ids)

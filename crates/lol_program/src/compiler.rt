@@ -11,7 +11,7 @@ ghost use Rattle.lol_instructions.specs.Compiled.{tests_in};
 ghost use Rattle.lol_program.specs.Programs.{IsProgramOf};
 ghost use Rattle.lol_program.specs.Layouts.{width, range_of, any_by_type, selectors_in};
 ghost use Rattle.lol_program.specs.ProgramViews.{program_shown, allocator_of};
-ghost use Rattle.lol_program.specs.Laying.{AreLaid, SameOutside, SameElsewhere};
+ghost use Rattle.lol_program.specs.Laying.{AreLaid, HasJumps, IsPlaced, SameOutside, SameElsewhere};
 
 use crate::ast::Ast;
 use crate::ast_node::AstNode;
@@ -19,6 +19,7 @@ use crate::compilable::compile_tests;
 use crate::predicate::Predicate;
 use crate::program::Program;
 use lol_instructions::{AddressRange, CompiledPredicate, ExecutionBranch, Instruction};
+use lol_memory::DenseHashSet;
 use std::alloc::{AllocError, Global};
 
 /// What makes programs of trees of selectors (lol_html's `Compiler`).
@@ -147,16 +148,54 @@ impl Layout {
             descendants,
             match_ids,
         } = node;
-        let predicate = self.compile_predicate(predicate)?;
+        self.place_node(place, predicate, match_ids)?;
         let jumps = self.compile_list(children)?;
         let hereditary_jumps = self.compile_list(descendants)?;
+        self.set_jumps(place, jumps, hereditary_jumps);
+        Ok(())
+    }
+
+    /// Compiles the tests of a node, and puts its instruction at a place, without ranges.
+    // Inlined, it would make each step of a recursion take more of the stack.
+    #[inline(never)]
+    fn place_node(
+        &mut self,
+        place: usize,
+        predicate: Predicate,
+        match_ids: DenseHashSet,
+    ) -> Result<(), AllocError>
+        requires { place < length self.old.instructions.items }
+        ensures placed { OnOk result
+            (IsPlaced place match_ids (tests_of predicate) self.old.instructions.items self.new.instructions.items) }
+        ensures by_type { OnOk result (self.new.enable_nth_of_type
+            ≡ (self.old.enable_nth_of_type || has_test_by_type (tests_of predicate))) }
+        ensures free { self.new.free_space_start ≡ self.old.free_space_start }
+    {
+        let predicate = self.compile_predicate(predicate)?;
         let associated_branch = ExecutionBranch {
             matched_ids: match_ids,
-            jumps,
-            hereditary_jumps,
+            jumps: None,
+            hereditary_jumps: None,
         };
         self.instructions[place] = Instruction::new(associated_branch, predicate);
         Ok(())
+    }
+
+    /// Gives the instruction at a place its ranges.
+    fn set_jumps(
+        &mut self,
+        place: usize,
+        jumps: Option<AddressRange>,
+        hereditary_jumps: Option<AddressRange>,
+    )
+        requires { place < length self.old.instructions.items }
+        ensures jumps { HasJumps place jumps hereditary_jumps self.old.instructions.items self.new.instructions.items }
+        ensures by_type { self.new.enable_nth_of_type ≡ self.old.enable_nth_of_type }
+        ensures free { self.new.free_space_start ≡ self.old.free_space_start }
+    {
+        let branch = &mut self.instructions[place].associated_branch;
+        branch.jumps = jumps;
+        branch.hereditary_jumps = hereditary_jumps;
     }
 
     fn compile_predicate(&mut self, predicate: Predicate) -> Result<CompiledPredicate, AllocError>

@@ -1,18 +1,17 @@
 use Rattle.std.proofs.Common.{rules, arith, Bool, ◌||◌, ◌≡◌, ◌+◌, ◌<◌, length, List, refl, sym, ap, subst, ◌∙◌}
 use Rattle.std.specs.Prelude.{slice_set}
+use Rattle.std.proofs.lemmas.List.{length-set}
 use Rattle.std.specs.Vec.Iter.{into_iter_items}
-use Rattle.std.specs.Global.{Vec}
 use Rattle.lol_memory.specs.Ids.{ascending}
 use Rattle.lol_instructions.specs.Compounds.{has_test_by_type}
 use Rattle.lol_program.specs.Predicates.{tests_of}
 use Rattle.lol_instructions.specs.Compiled.{tests_in}
 use Rattle.lol_program.specs.Compiling.{AreCompiledTests}
-use Rattle.lol_instructions.specs.declared.execution_branch.ExecutionBranch.{ExecutionBranch}
 use Rattle.lol_instructions.specs.declared.compiled_predicate.CompiledPredicate.{CompiledPredicate}
 use Rattle.lol_program.specs.Views.{node_of, forest_of}
 use Rattle.lol_program.specs.Forest.{Node, none, link}
 use Rattle.lol_program.specs.Layouts.{width, any_by_type}
-use Rattle.lol_program.specs.Laying.{AreLaid}
+use Rattle.lol_program.specs.Laying.{AreLaid, SameElsewhere}
 use Rattle.lol_program.specs.declared.ast_node.AstNode.{AstNode}
 use Rattle.lol_program.specs.declared.ast_node.AstNode.TheViews.{out-AstNode}
 use Rattle.lol_instructions.specs.declared.instruction.Instruction as code
@@ -20,7 +19,7 @@ use Rattle.lol_base.specs.BoolLaws.{or-false}
 use Rattle.lol_program.proofs.CompiledLists.{flag_more}
 use Rattle.lol_program.proofs.ListPlaces.{empty_from}
 use Rattle.lol_program.specs.NodeViewLaws.{shape, node_out}
-use Rattle.lol_program.proofs.Laying.{IsHalfLaid, half_init, half_step, half_done, node_done, node_same, same_from, width_is, range_some}
+use Rattle.lol_program.proofs.Laying.{IsHalfLaid, half_init, half_step, half_done, node_done, node_same, placed_same, placed_stays, width_is, range_some}
 use Rattle.lol_program.proofs.compiler.Layout.+compile.Goals as goal
 
 pub compile_list-returns-in_ok-compile_nodes-clause-range :
@@ -33,35 +32,51 @@ pub compile_node-returns-clause-laid : goal.compile_node-returns-clause-laid
 compile_node-returns-clause-laid t c =
     let a = c.in_ok-jumps.ensures in
     let b = c.in_ok-hereditary_jumps.ensures in
-    let p = c.in_ok-predicate.ensures in
+    let p = c.in_ok-place_node.ensures in
+    let done = c.set_jumps.ensures.jumps in
     let x = out-AstNode c.args.node in
     let place = c.args.place in
     let free = c.args.self.now.free_space_start in
+    let start = c.place_node.new.self.free_space_start in
+    let middle = c.compile_list.new.self.free_space_start in
+    let more = c.compile_list-2.new.self.free_space_start in
+    let old = c.args.self.now.instructions.items in
+    let placed = c.place_node.new.self.instructions.items in
+    let first = c.compile_list.new.self.instructions.items in
     let second = c.compile_list-2.new.self.instructions.items in
-    let i = c.new.result in
-    let branch = c.new.ensures.branch in
-    let kept : length c.compile_predicate.new.self.instructions.items ≡ length c.args.self.now.instructions.items = ap (λ (v : Vec code.Instruction). length v.items) p.instructions in
-    let within : place < length second = omega (arith, c.requires.room, c.requires.place, a.same.count, b.same.count, kept) in
-    subst (λ (m : Node). AreLaid (slice_set second place i) place free (link m none)) (sym (node_out c.args.node))
-    (node_done (shape x) place free c.compile_predicate.new.self.free_space_start c.compile_list.new.self.free_space_start c.compile_list-2.new.self.free_space_start c.compile_list.new.self.instructions.items second i
+    let there : place < length old = omega (arith, c.requires.room, c.requires.place) in
+    let within : place < length second = omega (arith, there, a.same.count, b.same.count, ap length p.placed.is, length-set old place p.placed.instruction) in
+    let stays = placed_stays place start middle more old placed first second p.placed.instruction p.placed.is there (omega (arith, c.requires.place, p.free)) (omega (arith, a.free)) a.same b.same in
+    let kept = done.kept p.placed.instruction stays in
+    subst (λ (m : Node). AreLaid c.set_jumps.new.self.instructions.items place free (link m none)) (sym (node_out c.args.node))
+    (subst (λ (is : List code.Instruction). AreLaid is place free (link (shape x) none)) (sym done.is)
+    (node_done (shape x) place free start middle more first second done.instruction
     p.free a.free b.free c.requires.place within a.laid b.laid b.same
-    (subst (λ (q : CompiledPredicate). AreCompiledTests (tests_in q) (tests_of x.predicate)) (sym c.new.ensures.predicate) p.tests)
-    (ap (λ (given : ExecutionBranch). ascending given.matched_ids) branch)
-    (ap (λ (given : ExecutionBranch). given.jumps) branch ∙ a.range)
-    (ap (λ (given : ExecutionBranch). given.hereditary_jumps) branch ∙ b.range))
+    (subst (λ (q : CompiledPredicate). AreCompiledTests (tests_in q) (tests_of x.predicate)) (sym kept.0) p.placed.tests_are)
+    (ap ascending (kept.1 ∙ p.placed.ids_are))
+    (done.jumps_are ∙ a.range)
+    (done.hereditary_are ∙ b.range)))
 
 pub compile_node-returns-clause-same : goal.compile_node-returns-clause-same
 compile_node-returns-clause-same t c =
     let a = c.in_ok-jumps.ensures in
     let b = c.in_ok-hereditary_jumps.ensures in
-    let p = c.in_ok-predicate.ensures in
+    let p = c.in_ok-place_node.ensures in
+    let done = c.set_jumps.ensures.jumps in
+    let place = c.args.place in
     let free = c.args.self.now.free_space_start in
+    let start = c.place_node.new.self.free_space_start in
     let middle = c.compile_list.new.self.free_space_start in
     let more = c.compile_list-2.new.self.free_space_start in
-    let first = c.compile_list.new.self.instructions.items in
-    node_same c.args.place free middle more c.args.self.now.instructions.items first c.compile_list-2.new.self.instructions.items _ c.requires.place (omega (arith, a.free, p.free)) (omega (arith, b.free))
-    (same_from c.compile_predicate.new.self.free_space_start free middle c.compile_predicate.new.self.instructions.items c.args.self.now.instructions.items first p.free (ap (λ (v : Vec code.Instruction). v.items) p.instructions) a.same)
-    b.same
+    let old = c.args.self.now.instructions.items in
+    let placed = c.place_node.new.self.instructions.items in
+    let second = c.compile_list-2.new.self.instructions.items in
+    let before : place < start = omega (arith, c.requires.place, p.free) in
+    let same = node_same place start middle more placed c.compile_list.new.self.instructions.items second done.instruction before (omega (arith, a.free)) (omega (arith, b.free)) a.same b.same in
+    let all = placed_same place start more old placed (slice_set second place done.instruction) p.placed.instruction p.placed.is before (omega (arith, a.free, b.free)) same in
+    subst (λ low. SameElsewhere place low c.set_jumps.new.self.free_space_start old c.set_jumps.new.self.instructions.items) p.free
+    (subst (λ high. SameElsewhere place start high old c.set_jumps.new.self.instructions.items) (sym c.set_jumps.ensures.free)
+    (subst (λ (is : List code.Instruction). SameElsewhere place start more old is) (sym done.is) all))
 
 pub compile_nodes-loop-node-init : goal.compile_nodes-loop-node-init
 compile_nodes-loop-node-init t c =
