@@ -1,6 +1,6 @@
 //! Compounds: what they begin with, and one part more (Selectors 4, section 3.1).
 
-ghost use Rattle.std.specs.Prelude.{◌≡◌, Ok, IfOk};
+ghost use Rattle.std.specs.Prelude.{◌≡◌, Ok, IfOk, OnOk};
 ghost use Rattle.std.specs.Option.{option_map};
 ghost use Rattle.lol_css.specs.Trees as trees;
 ghost use Rattle.lol_css.specs.Rules.{giving};
@@ -130,26 +130,22 @@ fn single(alloc: Global, part: SimpleSelector) -> Result<Compound, AllocError>
     Ok(Compound { parts })
 }
 
-/// A compound with one more part.
+/// Adds a part to a compound.
 #[tactic(auto, using(crate::proofs::TreeRows::push_steps))]
-pub(crate) fn with_part(
-    front: Judged<Compound>,
+pub(crate) fn add_part(
+    compound: &mut Judged<Compound>,
     part: Judged<SimpleSelector>,
-) -> Result<Judged<Compound>, AllocError>
-    ensures { IfOk result (λ r. judgement compound_of r
-        ≡ judging.with_part (judgement compound_of front) (judgement part_of part)) }
+) -> Result<(), AllocError>
+    ensures { OnOk result (judgement compound_of compound.new
+        ≡ judging.with_part (judgement compound_of compound.old) (judgement part_of part)) }
 {
-    let mut compound = match front {
-        Judged::Kept(compound) => compound,
-        Judged::Refused(cause) => return Ok(Judged::Refused(cause)),
-    };
-    match part {
-        Judged::Kept(part) => {
-            compound.parts.push(part)?;
-            Ok(Judged::Kept(compound))
+    if let Judged::Kept(kept) = compound {
+        match part {
+            Judged::Kept(part) => kept.parts.push(part)?,
+            Judged::Refused(cause) => *compound = Judged::Refused(cause),
         }
-        Judged::Refused(cause) => Ok(Judged::Refused(cause)),
     }
+    Ok(())
 }
 
 pub(crate) fn reads_nothing(parts: &Judged<Compound>) -> bool

@@ -1,6 +1,6 @@
 //! Items: the steps between compounds, and one compound more (Selectors 4, section 16).
 
-ghost use Rattle.std.specs.Prelude.{◌≡◌, IfOk};
+ghost use Rattle.std.specs.Prelude.{◌≡◌, OnOk};
 ghost use Rattle.std.specs.Option.{option_map};
 ghost use Rattle.lol_css.specs.Rules.{giving};
 ghost use Rattle.lol_css.specs.Reading.{next_step};
@@ -68,51 +68,52 @@ pub(crate) fn alone(alloc: Global, first: Judged<Compound>) -> Judged<ComplexSel
     }
 }
 
-/// An item with one more compound: the last compound is judged first, and then the step.
+/// Adds a compound to an item: the compound is judged first, and then the step.
 #[tactic(auto, using(crate::proofs::TreeRows::push_steps))]
-pub(crate) fn with_compound(
-    front: Judged<ComplexSelector>,
+pub(crate) fn add_compound(
+    item: &mut Judged<ComplexSelector>,
     step: Judged<Combinator>,
     compound: Judged<Compound>,
-) -> Result<Judged<ComplexSelector>, AllocError>
-    ensures { IfOk result (λ r. judgement item_of r
-        ≡ judging.with_compound (judgement item_of front) (step_judgement step) (judgement compound_of compound)) }
+) -> Result<(), AllocError>
+    ensures { OnOk result (judgement item_of item.new
+        ≡ judging.with_compound (judgement item_of item.old) (step_judgement step) (judgement compound_of compound)) }
 {
     let compound = match compound {
         Judged::Kept(compound) => compound,
-        Judged::Refused(cause) => return Ok(Judged::Refused(cause)),
+        Judged::Refused(cause) => {
+            *item = Judged::Refused(cause);
+            return Ok(());
+        }
     };
     let combinator = match step {
         Judged::Kept(combinator) => combinator,
-        Judged::Refused(cause) => return Ok(Judged::Refused(cause)),
-    };
-    match front {
-        Judged::Kept(mut item) => {
-            item.rest.push((combinator, compound))?;
-            Ok(Judged::Kept(item))
+        Judged::Refused(cause) => {
+            *item = Judged::Refused(cause);
+            return Ok(());
         }
-        Judged::Refused(cause) => Ok(Judged::Refused(cause)),
+    };
+    if let Judged::Kept(item) = item {
+        item.rest.push((combinator, compound))?;
     }
+    Ok(())
 }
 
-/// A list with one more item.
+/// Adds an item to a list.
 #[tactic(auto, using(crate::proofs::TreeRows::push_steps))]
-pub(crate) fn with_item(
-    front: Judged<SelectorList>,
+// Called, its arguments would make each step of a recursion take more of the stack.
+#[inline(always)]
+pub(crate) fn add_item(
+    list: &mut Judged<SelectorList>,
     item: Judged<ComplexSelector>,
-) -> Result<Judged<SelectorList>, AllocError>
-    ensures { IfOk result (λ r. judgement list_of r
-        ≡ judging.with_item (judgement list_of front) (judgement item_of item)) }
+) -> Result<(), AllocError>
+    ensures { OnOk result (judgement list_of list.new
+        ≡ judging.with_item (judgement list_of list.old) (judgement item_of item)) }
 {
-    let mut list = match front {
-        Judged::Kept(list) => list,
-        Judged::Refused(cause) => return Ok(Judged::Refused(cause)),
-    };
-    match item {
-        Judged::Kept(item) => {
-            list.items.push(item)?;
-            Ok(Judged::Kept(list))
+    if let Judged::Kept(kept) = list {
+        match item {
+            Judged::Kept(item) => kept.items.push(item)?,
+            Judged::Refused(cause) => *list = Judged::Refused(cause),
         }
-        Judged::Refused(cause) => Ok(Judged::Refused(cause)),
     }
+    Ok(())
 }

@@ -12,8 +12,8 @@ ghost use Rattle.lol_css.specs.TreeViews.{part_of, compound_of, item_of, list_of
 
 use crate::error::SelectorError;
 use crate::selector::{ComplexSelector, Compound, SelectorList, SimpleSelector};
-use crate::selectors::compounds::{reads_nothing, with_part};
-use crate::selectors::items::{alone, with_compound, with_item};
+use crate::selectors::compounds::{add_part, reads_nothing};
+use crate::selectors::items::{add_compound, add_item, alone};
 use crate::selectors::judged::Judged;
 use crate::selectors::logical::LogicalCombination;
 use crate::selectors::parser::{Context, Parser};
@@ -129,7 +129,7 @@ impl Parser<'_> {
     {
         let mut parts = Judged::Kept(start);
         'parts: while let Some(found) = self.part()? {
-            parts = with_part(parts, found)?;
+            add_part(&mut parts, found)?;
         }
         Ok(parts)
     }
@@ -168,7 +168,7 @@ impl Parser<'_> {
                 return Err(SelectorError::UnsupportedSyntax);
             }
             let next = self.compound(SelectorError::DanglingCombinator)?;
-            item = with_compound(item, step, next)?;
+            add_compound(&mut item, step, next)?;
             left -= 1;
         }
         Ok(item)
@@ -183,14 +183,14 @@ impl Parser<'_> {
         ensures context { self.new.context ≡ self.old.context }
     {
         let first = self.item()?;
-        let nothing = SelectorList {
+        let mut list = Judged::Kept(SelectorList {
             items: Vec::new(self.alloc),
-        };
-        let mut list = with_item(Judged::Kept(nothing), first)?;
+        });
+        add_item(&mut list, first)?;
         'items: while !self.reader.is_at_end(self.context.nesting) {
             self.reader.advance();
             let next = self.item()?;
-            list = with_item(list, next)?;
+            add_item(&mut list, next)?;
         }
         self.reader.advance();
         Ok(list)

@@ -79,7 +79,7 @@ item-steps-preserved t c =
     let s = step-read (nesting_of c.args.self.now.context.nesting) (is_inside c.args.self.now.context.nesting) c.steps.self.reader (step_judgement c.in-Some.step) c.next_step.new.self.reader (rw (c.steps.invariant.context, c.in-Some.is) at c.in_ok-step.ensures.reads) in
     record {
       reads =
-          rw c.in_ok-item.ensures
+          rw c.in_ok-add_compound.ensures
           (sym (further-goes_on c.steps.left (inner_list c.args.self.now.context.depth_left) (nesting_of c.args.self.now.context.nesting) (is_inside c.args.self.now.context.nesting) (judgement item_of c.steps.item) c.steps.self.reader (step_judgement c.in-Some.step) c.next_step.new.self.reader s (judgement compound_of c.in_ok-next.next) c.compound-in-Some.new.self.reader (rw (c.next_step.ensures.context, c.steps.invariant.context) at c.in_ok-next.ensures.reads) c.if-left-eq0.false) ∙ c.steps.invariant.reads);
       context = c.compound-in-Some.ensures.context ∙ c.next_step.ensures.context ∙ c.steps.invariant.context;
     }
@@ -99,7 +99,7 @@ pub list-items-init : goal.list-items-init
 list-items-init t c =
     record {
       reads =
-          rw (c.in_ok-list.ensures, list-none c.new.result c.new.ensures.items)
+          rw (c.in_ok-add_item.ensures, list-none c.new.result c.new.ensures.items)
           (sym (list-starts (inner_list c.args.self.now.context.depth_left) (nesting_of c.args.self.now.context.nesting) (is_inside c.args.self.now.context.nesting) c.args.self.now.reader (judgement item_of c.in_ok-first.first) c.item.new.self.reader c.in_ok-first.ensures.reads));
       context = c.item.ensures.context;
     }
@@ -121,7 +121,7 @@ list-items-preserved t c =
     let r = item-read (inner_list c.args.self.now.context.depth_left) (inner_list-leaves c.args.self.now.context.depth_left) (nesting_of c.args.self.now.context.nesting) (is_inside c.args.self.now.context.nesting) (judgement list_of c.items.list) c.items.self.reader (judgement item_of c.in_ok-next.next) c.item-in-items.new.self.reader e (rw (c.items.invariant.context, c.advance.ensures) at c.in_ok-next.ensures.reads) in
     record {
       reads =
-          rw c.in_ok-list-2.ensures (sym r.same ∙ c.items.invariant.reads);
+          rw c.in_ok-add_item-2.ensures (sym r.same ∙ c.items.invariant.reads);
       context = c.item-in-items.ensures.context ∙ c.items.invariant.context;
     }
 
@@ -146,7 +146,7 @@ more_parts-parts-preserved t c =
     let r = part-read (inner_list c.args.self.now.context.depth_left) (inner_list-leaves c.args.self.now.context.depth_left) (nesting_of c.args.self.now.context.nesting) (judgement compound_of c.parts.parts) c.parts.self.reader (judgement part_of c.in-Some.found) c.part.new.self.reader (rw (c.parts.invariant.context, c.in-Some.is) at c.in_ok-found.ensures.reads) in
     record {
       reads =
-          rw c.in_ok-parts.ensures (sym r.same ∙ c.parts.invariant.reads);
+          rw c.in_ok-add_part.ensures (sym r.same ∙ c.parts.invariant.reads);
       context = c.part.ensures.context ∙ c.parts.invariant.context;
     }
 
