@@ -82,6 +82,8 @@ fn compile_test(
 
 /// The tests of a compound, in order.
 #[cycle(compiling)]
+// Called in each step of a recursion, it would take more of the stack.
+#[inline(always)]
 pub(crate) fn compile_tests(
     alloc: Global,
     tests: Vec<Test>,
