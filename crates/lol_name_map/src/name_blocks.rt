@@ -54,7 +54,20 @@ impl<V> NameBlocks<V> {
     }
 
     /// Where a name stands, or else where it would.
+    #[inline(always)]
     pub fn search<'s, 'i: 's>(&'s self, name: &LocalName<'i>) -> Result<BlockPlace, BlockPlace>
+        ensures place { MatchResult result (StandsInBlocks self.now name.now) (IsMissing self.now name.now) }
+        ensures missing { IfErr result (λ _. value_in_blocks self.now name.now ≡ None) }
+    {
+        if self.blocks.is_empty() {
+            return Err(BlockPlace { block: 0, at: 0 });
+        }
+        self.search_blocks(name)
+    }
+
+    /// Where a name stands among the blocks, or else where it would.
+    #[inline(never)]
+    fn search_blocks<'s, 'i: 's>(&'s self, name: &LocalName<'i>) -> Result<BlockPlace, BlockPlace>
         ensures place { MatchResult result (StandsInBlocks self.now name.now) (IsMissing self.now name.now) }
         ensures missing { IfErr result (λ _. value_in_blocks self.now name.now ≡ None) }
     {
@@ -73,6 +86,7 @@ impl<V> NameBlocks<V> {
     }
 
     /// Puts another value at a place, and answers the one that was there.
+    #[inline(never)]
     pub fn replace(&mut self, place: BlockPlace, value: V) -> V
         requires { place.at < length (block_at self.old place.block) }
         ensures was { (name : Name) → StandsInBlocks self.old name place → value_in_blocks self.old name ≡ Some result }
@@ -84,6 +98,7 @@ impl<V> NameBlocks<V> {
     }
 
     /// Takes the name at a place out.
+    #[inline(never)]
     pub fn remove(&mut self, place: BlockPlace)
     where
         V: Drop,
@@ -98,6 +113,7 @@ impl<V> NameBlocks<V> {
     }
 
     /// Puts a name that stands nowhere at the place that a search gave. Refused, each name has the value that it had.
+    #[inline(never)]
     pub fn insert(
         &mut self,
         place: BlockPlace,
@@ -146,6 +162,7 @@ impl<V> NameBlocks<V> {
     }
 
     /// The value of a name.
+    #[inline(never)]
     pub fn get<'s, 'i: 's>(&'s self, name: &LocalName<'i>) -> Option<&'s V>
         ensures { option_copied result ≡ value_in_blocks self.now name.now }
     {
@@ -156,6 +173,7 @@ impl<V> NameBlocks<V> {
     }
 
     /// The value at a place, and none where no name stands there.
+    #[inline(never)]
     pub fn value_at(&self, place: BlockPlace) -> Option<&V>
         ensures { (name : Name) → StandsInBlocks self.now name place
             → option_copied result ≡ value_in_blocks self.now name }

@@ -53,7 +53,7 @@ impl<V> NameMap<V> {
     }
 
     /// Where a name stands, or else where it would.
-    #[inline]
+    #[inline(always)]
     pub fn search<'s, 'i: 's>(&'s self, name: &LocalName<'i>) -> Result<NamePlace, NamePlace>
         ensures place { MatchResult result (StandsInMap self.now name.now) (IsMissing self.now name.now) }
         ensures taken { IfOk result (IsTaken self.now) }
@@ -72,7 +72,7 @@ impl<V> NameMap<V> {
     }
 
     /// Puts another value at a place, and answers the one that was there.
-    #[inline]
+    #[inline(always)]
     pub fn replace(&mut self, place: NamePlace, value: V) -> V
         requires { IsTaken self.old place }
         ensures was { (name : Name) → StandsInMap self.old name place → value_of self.old name ≡ Some result }
@@ -87,7 +87,7 @@ impl<V> NameMap<V> {
     }
 
     /// Takes the name at a place out.
-    #[inline]
+    #[inline(always)]
     pub fn remove(&mut self, place: NamePlace)
     where
         V: Drop,
@@ -101,7 +101,7 @@ impl<V> NameMap<V> {
     }
 
     /// Puts a name that stands nowhere at the place that a search gave. Refused, each name has the value that it had.
-    #[inline]
+    #[inline(always)]
     pub fn insert(
         &mut self,
         place: NamePlace,
@@ -125,7 +125,7 @@ impl<V> NameMap<V> {
     }
 
     /// The value at a place, and none where no name stands there.
-    #[inline]
+    #[inline(always)]
     pub fn value_at(&self, place: NamePlace) -> Option<&V>
         ensures { (name : Name) → StandsInMap self.now name place → option_copied result ≡ value_of self.now name }
     {
@@ -139,7 +139,7 @@ impl<V> NameMap<V> {
     }
 
     /// The value of a name.
-    #[inline]
+    #[inline(always)]
     pub fn get<'s, 'i: 's>(&'s self, name: &LocalName<'i>) -> Option<&'s V>
         ensures { option_copied result ≡ value_of self.now name.now }
     {
@@ -152,7 +152,7 @@ impl<V> NameMap<V> {
 }
 
 /// The slot of a name.
-#[inline]
+#[inline(always)]
 fn slot_of(name: &LocalName<'_>) -> usize
     ensures is { result ≡ slot_of name.now }
     ensures bound { result < 64 }
@@ -162,7 +162,7 @@ fn slot_of(name: &LocalName<'_>) -> usize
 }
 
 /// What stands in a slot.
-#[inline]
+#[inline(always)]
 fn in_slot<'i, 's, V>(
     slots: &'s [Option<(LocalName<'i>, V)>],
     slot: usize,
@@ -176,7 +176,7 @@ fn in_slot<'i, 's, V>(
 }
 
 /// Whether what stands in a slot is this name's.
-#[inline]
+#[inline(always)]
 fn is_named<'i, V>(entry: Option<&(LocalName<'i>, V)>, name: &LocalName<'i>) -> bool
     ensures { result ≡ is_named (option_copied entry.entry) name.now }
 {
@@ -187,7 +187,7 @@ fn is_named<'i, V>(entry: Option<&(LocalName<'i>, V)>, name: &LocalName<'i>) -> 
 }
 
 /// Puts another value at the name of a slot, and answers the one that was there.
-#[inline]
+#[inline(always)]
 fn replace_value<V>(entry: &mut Option<(LocalName<'static>, V)>, value: V) -> V
     ensures was { (e : _) → entry.old ≡ Some e → result ≡ e.1 }
     ensures is { (e : _) → entry.old ≡ Some e → entry.new ≡ Some (e.0, value) }
@@ -199,7 +199,7 @@ fn replace_value<V>(entry: &mut Option<(LocalName<'static>, V)>, value: V) -> V
 }
 
 /// Has as many slots as there are. Those that there were keep what stands in them, when it is refused too.
-#[inline]
+#[inline(never)]
 fn make_slots<V>(slots: &mut Vec<Option<(LocalName<'static>, V)>>) -> Result<(), AllocError>
 where
     V: Drop,

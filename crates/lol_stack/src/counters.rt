@@ -44,6 +44,7 @@ impl CounterList {
     }
 
     /// Counts one more at the last level, if that is `index`; answers whether it is. A full counter stays.
+    #[inline(always)]
     fn count(&mut self, index: usize) -> bool
         ensures is { result ≡ is_at_level index (list_levels self.old) }
         ensures counted { list_levels self.new
@@ -121,6 +122,7 @@ impl CounterLists {
     }
 
     /// Counts one more at the name's last level, if that is `index`; answers whether it is.
+    #[inline(always)]
     fn count(&mut self, name: &LocalName<'_>, index: usize) -> bool
         ensures is { result ≡ is_at_level index (counters_of self.old name.now) }
         ensures counted { (q : Name) → counters_of self.new q ≡ (if same_local_name name.now q
@@ -137,6 +139,7 @@ impl CounterLists {
     }
 
     /// Starts a counter of the name at one more level, which has counted one.
+    #[inline(never)]
     fn start(&mut self, name: &LocalName<'static>, index: usize) -> Result<(), AllocError>
         ensures ok { (q : Name) → OnOk result (counters_of self.new q ≡ (if same_local_name name.now q
             then counters_of self.old q ++ (index, 1) ∷ [] else counters_of self.old q)) }
@@ -157,7 +160,29 @@ impl CounterLists {
         }
     }
 
+    /// Starts a counter of the name at one more level, which has counted one, and keeps level and name. Refused, nothing has changed.
+    #[inline(never)]
+    fn start_kept(
+        &mut self,
+        kept: &mut Vec<(usize, LocalName<'static>)>,
+        name: &LocalName<'_>,
+        index: usize,
+    ) -> Result<(), AllocError>
+        ensures kept { OnOk result (kept.new.items ≡ kept.old.items ++ (index, name.now) ∷ []) }
+        ensures started { (q : Name) → OnOk result (counters_of self.new q ≡ (if same_local_name name.now q
+            then counters_of self.old q ++ (index, 1) ∷ [] else counters_of self.old q)) }
+        ensures unkept { OnErr result (kept.new.items ≡ kept.old.items) }
+        ensures err { (q : Name) → OnErr result (counters_of self.new q ≡ counters_of self.old q) }
+    {
+        let name = name.try_clone(self.alloc)?;
+        kept.reserve(1)?;
+        self.start(&name, index)?;
+        kept.push_reserved((index, name));
+        Ok(())
+    }
+
     /// Drops the name's last counter.
+    #[inline(never)]
     fn stop(&mut self, name: &LocalName<'static>)
         ensures { (q : Name) → counters_of self.new q ≡ (if same_local_name name.now q
             then without_last (counters_of self.old q) else counters_of self.old q) }
@@ -174,6 +199,7 @@ impl CounterLists {
     }
 
     /// The name's last counter, if it is at this level.
+    #[inline(always)]
     fn get<'s, 'i: 's>(&'s self, name: &LocalName<'i>, index: usize) -> Option<&'s ChildCounter>
         ensures { option_copied result ≡ count_if_at index (counters_of self.now name.now) }
     {
@@ -190,7 +216,6 @@ impl CounterLists {
 pub struct TypedChildCounterMap {
     lists: CounterLists,
     kept: Vec<(usize, LocalName<'static>)>,
-    alloc: Global,
 }
 
 impl Model for TypedChildCounterMap {
@@ -215,12 +240,12 @@ impl TypedChildCounterMap {
         TypedChildCounterMap {
             lists: CounterLists::new(alloc),
             kept: Vec::new(alloc),
-            alloc,
         }
     }
 
     /// Counts a child of this name at the level `index`, which is not below a level that is kept, and whose counter for the name is not
     /// full. It is refused only where memory is out, and then nothing has changed.
+    #[inline(always)]
     pub fn add_child(&mut self, name: &LocalName<'_>, index: usize) -> Result<(), AllocError>
         ensures ok { OnOk result (self.new ≡ counted_by_type self.old index name.now) }
         ensures err { OnErr result (self.new ≡ self.old) }
@@ -228,10 +253,7 @@ impl TypedChildCounterMap {
         if self.lists.count(name, index) {
             return Ok(());
         }
-        let name = name.try_clone(self.alloc)?;
-        self.kept.reserve(1)?;
-        self.lists.start(&name, index)?;
-        self.kept.push_reserved((index, name));
+        self.lists.start_kept(&mut self.kept, name, index)?;
         Ok(())
     }
 
@@ -247,6 +269,7 @@ impl TypedChildCounterMap {
     }
 
     /// Drops the last counter if it is above a level, and answers whether it was.
+    #[inline(always)]
     fn pop_above(&mut self, index: usize) -> bool
         ensures { PopsAbove index self.old result self.new }
     {
@@ -271,6 +294,7 @@ impl TypedChildCounterMap {
     }
 
     /// The counter of a name at the level `index`, which is not below a level that is kept. It takes no memory.
+    #[inline(always)]
     pub fn get<'s, 'i: 's>(&'s self, name: &LocalName<'i>, index: usize) -> Option<&'s ChildCounter>
         ensures { option_copied result ≡ count_at self.now index name.now }
     {

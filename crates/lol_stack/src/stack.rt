@@ -331,6 +331,7 @@ impl StackNames {
     }
 
     /// Counts a child by type at a level, where children are counted so.
+    #[inline(always)]
     fn count_child(&mut self, name: &LocalName<'_>, level: usize) -> Result<(), AllocError>
         ensures ok { OnOk result (self.new ≡ counted_if_kept self.old level name.now) }
         ensures free { IsNone self.old.typed_child_counters → IsOk result }
@@ -367,6 +368,7 @@ impl StackNames {
         remove_names(&mut self.open_names, inside);
     }
 
+    #[inline(always)]
     fn typed_counter<'s, 'i: 's>(
         &'s self,
         name: &LocalName<'i>,

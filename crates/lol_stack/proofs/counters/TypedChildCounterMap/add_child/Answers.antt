@@ -27,82 +27,46 @@ returns-then-count-clause-ok c =
     in
     now ∙ (counted-again ts c.args.index name (sym (c.if-count.ensures.is ∙ ap (is_at_level c.args.index) (levels name))))
 
-pub invariant_of-self-in_err-name : goal.invariant_of-self-in_err-name
-invariant_of-self-in_err-name c =
+pub invariant_of-self-in_err-start_kept : goal.invariant_of-self-in_err-start_kept
+invariant_of-self-in_err-start_kept c =
     let ts = c.args.self.now in
     let keys = keys-seen ts c.self.inside.kept.items (counters_of c.self.inside.lists) c.self.view_is in
     let levels = levels-seen ts c.self.inside.kept.items (counters_of c.self.inside.lists) c.self.view_is c.self.invariant in
-    view-keeps ts c.self.inside.kept.items (counters_of c.count.new.self) keys
-    (levels-uncounted ts c.args.name.now (counters_of c.self.inside.lists) (counters_of c.count.new.self) levels c.if-count.ensures.counted)
+    let uncounted = levels-uncounted ts c.args.name.now (counters_of c.self.inside.lists) (counters_of c.count.new.self) levels c.if-count.ensures.counted in
+    view-keeps ts c.start_kept.new.kept.items (counters_of c.start_kept.new.self) (c.in_err-start_kept.ensures.unkept ∙ keys)
+    (levels-kept ts (counters_of c.count.new.self) (counters_of c.start_kept.new.self) uncounted c.in_err-start_kept.ensures.err)
 
-pub returns-in_err-name-clause-err : goal.returns-in_err-name-clause-err
-returns-in_err-name-clause-err c =
+pub returns-in_err-start_kept-clause-err : goal.returns-in_err-start_kept-clause-err
+returns-in_err-start_kept-clause-err c =
     let ts = c.args.self.now in
     let keys = keys-seen ts c.self.inside.kept.items (counters_of c.self.inside.lists) c.self.view_is in
     let levels = levels-seen ts c.self.inside.kept.items (counters_of c.self.inside.lists) c.self.view_is c.self.invariant in
+    let uncounted = levels-uncounted ts c.args.name.now (counters_of c.self.inside.lists) (counters_of c.count.new.self) levels c.if-count.ensures.counted in
     on_err c.from_residual.result
-    (view-is ts c.self.inside.kept.items (counters_of c.count.new.self) keys
-    (levels-uncounted ts c.args.name.now (counters_of c.self.inside.lists) (counters_of c.count.new.self) levels c.if-count.ensures.counted))
-
-pub invariant_of-self-in_err-reserve : goal.invariant_of-self-in_err-reserve
-invariant_of-self-in_err-reserve c =
-    let ts = c.args.self.now in
-    let keys = keys-seen ts c.self.inside.kept.items (counters_of c.self.inside.lists) c.self.view_is in
-    let levels = levels-seen ts c.self.inside.kept.items (counters_of c.self.inside.lists) c.self.view_is c.self.invariant in
-    view-keeps ts c.reserve.new.self.items (counters_of c.count.new.self) (c.reserve.ensures.items ∙ keys)
-    (levels-uncounted ts c.args.name.now (counters_of c.self.inside.lists) (counters_of c.count.new.self) levels c.if-count.ensures.counted)
-
-pub returns-in_err-reserve-clause-err : goal.returns-in_err-reserve-clause-err
-returns-in_err-reserve-clause-err c =
-    let ts = c.args.self.now in
-    let keys = keys-seen ts c.self.inside.kept.items (counters_of c.self.inside.lists) c.self.view_is in
-    let levels = levels-seen ts c.self.inside.kept.items (counters_of c.self.inside.lists) c.self.view_is c.self.invariant in
-    on_err c.from_residual-in_err-reserve.result
-    (view-is ts c.reserve.new.self.items (counters_of c.count.new.self) (c.reserve.ensures.items ∙ keys)
-    (levels-uncounted ts c.args.name.now (counters_of c.self.inside.lists) (counters_of c.count.new.self) levels c.if-count.ensures.counted))
-
-pub invariant_of-self-in_err-start : goal.invariant_of-self-in_err-start
-invariant_of-self-in_err-start c =
-    let ts = c.args.self.now in
-    let keys = keys-seen ts c.self.inside.kept.items (counters_of c.self.inside.lists) c.self.view_is in
-    let levels = levels-seen ts c.self.inside.kept.items (counters_of c.self.inside.lists) c.self.view_is c.self.invariant in
-    let uncounted = levels-uncounted ts c.args.name.now (counters_of c.self.inside.lists) (counters_of c.count.new.self) levels c.if-count.ensures.counted in
-    view-keeps ts c.reserve.new.self.items (counters_of c.start.new.self) (c.reserve.ensures.items ∙ keys)
-    (levels-kept ts (counters_of c.count.new.self) (counters_of c.start.new.self) uncounted c.in_err-start.ensures.err)
-
-pub returns-in_err-start-clause-err : goal.returns-in_err-start-clause-err
-returns-in_err-start-clause-err c =
-    let ts = c.args.self.now in
-    let keys = keys-seen ts c.self.inside.kept.items (counters_of c.self.inside.lists) c.self.view_is in
-    let levels = levels-seen ts c.self.inside.kept.items (counters_of c.self.inside.lists) c.self.view_is c.self.invariant in
-    let uncounted = levels-uncounted ts c.args.name.now (counters_of c.self.inside.lists) (counters_of c.count.new.self) levels c.if-count.ensures.counted in
-    on_err c.from_residual-in_err-start.result
-    (view-is ts c.reserve.new.self.items (counters_of c.start.new.self) (c.reserve.ensures.items ∙ keys)
-    (levels-kept ts (counters_of c.count.new.self) (counters_of c.start.new.self) uncounted c.in_err-start.ensures.err))
+    (view-is ts c.start_kept.new.kept.items (counters_of c.start_kept.new.self) (c.in_err-start_kept.ensures.unkept ∙ keys)
+    (levels-kept ts (counters_of c.count.new.self) (counters_of c.start_kept.new.self) uncounted c.in_err-start_kept.ensures.err))
 
 pub invariant_of-self-2 : goal.invariant_of-self-2
 invariant_of-self-2 c =
     let ts = c.args.self.now in
-    let name = c.in_ok-name.name in
-    let new : TypedCount = record { level = c.args.index; name = name; count = 1 } in
+    let new : TypedCount = record { level = c.args.index; name = c.args.name.now; count = 1 } in
     let keys = keys-seen ts c.self.inside.kept.items (counters_of c.self.inside.lists) c.self.view_is in
     let levels = levels-seen ts c.self.inside.kept.items (counters_of c.self.inside.lists) c.self.view_is c.self.invariant in
     let uncounted = levels-uncounted ts c.args.name.now (counters_of c.self.inside.lists) (counters_of c.count.new.self) levels c.if-count.ensures.counted in
-    view-keeps (ts ++ new ∷ []) c.push_reserved.new.self.items (counters_of c.start.new.self)
-    (c.push_reserved.ensures.items ∙ (ap (λ front. front ++ (c.args.index, name) ∷ []) (c.reserve.ensures.items ∙ keys) ∙ sym (keys-push ts new)))
-    (levels-started ts new (counters_of c.count.new.self) (counters_of c.start.new.self) uncounted c.in_ok-start.ensures.ok)
+    view-keeps (ts ++ new ∷ []) c.start_kept.new.kept.items (counters_of c.start_kept.new.self)
+    (c.in_ok-start_kept.ensures.kept ∙ (ap (λ front. front ++ (c.args.index, c.args.name.now) ∷ []) keys ∙ sym (keys-push ts new)))
+    (levels-started ts new (counters_of c.count.new.self) (counters_of c.start_kept.new.self) uncounted c.in_ok-start_kept.ensures.started)
 
 pub returns-clause-ok : goal.returns-clause-ok
 returns-clause-ok c =
     let ts = c.args.self.now in
-    let name = c.in_ok-name.name in
-    let new : TypedCount = record { level = c.args.index; name = name; count = 1 } in
+    let new : TypedCount = record { level = c.args.index; name = c.args.name.now; count = 1 } in
     let keys = keys-seen ts c.self.inside.kept.items (counters_of c.self.inside.lists) c.self.view_is in
     let levels = levels-seen ts c.self.inside.kept.items (counters_of c.self.inside.lists) c.self.view_is c.self.invariant in
     let uncounted = levels-uncounted ts c.args.name.now (counters_of c.self.inside.lists) (counters_of c.count.new.self) levels c.if-count.ensures.counted in
     let now =
-    view-is (ts ++ new ∷ []) c.push_reserved.new.self.items (counters_of c.start.new.self)
-    (c.push_reserved.ensures.items ∙ (ap (λ front. front ++ (c.args.index, name) ∷ []) (c.reserve.ensures.items ∙ keys) ∙ sym (keys-push ts new)))
-    (levels-started ts new (counters_of c.count.new.self) (counters_of c.start.new.self) uncounted c.in_ok-start.ensures.ok)
+    view-is (ts ++ new ∷ []) c.start_kept.new.kept.items (counters_of c.start_kept.new.self)
+    (c.in_ok-start_kept.ensures.kept ∙ (ap (λ front. front ++ (c.args.index, c.args.name.now) ∷ []) keys ∙ sym (keys-push ts new)))
+    (levels-started ts new (counters_of c.count.new.self) (counters_of c.start_kept.new.self) uncounted c.in_ok-start_kept.ensures.started)
     in
-    now ∙ (ap (λ n. ts ++ record { level = c.args.index; name = n; count = 1 } ∷ []) c.in_ok-name.ensures.same ∙ counted-first ts c.args.index c.args.name.now (sym (c.if-count.ensures.is ∙ ap (is_at_level c.args.index) (levels c.args.name.now))))
+    now ∙ counted-first ts c.args.index c.args.name.now (sym (c.if-count.ensures.is ∙ ap (is_at_level c.args.index) (levels c.args.name.now)))
