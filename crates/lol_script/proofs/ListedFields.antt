@@ -2,9 +2,10 @@
 use Rattle.std.proofs.Common.{◌≡◌, ℕ, Bool, true, false, List, [], ◌∷◌, ◌++◌, map, refl, sym, ap, ◌∙◌}
 use Rattle.std.specs.Prelude.{codes, if◌then◌else◌}
 use Rattle.std.specs.List.{flat_map}
+use Rattle.std.specs.Option.{is_some}
 use Rattle.std.proofs.lemmas.Grind.{flat_map-append}
 use Rattle.std.proofs.lemmas.List.{append_assoc, append-nil}
-use Rattle.lol_script.specs.FieldLists.{AddsField, list_text}
+use Rattle.lol_script.specs.FieldLists.{AddsField, IsEmptyList, fields_from, fields_in, list_text}
 use Rattle.lol_script.specs.Output.{comma_list}
 use Rattle.lol_script.specs.declared.output.FieldList.{FieldList}
 
@@ -41,7 +42,10 @@ module _ {A : Type 0} (shown : A → List ℕ) where
 
   -- what a list has after these were added, unless memory was refused
   abbrev pub HasListed : List A → FieldList → Type 0
-  HasListed xs list = list.refused ≡ false → (list.bytes.items ≡ listed xs) × (list.any ≡ has_some xs)
+  HasListed xs list = list.refused ≡ false → (fields_in list ≡ listed xs) × (is_some list.first ≡ has_some xs)
+
+  pub listed_none : (list : FieldList) → IsEmptyList list → HasListed [] list
+  listed_none list none = λ unrefused. (ap (λ first. fields_from first list.others.items) none.0, ap is_some none.0)
 
   pub listed_more : (xs : List A) (y : A) (old new : FieldList) → HasListed xs old → AddsField (shown y) old new → HasListed (xs ++ y ∷ []) new
   listed_more xs y old new before adds = λ unrefused.

@@ -5,25 +5,36 @@ ghost use Rattle.lol_base.specs.CodePoints.{line_feed};
 ghost use Rattle.lol_vm.specs.Views.{match_of};
 ghost use Rattle.lol_instructions.specs.Tries.{names_counted, attributes_counted};
 ghost use Rattle.lol_script.specs.Output.{shown_match, tries_field};
-ghost use Rattle.lol_script.specs.FieldLists.{AddsField, IsEmptyList, IsFieldAdded, ended_text, list_text, started_text};
+ghost use Rattle.std.specs.Str.{byte};
+ghost use Rattle.lol_script.specs.FieldLists.{AddsField, IsEmptyList, ended_text, list_text, shown_field, started_text};
 
 use itoa::Buffer;
 use lol_vm::{MatchInfo, Tries};
 use std::alloc::{AllocError, Global};
 
+/// A field of a list: a number, with `/` after it where the element has no content.
+#[derive(Clone, Copy)]
+struct Field {
+    number: u64,
+    with_content: bool,
+}
+
 /// The fields of a list, as they come, up to the first that memory was refused for.
 #[derive(Drop)]
 pub struct FieldList {
-    bytes: Vec<u8>,
-    any: bool,
+    /// The first field, which most lists end with. It is written where the list is.
+    first: Option<Field>,
+
+    /// The fields after the first, each after a comma.
+    others: Vec<u8>,
     refused: bool,
 }
 
 impl FieldList {
     pub fn new(alloc: Global) -> Self {
         FieldList {
-            bytes: Vec::new(alloc),
-            any: false,
+            first: None,
+            others: Vec::new(alloc),
             refused: false,
         }
     }
@@ -32,52 +43,46 @@ impl FieldList {
     pub fn clear(&mut self)
         ensures { IsEmptyList self.new }
     {
-        self.bytes.clear();
-        self.any = false;
+        self.first = None;
         self.refused = false;
     }
 
     /// Adds an id, with `/` after it where the element has no content.
+    #[inline(always)]
     pub fn add_match(&mut self, found: MatchInfo)
         ensures { AddsField (shown_match (match_of found)) self.old self.new }
     {
-        if !self.refused && self.push_match(found).is_err() {
-            self.refused = true;
-        }
+        self.add(Field {
+            number: u64::from(found.match_id),
+            with_content: found.with_content,
+        });
     }
 
-    /// Adds a number.
+    /// Adds the number of an element that was open, and so has content.
+    #[inline(always)]
     pub fn add_number(&mut self, number: usize)
         ensures { AddsField (decimal number) self.old self.new }
     {
-        if !self.refused && self.push_number(number as u64).is_err() {
+        self.add(Field {
+            number: number as u64,
+            with_content: true,
+        });
+    }
+
+    #[inline(always)]
+    fn add(&mut self, field: Field)
+        ensures { AddsField (shown_field field) self.old self.new }
+    {
+        if self.first.is_none() {
+            self.others.clear();
+            self.first = Some(field);
+        } else if !self.refused && push_other(&mut self.others, field).is_err() {
             self.refused = true;
         }
     }
 
-    fn push_match(&mut self, found: MatchInfo) -> Result<(), AllocError>
-        ensures added { OnOk result (IsFieldAdded (shown_match (match_of found)) self.old self.new) }
-        ensures refused { self.new.refused ≡ self.old.refused }
-    {
-        self.push_number(u64::from(found.match_id))?;
-        if !found.with_content {
-            self.bytes.push(b'/')?;
-        }
-        Ok(())
-    }
-
-    fn push_number(&mut self, number: u64) -> Result<(), AllocError>
-        ensures added { OnOk result (IsFieldAdded (decimal number) self.old self.new) }
-        ensures refused { self.new.refused ≡ self.old.refused }
-    {
-        if self.any {
-            self.bytes.push(b',')?;
-        }
-        self.any = true;
-        push_number(&mut self.bytes, number)
-    }
-
     /// Appends the fields, separated by commas, or `-` where there are none, unless memory was refused for them.
+    #[inline(always)]
     pub fn append_to(&self, text: &mut Vec<u8>) -> Result<(), AllocError>
         ensures refused { OnOk result (self.now.refused ≡ false) }
         ensures appended { OnOk result (text.new.items ≡ text.old.items ++ list_text self.now) }
@@ -85,13 +90,37 @@ impl FieldList {
         if self.refused {
             return Err(AllocError);
         }
-        if self.any {
-            text.extend_from_slice(&self.bytes)
-        } else {
+        let Some(first) = self.first else {
             text.push(b'-')?;
-            Ok(())
+            return Ok(());
+        };
+        push_field(text, first)?;
+        if self.others.is_empty() {
+            return Ok(());
         }
+        text.extend_from_slice(&self.others)
     }
+}
+
+/// Adds a field after a comma.
+#[inline(never)]
+fn push_other(text: &mut Vec<u8>, field: Field) -> Result<(), AllocError>
+    ensures { OnOk result (text.new.items ≡ text.old.items ++ byte "," ∷ shown_field field) }
+{
+    text.push(b',')?;
+    push_field(text, field)
+}
+
+/// Adds a field.
+#[inline(always)]
+fn push_field(text: &mut Vec<u8>, field: Field) -> Result<(), AllocError>
+    ensures { OnOk result (text.new.items ≡ text.old.items ++ shown_field field) }
+{
+    push_number(text, field.number)?;
+    if !field.with_content {
+        text.push(b'/')?;
+    }
+    Ok(())
 }
 
 /// Adds a number in decimal digits. Most have one.

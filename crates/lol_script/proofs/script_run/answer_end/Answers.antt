@@ -3,7 +3,7 @@ use Rattle.std.specs.Prelude.{decimal}
 use Rattle.std.proofs.lemmas.Fn.{chained_keeps}
 use Rattle.lol_vm.specs.Follows.{StartedElement}
 use Rattle.lol_script.specs.Output.{comma_list}
-use Rattle.lol_script.proofs.ListedFields.{HasListed, list_is, listed_more, map_through}
+use Rattle.lol_script.proofs.ListedFields.{HasListed, list_is, listed_more, listed_none, map_through}
 use Rattle.lol_script.proofs.script_run.answer_end.Goals as goal
 
 pub returns-in-Ok : goal.returns-in-Ok
@@ -11,7 +11,7 @@ returns-in-Ok c = λ now s esi item_bytes before events r.
     let goes = c.in-Ok.ensures.goes s esi item_bytes before events now c.args.name.now r c.new.ensures in
     let shown = λ (x : StartedElement). decimal x.value in
     let listed = chained_keeps _ (λ (xs : List StartedElement) q. (q.0.ghost_name ≡ c.handler-1.given) × HasListed shown xs q.0.now)
-    (λ xs q x v j k. (k.met.1.0 ∙ j.0, listed_more shown xs x q.0.now v.0.now j.1 k.met.1.1)) _ _ _ (refl, λ _. (c.clear.ensures.0, c.clear.ensures.1)) goes.called in
+    (λ xs q x v j k. (k.met.1.0 ∙ j.0, listed_more shown xs x q.0.now v.0.now j.1 k.met.1.1)) _ _ _ (refl, listed_none shown c.clear.new.self c.clear.ensures) goes.called in
     let same : c.end.new.handler.0.now ≡ c.closed-1.given.0 = search (rules, listed.0) in
     record {
       listed = λ unrefused.

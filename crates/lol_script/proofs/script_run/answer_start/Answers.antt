@@ -5,7 +5,7 @@ use Rattle.lol_memory.specs.declared.match_info.MatchInfo.{MatchInfo}
 use Rattle.lol_vm.specs.Views.{match_of}
 use Rattle.lol_script.specs.Lines.{start_tag_of}
 use Rattle.lol_script.specs.Output.{comma_list, shown_match}
-use Rattle.lol_script.proofs.ListedFields.{HasListed, list_is, listed_more, map_through}
+use Rattle.lol_script.proofs.ListedFields.{HasListed, list_is, listed_more, listed_none, map_through}
 use Rattle.lol_script.proofs.script_run.answer_start.Goals as goal
 
 pub returns-clause-goes : goal.returns-clause-goes
@@ -14,7 +14,7 @@ returns-clause-goes c = IfOk-weaker c.start.result _ _
     let gone = goes s esi item_bytes before events (start_tag_of c.args.line) r (c.new.ensures, refl) c.handed_over-rest.ensures.handed in
     let shown = λ (info : MatchInfo). shown_match (match_of info) in
     let listed = chained_keeps _ (λ (xs : List MatchInfo) q. (q.0.ghost_name ≡ c.handler-1.given) × HasListed shown xs q.0.now)
-    (λ xs q x v j k. (k.met.1.0 ∙ j.0, listed_more shown xs x q.0.now v.0.now j.1 k.met.1.1)) _ _ _ (refl, λ _. (c.clear.ensures.0, c.clear.ensures.1)) gone.called in
+    (λ xs q x v j k. (k.met.1.0 ∙ j.0, listed_more shown xs x q.0.now v.0.now j.1 k.met.1.1)) _ _ _ (refl, listed_none shown c.clear.new.self c.clear.ensures) gone.called in
     let same : c.start.new.match_handler.0.now ≡ c.matched-1.given.0 = search (rules, listed.0) in
     record {
       infos = gone.infos;
