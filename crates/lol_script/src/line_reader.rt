@@ -1,6 +1,6 @@
 //! The lines of a reader, one by one.
 
-ghost use Rattle.std.specs.Prelude.{◌≡◌, ◌≢◌, ◌<◌, ◌≤◌, ◌++◌, List, ℕ, None, false, IfOk, IfErr, OnOk, drop, length, position};
+ghost use Rattle.std.specs.Prelude.{◌≡◌, ◌≢◌, ◌<◌, ◌≤◌, ◌+◌, ◌++◌, List, ℕ, None, false, IfOk, IfErr, OnOk, drop, length, position};
 ghost use Rattle.std.specs.Io.KnownBytes.{IsAtEnd};
 ghost use Rattle.std.specs.List.{list_any};
 ghost use Rattle.lol_script.specs.Devices.{IsReadFault, Reads, device_of, failures_of};
@@ -90,35 +90,48 @@ impl LineReader {
     ///
     /// # Errors
     /// `Read` where a read failed, an interrupted one too; `Memory` where memory was refused, or the lines can't be counted any more.
+    #[inline(always)]
     pub fn advance<R: Read>(&mut self, reader: &mut Counted<R>) -> Result<(), RunFault>
         requires { failures_of reader.old < u64.MAX }
         ensures next { OnOk result (GoesOn R.remaining reader.old reader.new self.old self.new) }
         ensures fault { IfErr result (λ fault. IsReadFault reader.old reader.new fault) }
         ensures unchanged { OnOk result (failures_of reader.new ≡ failures_of reader.old) }
     {
-        let Some(number) = self.number.checked_add(1) else {
-            return Err(RunFault::Memory);
-        };
-        self.number = number;
-        if let Some(place) = line_feed_place(&self.bytes[self.next..]) {
-            self.go_to(Some(place));
-            return Ok(());
+        match line_feed_place(&self.bytes[self.next..]) {
+            Some(place) => self.go_to(Some(place)),
+            None => self.read_on(reader),
         }
+    }
+
+    /// Goes to the next line, where no LF stands in what comes after the line.
+    #[inline(never)]
+    fn read_on<R: Read>(&mut self, reader: &mut Counted<R>) -> Result<(), RunFault>
+        requires failures { failures_of reader.old < u64.MAX }
+        requires none { position is_line_feed self.old.unread ≡ None }
+        ensures next { OnOk result (GoesOn R.remaining reader.old reader.new self.old self.new) }
+        ensures fault { IfErr result (λ fault. IsReadFault reader.old reader.new fault) }
+        ensures unchanged { OnOk result (failures_of reader.new ≡ failures_of reader.old) }
+    {
         forget_first(&mut self.bytes, self.next);
         self.start = 0;
         self.end = 0;
         self.next = 0;
         make_chunk(&mut self.chunk)?;
         let place = read_to_line_feed(&mut self.bytes, &mut self.chunk, reader)?;
-        self.go_to(place);
-        Ok(())
+        self.go_to(place)
     }
 
-    /// Goes to the line that ends where the first LF stands in what comes after the line, or to the last.
-    fn go_to(&mut self, place: Option<usize>)
+    /// Goes to the line that ends where the first LF stands in what comes after the line, or to the last, and counts it.
+    #[inline(always)]
+    fn go_to(&mut self, place: Option<usize>) -> Result<(), RunFault>
         requires { place ≡ position is_line_feed self.old.unread }
-        ensures { self.new ≡ next_line self.old.number self.old.unread }
+        ensures next { OnOk result (self.new ≡ next_line (self.old.number + 1) self.old.unread) }
+        ensures fault { IfErr result (λ fault. fault ≡ RunFault.Memory) }
     {
+        let Some(number) = self.number.checked_add(1) else {
+            return Err(RunFault::Memory);
+        };
+        self.number = number;
         self.start = self.next;
         match place {
             Some(place) => {
@@ -132,6 +145,7 @@ impl LineReader {
                 self.is_last = true;
             }
         }
+        Ok(())
     }
 }
 
