@@ -291,10 +291,10 @@ fn other_line<'s>(
         → ((rest : List ℕ) → bytes.now ≢ codes "end" ++ tab ∷ rest) → option_map said_by line ≡ line_at bytes.now) }
     ensures outlines { IfOk result (λ line. IfSome line (HasOutlines outlines.new.items)) }
 {
-    if let Some(rest) = after_kind(bytes, b"drop") {
-        start_of(rest, false, outlines)
-    } else if let Some(rest) = after_kind(bytes, b"select") {
+    if let Some(rest) = after_kind(bytes, b"select") {
         Ok(select_of(rest))
+    } else if let Some(rest) = after_kind(bytes, b"drop") {
+        start_of(rest, false, outlines)
     } else if let Some(rest) = after_kind(bytes, b"limit") {
         Ok(limit_of(rest))
     } else {
