@@ -1,11 +1,11 @@
 -- What marks of tests say.
-use Rattle.std.proofs.Common.{◌≡◌, ◌⊎◌, ℕ, Bool, true, false, ◌&&◌, ◌||◌, List, [], ◌∷◌, ◌++◌, Option, Some, None, is_some, inl, inr, ◌+◌, ◌<◌, length, take, get_or, subst, eqb-true, refl, sym, ap, ◌∙◌}
+use Rattle.std.proofs.Common.{◌≡◌, ◌⊎◌, ℕ, Bool, true, false, ◌&&◌, ◌||◌, List, [], ◌∷◌, ◌++◌, Option, Some, None, is_some, inl, inr, ◌+◌, ◌<◌, ◌≤◌, suc, arith, length, take, get_or, subst, eqb-true, refl, sym, ap, ◌∙◌}
 use Rattle.std.specs.Bool.{◌==◌, if◌then◌else◌}
 use Rattle.std.specs.List.{list_all}
 use Rattle.std.specs.Option.{option_or}
 use Rattle.std.specs.Str.{bytes_eq}
 use Rattle.std.proofs.lemmas.Bool.Decides.{same_from_decides}
-use Rattle.std.proofs.lemmas.List.{take_more}
+use Rattle.std.proofs.lemmas.List.{take_all, take_more}
 use Rattle.std.proofs.lemmas.List.Folds.{list_all-append}
 use Rattle.std.proofs.lemmas.Slice.Eq.{bytes_eq-Decides}
 use Rattle.lol_base.specs.BoolLaws.{and-true, and-right_false, or_parts}
@@ -167,10 +167,18 @@ marks_mixed a b r head some mixed needs xs ys of of' = record {
 
 -- 4. One test more
 
-pub marks_more : (before next : PredicateMarks) (tests : List CompiledTest) (i : ℕ) (x : CompiledTest) → i < length tests → x ≡ get_or tests i x → AreMarksOf before (take i tests)
-    → (AreMarksOf before (take i tests) → AreMarksOf next (take i tests ++ x ∷ [])) → AreMarksOf next (take (i + 1) tests)
-marks_more before next tests i x within at of joins =
-    subst (AreMarksOf next) (sym (take_more tests i x within ∙ ap (λ y. take i tests ++ y ∷ []) (sym at))) (joins of)
+module _ (tests : List CompiledTest) (first : CompiledTest) (others : List CompiledTest) (is : tests ≡ first ∷ others) where
+  up_to : (i : ℕ) → take (i + 1) tests ≡ first ∷ take i others
+  up_to i = ap (take (i + 1)) is ∙ ap (λ n. take n (first ∷ others)) (let e : i + 1 ≡ suc i = omega arith in e)
+
+  pub marks_more : (before next : PredicateMarks) (i : ℕ) (x : CompiledTest) → i < length others → x ≡ get_or others i x → AreMarksOf before (take (i + 1) tests)
+      → (AreMarksOf before (first ∷ take i others) → AreMarksOf next (first ∷ (take i others ++ x ∷ []))) → AreMarksOf next (take (i + 1 + 1) tests)
+  marks_more before next i x within at of joins =
+      let more = take_more others i x within ∙ ap (λ y. take i others ++ y ∷ []) (sym at) in
+      subst (AreMarksOf next) (sym (up_to (i + 1) ∙ ap (λ ts. first ∷ ts) more)) (joins (subst (AreMarksOf before) (up_to i) of))
+
+  pub marks_whole : (marks : PredicateMarks) (i : ℕ) → length others ≤ i → AreMarksOf marks (take (i + 1) tests) → AreMarksOf marks tests
+  marks_whole marks i whole of = subst (AreMarksOf marks) (up_to i ∙ (ap (λ ts. first ∷ ts) (take_all i others whole) ∙ sym is)) of
 
 -- 5. One compound more
 

@@ -92,8 +92,11 @@ impl PredicateMarks {
     pub(crate) fn of(tests: &[CompiledTest]) -> Self
         ensures { AreMarksOf result tests.now }
     {
-        let mut marks = PredicateMarks::of_shape(Shape::Anywhere(NameValue::True));
-        for test in tests {
+        let Some((first, others)) = tests.split_first() else {
+            return PredicateMarks::of_shape(Shape::Anywhere(NameValue::True));
+        };
+        let mut marks = PredicateMarks::of_test(first);
+        for test in others {
             marks = marks.and(PredicateMarks::of_test(test));
         }
         marks

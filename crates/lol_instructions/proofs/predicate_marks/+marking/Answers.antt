@@ -1,19 +1,29 @@
-use Rattle.std.proofs.Common.{◌≡◌, Bool, true, ◌∷◌, [], take, ◌&&◌, sym, ap, ◌∙◌}
+use Rattle.std.proofs.Common.{◌≡◌, Bool, true, List, ◌∷◌, [], take, ◌&&◌, subst, sym, ap, ◌∙◌}
 use Rattle.lol_instructions.specs.Compiled.{test_value, test_holds, all_values, some_values}
 use Rattle.lol_instructions.specs.Compounds.{both, opposite}
 use Rattle.lol_instructions.specs.declared.name_value.NameValue.TheVariants.{True, Open}
 use Rattle.lol_instructions.specs.declared.predicate_marks.Shape.TheVariants.{Anywhere}
 use Rattle.lol_instructions.specs.declared.compiled_predicate.CompiledTest.{CompiledTest}
+use Rattle.lol_instructions.specs.PredicateMarks.{AreMarksOf}
 use Rattle.lol_instructions.specs.CompiledRowLaws.{value_of_predicate, test_value-NoneOf, test_value-SomeOf}
-use Rattle.lol_instructions.proofs.PredicateMarkLemmas.{marks_more, some_more, marks_of_value}
+use Rattle.lol_instructions.proofs.PredicateMarkLemmas.{marks_more, marks_whole, some_more, marks_of_value}
 use Rattle.lol_instructions.proofs.predicate_marks.+marking.Goals as goal
+
+pub PredicateMarks::of-loop-test-init : goal.PredicateMarks::of-loop-test-init
+PredicateMarks::of-loop-test-init t c =
+    subst (λ (tests : List CompiledTest). AreMarksOf c.of_test-marks.result (take 1 tests)) (sym c.in-Some.ensures.cases.0) c.of_test-marks.ensures
 
 pub PredicateMarks::of-loop-test-preserved : goal.PredicateMarks::of-loop-test-preserved
 PredicateMarks::of-loop-test-preserved t c =
-    let tests = c.args.tests.now in
+    let first = c.in-Some.first.now in
+    let others = c.in-Some.others.now in
     let x = c.test-item.result in
-    marks_more c.loop-test.marks c.and-marks.result tests c.loop-test.test-index x c.loop-test-test.true c.test-item.is c.loop-test.invariant
-    (λ before. c.and-marks.ensures (take c.loop-test.test-index tests) (x ∷ []) before c.of_test.ensures)
+    marks_more c.args.tests.now first others c.in-Some.ensures.cases.0 c.loop-test.marks c.and-marks.result c.loop-test.test-index x c.loop-test-test.true c.test-item.is c.loop-test.invariant
+    (λ before. c.and-marks.ensures (first ∷ take c.loop-test.test-index others) (x ∷ []) before c.of_test.ensures)
+
+pub PredicateMarks::of-returns : goal.PredicateMarks::of-returns
+PredicateMarks::of-returns t c =
+    marks_whole c.args.tests.now c.in-Some.first.now c.in-Some.others.now c.in-Some.ensures.cases.0 c.loop-test.marks c.loop-test.test-index c.loop-test-test.false c.loop-test.invariant
 
 pub PredicateMarks::of_test-returns-in-Attribute : goal.PredicateMarks::of_test-returns-in-Attribute
 PredicateMarks::of_test-returns-in-Attribute t c = record {
