@@ -26,10 +26,10 @@ pub struct Ast {
 }
 
 impl Ast {
-    ghost use Rattle.std.specs.Prelude.{◌≢◌, ℕ, List, [], Some, IfOk, OnOk, OnErr, IsOk, Contains, length, map, flat_map, AllPairs};
-    ghost use Rattle.lol_css.specs.TreeViews.{list_of};
+    ghost use Rattle.std.specs.Prelude.{◌≢◌, ℕ, List, [], ◌∷◌, Some, IfOk, OnOk, OnErr, IsOk, Contains, length, map, flat_map, AllPairs};
+    ghost use Rattle.lol_css.specs.TreeViews.{item_of, list_of};
     ghost use Rattle.lol_program.specs.Paths.{Path, beginnings, all_beginnings};
-    ghost use Rattle.lol_program.specs.Conditions.{pairs_under};
+    ghost use Rattle.lol_program.specs.Conditions.{pairs_under, path_of};
     ghost use Rattle.lol_program.specs.IdsForNodes.{id_in, pairs_with, Fits, IsReserved};
     ghost use Rattle.lol_program.specs.AstPaths.{path_shown, IsIn, IsInWith, AllIn, AllFit};
     ghost use Rattle.lol_program.specs.Sets.{Joins, SameMembers, IsBetween};
@@ -84,6 +84,23 @@ impl Ast {
             (all_beginnings (pairs_under match_id (list_of selector.now)))) }
     {
         self.add_list(selector.list(), match_id)
+    }
+
+    /// Adds one item of a selector's list under an id, as `add_selector` adds each of them: where each item has an id of its own, a report
+    /// tells which items match.
+    ///
+    /// It is refused where memory is, and where there would be more nodes than a `usize` counts. Then the ids are as they were, and so
+    /// are the nodes but for some without ids, which are beginnings of the item.
+    pub fn add_item(&mut self, item: &ComplexSelector, match_id: MatchId) -> Result<(), AllocError>
+        ensures pairs { OnOk result
+            (Joins (pairs_of self.old) (pairs_of self.new) ((path_of (item_of item.now), match_id) ∷ [])) }
+        ensures nodes { OnOk result
+            (Joins (nodes_of self.old) (nodes_of self.new) (beginnings (path_of (item_of item.now)))) }
+        ensures refused_pairs { OnErr result (SameMembers (pairs_of self.old) (pairs_of self.new)) }
+        ensures refused_nodes { OnErr result
+            (IsBetween (nodes_of self.old) (nodes_of self.new) (beginnings (path_of (item_of item.now)))) }
+    {
+        self.add_path(item, IdForNode::Id(match_id))
     }
 
     fn add_list(&mut self, list: &SelectorList, match_id: MatchId) -> Result<(), AllocError>

@@ -106,6 +106,28 @@ fn none_of_none_and_name(alloc: Global) -> Result<Vec<Test>, AllocError> {
     Ok(tests)
 }
 
+/// The tree of the items of a text, each under an id of its own.
+fn numbered_items(alloc: Global, text: &str) -> Result<Ast, Fail> {
+    let mut ast = Ast::new(alloc);
+    let selector = Selector::from_str(alloc, text)?;
+    for (item, match_id) in selector.list().items.iter().zip(0..u32::MAX) {
+        ast.add_item(item, match_id)?;
+    }
+    Ok(ast)
+}
+
+#[test]
+fn items_under_ids_of_their_own(rt: HostRuntime) -> Result<(), Fail> {
+    let alloc = rt.alloc();
+    let ast = numbered_items(alloc, "p, div, p, div b")?;
+    assert!(rt; ast.cumulative_node_count() == 3);
+    expect_node(&rt, alloc, node(&rt, ast.root(), 0), "p", &[0, 2])?;
+    let div = node(&rt, ast.root(), 1);
+    expect_node(&rt, alloc, div, "div", &[1])?;
+    expect_node(&rt, alloc, node(&rt, &div.descendants, 0), "b", &[3])?;
+    Ok(())
+}
+
 #[test]
 fn functions_in_functions(rt: HostRuntime) -> Result<(), Fail> {
     let tests = none_of_none_and_name(rt.alloc())?;
