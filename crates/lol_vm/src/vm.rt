@@ -21,14 +21,16 @@ ghost use Rattle.lol_vm.specs.TriedStarts.{IsBegun, IsNewContext, IsTried, left_
 ghost use Rattle.lol_vm.specs.VmLending.{lends_current_of_vm};
 ghost use Rattle.lol_stack.specs.Stacks.{items_in, slots_in, item_bytes_in, list_in, last_count, IsPushed, IsSame};
 ghost use Rattle.lol_vm.specs.Views.{selectors};
-ghost use Rattle.lol_vm.specs.Vms.{Stands, HasOpen, IsNameOf, IsTagOf, IsAnswered, IsReported, IsTriedAtMost, IsPending, IsRefusal, IsSilent, content_at, open_after, stack_in, tries_in, has_failed, data_in, slots_charged, slot_bytes, ChargesSlots, IsCovered, IsRequested, IsEntered, OpensNothing, StaysFailed, is_asked_for, with_failure};
+ghost use Rattle.lol_vm.specs.Vms.{Stands, HasOpen, IsNameOf, IsTagOf, IsAnswered, IsReported, IsTriedAtMost, IsPending, IsRefusal, IsSilent, content_at, open_after, stack_in, tries_in, has_failed, program_in, data_in, slots_charged, slot_bytes, ChargesSlots, IsCovered, IsRequested, IsEntered, OpensNothing, StaysFailed, is_asked_for, with_failure};
 
 use crate::error::{AuxStartTagInfoRequest, StartTagError, VmError};
 use crate::tag_runs::{RecoveryPoint, TagRun};
 use lol_base::{AuxStartTagInfo, LocalName, Namespace};
 use lol_memory::{MatchInfo, MemoryLimitExceededError, PushError, SharedMemoryLimiter};
 use lol_program::{Ast, AttributeMatcher, Compiler, Program, Tries};
-use lol_stack::{ElementData, ExecutionCtx, Stack, StackDirective, StackItem, StackNames, StackOf};
+use lol_stack::{
+    ElementData, ExecutionCtx, Stack, StackDirective, StackItem, StackItemOf, StackNames, StackOf,
+};
 use std::alloc::{AllocError, Global};
 
 /// The machine: see `SelectorMatchingVm`.
@@ -73,6 +75,20 @@ impl<P, N, M, E> VmOf<P, N, M, E> {
         ensures some { IsSome result ↔ (0 < length (items_in (stack_in self.old))) }
     {
         self.stack.current_element_data_mut()
+    }
+
+    /// The instructions of the selectors. (Not in lol_html.)
+    pub fn program(&self) -> &P
+        ensures { result.now ≡ program_in self.now }
+    {
+        &self.program
+    }
+
+    /// The open elements, the outermost first, each with the ranges that it gives to those inside it. (Not in lol_html.)
+    pub fn open_items(&self) -> &[StackItemOf<N, E>]
+        ensures { result.now ≡ items_in (stack_in self.now) }
+    {
+        self.stack.items()
     }
 
     /// How many nodes were tried for the last start tag that wasn't answered `Failed`, its finishing included: while its request is open
