@@ -4,3 +4,6 @@ mod Climbing
 mod Climbs
 mod Nodes
 mod Around
+mod Numbers
+mod Growing
+mod Telling

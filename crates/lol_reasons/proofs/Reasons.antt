@@ -54,7 +54,7 @@ module _ (e : Element) (outer : List Element) where
 reasons_give_ids : (added : List Added) (e : Element) (outer : List Element) → ascending_once (ids_of_reasons (reasons added e outer)) ≡ matching_ids (pairs_added added) e outer
 reasons_give_ids added e outer = ap ascending_once (ids_kept e outer added)
 
-ids_of_matches : (ids : List ℕ) (content : Bool) → ids_of (map (λ (id : ℕ). record { id = id; with_content = content }) ids) ≡ ids
+pub ids_of_matches : (ids : List ℕ) (content : Bool) → ids_of (map (λ (id : ℕ). record { id = id; with_content = content }) ids) ≡ ids
 ids_of_matches [] content = refl
 ids_of_matches (id ∷ ids) content = ap (λ more. id ∷ more) (ids_of_matches ids content)
 

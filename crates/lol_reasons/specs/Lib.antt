@@ -6,3 +6,4 @@ pub mod Rows
 pub mod Matched
 pub mod Climbing
 pub mod MachinesShow
+pub mod Numbered

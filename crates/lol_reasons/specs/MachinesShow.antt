@@ -6,9 +6,11 @@ use Rattle.lol_program.specs.Paths.{Path, Selectors}
 use Rattle.lol_program.specs.ProgramViews.{program_shown}
 use Rattle.lol_stack.specs.Stacks.{items_in}
 use Rattle.lol_stack.specs.declared.stack_item.StackItemOf.{StackItemOf}
-use Rattle.lol_vm.specs.Answers.{document}
+use Rattle.lol_vm.specs.Answers.{document, report}
+use Rattle.lol_vm.specs.Documents.{element_of}
 use Rattle.lol_vm.specs.Events.{Event, Start}
 use Rattle.lol_vm.specs.Follows.{opens}
+use Rattle.lol_vm.specs.Laws.{ids_of}
 use Rattle.lol_vm.specs.StackMachines.{items_shown}
 use Rattle.lol_vm.specs.Vms.{Vm, Stands, program_in, stack_in}
 use Rattle.lol_reasons.specs.Matched.{IsAround}
@@ -27,3 +29,11 @@ MachinesShowAround E =
     → (paths : List Path)
     × IsAround s paths (program_shown (program_in vm)) (items_shown (items_around (opens s esi events tag) (items_in (stack_in vm)))) numbers
     (document s esi events).open_elements
+
+-- A machine was told of a start tag, last of all, and reported these ids, ascending. The numbers are that tag's, and those of the elements around
+-- its element, the outermost first.
+pub record HasReported {E : Type 0} (s : Selectors) (esi : Bool) (events : List Event) (tag : StartTag) (vm : Vm E) (matched : List ℕ) (number : ℕ) (numbers : List ℕ) : Type 0 where
+  pub stands : Stands s esi vm (events ++ Start tag ∷ [])
+  pub ids_are : matched ≡ ids_of (report s esi (element_of (document s esi events) tag) (document s esi events).open_elements)
+  pub number_is : number ≡ (element_of (document s esi events) tag).number
+  pub numbers_are : map (λ e. e.number) (document s esi events).open_elements ≡ reverse numbers
