@@ -18,7 +18,7 @@ use Rattle.lol_program.specs.StepLaws.{one_front, one_step}
 use Rattle.lol_program.specs.declared.program.Program as program
 use Rattle.lol_vm.specs.Machines.{OpenItem, IsItem, AreItems}
 use Rattle.lol_vm.specs.Matching.{matches, some_ancestor_passes}
-use Rattle.lol_reasons.specs.Climbing.{is_within, have_place, has_place, node_above_from, nearest_giving}
+use Rattle.lol_reasons.specs.Climbing.{StandsUnder, is_within, have_place, has_place, node_above_from, nearest_giving, range_in}
 use Rattle.lol_reasons.specs.Witnesses.{given_at_nearest}
 use Rattle.lol_reasons.specs.declared.witness.NodeAbove.{NodeAbove}
 
@@ -117,11 +117,6 @@ module _ (s : Selectors) (paths : List Path) (p : Program) (closed : AreClosed s
       holds None is none = absurd (none place (Then front step c) at refl)
       holds (Some r) is some = (r, is, (some.0.members place).1 (Then front step c, at, refl))
 
--- what the node at a place stands under
-abbrev pub StandsUnder : List Path → Path → Option NodeAbove → Type 0
-StandsUnder paths (First c) o = o ≡ None
-StandsUnder paths (Then front step c) o = (a : NodeAbove) × (o ≡ Some a) × IsAt paths a.place front × (a.step ≡ step)
-
 module _ (by_type : Bool) (place : ℕ) where
   abbrev shown : code.Instruction → Instruction
   shown i = instruction_shown by_type i
@@ -206,6 +201,35 @@ module _ (s : Selectors) (paths : List Path) (code_program : program.Program) (c
       some (Some a) found =
           let f = front_of place (Then front step c) at a found in
           (a, refl, subst (λ x. IsAt paths a.place x) (sym (one_front front f.0 step a.step f.2)) f.1, sym (one_step front f.0 step a.step f.2))
+
+  -- a node that gives the place by a step stands above it
+  pub stands_by : (place : ℕ) (path : Path) → IsAt paths place path → (a : NodeAbove) (i : code.Instruction) → IsAt instructions a.place i → has_place (range_in a.step i) place ≡ true
+      → StandsUnder paths path (Some a)
+  stands_by place path at a i i_at gives =
+      let r = has_some (range_in a.step i) place gives in
+      let code_at = at_map (instruction_shown by_type) instructions a.place i i_at in
+      let front = within_at paths a.place (omega (arith, at_within (program_shown code_program).instructions a.place (instruction_shown by_type i) code_at, is.count)) in
+      by_path path front.0 front.1
+      (under s paths (program_shown code_program) closed is a.step front.0 a.place (instruction_shown by_type i) r.0 front.1 code_at (same_range a.step ∙ r.1) place path r.2 at)
+    where
+      same_range : (step : Combinator) → range_by step (instruction_shown by_type i) ≡ range_in step i
+      same_range Child = refl
+      same_range Descendant = refl
+
+      by_path : (path : Path) (front : Path) → IsAt paths a.place front → above path ≡ Some (front, a.step) → StandsUnder paths path (Some a)
+      by_path (First c) front front_at up = absurd (cc)
+      by_path (Then mine step c) front front_at up =
+          (a, refl, subst (λ x. IsAt paths a.place x) (sym (one_front mine front step a.step up)) front_at, sym (one_step mine front step a.step up))
+
+  -- nothing stands above an entry point
+  pub stands_at_root : (place : ℕ) (path : Path) → IsAt paths place path → IsWithin place code_program.entry_points → StandsUnder paths path None
+  stands_at_root place path at within =
+      let root = (is.entry.members place).0 within in
+      by_path path (ap above (same_at paths place path root.0 at root.1) ∙ root.2)
+    where
+      by_path : (path : Path) → above path ≡ None → StandsUnder paths path None
+      by_path (First c) up = refl
+      by_path (Then front step c) up = absurd (cc)
 
 -- 3. The element that a step leads to
 

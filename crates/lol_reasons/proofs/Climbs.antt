@@ -1,5 +1,5 @@
 -- A walk from a node that matched to the nodes above it, over the open elements.
-use Rattle.std.proofs.Common.{◌≡◌, ℕ, zero, suc, ◌+◌, ◌<◌, ◌≤◌, true, List, [], ◌∷◌, ◌++◌, length, map, reverse, take, get_or, Some, None, refl, sym, ap, ◌∙◌, subst, arith, append_assoc}
+use Rattle.std.proofs.Common.{◌≡◌, ℕ, zero, suc, ◌+◌, ◌<◌, ◌≤◌, true, List, [], ◌∷◌, ◌++◌, length, map, reverse, take, get_or, Option, Some, None, refl, sym, ap, ◌∙◌, subst, arith, append_assoc}
 use Rattle.std.proofs.lemmas.List.{take_more, take_all, reverse-append, length-reverse, length-take-le}
 use Rattle.lol_base.specs.BoolLaws.{and_parts}
 use Rattle.lol_base.specs.ListLaws.{get_or-any}
@@ -14,12 +14,12 @@ use Rattle.lol_program.specs.ProgramViews.{program_shown}
 use Rattle.lol_program.specs.declared.program.Program as program
 use Rattle.lol_vm.specs.Machines.{OpenItem, AreItems}
 use Rattle.lol_vm.specs.Matching.{matches, step_reaches}
-use Rattle.lol_reasons.specs.Climbing.{node_above_from, reached_by}
+use Rattle.lol_reasons.specs.Climbing.{StandsUnder, reached_by}
 use Rattle.lol_reasons.specs.Matched.{HasMatched}
 use Rattle.lol_reasons.specs.Witnesses.{innermost_witness, known_witness, step_gives}
 use Rattle.lol_reasons.specs.declared.witness.NodeAbove.{NodeAbove}
 use Rattle.lol_reasons.proofs.Witnesses.{innermost_is_known}
-use Rattle.lol_reasons.proofs.Climbing.{StandsUnder, stands_under, Reached, nearest_reached, same_lengths}
+use Rattle.lol_reasons.proofs.Climbing.{Reached, nearest_reached, same_lengths}
 
 -- 1. Lists whose last items come first
 
@@ -127,33 +127,31 @@ module _ (s : Selectors) (paths : List Path) (code_program : program.Program) (c
   reached front Descendant c place items around at h fits = nearest_reached s paths p closed is front c place (give_for front) at items around h fits
 
   module _ (path0 : Path) (e0 : Element) (outer0 : List Element) (items : List OpenItem) (numbers : List ℕ) (place left : ℕ) (witness : List ℕ)
-      (within : left ≤ length items) (as_many : length numbers ≡ length items) (here : Climbs paths p path0 e0 outer0 items numbers place left witness) where
-    under_here : StandsUnder paths here.path (node_above_from 0 code_program.instructions.items place)
-    under_here = stands_under s paths code_program closed is place here.path here.at
-
+      (within : left ≤ length items) (as_many : length numbers ≡ length items) (here : Climbs paths p path0 e0 outer0 items numbers place left witness)
+      (found : Option NodeAbove) (under_here : StandsUnder paths here.path found) where
     -- at a root the walk is over
-    pub ends : node_above_from 0 code_program.instructions.items place ≡ None → matches path0 e0 outer0 ≡ true → innermost_witness path0 e0 outer0 ≡ Some witness
+    pub ends : found ≡ None → matches path0 e0 outer0 ≡ true → innermost_witness path0 e0 outer0 ≡ Some witness
     ends none matched =
         innermost_is_known path0 e0 outer0 matched ∙ ap Some (here.known ∙ ap (λ l. here.before ++ l) (one here.path under_here) ∙ sym here.told)
       where
-        one : (path : Path) → StandsUnder paths path (node_above_from 0 code_program.instructions.items place) → known_witness matches path here.element here.around ≡ here.element.number ∷ []
+        one : (path : Path) → StandsUnder paths path found → known_witness matches path here.element here.around ≡ here.element.number ∷ []
         one (First c) stands = refl
         one (Then front step c) stands = absurd (let some = sym none ∙ stands.1 in cc)
 
-    pub goes_on : (a : NodeAbove) → node_above_from 0 code_program.instructions.items place ≡ Some a → (at : ℕ) (shown : List OpenItem) → shown ≡ reverse (take left items)
+    pub goes_on : (a : NodeAbove) → found ≡ Some a → (at : ℕ) (shown : List OpenItem) → shown ≡ reverse (take left items)
         → reached_by a.step place shown ≡ Some at
         → (d : ℕ) → Climbs paths p path0 e0 outer0 items numbers a.place at (witness ++ get_or numbers at d ∷ [])
-    goes_on a above at shown is_shown found d = from here.path here.at here.fits here.known under_here
+    goes_on a above at shown is_shown reaches d = from here.path here.at here.fits here.known under_here
       where
         from : (path : Path) → IsAt paths place path → matches path here.element here.around ≡ true → known_witness matches path0 e0 outer0 ≡ here.before ++ known_witness matches path here.element here.around
-            → StandsUnder paths path (node_above_from 0 code_program.instructions.items place) → Climbs paths p path0 e0 outer0 items numbers a.place at (witness ++ get_or numbers at d ∷ [])
+            → StandsUnder paths path found → Climbs paths p path0 e0 outer0 items numbers a.place at (witness ++ get_or numbers at d ∷ [])
         from (First c) is_at fits known stands = absurd (let some = sym above ∙ stands in cc)
         from (Then front step c) is_at fits known stands =
             let same : stands.0 ≡ a = some_is (sym stands.1 ∙ above) in
             let step_is : step ≡ a.step = sym stands.3 ∙ ap (λ (x : NodeAbove). x.step) same in
             let r = reached front step c place (reverse (take left items)) here.around is_at here.are_items
             (and_parts (all_hold c here.element) (step_reaches step (λ a o. matches front a o) here.around) fits).1 in
-            let found_at : length r.outer ≡ at = some_is (sym r.found ∙ ap (λ x. reached_by x place (reverse (take left items))) step_is ∙ ap (reached_by a.step place) (sym is_shown) ∙ found) in
+            let found_at : length r.outer ≡ at = some_is (sym r.found ∙ ap (λ x. reached_by x place (reverse (take left items))) step_is ∙ ap (reached_by a.step place) (sym is_shown) ∙ reaches) in
             let items_cut = cut items left r.inner r.item r.outer within r.parts in
             let numbers_cut = cut numbers left (numbers_of r.nearer) r.element.number (numbers_of r.beyond) (omega (arith, within, as_many))
             (sym here.are_numbers ∙ ap numbers_of r.elements ∙ numbers_append r.nearer (r.element ∷ r.beyond)) in
@@ -171,11 +169,11 @@ module _ (s : Selectors) (paths : List Path) (code_program : program.Program) (c
               told = ap (λ n. witness ++ n ∷ []) (ap (λ n. get_or numbers n d) (sym many) ∙ numbers_cut.at d) ∙ ap (λ l. l ++ r.element.number ∷ []) here.told;
             }
 
-    pub not_lost : (a : NodeAbove) → node_above_from 0 code_program.instructions.items place ≡ Some a → (shown : List OpenItem) → shown ≡ reverse (take left items)
+    pub not_lost : (a : NodeAbove) → found ≡ Some a → (shown : List OpenItem) → shown ≡ reverse (take left items)
         → reached_by a.step place shown ≡ None → ⊥
     not_lost a above shown is_shown lost = from here.path here.at here.fits under_here
       where
-        from : (path : Path) → IsAt paths place path → matches path here.element here.around ≡ true → StandsUnder paths path (node_above_from 0 code_program.instructions.items place) → ⊥
+        from : (path : Path) → IsAt paths place path → matches path here.element here.around ≡ true → StandsUnder paths path found → ⊥
         from (First c) is_at fits stands = let some = sym above ∙ stands in cc
         from (Then front step c) is_at fits stands =
             let same : stands.0 ≡ a = some_is (sym stands.1 ∙ above) in

@@ -1,5 +1,5 @@
 -- The node that has an id.
-use Rattle.std.proofs.Common.{◌≡◌, ℕ, zero, suc, ◌+◌, Bool, true, false, cond, ◌⊎◌, true≢false, List, [], ◌∷◌, Some, None, Contains, inl, inr, refl, sym, ap, ◌∙◌, subst, arith}
+use Rattle.std.proofs.Common.{◌≡◌, ℕ, zero, suc, ◌+◌, Bool, true, false, cond, ◌⊎◌, true≢false, List, [], ◌∷◌, Option, Some, None, Contains, inl, inr, refl, sym, ap, ◌∙◌, subst, arith}
 use Rattle.std.specs.Prelude.{◌==◌}
 use Rattle.std.proofs.lemmas.Bool.Decides.{Decides-eqb}
 use Rattle.lol_base.specs.BoolLaws.{or_parts, or_of}
@@ -58,17 +58,21 @@ module _ (id : ℕ) where
 
 module _ (s : Selectors) (paths : List Path) (code_program : program.Program) (closed : AreClosed s) (is : IsProgramOf s paths (program_shown code_program)) (path : Path) (id : ℕ)
     (alone : IsAlone s path id) where
-  -- the place of the node with the id is that of its path
-  pub has_place_of : (k : ℕ) → node_with_from 0 code_program.instructions.items id ≡ Some k → IsAt paths k path
+  -- the place of a node with the id is that of its path
+  pub holds_at : (k : ℕ) (i : code.Instruction) → IsAt code_program.instructions.items k i → has i id ≡ true → IsAt paths k path
+  holds_at k i at has_it =
+      let code_at = at_map (instruction_shown code_program.enable_nth_of_type) code_program.instructions.items k i at in
+      let own = within_at paths k (omega (arith, at_within (program_shown code_program).instructions k (instruction_shown code_program.enable_nth_of_type i) code_at, is.count)) in
+      let ids = (is.each k own.0 (instruction_shown code_program.enable_nth_of_type i) own.1 code_at).ids id in
+      subst (IsAt paths k) (alone.only own.0 (ids.0 (contains_from_among _ id (among_if _ id has_it)))) own.1
+
+  has_place_of : (k : ℕ) → node_with_from 0 code_program.instructions.items id ≡ Some k → IsAt paths k path
   has_place_of k h =
       let f = found_with id code_program.instructions.items code_program.instructions.items 0 (λ j i there. subst (λ m. IsAt code_program.instructions.items m i) (omega arith) there) k h in
-      let code_at = at_map (instruction_shown code_program.enable_nth_of_type) code_program.instructions.items k f.0 f.1 in
-      let own = within_at paths k (omega (arith, at_within (program_shown code_program).instructions k (instruction_shown code_program.enable_nth_of_type f.0) code_at, is.count)) in
-      let ids = (is.each k own.0 (instruction_shown code_program.enable_nth_of_type f.0) own.1 code_at).ids id in
-      subst (IsAt paths k) (alone.only own.0 (ids.0 (contains_from_among _ id (among_if _ id f.2)))) own.1
+      holds_at k f.0 f.1 f.2
 
   -- some node has it
-  pub has_one : node_with_from 0 code_program.instructions.items id ≡ None → ⊥
+  has_one : node_with_from 0 code_program.instructions.items id ≡ None → ⊥
   has_one none =
       let node = (is.same path).1 (closed.paths path id alone.added) in
       let at = among_at paths path (among_from_contains paths path node) in
@@ -77,3 +81,7 @@ module _ (s : Selectors) (paths : List Path) (code_program : program.Program) (c
       let ids = (is.each at.0 path code_at.0 at.1 code_at.1).ids id in
       let listed = subst (λ (x : Instruction). Contains x.ids id) (sym i.2) (ids.1 alone.added) in
       missed_none id code_program.instructions.items 0 at.0 i.0 i.1 (if_among _ id (among_from_contains _ id listed)) none
+
+  pub node_is : (o : Option ℕ) → o ≡ node_with_from 0 code_program.instructions.items id → (k : ℕ) × (o ≡ Some k) × IsAt paths k path
+  node_is None is_none = absurd (has_one (sym is_none))
+  node_is (Some k) is_some = (k, refl, has_place_of k (sym is_some))

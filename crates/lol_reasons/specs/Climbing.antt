@@ -1,11 +1,13 @@
 -- What a program and the items of open elements say of the place of a node: the node above, and the element that the step comes from.
-use Rattle.std.specs.Prelude.{ℕ, ◌+◌, Bool, false, ◌&&◌, if◌then◌else◌, nat_le, nat_lt, List, [], ◌∷◌, length, Option, Some, None, ◌==◌}
+use Rattle.std.specs.Prelude.{ℕ, ◌≡◌, ◌+◌, Bool, false, ◌&&◌, if◌then◌else◌, nat_le, nat_lt, List, [], ◌∷◌, length, Option, Some, None, ◌==◌}
 use Rattle.std.specs.List.{list_any}
 use Rattle.std.specs.declared.ops.Range.{Range}
 use Rattle.lol_css.specs.declared.selector.Combinator.{Combinator}
 use Rattle.lol_css.specs.declared.selector.Combinator.TheVariants.{Child, Descendant}
 use Rattle.lol_memory.specs.Ids.{ascending}
 use Rattle.lol_instructions.specs.declared.instruction.Instruction.{Instruction}
+use Rattle.lol_program.specs.Paths.{Path, First, Then}
+use Rattle.lol_program.specs.Programs.{IsAt}
 use Rattle.lol_vm.specs.Machines.{OpenItem}
 use Rattle.lol_reasons.specs.declared.witness.NodeAbove.{NodeAbove}
 
@@ -47,3 +49,13 @@ abbrev pub node_with_from : ℕ → List Instruction → ℕ → Option ℕ
 node_with_from place [] id = None
 node_with_from place (i ∷ instructions) id =
     if has_number (ascending i.associated_branch.matched_ids) id then Some place else node_with_from (place + 1) instructions id
+
+-- the range of an instruction by a step
+abbrev pub range_in : Combinator → Instruction → Option (Range ℕ)
+range_in Child i = i.associated_branch.jumps
+range_in Descendant i = i.associated_branch.hereditary_jumps
+
+-- what the node of a path stands under, by the paths of the places
+abbrev pub StandsUnder : List Path → Path → Option NodeAbove → Type 0
+StandsUnder paths (First c) o = o ≡ None
+StandsUnder paths (Then front step c) o = (a : NodeAbove) × (o ≡ Some a) × IsAt paths a.place front × (a.step ≡ step)

@@ -18,7 +18,7 @@ ghost use Rattle.lol_reasons.specs.MachinesShow.{HasReported};
 ghost use Rattle.lol_reasons.specs.Numbered.{HasItemsOf, HasMatchedItems, KnowsItemsOf, item_shown, items_of, reason_shown};
 
 use crate::laws::machines_show_around;
-use crate::witness::witness_under;
+use crate::node_table::NodeTable;
 use lol_memory::MatchId;
 use lol_program::Program;
 use lol_stack::StackItem;
@@ -47,6 +47,7 @@ pub struct Reason {
 pub struct Explainer {
     alloc: Global,
     items: Vec<ItemOfText>,
+    nodes: NodeTable,
 }
 
 impl Explainer {
@@ -56,6 +57,7 @@ impl Explainer {
         Explainer {
             alloc,
             items: Vec::new(alloc),
+            nodes: NodeTable::new(alloc),
         }
     }
 
@@ -71,6 +73,18 @@ impl Explainer {
         ensures { OnOk result (items_of self.new ≡ items_of self.old ++ item_shown item ∷ []) }
     {
         self.items.push(item)?;
+        Ok(())
+    }
+
+    /// Makes a table of a machine's program, with which `reasons` looks at one instruction for each compound. Without it, or with that of
+    /// another program, `reasons` gives the same, but looks at each of them.
+    ///
+    /// # Errors
+    /// Out of memory. Then it is as it was.
+    pub fn index(&mut self, program: &Program) -> Result<(), AllocError>
+        ensures { items_of self.new ≡ items_of self.old }
+    {
+        self.nodes = NodeTable::of(self.alloc, program, self.items.len())?;
         Ok(())
     }
 
@@ -145,7 +159,9 @@ impl Explainer {
         let Some(item) = self.items.get(own_id as usize) else {
             return Ok(None);
         };
-        let Some(witness) = witness_under(self.alloc, program, own_id, number, outer, numbers)?
+        let Some(witness) = self
+            .nodes
+            .witness_under(program, own_id, number, outer, numbers)?
         else {
             return Ok(None);
         };

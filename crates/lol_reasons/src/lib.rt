@@ -4,6 +4,7 @@
 mod error;
 mod explainer;
 pub mod laws;
+mod node_table;
 pub mod rows;
 mod texts;
 mod witness;

@@ -12,6 +12,7 @@ ghost use Rattle.lol_reasons.specs.Matched.{HasMatched, IsAlone, IsAround};
 ghost use Rattle.lol_reasons.specs.Climbing.{has_number, has_place, have_place, is_within, nearest_giving, node_above_from, node_with_from, reached_by};
 ghost use Rattle.lol_reasons.specs.Witnesses.{innermost_witness};
 
+use crate::node_table::NodeTable;
 use lol_css::Combinator;
 use lol_instructions::{AddressRange, Instruction};
 use lol_memory::{DenseHashSet, MatchId};
@@ -33,7 +34,8 @@ pub(crate) struct NodeAbove {
 /// `numbers` theirs: where these aren't as many, it is the element's number alone. Only their ranges are read, so the element itself needn't
 /// be open.
 ///
-/// It looks at each instruction of the program for each compound, and at most once at each range of the open elements.
+/// It looks at each instruction of the program for each compound, and at most once at each range of the open elements. An `Explainer` with a
+/// table looks at one.
 ///
 /// # Errors
 /// Out of memory.
@@ -50,22 +52,7 @@ pub fn witness_of<E>(
         → HasMatched s paths (program_shown program.now) place path (items_shown outer.now) numbers.now e around
         → number ≡ e.number → innermost_witness path e around ≡ Some witness.items) }
 {
-    let mut witness = vec![in alloc; number]?;
-    if numbers.len() != outer.len() {
-        return Ok(witness);
-    }
-    let mut node = place;
-    let mut left = outer.len();
-    while let Some(above) = node_above(&program.instructions, node) {
-        let Some(at) = element_reached(above.step, node, &outer[..left]) else {
-            return Ok(witness);
-        };
-        let reached = numbers[at];
-        witness.push(reached)?;
-        node = above.place;
-        left = at;
-    }
-    Ok(witness)
+    NodeTable::new(alloc).witness_of(program, place, number, outer, numbers)
 }
 
 /// The same for an id that one path alone was added under: nothing if the program has no node with it.
@@ -86,14 +73,11 @@ pub fn witness_under<E>(
         → matches path e around ≡ true → number ≡ e.number
         → innermost_witness path e around ≡ option_map (λ witness. witness.items) found) }
 {
-    let Some(place) = node_with(&program.instructions, id) else {
-        return Ok(None);
-    };
-    Ok(Some(witness_of(alloc, program, place, number, outer, numbers)?))
+    NodeTable::new(alloc).witness_under(program, id, number, outer, numbers)
 }
 
 /// The place of the first node that has an id.
-fn node_with(instructions: &[Instruction], id: MatchId) -> Option<usize>
+pub(crate) fn node_with(instructions: &[Instruction], id: MatchId) -> Option<usize>
     ensures { result ≡ node_with_from 0 instructions.now id }
 {
     for (place, instruction) in instructions.iter().enumerate() {
@@ -104,14 +88,14 @@ fn node_with(instructions: &[Instruction], id: MatchId) -> Option<usize>
     None
 }
 
-fn has_id(ids: &DenseHashSet, id: MatchId) -> bool
+pub(crate) fn has_id(ids: &DenseHashSet, id: MatchId) -> bool
     ensures { result ≡ has_number (ascending ids.now) id }
 {
     ids.iter().any(|other| other == id)
 }
 
 /// What the node at a place stands under, if it isn't a root.
-fn node_above(instructions: &[Instruction], place: usize) -> Option<NodeAbove>
+pub(crate) fn node_above(instructions: &[Instruction], place: usize) -> Option<NodeAbove>
     ensures { result ≡ node_above_from 0 instructions.now place }
 {
     for (front, instruction) in instructions.iter().enumerate() {
@@ -132,7 +116,7 @@ fn node_above(instructions: &[Instruction], place: usize) -> Option<NodeAbove>
     None
 }
 
-fn is_in(range: &Option<AddressRange>, place: usize) -> bool
+pub(crate) fn is_in(range: &Option<AddressRange>, place: usize) -> bool
     ensures { result ≡ has_place range.now place }
 {
     match range {
@@ -142,7 +126,7 @@ fn is_in(range: &Option<AddressRange>, place: usize) -> bool
 }
 
 /// How many elements are around the one that the step to a node leads to.
-fn element_reached<E>(
+pub(crate) fn element_reached<E>(
     step: Combinator,
     place: usize,
     outer: &[StackItem<'static, E>],

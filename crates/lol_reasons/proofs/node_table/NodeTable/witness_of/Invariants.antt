@@ -5,7 +5,7 @@ use Rattle.lol_program.specs.ProgramViews.{program_shown}
 use Rattle.lol_vm.specs.StackMachines.{item_shown, items_shown}
 use Rattle.lol_reasons.specs.Matched.{HasMatched}
 use Rattle.lol_reasons.proofs.Climbs.{Climbs}
-use Rattle.lol_reasons.proofs.witness.witness_of.Given as goal
+use Rattle.lol_reasons.proofs.node_table.NodeTable.witness_of.Given as goal
 
 abbrev pub decreases-loop-above : goal.decreases-loop-above
 decreases-loop-above g l = l.left

@@ -1,0 +1,12 @@
+use Rattle.std.proofs.Common.{refl, sym, ap, ◌∙◌}
+use Rattle.std.specs.Prelude.{slice_get}
+use Rattle.std.proofs.lemmas.Option.{slice_get_read}
+use Rattle.lol_reasons.proofs.node_table.stands_at.Goals as goal
+
+pub returns-in-Some : goal.returns-in-Some
+returns-in-Some c h =
+    let found = c.in-Some.ensures.lookup in (
+      c.in-Some.instruction.now,
+      ap (λ l. slice_get l c.args.place) (sym c.deref.ensures.value) ∙ slice_get_read c.deref.result.now _ c.args.place c.in-Some.instruction.now refl found.3.0 found.1,
+      sym c.has_id.ensures ∙ h,
+    )
