@@ -1,0 +1,416 @@
+//! Reasons that an explainer gives for what a machine reports, beside rows and beside those of the definitions.
+
+ghost use Rattle.std.specs.Prelude.{All};
+ghost use Rattle.lol_base.specs.StartTags.{RangesAreInside};
+ghost use Rattle.lol_vm.specs.Views.{HasRangesInside};
+
+use crate::tag_words::events_of;
+use lol_reasons::{Explainer, Reason, Texts};
+use lol_vm::{
+    AuxStartTagInfo, LocalName, MatchInfo, Namespace, Selector, SelectorMatchingVm,
+    SharedMemoryLimiter, TagEvent,
+};
+use plain_matcher::{PlainReason, PlainText, plain_reasons};
+use std::alloc::{AllocError, Global};
+use std::process::Abort;
+use std::test::Fail;
+use test_kit::{Numbered, Random, TagWord, attributes_of, selectors, words_of};
+
+/// Selectors with their ids, and tags.
+type Written<'t> = (&'t [(&'t str, u32)], &'t str);
+
+/// An id, the numbers of a text and of an item, and a witness.
+type Expected = (u32, usize, usize, &'static [usize]);
+
+/// Selectors and tags, and the reasons for the last tag.
+type Row = (Written<'static>, &'static [Expected]);
+
+const ROWS: [Row; 10] = [
+    // The nearest div, then the nearest one above it.
+    (
+        (&[("div div p", 7)], "html div div section div p"),
+        &[(7, 0, 0, &[5, 4, 2])],
+    ),
+    // The nearest div isn't right under main.
+    (
+        (&[("main > div p", 0)], "main div section div p"),
+        &[(0, 0, 0, &[4, 1, 0])],
+    ),
+    // One parent of two elements of its name.
+    (
+        (
+            &[
+                ("div > p", 0),
+                ("div > div > p", 1),
+                ("div > div > div > p", 2),
+            ],
+            "div div p",
+        ),
+        &[(0, 0, 0, &[2, 1]), (1, 1, 0, &[2, 1, 0])],
+    ),
+    (
+        (&[("div > p", 0), ("div p", 0)], "div span p"),
+        &[(0, 1, 0, &[2, 0])],
+    ),
+    // Numbers are those of events.
+    (
+        (&[("div > p", 0)], "div br /div div P"),
+        &[(0, 0, 0, &[4, 3])],
+    ),
+    // Lists, and one id of two texts.
+    (
+        (&[("a, p", 7), ("div p, p", 3), ("p", 7)], "div p"),
+        &[
+            (7, 0, 1, &[1]),
+            (3, 1, 0, &[1, 0]),
+            (3, 1, 1, &[1]),
+            (7, 2, 0, &[1]),
+        ],
+    ),
+    ((&[("div img", 1)], "div img"), &[(1, 0, 0, &[1, 0])]),
+    (
+        (&[("img p", 1), ("div p", 2)], "div img p"),
+        &[(2, 1, 0, &[2, 0])],
+    ),
+    (
+        (
+            &[("svg g circle", 4), ("g g circle", 5)],
+            "svg:svg svg:g svg:g/ svg:circle/",
+        ),
+        &[(4, 0, 0, &[3, 1, 0])],
+    ),
+    (
+        (
+            &[
+                ("div:not(.a) p", 0),
+                (":is(main, .a) p", 1),
+                ("main:not(div) > div :is(p, a)", 2),
+            ],
+            "main div div@class=a p",
+        ),
+        &[
+            (0, 0, 0, &[3, 1]),
+            (1, 1, 0, &[3, 2]),
+            (2, 2, 0, &[3, 1, 0]),
+        ],
+    ),
+];
+
+/// A machine whose elements know the numbers of their start tags, and what explains its reports.
+#[derive(Drop)]
+struct Explained<'v> {
+    alloc: Global,
+    vm: &'v mut SelectorMatchingVm<Numbered>,
+    limiter: &'v mut SharedMemoryLimiter,
+    explainer: &'v Explainer,
+}
+
+impl Explained<'_> {
+    /// The reasons for an event.
+    fn tell(&mut self, number: usize, event: &TagEvent<'_>) -> Result<Vec<Reason>, Fail>
+        requires { HasRangesInside event.now }
+    {
+        match event {
+            TagEvent::Start {
+                name,
+                ns,
+                aux_info,
+                ..
+            } => self.start(number, LocalName::new(name), *ns, *aux_info),
+            TagEvent::End { name } => {
+                let mut handler = |element: Numbered| drop(element);
+                self.vm.exec_for_end_tag(LocalName::new(name), &mut handler);
+                Ok(Vec::new(self.alloc))
+            }
+        }
+    }
+
+    fn start(
+        &mut self,
+        number: usize,
+        name: LocalName<'_>,
+        ns: Namespace,
+        aux_info: AuxStartTagInfo<'_>,
+    ) -> Result<Vec<Reason>, Fail>
+        requires { RangesAreInside aux_info }
+    {
+        let mut numbers = Vec::new(self.alloc);
+        for item in self.vm.open_items() {
+            numbers.push(item.element_data.value)?;
+        }
+        let mut matched = Vec::new(self.alloc);
+        let mut handler = |info: MatchInfo| {
+            let _ = matched.push(info.match_id);
+        };
+        let told = self
+            .vm
+            .exec_for_whole_start_tag(name, ns, aux_info, self.limiter, &mut handler);
+        if told.is_err() {
+            return Err(Fail::from("a tag was refused"));
+        }
+        if self.vm.open_elements() > numbers.len() {
+            self.number_last(number);
+        }
+        Ok(self.explainer.reasons(self.vm, &matched, number, &numbers)?)
+    }
+
+    fn number_last(&mut self, number: usize) {
+        if let Some(element) = self.vm.current_element_data_mut() {
+            element.value = number;
+        }
+    }
+}
+
+fn texts_of(alloc: Global, texts: &[(&str, u32)]) -> Result<Texts, Fail> {
+    let mut added = Texts::new(alloc);
+    for (text, id) in texts {
+        added.add(*id, Selector::from_str(alloc, text)?)?;
+    }
+    Ok(added)
+}
+
+/// The reasons for each event, with a table of the program or without.
+fn reasons_of(
+    alloc: Global,
+    texts: &[(&str, u32)],
+    indexed: bool,
+    events: &[TagEvent<'_>],
+) -> Result<Vec<Vec<Reason>>, Fail>
+    requires { All HasRangesInside events.now }
+{
+    let Ok(mut numbering) = texts_of(alloc, texts)?.number_items() else {
+        return Err(Fail::from("the items were not numbered"));
+    };
+    let mut limiter = SharedMemoryLimiter::new(1_000_000);
+    let mut vm: SelectorMatchingVm<Numbered> = SelectorMatchingVm::new(
+        alloc,
+        numbering.ast,
+        64,
+        false,
+    )?;
+    let told = tell_all(
+        alloc,
+        &mut vm,
+        &mut limiter,
+        &mut numbering.explainer,
+        indexed,
+        events,
+    );
+    vm.discard();
+    told
+}
+
+fn tell_all(
+    alloc: Global,
+    vm: &mut SelectorMatchingVm<Numbered>,
+    limiter: &mut SharedMemoryLimiter,
+    explainer: &mut Explainer,
+    indexed: bool,
+    events: &[TagEvent<'_>],
+) -> Result<Vec<Vec<Reason>>, Fail>
+    requires { All HasRangesInside events.now }
+{
+    if indexed {
+        explainer.index(vm.program())?;
+    }
+    let mut machine = Explained {
+        alloc,
+        vm,
+        limiter,
+        explainer,
+    };
+    let mut told = Vec::new(alloc);
+    for (number, event) in events.iter().enumerate() {
+        told.push(machine.tell(number, event)?)?;
+    }
+    Ok(told)
+}
+
+fn is_reason(reason: &Reason, id: u32, text: usize, item: usize, witness: &[usize]) -> bool {
+    reason.item.id == id
+        && reason.item.text == text
+        && reason.item.item == item
+        && reason.witness.as_slice() == witness
+}
+
+fn is_plain(reason: &Reason, plain: &PlainReason) -> bool {
+    is_reason(reason, plain.id, plain.text, plain.item, &plain.witness)
+}
+
+fn is_expected(reason: &Reason, expected: &Expected) -> bool {
+    let (id, text, item, witness) = *expected;
+    is_reason(reason, id, text, item, witness)
+}
+
+fn are_expected(reasons: &[Reason], expected: &[Expected]) -> bool {
+    let mut same = reasons.len() == expected.len();
+    for (place, reason) in reasons.iter().enumerate() {
+        same = same
+            && match expected.get(place) {
+                Some(row) => is_expected(reason, row),
+                None => false,
+            };
+    }
+    same
+}
+
+fn last_has(alloc: Global, indexed: bool, row: &Row) -> Result<bool, Fail> {
+    let ((texts, tags), expected) = *row;
+    let words = words_of(alloc, tags)?;
+    let attributes = attributes_of(alloc, &words)?;
+    let events = events_of(alloc, &words, &attributes)?;
+    let told = reasons_of(alloc, texts, indexed, &events)?;
+    Ok(match told.last() {
+        Some(reasons) => are_expected(reasons, expected),
+        None => false,
+    })
+}
+
+/// How many documents are drawn, how many selectors are looked for in each of them, and how many tags it has.
+const DOCUMENTS: u64 = 200;
+
+const SELECTORS: usize = 6;
+
+const TAGS: usize = 30;
+
+const NAMES: &str = "a b p br svg:a svg:b/ /a /b /p a@class=x b@class=x";
+
+const COMPOUNDS: &str = "* a b p a b br .x a.x :not(a) :is(b,.x) :first-child p:nth-child(2n)";
+
+/// Selectors and tags that are drawn.
+#[derive(Drop)]
+struct Drawn {
+    random: Random,
+}
+
+impl Drawn {
+    /// One of the words of a text.
+    fn word<'t>(&mut self, text: &'t str) -> &'t str {
+        let words = u32::try_from(text.split_whitespace().count()).unwrap_or(1);
+        let at = self.random.below(words);
+        text.split_whitespace().nth(at as usize).unwrap_or("")
+    }
+
+    /// Adds a selector of one to four compounds.
+    fn push_item(&mut self, text: &mut String) -> Result<(), AllocError> {
+        text.push_str(self.word(COMPOUNDS))?;
+        for _step in 0..self.random.below(4) {
+            text.push_str(if self.random.below(2) == 0 {
+                " "
+            } else {
+                " > "
+            })?;
+            text.push_str(self.word(COMPOUNDS))?;
+        }
+        Ok(())
+    }
+
+    /// A list of one to three of them.
+    fn list(&mut self, alloc: Global) -> Result<String, AllocError> {
+        let mut text = String::new(alloc);
+        self.push_item(&mut text)?;
+        for _item in 0..self.random.below(3) {
+            text.push_str(", ")?;
+            self.push_item(&mut text)?;
+        }
+        Ok(text)
+    }
+
+    /// Lists under ids, of which several may be the same.
+    fn lists(&mut self, alloc: Global) -> Result<Vec<(String, u32)>, AllocError> {
+        let mut lists = Vec::new(alloc);
+        for _selector in 0..SELECTORS {
+            lists.push((self.list(alloc)?, self.random.below(4)))?;
+        }
+        Ok(lists)
+    }
+
+    fn tags(&mut self, alloc: Global) -> Result<Vec<TagWord<'static>>, AllocError> {
+        let mut tags = Vec::new(alloc);
+        for _tag in 0..TAGS {
+            tags.push(TagWord::of(self.word(NAMES)))?;
+        }
+        Ok(tags)
+    }
+}
+
+/// The reasons by the definitions.
+fn plainly(
+    alloc: Global,
+    texts: &[(&str, u32)],
+    events: &[TagEvent<'_>],
+) -> Result<Vec<Vec<PlainReason>>, Fail>
+    requires { All HasRangesInside events.now }
+{
+    let mut parsed = Vec::new(alloc);
+    for (text, _) in texts {
+        parsed.push(Selector::from_str(alloc, text)?)?;
+    }
+    let mut plain_texts = Vec::new(alloc);
+    for (selector, (_, id)) in parsed.iter().zip(texts) {
+        plain_texts.push(PlainText { id: *id, selector })?;
+    }
+    let ast = selectors(alloc, texts)?;
+    Ok(plain_reasons(alloc, &ast, false, &plain_texts, events)?)
+}
+
+fn are_plain(told: &[Reason], plain: &[PlainReason]) -> bool {
+    told.len() == plain.len()
+        && told
+            .iter()
+            .zip(plain)
+            .all(|(one, other)| is_plain(one, other))
+}
+
+/// Expects the reasons that the definitions have. Answers how many there are.
+fn compare(
+    rt: &impl Abort,
+    alloc: Global,
+    texts: &[(&str, u32)],
+    indexed: bool,
+    tags: &[TagWord<'_>],
+) -> Result<usize, Fail> {
+    let attributes = attributes_of(alloc, tags)?;
+    let events = events_of(alloc, tags, &attributes)?;
+    let told = reasons_of(alloc, texts, indexed, &events)?;
+    let plain = plainly(alloc, texts, &events)?;
+    assert!(rt; told.len() == plain.len());
+    let mut count = 0usize;
+    for (place, (told, plain)) in told.iter().zip(&plain).enumerate() {
+        assert!(rt; are_plain(told, plain), "tag {place}");
+        count = count.saturating_add(told.len());
+    }
+    Ok(count)
+}
+
+fn compare_drawn(rt: &impl Abort, alloc: Global, seed: u64) -> Result<usize, Fail> {
+    let mut drawn = Drawn {
+        random: Random::new(seed),
+    };
+    let lists = drawn.lists(alloc)?;
+    let mut texts = Vec::new(alloc);
+    for (text, id) in &lists {
+        texts.push((text.as_str(), *id))?;
+    }
+    let tags = drawn.tags(alloc)?;
+    compare(rt, alloc, &texts, seed % 2 == 0, &tags)
+}
+
+#[test]
+fn agree_with_the_definitions(rt: HostRuntime) -> Result<(), Fail> {
+    let mut count = 0usize;
+    for seed in 0..DOCUMENTS {
+        count = count.saturating_add(compare_drawn(&rt, rt.alloc(), seed)?);
+    }
+    assert!(rt; count > 5_000, "{count} reasons");
+    Ok(())
+}
+
+#[test]
+fn of_rows(rt: HostRuntime) -> Result<(), Fail> {
+    for (number, row) in ROWS.iter().enumerate() {
+        assert!(rt; last_has(rt.alloc(), false, row)?, "row {number}");
+        assert!(rt; last_has(rt.alloc(), true, row)?, "row {number}");
+    }
+    Ok(())
+}
