@@ -42,7 +42,7 @@ pub struct Reason {
     pub witness: Vec<usize>,
 }
 
-/// KnowsItemsOf the reports of a machine whose selectors are the items of texts, each under its number (`Texts::number_items`).
+/// Explains the reports of a machine whose selectors are the items of texts, each under its number (`Texts::number_items`).
 #[derive(Drop)]
 pub struct Explainer {
     alloc: Global,
