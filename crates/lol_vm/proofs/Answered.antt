@@ -1,21 +1,8 @@
 -- What a machine that stands for events answers.
-use Rattle.lol_vm.specs.Events.{Event}
-use Rattle.lol_base.specs.StartTags.{StartTag}
-use Rattle.std.proofs.Common.{◌≡◌, ℕ, true, List, ◌↔◌, ap, Contains}
-use Rattle.std.specs.Prelude.{◌||◌, not, Bool}
-use Rattle.lol_instructions.specs.Tests.{Element, is_html}
-use Rattle.lol_program.specs.Paths.{Selectors, Path}
-use Rattle.lol_vm.specs.Documents.{element_of}
-use Rattle.lol_vm.specs.Answers.{document, ascending_once, matching_ids, asks}
-use Rattle.lol_vm.specs.ReportLaws.{ascending_is_determined, ascending_ascends, pairs_from_ascends, matching_ids_ascend, among_ascending, ascending_among}
-use Rattle.lol_program.specs.Programs.{all_places, AreClosed}
-use Rattle.lol_vm.specs.PlaceRuns.{context_of}
-use Rattle.lol_vm.specs.Standing.{Machine, StandsFor, ranges_of_machine}
+use Rattle.lol_vm.proofs.Common.{Event, StartTag, ◌≡◌, ℕ, true, List, ◌↔◌, ap, Contains, ◌||◌, not, Bool, Element, is_html, Selectors, Path, element_of, document, ascending_once, matching_ids, asks, ascending_is_determined, ascending_ascends, pairs_from_ascends, matching_ids_ascend, among_ascending, ascending_among, all_places, AreClosed, context_of, Machine, StandsFor, ranges_of_machine, among_from_contains, contains_from_among, starts_open}
 use Rattle.lol_vm.proofs.Held.{ranges_hold_left_matches}
 use Rattle.lol_vm.proofs.Gathered.{runs_give_reports}
 use Rattle.lol_vm.proofs.Stops.{stopped_starts_are_whole, started_by_names}
-use Rattle.lol_base.specs.MemberLaws.{among_from_contains, contains_from_among}
-use Rattle.lol_vm.specs.MachineLaws.{starts_open}
 
 -- a list with the members of a report, put in order, is the report
 pub in_order : (ids : List ℕ) (s : Selectors) (e : Element) (outer : List Element) → ((id : ℕ) → Contains ids id ↔ Contains (matching_ids s.pairs e outer) id) → ascending_once ids ≡ matching_ids s.pairs e outer

@@ -1,25 +1,7 @@
 -- What a caller of a machine cites: the charge of its slots, from call to call, up to `release`; what it has of its document, and whether a start tag opens an element.
-use Rattle.std.proofs.Common.{◌≡◌, ℕ, ◌+◌, ◌-◌, ◌*◌, ◌≤◌, ◌<◌, Bool, true, false, cond, not, List, [], ◌∷◌, length, Option, Some, None, Result, Ok, Err, refl, sym, ap, ◌∙◌, arith, true≢false}
+use Rattle.lol_vm.proofs.Common.{◌≡◌, ℕ, ◌+◌, ◌-◌, ◌*◌, ◌≤◌, ◌<◌, Bool, true, false, cond, not, List, [], ◌∷◌, length, Option, Some, None, Result, Ok, Err, refl, sym, ap, ◌∙◌, arith, true≢false, ◌&&◌, ◌↔◌, nat_lt, Decides-eqb, nat_tests, and_parts, and-false, Name, StartTag, full_count, grown_slots, Limiter, charged, Selectors, StackItemOf, IsPushed, IsSame, item_bytes_in, items_in, last_count, list_in, document, Document, after_start, children_of, element_of, parent_of, same_parent, Event, has_content, opens, greatest_count, counted_last, counted_root, or_root, unfinished, Vm, ChargesSlots, IsChargedFor, IsCovered, OpensNothing, Stands, has_failed, is_asked_for, slots_charged, slot_bytes, stack_in}
 use Rattle.std.specs.Result.{OnErr, OnOk}
-use Rattle.std.specs.Prelude.{◌&&◌, ◌↔◌, nat_lt}
-use Rattle.std.proofs.lemmas.Bool.Decides.{Decides-eqb, nat_tests}
 use Rattle.std.proofs.Math.Nat.{add-mul}
-use Rattle.lol_base.specs.BoolLaws.{and_parts, and-false}
-use Rattle.lol_base.specs.LocalNames.{Name}
-use Rattle.lol_base.specs.StartTags.{StartTag}
-use Rattle.lol_instructions.specs.Counters.{full_count}
-use Rattle.lol_memory.specs.LimitedVec.{grown_slots}
-use Rattle.lol_memory.specs.Limiter.{Limiter, charged}
-use Rattle.lol_program.specs.Paths.{Selectors}
-use Rattle.lol_stack.specs.declared.stack_item.StackItemOf.{StackItemOf}
-use Rattle.lol_stack.specs.Stacks.{IsPushed, IsSame, item_bytes_in, items_in, last_count, list_in}
-use Rattle.lol_vm.specs.Answers.{document}
-use Rattle.lol_vm.specs.Documents.{Document, after_start, children_of, element_of, parent_of, same_parent}
-use Rattle.lol_vm.specs.Events.{Event, has_content}
-use Rattle.lol_vm.specs.Follows.{opens}
-use Rattle.lol_vm.specs.Refusals.{greatest_count}
-use Rattle.lol_vm.specs.Standing.{counted_last, counted_root, or_root, unfinished}
-use Rattle.lol_vm.specs.Vms.{Vm, ChargesSlots, IsChargedFor, IsCovered, OpensNothing, Stands, has_failed, is_asked_for, slots_charged, slot_bytes, stack_in}
 use Rattle.lol_vm.proofs.Kept.{children-cons, items_length, counters_are_places}
 use Rattle.lol_vm.proofs.StackCounting.{seen_children}
 use Rattle.lol_vm.proofs.StackMachines.{items_counted}

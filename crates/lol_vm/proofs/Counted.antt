@@ -1,19 +1,6 @@
 -- The places that ranges hold, counted.
-use Rattle.std.proofs.Common.{◌≡◌, ℕ, Bool, true, List, length, sym, ap, ◌∙◌, ◌&&◌, arith}
-use Rattle.std.specs.Prelude.{count_by}
-use Rattle.std.specs.declared.ops.Range.{Range}
-use Rattle.std.specs.List.{list_any, range_with_len}
-use Rattle.lol_instructions.specs.Tests.{Element}
-use Rattle.lol_program.specs.Paths.{Path, Selectors, last_compound}
-use Rattle.lol_base.specs.MemberLaws.{Among, same_count, among_from_contains, contains_from_among, distinct_from_pairs}
-use Rattle.lol_vm.specs.Matching.{left_matches}
-use Rattle.lol_vm.specs.Answers.{name_tries, attribute_tries, needs_attributes}
-use Rattle.lol_base.specs.BoolLaws.{and_parts, same_bool}
-use Rattle.lol_base.specs.PlaceLaws.{at_among, at_within}
-use Rattle.lol_instructions.specs.Compounds.{is_open, by_names}
-use Rattle.lol_program.specs.Programs.{Program, IsAt, IsProgramOf, AreClosed, all_places}
-use Rattle.lol_vm.specs.Machines.{HoldOnce, LeftMatches}
-use Rattle.lol_vm.specs.PlaceRuns.{instruction_value, is_open_at}
+use Rattle.lol_vm.proofs.Common.{◌≡◌, ℕ, Bool, true, List, length, sym, ap, ◌∙◌, ◌&&◌, arith, count_by, Range, list_any, range_with_len, Element, Path, Selectors, last_compound, Among, same_count, among_from_contains, contains_from_among, distinct_from_pairs, left_matches, name_tries, attribute_tries, needs_attributes, and_parts, same_bool, at_among, at_within, is_open, by_names, IsAt, IsProgramOf, AreClosed, all_places, HoldOnce, LeftMatches, instruction_value, is_open_at}
+use Rattle.lol_program.specs.Programs.{Program}
 use Rattle.lol_vm.proofs.Lists.{is_at, is_at_of, is_at_is, distinct_range, range_among, count_by_places, count_same, count_all, same_passing, any_among, among_any}
 use Rattle.lol_vm.proofs.Held.{instruction_at, place_of_node}
 

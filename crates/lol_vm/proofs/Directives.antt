@@ -1,14 +1,7 @@
 -- What is known of a tag by its element's directive.
-use Rattle.std.proofs.Common.{◌≡◌, ℕ, Bool, true, false, cond, List, refl, sym, ap, ◌∙◌, not}
-use Rattle.std.specs.Prelude.{◌||◌, ◌&&◌}
+use Rattle.lol_vm.proofs.Common.{◌≡◌, ℕ, Bool, true, false, cond, List, refl, sym, ap, ◌∙◌, not, ◌||◌, ◌&&◌, is_void, is_esi, StartTag, Namespace, Html, Svg, MathML, is_html, has_content, has_content_in}
 use denote.Enum.Bare.{sameb}
-use Rattle.lol_base.specs.Names.{is_void, is_esi}
-use Rattle.lol_base.specs.StartTags.{StartTag}
-use Rattle.lol_base.specs.declared.namespace.Namespace.{Namespace}
-use Rattle.lol_base.specs.declared.namespace.Namespace.TheVariants.{Html, Svg, MathML}
-use Rattle.lol_instructions.specs.Tests.{is_html}
 use Rattle.lol_stack.specs.Directives.{directive_in}
-use Rattle.lol_vm.specs.Events.{has_content, has_content_in}
 use Rattle.lol_stack.specs.contracts.stack_item.StackDirective.{the_type}
 use Rattle.lol_stack.specs.declared.stack_item.StackDirective.{StackDirective}
 use Rattle.lol_stack.specs.declared.stack_item.StackDirective.TheVariants.{Push, PushIfNotSelfClosing, PopImmediately}

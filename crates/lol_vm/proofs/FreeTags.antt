@@ -1,49 +1,24 @@
 -- Start tags that take no memory.
-use Rattle.std.proofs.Common.{◌≡◌, ℕ, ◌<◌, Bool, true, false, cond, true≢false, List, length, Option, Some, None, Result, Err, refl, sym, ap, ◌∙◌, subst, arith, inl, inr, get_or, Contains}
-use Rattle.std.specs.Prelude.{◌||◌, ◌⊎◌, slice_get, not, ◌&&◌}
-use Rattle.std.specs.List.{list_all}
-use Rattle.std.specs.Option.{IsNone, option_map}
+use Rattle.lol_vm.proofs.Common.{◌≡◌, ℕ, ◌<◌, Bool, true, false, cond, true≢false, List, length, Option, Some, None, Result, Err, refl, sym, ap, ◌∙◌, subst, arith, inl, inr, get_or, Contains, ◌||◌, ◌⊎◌, slice_get, not, ◌&&◌, list_all, IsNone, option_map, not_true, length-map, Range, is_hash, local_name, Among, contains_from_among, is_void, is_esi, lowercased, same_name, StartTag, Namespace, Html, has_test_by_type, Path, Selectors, last_compound, IsProgramOf, is_html, has_content, has_content_in, AllSmall, NeedNoMemory, KeepsTyped, typed_in, Machine, Context, Vm, Shows, IsRequested, GoesOnAt, content_at, ExecutionCtx, at_among, within_at}
 use Rattle.std.proofs.lemmas.Option.{slice_get-map, slice_get-get_or}
-use Rattle.lol_base.specs.BoolLaws.{not_true}
-use Rattle.std.proofs.lemmas.List.{length-map}
 use Rattle.std.proofs.lemmas.Slice.Eq.{bytes_eq-Decides}
-use Rattle.std.specs.declared.ops.Range.{Range}
-use Rattle.lol_base.specs.LocalNames.{is_hash, local_name}
-use Rattle.lol_base.specs.MemberLaws.{Among, contains_from_among}
-use Rattle.lol_base.specs.Names.{is_void, is_esi, lowercased, same_name, void_names}
-use Rattle.lol_base.specs.StartTags.{StartTag}
-use Rattle.lol_base.specs.declared.namespace.Namespace.{Namespace}
-use Rattle.lol_base.specs.declared.namespace.Namespace.TheVariants.{Html}
-use Rattle.lol_instructions.specs.Compounds.{has_test_by_type}
+use Rattle.lol_base.specs.Names.{void_names}
 use Rattle.lol_program.specs.IdSetLaws.{listed_if_held}
-use Rattle.lol_program.specs.Paths.{Path, Selectors, last_compound}
-use Rattle.lol_program.specs.Programs.{IsProgramOf}
 use Rattle.lol_program.specs.Programs as programs
 use Rattle.lol_program.specs.ProgramViews.{instruction_shown, program_shown}
-use Rattle.lol_instructions.specs.Tests.{is_html}
 use Rattle.lol_instructions.specs.declared.instruction.Instruction.{Instruction}
 use Rattle.lol_program.specs.declared.program.Program.{Program}
-use Rattle.lol_vm.specs.Events.{has_content, has_content_in}
-use Rattle.lol_memory.specs.Ids.{AllSmall}
 use Rattle.lol_css.specs.declared.selector.Combinator.{Combinator}
 use Rattle.lol_css.specs.declared.selector.Combinator.TheVariants.{Child, Descendant}
 use Rattle.lol_vm.specs.FreeTags.{AreFlat, AreSmall, TakesNoMemory}
-use Rattle.lol_vm.specs.InstructionRuns.{NeedNoMemory}
-use Rattle.lol_vm.specs.StackMachines.{KeepsTyped}
 use Rattle.lol_stack.specs.TypedCounts.{TypedCount}
-use Rattle.lol_stack.specs.Stacks.{typed_in}
-use Rattle.lol_vm.specs.Standing.{Machine}
 use Rattle.lol_vm.specs.VmErrors.{IsAskedOrFull, IsNotForMemory, push_error}
 use Rattle.lol_memory.specs.declared.limited_vec.PushError.{PushError}
 use Rattle.lol_memory.specs.declared.limited_vec.PushError.TheVariants as pushes
-use Rattle.lol_vm.specs.PlaceRuns.{Context}
-use Rattle.lol_vm.specs.Vms.{Vm, Shows, IsRequested, GoesOnAt, content_at}
 use Rattle.lol_vm.specs.declared.error.VmError.{VmError}
 use Rattle.lol_vm.specs.declared.error.VmError.TheVariants.{InfoRequest, MemoryLimitExceeded, Memory, CounterFull, Failed}
-use Rattle.lol_stack.specs.declared.execution_ctx.ExecutionCtx.{ExecutionCtx}
 use Rattle.lol_vm.specs.declared.tag_runs.RecoveryPoint.{RecoveryPoint}
 use Rattle.lol_vm.specs.declared.tag_runs.RecoveryPoint.TheVariants.{AtOnce, At}
-use Rattle.lol_base.specs.PlaceLaws.{at_among, within_at}
 use Rattle.std.specs.declared.alloc.AllocError.{AllocError}
 use Rattle.lol_vm.proofs.Lists.{among_any}
 use Rattle.std.proofs.lemmas.List.Elements.{All-contains}

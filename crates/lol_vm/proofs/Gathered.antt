@@ -1,20 +1,8 @@
 -- What running places gives.
-use Rattle.std.proofs.Common.{◌≡◌, ℕ, Bool, true, false, cond, List, [], Option, Some, None, ◌↔◌, inl, inr, refl, sym, ap, ◌∙◌, subst, arith, Contains}
-use Rattle.std.specs.Prelude.{slice_get, option_to_list}
-use Rattle.std.specs.declared.ops.Range.{Range}
+use Rattle.lol_vm.proofs.Common.{◌≡◌, ℕ, Bool, true, false, cond, List, [], Option, Some, None, ◌↔◌, inl, inr, refl, sym, ap, ◌∙◌, subst, arith, Contains, slice_get, option_to_list, Range, Element, all_hold, Path, Selectors, last_compound, Among, Distinct, among_from_contains, contains_from_among, distinct_from_pairs, left_matches, matches, matching_ids, among_matching_ids, matching_ids_among, and_parts, and_of, IsAt, IsRangeOf, IsProgramOf, AreClosed, all_places, HasRanges, Matches, HoldOnce, LeftMatches, jumps_of, hereditary_jumps_of, given_by, gathered_from_places, ids_list, context_of, Context}
 use Rattle.lol_css.specs.declared.selector.Combinator.{Combinator}
 use Rattle.lol_css.specs.declared.selector.Combinator.TheVariants.{Child, Descendant}
-use Rattle.lol_instructions.specs.Tests.{Element}
-use Rattle.lol_instructions.specs.Compounds.{all_hold}
-use Rattle.lol_program.specs.Paths.{Path, Selectors, last_compound}
-use Rattle.lol_base.specs.MemberLaws.{Among, Distinct, among_from_contains, contains_from_among, distinct_from_pairs}
-use Rattle.lol_vm.specs.Matching.{left_matches, matches}
-use Rattle.lol_vm.specs.Answers.{matching_ids}
-use Rattle.lol_vm.specs.ReportLaws.{among_matching_ids, matching_ids_among}
-use Rattle.lol_base.specs.BoolLaws.{and_parts, and_of}
-use Rattle.lol_program.specs.Programs.{Instruction, Program, IsAt, IsRangeOf, IsProgramOf, AreClosed, all_places}
-use Rattle.lol_vm.specs.Machines.{HasRanges, Matches, HoldOnce, LeftMatches, jumps_of, hereditary_jumps_of}
-use Rattle.lol_vm.specs.PlaceRuns.{given_by, gathered_from_places, ids_list, context_of, Context}
+use Rattle.lol_program.specs.Programs.{Instruction, Program}
 use Rattle.lol_vm.proofs.Lists.{among_flat_map, flat_map_among, distinct_flat_map}
 use Rattle.lol_vm.proofs.Held.{instruction_at, place_of_node, range_of_reached, one_owner}
 use Rattle.lol_vm.proofs.Counted.{path_held, held_at}

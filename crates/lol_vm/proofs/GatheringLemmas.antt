@@ -1,22 +1,13 @@
 -- What an element gathers.
-use Rattle.lol_stack.specs.declared.stack_item.StackItemOf.{StackItemOf}
-use Rattle.std.proofs.Common.{◌≡◌, ℕ, Bool, true, false, List, [], ◌++◌, ◌↔◌, inl, inr, sym, ap, ◌∙◌, subst, Contains, true≢false}
-use Rattle.std.specs.Prelude.{option_to_list}
+use Rattle.lol_vm.proofs.Common.{StackItemOf, ◌≡◌, ℕ, Bool, true, false, List, [], ◌++◌, ◌↔◌, inl, inr, sym, ap, ◌∙◌, subst, Contains, true≢false, option_to_list, or_parts, or_of, contains-append, among_from_contains, contains_from_among, Ids, has, union, ascending_once, ascending_is_determined, ascending_ascends, pairs_from_ascends, among_ascending, ascending_among, Context, branch, no_context, Gathers, ExecutionCtx}
 use Rattle.std.proofs.lemmas.List.Kept.{AllPairs-from_increasing}
-use Rattle.lol_base.specs.BoolLaws.{or_parts, or_of}
-use Rattle.lol_base.specs.MemberLaws.{contains-append, among_from_contains, contains_from_among}
-use Rattle.lol_memory.specs.Ids.{Ids, has, union}
 use Rattle.lol_memory.specs.Ids as sets
 use Rattle.lol_memory.specs.SetLaws.{has-no_ids, has-union}
 use Rattle.lol_memory.specs.AscendingLaws.{ascending_rises}
 use Rattle.lol_program.specs.ProgramViews.{instruction_shown}
 use Rattle.lol_instructions.specs.declared.instruction.Instruction as code
 use Rattle.lol_program.specs.IdSetLaws.{listed_if_held, held}
-use Rattle.lol_vm.specs.Answers.{ascending_once}
-use Rattle.lol_vm.specs.ReportLaws.{ascending_is_determined, ascending_ascends, pairs_from_ascends, among_ascending, ascending_among}
 use Rattle.lol_stack.specs.Contexts.{with_branch, IsNewItem}
-use Rattle.lol_vm.specs.PlaceRuns.{Context, branch, no_context, Gathers}
-use Rattle.lol_stack.specs.declared.execution_ctx.ExecutionCtx.{ExecutionCtx}
 
 -- A new element has gathered nothing.
 pub new_elements_gather : {N E : Type 0} → (ids_of : E → Ids) (name : N) (item : StackItemOf N E) → IsNewItem ids_of name item → Gathers ids_of item no_context

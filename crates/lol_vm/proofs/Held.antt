@@ -1,26 +1,13 @@
 -- The places that ranges hold.
-use Rattle.std.proofs.Common.{◌≡◌, ℕ, ◌-◌, ◌<◌, ◌≤◌, Bool, true, false, true≢false, List, [], ◌∷◌, ◌++◌, length, Option, Some, None, ◌⊎◌, ◌↔◌, inl, inr, refl, sym, ap, ◌∙◌, subst, arith, Contains}
-use Rattle.std.specs.Prelude.{◌==◌, if◌then◌else◌}
-use Rattle.std.specs.declared.ops.Range.{Range}
-use Rattle.std.proofs.lemmas.List.{map-append, append-nil}
+use Rattle.lol_vm.proofs.Common.{◌≡◌, ℕ, ◌-◌, ◌<◌, ◌≤◌, Bool, true, false, true≢false, List, [], ◌∷◌, ◌++◌, length, Option, Some, None, ◌⊎◌, ◌↔◌, inl, inr, refl, sym, ap, ◌∙◌, subst, arith, Contains, ◌==◌, if◌then◌else◌, Range, map-append, append-nil, Decides-eqb, Element, Path, First, Then, Selectors, last_compound, contains_from_among, Among, Distinct, among_front, among_back, among_either, among_from_contains, distinct_from_pairs, matches, left_matches, parent_passes, some_ancestor_passes, and_parts, and_of, or_parts, or_of, some_is, at_among, same_at, one_place, at_within, within_at, IsWithin, IsAt, HoldsPlaces, IsRangeOf, IsProgramOf, AreClosed, above, places, all_places, OpenItem, ranges_to_run, IsReached, HasRanges, IsItem, AreItems, Matches, HoldOnce, LeftMatches, active_of, last_jumps, ranges_of_active, jumps_of, hereditary_jumps_of, ProgramsHaveEachNode, RangesHoldLeftMatches, among_map, map_among}
 use Rattle.std.proofs.lemmas.Grind.{flat_map-append}
-use Rattle.std.proofs.lemmas.Bool.Decides.{Decides-eqb}
 use Rattle.lol_css.specs.declared.selector.Combinator.{Combinator}
 use Rattle.lol_css.specs.declared.selector.Combinator.TheVariants.{Child, Descendant}
-use Rattle.lol_instructions.specs.Tests.{Element}
-use Rattle.lol_program.specs.Paths.{Path, First, Then, Selectors, last_compound}
-use Rattle.lol_base.specs.MemberLaws.{contains_from_among, Among, Distinct, among_front, among_back, among_either, among_from_contains, distinct_from_pairs}
-use Rattle.lol_vm.specs.Matching.{matches, left_matches, parent_passes, some_ancestor_passes}
-use Rattle.lol_base.specs.BoolLaws.{and_parts, and_of, or_parts, or_of}
-use Rattle.lol_base.specs.PlaceLaws.{some_is, at_among, same_at, one_place, at_within, within_at}
 use Rattle.lol_program.specs.StepLaws.{one_front, one_step}
-use Rattle.lol_program.specs.Programs.{Instruction, Program, IsWithin, IsAt, HoldsPlaces, IsRangeOf, IsProgramOf, AreClosed, above, places, all_places}
-use Rattle.lol_vm.specs.Machines.{OpenItem, ranges_to_run, IsReached, HasRanges, IsItem, AreItems, Matches, HoldOnce, LeftMatches, active_of, last_jumps, ranges_of_active, jumps_of, hereditary_jumps_of}
+use Rattle.lol_program.specs.Programs.{Instruction, Program}
 use Rattle.lol_stack.specs.Active.{activated, is_range_active, is_same_range}
-use Rattle.lol_vm.specs.MachineLaws.{ProgramsHaveEachNode, RangesHoldLeftMatches}
 use Rattle.lol_vm.proofs.Lists.{same_length, distinct_append, among_at, among_flat_map, flat_map_among, distinct_flat_map, among_range, range_among, distinct_range, any_among, among_any}
 use Rattle.lol_program.specs.NodeOnceLaws.{AllPairs-from_Distinct}
-use Rattle.lol_vm.specs.ReportLaws.{among_map, map_among}
 
 -- 1. Ranges and the places in them
 

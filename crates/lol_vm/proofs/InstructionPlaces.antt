@@ -1,26 +1,12 @@
 -- Instructions by their places.
-use Rattle.std.proofs.Common.{◌≡◌, ℕ, zero, suc, ◌+◌, ◌-◌, ◌≤◌, Bool, true, false, cond, List, [], ◌∷◌, ◌++◌, length, map, take, drop, Option, Some, None, inl, inr, refl, sym, ap, ◌∙◌, subst, arith, All}
-use Rattle.std.specs.Prelude.{slice_get, count_by, if◌then◌else◌}
-use Rattle.std.specs.List.{range_with_len, drop-map, take-map}
-use Rattle.std.specs.Option.{option_map}
-use Rattle.std.specs.declared.ops.Range.{Range}
-use Rattle.std.proofs.lemmas.List.{map-append, length-map}
-use Rattle.lol_base.specs.MemberLaws.{Among, contains_from_among, count_by-cons}
-use Rattle.lol_memory.specs.Ids.{Ids}
-use Rattle.lol_instructions.specs.Attributes.{tag_attributes}
-use Rattle.lol_instructions.specs.Compiled.{sight_of}
-use Rattle.lol_instructions.specs.Compounds.{is_open}
-use Rattle.lol_program.specs.Programs.{Instruction, Program, places, all_places}
+use Rattle.lol_vm.proofs.Common.{◌≡◌, ℕ, zero, suc, ◌+◌, ◌-◌, ◌≤◌, Bool, true, false, cond, List, [], ◌∷◌, ◌++◌, length, map, take, drop, Option, Some, None, inl, inr, refl, sym, ap, ◌∙◌, subst, arith, All, slice_get, count_by, if◌then◌else◌, range_with_len, option_map, Range, map-append, length-map, Among, contains_from_among, count_by-cons, Ids, tag_attributes, sight_of, is_open, places, all_places, Element, Gathers, Context, instruction_value, value_at, is_open_at, branch, step_with_attributes, run, IsInsideOf, instructions_at, all_at, value_seen, is_true, holds_seen, open_among, first_open_from, with_branch_if, gathered_by_names, gathered_with_attributes, ExecutionCtx, within_at}
+use Rattle.std.specs.List.{drop-map, take-map}
+use Rattle.lol_program.specs.Programs.{Instruction, Program}
 use Rattle.lol_program.specs.ProgramViews.{instruction_shown, code_of}
-use Rattle.lol_instructions.specs.Tests.{Element}
 use Rattle.lol_instructions.specs.declared.instruction.Instruction as code
 use Rattle.lol_instructions.specs.declared.name_value.NameValue.{NameValue}
 use Rattle.lol_instructions.specs.declared.name_value.NameValue.TheVariants.{True, False, Open}
-use Rattle.lol_vm.specs.PlaceRuns.{Gathers, Context, instruction_value, value_at, is_open_at, branch, step_with_attributes, run}
-use Rattle.lol_vm.specs.InstructionRuns.{IsInsideOf, instructions_at, all_at, value_seen, is_true, holds_seen, open_among, first_open_from, with_branch_if, gathered_by_names, gathered_with_attributes}
-use Rattle.lol_stack.specs.declared.execution_ctx.ExecutionCtx.{ExecutionCtx}
 use Rattle.lol_vm.proofs.GatheringLemmas.{branches_gather}
-use Rattle.lol_base.specs.PlaceLaws.{within_at}
 use Rattle.lol_vm.proofs.Stops.{first_open, step_by_names, run_by_names}
 use Rattle.std.proofs.lemmas.List.Elements.{All-contains}
 

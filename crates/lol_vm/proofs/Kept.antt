@@ -1,29 +1,14 @@
 -- A machine that stands for events, one event on.
-use Rattle.lol_vm.specs.MachineLaws.{IsRequest}
-use Rattle.std.proofs.Common.{◌≡◌, ℕ, zero, suc, ◌+◌, ◌<◌, ◌≤◌, Bool, true, false, cond, not, List, [], ◌∷◌, ◌++◌, length, map, drop, position, Option, Some, None, refl, sym, ap, ◌∙◌, subst, arith}
-use Rattle.std.specs.Prelude.{nat_le, max, ◌&&◌, ◌==◌, if◌then◌else◌}
-use Rattle.std.proofs.lemmas.Bool.Decides.{Decides-eqb, nat_tests}
-use Rattle.std.proofs.lemmas.List.{length-drop, drop-map}
+use Rattle.lol_vm.proofs.Common.{IsRequest, ◌≡◌, ℕ, zero, suc, ◌+◌, ◌<◌, ◌≤◌, Bool, true, false, cond, not, List, [], ◌∷◌, ◌++◌, length, map, drop, position, Option, Some, None, refl, sym, ap, ◌∙◌, subst, arith, nat_le, max, ◌&&◌, ◌==◌, if◌then◌else◌, Decides-eqb, nat_tests, length-drop, same_name, lowercased, StartTag, Element, Path, Selectors, count_by-cons, Event, Start, End, has_content, Document, empty, element_of, parent_of, same_parent, children_of, typed_children_of, place_of, outer_part, after_start, after_end, document, document_from, after, is_dropped, asks, longest, longest_from, and-false, not_true, and-true, AreClosed, all_places, IsProgramOf, OpenItem, AreItems, HasRanges, Matches, jumps_of, hereditary_jumps_of, Context, context_of, run, Machine, AreTyped, TypedStand, AreCounted, StandsOn, StandsFor, counted_root, counted_last, counted_typed, counted, opened, cut, closed_count, ended, started, machine_after, Descend, IsOrdered, DocumentsAreOrdered, unfinished, finished, CountersArePlaces, or_root, new_machine, ranges_of_machine}
+use Rattle.std.proofs.lemmas.List.{drop-map}
 use Rattle.std.proofs.lemmas.Slice.Eq.{bytes_eq-Decides}
 use Rattle.std.specs.Str.{bytes_eq}
-use Rattle.lol_base.specs.Names.{same_name, lowercased}
-use Rattle.lol_base.specs.StartTags.{StartTag}
 use Rattle.lol_memory.specs.Slots.{slots, slots_after}
 use Rattle.lol_memory.specs.SlotLaws.{slots_grow}
-use Rattle.lol_instructions.specs.Tests.{Element}
-use Rattle.lol_program.specs.Paths.{Path, Selectors}
-use Rattle.lol_base.specs.MemberLaws.{count_by-cons}
-use Rattle.lol_vm.specs.Events.{Event, Start, End, has_content}
-use Rattle.lol_vm.specs.Documents.{Document, Child, empty, element_of, parent_of, same_parent, children_of, typed_children_of, place_of, outer_part, after_start, after_end}
-use Rattle.lol_vm.specs.Answers.{document, document_from, after, is_dropped, asks}
-use Rattle.lol_vm.specs.Refusals.{longest, longest_from}
+use Rattle.lol_vm.specs.Documents.{Child}
 use Rattle.lol_vm.specs.AnswerLaws.{document_push, longest_push}
 use Rattle.lol_vm.proofs.Runs.{position-map}
-use Rattle.lol_base.specs.BoolLaws.{and-false, not_true, and-true}
-use Rattle.lol_program.specs.Programs.{Program, AreClosed, all_places, IsProgramOf}
-use Rattle.lol_vm.specs.Machines.{OpenItem, AreItems, HasRanges, Matches, jumps_of, hereditary_jumps_of}
-use Rattle.lol_vm.specs.PlaceRuns.{Context, context_of, run}
-use Rattle.lol_vm.specs.Standing.{Machine, AreTyped, TypedStand, AreCounted, StandsOn, StandsFor, counted_root, counted_last, counted_typed, counted, opened, cut, closed_count, ended, started, machine_after, Descend, IsOrdered, DocumentsAreOrdered, unfinished, finished, CountersArePlaces, or_root, new_machine, ranges_of_machine}
+use Rattle.lol_program.specs.Programs.{Program}
 use Rattle.lol_vm.proofs.Held.{ranges_hold_left_matches}
 use Rattle.lol_vm.proofs.Gathered.{runs_give_reports}
 use Rattle.lol_vm.proofs.Stops.{requests_finish, asks_by_names}

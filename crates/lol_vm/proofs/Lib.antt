@@ -1,3 +1,4 @@
+mod Common
 mod TagRuns
 mod Starts
 mod VmStarts

@@ -1,12 +1,8 @@
 -- Lists: what they hold, and each once.
-use Rattle.std.proofs.Common.{◌≡◌, ℕ, zero, suc, ◌+◌, ◌<◌, ◌≤◌, Bool, true, false, cond, List, [], ◌∷◌, ◌++◌, length, filter, Some, inl, inr, refl, sym, ap, ◌∙◌, subst, arith, ◌-◌}
-use Rattle.std.specs.Prelude.{slice_get, flat_map, count_by}
+use Rattle.lol_vm.proofs.Common.{◌≡◌, ℕ, zero, suc, ◌+◌, ◌<◌, ◌≤◌, Bool, true, false, cond, List, [], ◌∷◌, ◌++◌, length, filter, Some, inl, inr, refl, sym, ap, ◌∙◌, subst, arith, ◌-◌, slice_get, flat_map, count_by, range_with_len, list_any, Among, Distinct, among_front, among_back, among_either, same_count, count_by-cons, contains_from_among, among_from_contains, among_filter, filter_among}
 use Rattle.std.proofs.lemmas.List.FromFn.{length-range_with_len, get_or-range_with_len}
-use Rattle.std.specs.List.{range_with_len, list_any}
-use Rattle.lol_base.specs.MemberLaws.{Among, Distinct, among_front, among_back, among_either, same_count, count_by-cons, contains_from_among, among_from_contains}
 use Rattle.std.proofs.lemmas.List.Sums.{length-filter}
 use Rattle.std.proofs.lemmas.List.Folds.{Any-from_list_any, list_any-from_Any}
-use Rattle.lol_vm.specs.ReportLaws.{among_filter, filter_among}
 
 module _ {A : Type 0} where
   -- 1. Appended lists

@@ -1,16 +1,6 @@
 -- Which event of a run is refused, as events come.
-use Rattle.std.proofs.Common.{◌≡◌, ℕ, ◌≤◌, ◌<◌, inl, inr, Bool, true, false, List, [], ◌∷◌, ◌++◌, length, Option, Some, None, refl, sym, ap, ◌∙◌, subst, arith}
-use Rattle.std.specs.Prelude.{max, if◌then◌else◌, ◌⊎◌}
-use Rattle.lol_memory.specs.Limiter.{Limiter}
-use Rattle.lol_program.specs.Paths.{Selectors}
-use Rattle.lol_vm.specs.Answers.{after, document, document_from}
-use Rattle.lol_vm.specs.Documents.{Document, empty}
-use Rattle.lol_base.specs.PlaceLaws.{head_is, some_is, tail_is}
-use Rattle.lol_base.specs.StartTags.{StartTag}
-use Rattle.lol_vm.specs.Events.{Event, Start, End}
+use Rattle.lol_vm.proofs.Common.{◌≡◌, ℕ, ◌≤◌, ◌<◌, inl, inr, Bool, true, false, List, [], ◌∷◌, ◌++◌, length, Option, Some, None, refl, sym, ap, ◌∙◌, subst, arith, max, if◌then◌else◌, ◌⊎◌, Limiter, Selectors, after, document, document_from, Document, empty, head_is, some_is, tail_is, StartTag, Event, Start, End, Allowance, Cause, Limit, Counter, exceeds, longest, longest_from, or_later, refusal, refused, refused_from, IsRunWithoutMemory, Stops, refusal_after}
 use Rattle.lol_vm.specs.FreeTags.{RunsWithoutMemory}
-use Rattle.lol_vm.specs.Refusals.{Allowance, Cause, Limit, Counter, exceeds, longest, longest_from, or_later, refusal, refused, refused_from}
-use Rattle.lol_vm.specs.Follows.{IsRunWithoutMemory, Stops, refusal_after}
 use Rattle.lol_vm.specs.RunRefusals.{IsUntil, StopsBeforeLimit, StopsFor, allowance_of}
 use Rattle.lol_vm.specs.declared.events.RunCause.{RunCause}
 use Rattle.lol_vm.specs.declared.events.RunCause.TheVariants.{MemoryLimitExceeded, CounterFull, Memory}

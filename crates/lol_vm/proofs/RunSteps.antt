@@ -1,25 +1,8 @@
 -- What one event does to a run.
-use Rattle.std.proofs.Common.{◌≡◌, ℕ, suc, ◌+◌, ◌-◌, ◌*◌, ◌≤◌, ◌<◌, ◌^◌, Bool, true, false, List, [], ◌∷◌, ◌++◌, length, map, take, drop, reverse, Option, Some, None, refl, sym, ap, ◌∙◌, subst, arith}
-use Rattle.std.specs.Prelude.{max, nat_lt, if◌then◌else◌}
+use Rattle.lol_vm.proofs.Common.{◌≡◌, ℕ, suc, ◌+◌, ◌-◌, ◌*◌, ◌≤◌, ◌<◌, ◌^◌, Bool, true, false, List, [], ◌∷◌, ◌++◌, length, map, take, drop, reverse, Option, Some, None, refl, sym, ap, ◌∙◌, subst, arith, max, nat_lt, if◌then◌else◌, nat_tests, length-map, length-drop, length-reverse, take_at, drop_at, StartTag, IsLimited, Limiter, charged, full_count, Selectors, Element, after, document, Document, empty, element_of, children_of, closed, place_of, inner_part, after_start, after_end, Event, Start, End, Follows, IsCharged, IsRefusedFor, Stops, opens, refusal_after, StartedElement, Cause, Limit, Counter, longest, exceeds, greatest_count, list_in, last_count, closed_count, Vm, Stands, stack_in, data_in, slots_charged, slot_bytes, open_after}
 use Rattle.std.specs.List.{take-map, drop-map}
-use Rattle.std.proofs.lemmas.Bool.Decides.{nat_tests}
-use Rattle.std.proofs.lemmas.List.{length-map, length-drop, length-reverse, take_at, drop_at}
-use Rattle.lol_base.specs.StartTags.{StartTag}
-use Rattle.lol_memory.specs.LimitedVec.{IsLimited}
-use Rattle.lol_memory.specs.Limiter.{Limiter, charged}
 use Rattle.lol_memory.specs.Slots.{slots}
-use Rattle.lol_instructions.specs.Counters.{full_count}
-use Rattle.lol_program.specs.Paths.{Selectors}
-use Rattle.lol_instructions.specs.Tests.{Element}
-use Rattle.lol_vm.specs.Answers.{after, document}
-use Rattle.lol_vm.specs.Documents.{Document, empty, element_of, children_of, closed, place_of, inner_part, after_start, after_end}
-use Rattle.lol_vm.specs.Events.{Event, Start, End}
-use Rattle.lol_vm.specs.Follows.{Follows, IsCharged, IsRefusedFor, Stops, opens, refusal_after, StartedElement}
-use Rattle.lol_vm.specs.Refusals.{Cause, Limit, Counter, longest, exceeds, greatest_count}
 use Rattle.lol_vm.specs.RunRefusals.{allowance_of}
-use Rattle.lol_stack.specs.Stacks.{list_in, last_count}
-use Rattle.lol_vm.specs.Standing.{closed_count}
-use Rattle.lol_vm.specs.Vms.{Vm, Stands, stack_in, data_in, slots_charged, slot_bytes, open_after}
 use Rattle.lol_vm.specs.declared.events.RunCause.{RunCause}
 use Rattle.lol_vm.specs.declared.events.RunCause.TheVariants.{MemoryLimitExceeded, CounterFull, Memory}
 use Rattle.lol_vm.proofs.Runs.{cut_reverse}

@@ -1,13 +1,6 @@
 -- Documents and answers, as events come.
-use Rattle.std.proofs.Common.{◌≡◌, ℕ, ◌+◌, Bool, not, cond, List, [], ◌∷◌, ◌++◌, map, reverse, take, drop, length, position, Some, None, refl, sym, ap, ◌∙◌, arith}
-use Rattle.std.specs.List.{position_or_len}
-use Rattle.std.specs.Prelude.{nat_lt}
-use Rattle.std.proofs.lemmas.List.{reverse-append, length-map, take-append-drop}
-use Rattle.lol_program.specs.Paths.{Selectors}
+use Rattle.lol_vm.proofs.Common.{◌≡◌, ℕ, ◌+◌, Bool, not, cond, List, [], ◌∷◌, ◌++◌, map, reverse, take, drop, length, position, Some, None, refl, sym, ap, ◌∙◌, arith, position_or_len, nat_lt, reverse-append, length-map, take-append-drop, Selectors, Event, Document, after, document_from}
 use Rattle.lol_vm.specs.Events as events
-use Rattle.lol_vm.specs.Events.{Event}
-use Rattle.lol_vm.specs.Documents.{Document}
-use Rattle.lol_vm.specs.Answers.{after, document_from}
 
 -- 1. Lists
 

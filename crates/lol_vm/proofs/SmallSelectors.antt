@@ -1,13 +1,6 @@
 -- Which selectors are small, and which are flat.
-use Rattle.std.proofs.Common.{◌≡◌, ℕ, Bool, true, false, List, None, refl, sym, ap, ◌∙◌, arith, inl, inr, Contains}
-use Rattle.std.specs.Prelude.{nat_lt, not, ◌||◌, is_none}
-use Rattle.std.proofs.lemmas.Bool.Decides.{nat_tests}
-use Rattle.lol_base.specs.BoolLaws.{and_parts}
-use Rattle.lol_base.specs.MemberLaws.{Among, among_from_contains}
-use Rattle.lol_instructions.specs.Compounds.{has_test_by_type}
+use Rattle.lol_vm.proofs.Common.{◌≡◌, ℕ, Bool, true, false, List, None, refl, sym, ap, ◌∙◌, arith, inl, inr, Contains, nat_lt, not, ◌||◌, is_none, nat_tests, and_parts, Among, among_from_contains, has_test_by_type, Path, First, Then, Selectors, beginnings, last_compound, above}
 use Rattle.lol_program.specs.ClosedLaws.{among_flat_map}
-use Rattle.lol_program.specs.Paths.{Path, First, Then, Selectors, beginnings, last_compound}
-use Rattle.lol_program.specs.Programs.{above}
 use Rattle.lol_vm.specs.FreeTags.{AreAmong, AreSmall, SmallPairs, FlatPairs, is_flat, is_small, path_has_type}
 use Rattle.lol_vm.proofs.FreeTags.{all_parts}
 

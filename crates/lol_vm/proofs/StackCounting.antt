@@ -1,26 +1,11 @@
 -- Stacks that count children as a machine does.
-use Rattle.std.proofs.Common.{◌≡◌, ℕ, ◌+◌, ◌-◌, ◌<◌, ◌≤◌, Bool, true, false, cond, List, [], ◌∷◌, ◌++◌, length, map, Option, Some, None, refl, sym, ap, ◌∙◌, subst, arith, length-append}
-use Rattle.std.specs.Prelude.{◌&&◌, ◌==◌, count_by, slice_get, slice_set, unwrap_or, if◌then◌else◌}
-use Rattle.std.specs.Option.{option_map}
-use Rattle.std.proofs.lemmas.Bool.Decides.{Decides-eqb}
+use Rattle.lol_vm.proofs.Common.{◌≡◌, ℕ, ◌+◌, ◌-◌, ◌<◌, ◌≤◌, Bool, true, false, cond, List, [], ◌∷◌, ◌++◌, length, map, Option, Some, None, refl, sym, ap, ◌∙◌, subst, arith, ◌&&◌, ◌==◌, count_by, slice_get, slice_set, unwrap_or, if◌then◌else◌, option_map, Decides-eqb, and_parts, same_bool, count_by-cons, same_name, lowercased, Name, local_name, same_local_name, StartTag, full_count, Element, Document, element_of, same_parent, children_of, typed_children_of, Machine, AreTyped, AreCounted, counted, counted_root, counted_last, counted_typed, or_root, items_in, typed_in, last_count, typed_count, count_or, counted_in, counted_if, counted_item, with_typed, count_by_type, root_count, item_shown, items_shown, children_shown, KeepsTyped, KeepsMachine, StackItemOf, StackOf, StackNames}
+use Rattle.std.proofs.Common.{length-append}
 use Rattle.std.proofs.lemmas.Slice.Eq.{bytes_eq-Decides}
-use Rattle.lol_base.specs.BoolLaws.{and_parts, same_bool}
-use Rattle.lol_base.specs.MemberLaws.{count_by-cons}
-use Rattle.lol_base.specs.Names.{same_name, lowercased}
-use Rattle.lol_base.specs.LocalNames.{Name, local_name, same_local_name}
-use Rattle.lol_base.specs.StartTags.{StartTag}
-use Rattle.lol_instructions.specs.Counters.{full_count}
-use Rattle.lol_instructions.specs.Tests.{Element}
-use Rattle.lol_vm.specs.Documents.{Child, Document, element_of, same_parent, children_of, typed_children_of}
-use Rattle.lol_vm.specs.Standing.{Machine, AreTyped, AreCounted, counted, counted_root, counted_last, counted_typed, or_root}
+use Rattle.lol_vm.specs.Documents.{Child}
 use Rattle.lol_vm.specs.Standing as standing
 use Rattle.lol_stack.specs.TypedCounts as typed
 use Rattle.lol_stack.specs.TypedCounts.{TypedCount, count_at}
-use Rattle.lol_stack.specs.Stacks.{items_in, typed_in, last_count, typed_count, count_or, counted_in, counted_if, counted_item, with_typed, count_by_type, root_count}
-use Rattle.lol_vm.specs.StackMachines.{item_shown, items_shown, children_shown, KeepsTyped, KeepsMachine}
-use Rattle.lol_stack.specs.declared.stack_item.StackItemOf.{StackItemOf}
-use Rattle.lol_stack.specs.declared.stack.StackOf.{StackOf}
-use Rattle.lol_stack.specs.declared.stack.StackNames.{StackNames}
 use Rattle.lol_vm.proofs.Kept.{counters_are_places}
 use Rattle.lol_vm.proofs.StackMachines.{shown_push, items_counted}
 use Rattle.lol_stack.specs.ClimbLaws.{counting_stands}

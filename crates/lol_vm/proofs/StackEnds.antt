@@ -1,21 +1,8 @@
 -- Stacks that close elements as a machine does.
-use Rattle.std.proofs.Common.{◌≡◌, ℕ, suc, ◌+◌, ◌-◌, ◌<◌, Bool, true, false, List, [], ◌∷◌, ◌++◌, length, map, position, Option, Some, None, refl, sym, ap, ◌∙◌, subst, arith}
-use Rattle.std.specs.Prelude.{if◌then◌else◌}
-use Rattle.std.specs.List.{position_from}
-use Rattle.std.specs.Option.{option_map, option_or}
+use Rattle.lol_vm.proofs.Common.{◌≡◌, ℕ, suc, ◌+◌, ◌-◌, ◌<◌, Bool, true, false, List, [], ◌∷◌, ◌++◌, length, map, position, Option, Some, None, refl, sym, ap, ◌∙◌, subst, arith, if◌then◌else◌, position_from, option_map, option_or, reverse-append, lowercased, Name, local_name, OpenItem, Machine, ended, items_in, place_to_close, IsEndedAt, IsEnded, item_shown, items_shown, KeepsMachine, StackItemOf, StackOf, StackNames}
 use Rattle.std.specs.Str.{bytes_eq}
 use Rattle.std.proofs.lemmas.Iterator.Adapters.{position_from-zero}
-use Rattle.std.proofs.lemmas.List.{reverse-append}
-use Rattle.lol_base.specs.Names.{lowercased}
-use Rattle.lol_base.specs.LocalNames.{Name, local_name}
-use Rattle.lol_vm.specs.Machines.{OpenItem}
-use Rattle.lol_vm.specs.Standing.{Machine, ended}
-use Rattle.lol_stack.specs.Stacks.{items_in, place_to_close, IsEndedAt, IsEnded}
 use Rattle.lol_stack.specs.SoundStacks.{last_place_from, last_place, IsSound}
-use Rattle.lol_vm.specs.StackMachines.{item_shown, items_shown, KeepsMachine}
-use Rattle.lol_stack.specs.declared.stack_item.StackItemOf.{StackItemOf}
-use Rattle.lol_stack.specs.declared.stack.StackOf.{StackOf}
-use Rattle.lol_stack.specs.declared.stack.StackNames.{StackNames}
 use Rattle.lol_stack.specs.SoundLaws.{ends_at_last}
 use Rattle.lol_vm.proofs.StackMachines.{found_within, shown_length, items_counted, place_of_last, ended_at_last_keeps}
 

@@ -1,27 +1,13 @@
 -- Stacks that keep what a machine keeps.
-use Rattle.lol_vm.specs.PlaceRuns.{Context}
+use Rattle.lol_vm.proofs.Common.{Context, ◌≡◌, ℕ, suc, ◌+◌, ◌-◌, ◌<◌, ◌≤◌, Bool, true, false, List, [], ◌∷◌, ◌++◌, length, map, reverse, take, drop, position, Option, Some, None, refl, sym, ap, ◌∙◌, subst, arith, ◌&&◌, nat_le, if◌then◌else◌, option_map, length-drop, map-append, reverse-append, length-map, length-reverse, drop_at, lowercased, Name, local_name, LimitedVec, OpenItem, Machine, cut, closed_count, ended, new_machine, opened, items_in, typed_in, IsSame, IsClosed, IsEndedAt, IsPushed, active_in, list_in, root_count, item_shown, items_shown, children_shown, KeepsTyped, KeepsMachine, StackItemOf, StackOf, StackNames}
 use Rattle.lol_program.specs.Programs.{Program}
-use Rattle.std.proofs.Common.{◌≡◌, ℕ, suc, ◌+◌, ◌-◌, ◌<◌, ◌≤◌, Bool, true, false, List, [], ◌∷◌, ◌++◌, length, map, reverse, take, drop, position, Option, Some, None, refl, sym, ap, ◌∙◌, subst, arith, ◌&&◌}
-use Rattle.std.specs.Prelude.{nat_le, if◌then◌else◌}
 use Rattle.std.specs.List.{take-map}
-use Rattle.std.specs.Option.{option_map}
 use Rattle.std.proofs.lemmas.List.Quantifiers.{position-Some}
-use Rattle.std.proofs.lemmas.List.{length-drop, map-append, reverse-append, length-map, length-reverse, drop_at}
 use Rattle.std.specs.Str.{bytes_eq}
-use Rattle.lol_base.specs.Names.{lowercased}
-use Rattle.lol_base.specs.LocalNames.{Name, local_name}
-use Rattle.lol_memory.specs.LimitedVec.{LimitedVec}
 use Rattle.lol_memory.specs.Slots.{slots_after}
 use Rattle.lol_memory.specs.SlotLaws.{slots_pushed}
-use Rattle.lol_vm.specs.Machines.{OpenItem}
 use Rattle.lol_stack.specs.TypedCounts.{TypedCount, cut_to, all_above}
-use Rattle.lol_vm.specs.Standing.{Machine, cut, closed_count, ended, new_machine, opened}
 use Rattle.lol_stack.specs.TypedLaws.{levels_in, Climb}
-use Rattle.lol_stack.specs.Stacks.{items_in, typed_in, IsSame, IsClosed, IsEndedAt, IsPushed, active_in, list_in, root_count}
-use Rattle.lol_vm.specs.StackMachines.{item_shown, items_shown, children_shown, KeepsTyped, KeepsMachine}
-use Rattle.lol_stack.specs.declared.stack_item.StackItemOf.{StackItemOf}
-use Rattle.lol_stack.specs.declared.stack.StackOf.{StackOf}
-use Rattle.lol_stack.specs.declared.stack.StackNames.{StackNames}
 use Rattle.lol_vm.proofs.Runs.{cut_reverse}
 use Rattle.lol_stack.specs.ClimbLaws.{climb_top, cutting_stands, none_stand, not_above, stand_lower}
 use Rattle.lol_stack.specs.TypedFunctions.{cutting_drops_above}

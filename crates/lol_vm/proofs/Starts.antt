@@ -1,52 +1,22 @@
 -- What the machine of the code runs for a start tag, and what that gives.
-use Rattle.std.proofs.Common.{◌≡◌, ℕ, suc, zero, reverse, ◌+◌, ◌-◌, ◌<◌, ◌≤◌, ◌^◌, Bool, true, false, cond, List, [], ◌∷◌, ◌++◌, length, map, drop, take, get_or, All, Option, Some, None, refl, sym, ap, ◌∙◌, subst, arith, Contains, drop-cons}
-use Rattle.std.specs.Prelude.{slice_get, if◌then◌else◌, count_by}
+use Rattle.lol_vm.proofs.Common.{◌≡◌, ℕ, suc, zero, reverse, ◌+◌, ◌-◌, ◌<◌, ◌≤◌, ◌^◌, Bool, true, false, cond, List, [], ◌∷◌, ◌++◌, length, map, drop, take, get_or, All, Option, Some, None, refl, sym, ap, ◌∙◌, subst, arith, Contains, drop-cons, slice_get, if◌then◌else◌, count_by, length-map, length-drop, length-reverse, map-append, reverse-append, reverse-reverse, take-append-drop, option_map, range_with_len, Range, Name, Among, among_from_contains, Ids, TagAttributes, Sight, sight_of, is_open, Path, Selectors, AreClosed, IsProgramOf, places, all_places, Element, names_counted, attributes_counted, Tries, name_tries, attribute_tries, Gathers, Context, no_context, context_of, branch, is_open_at, value_at, run, step_with_attributes, AreRunnable, IsInsideOf, all_at, value_seen, is_true, holds_seen, first_open_from, with_branch_if, gathered_by_names, gathered_with_attributes, starts_open, AreItems, HoldOnce, LeftMatches, active_of, last_jumps, ranges_of_active, ranges_to_run, KeepsMachine, item_shown, items_shown, items_in, active_in, Machine, ranges_of_machine, AreTried, number_of, ranges_from, jumps_in, jumps_of_item, ranges_to_run_in, sight_in, content_of, ExecutionCtx, StackItemOf, StackOf, StackNames}
 use Rattle.std.proofs.lemmas.List.Sums.{count_by-le-length}
-use Rattle.std.proofs.lemmas.List.{length-map, length-drop, length-reverse, map-append, reverse-append, reverse-reverse, take-append-drop}
 use Rattle.std.proofs.lemmas.List.FromFn.{length-range_with_len}
 use Rattle.std.proofs.lemmas.List.Elements.{All-contains_itself, All-weaker, All-take}
-use Rattle.std.specs.Option.{option_map}
-use Rattle.std.specs.List.{range_with_len}
-use Rattle.std.specs.declared.ops.Range.{Range}
-use Rattle.lol_base.specs.LocalNames.{Name}
-use Rattle.lol_base.specs.MemberLaws.{Among, among_from_contains}
-use Rattle.lol_memory.specs.Ids.{Ids}
-use Rattle.lol_instructions.specs.Attributes.{TagAttributes}
-use Rattle.lol_instructions.specs.Compiled.{Sight, sight_of}
-use Rattle.lol_instructions.specs.Compounds.{is_open}
-use Rattle.lol_program.specs.Paths.{Path, Selectors}
-use Rattle.lol_program.specs.Programs.{AreClosed, IsProgramOf, places, all_places}
 use Rattle.lol_program.specs.Programs as programs
 use Rattle.lol_program.specs.ProgramViews.{instruction_shown, code_of, program_shown}
-use Rattle.lol_instructions.specs.Tests.{Element}
-use Rattle.lol_instructions.specs.Tries.{names_counted, attributes_counted}
 use Rattle.lol_instructions.specs.declared.instruction.Instruction.{Instruction}
 use Rattle.lol_instructions.specs.declared.name_value.NameValue.{NameValue}
 use Rattle.lol_instructions.specs.declared.name_value.NameValue.TheVariants.{True, False, Open}
 use Rattle.lol_program.specs.declared.program.Program.{Program}
-use Rattle.lol_instructions.specs.declared.tries.Tries.{Tries}
-use Rattle.lol_vm.specs.Answers.{name_tries, attribute_tries}
 use Rattle.lol_stack.specs.Contexts.{with_branch}
-use Rattle.lol_vm.specs.PlaceRuns.{Gathers, Context, no_context, context_of, branch, is_open_at, value_at, run, step_with_attributes}
-use Rattle.lol_vm.specs.InstructionRuns.{AreRunnable, IsInsideOf, all_at, value_seen, is_true, holds_seen, first_open_from, with_branch_if, gathered_by_names, gathered_with_attributes}
 use Rattle.lol_stack.specs.WithRange.{no_range}
-use Rattle.lol_vm.specs.MachineLaws.{starts_open}
 use Rattle.lol_base.specs.ListLaws.{reverse-map}
 use Rattle.lol_stack.specs.Active.{activated, active_ranges_of}
 use Rattle.lol_stack.specs.SoundRangeLaws.{active_after-append}
 use Rattle.lol_stack.specs.SoundStacks.{IsSound, hereditary_jumps_in}
-use Rattle.lol_vm.specs.Machines.{AreItems, HoldOnce, LeftMatches, active_of, last_jumps, ranges_of_active, ranges_to_run}
 use Rattle.lol_vm.specs.Matching as matching
-use Rattle.lol_vm.specs.StackMachines.{KeepsMachine, item_shown, items_shown}
-use Rattle.lol_stack.specs.Stacks.{items_in, active_in}
-use Rattle.lol_vm.specs.Standing.{Machine, ranges_of_machine}
-use Rattle.lol_vm.specs.TagRuns.{AreTried, number_of, ranges_from, jumps_in, jumps_of_item, ranges_to_run_in, sight_in}
-use Rattle.lol_vm.specs.Vms.{content_of}
-use Rattle.lol_stack.specs.declared.execution_ctx.ExecutionCtx.{ExecutionCtx}
 use Rattle.lol_vm.specs.declared.tag_runs.Stop.{Stop}
-use Rattle.lol_stack.specs.declared.stack_item.StackItemOf.{StackItemOf}
-use Rattle.lol_stack.specs.declared.stack.StackOf.{StackOf}
-use Rattle.lol_stack.specs.declared.stack.StackNames.{StackNames}
 use Rattle.lol_vm.proofs.Counted.{places_count_tries}
 use Rattle.lol_vm.proofs.Held.{ranges_are_inside, ranges_hold_left_matches, programs_have_each_node}
 use Rattle.lol_vm.proofs.InstructionLists.{offset_inside}

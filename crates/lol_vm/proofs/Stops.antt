@@ -1,29 +1,14 @@
 -- Runs that stop and go on.
-use Rattle.lol_vm.specs.Machines.{HoldOnce, LeftMatches}
-use Rattle.std.proofs.Common.{◌≡◌, ℕ, suc, ◌+◌, Bool, true, false, cond, not, List, [], ◌∷◌, ◌++◌, length, drop, Option, Some, None, inl, inr, refl, sym, ap, ◌∙◌, subst, arith, append_assoc, Contains}
-use Rattle.std.specs.Prelude.{slice_get, count_by, option_to_list, ◌&&◌, ◌||◌, ◌≤◌, if◌then◌else◌}
-use Rattle.std.specs.declared.ops.Range.{Range}
-use Rattle.std.specs.List.{list_any}
-use Rattle.std.proofs.lemmas.List.{append-nil, append_cancel_right, drop-append-le}
+use Rattle.lol_vm.proofs.Common.{HoldOnce, LeftMatches, ◌≡◌, ℕ, suc, ◌+◌, Bool, true, false, cond, not, List, [], ◌∷◌, ◌++◌, length, drop, Option, Some, None, inl, inr, refl, sym, ap, ◌∙◌, subst, arith, Contains, slice_get, count_by, option_to_list, ◌&&◌, ◌||◌, ◌≤◌, if◌then◌else◌, Range, list_any, append-nil, append_cancel_right, drop-append-le, option_map, Attribute, Element, is_html, Path, Selectors, last_compound, count_by-cons, Among, among_from_contains, contains_from_among, left_matches, needs_attributes, asks, attribute_tries, or_of, is_open, Decides, by_names, with_rest, IsAt, IsProgramOf, places, all_places, AreClosed, Context, no_context, given_by, gathered_from_places, context_of, branch, step_with_attributes, run, instruction_value, value_at, is_open_at, ids_list, jumps_list, hereditary_jumps_list, starts_open, IsRequest}
+use Rattle.std.proofs.Common.{append_assoc}
 use Rattle.std.proofs.Math.Seq.{drop-append-add}
 use Rattle.std.proofs.lemmas.Grind.{flat_map-append}
-use Rattle.std.specs.Option.{option_map}
-use Rattle.lol_base.specs.StartTags.{Attribute}
-use Rattle.lol_instructions.specs.Tests.{Element, is_html}
-use Rattle.lol_program.specs.Paths.{Path, Selectors, last_compound}
-use Rattle.lol_base.specs.MemberLaws.{count_by-cons, Among, among_from_contains, contains_from_among}
-use Rattle.lol_vm.specs.Matching.{left_matches}
-use Rattle.lol_vm.specs.Answers.{needs_attributes, asks, attribute_tries}
-use Rattle.lol_base.specs.BoolLaws.{or_of}
-use Rattle.lol_instructions.specs.Compounds.{is_open, Decides, by_names, with_rest}
-use Rattle.lol_program.specs.Programs.{Instruction, Program, IsAt, IsProgramOf, places, all_places, AreClosed}
+use Rattle.lol_program.specs.Programs.{Instruction, Program}
 use Rattle.lol_instructions.specs.declared.name_value.NameValue.{NameValue}
 use Rattle.lol_instructions.specs.declared.name_value.NameValue.TheVariants.{True, False, Open}
 use Rattle.lol_program.specs.ValueLaws.{values_decide, values_are_by_names}
-use Rattle.lol_vm.specs.PlaceRuns.{Context, no_context, given_by, gathered_from_places, context_of, branch, step_with_attributes, run, instruction_value, value_at, is_open_at, ids_list, jumps_list, hereditary_jumps_list}
 use Rattle.lol_vm.proofs.Held.{path_at}
 use Rattle.lol_vm.proofs.Counted.{places_count_tries}
-use Rattle.lol_vm.specs.MachineLaws.{starts_open, IsRequest}
 
 -- 1. Runs gather
 

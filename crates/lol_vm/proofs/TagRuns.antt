@@ -1,17 +1,7 @@
 -- Runs over ranges, one after the other.
-use Rattle.std.proofs.Common.{◌≡◌, ◌+◌, ◌-◌, ◌<◌, ◌≤◌, ℕ, List, ◌∷◌, length, take, drop, drop-cons, get_or, suc, refl, sym, ap, ◌∙◌, arith, subst}
-use Rattle.std.specs.declared.ops.Range.{Range}
-use Rattle.std.proofs.lemmas.List.{length-take, length-drop}
-use Rattle.lol_memory.specs.Ids.{Ids}
-use Rattle.lol_instructions.specs.Attributes.{TagAttributes}
-use Rattle.lol_instructions.specs.Compiled.{Sight}
-use Rattle.lol_instructions.specs.Tries.{names_counted, attributes_counted}
+use Rattle.lol_vm.proofs.Common.{◌≡◌, ◌+◌, ◌-◌, ◌<◌, ◌≤◌, ℕ, List, ◌∷◌, length, take, drop, drop-cons, get_or, suc, refl, sym, ap, ◌∙◌, arith, subst, Range, length-take, length-drop, Ids, TagAttributes, Sight, names_counted, attributes_counted, Tries, ExecutionCtx, AreRunnable, HasTriesLeft, IsInsideOf, all_at, instructions_at, open_among, gathered_with_attributes, AreExecuted, AreWithin, IsStopIn, ranges_from, rest_of}
 use Rattle.lol_instructions.specs.declared.instruction.Instruction.{Instruction}
-use Rattle.lol_instructions.specs.declared.tries.Tries.{Tries}
 use Rattle.lol_stack.specs.WithRange.{no_range}
-use Rattle.lol_stack.specs.declared.execution_ctx.ExecutionCtx.{ExecutionCtx}
-use Rattle.lol_vm.specs.InstructionRuns.{AreRunnable, HasTriesLeft, IsInsideOf, all_at, instructions_at, open_among, gathered_with_attributes}
-use Rattle.lol_vm.specs.TagRuns.{AreExecuted, AreWithin, IsStopIn, ranges_from, rest_of}
 use Rattle.lol_vm.specs.declared.tag_runs.Stop.{Stop}
 use Rattle.lol_vm.proofs.InstructionLists.{is_lent, offset_inside, length_parts, length_split, opens_split, attributes_next}
 

@@ -1,33 +1,15 @@
 -- A start tag, and its rest if that is handed over.
-use Rattle.std.proofs.Common.{◌≡◌, ℕ, ◌+◌, ◌-◌, ◌≤◌, ◌<◌, ◌*◌, Bool, true, false, not, List, [], ◌∷◌, ◌++◌, length, map, reverse, Option, Some, None, refl, sym, ap, ◌∙◌, subst, arith}
-use Rattle.std.specs.Prelude.{◌&&◌}
-use Rattle.std.proofs.lemmas.List.{length-append, map_push, reverse-append}
-use Rattle.lol_base.specs.StartTags.{StartTag}
-use Rattle.lol_memory.specs.Ids.{Ids}
-use Rattle.lol_memory.specs.LimitedVec.{IsLimited}
-use Rattle.lol_memory.specs.Limiter.{Limiter, charged}
+use Rattle.lol_vm.proofs.Common.{◌≡◌, ℕ, ◌+◌, ◌-◌, ◌≤◌, ◌<◌, ◌*◌, Bool, true, false, not, List, [], ◌∷◌, ◌++◌, length, map, reverse, Option, Some, None, refl, sym, ap, ◌∙◌, subst, arith, ◌&&◌, map_push, reverse-append, StartTag, Ids, IsLimited, Limiter, charged, full_count, Selectors, Element, names_counted, attributes_counted, Match, answer, document, is_dropped, Document, after_start, element_of, empty, Event, Start, has_content, GoesByStart, IsRunOf, machine_of, Follows, IsCharged, IsDropped, IsTaken, opens, StartedElement, match_of, list_in, last_count, Vm, Stands, IsAnswered, IsPending, AreOpened, info_of, stack_in, tries_in, data_in, slots_charged, slot_bytes, and-false, and-true}
+use Rattle.std.proofs.lemmas.List.{length-append}
 use Rattle.lol_memory.specs.declared.match_info.MatchInfo.{MatchInfo}
-use Rattle.lol_instructions.specs.Counters.{full_count}
-use Rattle.lol_program.specs.Paths.{Selectors}
-use Rattle.lol_instructions.specs.Tests.{Element}
-use Rattle.lol_instructions.specs.Tries.{names_counted, attributes_counted}
 use Rattle.lol_vm.specs.Answers as answers
-use Rattle.lol_vm.specs.Answers.{Match, answer, document, is_dropped}
 use Rattle.lol_stack.specs.Calls.{IsCalledAtEach}
-use Rattle.lol_vm.specs.Documents.{Document, after_start, element_of, empty}
-use Rattle.lol_vm.specs.Events.{Event, Start, has_content}
-use Rattle.lol_vm.specs.EventRuns.{GoesByStart, IsRunOf, machine_of}
-use Rattle.lol_vm.specs.Follows.{Follows, IsCharged, IsDropped, IsTaken, opens, StartedElement}
-use Rattle.lol_vm.specs.Views.{match_of}
-use Rattle.lol_stack.specs.Stacks.{list_in, last_count}
-use Rattle.lol_vm.specs.Vms.{Vm, Stands, IsAnswered, IsPending, AreOpened, info_of, stack_in, tries_in, data_in, slots_charged, slot_bytes}
 use Rattle.lol_vm.specs.declared.error.AuxStartTagInfoRequest.{AuxStartTagInfoRequest}
 use Rattle.lol_vm.specs.declared.event_run.EventRun.{EventRun}
 use Rattle.lol_vm.proofs.CallerLemmas.{is_left, unfinished_is}
 use Rattle.lol_vm.proofs.RunSteps.{charged_later, follows_on, not_refused}
 use Rattle.lol_vm.proofs.Runs.{events-document}
 use Rattle.lol_vm.proofs.Alike.{started_if}
-use Rattle.lol_base.specs.BoolLaws.{and-false, and-true}
 
 module _ (s : Selectors) (esi : Bool) (events : List Event) (tag : StartTag) where
   module _ {E F : Type 0} (ids_of : E → Ids) (old mid : Vm E) (request : AuxStartTagInfoRequest E) (pending : IsPending ids_of s esi events tag mid request) (kept : data_in mid ≡ data_in old) where

@@ -1,52 +1,22 @@
 -- What trying a counted start tag by its name comes to.
-use Rattle.std.proofs.Common.{◌≡◌, Result, Ok, ◌<◌, Bool, true, false, List, Option, Some, None, refl, sym, ap, ◌∙◌, subst, inl, inr, ◌+◌, not, [], ◌∷◌, ◌++◌, length, arith, ◌↔◌}
-use Rattle.std.specs.Prelude.{◌⊎◌, ◌||◌, ◌&&◌}
+use Rattle.lol_vm.proofs.Common.{◌≡◌, Result, Ok, ◌<◌, Bool, true, false, List, Option, Some, None, refl, sym, ap, ◌∙◌, subst, inl, inr, ◌+◌, not, [], ◌∷◌, ◌++◌, length, arith, ◌↔◌, ◌⊎◌, ◌||◌, ◌&&◌, Name, local_name, StartTag, Namespace, Ids, ascending, full_count, is_html, Element, names_counted, attributes_counted, Tries, Selectors, counted_in, last_count, list_in, items_in, typed_count, element_data_of, ExecutionCtx, StackNames, StackOf, IsLimited, Limiter, Event, has_content, Start, NeedNoMemory, AreRunnable, AreTried, ranges_to_run_in, sight_in, Vm, Stands, IsTagOf, IsAnswered, IsReported, IsTriedAtMost, IsPending, IsEntered, is_asked_for, Shows, content_of, list_any, sight_of, all_places, needs_attributes, asks, is_dropped, document, ascending_once, Document, element_of, Gathers, Context, no_context, context_of, KeepsMachine, Machine, StandsFor, counted, opened, started, ranges_of_machine, unfinished, StackItemOf, and-true, or-right_true}
 use Rattle.std.specs.Result.{IfOk, IsOk}
-use Rattle.lol_base.specs.LocalNames.{Name, local_name}
-use Rattle.lol_base.specs.StartTags.{StartTag}
-use Rattle.lol_base.specs.declared.namespace.Namespace.{Namespace}
-use Rattle.lol_memory.specs.Ids.{Ids, ascending}
 use Rattle.lol_memory.specs.declared.match_info.MatchInfo.{MatchInfo}
-use Rattle.lol_instructions.specs.Counters.{full_count}
-use Rattle.lol_instructions.specs.Tests.{is_html, Element}
-use Rattle.lol_instructions.specs.Tries.{names_counted, attributes_counted}
-use Rattle.lol_instructions.specs.declared.tries.Tries.{Tries}
-use Rattle.lol_program.specs.Paths.{Selectors}
 use Rattle.lol_stack.specs.Calls.{IsCalledAtEach, reports}
 use Rattle.lol_stack.specs.Contexts.{IsNewItem}
-use Rattle.lol_stack.specs.Stacks.{counted_in, last_count, list_in, items_in, typed_count, element_data_of}
-use Rattle.lol_stack.specs.declared.execution_ctx.ExecutionCtx.{ExecutionCtx}
-use Rattle.lol_stack.specs.declared.stack.StackNames.{StackNames}
-use Rattle.lol_stack.specs.declared.stack.StackOf.{StackOf}
-use Rattle.lol_memory.specs.LimitedVec.{IsLimited}
-use Rattle.lol_memory.specs.Limiter.{Limiter}
 use Rattle.lol_vm.specs.Due.{IsDue}
-use Rattle.lol_vm.specs.Events.{Event, has_content, Start}
-use Rattle.lol_vm.specs.InstructionRuns.{NeedNoMemory, AreRunnable}
-use Rattle.lol_vm.specs.TagRuns.{AreTried, ranges_to_run_in, sight_in}
 use Rattle.lol_vm.specs.TriedStarts.{OfStop, IsBegun, IsNewContext, IsTried, IsTriedAs, IsTriedByName, left_at}
-use Rattle.lol_vm.specs.Vms.{Vm, Stands, IsTagOf, IsAnswered, IsReported, IsTriedAtMost, IsPending, IsEntered, is_asked_for, Shows, content_of}
 use Rattle.lol_vm.specs.declared.tag_runs.RecoveryPoint.{RecoveryPoint}
 use Rattle.lol_vm.specs.declared.tag_runs.RecoveryPoint.TheVariants.{AtOnce, At}
 use Rattle.lol_vm.specs.declared.tag_runs.Stop.{Stop}
 use Rattle.lol_vm.proofs.VmRefusals.{limited_counted}
-use Rattle.std.specs.List.{list_any}
-use Rattle.lol_instructions.specs.Compiled.{sight_of}
-use Rattle.lol_program.specs.Programs.{all_places}
-use Rattle.lol_vm.specs.Answers.{needs_attributes, asks, is_dropped, document, ascending_once}
-use Rattle.lol_vm.specs.Documents.{Document, element_of}
-use Rattle.lol_vm.specs.PlaceRuns.{Gathers, Context, no_context, context_of}
 use Rattle.lol_stack.specs.SoundStacks.{IsSound}
-use Rattle.lol_vm.specs.StackMachines.{KeepsMachine}
-use Rattle.lol_vm.specs.Standing.{Machine, StandsFor, counted, opened, started, ranges_of_machine, unfinished}
-use Rattle.lol_stack.specs.declared.stack_item.StackItemOf.{StackItemOf}
 use Rattle.lol_vm.proofs.Answered.{starts_answer, AnswersStart}
 use Rattle.lol_vm.proofs.GatheringLemmas.{new_elements_gather, gathered_ids_ascend}
 use Rattle.lol_vm.proofs.Kept.{items_length, requests_stand, standing_is_kept}
 use Rattle.lol_stack.specs.SoundLaws.{counting_keeps_sound}
 use Rattle.lol_vm.proofs.StackCounting.{counting_stack_keeps, seen_places}
 use Rattle.lol_vm.proofs.Starts.{Running, all_shown, content_ids, counted as run_count, gathered, gathered_all, left_places, names_all, names_left, needs, no_attributes, no_need, runnable, stays}
-use Rattle.lol_base.specs.BoolLaws.{and-true, or-right_true}
 use Rattle.lol_vm.proofs.Stops.{foreign_tags_ask, stops_are_requests, started_by_names}
 use Rattle.lol_vm.proofs.VmStarts.{IsComplete, answered, counted_data, none_tried}
 use Rattle.std.specs.declared.alloc.AllocError.{AllocError}

@@ -1,28 +1,11 @@
 -- Machines with other data of their last element.
-use Rattle.std.proofs.Common.{◌≡◌, ℕ, suc, zero, ◌-◌, List, [], ◌∷◌, ◌++◌, length, map, Option, Some, None, refl, sym, ap, subst, ◌∙◌}
-use Rattle.std.specs.Prelude.{reverse, slice_get, slice_set}
-use Rattle.std.specs.Option.{option_map}
-use Rattle.std.proofs.lemmas.List.{length-map}
-use Rattle.lol_base.specs.LocalNames.{Name}
+use Rattle.lol_vm.proofs.Common.{◌≡◌, ℕ, suc, zero, ◌-◌, List, [], ◌∷◌, ◌++◌, length, map, Option, Some, None, refl, sym, ap, subst, ◌∙◌, reverse, slice_get, slice_set, option_map, length-map, Name, ranges_of_active, longest, KeepsMachine, item_shown, items_in, active_in, count_or, typed_in, count_by_type, all_places, Start, Machine, unfinished, jumps_of_item, jumps_in, sight_in, tag_ranges, ranges_left, IsPointIn, Vm, Shows, instructions_in, data_in, StackItemOf, StackOf, StackNames, some_is}
 use Rattle.lol_memory.specs.Slots.{slots}
-use Rattle.lol_vm.specs.Machines.{ranges_of_active}
-use Rattle.lol_vm.specs.Refusals.{longest}
 use Rattle.lol_stack.specs.Lending.{with_data}
 use Rattle.lol_stack.specs.SoundLaws.{set_keeps, data_keep_sound}
 use Rattle.lol_stack.specs.StackLending.{with_current, with_data_at, with_data_if}
 use Rattle.lol_vm.specs.VmLending.{with_current_in}
-use Rattle.lol_vm.specs.StackMachines.{KeepsMachine, item_shown}
-use Rattle.lol_stack.specs.Stacks.{items_in, active_in, count_or, typed_in, count_by_type}
-use Rattle.lol_program.specs.Programs.{all_places}
-use Rattle.lol_vm.specs.Events.{Start}
-use Rattle.lol_vm.specs.Standing.{Machine, unfinished}
-use Rattle.lol_vm.specs.TagRuns.{jumps_of_item, jumps_in, sight_in, tag_ranges, ranges_left, IsPointIn}
 use Rattle.lol_vm.specs.VmLaws.{DataChangeNothing, DataKeepOpen, DataKeepRequests, LastDataAreLent, LastDataChange, PendingStands, SlotsAreOfDepth}
-use Rattle.lol_vm.specs.Vms.{Vm, Shows, instructions_in, data_in}
-use Rattle.lol_stack.specs.declared.stack_item.StackItemOf.{StackItemOf}
-use Rattle.lol_stack.specs.declared.stack.StackOf.{StackOf}
-use Rattle.lol_stack.specs.declared.stack.StackNames.{StackNames}
-use Rattle.lol_base.specs.PlaceLaws.{some_is}
 use Rattle.lol_vm.proofs.StackCounting.{last_at, last_place, last_set}
 
 module _ {E : Type 0} (w : E) where

@@ -1,36 +1,13 @@
 -- Requests that are finished, and what the machine of the code answers to them.
-use Rattle.std.proofs.Common.{◌≡◌, ℕ, ◌+◌, ◌<◌, ◌≤◌, ◌^◌, Bool, true, false, not, List, [], ◌∷◌, ◌++◌, length, drop, get_or, All, refl, sym, ap, ◌∙◌, subst, arith}
-use Rattle.std.specs.Prelude.{◌||◌, count_by}
+use Rattle.lol_vm.proofs.Common.{◌≡◌, ℕ, ◌+◌, ◌<◌, ◌≤◌, ◌^◌, Bool, true, false, not, List, [], ◌∷◌, ◌++◌, length, drop, get_or, All, refl, sym, ap, ◌∙◌, subst, arith, ◌||◌, count_by, Range, contains_from_among, StartTag, Namespace, Html, Svg, MathML, Ids, ascending, tag_attributes, Selectors, all_places, Element, is_html, Tries, document, ascending_once, attribute_tries, Document, element_of, Event, Start, has_content, has_content_in, Gathers, Context, no_context, context_of, is_open_at, run, gathered_with_attributes, AreRunnable, IsInsideOf, all_at, open_among, starts_open, AreItems, Machine, StandsFor, ranges_of_machine, finished, AreExecuted, AreWithin, IsPointIn, ranges_left, ranges_to_run_in, sight_in, tried_at, Vm, IsAnswered, IsTriedAtMost, IsEntered, IsPending, GoesOnAt, content_at, content_of, ExecutionCtx}
 use Rattle.std.proofs.lemmas.List.{length-append}
 use Rattle.std.proofs.lemmas.List.Elements.{All-cons, All-drop}
-use Rattle.std.specs.declared.ops.Range.{Range}
-use Rattle.lol_base.specs.MemberLaws.{contains_from_among}
-use Rattle.lol_base.specs.StartTags.{StartTag}
-use Rattle.lol_base.specs.declared.namespace.Namespace.{Namespace}
-use Rattle.lol_base.specs.declared.namespace.Namespace.TheVariants.{Html, Svg, MathML}
-use Rattle.lol_memory.specs.Ids.{Ids, ascending}
 use Rattle.lol_memory.specs.declared.match_info.MatchInfo.{MatchInfo}
-use Rattle.lol_instructions.specs.Attributes.{tag_attributes}
-use Rattle.lol_program.specs.Paths.{Selectors}
-use Rattle.lol_program.specs.Programs.{all_places}
-use Rattle.lol_instructions.specs.Tests.{Element, is_html}
 use Rattle.lol_instructions.specs.declared.instruction.Instruction.{Instruction}
-use Rattle.lol_instructions.specs.declared.tries.Tries.{Tries}
-use Rattle.lol_vm.specs.Answers.{document, ascending_once, attribute_tries}
 use Rattle.lol_stack.specs.Calls.{IsCalledAtEach, reports}
-use Rattle.lol_vm.specs.Documents.{Document, element_of}
-use Rattle.lol_vm.specs.Events.{Event, Start, has_content, has_content_in}
-use Rattle.lol_vm.specs.PlaceRuns.{Gathers, Context, no_context, context_of, is_open_at, run}
-use Rattle.lol_vm.specs.InstructionRuns.{gathered_with_attributes, AreRunnable, IsInsideOf, all_at, open_among}
 use Rattle.lol_stack.specs.WithRange.{no_range}
-use Rattle.lol_vm.specs.MachineLaws.{starts_open}
-use Rattle.lol_vm.specs.Machines.{AreItems}
-use Rattle.lol_vm.specs.Standing.{Machine, StandsFor, ranges_of_machine, finished}
-use Rattle.lol_vm.specs.TagRuns.{AreExecuted, AreWithin, IsPointIn, ranges_left, ranges_to_run_in, sight_in, tried_at}
 use Rattle.lol_vm.specs.VmLaws.{RequestsTryAtMost}
-use Rattle.lol_vm.specs.Vms.{Vm, IsAnswered, IsTriedAtMost, IsEntered, IsPending, GoesOnAt, content_at, content_of}
 use Rattle.lol_vm.specs.declared.error.AuxStartTagInfoRequest.{AuxStartTagInfoRequest}
-use Rattle.lol_stack.specs.declared.execution_ctx.ExecutionCtx.{ExecutionCtx}
 use Rattle.lol_vm.specs.declared.tag_runs.RecoveryPoint.{RecoveryPoint}
 use Rattle.lol_vm.specs.declared.tag_runs.RecoveryPoint.TheVariants.{AtOnce, At}
 use Rattle.lol_vm.proofs.Answered.{in_order}

@@ -1,32 +1,13 @@
 -- What survives a refusal, and what end tags do.
-use Rattle.std.proofs.Common.{◌≡◌, ◌-◌, Result, Ok, Err, ℕ, ◌<◌, ◌≤◌, Bool, true, false, List, [], ◌∷◌, ◌++◌, length, take, drop, Option, Some, None, refl, sym, ap, ◌∙◌, subst, arith, ◌↔◌}
+use Rattle.lol_vm.proofs.Common.{◌≡◌, ◌-◌, Result, Ok, Err, ℕ, ◌<◌, ◌≤◌, Bool, true, false, List, [], ◌∷◌, ◌++◌, length, take, drop, Option, Some, None, refl, sym, ap, ◌∙◌, subst, arith, ◌↔◌, slice_get, max, nat_lt, if◌then◌else◌, nat_tests, length-set, length-map, length-take, take_all, drop_all, Name, local_name, StartTag, Html, LimitedVec, IsLimited, Limiter, full_count, IsProgramOf, Selectors, Element, document, Document, after_start, after_end, Event, End, KeepsMachine, items_in, list_in, slots_in, places_in, last_count, counted_in, counted_if, counted_item, with_typed, closed_from, element_data_of, place_to_close, last_below, IsSame, IsEnded, IsEndedAt, Machine, new_machine, IsOrdered, counted, ended, selectors, Vm, Shows, Stands, HasOpen, IsRefusal, IsRequested, IsSilent, has_failed, open_after, data_in, OpensNothing, StaysFailed, ExecutionCtx, StackItemOf, StackOf, StackNames}
 use Rattle.std.specs.Result.{OnOk, OnErr, IsOk}
-use Rattle.std.specs.Prelude.{slice_get, max, nat_lt, if◌then◌else◌}
 use Rattle.std.specs.List.{take-map, drop-map}
-use Rattle.std.proofs.lemmas.Bool.Decides.{nat_tests}
-use Rattle.std.proofs.lemmas.List.{length-set, length-map, length-take, take_all, drop_all}
-use Rattle.lol_base.specs.LocalNames.{Name, local_name}
-use Rattle.lol_base.specs.StartTags.{StartTag}
-use Rattle.lol_base.specs.declared.namespace.Namespace.TheVariants.{Html}
-use Rattle.lol_memory.specs.LimitedVec.{LimitedVec, IsLimited}
-use Rattle.lol_memory.specs.Limiter.{Limiter}
 use Rattle.lol_program.specs.Asts.{nodes_of}
 use Rattle.lol_program.specs.ClosedLaws.{trees_are_closed}
-use Rattle.lol_instructions.specs.Counters.{full_count}
-use Rattle.lol_program.specs.Programs.{IsProgramOf}
 use Rattle.lol_program.specs.declared.ast.Ast.{Ast}
 use Rattle.lol_program.specs.declared.program.Program.{Program}
-use Rattle.lol_program.specs.Paths.{Selectors}
 use Rattle.lol_program.specs.ProgramViews.{program_shown}
-use Rattle.lol_instructions.specs.Tests.{Element}
-use Rattle.lol_vm.specs.Answers.{document}
-use Rattle.lol_vm.specs.Documents.{Document, after_start, after_end}
-use Rattle.lol_vm.specs.Events.{Event, End}
 use Rattle.lol_stack.specs.SoundStacks.{IsSound}
-use Rattle.lol_vm.specs.StackMachines.{KeepsMachine}
-use Rattle.lol_stack.specs.Stacks.{items_in, list_in, slots_in, places_in, last_count, counted_in, counted_if, counted_item, with_typed, closed_from, element_data_of, place_to_close, last_below, IsSame, IsEnded, IsEndedAt}
-use Rattle.lol_vm.specs.Standing.{Machine, new_machine, IsOrdered, counted, ended}
-use Rattle.lol_vm.specs.Views.{selectors}
 use Rattle.lol_memory.specs.declared.limited_vec.PushError.{PushError}
 use Rattle.lol_memory.specs.declared.limited_vec.PushError.TheVariants as pushes
 use Rattle.lol_vm.specs.VmErrors.{IsAskedOrFull, push_error, refused_child, refused_push, vm_error}
@@ -35,14 +16,9 @@ use Rattle.lol_vm.specs.declared.error.StartTagError.TheVariants as refusals
 use Rattle.lol_stack.specs.declared.stack.AddChildError.{AddChildError}
 use Rattle.lol_stack.specs.declared.stack.AddChildError.TheVariants as children
 use Rattle.lol_vm.specs.declared.error.AuxStartTagInfoRequest.{AuxStartTagInfoRequest}
-use Rattle.lol_vm.specs.Vms.{Vm, Shows, Stands, HasOpen, IsRefusal, IsRequested, IsSilent, has_failed, open_after, data_in, OpensNothing, StaysFailed}
 use Rattle.lol_vm.specs.declared.error.VmError.{VmError}
 use Rattle.lol_vm.specs.declared.error.VmError.TheVariants.{InfoRequest, MemoryLimitExceeded, Memory, CounterFull, Failed}
-use Rattle.lol_stack.specs.declared.execution_ctx.ExecutionCtx.{ExecutionCtx}
-use Rattle.lol_stack.specs.declared.stack_item.StackItemOf.{StackItemOf}
 use Rattle.lol_vm.specs.declared.tag_runs.RecoveryPoint.{RecoveryPoint}
-use Rattle.lol_stack.specs.declared.stack.StackOf.{StackOf}
-use Rattle.lol_stack.specs.declared.stack.StackNames.{StackNames}
 use Rattle.lol_vm.proofs.Kept.{items_length, counted_stands, ended_stands, documents_are_ordered, ordered_start, ordered_end, new_stands, standing_is_kept}
 use Rattle.lol_stack.specs.SoundLaws.{new_is_sound, same_is_sound, closing_keeps_sound, counting_keeps_sound}
 use Rattle.lol_vm.proofs.StackCounting.{counting_stack_keeps}

@@ -1,37 +1,14 @@
 -- Start tags that the machine of the code counted, and what it answers to them.
-use Rattle.std.proofs.Common.{map-id, ◌≡◌, ℕ, Result, Err, ◌-◌, Bool, true, false, not, List, [], ◌∷◌, ◌++◌, length, map, Option, Some, None, refl, sym, ap, ◌∙◌, subst, arith}
-use Rattle.std.specs.Prelude.{◌&&◌, if◌then◌else◌, slice_get}
-use Rattle.std.proofs.lemmas.List.{map-append}
-use Rattle.lol_base.specs.LocalNames.{Name}
-use Rattle.lol_base.specs.MemberLaws.{map-map}
-use Rattle.lol_base.specs.StartTags.{StartTag}
-use Rattle.lol_memory.specs.Ids.{Ids, ascending}
-use Rattle.lol_memory.specs.LimitedVec.{LimitedVec}
+use Rattle.lol_vm.proofs.Common.{map-id, ◌≡◌, ℕ, Result, Err, ◌-◌, Bool, true, false, not, List, [], ◌∷◌, ◌++◌, length, map, Option, Some, None, refl, sym, ap, ◌∙◌, subst, arith, ◌&&◌, if◌then◌else◌, slice_get, map-append, Name, map-map, StartTag, Ids, ascending, LimitedVec, Selectors, Path, Element, names_counted, attributes_counted, Tries, Match, Started, Dropped, asks, document, matching_ids, name_tries, attribute_tries, report, Document, element_of, Event, Start, has_content, Context, items_in, counted_in, counted_item, counted_if, with_typed, element_data_of, Machine, StandsFor, opened, finished, IsRequested, Vm, Shows, IsAnswered, IsReported, IsTriedAtMost, IsPending, IsEntered, AreOpened, content_of, info_of, data_in, ExecutionCtx, StackItemOf, StackOf, StackNames, AreClosed}
 use Rattle.lol_memory.specs.declared.match_info.MatchInfo.{MatchInfo}
-use Rattle.lol_program.specs.Paths.{Selectors, Path}
-use Rattle.lol_instructions.specs.Tests.{Element}
-use Rattle.lol_instructions.specs.Tries.{names_counted, attributes_counted}
-use Rattle.lol_instructions.specs.declared.tries.Tries.{Tries}
-use Rattle.lol_vm.specs.Answers.{Match, Started, Dropped, asks, document, matching_ids, name_tries, attribute_tries, report}
 use Rattle.lol_stack.specs.Calls.{IsCalledAtEach, reports}
-use Rattle.lol_vm.specs.Documents.{Document, element_of}
-use Rattle.lol_vm.specs.Events.{Event, Start, has_content}
-use Rattle.lol_vm.specs.PlaceRuns.{Context}
-use Rattle.lol_stack.specs.Stacks.{items_in, counted_in, counted_item, counted_if, with_typed, element_data_of}
-use Rattle.lol_vm.specs.Standing.{Machine, StandsFor, opened, finished}
-use Rattle.lol_vm.specs.Vms.{IsRequested, Vm, Shows, IsAnswered, IsReported, IsTriedAtMost, IsPending, IsEntered, AreOpened, content_of, info_of, data_in}
 use Rattle.lol_vm.specs.declared.error.AuxStartTagInfoRequest.{AuxStartTagInfoRequest}
 use Rattle.lol_vm.specs.declared.error.VmError.{VmError}
 use Rattle.lol_vm.specs.declared.error.VmError.TheVariants.{InfoRequest}
-use Rattle.lol_stack.specs.declared.execution_ctx.ExecutionCtx.{ExecutionCtx}
-use Rattle.lol_stack.specs.declared.stack_item.StackItemOf.{StackItemOf}
-use Rattle.lol_stack.specs.declared.stack.StackOf.{StackOf}
-use Rattle.lol_stack.specs.declared.stack.StackNames.{StackNames}
 use Rattle.lol_vm.specs.declared.tag_runs.RecoveryPoint.{RecoveryPoint}
 use Rattle.lol_stack.specs.SoundLaws.{set_keeps, opening_keeps_sound}
 use Rattle.lol_vm.proofs.StackMachines.{IsItemOf, opening_stack_keeps}
 use Rattle.lol_vm.proofs.Starts.{no_attributes}
-use Rattle.lol_program.specs.Programs.{AreClosed}
 
 -- 1. Data
 

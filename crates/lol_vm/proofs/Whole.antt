@@ -1,17 +1,10 @@
 -- What the machine of the code is about to run, and how often nodes are tried.
-use Rattle.std.proofs.Common.{sym, subst}
+use Rattle.lol_vm.proofs.Common.{sym, subst, by_names, is_open, last_compound, IsProgramOf, document, needs_attributes, left_matches, HoldOnce, LeftMatches, and_parts}
 use Rattle.std.proofs.lemmas.List.Sums.{count_by-le-length}
-use Rattle.lol_instructions.specs.Compounds.{by_names, is_open}
-use Rattle.lol_program.specs.Paths.{last_compound}
-use Rattle.lol_program.specs.Programs.{IsProgramOf}
-use Rattle.lol_vm.specs.Answers.{document, needs_attributes}
-use Rattle.lol_vm.specs.Matching.{left_matches}
-use Rattle.lol_vm.specs.Machines.{HoldOnce, LeftMatches}
 use Rattle.lol_vm.specs.VmLaws.{RangesHoldOnce, TriesAreFew}
 use Rattle.lol_vm.proofs.Held.{ranges_hold_left_matches}
 use Rattle.lol_vm.proofs.Starts.{ranges_shown}
 use Rattle.lol_vm.proofs.StackCounting.{fewer}
-use Rattle.lol_base.specs.BoolLaws.{and_parts}
 
 -- what the code's machine is about to run
 pub ranges_hold_once : {E : Type 0} → RangesHoldOnce E

@@ -1,6 +1,4 @@
-use Rattle.std.proofs.Common.{◌≡◌, ◌++◌, ◌∷◌, [], ℕ, Some, sym, ap, ◌∙◌}
-use Rattle.std.specs.Option.{option_copied_mut}
-use Rattle.lol_vm.specs.Follows.{StartedElement}
+use Rattle.lol_vm.proofs.Common.{◌≡◌, ◌++◌, ◌∷◌, [], ℕ, Some, sym, ap, ◌∙◌, option_copied_mut, StartedElement}
 use Rattle.lol_vm.proofs.VmData.{data_change_nothing, data_with, last_data}
 use Rattle.lol_vm.proofs.event_run.number_opened.Goals as goal
 

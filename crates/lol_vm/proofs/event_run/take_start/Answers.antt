@@ -1,5 +1,4 @@
-use Rattle.std.proofs.Common.{◌≡◌, Result, Bool, Err, sym, ap, ◌∙◌, subst, true≢false}
-use Rattle.lol_vm.specs.Follows.{IsHandedOver}
+use Rattle.lol_vm.proofs.Common.{◌≡◌, Result, Bool, Err, sym, ap, ◌∙◌, subst, true≢false, IsHandedOver}
 use Rattle.lol_memory.specs.declared.limiter.MemoryLimitExceededError.{MemoryLimitExceededError}
 use Rattle.lol_vm.specs.declared.error.StartTagError.{StartTagError}
 use Rattle.lol_vm.specs.declared.error.StartTagError.TheVariants as refusals

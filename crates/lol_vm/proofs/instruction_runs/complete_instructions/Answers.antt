@@ -1,12 +1,9 @@
+use Rattle.lol_vm.proofs.Common.{Sight, sight, value_seen, NeedNoMemory, open_among, ◌≡◌, ◌+◌, ◌∷◌, arith, ap, rules, subst, sym, ◌∙◌, IfOk-weaker}
 use Rattle.std.proofs.lemmas.List.Elements.{All-tail}
 use Rattle.lol_instructions.specs.declared.instruction.Instruction.{Instruction}
-use Rattle.lol_instructions.specs.Compiled.{Sight, sight}
 use Rattle.lol_instructions.specs.Running.{tries_of_attributes}
-use Rattle.lol_vm.specs.InstructionRuns.{value_seen, NeedNoMemory, open_among}
 use Rattle.lol_vm.proofs.instruction_runs.complete_instructions.Given as given
-use Rattle.std.proofs.Common.{◌≡◌, ◌+◌, ◌∷◌, arith, ap, rules, subst, sym, ◌∙◌}
 use Rattle.std.proofs.lemmas.Grind.{common_steps}
-use Rattle.std.proofs.lemmas.Result.{IfOk-weaker}
 use Rattle.lol_vm.proofs.InstructionLists.{open_split}
 use Rattle.lol_vm.proofs.instruction_runs.complete_instructions.Goals as goal
 use Rattle.lol_vm.proofs.instruction_runs.complete_instructions.Goals.{in-Some-complete_exec_with_attrs+in_ok-add_execution_branch, in_default-complete_exec_with_attrs}

@@ -1,7 +1,4 @@
-use Rattle.std.proofs.Common.{◌≡◌, ◌+◌, ◌≤◌, drop, take}
-use Rattle.lol_instructions.specs.Compiled.{sight}
-use Rattle.lol_instructions.specs.Tries.{names_counted, attributes_counted}
-use Rattle.lol_vm.specs.InstructionRuns.{open_among, gathered_with_attributes}
+use Rattle.lol_vm.proofs.Common.{◌≡◌, ◌+◌, ◌≤◌, drop, take, sight, names_counted, attributes_counted, open_among, gathered_with_attributes}
 use Rattle.lol_vm.proofs.instruction_runs.exec_instructions.Given as goal
 
 abbrev pub invariant-loop-instruction : goal.invariant-loop-instruction

@@ -1,4 +1,4 @@
-use Rattle.std.proofs.Common.{◌≡◌, ◌+◌, ◌<◌, ◌^◌, arith, ap, rules}
+use Rattle.lol_vm.proofs.Common.{◌≡◌, ◌+◌, ◌<◌, ◌^◌, arith, ap, rules}
 use Rattle.lol_vm.proofs.instruction_runs.range_from.Goals as goal
 
 pub returns : goal.returns

@@ -1,7 +1,4 @@
-use Rattle.std.proofs.Common.{◌≡◌, ◌+◌, drop}
-use Rattle.lol_instructions.specs.Compiled.{sight}
-use Rattle.lol_instructions.specs.Tries.{names_counted, attributes_counted}
-use Rattle.lol_vm.specs.InstructionRuns.{first_open_from, gathered_by_names}
+use Rattle.lol_vm.proofs.Common.{◌≡◌, ◌+◌, drop, sight, names_counted, attributes_counted, first_open_from, gathered_by_names}
 use Rattle.lol_vm.proofs.instruction_runs.try_instructions.Given as goal
 
 abbrev pub invariant-loop-at : goal.invariant-loop-at

@@ -1,4 +1,4 @@
-use Rattle.lol_vm.specs.ReportLaws.{every_report}
+use Rattle.lol_vm.proofs.Common.{every_report}
 use Rattle.lol_vm.proofs.laws.reports_are_ascending_and_exact.Goals as goal
 
 pub returns : goal.returns

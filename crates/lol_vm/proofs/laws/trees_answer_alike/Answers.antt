@@ -1,6 +1,6 @@
+use Rattle.lol_vm.proofs.Common.{selectors}
 use Rattle.lol_program.specs.ClosedLaws.{trees_are_closed}
 use Rattle.lol_vm.specs.AnswerLaws.{order_changes_nothing}
-use Rattle.lol_vm.specs.Views.{selectors}
 use Rattle.lol_vm.proofs.laws.trees_answer_alike.Goals as goal
 
 pub returns : goal.returns

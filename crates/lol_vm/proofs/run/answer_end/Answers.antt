@@ -1,7 +1,5 @@
-use Rattle.std.proofs.Common.{rules, ◌≡◌, List, false, refl, map}
+use Rattle.lol_vm.proofs.Common.{rules, ◌≡◌, List, false, refl, map, map_push, StartedElement}
 use Rattle.std.proofs.lemmas.Fn.{chained_keeps}
-use Rattle.std.proofs.lemmas.List.{map_push}
-use Rattle.lol_vm.specs.Follows.{StartedElement}
 use Rattle.lol_vm.proofs.run.answer_end.Goals as goal
 
 pub returns-clause-goes : goal.returns-clause-goes

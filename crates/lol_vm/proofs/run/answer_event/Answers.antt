@@ -1,9 +1,4 @@
-use Rattle.std.proofs.Common.{refl, sym, ap, subst}
-use Rattle.std.proofs.lemmas.Result.{IfOk-weaker, on_err_weaker}
-use Rattle.lol_base.specs.StartTags.{StartTag}
-use Rattle.lol_vm.specs.EventRuns.{Goes}
-use Rattle.lol_vm.specs.Follows.{IsHandedOver}
-use Rattle.lol_vm.specs.Views.{event_of, tag_of}
+use Rattle.lol_vm.proofs.Common.{refl, sym, ap, subst, IfOk-weaker, on_err_weaker, StartTag, Goes, IsHandedOver, event_of, tag_of}
 use Rattle.lol_vm.proofs.run.answer_event.Goals.{then-finish, else-finish}
 use Rattle.lol_vm.proofs.run.answer_event.Goals as goal
 

@@ -1,14 +1,8 @@
-use Rattle.std.proofs.Common.{of_calls, ◌≡◌, ℕ, ◌+◌, ◌<◌, List, [], ◌∷◌, ◌++◌, ap, sym, subst, ◌∙◌, arith, map, take, drop, length, get_or, inr}
+use Rattle.lol_vm.proofs.Common.{of_calls, ◌≡◌, ℕ, ◌+◌, ◌<◌, List, [], ◌∷◌, ◌++◌, ap, sym, subst, ◌∙◌, arith, map, take, drop, length, get_or, inr, map_push, map-append, take_more, take_all, take-append-drop, length-map, length-take-le, answers, empty, Event, IsRunOf, refused, event_of, answer_of}
 use Rattle.std.proofs.lemmas.Fn.{FoldsTo-push}
-use Rattle.std.proofs.lemmas.List.{map_push, map-append, append_assoc, take_more, take_all, take-append-drop, length-map, length-take-le}
-use Rattle.lol_vm.specs.Answers.{answers}
+use Rattle.std.proofs.lemmas.List.{append_assoc}
 use Rattle.lol_vm.specs.AnswerLaws.{answers_append}
-use Rattle.lol_vm.specs.Documents.{empty}
-use Rattle.lol_vm.specs.Events.{Event}
-use Rattle.lol_vm.specs.EventRuns.{IsRunOf}
-use Rattle.lol_vm.specs.Refusals.{refused}
 use Rattle.lol_vm.specs.RunRefusals.{allowance_of, StopsBeforeLimit, StopsFor}
-use Rattle.lol_vm.specs.Views.{event_of, answer_of}
 use Rattle.lol_vm.specs.declared.events.TagEvent.{TagEvent}
 use Rattle.lol_vm.proofs.RefusedRuns.{stops_before_limit, stops_for}
 use Rattle.lol_vm.proofs.run.answer_events.Goals as goal

@@ -1,10 +1,5 @@
-use Rattle.std.proofs.Common.{ℕ, [], map, take}
-use Rattle.std.specs.Prelude.{Bool}
-use Rattle.lol_memory.specs.Limiter.{Limiter}
-use Rattle.lol_program.specs.Paths.{Selectors}
-use Rattle.lol_vm.specs.EventRuns.{IsRunOf}
+use Rattle.lol_vm.proofs.Common.{ℕ, [], map, take, Bool, Limiter, Selectors, IsRunOf, event_of}
 use Rattle.lol_vm.specs.Handlers.{IsCalledWithAnswers}
-use Rattle.lol_vm.specs.Views.{event_of}
 use Rattle.lol_vm.proofs.run.answer_events.Given as goal
 
 abbrev pub invariant-loop-number : goal.invariant-loop-number

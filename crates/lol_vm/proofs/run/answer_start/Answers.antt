@@ -1,10 +1,6 @@
-use Rattle.std.proofs.Common.{rules, ◌≡◌, List, false, refl, sym, ap, ◌∙◌}
+use Rattle.lol_vm.proofs.Common.{rules, ◌≡◌, List, false, refl, sym, ap, ◌∙◌, answer_taken, machine_of, Start, answer_of, tries_in}
 use Rattle.std.proofs.lemmas.Fn.{chained_keeps}
 use Rattle.lol_memory.specs.declared.match_info.MatchInfo.{MatchInfo}
-use Rattle.lol_vm.specs.EventRuns.{answer_taken, machine_of}
-use Rattle.lol_vm.specs.Events.{Start}
-use Rattle.lol_vm.specs.Views.{answer_of}
-use Rattle.lol_vm.specs.Vms.{tries_in}
 use Rattle.lol_vm.proofs.RunSteps.{stops_answered}
 use Rattle.lol_vm.proofs.RefusedRuns.{none_refused}
 use Rattle.lol_vm.proofs.run.answer_start.Goals.{in-None, in-Some}

@@ -1,10 +1,5 @@
-use Rattle.std.proofs.Common.{◌≡◌, ◌≤◌, ◌<◌, ◌^◌, ◌-◌, ℕ, Bool, [], map, ap, sym, ◌∙◌, arith}
-use Rattle.std.proofs.lemmas.Result.{on_ok_weaker, IfErr-weaker}
-use Rattle.lol_memory.specs.Limiter.{Limiter}
-use Rattle.lol_program.specs.Paths.{Selectors}
-use Rattle.lol_vm.specs.EventRuns.{IsRunOf}
+use Rattle.lol_vm.proofs.Common.{◌≡◌, ◌≤◌, ◌<◌, ◌^◌, ◌-◌, ℕ, Bool, [], map, ap, sym, ◌∙◌, arith, on_ok_weaker, IfErr-weaker, Limiter, Selectors, IsRunOf, event_of, selectors}
 use Rattle.lol_vm.specs.RunRefusals.{allowance_of}
-use Rattle.lol_vm.specs.Views.{event_of, selectors}
 use Rattle.lol_vm.specs.declared.event_run.EventRun.{EventRun}
 use Rattle.lol_vm.proofs.RefusedRuns.{stops_at_once}
 use Rattle.lol_vm.proofs.RunSteps.{released}

@@ -1,7 +1,5 @@
-use Rattle.std.proofs.Common.{◌∷◌, [], refl, arith}
+use Rattle.lol_vm.proofs.Common.{◌∷◌, [], refl, arith, document, End}
 use Rattle.std.proofs.lemmas.List.{length-append}
-use Rattle.lol_vm.specs.Answers.{document}
-use Rattle.lol_vm.specs.Events.{End}
 use Rattle.lol_vm.proofs.RunSteps.{follows_on, uncharged, numbers_kept, numbers_handed}
 use Rattle.lol_vm.proofs.VmRefusals.{stands_has_open}
 use Rattle.lol_vm.proofs.event_run.EventRun.end.Goals as goal

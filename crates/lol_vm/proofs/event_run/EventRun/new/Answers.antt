@@ -1,5 +1,4 @@
-use Rattle.std.proofs.Common.{arith, refl}
-use Rattle.lol_vm.specs.Views.{selectors}
+use Rattle.lol_vm.proofs.Common.{arith, refl, selectors}
 use Rattle.lol_vm.proofs.RunSteps.{starts}
 use Rattle.lol_vm.proofs.event_run.EventRun.new.Goals as goal
 

@@ -1,8 +1,4 @@
-use Rattle.std.proofs.Common.{◌-◌, ◌*◌, sym, ap, ◌∙◌, arith}
-use Rattle.std.proofs.lemmas.Result.{err_from_is_err_and}
-use Rattle.lol_memory.specs.Limiter.{charged}
-use Rattle.lol_vm.specs.Events.{Start}
-use Rattle.lol_vm.specs.Vms.{slots_charged, slot_bytes}
+use Rattle.lol_vm.proofs.Common.{◌-◌, ◌*◌, sym, ap, ◌∙◌, arith, err_from_is_err_and, charged, Start, slots_charged, slot_bytes}
 use Rattle.lol_vm.specs.declared.event_run.EventRun.{EventRun}
 use Rattle.lol_vm.specs.declared.events.RunCause.TheVariants.{Memory}
 use Rattle.lol_vm.proofs.RefusedRuns.{stops_for}

@@ -1,9 +1,4 @@
-use Rattle.std.proofs.Common.{ℕ, ◌≡◌, ◌<◌, ◌+◌, length, drop, arith, refl, ap}
-use Rattle.std.specs.declared.ops.Range.{Range}
-use Rattle.std.proofs.lemmas.Result.{IfOk-weaker}
-use Rattle.lol_instructions.specs.Compiled.{sight}
-use Rattle.lol_vm.specs.InstructionRuns.{AreRunnable, instructions_at}
-use Rattle.lol_vm.specs.TagRuns.{IsStopIn, ranges_of, ranges_from, rest_of}
+use Rattle.lol_vm.proofs.Common.{ℕ, ◌≡◌, ◌<◌, ◌+◌, length, drop, arith, refl, ap, Range, IfOk-weaker, sight, AreRunnable, instructions_at, IsStopIn, ranges_of, ranges_from, rest_of}
 use Rattle.lol_vm.proofs.InstructionLists.{length_split, open_at_most, opens_split, others_run}
 use Rattle.lol_vm.proofs.TagRuns.{executed_from, rest_lent, rest_some, within_from}
 use Rattle.lol_vm.proofs.VmRefusals.{err_is_not_ok}

@@ -1,7 +1,4 @@
-use Rattle.std.proofs.Common.{◌≡◌, ◌<◌, drop, arith, sym, ap, ◌∙◌, subst, length}
-use Rattle.lol_instructions.specs.Compiled.{sight}
-use Rattle.lol_vm.specs.InstructionRuns.{NeedNoMemory, AreRunnable}
-use Rattle.lol_vm.specs.TagRuns.{ranges_of}
+use Rattle.lol_vm.proofs.Common.{◌≡◌, ◌<◌, drop, arith, sym, ap, ◌∙◌, subst, length, sight, NeedNoMemory, AreRunnable, ranges_of}
 use Rattle.lol_vm.proofs.InstructionLists.{open_at_most, attributes_next, length_split, opens_split, others_run}
 use Rattle.lol_vm.proofs.TagRuns.{first_left, part_is}
 use Rattle.lol_vm.proofs.VmRefusals.{err_is_not_ok}

@@ -1,8 +1,4 @@
-use Rattle.std.proofs.Common.{◌≡◌, ◌+◌, drop, length}
-use Rattle.lol_instructions.specs.Compiled.{sight}
-use Rattle.lol_instructions.specs.Tries.{names_counted, attributes_counted}
-use Rattle.lol_vm.specs.InstructionRuns.{AreRunnable, all_at, open_among, gathered_with_attributes}
-use Rattle.lol_vm.specs.TagRuns.{ranges_of}
+use Rattle.lol_vm.proofs.Common.{◌≡◌, ◌+◌, drop, length, sight, names_counted, attributes_counted, AreRunnable, all_at, open_among, gathered_with_attributes, ranges_of}
 use Rattle.lol_vm.proofs.tag_runs.TagRun.exec_from.Given as goal
 
 abbrev pub invariant-loop-index : goal.invariant-loop-index

@@ -1,10 +1,6 @@
-use Rattle.std.proofs.Common.{◌≡◌, ◌+◌, ◌-◌, ◌∷◌, ℕ, length, get_or, arith, sym, ap, ◌∙◌}
-use Rattle.std.specs.declared.ops.Range.{Range}
+use Rattle.lol_vm.proofs.Common.{◌≡◌, ◌+◌, ◌-◌, ◌∷◌, ℕ, length, get_or, arith, sym, ap, ◌∙◌, Range, get_or-append-add, ranges_of_active, ranges_of}
 use Rattle.std.proofs.Math.ListN.{get_or-map}
-use Rattle.std.proofs.lemmas.List.{get_or-append-add}
 use Rattle.lol_stack.specs.WithRange.{no_range}
-use Rattle.lol_vm.specs.Machines.{ranges_of_active}
-use Rattle.lol_vm.specs.TagRuns.{ranges_of}
 use Rattle.lol_vm.proofs.tag_runs.TagRun.range.Goals as goal
 
 pub returns-then-index-hereditary : goal.returns-then-index-hereditary

@@ -1,8 +1,4 @@
-use Rattle.std.proofs.Common.{◌≡◌, ◌+◌, ◌<◌, length, take, drop, arith, sym, ap, Some, None, ◌∙◌, subst}
-use Rattle.lol_instructions.specs.Compiled.{sight}
-use Rattle.lol_instructions.specs.Tries.{names_counted}
-use Rattle.lol_vm.specs.InstructionRuns.{NeedNoMemory, AreRunnable, all_at, instructions_at, tried_until, first_open_from}
-use Rattle.lol_vm.specs.TagRuns.{ranges_of}
+use Rattle.lol_vm.proofs.Common.{◌≡◌, ◌+◌, ◌<◌, length, take, drop, arith, sym, ap, Some, None, ◌∙◌, subst, sight, names_counted, NeedNoMemory, AreRunnable, all_at, instructions_at, tried_until, first_open_from, ranges_of}
 use Rattle.lol_vm.proofs.TagRuns.{first_left, part_is, length_next, tried_within}
 use Rattle.lol_vm.proofs.InstructionLists.{names_here, names_next, others_run, stop_here, stop_next}
 use Rattle.lol_vm.proofs.VmRefusals.{err_is_not_ok}

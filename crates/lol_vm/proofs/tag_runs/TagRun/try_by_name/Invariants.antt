@@ -1,8 +1,4 @@
-use Rattle.std.proofs.Common.{◌≡◌, ◌+◌, drop, take, length}
-use Rattle.lol_instructions.specs.Compiled.{sight}
-use Rattle.lol_instructions.specs.Tries.{names_counted, attributes_counted}
-use Rattle.lol_vm.specs.InstructionRuns.{AreRunnable, all_at, first_open_from, gathered_by_names}
-use Rattle.lol_vm.specs.TagRuns.{ranges_of}
+use Rattle.lol_vm.proofs.Common.{◌≡◌, ◌+◌, drop, take, length, sight, names_counted, attributes_counted, AreRunnable, all_at, first_open_from, gathered_by_names, ranges_of}
 use Rattle.lol_vm.proofs.tag_runs.TagRun.try_by_name.Given as goal
 
 abbrev pub invariant-loop-index : goal.invariant-loop-index

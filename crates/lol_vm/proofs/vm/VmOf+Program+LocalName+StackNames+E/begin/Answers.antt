@@ -1,8 +1,7 @@
-use Rattle.std.proofs.Common.{◌≡◌, arith, Err, refl, ap, ◌∙◌, subst}
+use Rattle.lol_vm.proofs.Common.{◌≡◌, arith, Err, refl, ap, ◌∙◌, subst, Vm, slot_bytes}
 use Rattle.lol_stack.specs.declared.stack.AddChildError.TheVariants.{CounterFull}
 use Rattle.lol_vm.specs.TriedStarts.{IsTried}
 use Rattle.lol_vm.specs.VmErrors.{refused_child}
-use Rattle.lol_vm.specs.Vms.{Vm, slot_bytes}
 use Rattle.lol_vm.proofs.FreeTags.{free_if, has_none_typed, small_if}
 use Rattle.lol_vm.proofs.TriedStarts.{Trial, most_tried, never_refused, trial_of}
 use Rattle.lol_vm.proofs.VmStarts.{none_tried}

@@ -1,5 +1,4 @@
-use Rattle.std.proofs.Common.{refl, sym, ap, ◌∙◌, subst}
-use Rattle.lol_stack.specs.Stacks.{items_in, closed_from, element_data_of, place_to_close, IsEnded}
+use Rattle.lol_vm.proofs.Common.{refl, sym, ap, ◌∙◌, subst, items_in, closed_from, element_data_of, place_to_close, IsEnded}
 use Rattle.lol_vm.proofs.VmRefusals.{ends_data, has_open_ended, stands_ended}
 use Rattle.lol_vm.proofs.vm.VmOf+Program+LocalName+StackNames+E.exec_for_end_tag.Goals as goal
 

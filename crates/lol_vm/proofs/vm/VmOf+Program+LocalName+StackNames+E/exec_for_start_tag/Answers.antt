@@ -1,11 +1,5 @@
-use Rattle.std.proofs.Common.{None, ◌≡◌, arith, false, inl, inr, Err, refl, sym, ap, ◌∙◌, subst}
-use Rattle.std.specs.Option.{IsNone}
-use Rattle.lol_base.specs.LocalNames.{Name, local_name}
-use Rattle.lol_stack.specs.declared.stack.StackOf.{StackOf}
-use Rattle.lol_stack.specs.declared.stack.StackNames.{StackNames}
-use Rattle.lol_stack.specs.Stacks.{list_in}
+use Rattle.lol_vm.proofs.Common.{None, ◌≡◌, arith, false, inl, inr, Err, refl, sym, ap, ◌∙◌, subst, IsNone, Name, local_name, StackOf, StackNames, list_in, IsTriedAtMost}
 use Rattle.lol_vm.specs.Due.{IsDue}
-use Rattle.lol_vm.specs.Vms.{IsTriedAtMost}
 use Rattle.lol_vm.specs.VmErrors.{IsAskedOrFull}
 use Rattle.lol_vm.specs.declared.error.StartTagError.TheVariants as refusals
 use Rattle.lol_vm.specs.declared.error.VmError.{VmError}

@@ -1,7 +1,6 @@
-use Rattle.std.proofs.Common.{◌≡◌, arith, false, inl, inr, Err, refl, sym, ap, ◌∙◌, subst}
+use Rattle.lol_vm.proofs.Common.{◌≡◌, arith, false, inl, inr, Err, refl, sym, ap, ◌∙◌, subst, IsTriedAtMost}
 use Rattle.lol_memory.specs.declared.limited_vec.PushError.TheVariants as pushes
 use Rattle.lol_vm.specs.Due.{IsDue}
-use Rattle.lol_vm.specs.Vms.{IsTriedAtMost}
 use Rattle.lol_vm.specs.declared.error.StartTagError.TheVariants as refusals
 use Rattle.lol_vm.proofs.CallerLemmas.{charges_both, charges_unopened}
 use Rattle.lol_vm.proofs.FreeTags.{memory_instead, void_is_closed}

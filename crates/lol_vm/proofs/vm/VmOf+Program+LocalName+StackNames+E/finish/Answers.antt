@@ -1,25 +1,11 @@
-use Rattle.std.proofs.Common.{true, inr, refl, sym, ◌∙◌, subst, Bool, List}
+use Rattle.lol_vm.proofs.Common.{true, inr, refl, sym, ◌∙◌, subst, Bool, List, on_err_weaker, StartTag, tag_attributes, Selectors, ExecutionCtx, Event, has_content, AreRunnable, NeedNoMemory, AreExecuted, AreWithin, IsPointIn, ranges_left, ranges_to_run_in, sight_in, tried_at, IsPending, IsRestOf, IsTriedAtMost, content_at, document, element_of, context_of, ranges_of_machine, all_places}
 use Rattle.std.specs.Result.{IfOk, IsOk}
-use Rattle.std.proofs.lemmas.Result.{on_err_weaker}
-use Rattle.lol_base.specs.StartTags.{StartTag}
-use Rattle.lol_instructions.specs.Attributes.{tag_attributes}
-use Rattle.lol_program.specs.Paths.{Selectors}
-use Rattle.lol_stack.specs.declared.execution_ctx.ExecutionCtx.{ExecutionCtx}
 use Rattle.lol_memory.specs.declared.limited_vec.PushError.TheVariants as pushes
-use Rattle.lol_vm.specs.Events.{Event, has_content}
-use Rattle.lol_vm.specs.InstructionRuns.{AreRunnable, NeedNoMemory}
-use Rattle.lol_vm.specs.TagRuns.{AreExecuted, AreWithin, IsPointIn, ranges_left, ranges_to_run_in, sight_in, tried_at}
 use Rattle.lol_vm.specs.TriedStarts.{left_at}
-use Rattle.lol_vm.specs.Vms.{IsPending, IsRestOf, IsTriedAtMost, content_at}
 use Rattle.lol_vm.proofs.FreeTags.{finished_closed, is_alone_free, is_closed_free, memory_instead, void_is_closed}
 use Rattle.lol_vm.proofs.TagRuns.{of_same}
 use Rattle.lol_vm.proofs.VmFinishes.{answered_now, can_finish, complete, tried_at_most}
 use Rattle.lol_vm.proofs.VmStarts.{IsComplete, reported}
-use Rattle.lol_vm.specs.Answers.{document}
-use Rattle.lol_vm.specs.Documents.{element_of}
-use Rattle.lol_vm.specs.PlaceRuns.{context_of}
-use Rattle.lol_vm.specs.Standing.{ranges_of_machine}
-use Rattle.lol_program.specs.Programs.{all_places}
 use Rattle.lol_vm.proofs.VmRefusals.{err_is_not_ok, not_false, on_ok_both, opens_nothing_both, same_opens_nothing}
 use Rattle.lol_vm.proofs.vm.VmOf+Program+LocalName+StackNames+E.finish.Given as given
 use Rattle.lol_vm.proofs.vm.VmOf+Program+LocalName+StackNames+E.finish.Goals as goal

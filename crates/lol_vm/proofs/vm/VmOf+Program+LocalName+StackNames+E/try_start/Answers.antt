@@ -1,8 +1,5 @@
-use Rattle.std.proofs.Common.{refl, ap, ◌∙◌, subst, Ok, Some}
+use Rattle.lol_vm.proofs.Common.{refl, ap, ◌∙◌, subst, Ok, Some, ExecutionCtx, AreRunnable, AreTried, AreWithin, ranges_to_run_in, sight_in}
 use Rattle.std.specs.Result.{IfOk}
-use Rattle.lol_stack.specs.declared.execution_ctx.ExecutionCtx.{ExecutionCtx}
-use Rattle.lol_vm.specs.InstructionRuns.{AreRunnable}
-use Rattle.lol_vm.specs.TagRuns.{AreTried, AreWithin, ranges_to_run_in, sight_in}
 use Rattle.lol_vm.specs.declared.tag_runs.RecoveryPoint.TheVariants.{At}
 use Rattle.lol_vm.proofs.Directives.{html_tag}
 use Rattle.lol_vm.proofs.TagRuns.{of_same}
