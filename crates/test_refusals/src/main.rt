@@ -6,6 +6,7 @@
 mod attributes;
 mod compiling;
 mod element;
+mod explained;
 mod lists;
 mod machines;
 mod matchers;
@@ -22,7 +23,7 @@ use std::io::Read;
 use std::process::ExitCode;
 
 /// The names of the scenarios.
-const NAMES: [&str; 32] = [
+const NAMES: [&str; 33] = [
     "from_str",
     "css_string",
     "to_boxed_slice",
@@ -55,6 +56,7 @@ const NAMES: [&str; 32] = [
     "run_past_the_limit",
     "attributes_push",
     "matcher",
+    "explained",
 ];
 
 fn main(rt: HostRuntime) -> ExitCode {
@@ -108,6 +110,7 @@ fn part(alloc: Global, name: &str) -> Result<Met, Stop> {
     match name {
         "attributes_push" => attributes::attributes_push(alloc),
         "matcher" => matchers::matcher(alloc),
+        "explained" => explained::explained(alloc),
         "push" => lists::push(alloc),
         "push_item" => stacks::push_item(alloc),
         "stack_add_child" => stacks::stack_add_child(alloc),

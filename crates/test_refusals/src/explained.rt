@@ -1,0 +1,105 @@
+//! Reasons of a machine's report.
+
+use crate::element::{Element, ITEM_BYTES};
+use crate::outcome::{Met, Stop, TURNS, expect};
+use crate::trees::read;
+use lol_reasons::{Explainer, Numbering, NumberingError, Reason, Texts};
+use lol_vm::{LocalName, MatchInfo, Namespace, SelectorMatchingVm, SharedMemoryLimiter, VmError};
+use std::alloc::Global;
+
+type Machine = SelectorMatchingVm<Element>;
+
+/// `div p, p` under 7, the start tags `div` and `p`, and why the second is reported. A call that is refused is made again, and answers as
+/// if it hadn't been.
+pub(crate) fn explained(alloc: Global) -> Result<Met, Stop> {
+    let mut texts = Texts::new(alloc);
+    let added = add_in_turn(alloc, &mut texts)?;
+    let (numbering, numbered) = number_in_turn(&texts)?;
+    let Numbering { ast, mut explainer } = numbering;
+    let mut vm = Machine::new(alloc, ast, ITEM_BYTES, false)?;
+    let given = explain(&mut vm, &mut explainer);
+    vm.discard();
+    let met = [added, numbered, given?].contains(&Met::Refusal);
+    Ok(if met { Met::Refusal } else { Met::Nothing })
+}
+
+/// Makes the table of the machine's program, tells of the tags, and asks for the reasons.
+fn explain(vm: &mut Machine, explainer: &mut Explainer) -> Result<Met, Stop> {
+    let indexed = index_in_turn(explainer, vm)?;
+    tell(vm)?;
+    let given = reasons_in_turn(explainer, vm)?;
+    Ok(if indexed == Met::Refusal {
+        indexed
+    } else {
+        given
+    })
+}
+
+fn add_in_turn(alloc: Global, texts: &mut Texts) -> Result<Met, Stop> {
+    for met in TURNS {
+        let selector = read(alloc, "div p, p")?;
+        if texts.add(7, selector).is_ok() {
+            return Ok(met);
+        }
+    }
+    Err(Stop::Wrong)
+}
+
+fn number_in_turn(texts: &Texts) -> Result<(Numbering, Met), Stop> {
+    for met in TURNS {
+        match texts.number_items() {
+            Ok(numbering) => return Ok((numbering, met)),
+            Err(error) => expect(error == NumberingError::Memory)?,
+        }
+    }
+    Err(Stop::Wrong)
+}
+
+fn index_in_turn(explainer: &mut Explainer, vm: &Machine) -> Result<Met, Stop> {
+    for met in TURNS {
+        if explainer.index(vm.program()).is_ok() {
+            return Ok(met);
+        }
+    }
+    Err(Stop::Wrong)
+}
+
+/// Tells a machine of the two start tags; the memory is the scenario's own.
+fn tell(vm: &mut Machine) -> Result<(), Stop> {
+    let mut limiter = SharedMemoryLimiter::new(1_000_000);
+    let mut handler = |_: MatchInfo| {};
+    for name in [b"div".as_slice(), b"p"] {
+        let name = LocalName::new(name);
+        match vm.exec_for_start_tag(name, Namespace::Html, &mut limiter, &mut handler) {
+            Ok(()) => (),
+            Err(VmError::Memory(_)) => return Err(Stop::Own),
+            Err(_) => return Err(Stop::Wrong),
+        }
+    }
+    Ok(())
+}
+
+/// The reasons for the second tag, which both items match.
+fn reasons_in_turn(explainer: &Explainer, vm: &Machine) -> Result<Met, Stop> {
+    for met in TURNS {
+        if let Ok(reasons) = explainer.reasons(vm, &[0, 1], 1, &[0]) {
+            expect(are_both(&reasons))?;
+            return Ok(met);
+        }
+    }
+    Err(Stop::Wrong)
+}
+
+fn are_both(reasons: &[Reason]) -> bool {
+    let [first, second] = reasons else {
+        return false;
+    };
+    is_for(first, 0, &[1, 0]) && is_for(second, 1, &[1])
+}
+
+fn is_for(reason: &Reason, item: usize, witness: &[usize]) -> bool {
+    reason.item.id == 7
+        && reason.item.text == 0
+        && reason.item.item == item
+        && reason.witness.as_slice() == witness
+}
