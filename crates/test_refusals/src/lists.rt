@@ -41,19 +41,36 @@ fn insert_in_turn(set: &mut DenseHashSet) -> Result<Met, Stop> {
     Err(Stop::Wrong)
 }
 
+/// The ids of a set, those of another, and those of both.
+type Union = (&'static [u32], &'static [u32], &'static [u32]);
+
+/// Ids near one another and ids far apart, the other way round, and two of ids far apart that are near one another together.
+const UNIONS: [Union; 3] = [
+    (&[33, 70], &[1, 70, 1000], &[1, 33, 70, 1000]),
+    (&[1, 1000], &[33, 70], &[1, 33, 70, 1000]),
+    (&[160, 1000], &[320, 640, 960], &[160, 320, 640, 960, 1000]),
+];
+
 pub(crate) fn union(alloc: Global) -> Result<Met, Stop> {
-    let mut set = set_of(alloc, &[33, 70])?;
-    let other = set_of(alloc, &[1, 70, 1000])?;
-    unite_in_turn(&mut set, &other)
+    let mut met = Met::Nothing;
+    for row in &UNIONS {
+        if united_in_turn(alloc, row)? == Met::Refusal {
+            met = Met::Refusal;
+        }
+    }
+    Ok(met)
 }
 
-fn unite_in_turn(set: &mut DenseHashSet, other: &DenseHashSet) -> Result<Met, Stop> {
+fn united_in_turn(alloc: Global, row: &Union) -> Result<Met, Stop> {
+    let (ids, others, both) = *row;
+    let mut set = set_of(alloc, ids)?;
+    let other = set_of(alloc, others)?;
     for met in TURNS {
-        if set.union(other).is_ok() {
-            expect(has(set, &[1, 33, 70, 1000]))?;
+        if set.union(&other).is_ok() {
+            expect(has(&set, both))?;
             return Ok(met);
         }
-        expect(has(set, &[33, 70]) && has(other, &[1, 70, 1000]))?;
+        expect(has(&set, ids) && has(&other, others))?;
     }
     Err(Stop::Wrong)
 }
