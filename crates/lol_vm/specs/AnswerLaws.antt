@@ -37,7 +37,7 @@ module _ (s : Selectors) (esi : Bool) where
 
 module _ (s t : Selectors) (esi : Bool) (same_ids : (e : Element) (outer : List Element) → matching_ids s.pairs e outer ≡ matching_ids t.pairs e outer)
     (same_asks : (e : Element) (outer : List Element) → asks s e outer ≡ asks t e outer) (same_counts : (p : Path → Bool) → count_by p s.nodes ≡ count_by p t.nodes) where
-  same_answer : (d : Document) (event : Event) → answer s esi d event ≡ answer t esi d event
+  pub same_answer : (d : Document) (event : Event) → answer s esi d event ≡ answer t esi d event
   same_answer d (Start tag) =
       let e = element_of d tag in
       let outer = d.open_elements in
@@ -73,18 +73,18 @@ module _ (s t : Selectors) (same : SameSelectors s t) (esi : Bool) where
     same_ids : matching_ids s.pairs e outer ≡ matching_ids t.pairs e outer
     same_ids = matching_ids-same e outer s.pairs t.pairs (among_too s.pairs t.pairs (λ p. (same.pairs p).0)) (among_too t.pairs s.pairs (λ p. (same.pairs p).1))
 
-    same_asks : asks s e outer ≡ asks t e outer
+    pub same_asks : asks s e outer ≡ asks t e outer
     same_asks =
         ap (λ b. not (is_html e.tag.namespace) || b)
         (same_bool _ _ (passes_too (needs_attributes e outer) s.nodes t.nodes (λ n. (same.nodes n).0)) (passes_too (needs_attributes e outer) t.nodes s.nodes (λ n. (same.nodes n).1)))
 
-  same_tries : (p : Path → Bool) → count_by p s.nodes ≡ count_by p t.nodes
+  pub same_tries : (p : Path → Bool) → count_by p s.nodes ≡ count_by p t.nodes
   same_tries p = same_count p s.nodes t.nodes (distinct_from_pairs s.nodes same.each_once) (distinct_from_pairs t.nodes same.each_once') (among_too s.nodes t.nodes (λ n. (same.nodes n).0)) (among_too t.nodes s.nodes (λ n. (same.nodes n).1))
 
-  after_same : (d : Document) (event : Event) → after s esi d event ≡ after t esi d event
+  pub after_same : (d : Document) (event : Event) → after s esi d event ≡ after t esi d event
   after_same = same_after s t esi same_ids same_asks same_tries
 
-  same_refusal : (a : Allowance) (d : Document) (most : ℕ) (event : Event) → refusal s esi a d most event ≡ refusal t esi a d most event
+  pub same_refusal : (a : Allowance) (d : Document) (most : ℕ) (event : Event) → refusal s esi a d most event ≡ refusal t esi a d most event
   same_refusal a d most (Start tag) =
       λ i. cond (nat_lt greatest_count (element_of d tag).position) (Some Counter) (cond (exceeds a (max most (length (after_same d (Start tag) i).open_elements))) (Some Limit) None)
   same_refusal a d most (End name) = refl

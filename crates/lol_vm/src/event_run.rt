@@ -124,6 +124,13 @@ impl EventRun {
         Ok(())
     }
 
+    /// The run's machine, whose open elements have the numbers of their start tags as values: what reasons are read from.
+    pub fn machine(&self) -> &SelectorMatchingVm<ElementValue<usize>>
+        ensures { result.now ≡ machine_of self.now }
+    {
+        &self.vm
+    }
+
     /// What was tried for the last start tag.
     pub fn tries(&self) -> Tries
         ensures { result ≡ tries_in (machine_of self.now) }
