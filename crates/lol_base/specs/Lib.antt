@@ -13,3 +13,6 @@ pub mod BoolLaws
 pub mod ListLaws
 pub mod MemberLaws
 pub mod PlaceLaws
+pub mod CountLaws
+pub mod Ascending
+pub mod AscendingLaws

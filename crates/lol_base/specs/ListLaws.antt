@@ -1,6 +1,6 @@
 -- Laws of lists that are gone through element by element.
-use Rattle.std.proofs.Common.{◌≡◌, ℕ, zero, suc, ◌+◌, ◌<◌, ◌≤◌, arith, Bool, true, false, ◌&&◌, ◌||◌, List, [], ◌∷◌, ◌++◌, length, get_or, take, map, reverse, refl, sym, ap, ◌∙◌, ⊎_elim}
-use Rattle.std.specs.List.{list_all, list_any}
+use Rattle.std.proofs.Common.{◌≡◌, ℕ, zero, suc, ◌+◌, ◌<◌, ◌≤◌, arith, Bool, true, false, ◌&&◌, ◌||◌, List, [], ◌∷◌, ◌++◌, length, get_or, take, map, reverse, position, cond, not, Some, None, nat_lt, refl, sym, ap, ◌∙◌, ⊎_elim}
+use Rattle.std.specs.List.{list_all, list_any, position_or_len}
 use Rattle.std.proofs.lemmas.Bool.{cases_lt}
 use Rattle.std.proofs.lemmas.List.{take_more, take_all, map-append, length-map, get_or-map, reverse-append}
 use Rattle.std.proofs.lemmas.List.Folds.{list_all_more, list_any_more}
@@ -78,3 +78,12 @@ pub reverse-map : {A B : Type 0} (f : A → B) (xs : List A) → reverse (map f 
 reverse-map f [] = refl
 reverse-map f (x ∷ xs) =
     reverse-append (f x ∷ []) (map f xs) ∙ ap (λ l. l ++ f x ∷ []) (reverse-map f xs) ∙ sym (map-append f (reverse xs) (x ∷ [])) ∙ ap (map f) (sym (reverse-append (x ∷ []) xs))
+
+-- the first place at which a mapped list passes
+module _ {A B : Type 0} (p : B → Bool) (f : A → B) where
+  place-map : (xs : List A) → position_or_len p (map f xs) ≡ position_or_len (λ x. p (f x)) xs
+  place-map [] = refl
+  place-map (x ∷ xs) = λ i. cond (not (p (f x))) (1 + place-map xs i) 0
+
+  pub position-map : (xs : List A) → position p (map f xs) ≡ position (λ x. p (f x)) xs
+  position-map xs = λ i. cond (nat_lt (place-map xs i) (length-map xs f i)) (Some (place-map xs i)) None

@@ -41,3 +41,8 @@ module _ {A : Type 0} where
   within_at [] k h = absurd (omega (arith, h))
   within_at (y ∷ xs) zero h = (y, refl)
   within_at (y ∷ xs) (suc k) h = within_at xs k (omega (arith, h))
+
+  pub among_at : (xs : List A) (x : A) → Among xs x → (k : ℕ) × (slice_get xs k ≡ Some x)
+  among_at [] x h = absurd h
+  among_at (y ∷ xs) x (inl is) = (0, ap Some is)
+  among_at (y ∷ xs) x (inr h) = let rest = among_at xs x h in (suc rest.0, rest.1)

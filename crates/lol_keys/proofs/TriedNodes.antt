@@ -1,5 +1,6 @@
 -- What is tried by keys.
 use Rattle.std.proofs.Common.{◌≡◌, ℕ, ◌+◌, Bool, true, false, cond, not, ◌&&◌, ◌||◌, List, [], ◌∷◌, map, filter, length, refl, sym, ap, ◌∙◌, arith, Option, Some, None}
+use Rattle.lol_base.specs.Ascending.{ascending_once}
 use Rattle.std.specs.Prelude.{count_by, sum_by}
 use Rattle.std.specs.List.{list_any}
 use Rattle.std.proofs.lemmas.List.Sums.{sum_by-cons, length-filter}
@@ -15,7 +16,7 @@ use Rattle.lol_program.specs.ValueLaws.{values_decide}
 use Rattle.lol_vm.specs.Matching.{matches, left_matches}
 use Rattle.lol_vm.specs.Events.{Event, Start, End}
 use Rattle.lol_vm.specs.Documents.{Document, element_of}
-use Rattle.lol_vm.specs.Answers.{Started, Dropped, report, is_dropped, answer, after, answers_from, name_tries, attribute_tries, ascending_once, needs_attributes, asks}
+use Rattle.lol_vm.specs.Answers.{Started, Dropped, report, is_dropped, answer, after, answers_from, name_tries, attribute_tries, needs_attributes, asks}
 use Rattle.lol_keys.specs.Keys.{Keys, is_another_name, is_ruled_out_by_name, is_ruled_out_by_attributes, no_keys}
 use Rattle.lol_keys.specs.KeyTries.{AreRight, is_left_by_name, is_left_open, asks_at_once, is_left, is_tried, name_tries_by_keys, tries_attributes, attribute_tries_by_keys, Without, Completing, With, one_if, name_counted, attribute_counted, calls_by_names, calls_in, needs_them, answer_by_keys, answers_by_keys_from}
 use Rattle.lol_keys.specs.KeyLaws.{KeysAreRight, MatchingNodesAreTried, TriedPairsGiveIds, NamesKeepAsks, AsksByTries, FirstStepSeesNoRest, TriesAreAtMost, TriesAndSparedAreAll, CallsAreCounted, CallsAskWhereAsked, OrderChangesNoTries, NoKeysAreExact, Spares, AllSpare, AnswersAreSparing}

@@ -1,5 +1,6 @@
 -- The numbers of the items that match.
 use Rattle.std.proofs.Common.{◌≡◌, ℕ, zero, suc, ◌+◌, ◌<◌, Bool, true, false, cond, List, [], ◌∷◌, ◌++◌, length, map, filter, Option, None, inl, inr, refl, sym, ap, ◌∙◌, subst, arith}
+use Rattle.lol_base.specs.Ascending.{with_number, ascending_once}
 use Rattle.std.specs.Prelude.{filter_map, ◌==◌}
 use Rattle.std.specs.List.{cons_option}
 use Rattle.std.proofs.lemmas.Bool.Decides.{Decides-ltb}
@@ -8,7 +9,7 @@ use Rattle.lol_base.specs.PlaceLaws.{some_is}
 use Rattle.lol_instructions.specs.Tests.{Element}
 use Rattle.lol_program.specs.Paths.{Path}
 use Rattle.lol_program.specs.Programs.{IsAt}
-use Rattle.lol_vm.specs.Answers.{with_number, ascending_once, matching_ids}
+use Rattle.lol_vm.specs.Answers.{matching_ids}
 use Rattle.lol_vm.specs.Matching.{matches}
 use Rattle.lol_reasons.specs.Explanations.{Added, added_items}
 use Rattle.lol_reasons.specs.Numbered.{numbered_from}

@@ -1,5 +1,6 @@
 -- Reasons, and the report that they give.
 use Rattle.std.proofs.Common.{◌≡◌, ℕ, ◌+◌, Bool, true, false, cond, List, [], ◌∷◌, ◌++◌, map, filter, Option, Some, None, inl, inr, refl, sym, ap, ◌∙◌, subst}
+use Rattle.lol_base.specs.Ascending.{ascending_once}
 use Rattle.std.specs.Prelude.{is_some, flat_map}
 use Rattle.std.specs.Option.{option_map}
 use Rattle.std.specs.List.{cons_option}
@@ -12,7 +13,7 @@ use Rattle.lol_vm.specs.Matching.{matches}
 use Rattle.lol_program.specs.Sets.{SameMembers}
 use Rattle.lol_vm.specs.Events.{Event, Start, End, has_content}
 use Rattle.lol_vm.specs.Documents.{Document, empty, element_of}
-use Rattle.lol_vm.specs.Answers.{Started, Dropped, report, asks, is_dropped, name_tries, attribute_tries, ascending_once, matching_ids, answer, after, answers_from, document_from}
+use Rattle.lol_vm.specs.Answers.{Started, Dropped, report, asks, is_dropped, name_tries, attribute_tries, matching_ids, answer, after, answers_from, document_from}
 use Rattle.lol_vm.specs.Laws.{ids_of}
 use Rattle.lol_vm.specs.ReportLaws.{matching_ids-same}
 use Rattle.lol_reasons.specs.Witnesses.{innermost_witness}

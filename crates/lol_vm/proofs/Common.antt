@@ -1,7 +1,9 @@
 -- What most proofs of this crate speak of.
 pub use Rattle.lol_base.specs.BoolLaws.{and-false, and-true, and_of, and_parts, not_true, or-right_true, or_of, or_parts, same_bool}
+pub use Rattle.lol_base.specs.AscendingLaws.{among_ascending, ascending_among, ascending_ascends, ascending_is_determined, pairs_from_ascends}
+pub use Rattle.lol_base.specs.Ascending.{ascending_once}
 pub use Rattle.lol_base.specs.LocalNames.{Name, is_hash, local_name, same_local_name}
-pub use Rattle.lol_base.specs.MemberLaws.{Among, Distinct, among_back, among_either, among_from_contains, among_front, contains-append, contains_from_among, count_by-cons, distinct_from_pairs, map-map, same_count}
+pub use Rattle.lol_base.specs.MemberLaws.{Among, Distinct, among_back, among_either, among_from_contains, among_front, contains-append, contains_from_among, count_by-cons, distinct_from_pairs, map-map, same_count, among_filter, among_map, filter_among, map_among}
 pub use Rattle.lol_base.specs.Names.{is_esi, is_void, lowercased, same_name}
 pub use Rattle.lol_base.specs.PlaceLaws.{at_among, at_within, head_is, one_place, same_at, some_is, tail_is, within_at}
 pub use Rattle.lol_base.specs.StartTags.{Attribute, StartTag}
@@ -24,7 +26,7 @@ pub use Rattle.lol_stack.specs.declared.execution_ctx.ExecutionCtx.{ExecutionCtx
 pub use Rattle.lol_stack.specs.declared.stack.StackNames.{StackNames}
 pub use Rattle.lol_stack.specs.declared.stack.StackOf.{StackOf}
 pub use Rattle.lol_stack.specs.declared.stack_item.StackItemOf.{StackItemOf}
-pub use Rattle.lol_vm.specs.Answers.{Answer, Dropped, Ended, Match, Started, after, answer, answers, answers_from, ascending_once, asks, attribute_tries, document, document_from, is_dropped, matching_ids, name_tries, needs_attributes, report}
+pub use Rattle.lol_vm.specs.Answers.{Answer, Dropped, Ended, Match, Started, after, answer, answers, answers_from, asks, attribute_tries, document, document_from, is_dropped, matching_ids, name_tries, needs_attributes, report}
 pub use Rattle.lol_vm.specs.Documents.{Document, after_end, after_start, children_of, closed, element_of, empty, inner_part, outer_part, parent_of, place_of, same_parent, typed_children_of}
 pub use Rattle.lol_vm.specs.EventRuns.{Goes, GoesByStart, IsRunOf, answer_taken, machine_of}
 pub use Rattle.lol_vm.specs.Events.{End, Event, Start, has_content, has_content_in}
@@ -35,7 +37,7 @@ pub use Rattle.lol_vm.specs.Machines.{AreItems, HasRanges, HoldOnce, IsItem, IsR
 pub use Rattle.lol_vm.specs.Matching.{left_matches, matches, parent_passes, some_ancestor_passes}
 pub use Rattle.lol_vm.specs.PlaceRuns.{Context, Gathers, branch, context_of, gathered_from_places, given_by, hereditary_jumps_list, ids_list, instruction_value, is_open_at, jumps_list, no_context, run, step_with_attributes, value_at}
 pub use Rattle.lol_vm.specs.Refusals.{Allowance, Cause, Counter, Limit, exceeds, greatest_count, longest, longest_from, or_later, refusal, refused, refused_from}
-pub use Rattle.lol_vm.specs.ReportLaws.{among_ascending, among_filter, among_map, among_matching_ids, ascending_among, ascending_ascends, ascending_is_determined, every_report, filter_among, map_among, matching_ids_among, matching_ids_ascend, pairs_from_ascends}
+pub use Rattle.lol_vm.specs.ReportLaws.{among_matching_ids, every_report, matching_ids_among, matching_ids_ascend}
 pub use Rattle.lol_vm.specs.StackMachines.{KeepsMachine, KeepsTyped, children_shown, item_shown, items_shown}
 pub use Rattle.lol_vm.specs.Standing.{AreCounted, AreTyped, CountersArePlaces, Descend, DocumentsAreOrdered, IsOrdered, Machine, StandsFor, StandsOn, TypedStand, closed_count, counted, counted_last, counted_root, counted_typed, cut, ended, finished, machine_after, new_machine, opened, or_root, ranges_of_machine, started, unfinished}
 pub use Rattle.lol_vm.specs.TagRuns.{AreExecuted, AreTried, AreWithin, IsPointIn, IsStopIn, jumps_in, jumps_of_item, number_of, ranges_from, ranges_left, ranges_of, ranges_to_run_in, rest_of, sight_in, tag_ranges, tried_at}

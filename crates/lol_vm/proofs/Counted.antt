@@ -1,7 +1,8 @@
 -- The places that ranges hold, counted.
 use Rattle.lol_vm.proofs.Common.{◌≡◌, ℕ, Bool, true, List, length, sym, ap, ◌∙◌, ◌&&◌, arith, count_by, Range, list_any, range_with_len, Element, Path, Selectors, last_compound, Among, same_count, among_from_contains, contains_from_among, distinct_from_pairs, left_matches, name_tries, attribute_tries, needs_attributes, and_parts, same_bool, at_among, at_within, is_open, by_names, IsAt, IsProgramOf, AreClosed, all_places, HoldOnce, LeftMatches, instruction_value, is_open_at}
+use Rattle.lol_base.specs.MemberLaws.{same_passing, any_among, among_any}
+use Rattle.lol_base.specs.CountLaws.{is_at, is_at_of, is_at_is, distinct_range, range_among, count_by_places, count_same, count_all}
 use Rattle.lol_program.specs.Programs.{Program}
-use Rattle.lol_vm.proofs.Lists.{is_at, is_at_of, is_at_is, distinct_range, range_among, count_by_places, count_same, count_all, same_passing, any_among, among_any}
 use Rattle.lol_vm.proofs.Held.{instruction_at, place_of_node}
 
 module _ (s : Selectors) (paths : List Path) (p : Program) (closed : AreClosed s) (program : IsProgramOf s paths p) where

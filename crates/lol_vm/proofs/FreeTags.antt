@@ -1,5 +1,6 @@
 -- Start tags that take no memory.
 use Rattle.lol_vm.proofs.Common.{◌≡◌, ℕ, ◌<◌, Bool, true, false, cond, true≢false, List, length, Option, Some, None, Result, Err, refl, sym, ap, ◌∙◌, subst, arith, inl, inr, get_or, Contains, ◌||◌, ◌⊎◌, slice_get, not, ◌&&◌, list_all, IsNone, option_map, not_true, length-map, Range, is_hash, local_name, Among, contains_from_among, is_void, is_esi, lowercased, same_name, StartTag, Namespace, Html, has_test_by_type, Path, Selectors, last_compound, IsProgramOf, is_html, has_content, has_content_in, AllSmall, NeedNoMemory, KeepsTyped, typed_in, Machine, Context, Vm, Shows, IsRequested, GoesOnAt, content_at, ExecutionCtx, at_among, within_at}
+use Rattle.lol_base.specs.MemberLaws.{among_any}
 use Rattle.std.proofs.lemmas.Option.{slice_get-map, slice_get-get_or}
 use Rattle.std.proofs.lemmas.Slice.Eq.{bytes_eq-Decides}
 use Rattle.lol_base.specs.Names.{void_names}
@@ -20,7 +21,6 @@ use Rattle.lol_vm.specs.declared.error.VmError.TheVariants.{InfoRequest, MemoryL
 use Rattle.lol_vm.specs.declared.tag_runs.RecoveryPoint.{RecoveryPoint}
 use Rattle.lol_vm.specs.declared.tag_runs.RecoveryPoint.TheVariants.{AtOnce, At}
 use Rattle.std.specs.declared.alloc.AllocError.{AllocError}
-use Rattle.lol_vm.proofs.Lists.{among_any}
 use Rattle.std.proofs.lemmas.List.Elements.{All-contains}
 use Rattle.std.proofs.lemmas.List.Sums.{AllPass-from_list_all}
 

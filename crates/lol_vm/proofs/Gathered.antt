@@ -1,9 +1,9 @@
 -- What running places gives.
 use Rattle.lol_vm.proofs.Common.{◌≡◌, ℕ, Bool, true, false, cond, List, [], Option, Some, None, ◌↔◌, inl, inr, refl, sym, ap, ◌∙◌, subst, arith, Contains, slice_get, option_to_list, Range, Element, all_hold, Path, Selectors, last_compound, Among, Distinct, among_from_contains, contains_from_among, distinct_from_pairs, left_matches, matches, matching_ids, among_matching_ids, matching_ids_among, and_parts, and_of, IsAt, IsRangeOf, IsProgramOf, AreClosed, all_places, HasRanges, Matches, HoldOnce, LeftMatches, jumps_of, hereditary_jumps_of, given_by, gathered_from_places, ids_list, context_of, Context}
+use Rattle.lol_base.specs.MemberLaws.{among_flat_map, flat_map_among, distinct_flat_map}
 use Rattle.lol_css.specs.declared.selector.Combinator.{Combinator}
 use Rattle.lol_css.specs.declared.selector.Combinator.TheVariants.{Child, Descendant}
 use Rattle.lol_program.specs.Programs.{Instruction, Program}
-use Rattle.lol_vm.proofs.Lists.{among_flat_map, flat_map_among, distinct_flat_map}
 use Rattle.lol_vm.proofs.Held.{instruction_at, place_of_node, range_of_reached, one_owner}
 use Rattle.lol_vm.proofs.Counted.{path_held, held_at}
 use Rattle.lol_program.specs.NodeOnceLaws.{AllPairs-from_Distinct}

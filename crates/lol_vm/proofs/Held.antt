@@ -1,12 +1,14 @@
 -- The places that ranges hold.
 use Rattle.lol_vm.proofs.Common.{◌≡◌, ℕ, ◌-◌, ◌<◌, ◌≤◌, Bool, true, false, true≢false, List, [], ◌∷◌, ◌++◌, length, Option, Some, None, ◌⊎◌, ◌↔◌, inl, inr, refl, sym, ap, ◌∙◌, subst, arith, Contains, ◌==◌, if◌then◌else◌, Range, map-append, append-nil, Decides-eqb, Element, Path, First, Then, Selectors, last_compound, contains_from_among, Among, Distinct, among_front, among_back, among_either, among_from_contains, distinct_from_pairs, matches, left_matches, parent_passes, some_ancestor_passes, and_parts, and_of, or_parts, or_of, some_is, at_among, same_at, one_place, at_within, within_at, IsWithin, IsAt, HoldsPlaces, IsRangeOf, IsProgramOf, AreClosed, above, places, all_places, OpenItem, ranges_to_run, IsReached, HasRanges, IsItem, AreItems, Matches, HoldOnce, LeftMatches, active_of, last_jumps, ranges_of_active, jumps_of, hereditary_jumps_of, ProgramsHaveEachNode, RangesHoldLeftMatches, among_map, map_among}
+use Rattle.lol_base.specs.CountLaws.{among_range, range_among, distinct_range}
+use Rattle.lol_base.specs.PlaceLaws.{among_at}
+use Rattle.lol_base.specs.MemberLaws.{same_length, distinct_append, among_flat_map, flat_map_among, distinct_flat_map, any_among, among_any}
 use Rattle.std.proofs.lemmas.Grind.{flat_map-append}
 use Rattle.lol_css.specs.declared.selector.Combinator.{Combinator}
 use Rattle.lol_css.specs.declared.selector.Combinator.TheVariants.{Child, Descendant}
 use Rattle.lol_program.specs.StepLaws.{one_front, one_step}
 use Rattle.lol_program.specs.Programs.{Instruction, Program}
 use Rattle.lol_stack.specs.Active.{activated, is_range_active, is_same_range}
-use Rattle.lol_vm.proofs.Lists.{same_length, distinct_append, among_at, among_flat_map, flat_map_among, distinct_flat_map, among_range, range_among, distinct_range, any_among, among_any}
 use Rattle.lol_program.specs.NodeOnceLaws.{AllPairs-from_Distinct}
 
 -- 1. Ranges and the places in them

@@ -7,7 +7,7 @@ use Rattle.lol_memory.specs.Slots.{slots, slots_after}
 use Rattle.lol_memory.specs.SlotLaws.{slots_grow}
 use Rattle.lol_vm.specs.Documents.{Child}
 use Rattle.lol_vm.specs.AnswerLaws.{document_push, longest_push}
-use Rattle.lol_vm.proofs.Runs.{position-map}
+use Rattle.lol_base.specs.ListLaws.{position-map}
 use Rattle.lol_program.specs.Programs.{Program}
 use Rattle.lol_vm.proofs.Held.{ranges_hold_left_matches}
 use Rattle.lol_vm.proofs.Gathered.{runs_give_reports}

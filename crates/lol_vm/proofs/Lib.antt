@@ -13,7 +13,6 @@ pub mod Runs
 pub mod RefusedRuns
 pub mod RunSteps
 pub mod TakenStarts
-pub mod Lists
 pub mod Held
 pub mod Counted
 pub mod Gathered
@@ -21,12 +20,6 @@ pub mod Stops
 pub mod Kept
 pub mod Answered
 pub mod Whole
-pub mod ContentMarks
-pub mod Closings
-pub mod OneId
-pub mod Alike
-pub mod Unasked
-pub mod ToldRuns
 pub mod StackMachines
 pub mod StackCounting
 pub mod GatheringLemmas

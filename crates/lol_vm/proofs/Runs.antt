@@ -1,19 +1,11 @@
 -- Documents and answers, as events come.
-use Rattle.lol_vm.proofs.Common.{◌≡◌, ℕ, ◌+◌, Bool, not, cond, List, [], ◌∷◌, ◌++◌, map, reverse, take, drop, length, position, Some, None, refl, sym, ap, ◌∙◌, arith, position_or_len, nat_lt, reverse-append, length-map, take-append-drop, Selectors, Event, Document, after, document_from}
+use Rattle.lol_vm.proofs.Common.{◌≡◌, ℕ, ◌+◌, Bool, List, [], ◌∷◌, ◌++◌, reverse, take, drop, length, refl, sym, ap, ◌∙◌, arith, reverse-append, take-append-drop, Selectors, Event, Document, after, document_from}
 use Rattle.lol_vm.specs.Events as events
 
 -- 1. Lists
 
 pub cut_reverse : {A : Type 0} (n : ℕ) (xs : List A) → reverse xs ≡ reverse (drop n xs) ++ reverse (take n xs)
 cut_reverse n xs = ap reverse (sym (take-append-drop n xs)) ∙ reverse-append (take n xs) (drop n xs)
-
-module _ {A B : Type 0} (p : B → Bool) (f : A → B) where
-  place-map : (xs : List A) → position_or_len p (map f xs) ≡ position_or_len (λ x. p (f x)) xs
-  place-map [] = refl
-  place-map (x ∷ xs) = λ i. cond (not (p (f x))) (1 + place-map xs i) 0
-
-  pub position-map : (xs : List A) → position p (map f xs) ≡ position (λ x. p (f x)) xs
-  position-map xs = λ i. cond (nat_lt (place-map xs i) (length-map xs f i)) (Some (place-map xs i)) None
 
 -- 2. One more event
 

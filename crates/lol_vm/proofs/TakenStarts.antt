@@ -9,7 +9,7 @@ use Rattle.lol_vm.specs.declared.event_run.EventRun.{EventRun}
 use Rattle.lol_vm.proofs.CallerLemmas.{is_left, unfinished_is}
 use Rattle.lol_vm.proofs.RunSteps.{charged_later, follows_on, not_refused}
 use Rattle.lol_vm.proofs.Runs.{events-document}
-use Rattle.lol_vm.proofs.Alike.{started_if}
+use Rattle.lol_vm.specs.AnswerLaws.{started_if}
 
 module _ (s : Selectors) (esi : Bool) (events : List Event) (tag : StartTag) where
   module _ {E F : Type 0} (ids_of : E → Ids) (old mid : Vm E) (request : AuxStartTagInfoRequest E) (pending : IsPending ids_of s esi events tag mid request) (kept : data_in mid ≡ data_in old) where

@@ -1,5 +1,5 @@
 -- What trying a counted start tag by its name comes to.
-use Rattle.lol_vm.proofs.Common.{◌≡◌, Result, Ok, ◌<◌, Bool, true, false, List, Option, Some, None, refl, sym, ap, ◌∙◌, subst, inl, inr, ◌+◌, not, [], ◌∷◌, ◌++◌, length, arith, ◌↔◌, ◌⊎◌, ◌||◌, ◌&&◌, Name, local_name, StartTag, Namespace, Ids, ascending, full_count, is_html, Element, names_counted, attributes_counted, Tries, Selectors, counted_in, last_count, list_in, items_in, typed_count, element_data_of, ExecutionCtx, StackNames, StackOf, IsLimited, Limiter, Event, has_content, Start, NeedNoMemory, AreRunnable, AreTried, ranges_to_run_in, sight_in, Vm, Stands, IsTagOf, IsAnswered, IsReported, IsTriedAtMost, IsPending, IsEntered, is_asked_for, Shows, content_of, list_any, sight_of, all_places, needs_attributes, asks, is_dropped, document, ascending_once, Document, element_of, Gathers, Context, no_context, context_of, KeepsMachine, Machine, StandsFor, counted, opened, started, ranges_of_machine, unfinished, StackItemOf, and-true, or-right_true}
+use Rattle.lol_vm.proofs.Common.{◌≡◌, Result, Ok, ◌<◌, Bool, true, false, List, Option, Some, None, refl, sym, ap, ◌∙◌, subst, inl, inr, ◌+◌, not, [], ◌∷◌, ◌++◌, length, arith, ◌↔◌, ◌⊎◌, ◌||◌, ◌&&◌, Name, local_name, StartTag, Namespace, Ids, ascending, full_count, is_html, Element, names_counted, attributes_counted, Tries, Selectors, counted_in, last_count, list_in, items_in, typed_count, element_data_of, ExecutionCtx, StackNames, StackOf, IsLimited, Limiter, Event, has_content, Start, NeedNoMemory, AreRunnable, AreTried, ranges_to_run_in, sight_in, Vm, Stands, IsTagOf, IsAnswered, IsReported, IsTriedAtMost, IsPending, IsEntered, is_asked_for, Shows, content_of, list_any, sight_of, all_places, needs_attributes, asks, is_dropped, document, ascending_once, Document, element_of, Gathers, Context, no_context, context_of, KeepsMachine, Machine, StandsFor, counted, started, ranges_of_machine, unfinished, StackItemOf, and-true, or-right_true}
 use Rattle.std.specs.Result.{IfOk, IsOk}
 use Rattle.lol_memory.specs.declared.match_info.MatchInfo.{MatchInfo}
 use Rattle.lol_stack.specs.Calls.{IsCalledAtEach, reports}

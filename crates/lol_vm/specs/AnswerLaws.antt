@@ -1,19 +1,21 @@
 -- What documents and answers are after more events, and of selectors that answer alike.
-use Rattle.std.proofs.Common.{◌≡◌, Bool, List, [], ◌∷◌, ◌++◌, length, refl, ap, ◌∙◌, arith, ℕ, ◌&&◌, not, cond, map, true, ◌||◌}
-use Rattle.std.specs.Prelude.{max, count_by, nat_lt, Some, None, Contains}
+use Rattle.std.proofs.Common.{◌≡◌, Bool, List, [], ◌∷◌, ◌++◌, length, refl, ap, ◌∙◌, arith, ℕ, ◌&&◌, not, cond, map, ◌||◌}
+use Rattle.std.specs.Prelude.{max, count_by, nat_lt, Some, None}
 use Rattle.lol_program.specs.Paths.{Selectors, Path}
-use Rattle.lol_vm.specs.Answers.{after, answer, answers_from, document_from, Started, Dropped, matching_ids, needs_attributes, asks}
+use Rattle.lol_vm.specs.Answers.{Answer, after, answer, answers_from, attribute_tries, document_from, Started, Dropped, matching_ids, name_tries, needs_attributes, asks, report}
 use Rattle.lol_vm.specs.Documents.{Document, element_of, after_start, empty}
 use Rattle.lol_vm.specs.Events.{Event, Start, End, has_content}
 use Rattle.lol_vm.specs.Refusals.{longest_from, Allowance, Limit, Counter, exceeds, greatest_count, refusal, or_later, refused_from}
 use Rattle.lol_instructions.specs.Tests.{Element, is_html}
 use Rattle.lol_vm.specs.Matching.{left_matches}
-use Rattle.std.specs.List.{list_any}
-use Rattle.std.proofs.lemmas.List.Folds.{Any-from_list_any, list_any-from_Any}
 use Rattle.lol_base.specs.BoolLaws.{same_bool}
-use Rattle.lol_base.specs.MemberLaws.{Among, among_from_contains, contains_from_among, distinct_from_pairs, same_count}
+use Rattle.lol_base.specs.MemberLaws.{among_too, distinct_from_pairs, passes_too, same_count}
 use Rattle.lol_vm.specs.Laws.{SameSelectors, OrderChangesNothing}
 use Rattle.lol_vm.specs.ReportLaws.{matching_ids-same}
+
+-- the answer to a start tag of an element, by whether it is dropped
+abbrev pub started_if : Selectors → Bool → Element → List Element → Bool → Answer
+started_if s esi e outer dropped = cond dropped Dropped (Started (report s esi e outer) (asks s e outer) (name_tries s.nodes outer) (attribute_tries s.nodes e outer))
 
 -- 1. More events
 
@@ -57,16 +59,6 @@ module _ (s t : Selectors) (esi : Bool) (same_ids : (e : Element) (outer : List 
       ∙ ap (λ more. answer t esi d event ∷ more) (same_answers (after t esi d event) events)
 
 -- 3. The order of pairs and nodes
-
--- a test that some element passes
-passes_too : {T : Type 0} (p : T → Bool) (xs ys : List T) → ((x : T) → Contains xs x → Contains ys x) → list_any p xs ≡ true → list_any p ys ≡ true
-passes_too p xs ys to some =
-    let found = Any-from_list_any p xs some in
-    let there = to found.1 (found.0, found.2, found.3) in
-    list_any-from_Any p ys (there.0, found.1, there.1, there.2, found.4)
-
-among_too : {T : Type 0} (xs ys : List T) → ((x : T) → Contains xs x → Contains ys x) → (x : T) → Among xs x → Among ys x
-among_too xs ys to x a = among_from_contains ys x (to x (contains_from_among xs x a))
 
 module _ (s t : Selectors) (same : SameSelectors s t) (esi : Bool) where
   module _ (e : Element) (outer : List Element) where

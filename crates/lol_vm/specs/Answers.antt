@@ -1,6 +1,7 @@
 -- What the machine answers to a list of events.
-use Rattle.std.specs.Prelude.{ℕ, Bool, not, ◌&&◌, ◌||◌, if◌then◌else◌, ◌==◌, nat_lt, List, [], ◌∷◌, map, filter, count_by}
+use Rattle.std.specs.Prelude.{ℕ, Bool, not, ◌&&◌, ◌||◌, if◌then◌else◌, List, [], ◌∷◌, map, filter, count_by}
 use Rattle.std.specs.List.{list_any}
+use Rattle.lol_base.specs.Ascending.{ascending_once}
 use Rattle.lol_instructions.specs.Tests.{Element, is_html}
 use Rattle.lol_instructions.specs.Compounds.{by_names, is_open}
 use Rattle.lol_program.specs.Paths.{Path, Selectors, last_compound}
@@ -21,16 +22,6 @@ pub data Answer : Type 0 where
   Ended : (closed : List ℕ) → Answer
 
 -- 1. Reports
-
--- an ascending list with a number in its place, unless it is there
-abbrev pub with_number : ℕ → List ℕ → List ℕ
-with_number n [] = n ∷ []
-with_number n (x ∷ xs) = if nat_lt n x then n ∷ x ∷ xs else (if n == x then x ∷ xs else x ∷ with_number n xs)
-
--- the numbers of a list, ascending and each once
-abbrev pub ascending_once : List ℕ → List ℕ
-ascending_once [] = []
-ascending_once (n ∷ ns) = with_number n (ascending_once ns)
 
 -- The ids of the pairs whose path matches, ascending and each once.
 abbrev pub matching_ids : List (Path × ℕ) → Element → List Element → List ℕ

@@ -1,6 +1,7 @@
 -- Laws over the definitions, which later layers stand on.
 use Rattle.lol_program.specs.Sets.{SameMembers}
-use Rattle.std.specs.Prelude.{ℕ, ◌≡◌, ◌≢◌, ◌<◌, ◌↔◌, true, Bool, List, [], map, None, Contains, AllPairs}
+use Rattle.std.specs.Prelude.{ℕ, ◌≡◌, ◌≢◌, ◌↔◌, true, Bool, List, [], map, None, Contains, AllPairs}
+use Rattle.lol_base.specs.Ascending.{IsStrictlyAscending}
 use Rattle.lol_instructions.specs.Tests.{Element}
 use Rattle.lol_program.specs.Paths.{Path, Selectors}
 use Rattle.lol_program.specs.Asts.{pairs_of, nodes_of}
@@ -11,10 +12,6 @@ use Rattle.lol_vm.specs.Matching.{matches}
 use Rattle.lol_vm.specs.Answers.{Match, Ended, report, answer, answers, after}
 use Rattle.lol_vm.specs.Views.{selectors}
 use Rattle.lol_vm.specs.Refusals.{Allowance, refused}
-
--- each number of a list is below all after it
-abbrev pub IsStrictlyAscending : List ℕ → Type 0
-IsStrictlyAscending ns = AllPairs (λ m n. m < n) ns
 
 abbrev pub ids_of : List Match → List ℕ
 ids_of matched = map (λ m. m.id) matched
@@ -28,11 +25,6 @@ HasMatchingIds s esi e outer =
 pub record IsReport (s : Selectors) (esi : Bool) (e : Element) (outer : List Element) : Type 0 where
   pub ascending : IsStrictlyAscending (ids_of (report s esi e outer))
   pub members : HasMatchingIds s esi e outer
-
--- A strictly ascending list is determined by its members.
-abbrev pub AscendingIsDetermined : Type 0
-AscendingIsDetermined =
-    (ms ns : List ℕ) → IsStrictlyAscending ms → IsStrictlyAscending ns → ((n : ℕ) → Contains ms n ↔ Contains ns n) → ms ≡ ns
 
 -- the same pairs, in any order and number, and the same nodes, each once, in any order
 pub record SameSelectors (s t : Selectors) : Type 0 where

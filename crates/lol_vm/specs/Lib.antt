@@ -26,7 +26,5 @@ pub mod Machines
 pub mod PlaceRuns
 pub mod MachineLaws
 pub mod Standing
-pub mod RunLaws
-pub mod AskedRuns
 pub mod StackMachines
 pub mod ChargeLaws

@@ -3,7 +3,8 @@
 ghost use Rattle.std.specs.Prelude.{Bool, List};
 ghost use Rattle.lol_instructions.specs.Tests.{Element};
 ghost use Rattle.lol_program.specs.Paths.{Selectors};
-ghost use Rattle.lol_vm.specs.Laws.{IsReport, AscendingIsDetermined, OrderChangesNothing, TreesAnswerAlike, StrayEndChangesNothing};
+ghost use Rattle.lol_base.specs.Ascending.{AscendingIsDetermined};
+ghost use Rattle.lol_vm.specs.Laws.{IsReport, OrderChangesNothing, TreesAnswerAlike, StrayEndChangesNothing};
 
 /// A report is strictly ascending and has exactly the ids under which a path matches.
 pub fn reports_are_ascending_and_exact()

@@ -8,7 +8,6 @@ mod instruction_runs;
 pub mod laws;
 pub mod machine_laws;
 mod run;
-pub mod run_laws;
 mod started;
 mod tag_runs;
 mod vm;

@@ -1,5 +1,6 @@
 -- The ids of the nodes that match.
 use Rattle.std.proofs.Common.{◌≡◌, ℕ, true, false, ◌||◌, List, [], ◌∷◌, ◌++◌, map, inl, inr, ⊎_elim, sym, ap, ◌∙◌, subst, true≢false}
+use Rattle.lol_base.specs.AscendingLaws.{ascending_is_determined}
 use Rattle.std.specs.Prelude.{Contains}
 use Rattle.std.proofs.lemmas.List.Kept.{AllPairs-from_increasing}
 use Rattle.lol_base.specs.BoolLaws.{or_parts, or_of}
@@ -12,7 +13,7 @@ use Rattle.lol_instructions.specs.Tests.{Element}
 use Rattle.lol_program.specs.Paths.{Path}
 use Rattle.lol_vm.specs.Matching.{matches}
 use Rattle.lol_vm.specs.Answers.{matching_ids}
-use Rattle.lol_vm.specs.ReportLaws.{among_matching_ids, matching_ids_among, matching_ids_ascend, ascending_is_determined}
+use Rattle.lol_vm.specs.ReportLaws.{among_matching_ids, matching_ids_among, matching_ids_ascend}
 
 among_one : (path : Path) (ids : List ℕ) (id : ℕ) → Among ids id → Among {T = Path × ℕ} (map (λ (n : ℕ). (path, n)) ids) (path, id)
 among_one path [] id h = absurd h

@@ -1,7 +1,7 @@
 //! What those who use the answers of a run rely on, each law the contract of an empty function.
 
-ghost use Rattle.lol_vm.specs.AskedRuns.{AskedRunsAnswerAlike, ToldGoesOn};
-ghost use Rattle.lol_vm.specs.RunLaws.{EndsCloseInside, MarksTellContent, OneIdsPathsDecide, UnaskedAttributesChangeNothing};
+ghost use Rattle.lol_run_laws.specs.AskedRuns.{AskedRunsAnswerAlike, ToldGoesOn};
+ghost use Rattle.lol_run_laws.specs.RunLaws.{EndsCloseInside, MarksTellContent, OneIdsPathsDecide, UnaskedAttributesChangeNothing};
 
 /// The content mark of a report is false exactly for an HTML tag with a void name, where ESI is on
 /// also with one of its two names, and for a self-closing tag of another namespace.

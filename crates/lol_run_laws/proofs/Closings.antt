@@ -1,7 +1,14 @@
 -- What an end tag closes.
-use Rattle.lol_vm.proofs.Common.{◌≡◌, ℕ, ◌+◌, Bool, true, false, not, cond, List, [], ◌∷◌, ◌++◌, map, reverse, length, position, Some, None, inl, inr, refl, sym, ap, ◌∙◌, arith, position_or_len, nat_lt, reverse-append, map-append, take_at, drop_at, nat_tests, same_name, Element, Among, contains_from_among, place_of, inner_part, outer_part, Ended}
-use Rattle.std.proofs.lemmas.List.{length-append, append_assoc}
-use Rattle.lol_vm.specs.RunLaws.{EndsCloseInside}
+use Rattle.std.proofs.Common.{◌≡◌, ℕ, ◌+◌, Bool, true, false, not, cond, List, [], ◌∷◌, ◌++◌, map, reverse, length, position, Some, None, inl, inr, refl, sym, ap, ◌∙◌, arith, nat_lt}
+use Rattle.std.specs.List.{position_or_len}
+use Rattle.std.proofs.lemmas.List.{reverse-append, map-append, take_at, drop_at, length-append, append_assoc}
+use Rattle.std.proofs.lemmas.Bool.Decides.{nat_tests}
+use Rattle.lol_base.specs.Names.{same_name}
+use Rattle.lol_instructions.specs.Tests.{Element}
+use Rattle.lol_base.specs.MemberLaws.{Among, contains_from_among}
+use Rattle.lol_vm.specs.Documents.{place_of, inner_part, outer_part}
+use Rattle.lol_vm.specs.Answers.{Ended}
+use Rattle.lol_run_laws.specs.RunLaws.{EndsCloseInside}
 
 module _ {A : Type 0} (p : A → Bool) where
   first_place : (inner : List A) (x : A) (outer : List A) → p x ≡ true → ((y : A) → Among inner y → p y ≡ false) → position_or_len p (inner ++ x ∷ outer) ≡ length inner

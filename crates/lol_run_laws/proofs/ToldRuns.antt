@@ -1,8 +1,16 @@
 -- What a run is told answers what the tags as they are do.
-use Rattle.lol_vm.proofs.Common.{◌≡◌, ℕ, Bool, true, false, List, [], ◌∷◌, ◌++◌, length, Option, Some, None, refl, ap, ◌∙◌, ◌&&◌, if◌then◌else◌, max, nat_lt, StartTag, Selectors, AreClosed, after, answer, answers_from, asks, document_from, Document, element_of, empty, Event, Start, End, Allowance, Cause, Counter, Limit, exceeds, greatest_count, or_later, refusal, refused_from, selectors}
+use Rattle.std.proofs.Common.{◌≡◌, ℕ, Bool, true, false, List, [], ◌∷◌, ◌++◌, length, Option, Some, None, refl, ap, ◌∙◌, ◌&&◌, if◌then◌else◌, max, nat_lt}
+use Rattle.lol_base.specs.StartTags.{StartTag}
+use Rattle.lol_program.specs.Paths.{Selectors}
+use Rattle.lol_program.specs.Programs.{AreClosed}
+use Rattle.lol_vm.specs.Answers.{after, answer, answers_from, asks, document_from}
+use Rattle.lol_vm.specs.Documents.{Document, element_of, empty}
+use Rattle.lol_vm.specs.Events.{Event, Start, End}
+use Rattle.lol_vm.specs.Refusals.{Allowance, Cause, Counter, Limit, exceeds, greatest_count, or_later, refusal, refused_from}
+use Rattle.lol_vm.specs.Views.{selectors}
 use Rattle.lol_program.specs.ClosedLaws.{trees_are_closed}
-use Rattle.lol_vm.specs.AskedRuns.{AskedRunsAnswerAlike, ToldGoesOn, bare_tag, told_from, told_of}
-use Rattle.lol_vm.proofs.Alike.{AlikeDocuments, alike_after, documents_self, documents_trans, dropped_after, dropped_answered, same_answer, same_depth, same_position, unasked_after, unasked_answered}
+use Rattle.lol_run_laws.specs.AskedRuns.{AskedRunsAnswerAlike, ToldGoesOn, bare_tag, told_from, told_of}
+use Rattle.lol_run_laws.proofs.Alike.{AlikeDocuments, alike_after, documents_self, documents_trans, dropped_after, dropped_answered, same_answer, same_depth, same_position, unasked_after, unasked_answered}
 
 module _ (s : Selectors) (closed : AreClosed s) (esi : Bool) where
   -- one tag, at one document

@@ -1,7 +1,14 @@
 -- Attributes that aren't asked for.
-use Rattle.lol_vm.proofs.Common.{◌≡◌, Bool, false, List, [], ◌∷◌, ◌++◌, refl, sym, ap, ◌∙◌, Attribute, StartTag, Path, Selectors, AreClosed, Event, Start, End, Document, empty, element_of, matches, asks, answer, answers_from, after, document_from}
-use Rattle.lol_vm.specs.RunLaws.{with_attributes, matches_at, matches_from, UnaskedAttributesChangeNothing}
-use Rattle.lol_vm.proofs.Alike.{matched_alike, AlikeDocuments, IsNode, alike_after, same_answer, same_element, same_matches, unasked_after, unasked_answered}
+use Rattle.std.proofs.Common.{◌≡◌, Bool, false, List, [], ◌∷◌, ◌++◌, refl, sym, ap, ◌∙◌}
+use Rattle.lol_base.specs.StartTags.{Attribute, StartTag}
+use Rattle.lol_program.specs.Paths.{Path, Selectors}
+use Rattle.lol_program.specs.Programs.{AreClosed}
+use Rattle.lol_vm.specs.Events.{Event, Start, End}
+use Rattle.lol_vm.specs.Documents.{Document, empty, element_of}
+use Rattle.lol_vm.specs.Matching.{matches}
+use Rattle.lol_vm.specs.Answers.{asks, answer, answers_from, after, document_from}
+use Rattle.lol_run_laws.specs.RunLaws.{with_attributes, matches_at, matches_from, UnaskedAttributesChangeNothing}
+use Rattle.lol_run_laws.proofs.Alike.{matched_alike, AlikeDocuments, IsNode, alike_after, same_answer, same_element, same_matches, unasked_after, unasked_answered}
 
 -- 1. Runs from documents that no node tells apart
 

@@ -1,8 +1,18 @@
 -- Which start tags report an id.
-use Rattle.lol_vm.proofs.Common.{◌≡◌, ℕ, Bool, true, false, List, [], ◌∷◌, map, Contains, inl, inr, refl, sym, ap, ◌∙◌, subst, ◌==◌, ◌&&◌, not, list_any, Decides-eqb, StartTag, Element, Path, Selectors, Among, among_from_contains, contains_from_among, Event, Start, End, has_content, Document, empty, element_of, after_start, Match, Dropped, is_dropped, report, matching_ids, after, answers_from, among_matching_ids, matching_ids_among, among_map, map_among, same_bool}
-use Rattle.lol_vm.specs.RunLaws.{reports_id, SamePathsUnder, OneIdsPathsDecide}
-use Rattle.lol_vm.proofs.Lists.{any_among, among_any}
-use Rattle.lol_vm.proofs.Alike.{started_if}
+use Rattle.std.proofs.Common.{◌≡◌, ℕ, Bool, true, false, List, [], ◌∷◌, map, Contains, inl, inr, refl, sym, ap, ◌∙◌, subst, ◌==◌, ◌&&◌, not}
+use Rattle.std.specs.List.{list_any}
+use Rattle.std.proofs.lemmas.Bool.Decides.{Decides-eqb}
+use Rattle.lol_base.specs.StartTags.{StartTag}
+use Rattle.lol_instructions.specs.Tests.{Element}
+use Rattle.lol_program.specs.Paths.{Path, Selectors}
+use Rattle.lol_base.specs.MemberLaws.{Among, among_from_contains, contains_from_among, among_map, map_among, any_among, among_any}
+use Rattle.lol_vm.specs.Events.{Event, Start, End, has_content}
+use Rattle.lol_vm.specs.Documents.{Document, empty, element_of, after_start}
+use Rattle.lol_vm.specs.Answers.{Match, Dropped, is_dropped, report, matching_ids, after, answers_from}
+use Rattle.lol_vm.specs.ReportLaws.{among_matching_ids, matching_ids_among}
+use Rattle.lol_base.specs.BoolLaws.{same_bool}
+use Rattle.lol_run_laws.specs.RunLaws.{reports_id, SamePathsUnder, OneIdsPathsDecide}
+use Rattle.lol_vm.specs.AnswerLaws.{started_if}
 
 module _ (s t : Selectors) (id : ℕ) (same : SamePathsUnder id s t) (esi : Bool) where
   abbrev is_id : Match → Bool

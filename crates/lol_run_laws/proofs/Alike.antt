@@ -1,17 +1,29 @@
 -- Documents that no selector tells apart, and start tags whose attributes aren't asked for.
-use Rattle.lol_vm.proofs.Common.{◌≡◌, ℕ, zero, suc, ◌+◌, Bool, true, false, cond, not, List, [], ◌∷◌, length, map, filter, drop, take, reverse, position, Option, Some, None, inl, inr, refl, sym, ap, ◌∙◌, subst, Contains, true≢false, ◌&&◌, ◌||◌, unwrap_or, slice_get, list_any, length-map, not_true, or_of, and-false, Among, among_from_contains, contains_from_among, same_name, StartTag, Attribute, Namespace, Html, Svg, MathML, by_names, all_hold, is_open, Decides, Element, is_html, Path, First, Then, Selectors, last_compound, AreClosed, Answer, Started, Dropped, Ended, ascending_once, matching_ids, report, name_tries, attribute_tries, needs_attributes, asks, is_dropped, answer, after, Document, element_of, parent_of, children_of, typed_children_of, place_of, inner_part, outer_part, Event, Start, End, has_content, has_content_in, matches, left_matches, parent_passes, some_ancestor_passes}
-use Rattle.std.specs.List.{drop-map}
-use Rattle.std.proofs.lemmas.List.{take-map}
+use Rattle.std.proofs.Common.{◌≡◌, ℕ, zero, suc, ◌+◌, Bool, true, false, cond, not, List, [], ◌∷◌, length, map, filter, drop, take, reverse, position, Option, Some, None, inl, inr, refl, sym, ap, ◌∙◌, subst, Contains, true≢false, ◌&&◌, ◌||◌, unwrap_or, slice_get}
+use Rattle.std.specs.List.{list_any, drop-map}
+use Rattle.std.proofs.lemmas.List.{length-map, take-map}
+use Rattle.lol_base.specs.BoolLaws.{not_true, or_of, and-false}
+use Rattle.lol_base.specs.MemberLaws.{Among, among_from_contains, contains_from_among, any_among}
+use Rattle.lol_base.specs.Names.{same_name}
+use Rattle.lol_base.specs.StartTags.{StartTag, Attribute}
+use Rattle.lol_base.specs.declared.namespace.Namespace.{Namespace}
+use Rattle.lol_base.specs.declared.namespace.Namespace.TheVariants.{Html, Svg, MathML}
+use Rattle.lol_instructions.specs.Compounds.{by_names, all_hold, is_open, Decides}
+use Rattle.lol_instructions.specs.Tests.{Element, is_html}
+use Rattle.lol_program.specs.Paths.{Path, First, Then, Selectors, last_compound}
+use Rattle.lol_program.specs.Programs.{AreClosed}
+use Rattle.lol_vm.specs.AnswerLaws.{started_if}
+use Rattle.lol_vm.specs.Answers.{Answer, Started, Dropped, Ended, matching_ids, report, name_tries, attribute_tries, needs_attributes, asks, is_dropped, answer, after}
+use Rattle.lol_base.specs.Ascending.{ascending_once}
+use Rattle.lol_vm.specs.Documents.{Document, element_of, parent_of, children_of, typed_children_of, place_of, inner_part, outer_part}
+use Rattle.lol_vm.specs.Events.{Event, Start, End, has_content, has_content_in}
+use Rattle.lol_vm.specs.Matching.{matches, left_matches, parent_passes, some_ancestor_passes}
+use Rattle.lol_base.specs.CountLaws.{count_same}
 use Rattle.lol_css.specs.declared.selector.Combinator.TheVariants.{Child, Descendant}
 use Rattle.lol_instructions.specs.declared.name_value.NameValue.{NameValue}
 use Rattle.lol_instructions.specs.declared.name_value.NameValue.TheVariants.{True, False, Open}
 use Rattle.lol_program.specs.ValueLaws.{values_decide, values_are_by_names}
-use Rattle.lol_vm.proofs.Lists.{count_same, any_among}
-use Rattle.lol_vm.proofs.Runs.{position-map}
-
--- the answer to a start tag of an element, by whether it is dropped
-abbrev pub started_if : Selectors → Bool → Element → List Element → Bool → Answer
-started_if s esi e outer dropped = cond dropped Dropped (Started (report s esi e outer) (asks s e outer) (name_tries s.nodes outer) (attribute_tries s.nodes e outer))
+use Rattle.lol_base.specs.ListLaws.{position-map}
 
 -- 1. Tests that agree on a list
 

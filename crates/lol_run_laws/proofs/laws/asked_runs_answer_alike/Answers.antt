@@ -1,5 +1,5 @@
-use Rattle.lol_vm.proofs.ToldRuns as proved
-use Rattle.lol_vm.proofs.run_laws.asked_runs_answer_alike.Goals as goal
+use Rattle.lol_run_laws.proofs.ToldRuns as proved
+use Rattle.lol_run_laws.proofs.laws.asked_runs_answer_alike.Goals as goal
 
 pub returns-clause-alike : goal.returns-clause-alike
 returns-clause-alike c = proved.asked_runs_answer_alike

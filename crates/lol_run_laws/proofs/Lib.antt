@@ -1,0 +1,6 @@
+mod Alike
+mod ContentMarks
+mod Closings
+mod OneId
+mod Unasked
+mod ToldRuns
