@@ -7,3 +7,4 @@ mod Around
 mod Numbers
 mod Growing
 mod Telling
+mod Alike

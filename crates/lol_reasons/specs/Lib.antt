@@ -7,3 +7,4 @@ pub mod Matched
 pub mod Climbing
 pub mod MachinesShow
 pub mod Numbered
+pub mod NumberingLaws

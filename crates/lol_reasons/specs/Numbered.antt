@@ -3,13 +3,13 @@ use Rattle.std.specs.Prelude.{ℕ, ◌+◌, ◌≡◌, List, [], ◌∷◌, map}
 use Rattle.lol_css.specs.TreeViews.{item_of, list_of}
 use Rattle.lol_css.specs.declared.selector.ComplexSelector.{ComplexSelector}
 use Rattle.lol_instructions.specs.Tests.{Element}
-use Rattle.lol_program.specs.Asts.{pairs_of}
+use Rattle.lol_program.specs.Asts.{nodes_of, pairs_of}
 use Rattle.lol_program.specs.Conditions.{path_of, paths_of}
-use Rattle.lol_program.specs.Paths.{Path, Selectors}
+use Rattle.lol_program.specs.Paths.{Path, Selectors, all_beginnings}
 use Rattle.lol_program.specs.Sets.{SameMembers}
 use Rattle.lol_vm.specs.Answers.{matching_ids}
 use Rattle.lol_reasons.specs.Explanations as texts
-use Rattle.lol_reasons.specs.Explanations.{Added, added_by, added_items}
+use Rattle.lol_reasons.specs.Explanations.{Added, added_by, added_items, pairs_added}
 use Rattle.lol_reasons.specs.ReasonLaws.{place_of_added}
 use Rattle.lol_reasons.specs.declared.explainer.Explainer.{Explainer}
 use Rattle.lol_reasons.specs.declared.explainer.ItemOfText.{ItemOfText}
@@ -59,9 +59,10 @@ HasItemsOf ts s = SameMembers s.pairs (numbered_from 0 (added_by ts))
 abbrev pub KnowsItemsOf : List texts.Text → Explainer → Type 0
 KnowsItemsOf ts explainer = items_of explainer ≡ map place_of_added (added_by ts)
 
--- A tree has these items, each under its number, and no others, and an explainer knows them.
+-- A tree has these items, each under its number, and no others, with their nodes, and an explainer knows them.
 pub record HoldsItems (added : List Added) (numbering : Numbering) : Type 0 where
   pub tree : SameMembers (pairs_of numbering.ast) (numbered_from 0 added)
+  pub nodes : SameMembers (nodes_of numbering.ast) (all_beginnings (pairs_added added))
   pub explainer : items_of numbering.explainer ≡ map place_of_added added
 
 -- what one text adds

@@ -15,6 +15,11 @@ pub enum NumberingError {
 }
 
 impl From<AllocError> for NumberingError {
+    ghost use Rattle.std.specs.Prelude.{◌≡◌};
+    ghost use Rattle.lol_reasons.specs.declared.error.NumberingError.TheVariants.{Memory};
+
+    ghost from_gives = { λ _ error. error ≡ Memory };
+
     fn from(_: AllocError) -> Self {
         NumberingError::Memory
     }

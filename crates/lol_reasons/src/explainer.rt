@@ -1,6 +1,6 @@
 //! Reasons of a machine's reports.
 
-ghost use Rattle.std.specs.Prelude.{◌≡◌, ◌++◌, ◌∷◌, [], Bool, true, List, IfOk, IfSome, OnOk, length, map};
+ghost use Rattle.std.specs.Prelude.{◌≡◌, ◌++◌, ◌∷◌, [], ◌<◌, Bool, true, None, List, IfOk, IfSome, OnOk, length, map};
 ghost use Rattle.std.specs.Option.{option_map};
 ghost use Rattle.lol_base.specs.StartTags.{StartTag};
 ghost use Rattle.lol_instructions.specs.Tests.{Element};
@@ -63,7 +63,8 @@ impl Explainer {
 
     /// The id of the next item, unless all are given.
     pub(crate) fn next_id(&self) -> Option<MatchId>
-        ensures { IfSome result (λ id. id ≡ length (items_of self.now)) }
+        ensures next { IfSome result (λ id. id ≡ length (items_of self.now)) }
+        ensures none { result ≡ None → u32.MAX < length (items_of self.now) }
     {
         MatchId::try_from(self.items.len()).ok()
     }

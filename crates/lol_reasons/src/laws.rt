@@ -2,6 +2,7 @@
 
 ghost use Rattle.lol_reasons.specs.WitnessLaws.{InnermostIsKnown, InnermostIsOnlyOne, InnermostIsWitness, InnermostWhereMatches, MatchesByWitness, NoneIsNearer, NoneIsNearerInDocuments, WitnessesAreComplete};
 ghost use Rattle.lol_reasons.specs.MachinesShow.{MachinesShowAround};
+ghost use Rattle.lol_reasons.specs.NumberingLaws.{NodesDecideTheRest, NumbersChangeNoNode};
 ghost use Rattle.lol_reasons.specs.ReasonLaws.{EachHasOneReason, PairsAreAdded, ReasonsAreExact, ReasonsGiveReport, ReasonsStay, RunsAreExplained};
 
 /// A path matches exactly if there is a witness, which has a number for each compound; the innermost
@@ -55,4 +56,11 @@ pub fn reasons_explain_runs()
 /// not: what `witness_of` reads of it.
 pub fn machines_show_around<E>()
     ensures { MachinesShowAround E }
+{}
+
+/// Selectors with the same nodes come to the same document and ask for the same, whatever ids their paths have; they refuse the same events,
+/// and answer alike but for what they report. So do the selectors whose items stand under their numbers, and those with the texts' ids.
+pub fn numbers_change_reports_alone()
+    ensures alike { NodesDecideTheRest }
+    ensures nodes { NumbersChangeNoNode }
 {}

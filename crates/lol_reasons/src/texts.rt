@@ -1,6 +1,6 @@
 //! Selectors whose items are told apart in a report.
 
-ghost use Rattle.std.specs.Prelude.{◌≡◌, List, [], ◌∷◌, ◌++◌, IfOk, OnOk, OnErr};
+ghost use Rattle.std.specs.Prelude.{◌≡◌, ◌<◌, ◌+◌, List, [], ◌∷◌, ◌++◌, length, IfOk, IsErrOf, OnOk, OnErr};
 ghost use Rattle.lol_css.specs.TreeViews.{list_of};
 ghost use Rattle.lol_reasons.specs.Explanations.{Added, added_by};
 ghost use Rattle.lol_reasons.specs.Numbered.{HoldsItems, added_by_text, item_added, text_shown, texts_in};
@@ -61,7 +61,9 @@ impl Texts {
     /// # Errors
     /// `TooManyItems` if there are more items than ids, or `Memory`.
     pub fn number_items(&self) -> Result<Numbering, NumberingError>
-        ensures { IfOk result (λ numbering. HoldsItems (added_by (texts_in self.now)) numbering) }
+        ensures numbered { IfOk result (λ numbering. HoldsItems (added_by (texts_in self.now)) numbering) }
+        ensures too_many { IsErrOf result NumberingError.TooManyItems
+            → u32.MAX + 1 < length (added_by (texts_in self.now)) }
     {
         let mut numbering = Numbering::new(self.alloc);
         for (number, text) in self.texts.iter().enumerate() {
@@ -83,8 +85,10 @@ impl Numbering {
 
     /// Adds each item of a text.
     fn add_text(&mut self, number: usize, text: &Text) -> Result<(), NumberingError>
-        ensures { OnOk result ((added : List Added) → HoldsItems added self.old
+        ensures added { OnOk result ((added : List Added) → HoldsItems added self.old
             → HoldsItems (added ++ added_by_text number (text_shown text.now)) self.new) }
+        ensures too_many { IsErrOf result NumberingError.TooManyItems → (added : List Added) → HoldsItems added self.old
+            → u32.MAX + 1 < length (added ++ added_by_text number (text_shown text.now)) }
     {
         for (item_number, item) in text.selector.list().items.iter().enumerate() {
             let named = ItemOfText {
@@ -98,8 +102,10 @@ impl Numbering {
     }
 
     fn add_item(&mut self, named: ItemOfText, item: &ComplexSelector) -> Result<(), NumberingError>
-        ensures { OnOk result ((added : List Added) → HoldsItems added self.old
+        ensures added { OnOk result ((added : List Added) → HoldsItems added self.old
             → HoldsItems (added ++ item_added named item.now ∷ []) self.new) }
+        ensures too_many { IsErrOf result NumberingError.TooManyItems
+            → (added : List Added) → HoldsItems added self.old → u32.MAX < length added }
     {
         let Some(own_id) = self.explainer.next_id() else {
             return Err(NumberingError::TooManyItems);
