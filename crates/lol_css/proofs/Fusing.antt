@@ -349,9 +349,26 @@ list_err : (inner : List Token → Read DraftItems) (nesting : Nesting) (inside 
 unfolding list
 list_err inner nesting inside tokens cause left e = rw e refl
 
-pub list-fails : (inner : List Token → Read DraftItems) (nesting : Nesting) (inside : Bool) (tokens : List Token) (cause : SelectorError) (left : List Token) → FailsUnlessMemory cause left (giving (judged_item inside) (item inner nesting tokens)) → FailsUnlessMemory cause left (giving (judged inside) (list inner nesting tokens))
-list-fails inner nesting inside tokens cause left h =
-    fails-along cause left (giving (judged_item inside) (item inner nesting tokens)) (giving (judged inside) (list inner nesting tokens)) (λ e. list_err inner nesting inside tokens cause left (giving-err (judged_item inside) (item inner nesting tokens) cause left e)) h
+then-giving : {A B C : Type 0} (f : A → B) (read : Read A) (g : B × List Token → Read C) → (giving f read >>= g) ≡ (read >>= λ x. g (f x.0, x.1))
+then-giving f (Ok p) g = refl
+then-giving f (Err refusal) g = refl
+
+-- an item, and what is read after it
+abbrev pub items_from : (List Token → Read DraftItems) → Nesting → Bool → Judged trees.Items → List Token → Read (Judged trees.Items)
+items_from inner nesting inside items tokens =
+    giving (judged_item inside) (item inner nesting tokens) >>= λ x. judged_items_at_most (length x.1 + 1) inner nesting inside (with_item items x.0) x.1
+
+list_from_of : (inner : List Token → Read DraftItems) (nesting : Nesting) (inside : Bool) (tokens : List Token) (read : Read DraftItem) → item inner nesting tokens ≡ read → items_from inner nesting inside (Ok trees.NoItems) tokens ≡ giving (judged inside) (list inner nesting tokens)
+list_from_of inner nesting inside tokens (Ok p) e = rw e (sym (list_starts_of inner nesting inside tokens p.0 (judged_item inside p.0) p.1 e refl))
+list_from_of inner nesting inside tokens (Err refusal) e = rw e (sym (list_err inner nesting inside tokens refusal.cause refusal.left e))
+
+-- a list is an item and what is read after it
+pub list-from : (inner : List Token → Read DraftItems) (nesting : Nesting) (inside : Bool) (tokens : List Token) → items_from inner nesting inside (Ok trees.NoItems) tokens ≡ giving (judged inside) (list inner nesting tokens)
+list-from inner nesting inside tokens = list_from_of inner nesting inside tokens (item inner nesting tokens) refl
+
+pub items-fail : (inner : List Token → Read DraftItems) (nesting : Nesting) (inside : Bool) (items : Judged trees.Items) (tokens : List Token) (cause : SelectorError) (left : List Token) → FailsUnlessMemory cause left (giving (judged_item inside) (item inner nesting tokens)) → FailsUnlessMemory cause left (items_from inner nesting inside items tokens)
+items-fail inner nesting inside items tokens cause left h =
+    fails-along cause left (giving (judged_item inside) (item inner nesting tokens)) (items_from inner nesting inside items tokens) (λ e. rw e refl) h
 
 -- more rounds than tokens change nothing
 items_enough_of : (b : Bool) (items : Judged trees.Items) (rest : List Token) (l r : Read (Judged trees.Items)) → (b ≡ false → l ≡ r) → cond {A = Read (Judged trees.Items)} b (Ok (items, rest)) l ≡ cond b (Ok (items, rest)) r
@@ -376,41 +393,34 @@ items_stop_of : (n : ℕ) (inner : List Token → Read DraftItems) (nesting : Ne
 unfolding judged_items_at_most
 items_stop_of n inner nesting inside items tokens e = rw e refl
 
--- the end
-pub items-stop : (inner : List Token → Read DraftItems) (nesting : Nesting) (inside : Bool) (items : Judged trees.Items) (tokens : List Token) → at_end nesting tokens ≡ true → judged_items_at_most (length tokens + 1) inner nesting inside items tokens ≡ Ok (items, drop 1 tokens)
-items-stop inner nesting inside items tokens e = let n : length tokens + 1 ≡ suc (length tokens) = omega arith in rw n (items_stop_of (length tokens) inner nesting inside items tokens e)
+-- the last item was read
+pub items-stop : (inner : List Token → Read DraftItems) (nesting : Nesting) (inside : Bool) (items : Judged trees.Items) (tokens : List Token) (found : Judged trees.Item) (rest : List Token) → giving (judged_item inside) (item inner nesting tokens) ≡ Ok (found, rest) → at_end nesting rest ≡ true → items_from inner nesting inside items tokens ≡ Ok (with_item items found, drop 1 rest)
+items-stop inner nesting inside items tokens found rest g e =
+    let n : length rest + 1 ≡ suc (length rest) = omega arith in
+    rw g (rw n (items_stop_of (length rest) inner nesting inside (with_item items found) rest e))
 
--- a further item was read
+items_go_on : (n : ℕ) (inner : List Token → Read DraftItems) → InnerLeaves inner → (nesting : Nesting) (inside : Bool) (items : Judged trees.Items) (tokens : List Token) → n ≡ length tokens → at_end nesting tokens ≡ false → judged_items_at_most (suc n) inner nesting inside items tokens ≡ items_from inner nesting inside items (drop 1 tokens)
+unfolding judged_items_at_most
+items_go_on n inner h nesting inside items tokens l e =
+    rw e (then-same (item inner nesting (drop 1 tokens)) (λ x. judged_items_at_most n inner nesting inside (with_item items (judged_item inside x.0)) x.1) (λ x. judged_items_at_most (length x.1 + 1) inner nesting inside (with_item items (judged_item inside x.0)) x.1) (λ x rest is.
+    let left = (item-leaves inner h nesting (drop 1 tokens)).left x rest is in
+    items_enough n (length rest + 1) inner h nesting inside (with_item items (judged_item inside x)) rest (omega (arith, l, left, length-drop 1 tokens, not_at_end nesting tokens e)) (omega arith))
+    ∙ sym (then-giving (judged_item inside) (item inner nesting (drop 1 tokens)) (λ x. judged_items_at_most (length x.1 + 1) inner nesting inside (with_item items x.0) x.1)))
+
+-- an item was read, and a comma after it
 pub record ItemRead (inner : List Token → Read DraftItems) (nesting : Nesting) (inside : Bool) (items : Judged trees.Items) (tokens : List Token) (found : Judged trees.Item) (rest : List Token) : Type 0 where
-  pub same : judged_items_at_most (length tokens + 1) inner nesting inside items tokens ≡ judged_items_at_most (length rest + 1) inner nesting inside (with_item items found) rest
-  pub shorter : length rest < length tokens
+  pub same : items_from inner nesting inside items tokens ≡ items_from inner nesting inside (with_item items found) (drop 1 rest)
+  pub shorter : length (drop 1 rest) < length tokens
 
-item_read_of : (n : ℕ) (inner : List Token → Read DraftItems) → InnerLeaves inner → (nesting : Nesting) (inside : Bool) (items : Judged trees.Items) (tokens : List Token) (draft : DraftItem) (found : Judged trees.Item) (rest : List Token) → n ≡ length tokens → at_end nesting tokens ≡ false → item inner nesting (drop 1 tokens) ≡ Ok (draft, rest) → judged_item inside draft ≡ found → judged_items_at_most (suc n) inner nesting inside items tokens ≡ judged_items_at_most (length rest + 1) inner nesting inside (with_item items found) rest
-unfolding judged_items_at_most
-item_read_of n inner h nesting inside items tokens draft found rest l e is g =
-    let left = (item-leaves inner h nesting (drop 1 tokens)).left draft rest is in
-    rw (e, is) (items_enough n (length rest + 1) inner h nesting inside (with_item items (judged_item inside draft)) rest (omega (arith, left, length-drop 1 tokens, not_at_end nesting tokens e)) (omega arith) ∙ ap (λ (j : Judged trees.Item). judged_items_at_most (length rest + 1) inner nesting inside (with_item items j) rest) g)
-
-pub item-read : (inner : List Token → Read DraftItems) → InnerLeaves inner → (nesting : Nesting) (inside : Bool) (items : Judged trees.Items) (tokens : List Token) (found : Judged trees.Item) (rest : List Token) → at_end nesting tokens ≡ false → giving (judged_item inside) (item inner nesting (drop 1 tokens)) ≡ Ok (found, rest) → ItemRead inner nesting inside items tokens found rest
-item-read inner h nesting inside items tokens found rest e g =
-    let f = giving-ok (judged_item inside) (item inner nesting (drop 1 tokens)) found rest g in
-    let left = (item-leaves inner h nesting (drop 1 tokens)).left f.x rest f.is in
-    let n : length tokens + 1 ≡ suc (length tokens) = omega arith in
+pub item-read : (inner : List Token → Read DraftItems) → InnerLeaves inner → (nesting : Nesting) (inside : Bool) (items : Judged trees.Items) (tokens : List Token) (found : Judged trees.Item) (rest : List Token) → giving (judged_item inside) (item inner nesting tokens) ≡ Ok (found, rest) → at_end nesting rest ≡ false → ItemRead inner nesting inside items tokens found rest
+item-read inner h nesting inside items tokens found rest g e =
+    let f = giving-ok (judged_item inside) (item inner nesting tokens) found rest g in
+    let left = (item-leaves inner h nesting tokens).left f.x rest f.is in
+    let n : length rest + 1 ≡ suc (length rest) = omega arith in
     record {
-      same = rw n (item_read_of (length tokens) inner h nesting inside items tokens f.x found rest refl e f.is f.gives);
-      shorter = omega (arith, left, length-drop 1 tokens, not_at_end nesting tokens e);
+      same = rw g (rw n (items_go_on (length rest) inner h nesting inside (with_item items found) rest refl e));
+      shorter = omega (arith, left, length-drop 1 rest, not_at_end nesting rest e);
     }
-
-items_err : (n : ℕ) (inner : List Token → Read DraftItems) (nesting : Nesting) (inside : Bool) (items : Judged trees.Items) (tokens : List Token) (cause : SelectorError) (left : List Token) → at_end nesting tokens ≡ false → item inner nesting (drop 1 tokens) ≡ refused cause left → judged_items_at_most (suc n) inner nesting inside items tokens ≡ refused cause left
-unfolding judged_items_at_most
-items_err n inner nesting inside items tokens cause left e is = rw (e, is) refl
-
-pub items-fail : (inner : List Token → Read DraftItems) (nesting : Nesting) (inside : Bool) (items : Judged trees.Items) (tokens : List Token) (cause : SelectorError) (left : List Token) → at_end nesting tokens ≡ false → FailsUnlessMemory cause left (giving (judged_item inside) (item inner nesting (drop 1 tokens))) → FailsUnlessMemory cause left (judged_items_at_most (length tokens + 1) inner nesting inside items tokens)
-items-fail inner nesting inside items tokens cause left e h =
-    let n : length tokens + 1 ≡ suc (length tokens) = omega arith in
-    rw n (fails-along cause left (giving (judged_item inside) (item inner nesting (drop 1 tokens))) (judged_items_at_most (suc (length tokens)) inner nesting inside items tokens) (λ is. items_err (length tokens) inner nesting inside items tokens cause left e (giving-err (judged_item inside) (item inner nesting (drop 1 tokens)) cause left is)) h)
-
--- ---- inside a logical combination
 
 pub inner_list-opens : (room : ℕ) (tokens : List Token) → ¬ (room ≡ 0) → inner_list room tokens ≡ list (inner_list (room - 1)) InFunction tokens
 unfolding inner_list

@@ -154,6 +154,8 @@ impl Parser<'_> {
 
     /// An item: compounds, each a step from the one before it.
     #[cycle(rules)]
+    // Called, it would make each step of a recursion take more of the stack.
+    #[inline(always)]
     pub(crate) fn item(&mut self) -> Result<Judged<ComplexSelector>, SelectorError>
         ensures reads { ReadsUnlessMemory (judgement item_of) result self.new.reader
             (judged_item_in self.old.context self.old.reader) }
@@ -182,17 +184,17 @@ impl Parser<'_> {
             (list (inner_list self.old.context.depth_left) (nesting_of self.old.context.nesting) self.old.reader)) }
         ensures context { self.new.context ≡ self.old.context }
     {
-        let first = self.item()?;
         let mut list = Judged::Kept(SelectorList {
             items: Vec::new(self.alloc),
         });
-        add_item(&mut list, first)?;
-        'items: while !self.reader.is_at_end(self.context.nesting) {
+        'items: loop {
+            let item = self.item()?;
+            add_item(&mut list, item)?;
+            let at_end = self.reader.is_at_end(self.context.nesting);
             self.reader.advance();
-            let next = self.item()?;
-            add_item(&mut list, next)?;
+            if at_end {
+                return Ok(list);
+            }
         }
-        self.reader.advance();
-        Ok(list)
     }
 }

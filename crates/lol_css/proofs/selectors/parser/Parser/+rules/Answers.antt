@@ -10,7 +10,7 @@ use Rattle.lol_css.specs.TreeViews.{compound_of, item_of, list_of, part_of}
 use Rattle.lol_css.proofs.TreeRows.{list-none}
 use Rattle.lol_css.proofs.Shorter.{inner_list-leaves}
 use Rattle.lol_css.proofs.Spaces.{fails}
-use Rattle.lol_css.proofs.Fusing.{part-read, parts-stop, parts-fail, compound-starts, compound-none, compound-fails, not_empty-fails, not_empty-refused, not_empty-kept, item-starts, item-fails, further-stops, further-fails, further-full, further-goes_on, further-compound-fails, step-read, list-starts, list-fails, items-stop, item-read, items-fail, inner_list-opens, logical-read, logical-fails, part-pseudo-fails, part-class-fails}
+use Rattle.lol_css.proofs.Fusing.{part-read, parts-stop, parts-fail, compound-starts, compound-none, compound-fails, not_empty-fails, not_empty-refused, not_empty-kept, item-starts, item-fails, further-stops, further-fails, further-full, further-goes_on, further-compound-fails, step-read, list-from, items-stop, item-read, items-fail, inner_list-opens, logical-read, logical-fails, part-pseudo-fails, part-class-fails}
 use Rattle.lol_css.proofs.selectors.parser.Parser.+rules.Goals as goal
 
 -- ---- compounds
@@ -90,45 +90,37 @@ item-returns-clause-reads t c =
 
 -- ---- lists
 
-pub list-returns-in_err-first-clause-reads : goal.list-returns-in_err-first-clause-reads
-list-returns-in_err-first-clause-reads t c =
-    let p = err_from_is_err_and c.from_residual.result c.from_residual.ensures.1 in
-    rw (p.1, p.2) (list-fails (inner_list c.args.self.now.context.depth_left) (nesting_of c.args.self.now.context.nesting) (is_inside c.args.self.now.context.nesting) c.args.self.now.reader c.in_err-first.field-0.0 c.item.new.self.reader c.in_err-first.ensures.reads)
-
 pub list-items-init : goal.list-items-init
 list-items-init t c =
     record {
-      reads =
-          rw (c.in_ok-add_item.ensures, list-none c.new.result c.new.ensures.items)
-          (sym (list-starts (inner_list c.args.self.now.context.depth_left) (nesting_of c.args.self.now.context.nesting) (is_inside c.args.self.now.context.nesting) c.args.self.now.reader (judgement item_of c.in_ok-first.first) c.item.new.self.reader c.in_ok-first.ensures.reads));
-      context = c.item.ensures.context;
+      reads = rw (list-none c.new.result c.new.ensures.items) (list-from (inner_list c.args.self.now.context.depth_left) (nesting_of c.args.self.now.context.nesting) (is_inside c.args.self.now.context.nesting) c.args.self.now.reader);
+      context = refl;
     }
 
-pub list-returns-in_err-next-clause-reads : goal.list-returns-in_err-next-clause-reads
-list-returns-in_err-next-clause-reads t c =
-    let p = err_from_is_err_and c.from_residual-in_err-next.result c.from_residual-in_err-next.ensures.1 in
-    let e : at_end (nesting_of c.args.self.now.context.nesting) c.items.self.reader ≡ false = sym (rw c.items.invariant.context at c.is_at_end.ensures) ∙ c.items-test.true in
-    rw (p.1, p.2, ← c.items.invariant.reads) (items-fail (inner_list c.args.self.now.context.depth_left) (nesting_of c.args.self.now.context.nesting) (is_inside c.args.self.now.context.nesting) (judgement list_of c.items.list) c.items.self.reader c.in_err-next.field-0.0 c.item-in-items.new.self.reader e (rw (c.items.invariant.context, c.advance.ensures) at c.in_err-next.ensures.reads))
+pub list-returns-in_err-item-clause-reads : goal.list-returns-in_err-item-clause-reads
+list-returns-in_err-item-clause-reads t c =
+    let p = err_from_is_err_and c.from_residual.result c.from_residual.ensures.1 in
+    rw (p.1, p.2, ← c.items.invariant.reads) (items-fail (inner_list c.args.self.now.context.depth_left) (nesting_of c.args.self.now.context.nesting) (is_inside c.args.self.now.context.nesting) (judgement list_of c.items.list) c.items.self.reader c.in_err-item.field-0.0 c.item.new.self.reader (rw c.items.invariant.context at c.in_err-item.ensures.reads))
+
+pub list-returns-then-at_end-clause-reads : goal.list-returns-then-at_end-clause-reads
+list-returns-then-at_end-clause-reads t c =
+    let e : at_end (nesting_of c.args.self.now.context.nesting) c.item.new.self.reader ≡ true = sym (rw (c.item.ensures.context, c.items.invariant.context) at c.is_at_end-at_end.ensures) ∙ c.if-at_end.true in
+    rw (c.in_ok-add_item.ensures, c.advance.ensures) (sym c.items.invariant.reads ∙ items-stop (inner_list c.args.self.now.context.depth_left) (nesting_of c.args.self.now.context.nesting) (is_inside c.args.self.now.context.nesting) (judgement list_of c.items.list) c.items.self.reader (judgement item_of c.in_ok-item.item) c.item.new.self.reader (rw c.items.invariant.context at c.in_ok-item.ensures.reads) e)
 
 pub list-items-smaller : goal.list-items-smaller
 list-items-smaller t c =
-    let e : at_end (nesting_of c.args.self.now.context.nesting) c.items.self.reader ≡ false = sym (rw c.items.invariant.context at c.is_at_end.ensures) ∙ c.items-test.true in
-    (item-read (inner_list c.args.self.now.context.depth_left) (inner_list-leaves c.args.self.now.context.depth_left) (nesting_of c.args.self.now.context.nesting) (is_inside c.args.self.now.context.nesting) (judgement list_of c.items.list) c.items.self.reader (judgement item_of c.in_ok-next.next) c.item-in-items.new.self.reader e (rw (c.items.invariant.context, c.advance.ensures) at c.in_ok-next.ensures.reads)).shorter
+    let e : at_end (nesting_of c.args.self.now.context.nesting) c.item.new.self.reader ≡ false = sym (rw (c.item.ensures.context, c.items.invariant.context) at c.is_at_end-at_end.ensures) ∙ c.if-at_end.false in
+    let r = item-read (inner_list c.args.self.now.context.depth_left) (inner_list-leaves c.args.self.now.context.depth_left) (nesting_of c.args.self.now.context.nesting) (is_inside c.args.self.now.context.nesting) (judgement list_of c.items.list) c.items.self.reader (judgement item_of c.in_ok-item.item) c.item.new.self.reader (rw c.items.invariant.context at c.in_ok-item.ensures.reads) e in
+    rw c.advance.ensures r.shorter
 
 pub list-items-preserved : goal.list-items-preserved
 list-items-preserved t c =
-    let e : at_end (nesting_of c.args.self.now.context.nesting) c.items.self.reader ≡ false = sym (rw c.items.invariant.context at c.is_at_end.ensures) ∙ c.items-test.true in
-    let r = item-read (inner_list c.args.self.now.context.depth_left) (inner_list-leaves c.args.self.now.context.depth_left) (nesting_of c.args.self.now.context.nesting) (is_inside c.args.self.now.context.nesting) (judgement list_of c.items.list) c.items.self.reader (judgement item_of c.in_ok-next.next) c.item-in-items.new.self.reader e (rw (c.items.invariant.context, c.advance.ensures) at c.in_ok-next.ensures.reads) in
+    let e : at_end (nesting_of c.args.self.now.context.nesting) c.item.new.self.reader ≡ false = sym (rw (c.item.ensures.context, c.items.invariant.context) at c.is_at_end-at_end.ensures) ∙ c.if-at_end.false in
+    let r = item-read (inner_list c.args.self.now.context.depth_left) (inner_list-leaves c.args.self.now.context.depth_left) (nesting_of c.args.self.now.context.nesting) (is_inside c.args.self.now.context.nesting) (judgement list_of c.items.list) c.items.self.reader (judgement item_of c.in_ok-item.item) c.item.new.self.reader (rw c.items.invariant.context at c.in_ok-item.ensures.reads) e in
     record {
-      reads =
-          rw c.in_ok-add_item-2.ensures (sym r.same ∙ c.items.invariant.reads);
-      context = c.item-in-items.ensures.context ∙ c.items.invariant.context;
+      reads = rw (c.in_ok-add_item.ensures, c.advance.ensures) (sym r.same ∙ c.items.invariant.reads);
+      context = c.item.ensures.context ∙ c.items.invariant.context;
     }
-
-pub list-returns-clause-reads : goal.list-returns-clause-reads
-list-returns-clause-reads t c =
-    let e : at_end (nesting_of c.args.self.now.context.nesting) c.items.self.reader ≡ true = sym (rw c.items.invariant.context at c.is_at_end.ensures) ∙ c.items-test.false in
-    rw c.advance-2.ensures (sym c.items.invariant.reads ∙ items-stop (inner_list c.args.self.now.context.depth_left) (nesting_of c.args.self.now.context.nesting) (is_inside c.args.self.now.context.nesting) (judgement list_of c.items.list) c.items.self.reader e)
 
 -- ---- parts
 

@@ -2,9 +2,10 @@ use Rattle.std.proofs.Common.{◌≡◌, ◌+◌, ◌*◌, length, Ok}
 use Rattle.lol_css.specs.Reading.{inner_list, item, list}
 use Rattle.lol_css.specs.Rules.{giving}
 use Rattle.lol_css.specs.Accepting.{judged, judged_item}
-use Rattle.lol_css.specs.Judging.{judged_parts, judged_further, judged_items_at_most}
+use Rattle.lol_css.specs.Judging.{judged_parts, judged_further}
 use Rattle.lol_css.specs.Views.{nesting_of, is_inside, judgement}
 use Rattle.lol_css.specs.TreeViews.{compound_of, item_of, list_of}
+use Rattle.lol_css.proofs.Fusing.{items_from}
 use Rattle.lol_css.proofs.selectors.parser.Parser.+rules.Given as goal
 
 abbrev pub decreases-logical_part : goal.decreases-logical_part
@@ -49,7 +50,7 @@ decreases-item-steps l = l.left
 
 abbrev pub invariant-list-items : goal.invariant-list-items
 invariant-list-items l = record {
-  reads : judged_items_at_most (length l.self.reader + 1) (inner_list l.fn.self.context.depth_left) (nesting_of l.fn.self.context.nesting) (is_inside l.fn.self.context.nesting) (judgement list_of l.list) l.self.reader ≡ giving (judged (is_inside l.fn.self.context.nesting)) (list (inner_list l.fn.self.context.depth_left) (nesting_of l.fn.self.context.nesting) l.fn.self.reader);
+  reads : items_from (inner_list l.fn.self.context.depth_left) (nesting_of l.fn.self.context.nesting) (is_inside l.fn.self.context.nesting) (judgement list_of l.list) l.self.reader ≡ giving (judged (is_inside l.fn.self.context.nesting)) (list (inner_list l.fn.self.context.depth_left) (nesting_of l.fn.self.context.nesting) l.fn.self.reader);
   context : l.self.context ≡ l.fn.self.context;
 }
 
