@@ -49,7 +49,9 @@ impl Compiler {
             free_space_start: 0,
             enable_nth_of_type: false,
         };
-        let entry_points = layout.compile_nodes(ast.into_root())?;
+        let root = ast.into_root();
+        let entry_points = 0..root.len();
+        layout.compile_nodes(root)?;
         Ok(Program {
             instructions: layout.instructions,
             entry_points,
@@ -82,10 +84,8 @@ struct Layout {
 impl Layout {
     /// Lays out siblings, with all that is under them.
     #[cycle(compile)]
-    fn compile_nodes(&mut self, nodes: Vec<AstNode>) -> Result<AddressRange, AllocError>
+    fn compile_nodes(&mut self, nodes: Vec<AstNode>) -> Result<(), AllocError>
         requires { self.old.free_space_start + size (forest_of nodes.items) ≤ length self.old.instructions.items }
-        ensures start { IfOk result (λ r. r.start ≡ self.old.free_space_start) }
-        ensures end { IfOk result (λ r. r.end ≡ self.old.free_space_start + length nodes.items) }
         ensures free { OnOk result (self.new.free_space_start
             ≡ self.old.free_space_start + size (forest_of nodes.items)) }
         ensures by_type { OnOk result (self.new.enable_nth_of_type
@@ -95,15 +95,13 @@ impl Layout {
         ensures same { OnOk result (SameOutside self.old.free_space_start self.new.free_space_start
             self.old.instructions.items self.new.instructions.items) }
     {
-        let start = self.free_space_start;
-        let end = start + nodes.len();
-        self.free_space_start = end;
-        let mut place = start;
+        let mut place = self.free_space_start;
+        self.free_space_start += nodes.len();
         for node in nodes {
             self.compile_node(node, place)?;
             place += 1;
         }
-        Ok(start..end)
+        Ok(())
     }
 
     /// Lays out siblings, if there are some.
@@ -121,10 +119,11 @@ impl Layout {
             self.old.instructions.items self.new.instructions.items) }
     {
         if nodes.is_empty() {
-            Ok(None)
-        } else {
-            Ok(Some(self.compile_nodes(nodes)?))
+            return Ok(None);
         }
+        let range = self.free_space_start..self.free_space_start + nodes.len();
+        self.compile_nodes(nodes)?;
+        Ok(Some(range))
     }
 
     /// Lays out what is under a node, and the node at its place.

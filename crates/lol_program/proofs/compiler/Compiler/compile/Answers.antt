@@ -14,22 +14,20 @@ use Rattle.lol_program.proofs.Filled.{filled}
 use Rattle.lol_program.proofs.compiler.Compiler.compile.Goals as goal
 
 pub compile_nodes-requires : goal.compile_nodes-requires
-compile_nodes-requires c = omega (arith, ap size c.into_root.ensures, c.in_ok-noops.ensures, c.cumulative_node_count.ensures.count, size-nodes First (trees_of c.args.ast))
+compile_nodes-requires c = omega (arith, ap size c.into_root-root.ensures, c.in_ok-noops.ensures, c.cumulative_node_count.ensures.count, size-nodes First (trees_of c.args.ast))
 
 pub returns : goal.returns
 returns c =
     let f = trees_of c.args.ast in
     let instructions = c.compile_nodes.new.self.instructions.items in
     let flag = c.compile_nodes.new.self.enable_nth_of_type in
-    let r = c.in_ok-entry_points.entry_points in
-    let done = c.in_ok-entry_points.ensures in
-    let same = c.into_root.ensures in
+    let done = c.in_ok-compile_nodes.ensures in
+    let same = c.into_root-root.ensures in
     let count : length instructions ≡ size f = done.same.count ∙ (c.in_ok-noops.ensures ∙ (c.cumulative_node_count.ensures.count ∙ size-nodes First f)) in
     let by_type : flag ≡ any_by_type f = done.by_type ∙ ap any_by_type same in
     let laid : AreLaid instructions 0 (0 + width f) f = subst (λ (g : Forest). AreLaid instructions 0 (0 + width g) g) same done.laid in
     let shown : code_of flag instructions ≡ (program_of f).instructions = filled f (code_of flag instructions) (length-map instructions (instruction_shown flag) ∙ count) (laid flag (λ needed. by_type ∙ needed)) in
-    let start : r.start ≡ 0 = done.start in
-    let end : r.end ≡ width f = omega (arith, done.end, width_is c.into_root.result.items, ap width same) in
-    let program : program_shown (record { instructions = c.compile_nodes.new.self.instructions; entry_points = r; enable_nth_of_type = flag }) ≡ program_of f =
-    λ i. record { entry = record { start = start i; end = end i }; instructions = shown i; by_type = by_type i } in
+    let end : c.len.result ≡ width f = omega (arith, c.len.ensures, width_is c.into_root-root.result.items, ap width same) in
+    let program : program_shown (record { instructions = c.compile_nodes.new.self.instructions; entry_points = record { start = 0; end = c.len.result }; enable_nth_of_type = flag }) ≡ program_of f =
+    λ i. record { entry = record { start = 0; end = end i }; instructions = shown i; by_type = by_type i } in
     subst (IsProgramOf (selectors_in f) (nodes_in First f)) (sym program) (layouts_are_programs f c.args.ast.siblings)

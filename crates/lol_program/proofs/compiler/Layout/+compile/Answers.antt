@@ -1,4 +1,4 @@
-use Rattle.std.proofs.Common.{rules, arith, Bool, ◌||◌, ◌≡◌, ◌+◌, ◌<◌, length, List, refl, sym, ap, subst, ◌∙◌}
+use Rattle.std.proofs.Common.{rules, arith, ℕ, Bool, ◌||◌, ◌≡◌, ◌+◌, ◌<◌, length, List, refl, sym, ap, subst, ◌∙◌}
 use Rattle.std.specs.Prelude.{slice_set}
 use Rattle.std.proofs.lemmas.List.{length-set}
 use Rattle.std.specs.Vec.Iter.{into_iter_items}
@@ -22,11 +22,10 @@ use Rattle.lol_program.specs.NodeViewLaws.{shape, node_out}
 use Rattle.lol_program.proofs.Laying.{IsHalfLaid, half_init, half_step, half_done, node_done, node_same, placed_same, placed_stays, width_is, range_some}
 use Rattle.lol_program.proofs.compiler.Layout.+compile.Goals as goal
 
-pub compile_list-returns-in_ok-compile_nodes-clause-range :
-    goal.compile_list-returns-in_ok-compile_nodes-clause-range
-compile_list-returns-in_ok-compile_nodes-clause-range t c =
+pub compile_list-returns-clause-range : goal.compile_list-returns-clause-range
+compile_list-returns-clause-range t c =
     let some : 0 < length c.args.nodes.items = search rules in
-    range_some c.args.nodes.items c.in_ok-compile_nodes.field-0 c.args.self.now.free_space_start some c.in_ok-compile_nodes.ensures.start c.in_ok-compile_nodes.ensures.end
+    range_some c.args.nodes.items _ c.args.self.now.free_space_start some refl (omega (arith, c.len.ensures))
 
 pub compile_node-returns-clause-laid : goal.compile_node-returns-clause-laid
 compile_node-returns-clause-laid t c =
@@ -83,21 +82,22 @@ compile_nodes-loop-node-init t c =
     let f = forest_of c.args.nodes.items in
     let start = c.args.self.now.free_space_start in
     let old = c.args.self.now.instructions.items in
-    let end : start + c.len.result ≡ start + width f = omega (arith, width_is c.args.nodes.items, c.len.ensures) in
+    let end : start + length c.args.nodes.items ≡ start + width f = omega (arith, width_is c.args.nodes.items) in
+    let free : start + length c.args.nodes.items ≡ start + c.len.result = omega (arith, c.len.ensures) in
     let given : into_iter_items c.into_iter-node-iterator.result ≡ c.args.nodes.items = search rules in
     record {
       can_next = tt;
       finite = tt;
-      start = refl;
       by_type = ap (λ (ns : List AstNode). c.args.self.now.enable_nth_of_type || any_by_type (forest_of ns)) given;
-      half = subst (λ (ns : List AstNode). IsHalfLaid f start (start + c.len.result) old (forest_of ns) start (start + c.len.result) old) (sym given) (half_init f start (start + c.len.result) old end);
+      half = subst (λ (ns : List AstNode). IsHalfLaid f start (start + length c.args.nodes.items) old (forest_of ns) start (start + c.len.result) old) (sym given)
+          (subst (λ (free : ℕ). IsHalfLaid f start (start + length c.args.nodes.items) old f start free old) free (half_init f start (start + length c.args.nodes.items) old end));
     }
 
 pub compile_nodes-loop-node-preserved : goal.compile_nodes-loop-node-preserved
 compile_nodes-loop-node-preserved t c =
     let f = forest_of c.args.nodes.items in
     let start = c.args.self.now.free_space_start in
-    let end = start + c.len.result in
+    let end = start + length c.args.nodes.items in
     let old = c.args.self.now.instructions.items in
     let instructions = c.loop-node.self.instructions.items in
     let next = c.compile_node.new.self.instructions.items in
@@ -111,7 +111,6 @@ compile_nodes-loop-node-preserved t c =
     record {
       can_next = tt;
       finite = tt;
-      start = refl;
       by_type = flag_more flag c.compile_node.new.self.enable_nth_of_type own (any_by_type (forest_of (into_iter_items c.next.new.self))) _ (done.by_type ∙ ap (λ (b : Bool). flag || b) (or-false own))
           (ap (λ (ns : List AstNode). flag || any_by_type (forest_of ns)) (sym c.in-Some.ensures.steps.0) ∙ c.loop-node.invariant.by_type);
       half = half_step f start end old (node_of c.in-Some.node) (forest_of (into_iter_items c.next.new.self)) place free c.compile_node.new.self.free_space_start instructions next h done.same done.free done.laid;
@@ -123,5 +122,5 @@ compile_nodes-returns-clause-laid t c =
     let nothing : into_iter_items left ≡ _ = empty_from (into_iter_items left) (sym left.rest.ok.0 ∙ c.in-None.ensures.steps.0) in
     let start = c.args.self.now.free_space_start in
     let old = c.args.self.now.instructions.items in
-    let half = subst (λ (ns : List AstNode). IsHalfLaid (forest_of c.args.nodes.items) start (start + c.len.result) old (forest_of ns) c.loop-node.place c.loop-node.self.free_space_start c.loop-node.self.instructions.items) nothing c.loop-node.invariant.half in
-    half_done (forest_of c.args.nodes.items) start (start + c.len.result) old c.loop-node.place c.loop-node.self.free_space_start c.loop-node.self.instructions.items half
+    let half = subst (λ (ns : List AstNode). IsHalfLaid (forest_of c.args.nodes.items) start (start + length c.args.nodes.items) old (forest_of ns) c.loop-node.place c.loop-node.self.free_space_start c.loop-node.self.instructions.items) nothing c.loop-node.invariant.half in
+    half_done (forest_of c.args.nodes.items) start (start + length c.args.nodes.items) old c.loop-node.place c.loop-node.self.free_space_start c.loop-node.self.instructions.items half

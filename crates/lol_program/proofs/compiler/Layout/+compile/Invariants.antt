@@ -1,4 +1,4 @@
-use Rattle.std.proofs.Common.{◌≡◌, ◌+◌, ◌*◌, ◌||◌}
+use Rattle.std.proofs.Common.{◌≡◌, ◌+◌, ◌*◌, ◌||◌, length}
 use Rattle.std.specs.Vec.Iter.{into_iter_items}
 use Rattle.lol_program.specs.Views.{node_of, forest_of}
 use Rattle.lol_program.specs.Forest.{none, link, size}
@@ -19,7 +19,6 @@ abbrev pub invariant-compile_nodes-loop-node : goal.invariant-compile_nodes-loop
 invariant-compile_nodes-loop-node l = record {
   can_next : (goal.iterator-compile_nodes-loop-node).can_next l.node-iterator;
   finite : (goal.iterator-compile_nodes-loop-node).is_finite l.node-iterator;
-  start : l.start ≡ l.fn.self.free_space_start;
   by_type : (l.self.enable_nth_of_type || any_by_type (forest_of (into_iter_items l.node-iterator))) ≡ (l.fn.self.enable_nth_of_type || any_by_type (forest_of l.fn.nodes.items));
-  half : IsHalfLaid (forest_of l.fn.nodes.items) l.start l.end l.fn.self.instructions.items (forest_of (into_iter_items l.node-iterator)) l.place l.self.free_space_start l.self.instructions.items;
+  half : IsHalfLaid (forest_of l.fn.nodes.items) l.fn.self.free_space_start (l.fn.self.free_space_start + length l.fn.nodes.items) l.fn.self.instructions.items (forest_of (into_iter_items l.node-iterator)) l.place l.self.free_space_start l.self.instructions.items;
 }
