@@ -96,7 +96,7 @@ pub(crate) fn compile_tests(
 {
     let mut compiled = Vec::with_capacity(alloc, tests.len())?;
     for test in tests {
-        compiled.push(compile_test(alloc, test, enable_nth_of_type)?)?;
+        compiled.push_reserved(compile_test(alloc, test, enable_nth_of_type)?);
     }
     Ok(compiled)
 }
@@ -117,7 +117,7 @@ fn compile_predicates(
     let mut compiled = Vec::with_capacity(alloc, predicates.len())?;
     for predicate in predicates {
         let tests = compile_tests(alloc, predicate.tests, enable_nth_of_type)?;
-        compiled.push(CompiledPredicate::new(tests))?;
+        compiled.push_reserved(CompiledPredicate::new(tests));
     }
     Ok(compiled)
 }
