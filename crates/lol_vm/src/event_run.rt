@@ -131,6 +131,13 @@ impl EventRun {
         &self.vm
     }
 
+    /// How many events were answered.
+    pub fn events(&self) -> usize
+        ensures { result ≡ self.now.count }
+    {
+        self.count
+    }
+
     /// What was tried for the last start tag.
     pub fn tries(&self) -> Tries
         ensures { result ≡ tries_in (machine_of self.now) }
