@@ -21,6 +21,7 @@ use crate::program::Program;
 use lol_instructions::{AddressRange, CompiledPredicate, ExecutionBranch, Instruction};
 use lol_memory::DenseHashSet;
 use std::alloc::{AllocError, Global};
+use std::mem;
 
 /// What makes programs of trees of selectors (lol_html's `Compiler`).
 #[derive(Drop)]
@@ -49,9 +50,9 @@ impl Compiler {
             free_space_start: 0,
             enable_nth_of_type: false,
         };
-        let root = ast.into_root();
+        let mut root = ast.into_root();
         let entry_points = 0..root.len();
-        layout.compile_nodes(root)?;
+        layout.compile_nodes(&mut root)?;
         Ok(Program {
             instructions: layout.instructions,
             entry_points,
@@ -82,22 +83,22 @@ struct Layout {
 }
 
 impl Layout {
-    /// Lays out siblings, with all that is under them.
+    /// Lays out siblings, with all that is under them. Their tests and ids are taken.
     #[cycle(compile)]
-    fn compile_nodes(&mut self, nodes: Vec<AstNode>) -> Result<(), AllocError>
-        requires { self.old.free_space_start + size (forest_of nodes.items) ≤ length self.old.instructions.items }
+    fn compile_nodes(&mut self, nodes: &mut [AstNode]) -> Result<(), AllocError>
+        requires { self.old.free_space_start + size (forest_of nodes.old) ≤ length self.old.instructions.items }
         ensures free { OnOk result (self.new.free_space_start
-            ≡ self.old.free_space_start + size (forest_of nodes.items)) }
+            ≡ self.old.free_space_start + size (forest_of nodes.old)) }
         ensures by_type { OnOk result (self.new.enable_nth_of_type
-            ≡ (self.old.enable_nth_of_type || any_by_type (forest_of nodes.items))) }
+            ≡ (self.old.enable_nth_of_type || any_by_type (forest_of nodes.old))) }
         ensures laid { OnOk result (AreLaid self.new.instructions.items self.old.free_space_start
-            (self.old.free_space_start + width (forest_of nodes.items)) (forest_of nodes.items)) }
+            (self.old.free_space_start + width (forest_of nodes.old)) (forest_of nodes.old)) }
         ensures same { OnOk result (SameOutside self.old.free_space_start self.new.free_space_start
             self.old.instructions.items self.new.instructions.items) }
     {
         let mut place = self.free_space_start;
         self.free_space_start += nodes.len();
-        for node in nodes {
+        for node in nodes.iter_mut() {
             self.compile_node(node, place)?;
             place += 1;
         }
@@ -106,15 +107,15 @@ impl Layout {
 
     /// Lays out siblings, if there are some.
     #[cycle(compile)]
-    fn compile_list(&mut self, nodes: Vec<AstNode>) -> Result<Option<AddressRange>, AllocError>
-        requires { self.old.free_space_start + size (forest_of nodes.items) ≤ length self.old.instructions.items }
-        ensures range { IfOk result (λ r. r ≡ range_of (forest_of nodes.items) self.old.free_space_start) }
+    fn compile_list(&mut self, nodes: &mut [AstNode]) -> Result<Option<AddressRange>, AllocError>
+        requires { self.old.free_space_start + size (forest_of nodes.old) ≤ length self.old.instructions.items }
+        ensures range { IfOk result (λ r. r ≡ range_of (forest_of nodes.old) self.old.free_space_start) }
         ensures free { OnOk result (self.new.free_space_start
-            ≡ self.old.free_space_start + size (forest_of nodes.items)) }
+            ≡ self.old.free_space_start + size (forest_of nodes.old)) }
         ensures by_type { OnOk result (self.new.enable_nth_of_type
-            ≡ (self.old.enable_nth_of_type || any_by_type (forest_of nodes.items))) }
+            ≡ (self.old.enable_nth_of_type || any_by_type (forest_of nodes.old))) }
         ensures laid { OnOk result (AreLaid self.new.instructions.items self.old.free_space_start
-            (self.old.free_space_start + width (forest_of nodes.items)) (forest_of nodes.items)) }
+            (self.old.free_space_start + width (forest_of nodes.old)) (forest_of nodes.old)) }
         ensures same { OnOk result (SameOutside self.old.free_space_start self.new.free_space_start
             self.old.instructions.items self.new.instructions.items) }
     {
@@ -128,55 +129,56 @@ impl Layout {
 
     /// Lays out what is under a node, and the node at its place.
     #[cycle(compile)]
-    fn compile_node(&mut self, node: AstNode, place: usize) -> Result<(), AllocError>
-        requires room { self.old.free_space_start + (size (node_of node).children + size (node_of node).descendants)
-            ≤ length self.old.instructions.items }
+    fn compile_node(&mut self, node: &mut AstNode, place: usize) -> Result<(), AllocError>
+        requires room { self.old.free_space_start
+            + (size (node_of node.old).children + size (node_of node.old).descendants) ≤ length self.old.instructions.items }
         requires place { place < self.old.free_space_start }
         ensures free { OnOk result (self.new.free_space_start
-            ≡ self.old.free_space_start + (size (node_of node).children + size (node_of node).descendants)) }
+            ≡ self.old.free_space_start + (size (node_of node.old).children + size (node_of node.old).descendants)) }
         ensures by_type { OnOk result (self.new.enable_nth_of_type
-            ≡ (self.old.enable_nth_of_type || any_by_type (link (node_of node) none))) }
+            ≡ (self.old.enable_nth_of_type || any_by_type (link (node_of node.old) none))) }
         ensures laid { OnOk result
-            (AreLaid self.new.instructions.items place self.old.free_space_start (link (node_of node) none)) }
+            (AreLaid self.new.instructions.items place self.old.free_space_start (link (node_of node.old) none)) }
         ensures same { OnOk result (SameElsewhere place self.old.free_space_start self.new.free_space_start
             self.old.instructions.items self.new.instructions.items) }
     {
-        let AstNode {
-            predicate,
-            children,
-            descendants,
-            match_ids,
-        } = node;
-        self.place_node(place, predicate, match_ids)?;
-        let jumps = self.compile_list(children)?;
-        let hereditary_jumps = self.compile_list(descendants)?;
+        self.place_node(place, &mut node.predicate, &mut node.match_ids)?;
+        let jumps = self.compile_list(&mut node.children)?;
+        let hereditary_jumps = self.compile_list(&mut node.descendants)?;
         self.set_jumps(place, jumps, hereditary_jumps);
         Ok(())
     }
 
-    /// Compiles the tests of a node, and puts its instruction at a place, without ranges.
+    /// Takes the tests and the ids of a node, and puts its instruction at a place, without ranges.
     // Inlined, it would make each step of a recursion take more of the stack.
     #[inline(never)]
     fn place_node(
         &mut self,
         place: usize,
-        predicate: Predicate,
-        match_ids: DenseHashSet,
+        predicate: &mut Predicate,
+        match_ids: &mut DenseHashSet,
     ) -> Result<(), AllocError>
         requires { place < length self.old.instructions.items }
         ensures placed { OnOk result
-            (IsPlaced place match_ids (tests_of predicate) self.old.instructions.items self.new.instructions.items) }
+            (IsPlaced place match_ids.old (tests_of predicate.old)
+            self.old.instructions.items self.new.instructions.items) }
         ensures by_type { OnOk result (self.new.enable_nth_of_type
-            ≡ (self.old.enable_nth_of_type || has_test_by_type (tests_of predicate))) }
+            ≡ (self.old.enable_nth_of_type || has_test_by_type (tests_of predicate.old))) }
         ensures free { self.new.free_space_start ≡ self.old.free_space_start }
     {
+        let no_tests = Predicate {
+            tests: Vec::new(self.alloc),
+        };
+        let predicate = mem::replace(predicate, no_tests);
+        let matched_ids = mem::replace(match_ids, DenseHashSet::new(self.alloc));
         let predicate = self.compile_predicate(predicate)?;
         let associated_branch = ExecutionBranch {
-            matched_ids: match_ids,
+            matched_ids,
             jumps: None,
             hereditary_jumps: None,
         };
-        self.instructions[place] = Instruction::new(associated_branch, predicate);
+        let instruction = Instruction::new(associated_branch, predicate);
+        self.instructions[place] = instruction;
         Ok(())
     }
 

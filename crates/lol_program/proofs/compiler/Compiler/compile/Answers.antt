@@ -1,8 +1,10 @@
-use Rattle.std.proofs.Common.{arith, ◌≡◌, ◌+◌, length, sym, ap, subst, ◌∙◌}
+use Rattle.std.proofs.Common.{arith, ◌≡◌, ◌+◌, List, length, sym, ap, subst, ◌∙◌}
 use Rattle.std.proofs.lemmas.List.{length-map}
 use Rattle.lol_program.specs.Asts.{trees_of}
 use Rattle.lol_program.specs.Paths.{First}
 use Rattle.lol_program.specs.Forest.{Forest, size, nodes_in}
+use Rattle.lol_program.specs.Views.{forest_of}
+use Rattle.lol_program.specs.declared.ast_node.AstNode.{AstNode}
 use Rattle.lol_program.specs.Programs.{IsProgramOf}
 use Rattle.lol_program.specs.Layouts.{width, any_by_type, selectors_in, program_of}
 use Rattle.lol_program.specs.ProgramViews.{instruction_shown, code_of, program_shown}
@@ -14,7 +16,7 @@ use Rattle.lol_program.proofs.Filled.{filled}
 use Rattle.lol_program.proofs.compiler.Compiler.compile.Goals as goal
 
 pub compile_nodes-requires : goal.compile_nodes-requires
-compile_nodes-requires c = omega (arith, ap size c.into_root-root.ensures, c.in_ok-noops.ensures, c.cumulative_node_count.ensures.count, size-nodes First (trees_of c.args.ast))
+compile_nodes-requires c = omega (arith, ap (λ (nodes : List AstNode). size (forest_of nodes)) c.deref_mut.ensures.value, ap size c.into_root-root.ensures, c.in_ok-noops.ensures, c.cumulative_node_count.ensures.count, size-nodes First (trees_of c.args.ast))
 
 pub returns : goal.returns
 returns c =
@@ -22,12 +24,12 @@ returns c =
     let instructions = c.compile_nodes.new.self.instructions.items in
     let flag = c.compile_nodes.new.self.enable_nth_of_type in
     let done = c.in_ok-compile_nodes.ensures in
-    let same = c.into_root-root.ensures in
+    let same = ap forest_of c.deref_mut.ensures.value ∙ c.into_root-root.ensures in
     let count : length instructions ≡ size f = done.same.count ∙ (c.in_ok-noops.ensures ∙ (c.cumulative_node_count.ensures.count ∙ size-nodes First f)) in
     let by_type : flag ≡ any_by_type f = done.by_type ∙ ap any_by_type same in
     let laid : AreLaid instructions 0 (0 + width f) f = subst (λ (g : Forest). AreLaid instructions 0 (0 + width g) g) same done.laid in
     let shown : code_of flag instructions ≡ (program_of f).instructions = filled f (code_of flag instructions) (length-map instructions (instruction_shown flag) ∙ count) (laid flag (λ needed. by_type ∙ needed)) in
-    let end : c.len.result ≡ width f = omega (arith, c.len.ensures, width_is c.into_root-root.result.items, ap width same) in
+    let end : c.len.result ≡ width f = omega (arith, c.len.ensures, width_is c.into_root-root.result.items, ap width c.into_root-root.ensures) in
     let program : program_shown (record { instructions = c.compile_nodes.new.self.instructions; entry_points = record { start = 0; end = c.len.result }; enable_nth_of_type = flag }) ≡ program_of f =
     λ i. record { entry = record { start = 0; end = end i }; instructions = shown i; by_type = by_type i } in
     subst (IsProgramOf (selectors_in f) (nodes_in First f)) (sym program) (layouts_are_programs f c.args.ast.siblings)

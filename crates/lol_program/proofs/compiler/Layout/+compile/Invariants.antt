@@ -1,5 +1,4 @@
-use Rattle.std.proofs.Common.{◌≡◌, ◌+◌, ◌*◌, ◌||◌, length}
-use Rattle.std.specs.Vec.Iter.{into_iter_items}
+use Rattle.std.proofs.Common.{◌≡◌, ◌+◌, ◌*◌, ◌||◌, drop, length}
 use Rattle.lol_program.specs.Views.{node_of, forest_of}
 use Rattle.lol_program.specs.Forest.{none, link, size}
 use Rattle.lol_program.specs.Layouts.{any_by_type}
@@ -7,18 +6,17 @@ use Rattle.lol_program.proofs.Laying.{IsHalfLaid}
 use Rattle.lol_program.proofs.compiler.Layout.+compile.Given as goal
 
 abbrev pub decreases-compile_list : goal.decreases-compile_list
-decreases-compile_list l = 3 * size (forest_of l.nodes.items) + 2
+decreases-compile_list l = 3 * size (forest_of l.nodes.now) + 2
 
 abbrev pub decreases-compile_nodes : goal.decreases-compile_nodes
-decreases-compile_nodes l = 3 * size (forest_of l.nodes.items) + 1
+decreases-compile_nodes l = 3 * size (forest_of l.nodes.now) + 1
 
 abbrev pub decreases-compile_node : goal.decreases-compile_node
-decreases-compile_node l = 3 * size (link (node_of l.node) none)
+decreases-compile_node l = 3 * size (link (node_of l.node.now) none)
 
 abbrev pub invariant-compile_nodes-loop-node : goal.invariant-compile_nodes-loop-node
 invariant-compile_nodes-loop-node l = record {
-  can_next : (goal.iterator-compile_nodes-loop-node).can_next l.node-iterator;
-  finite : (goal.iterator-compile_nodes-loop-node).is_finite l.node-iterator;
-  by_type : (l.self.enable_nth_of_type || any_by_type (forest_of (into_iter_items l.node-iterator))) ≡ (l.fn.self.enable_nth_of_type || any_by_type (forest_of l.fn.nodes.items));
-  half : IsHalfLaid (forest_of l.fn.nodes.items) l.fn.self.free_space_start (l.fn.self.free_space_start + length l.fn.nodes.items) l.fn.self.instructions.items (forest_of (into_iter_items l.node-iterator)) l.place l.self.free_space_start l.self.instructions.items;
+  as_before : drop l.node-index l.nodes ≡ drop l.node-index l.fn.nodes;
+  by_type : (l.self.enable_nth_of_type || any_by_type (forest_of (drop l.node-index l.fn.nodes))) ≡ (l.fn.self.enable_nth_of_type || any_by_type (forest_of l.fn.nodes));
+  half : IsHalfLaid (forest_of l.fn.nodes) l.fn.self.free_space_start (l.fn.self.free_space_start + length l.fn.nodes) l.fn.self.instructions.items (forest_of (drop l.node-index l.fn.nodes)) l.place l.self.free_space_start l.self.instructions.items;
 }

@@ -1,4 +1,4 @@
-use Rattle.std.proofs.Common.{sym, ap, subst}
+use Rattle.std.proofs.Common.{sym, ap, subst, ◌∙◌}
 use Rattle.std.specs.Prelude.{slice_set}
 use Rattle.std.specs.Global.{Vec}
 use Rattle.lol_program.specs.Predicates.{tests_of}
@@ -7,12 +7,15 @@ use Rattle.lol_instructions.specs.Compiled.{tests_in}
 use Rattle.lol_instructions.specs.declared.execution_branch.ExecutionBranch.{ExecutionBranch}
 use Rattle.lol_instructions.specs.declared.compiled_predicate.CompiledPredicate.{CompiledPredicate}
 use Rattle.lol_instructions.specs.declared.instruction.Instruction as code
+use Rattle.lol_program.specs.declared.predicate.Predicate.{Predicate}
 use Rattle.lol_program.proofs.compiler.Layout.place_node.Goals as goal
 
 pub returns-clause-placed : goal.returns-clause-placed
 returns-clause-placed c = record {
-  instruction = c.new.result;
-  is = ap (λ (v : Vec code.Instruction). slice_set v.items c.args.place c.new.result) c.compile_predicate.ensures.instructions;
-  ids_are = ap (λ (given : ExecutionBranch). given.matched_ids) c.new.ensures.branch;
-  tests_are = subst (λ (q : CompiledPredicate). AreCompiledTests (tests_in q) (tests_of c.args.predicate)) (sym c.new.ensures.predicate) c.in_ok-predicate.ensures.tests;
+  instruction = c.new-instruction.result;
+  is = ap (λ (v : Vec code.Instruction). slice_set v.items c.args.place c.new-instruction.result) c.compile_predicate.ensures.instructions;
+  ids_are = ap (λ (given : ExecutionBranch). given.matched_ids) c.new-instruction.ensures.branch ∙ c.replace-matched_ids.ensures.value;
+  tests_are =
+      subst (λ (q : CompiledPredicate). AreCompiledTests (tests_in q) (tests_of c.args.predicate.now)) (sym c.new-instruction.ensures.predicate)
+      (subst (λ (p : Predicate). AreCompiledTests (tests_in c.in_ok-predicate.predicate) (tests_of p)) c.replace-predicate.ensures.value c.in_ok-predicate.ensures.tests);
 }
