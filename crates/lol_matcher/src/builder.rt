@@ -64,6 +64,13 @@ impl MatcherBuilder {
         }
     }
 
+    /// Replaces the selectors by those of a tree.
+    pub fn set_tree(&mut self, ast: Ast)
+        ensures { self.new ≡ record self.old { ast = ast } }
+    {
+        self.ast = ast;
+    }
+
     /// Sets the most bytes that open elements may be charged for. Until it is called there is no bound.
     pub fn max_memory(&mut self, bytes: usize)
         ensures { self.new ≡ record self.old { max_memory = bytes } }

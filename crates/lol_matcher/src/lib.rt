@@ -21,3 +21,4 @@ pub use lol_memory::{MatchId, MatchInfo};
 pub use lol_program::Tries;
 pub use lol_stack::ElementValue;
 pub use matcher::{Matcher, Started};
+pub use reading::read_selector;

@@ -110,7 +110,7 @@ impl<T: Drop> Matcher<T> {
     ghost use Rattle.lol_matcher.specs.Told.{elements_of, heard};
     ghost use Rattle.lol_run_laws.specs.AskedRuns.{bare_tag};
     ghost use Rattle.lol_vm.specs.Views.{match_of, selectors};
-    ghost use Rattle.lol_vm.specs.Vms.{IsTriedAtMost, open_after};
+    ghost use Rattle.lol_vm.specs.Vms.{IsTriedAtMost, Stands, data_in, open_after};
 
     /// A matcher for the selectors of a tree.
     pub(crate) fn new(
@@ -153,6 +153,15 @@ impl<T: Drop> Matcher<T> {
         ensures { result ≡ self.now.tries }
     {
         self.vm.tries()
+    }
+
+    /// The machine, to be looked at: until a tag is refused it stands for what was told, a start tag that waits as dropped.
+    pub fn machine(&self) -> &SelectorMatchingVm<ElementValue<Option<T>>>
+        ensures stands { self.now.failed ≡ false
+            → Stands (selectors self.now.told.ast) self.now.told.esi result.now (heard self.now.told) }
+        ensures kept { data_in result.now ≡ self.now.kept }
+    {
+        &self.vm
     }
 
     /// Whether a start tag was refused, so that each that comes later is answered `Failed`.

@@ -1,7 +1,8 @@
 //! Selectors from texts.
 
-ghost use Rattle.std.specs.Prelude.{◌≡◌, Err, IfErr, OnOk};
+ghost use Rattle.std.specs.Prelude.{◌≡◌, Ok, Err, IfErr, IfOk, OnOk};
 ghost use Rattle.lol_css.specs.Accepting.{accept};
+ghost use Rattle.lol_css.specs.TreeViews.{list_of};
 ghost use Rattle.lol_matcher.specs.Building.{Adds, IsRefused, Refuses};
 
 use crate::error::AddError;
@@ -21,14 +22,25 @@ pub(crate) fn add_text(
     ensures added { OnOk result (Adds id text.now ast.old ast.new) }
     ensures refused { IfErr result (λ error. Refuses id text.now error ast.old ast.new) }
 {
-    let selector = match Selector::from_str(alloc, text) {
-        Ok(selector) => selector,
-        Err(SelectorError::Memory) => return Err(AddError::Memory),
-        Err(cause) => return Err(refusal(alloc, text, cause)),
-    };
+    let selector = read_selector(alloc, text)?;
     match ast.add_selector(&selector, id) {
         Ok(()) => Ok(()),
         Err(_) => Err(AddError::Memory),
+    }
+}
+
+/// The selectors of a text.
+///
+/// # Errors
+/// Why the text isn't accepted and where, or `Memory`.
+pub fn read_selector(alloc: Global, text: &str) -> Result<Selector, AddError>
+    ensures read { IfOk result (λ selector. accept text.now ≡ Ok (list_of selector)) }
+    ensures refused { IfErr result (λ error. IsRefused text.now error) }
+{
+    match Selector::from_str(alloc, text) {
+        Ok(selector) => Ok(selector),
+        Err(SelectorError::Memory) => Err(AddError::Memory),
+        Err(cause) => Err(refusal(alloc, text, cause)),
     }
 }
 
