@@ -1,10 +1,10 @@
-mod Witnesses
+pub mod Witnesses
 mod Reasons
-mod Climbing
+pub mod Climbing
 mod Climbs
 mod Nodes
 mod Around
-mod Numbers
+pub mod Numbers
 mod Growing
-mod Telling
+pub mod Telling
 mod Alike

@@ -43,7 +43,7 @@ module _ (ts : List Text) (s : Selectors) (has : HasItemsOf ts s) where
   }
 
   module _ (e : Element) (outer : List Element) where
-    matched_are : matching_ids s.pairs e outer ≡ matched_from e outer 0 added
+    pub matched_are : matching_ids s.pairs e outer ≡ matched_from e outer 0 added
     matched_are =
         sym (matching_ids-same e outer (numbered_from 0 added) s.pairs
         (λ p h. among_from_contains s.pairs p ((has p).0 (contains_from_among (numbered_from 0 added) p h)))

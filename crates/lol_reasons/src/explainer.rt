@@ -1,6 +1,6 @@
 //! Reasons of a machine's reports.
 
-ghost use Rattle.std.specs.Prelude.{◌≡◌, ◌++◌, ◌∷◌, [], ◌<◌, Bool, true, None, List, IfOk, IfSome, OnOk, length, map};
+ghost use Rattle.std.specs.Prelude.{◌≡◌, ◌++◌, ◌∷◌, [], ◌<◌, Bool, true, None, List, IfOk, IfSome, OnOk, length, map, slice_get};
 ghost use Rattle.std.specs.Option.{option_map};
 ghost use Rattle.lol_base.specs.StartTags.{StartTag};
 ghost use Rattle.lol_instructions.specs.Tests.{Element};
@@ -75,6 +75,13 @@ impl Explainer {
     {
         self.items.push(item)?;
         Ok(())
+    }
+
+    /// The item under a number, if there is one.
+    pub fn item(&self, number: MatchId) -> Option<ItemOfText>
+        ensures { option_map item_shown result ≡ slice_get (items_of self.now) number }
+    {
+        self.items.get(number as usize).copied()
     }
 
     /// Makes a table of a machine's program, with which `reasons` looks at one instruction for each compound. Without it, or with that of
