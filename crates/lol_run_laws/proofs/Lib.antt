@@ -1,4 +1,4 @@
-mod Alike
+pub mod Alike
 mod ContentMarks
 mod Closings
 mod OneId

@@ -1,0 +1,15 @@
+//! A matcher that says why each element is reported: for each selector that matches it, the elements that its compounds are passed by.
+#![tactic(auto)]
+
+mod builder;
+mod matcher;
+mod reports;
+
+pub use builder::ExplainingMatcherBuilder;
+pub use lol_matcher::{
+    AddError, AttributeBuffer, AttributeOutline, Attributes, AuxStartTagInfo, Bytes, ElementValue,
+    ErrorLocation, MatchId, MatchInfo, MatcherError, Namespace, Range, SelectorError, Started,
+    Tries,
+};
+pub use lol_reasons::{ItemOfText, NumberingError, Reason};
+pub use matcher::ExplainingMatcher;

@@ -1,0 +1,389 @@
+//! The explaining matcher.
+
+ghost use Rattle.std.specs.Prelude.{◌≡◌, IfOk, OnOk};
+ghost use Rattle.lol_reasons.specs.Numbered.{items_of};
+ghost use Rattle.lol_base.specs.Ascending.{ascending_once};
+ghost use Rattle.lol_explaining_matcher.specs.Explaining.{ids_under, matches_under, numbers_in, with_opened};
+
+use crate::builder::ExplainingMatcherBuilder;
+use crate::reports::{numbers_of, report_of};
+use lol_matcher::{
+    AuxStartTagInfo, ElementValue, MatchInfo, Matcher, MatcherError, Namespace, Started, Tries,
+};
+use lol_reasons::{Explainer, NumberingError, Reason, Texts};
+use std::alloc::{AllocError, Global};
+use std::marker::Model;
+
+/// A `Matcher` that says why the last start tag was reported. Its machine reports the items of the texts, each under its number, and the
+/// numbers of the start tags whose elements are open are kept beside it.
+#[derive(Drop)]
+pub struct ExplainingMatcher<T = ()> {
+    alloc: Global,
+    texts: Texts,
+    explainer: Explainer,
+    matcher: Matcher<T>,
+    events: usize,
+    numbers: Vec<usize>,
+    matches: Vec<MatchInfo>,
+    reported: bool,
+    failed: bool,
+}
+
+impl<T> Model for ExplainingMatcher<T> {
+    ghost use Rattle.std.specs.Coded.{codes};
+    ghost use Rattle.lol_memory.specs.Ids.{ids_code};
+    ghost use Rattle.lol_program.specs.contracts.ast.Ast as tree;
+    ghost use Rattle.lol_reasons.specs.contracts.texts.Texts as added;
+    ghost use Rattle.lol_reasons.specs.Numbered.{texts_in};
+    ghost use Rattle.lol_explaining_matcher.specs.Explaining.{Explaining, Explains};
+
+    ghost Value = { Explaining T };
+
+    ghost coded = { Prim.hlevel (codes, tree.the_row.coded, added.the_row.coded, ids_code, T.code) };
+
+    ghost view = { λ m. record {
+      texts = m.texts;
+      items = m.matcher;
+      failed = m.failed;
+      matched = m.matches.items;
+    } };
+
+    ghost invariant = { λ m.
+        Explains (texts_in m.texts) m.explainer m.events m.reported m.failed m.numbers.items m.matches.items
+        m.matcher };
+}
+
+impl ExplainingMatcher {
+    ghost use Rattle.lol_explaining_matcher.specs.Preparing.{IsPlain};
+
+    /// A builder with no selectors, no bound on memory, 64 bytes for each open element, and ESI's names as others.
+    pub fn builder(alloc: Global) -> ExplainingMatcherBuilder
+        ensures { IsPlain result }
+    {
+        ExplainingMatcherBuilder::new(alloc)
+    }
+}
+
+impl<T: Drop> ExplainingMatcher<T> {
+    ghost use Rattle.std.specs.Prelude.{◌≡◌, ◌↔◌, [], true, false, Err, IfOk, OnOk, OnErr, IfErr, drop, length, map};
+    ghost use Rattle.lol_instructions.specs.declared.tries.Tries.{Tries};
+    ghost use Rattle.lol_stack.specs.Calls.{IsCalledAtEach};
+    ghost use Rattle.lol_matcher.specs.Answering.{Answers, IfWaits, IsAnsweredAfter, IsFinishedAs, last_value, told_after, with_ended, with_told, with_value};
+    ghost use Rattle.lol_matcher.specs.Building.{Building, started_with};
+    ghost use Rattle.lol_matcher.specs.Keeping.{IsRefusal};
+    ghost use Rattle.lol_matcher.specs.Noted.{finished_told, handed, handed_told};
+    ghost use Rattle.lol_reasons.specs.Explanations.{added_by};
+    ghost use Rattle.lol_reasons.specs.Numbered.{HoldsItems, reason_shown, texts_in};
+    ghost use Rattle.lol_vm.specs.Vms.{open_after};
+    ghost use Rattle.lol_explaining_matcher.specs.Explaining.{AreNumbered, ReportsFor, reasons_told};
+
+    /// An explaining matcher of the items of texts, and of what explains them.
+    pub(crate) fn new(
+        alloc: Global,
+        texts: Texts,
+        mut explainer: Explainer,
+        matcher: Matcher<T>,
+    ) -> Result<Self, NumberingError>
+        requires holds { HoldsItems (added_by (texts_in texts))
+            (record { ast = matcher.told.ast; explainer = explainer }) }
+        requires started { (b : Building) × (tries : Tries) × (matcher ≡ started_with b tries) }
+        ensures { IfOk result (λ made. made
+            ≡ record { texts = texts; items = matcher; failed = false; matched = [] }) }
+    {
+        explainer.index(matcher.machine().program())?;
+        Ok(ExplainingMatcher {
+            alloc,
+            texts,
+            explainer,
+            matcher,
+            events: 0,
+            numbers: Vec::new(alloc),
+            matches: Vec::new(alloc),
+            reported: false,
+            failed: false,
+        })
+    }
+
+    /// What the last tag was reported under, ascending by id: nothing where it is an end tag, waits for its attributes, or was refused.
+    pub fn matches(&self) -> &[MatchInfo]
+        ensures matched { result.now ≡ self.now.matched }
+        ensures reasons { self.now.failed ≡ false → ReportsFor self.now.items.opened
+            (reasons_told (texts_in self.now.texts) self.now.items.told) self.now.matched }
+        ensures none { self.now.failed ≡ true → self.now.matched ≡ [] }
+    {
+        &self.matches
+    }
+
+    /// How many nodes were tried for the last start tag that wasn't answered `Failed`, its finishing included.
+    pub fn tries(&self) -> Tries
+        ensures { result ≡ self.now.items.tries }
+    {
+        self.matcher.tries()
+    }
+
+    /// Whether a start tag was refused, so that each that comes later is answered `Failed`.
+    pub fn has_failed(&self) -> bool
+        ensures { result ≡ self.now.failed }
+    {
+        self.failed
+    }
+
+    /// Whether the last tag was a start tag that was reported, and opened its element: it has content, so that an end tag may come.
+    pub fn has_opened(&self) -> bool
+        ensures opened { self.now.failed ≡ false → result ≡ self.now.items.opened }
+        ensures failed { self.now.failed ≡ true → result ≡ false }
+    {
+        !self.failed && self.matcher.has_opened()
+    }
+
+    /// Why the last tag was reported: a reason for each item that matches its element, in the order of adding. There is none where it is an
+    /// end tag, waits for its attributes, or was refused. Start tags are numbered as events, from 0, end tags being counted too: a dropped
+    /// tag counts, one that was refused doesn't.
+    ///
+    /// # Errors
+    /// Out of memory, which it takes for the answer and for a list of the items that match. Nothing is changed, so it may be asked for again.
+    pub fn explain(&self) -> Result<Vec<Reason>, AllocError>
+        ensures reasons { IfOk result (λ told. self.now.failed ≡ false → AreNumbered self.now.items.told
+            → map reason_shown told.items ≡ reasons_told (texts_in self.now.texts) self.now.items.told) }
+        ensures none { IfOk result (λ told. self.now.failed ≡ true → told.items ≡ []) }
+    {
+        if !self.reported {
+            return Ok(Vec::new(self.alloc));
+        }
+        let matched = numbers_of(self.alloc, self.matcher.matches())?;
+        let opened = self.matcher.has_opened() as usize;
+        let around = self.numbers.len().saturating_sub(opened);
+        let number = self.events.saturating_sub(1);
+        self.explainer.reasons(
+            self.matcher.machine(),
+            &matched,
+            number,
+            &self.numbers[..around],
+        )
+    }
+
+    /// A start tag: it is reported, or its attributes are asked for. A start tag that waits for its attributes is dropped.
+    ///
+    /// # Errors
+    /// `Failed` exactly after a refusal, and then nothing changes; else why the tag is refused, and all that come later.
+    pub fn start(&mut self, name: &[u8], ns: Namespace) -> Result<Started, MatcherError>
+        ensures answers { IfOk result (λ started.
+            Answers started self.old.items.told name.now ns self.new.items.matched self.new.items.tries) }
+        ensures ok { IfOk result (λ started. self.new.items
+            ≡ with_told (told_after started self.old.items.told name.now ns) self.old.items self.new.items) }
+        ensures well { OnOk result ((self.old.failed ≡ false) × (self.new.failed ≡ false)) }
+        ensures failed { (result ≡ Err MatcherError.Failed) ↔ (self.old.failed ≡ true) }
+        ensures stuck { self.old.failed ≡ true → self.new ≡ self.old }
+        ensures refused { OnErr result (self.old.failed ≡ false
+            → (self.new.failed ≡ true) × (self.new.matched ≡ [])) }
+        ensures texts { self.new.texts ≡ self.old.texts }
+    {
+        if self.failed {
+            return Err(MatcherError::Failed);
+        }
+        self.reported = false;
+        self.matches.clear();
+        match self.matcher.start(name, ns) {
+            Ok(Started::Reported) => {
+                let number = self.events;
+                self.events = number.saturating_add(1);
+                match note_report(
+                    self.alloc,
+                    &self.explainer,
+                    &self.matcher,
+                    number,
+                    &mut self.numbers,
+                ) {
+                    Ok(matches) => {
+                        self.matches = matches;
+                        self.reported = true;
+                        Ok(Started::Reported)
+                    }
+                    Err(_) => {
+                        self.failed = true;
+                        Err(MatcherError::Memory)
+                    }
+                }
+            }
+            Ok(Started::NeedsAttributes) => {
+                self.events = self.events.saturating_add(1);
+                Ok(Started::NeedsAttributes)
+            }
+            Err(error) => {
+                self.failed = true;
+                Err(error)
+            }
+        }
+    }
+
+    /// The attributes of the start tag that waits for them: it is reported.
+    ///
+    /// # Errors
+    /// `Failed` exactly after a refusal; else `OutsideInput` exactly where a range of a name or of a value lies outside the input; else
+    /// `NotAsked` exactly where no tag waits. Then nothing changes, and a tag that waits still does. Else why the tag is refused, and all
+    /// that come later.
+    pub fn finish(&mut self, aux_info: AuxStartTagInfo<'_>) -> Result<(), MatcherError>
+        ensures reported { OnOk result (IfWaits self.old.items.told aux_info.entry (λ tag.
+            IsFinishedAs self.old.items.told tag self.new.items)) }
+        ensures ok { OnOk result (self.new.items
+            ≡ with_told (finished_told self.old.items.told aux_info.entry) self.old.items self.new.items) }
+        ensures well { OnOk result ((self.old.failed ≡ false) × (self.new.failed ≡ false)) }
+        ensures failed { (result ≡ Err MatcherError.Failed) ↔ (self.old.failed ≡ true) }
+        ensures refused { IfErr result (λ error. IsRefusal error
+            → (self.new.failed ≡ true) × (self.new.matched ≡ [])) }
+        ensures unchanged { IfErr result (λ error. (IsRefusal error → ⊥) → self.new ≡ self.old) }
+        ensures texts { self.new.texts ≡ self.old.texts }
+    {
+        if self.failed {
+            return Err(MatcherError::Failed);
+        }
+        match self.matcher.finish(aux_info) {
+            Ok(()) => {
+                let number = self.events.saturating_sub(1);
+                match note_report(
+                    self.alloc,
+                    &self.explainer,
+                    &self.matcher,
+                    number,
+                    &mut self.numbers,
+                ) {
+                    Ok(matches) => {
+                        self.matches = matches;
+                        self.reported = true;
+                        Ok(())
+                    }
+                    Err(_) => {
+                        self.matches.clear();
+                        self.reported = false;
+                        self.failed = true;
+                        Err(MatcherError::Memory)
+                    }
+                }
+            }
+            Err(error) => {
+                if self.matcher.has_failed() {
+                    self.failed = true;
+                    self.reported = false;
+                    self.matches.clear();
+                }
+                Err(error)
+            }
+        }
+    }
+
+    /// A start tag whose attributes are at hand, in one call: `start`, and `finish` where they are asked for.
+    ///
+    /// # Errors
+    /// `Failed` exactly after a refusal; else `OutsideInput` exactly where a range of a name or of a value lies outside the input. Then
+    /// nothing changes. Else why the tag is refused, and all that come later.
+    pub fn start_with(
+        &mut self,
+        name: &[u8],
+        ns: Namespace,
+        aux_info: AuxStartTagInfo<'_>,
+    ) -> Result<(), MatcherError>
+        ensures answered { OnOk result
+            (IsAnsweredAfter self.old.items.told (handed name.now ns aux_info.entry) self.new.items) }
+        ensures ok { OnOk result (self.new.items
+            ≡ with_told (handed_told self.old.items.told (handed name.now ns aux_info.entry))
+            self.old.items self.new.items) }
+        ensures well { OnOk result ((self.old.failed ≡ false) × (self.new.failed ≡ false)) }
+        ensures failed { (result ≡ Err MatcherError.Failed) ↔ (self.old.failed ≡ true) }
+        ensures refused { IfErr result (λ error. IsRefusal error
+            → (self.new.failed ≡ true) × (self.new.matched ≡ [])) }
+        ensures unchanged { IfErr result (λ error. (IsRefusal error → ⊥) → self.new ≡ self.old) }
+        ensures texts { self.new.texts ≡ self.old.texts }
+    {
+        if self.failed {
+            return Err(MatcherError::Failed);
+        }
+        match self.matcher.start_with(name, ns, aux_info) {
+            Ok(()) => {
+                let number = self.events;
+                self.events = number.saturating_add(1);
+                match note_report(
+                    self.alloc,
+                    &self.explainer,
+                    &self.matcher,
+                    number,
+                    &mut self.numbers,
+                ) {
+                    Ok(matches) => {
+                        self.matches = matches;
+                        self.reported = true;
+                        Ok(())
+                    }
+                    Err(_) => {
+                        self.matches.clear();
+                        self.reported = false;
+                        self.failed = true;
+                        Err(MatcherError::Memory)
+                    }
+                }
+            }
+            Err(error) => {
+                if self.matcher.has_failed() {
+                    self.failed = true;
+                    self.reported = false;
+                    self.matches.clear();
+                }
+                Err(error)
+            }
+        }
+    }
+
+    /// Changes the value of the innermost open element, and answers the one that it had: none until one was given. Where no element is
+    /// open, it answers the new one. It takes no memory.
+    pub fn replace_value(&mut self, value: Option<T>) -> Option<T>
+        ensures before { result ≡ last_value value self.old.items.kept }
+        ensures changed { self.new ≡ record self.old {
+          items = record self.old.items { kept = with_value value self.old.items.kept };
+        } }
+    {
+        self.matcher.replace_value(value)
+    }
+
+    /// An end tag: the last open element of its name is closed, and all inside it. Where none is open, none is closed. A start tag that
+    /// waits for its attributes is dropped.
+    pub fn end(&mut self, name: &[u8])
+        ensures { self.new ≡ record self.old { items = with_ended self.old.items name.now; matched = [] } }
+    {
+        self.end_with(name, &mut |_element: ElementValue<Option<T>>| {});
+    }
+
+    /// The same, and the handler is called with what was kept of each closed element, the outermost first.
+    pub fn end_with<F: FnMut(ElementValue<Option<T>>)>(&mut self, name: &[u8], handler: &mut F)
+        requires { F.IsAlwaysCallable handler.old }
+        ensures again { F.IsAlwaysCallable handler.new }
+        ensures ended { self.new ≡ record self.old { items = with_ended self.old.items name.now; matched = [] } }
+        ensures called { IsCalledAtEach F.step handler.old
+            (drop (length (open_after name.now self.old.items.open_elements)) self.old.items.kept) handler.new }
+    {
+        self.matcher.end_with(name, handler);
+        self.numbers
+            .truncate(self.matcher.machine().open_elements());
+        self.events = self.events.saturating_add(1);
+        self.matches.clear();
+        self.reported = false;
+    }
+}
+
+/// After a start tag was reported under items: keeps its number, if its element is open, and answers the report under the ids of texts.
+fn note_report<T: Drop>(
+    alloc: Global,
+    explainer: &Explainer,
+    matcher: &Matcher<T>,
+    number: usize,
+    numbers: &mut Vec<usize>,
+) -> Result<Vec<MatchInfo>, AllocError>
+    ensures numbers { OnOk result (numbers.new.items ≡ with_opened matcher.now.opened number numbers.old.items) }
+    ensures report { IfOk result (λ report. report.items ≡ matches_under matcher.now.opened
+        (ascending_once (ids_under (items_of explainer.now) (numbers_in matcher.now.matched)))) }
+{
+    let opened = matcher.has_opened();
+    let report = report_of(alloc, explainer, matcher.matches(), opened)?;
+    if opened {
+        numbers.push(number)?;
+    }
+    Ok(report)
+}
