@@ -65,13 +65,15 @@ impl ExplainingMatcher {
 }
 
 impl<T: Drop> ExplainingMatcher<T> {
-    ghost use Rattle.std.specs.Prelude.{◌≡◌, ◌↔◌, [], true, false, Err, IfOk, OnOk, OnErr, IfErr, drop, length, map};
+    ghost use Rattle.std.specs.Prelude.{◌≡◌, ◌↔◌, [], true, false, None, Err, IfOk, OnOk, OnErr, IfErr, drop, length, map};
     ghost use Rattle.lol_instructions.specs.declared.tries.Tries.{Tries};
     ghost use Rattle.lol_stack.specs.Calls.{IsCalledAtEach};
-    ghost use Rattle.lol_matcher.specs.Answering.{Answers, IfWaits, IsAnsweredAfter, IsFinishedAs, last_value, told_after, with_ended, with_told, with_value};
+    ghost use Rattle.lol_matcher.specs.Answering.{Answers, IfWaits, IsAnsweredAfter, IsFinishedAs, OpensFor, OpensStart, last_value, told_after, with_ended, with_told, with_value};
     ghost use Rattle.lol_matcher.specs.Building.{Building, started_with};
     ghost use Rattle.lol_matcher.specs.Keeping.{IsRefusal};
     ghost use Rattle.lol_matcher.specs.Noted.{finished_told, handed, handed_told};
+    ghost use Rattle.lol_matcher.specs.Refusing.{Fits, RefusesStart, RefusesStartWith, RefusesFinish, refusal_of};
+    ghost use Rattle.lol_matcher.specs.Told.{heard};
     ghost use Rattle.lol_reasons.specs.Explanations.{added_by};
     ghost use Rattle.lol_reasons.specs.Numbered.{HoldsItems, reason_shown, texts_in};
     ghost use Rattle.lol_vm.specs.Vms.{open_after};
@@ -169,12 +171,16 @@ impl<T: Drop> ExplainingMatcher<T> {
     pub fn start(&mut self, name: &[u8], ns: Namespace) -> Result<Started, MatcherError>
         ensures answers { IfOk result (λ started.
             Answers started self.old.items.told name.now ns self.new.items.matched self.new.items.tries) }
+        ensures opens { IfOk result (λ started. OpensStart started name.now ns self.old.items self.new.items) }
         ensures ok { IfOk result (λ started. self.new.items
             ≡ with_told (told_after started self.old.items.told name.now ns) self.old.items self.new.items) }
+        ensures fits { IfOk result (λ started. Fits started self.old.items name.now ns) }
         ensures well { OnOk result ((self.old.failed ≡ false) × (self.new.failed ≡ false)) }
         ensures failed { (result ≡ Err MatcherError.Failed) ↔ (self.old.failed ≡ true) }
         ensures stuck { self.old.failed ≡ true → self.new ≡ self.old }
-        ensures refused { OnErr result (self.old.failed ≡ false
+        ensures refused { IfErr result (λ error. self.old.failed ≡ false
+            → RefusesStart error self.old.items name.now ns) }
+        ensures after { OnErr result (self.old.failed ≡ false
             → (self.new.failed ≡ true) × (self.new.matched ≡ [])) }
         ensures texts { self.new.texts ≡ self.old.texts }
     {
@@ -225,11 +231,17 @@ impl<T: Drop> ExplainingMatcher<T> {
     pub fn finish(&mut self, aux_info: AuxStartTagInfo<'_>) -> Result<(), MatcherError>
         ensures reported { OnOk result (IfWaits self.old.items.told aux_info.entry (λ tag.
             IsFinishedAs self.old.items.told tag self.new.items)) }
+        ensures opens { OnOk result (IfWaits self.old.items.told aux_info.entry (λ tag.
+            OpensFor tag self.old.items self.new.items)) }
         ensures ok { OnOk result (self.new.items
             ≡ with_told (finished_told self.old.items.told aux_info.entry) self.old.items self.new.items) }
+        ensures fits { OnOk result (IfWaits self.old.items.told aux_info.entry (λ tag.
+            refusal_of self.old.items self.old.items.told.events tag ≡ None)) }
         ensures well { OnOk result ((self.old.failed ≡ false) × (self.new.failed ≡ false)) }
         ensures failed { (result ≡ Err MatcherError.Failed) ↔ (self.old.failed ≡ true) }
-        ensures refused { IfErr result (λ error. IsRefusal error
+        ensures refused { IfErr result (λ error. IsRefusal error → IfWaits self.old.items.told aux_info.entry (λ tag.
+            RefusesFinish error self.old.items tag)) }
+        ensures after { IfErr result (λ error. IsRefusal error
             → (self.new.failed ≡ true) × (self.new.matched ≡ [])) }
         ensures unchanged { IfErr result (λ error. (IsRefusal error → ⊥) → self.new ≡ self.old) }
         ensures texts { self.new.texts ≡ self.old.texts }
@@ -284,12 +296,18 @@ impl<T: Drop> ExplainingMatcher<T> {
     ) -> Result<(), MatcherError>
         ensures answered { OnOk result
             (IsAnsweredAfter self.old.items.told (handed name.now ns aux_info.entry) self.new.items) }
+        ensures opens { OnOk result
+            (OpensFor (handed name.now ns aux_info.entry) self.old.items self.new.items) }
+        ensures fits { OnOk result (refusal_of self.old.items (heard self.old.items.told)
+            (handed name.now ns aux_info.entry) ≡ None) }
         ensures ok { OnOk result (self.new.items
             ≡ with_told (handed_told self.old.items.told (handed name.now ns aux_info.entry))
             self.old.items self.new.items) }
         ensures well { OnOk result ((self.old.failed ≡ false) × (self.new.failed ≡ false)) }
         ensures failed { (result ≡ Err MatcherError.Failed) ↔ (self.old.failed ≡ true) }
-        ensures refused { IfErr result (λ error. IsRefusal error
+        ensures refused { IfErr result (λ error.
+            IsRefusal error → RefusesStartWith error self.old.items (handed name.now ns aux_info.entry)) }
+        ensures after { IfErr result (λ error. IsRefusal error
             → (self.new.failed ≡ true) × (self.new.matched ≡ [])) }
         ensures unchanged { IfErr result (λ error. (IsRefusal error → ⊥) → self.new ≡ self.old) }
         ensures texts { self.new.texts ≡ self.old.texts }

@@ -3,7 +3,9 @@ use Rattle.lol_reasons.specs.Numbered.{texts_in}
 use Rattle.lol_matcher.specs.Told.{Matching}
 use Rattle.lol_explaining_matcher.specs.Explaining.{Goes}
 use Rattle.lol_matcher.specs.Answering.{Answers, OpensStart, told_after, with_told}
+use Rattle.lol_matcher.specs.Refusing.{Fits}
 use Rattle.lol_matcher.specs.declared.matcher.Started.{Started}
+use Rattle.lol_matcher.proofs.Refusals.{refused_unreported}
 use Rattle.lol_explaining_matcher.proofs.Going.{asked_goes, quiet_explains, reported_explains, started_goes}
 use Rattle.lol_explaining_matcher.proofs.matcher.ExplainingMatcher.start.Goals as goal
 
@@ -41,3 +43,17 @@ returns-in-Ok-clause-answers g c =
 pub returns-in-Ok-NeedsAttributes-clause-answers : goal.returns-in-Ok-NeedsAttributes-clause-answers
 returns-in-Ok-NeedsAttributes-clause-answers g c =
     rw (← c.self.view_is) (subst (λ (s : Started). Answers s c.self.inside.matcher.told c.args.name.now c.args.ns c.start.new.self.matched c.start.new.self.tries) c.in-Ok-NeedsAttributes.field-0-is c.in-Ok-NeedsAttributes.ensures.answers)
+
+pub returns-in-Ok-clause-fits : goal.returns-in-Ok-clause-fits
+returns-in-Ok-clause-fits g c = rw (← c.self.view_is) (subst (λ (s : Started). Fits s c.self.inside.matcher c.args.name.now c.args.ns) c.in-Ok-Reported.field-0-is c.in-Ok-Reported.ensures.fits.1)
+
+pub returns-in-Ok-NeedsAttributes-clause-fits : goal.returns-in-Ok-NeedsAttributes-clause-fits
+returns-in-Ok-NeedsAttributes-clause-fits g c = rw (← c.self.view_is) (subst (λ (s : Started). Fits s c.self.inside.matcher c.args.name.now c.args.ns) c.in-Ok-NeedsAttributes.field-0-is c.in-Ok-NeedsAttributes.ensures.fits.1)
+
+pub returns-in-Err-note_report-clause-refused : goal.returns-in-Err-note_report-clause-refused
+returns-in-Err-note_report-clause-refused g c =
+    let fits = subst (λ (s : Started). Fits s c.self.inside.matcher c.args.name.now c.args.ns) c.in-Ok-Reported.field-0-is c.in-Ok-Reported.ensures.fits.1 in
+    rw (← c.self.view_is) (λ well tag named spaced. refused_unreported (fits tag named spaced))
+
+pub returns-in-Err-clause-refused : goal.returns-in-Err-clause-refused
+returns-in-Err-clause-refused g c = rw (← c.self.view_is) (λ well. c.in-Err.ensures.refused (c.self.invariant.goes c.if-self.false).unfailed)

@@ -6,6 +6,7 @@ use Rattle.lol_explaining_matcher.specs.Explaining.{Explaining, Goes}
 use Rattle.lol_matcher.specs.Noted.{handed, handed_told}
 use Rattle.lol_matcher.specs.Answering.{with_told}
 use Rattle.lol_explaining_matcher.proofs.Going.{handed_goes, reported_explains}
+use Rattle.lol_matcher.proofs.Refusals.{refused_unreported}
 use Rattle.lol_explaining_matcher.proofs.matcher.ExplainingMatcher.start_with.Goals as goal
 
 pub invariant_of-self : goal.invariant_of-self
@@ -28,3 +29,12 @@ returns-in-Ok-note_report-clause-ok g c =
     let tag = handed c.args.name.now c.args.ns c.args.aux_info in
     let new = c.start_with.new.self in
     subst (λ (v : Explaining _). new ≡ with_told (handed_told v.items.told tag) v.items new) c.self.view_is c.in-Ok.ensures.ok
+
+pub returns-in-Ok-note_report-clause-fits : goal.returns-in-Ok-note_report-clause-fits
+returns-in-Ok-note_report-clause-fits g c = rw (← c.self.view_is) c.in-Ok.ensures.fits
+
+pub returns-in-Err-note_report-clause-refused : goal.returns-in-Err-note_report-clause-refused
+returns-in-Err-note_report-clause-refused g c = rw (← c.self.view_is) (λ refusal. refused_unreported c.in-Ok.ensures.fits)
+
+pub returns-then-has_failed-clause-refused : goal.returns-then-has_failed-clause-refused
+returns-then-has_failed-clause-refused g c = rw (← c.self.view_is) c.in-Err.ensures.refused
