@@ -1,5 +1,5 @@
 -- What a contract sees of a matcher that explains, and what holds between its parts.
-use Rattle.std.specs.Prelude.{ℕ, ◌-◌, ◌≡◌, ◌<◌, ◌^◌, Bool, true, false, List, [], ◌∷◌, ◌++◌, length, map, reverse, take, IfSome, filter_map, slice_get, Contains, ◌↔◌}
+use Rattle.std.specs.Prelude.{ℕ, ◌-◌, ◌≡◌, ◌<◌, ◌^◌, Bool, true, false, List, [], ◌∷◌, ◌++◌, length, map, reverse, take, Option, IfSome, filter_map, slice_get, Contains, ◌↔◌}
 use Rattle.std.specs.Option.{option_map}
 use Rattle.lol_base.specs.StartTags.{StartTag}
 use Rattle.lol_instructions.specs.Tests.{Element}
@@ -13,6 +13,7 @@ use Rattle.lol_vm.specs.Laws.{ids_of}
 use Rattle.lol_run_laws.specs.AskedRuns.{bare_tag}
 use Rattle.lol_vm.specs.Views.{selectors}
 use Rattle.lol_vm.specs.Vms.{is_asked_for}
+use Rattle.lol_matcher.specs.Answering.{with_ended, with_value}
 use Rattle.lol_matcher.specs.Told.{Told, Matching, elements_of, heard}
 use Rattle.lol_reasons.specs.Explanations.{Reason, Text, added_by, explanations}
 use Rattle.lol_reasons.specs.Numbered.{HoldsItems}
@@ -119,3 +120,11 @@ pub record Explains {T : Type 0} (texts : List Text) (explainer : Explainer) (ev
   pub goes : failed ≡ false → Goes texts events reported numbers m
   pub reports : failed ≡ false → ReportsFor m.opened (reasons_told texts m.told) matched
   pub silent : failed ≡ true → (reported ≡ false) × (matched ≡ [])
+
+-- the same, where the last open element has another value
+abbrev pub with_last : {T : Type 0} → Option T → Explaining T → Explaining T
+with_last value m = record m { items = record m.items { kept = with_value value m.items.kept } }
+
+-- what is told of an end tag
+abbrev pub with_end : {T : Type 0} → Explaining T → List ℕ → Explaining T
+with_end m name = record m { items = with_ended m.items name; matched = [] }

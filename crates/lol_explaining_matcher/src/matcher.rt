@@ -66,9 +66,10 @@ impl ExplainingMatcher {
 
 impl<T: Drop> ExplainingMatcher<T> {
     ghost use Rattle.std.specs.Prelude.{◌≡◌, ◌↔◌, [], true, false, None, Err, IfOk, OnOk, OnErr, IfErr, drop, length, map};
+    ghost use Rattle.lol_base.specs.StartTags.{RangesAreInside};
     ghost use Rattle.lol_instructions.specs.declared.tries.Tries.{Tries};
     ghost use Rattle.lol_stack.specs.Calls.{IsCalledAtEach};
-    ghost use Rattle.lol_matcher.specs.Answering.{Answers, IfWaits, IsAnsweredAfter, IsFinishedAs, OpensFor, OpensStart, last_value, told_after, with_ended, with_told, with_value};
+    ghost use Rattle.lol_matcher.specs.Answering.{Answers, IfWaits, IsAnsweredAfter, IsFinishedAs, OpensFor, OpensStart, last_value, told_after, with_told};
     ghost use Rattle.lol_matcher.specs.Building.{Building, started_with};
     ghost use Rattle.lol_matcher.specs.Keeping.{IsRefusal};
     ghost use Rattle.lol_matcher.specs.Noted.{finished_told, handed, handed_told};
@@ -77,7 +78,7 @@ impl<T: Drop> ExplainingMatcher<T> {
     ghost use Rattle.lol_reasons.specs.Explanations.{added_by};
     ghost use Rattle.lol_reasons.specs.Numbered.{HoldsItems, reason_shown, texts_in};
     ghost use Rattle.lol_vm.specs.Vms.{open_after};
-    ghost use Rattle.lol_explaining_matcher.specs.Explaining.{AreNumbered, ReportsFor, reasons_told};
+    ghost use Rattle.lol_explaining_matcher.specs.Explaining.{AreNumbered, ReportsFor, reasons_told, with_end, with_last};
 
     /// An explaining matcher of the items of texts, and of what explains them.
     pub(crate) fn new(
@@ -239,6 +240,10 @@ impl<T: Drop> ExplainingMatcher<T> {
             refusal_of self.old.items self.old.items.told.events tag ≡ None)) }
         ensures well { OnOk result ((self.old.failed ≡ false) × (self.new.failed ≡ false)) }
         ensures failed { (result ≡ Err MatcherError.Failed) ↔ (self.old.failed ≡ true) }
+        ensures outside { (result ≡ Err MatcherError.OutsideInput)
+            ↔ ((self.old.failed ≡ false) × (RangesAreInside aux_info.entry → ⊥)) }
+        ensures not_asked { (result ≡ Err MatcherError.NotAsked)
+            ↔ ((self.old.failed ≡ false) × RangesAreInside aux_info.entry × (self.old.items.told.asked ≡ None)) }
         ensures refused { IfErr result (λ error. IsRefusal error → IfWaits self.old.items.told aux_info.entry (λ tag.
             RefusesFinish error self.old.items tag)) }
         ensures after { IfErr result (λ error. IsRefusal error
@@ -305,6 +310,9 @@ impl<T: Drop> ExplainingMatcher<T> {
             self.old.items self.new.items) }
         ensures well { OnOk result ((self.old.failed ≡ false) × (self.new.failed ≡ false)) }
         ensures failed { (result ≡ Err MatcherError.Failed) ↔ (self.old.failed ≡ true) }
+        ensures outside { (result ≡ Err MatcherError.OutsideInput)
+            ↔ ((self.old.failed ≡ false) × (RangesAreInside aux_info.entry → ⊥)) }
+        ensures asked { result ≡ Err MatcherError.NotAsked → ⊥ }
         ensures refused { IfErr result (λ error.
             IsRefusal error → RefusesStartWith error self.old.items (handed name.now ns aux_info.entry)) }
         ensures after { IfErr result (λ error. IsRefusal error
@@ -354,9 +362,7 @@ impl<T: Drop> ExplainingMatcher<T> {
     /// open, it answers the new one. It takes no memory.
     pub fn replace_value(&mut self, value: Option<T>) -> Option<T>
         ensures before { result ≡ last_value value self.old.items.kept }
-        ensures changed { self.new ≡ record self.old {
-          items = record self.old.items { kept = with_value value self.old.items.kept };
-        } }
+        ensures changed { self.new ≡ with_last value self.old }
     {
         self.matcher.replace_value(value)
     }
@@ -364,7 +370,7 @@ impl<T: Drop> ExplainingMatcher<T> {
     /// An end tag: the last open element of its name is closed, and all inside it. Where none is open, none is closed. A start tag that
     /// waits for its attributes is dropped.
     pub fn end(&mut self, name: &[u8])
-        ensures { self.new ≡ record self.old { items = with_ended self.old.items name.now; matched = [] } }
+        ensures { self.new ≡ with_end self.old name.now }
     {
         self.end_with(name, &mut |_element: ElementValue<Option<T>>| {});
     }
@@ -373,7 +379,7 @@ impl<T: Drop> ExplainingMatcher<T> {
     pub fn end_with<F: FnMut(ElementValue<Option<T>>)>(&mut self, name: &[u8], handler: &mut F)
         requires { F.IsAlwaysCallable handler.old }
         ensures again { F.IsAlwaysCallable handler.new }
-        ensures ended { self.new ≡ record self.old { items = with_ended self.old.items name.now; matched = [] } }
+        ensures ended { self.new ≡ with_end self.old name.now }
         ensures called { IsCalledAtEach F.step handler.old
             (drop (length (open_after name.now self.old.items.open_elements)) self.old.items.kept) handler.new }
     {
