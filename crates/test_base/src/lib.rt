@@ -1,4 +1,4 @@
-//! Tests of names, attributes, maps by name, limits, charged lists and sets of ids: rows whose answers come from outside, and each call that can
+//! Tests of names, attributes, maps by name, tables by hash, limits, charged lists and sets of ids: rows whose answers come from outside, and each call that can
 //! refuse once with ample memory.
 #![tactic(auto)]
 
@@ -6,6 +6,8 @@
 mod attributes;
 #[cfg(test)]
 mod cases;
+#[cfg(test)]
+mod key_tables;
 #[cfg(test)]
 mod limits;
 #[cfg(test)]

@@ -1,0 +1,87 @@
+//! A table of addresses by hashes.
+
+ghost use Rattle.std.specs.Prelude.{◌≡◌, ◌++◌, ◌↔◌, List, ℕ, IfOk, OnOk, Contains, map};
+ghost use Rattle.lol_base.specs.Ascending.{IsStrictlyAscending};
+ghost use Rattle.lol_key_table.specs.KeyTables.{AreFound, IsEntryWithin, IsTableOf};
+
+use std::alloc::{AllocError, Global};
+use std::ops::Range;
+
+/// An address, and its hash.
+#[derive(Debug, Clone, Copy, PartialEq, Eq)]
+pub(crate) struct Entry {
+    pub hash: u64,
+    pub address: usize,
+}
+
+/// Which addresses have a hash: the addresses are the places of a list of hashes, from 0. It takes 16 bytes for each.
+#[derive(Debug, Drop)]
+pub struct KeyTable {
+    entries: Vec<Entry>,
+}
+
+impl KeyTable {
+    /// The table of a list of hashes. For `n` of them it takes `n log n` steps.
+    ///
+    /// # Errors
+    /// Out of memory.
+    pub fn of(alloc: Global, hashes: &[u64]) -> Result<Self, AllocError>
+        ensures { IfOk result (λ table. IsTableOf hashes.now table) }
+    {
+        let mut entries = Vec::with_capacity(alloc, hashes.len())?;
+        for (address, hash) in hashes.iter().enumerate() {
+            entries.push_reserved(Entry {
+                hash: *hash,
+                address,
+            });
+        }
+        entries.sort_by_key(|entry| entry.hash)?;
+        Ok(KeyTable { entries })
+    }
+
+    /// Finds the addresses in a range that have one of these hashes, ascending and each once. What `found` has before is thrown away. For
+    /// each hash it takes a logarithm of the table's size, and for `n` addresses, each counted as often as its hash is there, `n log n`
+    /// steps.
+    ///
+    /// # Errors
+    /// Out of memory.
+    pub fn find(
+        &self,
+        hashes: &[u64],
+        range: Range<usize>,
+        found: &mut Vec<usize>,
+    ) -> Result<(), AllocError>
+        ensures ascending { OnOk result (IsStrictlyAscending found.new.items) }
+        ensures members { OnOk result ((all : List ℕ) → IsTableOf all self.now
+            → AreFound all hashes.now range found.new.items) }
+    {
+        found.clear();
+        for hash in hashes {
+            add_addresses(self.entries_within(*hash, range.start, range.end), found)?;
+        }
+        found.sort_unstable();
+        found.dedup();
+        Ok(())
+    }
+
+    /// The entries of the addresses from `start` up to `end` that have a hash.
+    fn entries_within(&self, hash: u64, start: usize, end: usize) -> &[Entry]
+        ensures { (all : List ℕ) → IsTableOf all self.now
+            → (entry : Entry) → Contains result.now entry ↔ IsEntryWithin all hash start end entry }
+    {
+        let run = self.entries.as_slice();
+        let run = &run[..run.partition_point(|entry| entry.hash <= hash)];
+        let run = &run[run.partition_point(|entry| entry.hash < hash)..];
+        let run = &run[..run.partition_point(|entry| entry.address < end)];
+        &run[run.partition_point(|entry| entry.address < start)..]
+    }
+}
+
+fn add_addresses(entries: &[Entry], found: &mut Vec<usize>) -> Result<(), AllocError>
+    ensures { OnOk result (found.new.items ≡ found.old.items ++ map (λ e. e.address) entries.now) }
+{
+    for entry in entries {
+        found.push(entry.address)?;
+    }
+    Ok(())
+}
