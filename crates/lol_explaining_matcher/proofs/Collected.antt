@@ -1,5 +1,6 @@
 -- Reports under the ids of texts.
 use Rattle.std.proofs.Common.{◌≡◌, ℕ, zero, suc, ◌+◌, Bool, true, false, cond, List, [], ◌∷◌, ◌++◌, map, Option, Some, None, Contains, refl, sym, ap, ◌∙◌, subst, arith, inl, inr, ⊎_elim, append-nil}
+use Rattle.lol_base.specs.AscendingLaws.{ascending_is_determined, ascending_ascends, pairs_from_ascends, among_ascending, ascending_among}
 use Rattle.std.specs.Prelude.{is_some, slice_get}
 use Rattle.std.specs.List.{cons_option}
 use Rattle.std.specs.Option.{option_map}
@@ -17,7 +18,6 @@ use Rattle.lol_program.specs.Programs.{IsAt}
 use Rattle.lol_base.specs.Ascending.{ascending_once}
 use Rattle.lol_vm.specs.Answers.{matching_ids}
 use Rattle.lol_vm.specs.Matching.{matches}
-use Rattle.lol_vm.specs.ReportLaws.{ascending_is_determined, ascending_ascends, pairs_from_ascends, among_ascending, ascending_among}
 use Rattle.lol_reasons.specs.Explanations.{Added, Reason, Text, added_by, reason_by, reasons}
 use Rattle.lol_reasons.specs.Numbered.{HasItemsOf}
 use Rattle.lol_reasons.specs.ReasonLaws.{ids_of_reasons, place_of_added}
