@@ -1,0 +1,11 @@
+//! Tests of lol_explaining_matcher: rows, a caller tag by tag, and pages that are drawn, beside the definitions.
+#![tactic(auto)]
+
+#[cfg(test)]
+mod calls;
+#[cfg(test)]
+mod drawn;
+#[cfg(test)]
+mod pages;
+#[cfg(test)]
+mod rows;

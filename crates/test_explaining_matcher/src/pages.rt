@@ -1,0 +1,77 @@
+//! Pages of tags as words, told to an explaining matcher.
+
+use lol_base::Attributes;
+use lol_explaining_matcher::{ExplainingMatcher, Reason, Started};
+use std::alloc::Global;
+use std::test::Fail;
+use test_kit::TagWord;
+
+/// Selectors with their ids.
+pub(crate) type Selectors<'t> = &'t [(&'t str, u32)];
+
+pub(crate) fn matcher_of(
+    alloc: Global,
+    selectors: Selectors<'_>,
+) -> Result<ExplainingMatcher, Fail> {
+    let mut builder = ExplainingMatcher::builder(alloc);
+    for (text, id) in selectors {
+        builder.add(*id, text)?;
+    }
+    match builder.build() {
+        Ok(matcher) => Ok(matcher),
+        Err(_) => Err(Fail::from("no matcher was built")),
+    }
+}
+
+/// Tells of a tag, with its attributes at hand, or only if they are asked for.
+pub(crate) fn tell(
+    matcher: &mut ExplainingMatcher,
+    tag: &TagWord<'_>,
+    attributes: &Attributes,
+    at_hand: bool,
+) -> Result<(), Fail> {
+    let name = tag.name.as_bytes();
+    let aux_info = attributes.aux_info(tag.self_closing);
+    if tag.ends {
+        matcher.end(name);
+    } else if at_hand && tag.finish {
+        matcher.start_with(name, tag.ns, aux_info)?;
+    } else if matcher.start(name, tag.ns)? == Started::NeedsAttributes && tag.finish {
+        matcher.finish(aux_info)?;
+    }
+    Ok(())
+}
+
+pub(crate) fn is_reason(
+    reason: &Reason,
+    id: u32,
+    text: usize,
+    item: usize,
+    witness: &[usize],
+) -> bool {
+    reason.item.id == id
+        && reason.item.text == text
+        && reason.item.item == item
+        && reason.witness.as_slice() == witness
+}
+
+/// Whether the last report has exactly the ids of these reasons, ascending and each once.
+pub(crate) fn reports_ids_of(
+    alloc: Global,
+    matcher: &ExplainingMatcher,
+    reasons: &[Reason],
+) -> Result<bool, Fail> {
+    let mut ids = Vec::new(alloc);
+    for reason in reasons {
+        ids.push(reason.item.id)?;
+    }
+    ids.sort()?;
+    ids.dedup();
+    Ok(
+        matcher
+            .matches()
+            .iter()
+            .map(|info| info.match_id)
+            .eq(ids.iter().copied()),
+    )
+}

@@ -1,0 +1,100 @@
+//! Rows: selectors and tags, and the reasons for the last tag.
+
+use crate::pages::{Selectors, is_reason, matcher_of, reports_ids_of, tell};
+use lol_explaining_matcher::Reason;
+use std::alloc::Global;
+use std::test::Fail;
+use test_kit::{attributes_of, words_of};
+
+/// An id, the numbers of a text and of an item, and a witness.
+type Expected = (u32, usize, usize, &'static [usize]);
+
+/// Selectors and tags, and the reasons for the last tag.
+type Row = (Selectors<'static>, &'static str, &'static [Expected]);
+
+const ROWS: [Row; 11] = [
+    // The nearest div, then the nearest one above it.
+    (
+        &[("div div p", 7)],
+        "div div section div p",
+        &[(7, 0, 0, &[4, 3, 1])],
+    ),
+    // One parent of two elements of its name.
+    (
+        &[("div > p", 0), ("div > div > div > p", 1)],
+        "div div p",
+        &[(0, 0, 0, &[2, 1])],
+    ),
+    // The child of a div that the nearest div isn't.
+    (
+        &[("main > div p", 0)],
+        "main div i div p",
+        &[(0, 0, 0, &[4, 1, 0])],
+    ),
+    // Lists, and one id of two texts.
+    (
+        &[("a, p", 7), ("div p, p", 3), ("p", 7)],
+        "div p",
+        &[
+            (7, 0, 1, &[1]),
+            (3, 1, 0, &[1, 0]),
+            (3, 1, 1, &[1]),
+            (7, 2, 0, &[1]),
+        ],
+    ),
+    // A void element, and what comes after one.
+    (&[("div img", 1)], "div br img", &[(1, 0, 0, &[2, 0])]),
+    (
+        &[("img p", 1), ("div p", 2)],
+        "div img p",
+        &[(2, 1, 0, &[2, 0])],
+    ),
+    // A foreign element that closes itself has nothing inside it.
+    (
+        &[("svg g circle", 4), ("g g circle", 5)],
+        "svg:svg svg:g svg:g/ svg:circle/",
+        &[(4, 0, 0, &[3, 1, 0])],
+    ),
+    (
+        &[("div:not(.a) p", 0), (":is(main, .a) p", 1)],
+        "main div div@class=a p",
+        &[(0, 0, 0, &[3, 1]), (1, 1, 0, &[3, 2])],
+    ),
+    // End tags are counted, and close.
+    (
+        &[("div > p", 0)],
+        "div br /div div P",
+        &[(0, 0, 0, &[4, 3])],
+    ),
+    // Nothing matches, and an end tag has no reasons.
+    (&[("a b", 0)], "b a", &[]),
+    (&[("div p", 0)], "div p /p", &[]),
+];
+
+fn are_expected(reasons: &[Reason], expected: &[Expected]) -> bool {
+    reasons.len() == expected.len()
+        && reasons.iter().zip(expected).all(|(reason, (id, text, item, witness))| {
+            is_reason(reason, *id, *text, *item, witness)
+        })
+}
+
+fn last_has(alloc: Global, at_hand: bool, row: &Row) -> Result<bool, Fail> {
+    let (selectors, tags, expected) = *row;
+    let mut matcher = matcher_of(alloc, selectors)?;
+    let words = words_of(alloc, tags)?;
+    let attributes = attributes_of(alloc, &words)?;
+    for (tag, attributes) in words.iter().zip(&attributes) {
+        tell(&mut matcher, tag, attributes, at_hand)?;
+    }
+    let reasons = matcher.explain()?;
+    Ok(are_expected(&reasons, expected) && reports_ids_of(alloc, &matcher, &reasons)?)
+}
+
+#[test]
+fn of_rows(rt: HostRuntime) -> Result<(), Fail> {
+    for (number, row) in ROWS.iter().enumerate() {
+        assert!(rt; last_has(rt.alloc(), false, row)?, "row {number}");
+        assert!(rt; last_has(rt.alloc(), true, row)?, "row {number}");
+    }
+    Ok(())
+}
