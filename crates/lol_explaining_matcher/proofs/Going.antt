@@ -424,7 +424,7 @@ ended_explains texts explainer old new events next reported failed numbers left 
 pub started_explains : {T : Type 0} (texts : List Text) (old explainer : Explainer) (m : Matching T) (b : Building) (tries : Tries) (numbers : List ℕ) (report : List MatchInfo)
     → HoldsItems (added_by texts) (record { ast = m.told.ast; explainer = old }) → items_of explainer ≡ items_of old → m ≡ started_with b tries → numbers ≡ [] → report ≡ [] → Explains texts explainer 0 false false numbers report m
 started_explains texts old explainer m b tries numbers report holds same is none no_report = record {
-  holds = record { tree = holds.tree; explainer = same ∙ holds.explainer };
+  holds = record { tree = holds.tree; nodes = holds.nodes; explainer = same ∙ holds.explainer };
   goes = λ ok. goes;
   reports = λ ok. no_report ∙ sym (ap (λ rs. matches_under m.opened (ascending_once (ids_of_reasons rs))) goes.last);
   silent = λ h. (refl, no_report);
