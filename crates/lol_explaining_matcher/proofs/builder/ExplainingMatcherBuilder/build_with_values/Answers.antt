@@ -8,7 +8,7 @@ use Rattle.lol_explaining_matcher.proofs.builder.ExplainingMatcherBuilder.build_
 
 pub new-requires-clause-holds : goal.new-requires-clause-holds
 new-requires-clause-holds g c =
-    (tree_holds (added_by (texts_in c.self.inside.texts)) c.in_ok-matcher.matcher c.set_tree.new.self c.self.inside.settings c.in_ok-matcher.matcher.tries _ c.in_ok-ast.field-0.explainer c.in_ok-matcher.ensures.told c.set_tree.ensures c.in_ok-ast.ensures).1
+    (tree_holds (added_by (texts_in c.self.inside.texts)) c.in_ok-matcher.matcher c.set_tree.new.self c.self.inside.settings c.in_ok-matcher.matcher.tries _ c.in_ok-ast.field-0.explainer c.in_ok-matcher.ensures.told c.set_tree.ensures c.in_ok-ast.ensures.numbered).1
 
 pub new-requires-clause-started : goal.new-requires-clause-started
 new-requires-clause-started g c = (c.set_tree.new.self, c.in_ok-matcher.matcher.tries, c.in_ok-matcher.ensures.told)
@@ -16,7 +16,7 @@ new-requires-clause-started g c = (c.set_tree.new.self, c.in_ok-matcher.matcher.
 pub returns : goal.returns
 returns g c =
     let m = c.in_ok-matcher.matcher in
-    let all = tree_holds (added_by (texts_in c.self.inside.texts)) m c.set_tree.new.self c.self.inside.settings m.tries _ c.in_ok-ast.field-0.explainer c.in_ok-matcher.ensures.told c.set_tree.ensures c.in_ok-ast.ensures in
+    let all = tree_holds (added_by (texts_in c.self.inside.texts)) m c.set_tree.new.self c.self.inside.settings m.tries _ c.in_ok-ast.field-0.explainer c.in_ok-matcher.ensures.told c.set_tree.ensures c.in_ok-ast.ensures.numbered in
     rw (← c.self.view_is) (if_ok c.new.result (λ made is. subst (StartsWith _) (sym is) (record {
       texts = refl;
       has_items = all.1.tree;
