@@ -4,8 +4,8 @@ ghost use Rattle.lol_vm.specs.Standing.{CountersArePlaces, DocumentsAreOrdered};
 ghost use Rattle.lol_vm.specs.VmLaws.{DataChangeNothing, DataKeepOpen, DataKeepRequests, LastDataAreLent, LastDataChange, PendingStands, SlotsAreOfDepth, StandingHasOpen};
 ghost use Rattle.lol_run_laws.specs.AskedRuns.{AskedRunsAnswerAlike, ToldGoesOn};
 
-use lol_vm::machine_laws::{counters_are_places, documents_are_ordered};
 use lol_run_laws::laws::asked_runs_answer_alike;
+use lol_vm::machine_laws::{counters_are_places, documents_are_ordered};
 use lol_vm::vm_laws::{
     data_change_nothing, dropped_requests_stand, last_data_are_lent, slots_are_of_depth,
     standing_has_open,

@@ -99,7 +99,15 @@ one_more_item p added id text n bound xs within many =
     let before = added_items id text 0 (map p (take n xs)) in
     let all = added_items id text 0 (map p xs) in
     omega (
-      arith, within, many, length-append added before, length-append added all, added_count id text 0 (map p (take n xs)), added_count id text 0 (map p xs), length-map (take n xs) p, length-map xs p,
+      arith,
+      within,
+      many,
+      length-append added before,
+      length-append added all,
+      added_count id text 0 (map p (take n xs)),
+      added_count id text 0 (map p xs),
+      length-map (take n xs) p,
+      length-map xs p,
       length-take-le n xs (omega (arith, within)),
     )
 
