@@ -5,4 +5,8 @@ pub mod ListedFields
 pub mod Numbers
 pub mod Outlines
 pub mod ReadOn
+pub mod Reasons
 pub mod Scripts
+pub mod SelectLines
+pub mod Told
+pub mod WithReasons

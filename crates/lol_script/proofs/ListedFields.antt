@@ -15,7 +15,7 @@ map_through f g (x ∷ xs) = ap (λ ys. f (g x) ∷ ys) (map_through f g xs)
 
 module _ {A : Type 0} (shown : A → List ℕ) where
   -- each field after a comma
-  abbrev after_commas : List A → List ℕ
+  abbrev pub after_commas : List A → List ℕ
   after_commas xs = flat_map (λ x. 44 ∷ shown x) xs
 
   abbrev pub listed : List A → List ℕ
@@ -36,7 +36,7 @@ module _ {A : Type 0} (shown : A → List ℕ) where
   has_some_push [] y = refl
   has_some_push (x ∷ xs) y = refl
 
-  listed_is : (x : A) (xs : List A) → comma_list (map shown (x ∷ xs)) ≡ shown x ++ after_commas xs
+  pub listed_is : (x : A) (xs : List A) → comma_list (map shown (x ∷ xs)) ≡ shown x ++ after_commas xs
   listed_is x [] = sym (append-nil (shown x))
   listed_is x (y ∷ ys) = ap (λ rest. shown x ++ 44 ∷ rest) (listed_is y ys)
 

@@ -1,20 +1,19 @@
 -- A script that is read line by line.
-use Rattle.std.proofs.Common.{◌≡◌, ℕ, ◌+◌, Bool, true, false, List, [], ◌∷◌, ◌++◌, map, position, Option, Some, None, Result, Ok, Err, refl, sym, ap, ◌∙◌, subst}
+use Rattle.std.proofs.Common.{◌≡◌, ℕ, ◌+◌, Bool, true, false, List, [], ◌∷◌, ◌++◌, position, Option, Some, None, Result, Ok, Err, refl, sym, ap, ◌∙◌, subst}
 use Rattle.std.specs.Prelude.{IfErr, IfOk, if◌then◌else◌}
 use Rattle.std.specs.Bool.{MatchBool}
 use Rattle.std.specs.List.{slice_split}
 use Rattle.std.specs.Io.KnownBytes.{IsAtEnd}
 use Rattle.std.proofs.KnownBytes.{Consumes-trans}
 use Rattle.std.proofs.lemmas.List.{append_assoc, append-nil}
-use Rattle.lol_program.specs.Nodes.{selectors_of}
-use Rattle.lol_vm.specs.Answers.{answers}
+use Rattle.lol_vm.specs.Documents.{empty}
 use Rattle.lol_vm.specs.Events.{Event}
 use Rattle.lol_vm.specs.Refusals.{refused}
 use Rattle.lol_script.specs.Devices.{IsReadFault, Reads, ReadsToEnd, device_of, failures_of}
-use Rattle.lol_script.specs.Output.{shown_answer}
+use Rattle.lol_script.specs.Explaining.{selectors_in}
 use Rattle.lol_script.specs.ReadLines.{GoesOn, ReadLines, cut_at, is_line_feed, later_lines, next_line}
 use Rattle.lol_script.specs.Readings.{IsBad, IsReadTo, IsStop, Stops}
-use Rattle.lol_script.specs.Scripts.{Script, and_then, output, output_of, read_lines, read_script, run_output, with_bytes}
+use Rattle.lol_script.specs.Scripts.{Script, and_then, output, output_of, read_lines, read_script, run_output, texts_for, with_bytes}
 use Rattle.lol_script.specs.declared.bad_line.BadLine.{BadLine}
 use Rattle.lol_script.specs.declared.device.Counted.{Counted}
 use Rattle.lol_script.specs.declared.device.RunFault.{RunFault}
@@ -39,8 +38,8 @@ at_err P result x is h = subst (λ r. IfErr r P) is h
 -- nothing is written for a script without tags
 pub no_output : (s : Script) → s.events ≡ [] → output_of (Ok s) ≡ record { text = []; status = Good }
 no_output s none =
-    ap (λ (events : List Event). run_output (map (shown_answer s.shows_tries) (answers (selectors_of s.pairs) s.esi events))
-    (refused (selectors_of s.pairs) s.esi (record { item_bytes = 64; maximum = s.limit; usage = 0 }) events)) none
+    ap (λ (events : List Event). run_output (texts_for (selectors_in s) s empty events)
+    (refused (selectors_in s) s.esi (record { item_bytes = 64; maximum = s.limit; usage = 0 }) events)) none
 
 -- a fault that is want of memory
 pub memory_is_fault : {D : Type 0} (old new : Counted D) (fault : RunFault) → fault ≡ Memory → IsReadFault old new fault

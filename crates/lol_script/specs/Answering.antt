@@ -1,28 +1,34 @@
 -- Tags that are answered as their lines are read.
-use Rattle.std.specs.Prelude.{◌≡◌, ℕ, Bool, true, false, List, [], ◌∷◌, ◌++◌, map, Option, Ok, decimal}
+use Rattle.std.specs.Prelude.{◌≡◌, ℕ, Bool, true, false, List, [], ◌∷◌, ◌++◌, map, Option, Some, None, Result, Ok, Err, codes, decimal}
+use Rattle.std.specs.List.{concat}
+use Rattle.lol_base.specs.CodePoints.{line_feed}
 use Rattle.lol_base.specs.StartTags.{StartTag}
+use Rattle.lol_reasons.specs.Numbered.{reason_shown}
 use Rattle.lol_memory.specs.Limiter.{Limiter}
 use Rattle.lol_memory.specs.declared.match_info.MatchInfo.{MatchInfo}
-use Rattle.lol_program.specs.Nodes.{selectors_of}
 use Rattle.lol_program.specs.Paths.{Selectors}
-use Rattle.lol_vm.specs.Answers.{answer, answers, document}
-use Rattle.lol_vm.specs.Documents.{closed}
+use Rattle.lol_vm.specs.Answers.{answer, document}
+use Rattle.lol_vm.specs.Documents.{closed, empty}
 use Rattle.lol_vm.specs.EventRuns.{IsRunOf, answer_taken, machine_of}
 use Rattle.lol_vm.specs.Events.{Event, Start, End}
-use Rattle.lol_vm.specs.Laws.{SameSelectors}
-use Rattle.lol_vm.specs.Refusals.{refused}
+use Rattle.lol_vm.specs.Refusals.{Cause, Limit, Counter, refused}
 use Rattle.lol_vm.specs.RunRefusals.{allowance_of}
 use Rattle.lol_vm.specs.Views.{match_of}
 use Rattle.lol_vm.specs.Vms.{tries_in}
 use Rattle.lol_vm.specs.declared.event_run.EventRun.{EventRun}
+use Rattle.lol_vm.specs.declared.events.RunCause.{RunCause}
+use Rattle.lol_vm.specs.declared.events.RunCause.TheVariants.{MemoryLimitExceeded, CounterFull, Memory}
 use Rattle.lol_script.specs.Devices.{ReadsToEnd}
-use Rattle.lol_script.specs.FieldLists.{list_text}
-use Rattle.lol_script.specs.Output.{comma_list, lines_of, shown_answer, shown_match}
+use Rattle.lol_script.specs.Explaining.{Explains, IsRunThrough, limiter_of, lines_by, selectors_in}
+use Rattle.lol_script.specs.FieldLists.{list_text, started_by}
+use Rattle.lol_script.specs.Output.{comma_list, lines_of, shown_match}
 use Rattle.lol_script.specs.ReadLines.{ReadLines}
 use Rattle.lol_script.specs.Readings.{IsReadTo, IsTagLine}
 use Rattle.lol_script.specs.Script.{line_at}
-use Rattle.lol_script.specs.Scripts.{Output, Script, output, output_of, run_output}
+use Rattle.lol_script.specs.Scripts.{Output, Script, output, output_of, run_output, shown_cause, texts_for}
 use Rattle.lol_script.specs.declared.device.Counted.{Counted}
+use Rattle.lol_script.specs.declared.explained.Explained.{Explained}
+use Rattle.lol_script.specs.declared.explained.Told.{Told}
 use Rattle.lol_script.specs.declared.output.FieldList.{FieldList}
 use Rattle.lol_script.specs.declared.program.Status.TheVariants.{Refused}
 use Rattle.lol_script.specs.declared.script_run.ScriptRun.{ScriptRun}
@@ -41,30 +47,37 @@ pub record IsEnded (s : Selectors) (esi : Bool) (item_bytes : ℕ) (before : Lim
   pub listed : list.refused ≡ false → list_text list ≡ comma_list (map decimal (closed name (document s esi events)))
   pub goes_on : IsRunOf s esi item_bytes before run (events ++ End name ∷ []) now
 
+-- the cause of a refusal that isn't want of memory
+abbrev pub IsCauseOf : RunCause → Cause → Type 0
+IsCauseOf MemoryLimitExceeded cause = cause ≡ Limit
+IsCauseOf CounterFull cause = cause ≡ Counter
+IsCauseOf Memory cause = ⊥
+
 -- 2. The tags so far
 
--- the limiter before a script's run
-abbrev pub limiter_of : Script → Limiter
-limiter_of s = record { usage = 0; maximum = s.limit }
-
--- what is written for these events
+-- what is written for these events, and how the run ends
 abbrev pub output_for : Selectors → Script → List Event → Output
 output_for selectors s events =
-    run_output (map (shown_answer s.shows_tries) (answers selectors s.esi events))
-    (refused selectors s.esi (allowance_of 64 (limiter_of s)) events)
+    run_output (texts_for selectors s empty events) (refused selectors s.esi (allowance_of 64 (limiter_of s)) events)
 
--- What was written for a script's events: the line of each answer, where none was refused; else the whole output, whatever comes later.
+-- The code's run has answered a script's events: over the selectors, or where reasons are shown over ones whose items stand under their numbers.
+abbrev pub HasRun : Selectors → Script → ScriptRun → Option Explained → Type 0
+HasRun selectors s code None = (s.explains ≡ false) × IsRunThrough selectors s code.run s.events code.limiter
+HasRun selectors s code (Some explained) =
+    (s.explains ≡ true) × (selectors ≡ selectors_in s)
+    × ((numbered : Selectors) × Explains explained s numbered × IsRunThrough numbered s code.run s.events code.limiter)
+
+-- What was written for a script's events: the lines for each of them, where none was refused; else the whole output, whatever comes later.
 abbrev pub IsWritten : Selectors → Script → ScriptRun → Bool → Type 0
 IsWritten selectors s code false =
-    IsRunOf selectors s.esi 64 (limiter_of s) code.run s.events code.limiter
-    × (code.text.items ≡ lines_of (map (shown_answer s.shows_tries) (answers selectors s.esi s.events)))
+    HasRun selectors s code code.explained × (code.text.items ≡ concat (texts_for selectors s empty s.events))
 IsWritten selectors s code true =
     (later : List Event) → output_for selectors s (s.events ++ later) ≡ record { text = code.text.items; status = Refused }
 
 -- The code has answered the events of a script.
 pub record Answers (code : ScriptRun) (s : Script) : Type 0 where
   pub selectors : Selectors
-  pub same : SameSelectors selectors (selectors_of s.pairs)
+  pub same : (events : List Event) → output_for selectors s events ≡ output_for (selectors_in s) s events
   pub shows_tries : code.shows_tries ≡ s.shows_tries
   pub written : IsWritten selectors s code code.refused
 
@@ -78,6 +91,16 @@ HasTags s = s.events ≡ [] → ⊥
 -- the line is that of a tag, if none was read
 abbrev pub IsTagIfFirst : List ℕ → Script → Type 0
 IsTagIfFirst line s = s.events ≡ [] → IsTagLine (line_at line)
+
+-- What was added for a start tag that was answered with its reasons, or refused.
+abbrev pub IsToldIn : Explained → Result (Option Told) RunCause → ScriptRun → ScriptRun → Type 0
+IsToldIn explained (Ok None) old new = (new.refused ≡ old.refused) × (new.text.items ≡ old.text.items ++ (codes "dropped" ++ line_feed ∷ []))
+IsToldIn explained (Ok (Some told)) old new =
+    let line = started_by (list_text old.fields) told.asked old.shows_tries (tries_in (machine_of old.run)) in
+    (new.refused ≡ old.refused) × (old.fields.refused ≡ false)
+    × (new.text.items ≡ old.text.items ++ (line ++ line_feed ∷ []) ++ lines_of (lines_by explained (map reason_shown told.reasons.items)))
+IsToldIn explained (Err cause) old new =
+    (new.refused ≡ true) × ((shown : Cause) × IsCauseOf cause shown × (new.text.items ≡ old.text.items ++ lines_of (shown_cause shown ∷ [])))
 
 -- 3. All tags
 

@@ -48,6 +48,11 @@ tries_shown (Some tries) = tries_field true (names_counted tries) (attributes_co
 abbrev pub started_text : List ℕ → Bool → Option Tries → List ℕ
 started_text matched asked tries = codes "start" ++ (tab ∷ matched ++ ((if asked then tab ∷ codes "asked" else []) ++ tries_shown tries))
 
+-- the same, where tries may be shown
+abbrev pub started_by : List ℕ → Bool → Bool → Tries → List ℕ
+started_by matched asked shows tries =
+    codes "start" ++ (tab ∷ matched ++ ((if asked then tab ∷ codes "asked" else []) ++ tries_field shows (names_counted tries) (attributes_counted tries)))
+
 -- the line of an end tag, by what stands for the elements that it closed
 abbrev pub ended_text : List ℕ → List ℕ
 ended_text closed = codes "end" ++ tab ∷ closed

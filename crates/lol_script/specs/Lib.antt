@@ -5,7 +5,9 @@ pub mod Lines
 pub mod Output
 pub mod Script
 pub mod Scripts
+pub mod SelectLines
 pub mod Readings
+pub mod Explaining
 pub mod Answering
 pub mod ExitStatus
 pub mod WorkedRows

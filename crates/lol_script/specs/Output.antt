@@ -1,11 +1,12 @@
 -- What the program writes.
-use Rattle.std.specs.Prelude.{ℕ, Bool, map, if◌then◌else◌, List, [], ◌∷◌, ◌++◌, codes, decimal}
+use Rattle.std.specs.Prelude.{ℕ, Bool, map, reverse, if◌then◌else◌, List, [], ◌∷◌, ◌++◌, codes, decimal}
 use Rattle.std.specs.Char.{encode_utf8}
 use Rattle.std.specs.List.{join_with_byte, flat_map}
 use Rattle.std.specs.Str.{byte}
 use Rattle.lol_base.specs.CodePoints.{tab, line_feed}
 use Rattle.lol_css.specs.declared.error.SelectorError.{SelectorError}
 use Rattle.lol_css.specs.declared.error.SelectorError.TheVariants.{UnexpectedToken, UnexpectedEnd, MissingAttributeName, EmptySelector, DanglingCombinator, UnexpectedTokenInAttribute, UnsupportedPseudoClassOrElement, NestedNegation, NamespacedSelector, InvalidClassName, EmptyNegation, UnsupportedCombinator, UnsupportedSyntax, Memory}
+use Rattle.lol_reasons.specs.Explanations.{Reason}
 use Rattle.lol_vm.specs.Answers.{Match, Answer, Started, Dropped, Ended}
 use Rattle.lol_script.specs.declared.bad_line.BadLine.{BadLine}
 use Rattle.lol_script.specs.declared.bad_line.Cause.{Cause}
@@ -30,6 +31,12 @@ shown_answer shows (Started matched asked names attributes) =
     codes "start" ++ (tab ∷ comma_list (map shown_match matched) ++ ((if asked then tab ∷ codes "asked" else []) ++ tries_field shows names attributes))
 shown_answer shows Dropped = codes "dropped"
 shown_answer shows (Ended closed) = codes "end" ++ tab ∷ comma_list (map decimal closed)
+
+-- The line of a reason: its id, the number of the `select` line, the item of its list, and the start tags whose elements the item's
+-- compounds are passed by, the outermost first.
+abbrev pub shown_reason : ℕ → Reason → List ℕ
+shown_reason line reason =
+    codes "why" ++ (tab ∷ decimal reason.id ++ (tab ∷ decimal line ++ (tab ∷ decimal reason.item ++ tab ∷ comma_list (map decimal (reverse reason.witness)))))
 
 -- lines, each of which LF ends
 abbrev pub lines_of : List (List ℕ) → List ℕ

@@ -11,7 +11,8 @@ use Rattle.lol_program.specs.declared.ast.Ast.{Ast}
 use Rattle.lol_script.specs.Devices.{IsReadFault, Reads, device_of, failures_of}
 use Rattle.lol_script.specs.ReadLines.{ReadLines, later_lines}
 use Rattle.lol_script.specs.Script.{Line, StartLine, EndLine}
-use Rattle.lol_script.specs.Scripts.{Script, read_lines, read_script}
+use Rattle.lol_script.specs.Scripts.{Script, pairs_in, read_lines, read_script}
+use Rattle.lol_script.specs.SelectLines.{KeepsLines}
 use Rattle.lol_script.specs.declared.bad_line.BadLine.{BadLine}
 use Rattle.lol_script.specs.declared.device.Counted.{Counted}
 use Rattle.lol_script.specs.declared.device.RunFault.TheVariants.{Memory}
@@ -21,13 +22,15 @@ use Rattle.lol_script.specs.declared.settings.Stop.TheVariants.{Fault, Bad}
 
 -- 1. Settings
 
--- The code has these settings, and its tree has these pairs and their beginnings, as sets; no tag was read.
+-- The code has these settings and lines, and its tree has these pairs and their beginnings, as sets; no tag was read.
 pub record IsReading (code : Settings) (s : Script) : Type 0 where
   pub limit : code.limit ≡ s.limit
   pub esi : code.esi ≡ s.esi
   pub shows_tries : code.shows_tries ≡ s.shows_tries
-  pub pairs : SameMembers s.pairs (pairs_of code.ast)
-  pub nodes : SameMembers (all_beginnings s.pairs) (nodes_of code.ast)
+  pub explains : code.explains ≡ s.explains
+  pub pairs : SameMembers (pairs_in s) (pairs_of code.ast)
+  pub nodes : SameMembers (all_beginnings (pairs_in s)) (nodes_of code.ast)
+  pub selects : KeepsLines code.selects s.selects
   pub none : s.events ≡ []
 
 -- For each script of the definition that the code has read so far.

@@ -1,6 +1,6 @@
 -- What a whole script asks for, and what is written for it.
-use Rattle.std.specs.Prelude.{ℕ, ◌+◌, Bool, false, true, ◌==◌, List, [], ◌∷◌, ◌++◌, map, take, Option, Some, None, Result, Ok, Err, codes}
-use Rattle.std.specs.List.{slice_split}
+use Rattle.std.specs.Prelude.{ℕ, ◌+◌, Bool, false, true, ◌==◌, if◌then◌else◌, List, [], ◌∷◌, ◌++◌, flat_map, get_or, map, take, Option, Some, None, Result, Ok, Err, codes}
+use Rattle.std.specs.List.{concat, slice_split}
 use Rattle.lol_css.specs.Accepting.{accept}
 use Rattle.lol_base.specs.CodePoints.{line_feed}
 use Rattle.lol_css.specs.Trees.{Items}
@@ -9,10 +9,12 @@ use Rattle.lol_program.specs.Paths.{Path, Selectors}
 use Rattle.lol_program.specs.Nodes.{selectors_of}
 use Rattle.lol_program.specs.Conditions.{pairs_under}
 use Rattle.lol_vm.specs.Events.{Event, Start, End}
-use Rattle.lol_vm.specs.Answers.{answers}
+use Rattle.lol_vm.specs.Answers.{after, answer}
+use Rattle.lol_vm.specs.Documents.{Document, empty}
+use Rattle.lol_reasons.specs.Explanations.{Reason, Text, added_by, reasons_at}
 use Rattle.lol_vm.specs.Refusals.{Cause, Limit, Counter, refused}
-use Rattle.lol_script.specs.Script.{Line, SetLimit, TurnEsiOn, ShowTries, Select, StartLine, EndLine, line_at}
-use Rattle.lol_script.specs.Output.{shown_answer, lines_of, bad_line}
+use Rattle.lol_script.specs.Script.{Line, SetLimit, TurnEsiOn, ShowTries, ShowReasons, Select, StartLine, EndLine, line_at}
+use Rattle.lol_script.specs.Output.{shown_answer, shown_reason, lines_of, bad_line}
 use Rattle.lol_script.specs.declared.bad_line.BadLine.{BadLine}
 use Rattle.lol_script.specs.declared.bad_line.Cause.TheVariants.{Form, Selector}
 use Rattle.lol_script.specs.declared.program.Status.{Status}
@@ -20,16 +22,29 @@ use Rattle.lol_script.specs.declared.program.Status.TheVariants.{Good, BadLine a
 
 -- 1. Scripts
 
--- What is asked for: the greatest usage, whether ESI is on and tries are shown, the selectors under their ids, the tags.
+-- A line of selectors: its number, and its text under its id.
+pub record SelectLine : Type 0 where
+  pub number : ℕ
+  pub text : Text
+
+-- What is asked for: the greatest usage, whether ESI is on and tries and reasons are shown, the selectors, the tags.
 pub record Script : Type 0 where
   pub limit : ℕ
   pub esi : Bool
   pub shows_tries : Bool
-  pub pairs : List (Path × ℕ)
+  pub explains : Bool
+  pub selects : List SelectLine
   pub events : List Event
 
 abbrev pub empty_script : Script
-empty_script = record { limit = 18446744073709551615; esi = false; shows_tries = false; pairs = []; events = [] }
+empty_script = record { limit = 18446744073709551615; esi = false; shows_tries = false; explains = false; selects = []; events = [] }
+
+abbrev pub texts_in : Script → List Text
+texts_in s = map (λ line. line.text) s.selects
+
+-- the selectors under their ids
+abbrev pub pairs_in : Script → List (Path × ℕ)
+pairs_in s = flat_map (λ text. pairs_under text.id text.items) (texts_in s)
 
 abbrev pub malformed : ℕ → Result Script BadLine
 malformed number = Err (record { number = number; cause = Form })
@@ -47,13 +62,15 @@ unless_begun [] number result = result
 unless_begun (event ∷ events) number result = malformed number
 
 abbrev pub with_selector : ℕ → Script → ℕ → Result Items SelectorError → Result Script BadLine
-with_selector number s id (Ok items) = Ok (record s { pairs = s.pairs ++ pairs_under id items })
+with_selector number s id (Ok items) =
+    Ok (record s { selects = s.selects ++ record { number = number; text = record { id = id; items = items } } ∷ [] })
 with_selector number s id (Err cause) = Err (record { number = number; cause = Selector cause })
 
 abbrev pub with_line : ℕ → Script → Line → Result Script BadLine
 with_line number s (SetLimit maximum) = unless_begun s.events number (Ok (record s { limit = maximum }))
 with_line number s TurnEsiOn = unless_begun s.events number (Ok (record s { esi = true }))
 with_line number s ShowTries = unless_begun s.events number (Ok (record s { shows_tries = true }))
+with_line number s ShowReasons = unless_begun s.events number (Ok (record s { explains = true }))
 with_line number s (Select id text) = unless_begun s.events number (with_selector number s id (accept text))
 with_line number s (StartLine tag) = Ok (with_event s (Start tag))
 with_line number s (EndLine name) = Ok (with_event s (End name))
@@ -85,18 +102,35 @@ abbrev pub shown_cause : Cause → List ℕ
 shown_cause Limit = codes "refused limit"
 shown_cause Counter = codes "refused counter"
 
--- the lines of a run, up to the event that is refused
+-- the number of the line of a text
+abbrev pub line_number : Script → ℕ → ℕ
+line_number s text = get_or (map (λ line. line.number) s.selects) text 0
+
+-- the lines of reasons, where they are shown
+abbrev pub reason_lines : Script → List Reason → List (List ℕ)
+reason_lines s reasons = if s.explains then map (λ reason. shown_reason (line_number s reason.text) reason) reasons else []
+
+-- what is written for an event: the line of its answer, and after it those of its reasons
+abbrev pub text_for : Selectors → Script → Document → Event → List ℕ
+text_for selectors s d event =
+    lines_of (shown_answer s.shows_tries (answer selectors s.esi d event) ∷ reason_lines s (reasons_at selectors (added_by (texts_in s)) d event))
+
+-- what is written for each event, from what has come before
+abbrev pub texts_for : Selectors → Script → Document → List Event → List (List ℕ)
+texts_for selectors s d [] = []
+texts_for selectors s d (event ∷ events) = text_for selectors s d event ∷ texts_for selectors s (after selectors s.esi d event) events
+
+-- what is written for a run, up to the event that is refused
 abbrev pub run_output : List (List ℕ) → Option (ℕ × Cause) → Output
-run_output lines None = record { text = lines_of lines; status = Good }
-run_output lines (Some refusal) = record { text = lines_of (take refusal.0 lines ++ shown_cause refusal.1 ∷ []); status = Refused }
+run_output texts None = record { text = concat texts; status = Good }
+run_output texts (Some refusal) = record { text = concat (take refusal.0 texts) ++ lines_of (shown_cause refusal.1 ∷ []); status = Refused }
 
 abbrev pub good_output : Selectors → Script → Output
 good_output selectors s =
-    run_output (map (shown_answer s.shows_tries) (answers selectors s.esi s.events))
-    (refused selectors s.esi (record { item_bytes = 64; maximum = s.limit; usage = 0 }) s.events)
+    run_output (texts_for selectors s empty s.events) (refused selectors s.esi (record { item_bytes = 64; maximum = s.limit; usage = 0 }) s.events)
 
 abbrev pub output_of : Result Script BadLine → Output
-output_of (Ok s) = good_output (selectors_of s.pairs) s
+output_of (Ok s) = good_output (selectors_of (pairs_in s)) s
 output_of (Err bad) = record { text = bad_line bad; status = Bad }
 
 -- What is written for a script, and how its run ends.

@@ -2,7 +2,7 @@
 
 ghost use Rattle.std.specs.Prelude.{◌≡◌, [], ◌∷◌, ◌++◌, Some, None, true, false, codes};
 ghost use Rattle.lol_base.specs.declared.namespace.Namespace.TheVariants.{Html, Svg};
-ghost use Rattle.lol_script.specs.Script.{line_at, number_up_to, SetLimit, TurnEsiOn, ShowTries, Select, EndLine};
+ghost use Rattle.lol_script.specs.Script.{line_at, number_up_to, SetLimit, TurnEsiOn, ShowTries, ShowReasons, Select, EndLine};
 ghost use Rattle.lol_script.specs.Scripts.{output};
 ghost use Rattle.lol_script.specs.WorkedRows.{attribute, start_line, written};
 ghost use Rattle.lol_script.specs.declared.program.Status.TheVariants.{Good, BadLine, Refused};
@@ -25,6 +25,10 @@ pub fn worked_settings()
     ensures esi_tab { line_at (codes "esi\t") ≡ None }
     ensures tries { line_at (codes "tries") ≡ Some ShowTries }
     ensures tries_tab { line_at (codes "tries\t") ≡ None }
+    ensures explain { line_at (codes "explain") ≡ Some ShowReasons }
+    ensures explain_return { line_at (codes "explain\r") ≡ None }
+    ensures explain_tab { line_at (codes "explain\t") ≡ None }
+    ensures explain_capital { line_at (codes "Explain") ≡ None }
     ensures limit_tab { line_at (codes "limit\t5\t") ≡ None }
     ensures no_text { line_at (codes "select\t0") ≡ None }
     ensures empty_text { line_at (codes "select\t0\t") ≡ Some (Select 0 []) }

@@ -6,12 +6,14 @@ ghost use Rattle.lol_script.specs.ExitStatus.{exit_status_of};
 
 mod bad_line;
 mod device;
+mod explained;
 pub mod laws;
 mod line_reader;
 mod lines;
 mod output;
 mod program;
 mod script_run;
+mod select_lines;
 mod settings;
 mod tags;
 

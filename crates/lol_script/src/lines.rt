@@ -38,6 +38,9 @@ pub enum Setting<'s> {
     /// Tries are shown.
     Tries,
 
+    /// Reasons are shown.
+    Explain,
+
     /// A selector, and the id that it is added under.
     Select { id: u32, text: &'s str },
 }
@@ -127,7 +130,7 @@ fn id_of(digits: &[u8]) -> Option<u32>
 }
 
 /// Bytes as a text, if they are UTF-8.
-fn text_of(bytes: &[u8]) -> Option<&str>
+pub fn text_of(bytes: &[u8]) -> Option<&str>
     ensures { option_map (λ text. text.now) result ≡ (if is_utf8 bytes.now then Some bytes.now else None) }
 {
     std::str::from_utf8(bytes).ok()
@@ -276,6 +279,8 @@ fn bare_line(kind: &[u8]) -> Option<Line<'static>>
         Some(Line::Setting(Setting::Esi))
     } else if kind == b"tries".as_slice() {
         Some(Line::Setting(Setting::Tries))
+    } else if kind == b"explain".as_slice() {
+        Some(Line::Setting(Setting::Explain))
     } else {
         None
     }

@@ -1,14 +1,16 @@
 //! The lines of a run as they are written.
 
-ghost use Rattle.std.specs.Prelude.{◌≡◌, ◌∷◌, [], ◌++◌, ◌≤◌, OnOk, decimal, false, true};
+ghost use Rattle.std.specs.Prelude.{◌≡◌, ◌∷◌, [], ◌++◌, ◌≤◌, OnOk, decimal, false, map, reverse, true};
 ghost use Rattle.lol_base.specs.CodePoints.{line_feed};
 ghost use Rattle.lol_vm.specs.Views.{match_of};
 ghost use Rattle.lol_instructions.specs.Tries.{names_counted, attributes_counted};
-ghost use Rattle.lol_script.specs.Output.{shown_match, tries_field};
+ghost use Rattle.lol_reasons.specs.Numbered.{reason_shown};
+ghost use Rattle.lol_script.specs.Output.{comma_list, shown_match, shown_reason, tries_field};
 ghost use Rattle.std.specs.Str.{byte};
 ghost use Rattle.lol_script.specs.FieldLists.{AddsField, IsEmptyList, ended_text, list_text, shown_field, started_text};
 
 use itoa::Buffer;
+use lol_reasons::Reason;
 use lol_vm::{MatchInfo, Tries};
 use std::alloc::{AllocError, Global};
 
@@ -189,6 +191,40 @@ pub fn push_started(
         push_tries(text, tries)?;
     }
     text.push(b'\n')?;
+    Ok(())
+}
+
+/// Adds the line of a reason, whose text is that of the `select` line of this number.
+pub fn push_reason(text: &mut Vec<u8>, line: usize, reason: &Reason) -> Result<(), AllocError>
+    ensures { OnOk result (text.new.items
+        ≡ text.old.items ++ (shown_reason line (reason_shown reason.now) ++ line_feed ∷ [])) }
+{
+    text.extend_from_slice(b"why\t")?;
+    push_number(text, u64::from(reason.item.id))?;
+    text.push(b'\t')?;
+    push_number(text, line as u64)?;
+    text.push(b'\t')?;
+    push_number(text, reason.item.item as u64)?;
+    text.push(b'\t')?;
+    push_outermost_first(text, &reason.witness)?;
+    text.push(b'\n')?;
+    Ok(())
+}
+
+/// Adds numbers, the last of them first, separated by commas, or `-` where there are none.
+fn push_outermost_first(text: &mut Vec<u8>, witness: &[usize]) -> Result<(), AllocError>
+    ensures { OnOk result (text.new.items
+        ≡ text.old.items ++ comma_list (map decimal (reverse witness.now))) }
+{
+    let Some((outermost, inner)) = witness.split_last() else {
+        text.push(b'-')?;
+        return Ok(());
+    };
+    push_number(text, *outermost as u64)?;
+    for number in inner.iter().rev() {
+        text.push(b',')?;
+        push_number(text, *number as u64)?;
+    }
     Ok(())
 }
 

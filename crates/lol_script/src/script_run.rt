@@ -1,28 +1,38 @@
 //! The tags of a script, each answered as its line is read.
 
-ghost use Rattle.std.specs.Prelude.{◌≡◌, ◌≢◌, ◌∷◌, ◌++◌, [], List, IfOk, IfErr, OnOk, Ok, decimal, length};
+ghost use Rattle.std.specs.Prelude.{◌≡◌, ◌≢◌, ◌∷◌, ◌++◌, [], List, IfOk, IfErr, OnOk, Ok, None, decimal, false, length, true};
+ghost use Rattle.std.specs.Option.{is_some};
+ghost use Rattle.lol_instructions.specs.Tries.{attributes_counted, names_counted};
 ghost use Rattle.lol_memory.specs.Limiter.{Limiter};
-ghost use Rattle.lol_vm.specs.EventRuns.{ForRunOfEvents};
+ghost use Rattle.lol_program.specs.Paths.{Selectors};
+ghost use Rattle.lol_vm.specs.EventRuns.{ForRunOfEvents, machine_of};
 ghost use Rattle.lol_vm.specs.Events.{Event, Start, End};
-ghost use Rattle.lol_vm.specs.Refusals.{refused};
+ghost use Rattle.lol_vm.specs.Refusals.{Cause, refused};
 ghost use Rattle.lol_vm.specs.RunRefusals.{StopsFor, allowance_of};
-ghost use Rattle.lol_vm.specs.Views.{match_of};
-ghost use Rattle.lol_script.specs.Answering.{Answers, ForAnswers, HasTags, IsEnded, IsStarted, IsTagIfFirst};
-ghost use Rattle.lol_script.specs.FieldLists.{AddsField};
+ghost use Rattle.lol_vm.specs.Views.{match_of, selectors};
+ghost use Rattle.lol_vm.specs.Vms.{tries_in};
+ghost use Rattle.lol_script.specs.Answering.{Answers, ForAnswers, HasTags, IsCauseOf, IsEnded, IsStarted, IsTagIfFirst, IsToldIn};
+ghost use Rattle.lol_script.specs.Explaining.{Explains, IfSomeIs, IsNewRun};
+ghost use Rattle.lol_script.specs.FieldLists.{AddsField, tries_shown};
 ghost use Rattle.lol_script.specs.Lines.{AreOutlinesOf, start_tag_of};
-ghost use Rattle.lol_script.specs.Output.{shown_match};
+ghost use Rattle.lol_script.specs.Output.{lines_of, shown_match, tries_field};
 ghost use Rattle.lol_script.specs.Readings.{ForReading, Stops};
 ghost use Rattle.lol_script.specs.Scripts as scripts;
-ghost use Rattle.lol_script.specs.Scripts.{output_of, with_bytes, with_event};
+ghost use Rattle.lol_script.specs.Scripts.{output_of, shown_cause, with_bytes, with_event};
+ghost use Rattle.lol_script.specs.SelectLines.{KeepsLines};
 
 use crate::device::RunFault;
+use crate::explained::{Explained, Told};
 use crate::lines::{Line, StartLine, line_of};
 use crate::output::{FieldList, push_ended, push_line, push_started};
 use crate::program::Status;
+use crate::select_lines::SelectLines;
 use crate::settings::{Settings, Stop, malformed};
 use crate::tags::handed_over;
+use lol_reasons::laws::numbers_change_reports_alone;
 use lol_vm::{
-    AttributeBuffer, ElementValue, EventRun, LocalName, MatchInfo, RunCause, SharedMemoryLimiter,
+    Ast, AttributeBuffer, ElementValue, EventRun, LocalName, MatchInfo, RunCause,
+    SharedMemoryLimiter, Tries,
 };
 use std::alloc::{AllocError, Global};
 
@@ -34,6 +44,9 @@ pub struct ScriptRun {
     run: EventRun,
     limiter: SharedMemoryLimiter,
     shows_tries: bool,
+
+    /// What explains the reports, if reasons are shown.
+    explained: Option<Explained>,
 
     /// What is written, the refusal too.
     text: Vec<u8>,
@@ -55,12 +68,16 @@ impl ScriptRun {
             limit,
             esi,
             shows_tries,
+            explains,
             ast,
+            selects,
         } = settings;
+        let (run, explained) = new_run(alloc, ast, &selects, explains, esi)?;
         Ok(ScriptRun {
-            run: EventRun::new(alloc, ast, ITEM_BYTES, esi)?,
+            run,
             limiter: SharedMemoryLimiter::new(limit as usize),
             shows_tries,
+            explained,
             text: Vec::new(alloc),
             refused: false,
             outlines: AttributeBuffer::new(alloc),
@@ -101,6 +118,9 @@ impl ScriptRun {
         if self.refused {
             return Ok(());
         }
+        if self.explained.is_some() {
+            return self.explain_start(line);
+        }
         let answered = answer_start(
             &mut self.run,
             line,
@@ -111,22 +131,81 @@ impl ScriptRun {
         match answered {
             Ok(None) => push_line(&mut self.text, b"dropped"),
             Ok(Some(asked)) => {
-                let tries = if self.shows_tries {
-                    Some(self.run.tries())
-                } else {
-                    None
-                };
+                let tries = self.shown_tries();
                 push_started(&mut self.text, &self.fields, asked, tries)
             }
-            Err(RunCause::MemoryLimitExceeded) => {
-                self.refused = true;
-                push_line(&mut self.text, b"refused limit")
+            Err(cause) => self.refuse(cause),
+        }
+    }
+
+    /// Answers a start tag with its reasons.
+    #[inline(never)]
+    fn explain_start(&mut self, line: StartLine<'_>) -> Result<(), AllocError>
+        requires outlines { AreOutlinesOf line.attributes self.old.outlines.items }
+        requires going { self.old.refused ≡ false }
+        requires explained { is_some self.old.explained ≡ true }
+        ensures { OnOk result (ForAnswers self.old (λ s.
+            Answers self.new (with_event s (Start (start_tag_of line.entry))))) }
+    {
+        let Some(explained) = self.explained.take() else {
+            return Ok(());
+        };
+        let answered = explained.answer_start(
+            &mut self.run,
+            line,
+            &self.outlines,
+            &mut self.limiter,
+            &mut self.fields,
+        );
+        let pushed = self.push_told(&explained, answered);
+        self.explained = Some(explained);
+        pushed
+    }
+
+    /// Adds the lines of a start tag that was answered so.
+    fn push_told(
+        &mut self,
+        explained: &Explained,
+        answered: Result<Option<Told>, RunCause>,
+    ) -> Result<(), AllocError>
+        ensures kept { self.new ≡ record self.old { text = self.new.text; refused = self.new.refused } }
+        ensures told { OnOk result (IsToldIn explained.now answered self.old self.new) }
+    {
+        match answered {
+            Ok(None) => push_line(&mut self.text, b"dropped"),
+            Ok(Some(told)) => {
+                let tries = self.shown_tries();
+                push_started(&mut self.text, &self.fields, told.asked, tries)?;
+                explained.push_reasons(&mut self.text, &told.reasons)
             }
-            Err(RunCause::CounterFull) => {
-                self.refused = true;
-                push_line(&mut self.text, b"refused counter")
-            }
-            Err(RunCause::Memory) => Err(AllocError),
+            Err(cause) => self.refuse(cause),
+        }
+    }
+
+    /// What was tried for the last start tag, if tries are shown.
+    #[inline(always)]
+    fn shown_tries(&self) -> Option<Tries>
+        ensures { tries_shown result ≡ tries_field self.now.shows_tries
+            (names_counted (tries_in (machine_of self.now.run))) (attributes_counted (tries_in (machine_of self.now.run))) }
+    {
+        if self.shows_tries {
+            Some(self.run.tries())
+        } else {
+            None
+        }
+    }
+
+    /// Says why a start tag was refused, after which no tag is answered.
+    fn refuse(&mut self, cause: RunCause) -> Result<(), AllocError>
+        ensures kept { self.new ≡ record self.old { text = self.new.text; refused = true } }
+        ensures text { OnOk result ((shown : Cause) × IsCauseOf cause shown
+            × (self.new.text.items ≡ self.old.text.items ++ lines_of (shown_cause shown ∷ []))) }
+    {
+        self.refused = true;
+        match cause {
+            RunCause::MemoryLimitExceeded => push_line(&mut self.text, b"refused limit"),
+            RunCause::CounterFull => push_line(&mut self.text, b"refused counter"),
+            RunCause::Memory => Err(AllocError),
         }
     }
 
@@ -137,6 +216,7 @@ impl ScriptRun {
         if self.refused {
             return Ok(());
         }
+        numbers_change_reports_alone();
         answer_end(&mut self.run, name, &mut self.fields)?;
         push_ended(&mut self.text, &self.fields)
     }
@@ -146,10 +226,12 @@ impl ScriptRun {
         ensures { ForAnswers self (λ s. output_of (Ok s)
             ≡ record { text = result.0.items; status = result.1 }) }
     {
+        numbers_change_reports_alone();
         let ScriptRun {
             run,
             limiter: _,
             shows_tries: _,
+            explained: _,
             text,
             refused,
             outlines: _,
@@ -162,6 +244,46 @@ impl ScriptRun {
             Status::Good
         };
         (text, status)
+    }
+}
+
+/// A run over selectors or, if reasons are shown, over those of these lines, and what explains its reports.
+fn new_run(
+    alloc: Global,
+    ast: Ast,
+    selects: &SelectLines,
+    explains: bool,
+    esi: bool,
+) -> Result<(EventRun, Option<Explained>), AllocError>
+    ensures plain { explains ≡ false → IfOk result (λ made. (made.1 ≡ None) × IsNewRun (selectors ast) esi made.0) }
+    ensures explained { explains ≡ true → IfOk result (λ made. IfSomeIs made.1 (λ explained.
+        (s : scripts.Script) → KeepsLines selects.now s.selects
+        → (numbered : Selectors) × Explains explained s numbered × IsNewRun numbered esi made.0)) }
+{
+    if explains {
+        let (run, explained) = explained_run(alloc, selects, esi)?;
+        return Ok((run, Some(explained)));
+    }
+    Ok((EventRun::new(alloc, ast, ITEM_BYTES, esi)?, None))
+}
+
+/// A run over the selectors of these lines, and what explains its reports.
+fn explained_run(
+    alloc: Global,
+    selects: &SelectLines,
+    esi: bool,
+) -> Result<(EventRun, Explained), AllocError>
+    ensures { IfOk result (λ made. (s : scripts.Script) → KeepsLines selects.now s.selects
+        → (numbered : Selectors) × Explains made.1 s numbered × IsNewRun numbered esi made.0) }
+{
+    let (ast, mut explained) = Explained::new(alloc, selects)?;
+    let run = EventRun::new(alloc, ast, ITEM_BYTES, esi)?;
+    match explained.index(&run) {
+        Ok(()) => Ok((run, explained)),
+        Err(_) => {
+            run.discard();
+            Err(AllocError)
+        }
     }
 }
 

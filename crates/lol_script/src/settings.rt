@@ -16,6 +16,7 @@ use crate::bad_line::{BadLine, Cause};
 use crate::device::{Counted, RunFault};
 use crate::line_reader::LineReader;
 use crate::lines::{Line, Setting, line_of};
+use crate::select_lines::SelectLines;
 use lol_vm::{Ast, AttributeBuffer, Selector, SelectorError};
 use std::alloc::Global;
 use std::io::Read;
@@ -30,7 +31,13 @@ pub struct Settings {
     pub esi: bool,
 
     pub shows_tries: bool,
+
+    /// Whether reasons are shown.
+    pub explains: bool,
     pub ast: Ast,
+
+    /// The lines of the selectors. They are read again if reasons are shown.
+    pub selects: SelectLines,
 }
 
 /// Why the reading of a script stops.
@@ -51,7 +58,9 @@ impl Settings {
             limit: u64::MAX,
             esi: false,
             shows_tries: false,
+            explains: false,
             ast: Ast::new(alloc),
+            selects: SelectLines::new(alloc),
         }
     }
 
@@ -92,7 +101,13 @@ impl Settings {
             Setting::Limit { maximum } => self.limit = maximum,
             Setting::Esi => self.esi = true,
             Setting::Tries => self.shows_tries = true,
-            Setting::Select { id, text } => take_selector(alloc, &mut self.ast, number, id, text)?,
+            Setting::Explain => self.explains = true,
+            Setting::Select { id, text } => {
+                take_selector(alloc, &mut self.ast, number, id, text)?;
+                let Ok(()) = self.selects.push(number, id, text) else {
+                    return Err(Stop::Fault(RunFault::Memory));
+                };
+            }
         }
         Ok(())
     }

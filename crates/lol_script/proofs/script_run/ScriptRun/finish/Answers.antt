@@ -10,4 +10,4 @@ returns c = λ s answers.
       | then-refused w ↦ ap status_of w.if-refused.true ∙ sym w.status-is
       | else-refused w ↦ ap status_of w.if-refused.false ∙ sym w.status-is
     ] in
-    written_whole c.args.self s answers ∙ ap (λ (status : Status). record { text = c.args.self.text.items; status = status }) status
+    written_whole c.numbers_change_reports_alone.ensures.alike c.args.self s answers ∙ ap (λ (status : Status). record { text = c.args.self.text.items; status = status }) status

@@ -1,9 +1,9 @@
 use Rattle.std.proofs.Common.{◌++◌, ◌∷◌, [], List, ℕ, refl, ap, ◌∙◌}
 use Rattle.std.proofs.lemmas.Result.{on_ok_weaker}
 use Rattle.lol_vm.specs.Events.{End}
-use Rattle.lol_script.specs.Answering.{limiter_of}
+use Rattle.lol_script.specs.Explaining.{limiter_of}
 use Rattle.lol_script.specs.FieldLists.{ended_text}
-use Rattle.lol_script.proofs.AnswerLines.{answered_more, refused_stays}
+use Rattle.lol_script.proofs.AnswerLines.{ended_more, refused_stays}
 use Rattle.lol_script.proofs.script_run.ScriptRun.take_end.Goals as goal
 
 pub returns-then-self : goal.returns-then-self
@@ -11,7 +11,7 @@ returns-then-self c = λ s answers. refused_stays c.args.self.now s answers c.if
 
 pub returns : goal.returns
 returns c = on_ok_weaker c.push_ended.result
-    (λ both s answers. answered_more c.args.self.now _ s answers c.if-self.false c.if-self.false refl (End c.args.name.now)
-    (λ runs. let ended = c.in_ok-answer_end.ensures c.args.self.now.limiter answers.selectors s.esi 64 (limiter_of s) s.events runs in
+    (λ both s answers. ended_more c.numbers_change_reports_alone.ensures.alike c.args.self.now _ s answers c.if-self.false c.if-self.false refl refl c.args.name.now
+    (λ selectors runs. let ended = c.in_ok-answer_end.ensures c.args.self.now.limiter selectors s.esi 64 (limiter_of s) s.events runs in
     (ended.goes_on, both.1 ∙ ap (λ (list : List ℕ). c.args.self.now.text.items ++ (ended_text list ++ 10 ∷ [])) (ended.listed both.0))))
     c.push_ended.ensures

@@ -1,0 +1,5 @@
+use Rattle.std.proofs.Common.{◌≡◌, map, take}
+use Rattle.lol_script.proofs.select_lines.SelectLines.numbers.Given as goal
+
+abbrev pub invariant-loop-line : goal.invariant-loop-line
+invariant-loop-line l = l.numbers.items ≡ map (λ line. line.number) (take l.line-index l.line-items)

@@ -1,0 +1,132 @@
+-- Start tags that are answered with their reasons.
+use Rattle.std.specs.Prelude.{ℕ, ◌≡◌, ◌≤◌, Bool, false, List, [], ◌∷◌, ◌++◌, get_or, map, reverse, Option, Some, None}
+use Rattle.lol_base.specs.StartTags.{StartTag}
+use Rattle.lol_instructions.specs.Tests.{Element}
+use Rattle.lol_instructions.specs.Tries.{names_counted, attributes_counted}
+use Rattle.lol_instructions.specs.declared.tries.Tries.{Tries}
+use Rattle.lol_memory.specs.Limiter.{Limiter}
+use Rattle.lol_memory.specs.declared.match_info.MatchInfo.{MatchInfo}
+use Rattle.lol_program.specs.Nodes.{selectors_of}
+use Rattle.lol_program.specs.Paths.{Selectors}
+use Rattle.lol_reasons.specs.Explanations as explanations
+use Rattle.lol_reasons.specs.Explanations.{added_by, reasons, reasons_at}
+use Rattle.lol_reasons.specs.Numbered.{HasItemsOf, KnowsItemsOf, reason_shown}
+use Rattle.lol_reasons.specs.NumberingLaws.{SameNodes}
+use Rattle.lol_reasons.specs.declared.explainer.Reason.{Reason}
+use Rattle.lol_vm.specs.Answers.{Answer, Match, Started, Dropped, answer, document, is_dropped, report}
+use Rattle.lol_vm.specs.Documents.{element_of}
+use Rattle.lol_vm.specs.EventRuns.{IsRunOf, answer_taken, machine_of}
+use Rattle.lol_vm.specs.Events.{Event, Start}
+use Rattle.lol_vm.specs.Views.{match_of}
+use Rattle.lol_vm.specs.Vms.{tries_in}
+use Rattle.lol_vm.specs.declared.event_run.EventRun.{EventRun}
+use Rattle.lol_script.specs.FieldLists.{list_text}
+use Rattle.lol_script.specs.Output.{comma_list, shown_match, shown_reason}
+use Rattle.lol_script.specs.Scripts.{Script, pairs_in, texts_in}
+use Rattle.lol_script.specs.declared.explained.Explained.{Explained}
+use Rattle.lol_script.specs.declared.explained.InfoList.{InfoList}
+use Rattle.lol_script.specs.declared.explained.Matched.{Matched}
+use Rattle.lol_script.specs.declared.explained.Told.{Told}
+use Rattle.lol_script.specs.declared.output.FieldList.{FieldList}
+
+-- the selectors of a script, under their ids
+abbrev pub selectors_in : Script → Selectors
+selectors_in s = selectors_of (pairs_in s)
+
+-- the limiter before a script's run
+abbrev pub limiter_of : Script → Limiter
+limiter_of s = record { usage = 0; maximum = s.limit }
+
+-- In these selectors the items of a script stand under their numbers, and the code explains what a machine with them reports.
+pub record Explains (code : Explained) (s : Script) (numbered : Selectors) : Type 0 where
+  pub known : KnowsItemsOf (texts_in s) code.explainer
+  pub items : HasItemsOf (texts_in s) numbered
+  pub nodes : SameNodes (selectors_in s) numbered
+  pub lines : code.lines.items ≡ map (λ line. line.number) s.selects
+
+-- a run over selectors has answered the events of a script
+abbrev pub IsRunThrough : Selectors → Script → EventRun → List Event → Limiter → Type 0
+IsRunThrough selectors s run events now = IsRunOf selectors s.esi 64 (limiter_of s) run events now
+
+-- A run over selectors has answered nothing, whatever the limiter.
+abbrev pub IsNewRun : Selectors → Bool → EventRun → Type 0
+IsNewRun selectors esi run =
+    (before : Limiter) → before.maximum ≤ 18446744073709551615 → before.usage ≤ before.maximum → IsRunOf selectors esi 64 before run [] before
+
+-- there is one, of which this holds
+abbrev pub IfSomeIs : {T : Type 0} → Option T → (T → Type 0) → Type 0
+IfSomeIs None holds = ⊥
+IfSomeIs (Some x) holds = holds x
+
+-- For each script that the code explains, over whose events this is a run.
+abbrev pub ForExplained : Explained → EventRun → Limiter → (Script → Selectors → Type 0) → Type 0
+ForExplained code run now holds =
+    (s : Script) (numbered : Selectors) → Explains code s numbered → IsRunThrough numbered s run s.events now → holds s numbered
+
+-- 1. What a machine reports by numbers
+
+-- one more was reported, or memory was refused; after a refusal nothing is added
+abbrev pub AddsInfo : MatchInfo → InfoList → InfoList → Type 0
+AddsInfo info old new = (new.refused ≡ false) → (old.refused ≡ false) × (new.infos.items ≡ old.infos.items ++ info ∷ [])
+
+-- what was matched, as the answer to a start tag
+abbrev pub answer_matched : Option Matched → Tries → Answer
+answer_matched None tries = Dropped
+answer_matched (Some matched) tries = answer_taken (Some matched.asked) matched.infos.items tries
+
+-- A start tag was answered; the list has what a machine reports of it, unless memory was refused for that.
+pub record IsListed (s : Selectors) (esi : Bool) (item_bytes : ℕ) (before : Limiter) (run : EventRun) (events : List Event) (tag : StartTag) (now : Limiter) (taken : Option Bool) (list : InfoList) : Type 0 where
+  pub infos : List MatchInfo
+  pub listed : list.refused ≡ false → list.infos.items ≡ infos
+  pub answered : answer_taken taken infos (tries_in (machine_of run)) ≡ answer s esi (document s esi events) (Start tag)
+  pub goes_on : IsRunOf s esi item_bytes before run (events ++ Start tag ∷ []) now
+
+-- A start tag was answered with what a machine reports.
+pub record IsMatched (s : Selectors) (esi : Bool) (item_bytes : ℕ) (before : Limiter) (run : EventRun) (events : List Event) (tag : StartTag) (now : Limiter) (matched : Option Matched) : Type 0 where
+  pub answered : answer_matched matched (tries_in (machine_of run)) ≡ answer s esi (document s esi events) (Start tag)
+  pub goes_on : IsRunOf s esi item_bytes before run (events ++ Start tag ∷ []) now
+
+-- A run over selectors was told of a start tag after the events of a script, and reported these; these are the numbers of the elements around
+-- the tag's, the outermost first.
+pub record IsMatchedInside (numbered : Selectors) (s : Script) (run : EventRun) (infos : List MatchInfo) (around : List ℕ) (tag : StartTag) (now : Limiter) : Type 0 where
+  pub runs : IsRunThrough numbered s run (s.events ++ Start tag ∷ []) now
+  pub reported : map match_of infos ≡ report numbered s.esi (element_of (document numbered s.esi s.events) tag) (document numbered s.esi s.events).open_elements
+  pub numbers : map (λ e. e.number) (document numbered s.esi s.events).open_elements ≡ reverse around
+  pub undropped : is_dropped numbered (element_of (document numbered s.esi s.events) tag) (document numbered s.esi s.events).open_elements ≡ false
+
+-- 2. What is told
+
+-- the ids of reasons
+abbrev pub reported_ids : List Reason → List ℕ
+reported_ids reasons = map (λ r. r.item.id) reasons
+
+-- the number of the line of a text
+abbrev pub line_of : Explained → ℕ → ℕ
+line_of code text = get_or code.lines.items text 0
+
+-- the lines of reasons
+abbrev pub lines_by : Explained → List explanations.Reason → List (List ℕ)
+lines_by code reasons = map (λ reason. shown_reason (line_of code reason.text) reason) reasons
+
+-- These are the reasons for an element of a script, and the list has what the element is reported under, unless memory was refused for it.
+pub record IsToldOf (s : Script) (e : Element) (outer : List Element) (told : List Reason) (fields : FieldList) : Type 0 where
+  pub listed : fields.refused ≡ false → list_text fields ≡ comma_list (map shown_match (report (selectors_in s) s.esi e outer))
+  pub explained : map reason_shown told ≡ reasons (added_by (texts_in s)) e outer
+
+-- A start tag was answered by what is told: with what it is reported under, which the list has unless memory was refused for it, and why.
+pub record IsAnsweredBy (s : Script) (tag : StartTag) (run : EventRun) (told : Told) (fields : FieldList) : Type 0 where
+  pub matched : List Match
+  pub listed : fields.refused ≡ false → list_text fields ≡ comma_list (map shown_match matched)
+  pub answered : Started matched told.asked (names_counted (tries_in (machine_of run))) (attributes_counted (tries_in (machine_of run)))
+      ≡ answer (selectors_in s) s.esi (document (selectors_in s) s.esi s.events) (Start tag)
+  pub explained : map reason_shown told.reasons.items
+      ≡ reasons_at (selectors_in s) (added_by (texts_in s)) (document (selectors_in s) s.esi s.events) (Start tag)
+
+-- A start tag was dropped.
+pub record IsDroppedIn (s : Script) (tag : StartTag) : Type 0 where
+  pub answered : Dropped ≡ answer (selectors_in s) s.esi (document (selectors_in s) s.esi s.events) (Start tag)
+  pub unexplained : [] ≡ reasons_at (selectors_in s) (added_by (texts_in s)) (document (selectors_in s) s.esi s.events) (Start tag)
+
+abbrev pub IsToldBy : Script → StartTag → EventRun → Option Told → FieldList → Type 0
+IsToldBy s tag run None fields = IsDroppedIn s tag
+IsToldBy s tag run (Some told) fields = IsAnsweredBy s tag run told fields

@@ -1,0 +1,93 @@
+//! The `select` lines of a script, kept until it is known whether reasons are shown.
+
+ghost use Rattle.std.specs.Prelude.{◌≡◌, ◌++◌, ◌∷◌, [], List, IfOk, IfSome, OnOk, Ok, map};
+ghost use Rattle.lol_css.specs.Accepting.{accept};
+ghost use Rattle.lol_css.specs.TreeViews.{list_of};
+ghost use Rattle.lol_reasons.specs.Numbered.{texts_in};
+ghost use Rattle.lol_script.specs.SelectLines as lines;
+ghost use Rattle.lol_script.specs.SelectLines.{Keeps, text_accepted, text_read};
+
+use crate::lines::text_of;
+use lol_reasons::Texts;
+use lol_vm::Selector;
+use std::alloc::{AllocError, Global};
+
+/// The number of a `select` line, its id, and how many bytes its text has.
+#[derive(Clone, Copy)]
+struct KeptLine {
+    number: usize,
+    id: u32,
+    len: usize,
+}
+
+/// The `select` lines so far. Their texts stand one after another.
+#[derive(Drop)]
+pub struct SelectLines {
+    lines: Vec<KeptLine>,
+    texts: Vec<u8>,
+}
+
+impl SelectLines {
+    /// No lines. It takes no memory.
+    pub fn new(alloc: Global) -> Self
+        ensures { Keeps result [] }
+    {
+        SelectLines {
+            lines: Vec::new(alloc),
+            texts: Vec::new(alloc),
+        }
+    }
+
+    /// Adds a line.
+    pub fn push(&mut self, number: usize, id: u32, text: &str) -> Result<(), AllocError>
+        ensures { OnOk result ((kept : List lines.KeptLine) → Keeps self.old kept
+            → Keeps self.new (kept ++ record { number = number; id = id; text = text.now } ∷ [])) }
+    {
+        self.texts.extend_from_slice(text.as_bytes())?;
+        self.lines.push(KeptLine {
+            number,
+            id,
+            len: text.len(),
+        })?;
+        Ok(())
+    }
+
+    /// The numbers of the lines.
+    pub fn numbers(&self, alloc: Global) -> Result<Vec<usize>, AllocError>
+        ensures { IfOk result (λ numbers. numbers.items ≡ map (λ line. line.number) self.now.lines.items) }
+    {
+        let mut numbers = Vec::new(alloc);
+        for line in &self.lines {
+            numbers.push(line.number)?;
+        }
+        Ok(numbers)
+    }
+
+    /// The selectors of the lines, under their ids. Each text is read again.
+    pub fn read(&self, alloc: Global) -> Result<Texts, AllocError>
+        ensures { IfOk result (λ read. (kept : List lines.KeptLine) → Keeps self.now kept
+            → map text_read kept ≡ map text_accepted (texts_in read)) }
+    {
+        let mut read = Texts::new(alloc);
+        let mut rest = self.texts.as_slice();
+        for line in &self.lines {
+            let (text, after) = rest.split_at(line.len.min(rest.len()));
+            read.add(line.id, selector_of(alloc, text)?)?;
+            rest = after;
+        }
+        Ok(read)
+    }
+}
+
+/// The selector of a text that was read before.
+fn selector_of(alloc: Global, bytes: &[u8]) -> Result<Selector, AllocError>
+    ensures { IfOk result (λ selector. accept bytes.now ≡ Ok (list_of selector)) }
+{
+    let Some(text) = text_of(bytes) else {
+        return Err(AllocError);
+    };
+    match Selector::from_str(alloc, text) {
+        Ok(selector) => Ok(selector),
+        Err(_) => Err(AllocError),
+    }
+}
