@@ -35,8 +35,8 @@ class Fault(NamedTuple):
 
 FAULTS = [
     Fault("a dropped start tag isn't counted",
-          'return "dropped"',
-          'self.open[-1].children -= 1; self.open[-1].typed_children[tag.name.lower()] -= 1; return "dropped"'),
+          'return ["dropped"]',
+          'self.open[-1].children -= 1; self.open[-1].typed_children[tag.name.lower()] -= 1; return ["dropped"]'),
     Fault("values of rev are compared with case", " rev rules", " rules"),
     Fault("names of attributes are compared with case",
           "if other.lower() == name), None)", "if other == name), None)"),

@@ -1,7 +1,8 @@
 #!/usr/bin/env python3
 """Makes random scripts for lol_match (docs/SCRIPT.md). The same seed and number give the same script.
 
-    python3 diff/gen.py --seed S NUMBER     prints one
+    python3 diff/gen.py --seed S NUMBER                prints one
+    python3 diff/gen.py --seed S NUMBER --explain      with `explain` in it
 """
 
 import argparse
@@ -266,21 +267,34 @@ def kind_named(name: str):
     return {kind.__name__: kind for kind in (*KINDS, many_selectors)}[name]
 
 
-def case(seed: int, number: int, kind=None) -> bytes:
-    """The script of this number under this seed, of a kind if one is given."""
+def with_explain(r: random.Random, lines: list) -> list:
+    """The lines with `explain` somewhere before the first tag, now and then twice."""
+    tags = [place for place, line in enumerate(lines) if line.startswith((b"start", b"drop", b"end"))]
+    for _ in range(r.choice((1, 1, 1, 2))):
+        place = r.randrange((tags or [len(lines)])[0] + 1)
+        lines = lines[:place] + [b"explain"] + lines[place:]
+    return lines
+
+
+def case(seed: int, number: int, kind=None, explain: bool = False) -> bytes:
+    """The script of this number under this seed, of a kind if one is given. With `explain` it is the same but for that line."""
     r = random.Random(f"{seed} {number}")
     lines = (kind or r.choices(list(KINDS), list(KINDS.values()))[0])(r)
     if r.random() < 0.04:
         lines.insert(r.randrange(len(lines) + 1), b"")
-    return b"\n".join(lines) + r.choice((b"\n",) * 20 + (b"",))
+    last = r.choice((b"\n",) * 20 + (b"",))
+    if explain:
+        lines = with_explain(random.Random(f"explain {seed} {number}"), lines)
+    return b"\n".join(lines) + last
 
 
 def main():
     parser = argparse.ArgumentParser(description="Prints the script of a number under a seed.")
     parser.add_argument("--seed", type=int, default=1)
+    parser.add_argument("--explain", action="store_true", help="write `explain` into it")
     parser.add_argument("number", type=int)
     options = parser.parse_args()
-    sys.stdout.buffer.write(case(options.seed, options.number))
+    sys.stdout.buffer.write(case(options.seed, options.number, explain=options.explain))
 
 
 if __name__ == "__main__":

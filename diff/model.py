@@ -388,13 +388,16 @@ class Selectors:
     pairs: set = field(default_factory=set)
     nodes: dict = field(default_factory=dict)
 
-    def add(self, items: list, identifier: int) -> None:
-        """Adds the path of each item. Two paths are the same if they are so test for test, in order."""
+    def add(self, items: list, identifier: int) -> list:
+        """Adds the path of each item, and tells their numbers. Two paths are the same if they are so test for test, in order."""
+        added = []
         for compounds, steps in items:
             path = None
             for step, parts in zip([""] + steps, compounds):
                 path = self.nodes.setdefault(Path(path, step, compound_tests(parts)), len(self.nodes))
             self.pairs.add((path, identifier))
+            added.append(path)
+        return added
 
 
 def compound_tests(parts: list) -> tuple:
@@ -548,6 +551,7 @@ class Document:
         self.script = script
         self.open = [Element(StartTag(b"", "", [], False, True), 0, 0, 0)]
         self.slots = 0
+        self.paths = list(script.selectors.nodes)
 
     def element_of(self, event: int, tag: StartTag) -> Element:
         """The element of a start tag that comes now, a child of the innermost open one (Selectors 4, 13.3, 13.4)."""
@@ -575,15 +579,35 @@ class Document:
             raise Refused("limit")
         self.open.append(element)
 
-    def answer_start(self, event: int, tag: StartTag) -> str:
-        """The line of a start tag: of its report, its tries, and whether attributes were asked for."""
-        element = self.element_of(event, tag)
+    def innermost(self, node: int, element: Element, outer: list) -> list:
+        """The elements that a path's compounds are passed by, the outermost first: from the last compound on, a child step
+        goes to the parent, and any other to the nearest element that what is left of the step matches."""
+        path = self.paths[node]
+        if path.left is None:
+            return [element]
+        places = [len(outer) - 1] if path.step == ">" else reversed(range(len(outer)))
+        nearest = next(place for place in places if path.left in outer[place].matching)
+        return self.innermost(path.left, outer[nearest], outer[:nearest]) + [element]
+
+    def reasons(self, element: Element, outer: list, matching: frozenset) -> list[str]:
+        """A line for each item that matches, in the order of the lines and of their lists."""
+        lines = []
+        for number, identifier, items in self.script.selects:
+            for item, node in enumerate(items):
+                if node in matching:
+                    passed = listed(f"{one.event}" for one in self.innermost(node, element, outer))
+                    lines.append(f"why\t{identifier}\t{number}\t{item}\t{passed}")
+        return lines
+
+    def answer_start(self, event: int, tag: StartTag) -> list[str]:
+        """The lines of a start tag: of its report, its tries, and whether attributes were asked for; and of the reasons."""
+        element, outer = self.element_of(event, tag), self.open[:]
         nodes, pairs = self.script.selectors.nodes, self.script.selectors.pairs
         tried = [(node, path.tests) for path, node in nodes.items() if self.left_matches(path)]
         needing = [node for node, tests in tried if all_by_names(tests, element) is OPEN]
         asked = tag.namespace != "html" or bool(needing)
         if asked and not tag.finish:
-            return "dropped"
+            return ["dropped"]
         matching = frozenset(node for node, tests in tried if all_hold(tests, element))
         content = has_content(tag, self.script.esi)
         if content:
@@ -591,16 +615,17 @@ class Document:
         report = sorted({identifier for node, identifier in pairs if node in matching})
         line = "start\t" + listed(f"{identifier}" if content else f"{identifier}/" for identifier in report)
         tries = f"\ttries {len(tried)} {len(needing)}" if self.script.tries else ""
-        return line + ("\tasked" if asked else "") + tries
+        reasons = self.reasons(element, outer, matching) if self.script.explain else []
+        return [line + ("\tasked" if asked else "") + tries] + reasons
 
-    def answer_end(self, name: bytes) -> str:
+    def answer_end(self, name: bytes) -> list[str]:
         """The line of an end tag: it closes the innermost element of its name and all inside (HTML, 13.2.6.4.7)."""
         for place in range(len(self.open) - 1, 0, -1):
             if self.open[place].tag.name.lower() == name.lower():
                 closed = self.open[place:]
                 del self.open[place:]
-                return "end\t" + listed(f"{element.event}" for element in closed)
-        return "end\t-"
+                return ["end\t" + listed(f"{element.event}" for element in closed)]
+        return ["end\t-"]
 
 
 def listed(fields) -> str:
@@ -617,10 +642,12 @@ class Script:
     limit: int = 2**64 - 1
     esi: bool = False
     tries: bool = False
+    explain: bool = False
+    selects: list = field(default_factory=list)  # for each line its number, its id and the numbers of its items' paths
     selectors: Selectors = field(default_factory=Selectors)
     tags: list = field(default_factory=list)
 
-    def read_line(self, line: bytes) -> None:
+    def read_line(self, place: int, line: bytes) -> None:
         """What a line asks for by its fields. Nothing but tags may come after a tag."""
         match line.split(b"\t"):
             case [b"start" | b"drop" as kind, namespace, name, *attributes]:
@@ -633,20 +660,22 @@ class Script:
                 self.esi = True
             case [b"tries"]:
                 self.tries = True
+            case [b"explain"]:
+                self.explain = True
             case [b"limit", limit]:
                 self.limit = number(limit, 2**64 - 1, "form")
             case [b"select", identifier, _, *_]:
-                self.add(number(identifier, 2**32 - 1, "form"), line.split(b"\t", 2)[2])
+                self.add(place, number(identifier, 2**32 - 1, "form"), line.split(b"\t", 2)[2])
             case _:
                 raise Refused("form")
 
-    def add(self, identifier: int, text: bytes) -> None:
+    def add(self, place: int, identifier: int, text: bytes) -> None:
         """Adds the selectors of a text, which is the rest of its line, under an id."""
         try:
             decoded = text.decode("utf-8")
         except UnicodeDecodeError:
             raise Refused("form") from None
-        self.selectors.add(accept(decoded), identifier)
+        self.selects.append((place, identifier, self.selectors.add(accept(decoded), identifier)))
 
 
 def start_tag(namespace: bytes, name: bytes, fields: list[bytes], finish: bool) -> StartTag:
@@ -659,11 +688,11 @@ def start_tag(namespace: bytes, name: bytes, fields: list[bytes], finish: bool) 
 
 
 def output(script: Script) -> tuple[list[str], int]:
-    """A line for each tag, up to one that is refused, and the exit status."""
+    """The lines for each tag, up to one that is refused, and the exit status."""
     document, lines = Document(script), []
     for event, tag in enumerate(script.tags):
         try:
-            lines.append(document.answer_start(event, tag) if isinstance(tag, StartTag) else document.answer_end(tag))
+            lines += document.answer_start(event, tag) if isinstance(tag, StartTag) else document.answer_end(tag)
         except Refused as refused:
             return lines + [f"refused {refused.args[0]}"], 3
     return lines, 0
@@ -675,7 +704,7 @@ def answer(text: bytes) -> tuple[bytes, int]:
     try:
         for place, line in enumerate(text.split(b"\n"), 1):
             if line:
-                script.read_line(line)
+                script.read_line(place, line)
         lines, status = output(script)
     except Refused as refused:
         lines, status = [f"bad line {place}: {refused.args[0]}"], 2

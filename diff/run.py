@@ -4,6 +4,7 @@
     python3 diff/run.py 20000 --seed 1 --beside PROGRAM     compares N random cases
     python3 diff/run.py 20000 --seed 1 --store              and stores some of those on which all agree
     python3 diff/run.py 2000 --kind many_selectors          of one kind
+    python3 diff/run.py 20000 --explain                     with reasons
     python3 diff/run.py --stored                            replays the stored cases
     python3 diff/run.py --stored --lines                    and tells which lines of the model they reach
 """
@@ -31,8 +32,9 @@ BATCH = 10
 class Comparing:
     """The port beside its peers; what is found in a batch goes back to the one who asked."""
 
-    def __init__(self, port: str, peers: list, seed: int, kind, keep: bool):
-        self.port, self.peers, self.seed, self.kind, self.keep = port, peers, seed, kind, keep
+    def __init__(self, port: str, peers: list, options):
+        self.port, self.peers, self.seed, self.kind = port, peers, options.seed, options.kind
+        self.explain, self.keep = options.explain, options.store
 
     def class_of(self, script: bytes, peer: Peer, port: tuple, other: tuple) -> str | None:
         """The known class of a difference. From the model none is known."""
@@ -71,7 +73,7 @@ class Comparing:
     def batch(self, numbers: range) -> tuple:
         counts, found, pool = collections.Counter(), [], []
         for number in numbers:
-            script = gen.case(self.seed, number, self.kind)
+            script = gen.case(self.seed, number, self.kind, self.explain)
             port = run_program(self.port, script)
             differences = self.differences(number, script, port, counts)
             found += differences
@@ -125,7 +127,7 @@ def compare(options) -> int:
     peers = ([] if options.no_model else [Peer(None)]) + [Peer(find_program(program)) for program in options.beside]
     if not peers:
         sys.exit("There is nothing to compare with: leave --no-model out, or name a program with --beside.")
-    comparing = Comparing(find_program(options.port), peers, options.seed, options.kind, options.store)
+    comparing = Comparing(find_program(options.port), peers, options)
     end = options.first + options.count
     batches = [range(first, min(first + BATCH, end)) for first in range(options.first, end, BATCH)]
     counts, differing, pool, began = collections.Counter(), 0, [], time.monotonic()
@@ -181,6 +183,7 @@ def main() -> int:
     parser.add_argument("--seed", type=int, default=1)
     parser.add_argument("--first", type=int, default=0, help="the number of the first case")
     parser.add_argument("--kind", type=gen.kind_named, help="the one kind of cases, by its name in gen.py")
+    parser.add_argument("--explain", action="store_true", help="write `explain` into each script")
     parser.add_argument("--port", default=PORT, help="the program to test")
     parser.add_argument("--beside", nargs="+", action="extend", default=[],
                         help="programs that answer the same scripts")
