@@ -271,7 +271,8 @@ fn list_ids(
     fields: &mut FieldList,
 ) -> Result<(), AllocError>
     ensures { OnOk result (fields.new.refused ≡ false → list_text fields.new ≡ comma_list
-        (map (λ id. shown_match (record { id = id; with_content = with_content })) (ascending_once (reported_ids reasons.now)))) }
+        (map (λ id. shown_match (record { id = id; with_content = with_content }))
+        (ascending_once (reported_ids reasons.now)))) }
 {
     fields.clear();
     let ids = ids_in(alloc, &set_of(alloc, reasons)?)?;

@@ -186,7 +186,8 @@ impl ScriptRun {
     #[inline(always)]
     fn shown_tries(&self) -> Option<Tries>
         ensures { tries_shown result ≡ tries_field self.now.shows_tries
-            (names_counted (tries_in (machine_of self.now.run))) (attributes_counted (tries_in (machine_of self.now.run))) }
+            (names_counted (tries_in (machine_of self.now.run)))
+            (attributes_counted (tries_in (machine_of self.now.run))) }
     {
         if self.shows_tries {
             Some(self.run.tries())
