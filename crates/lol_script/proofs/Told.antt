@@ -21,7 +21,7 @@ use Rattle.lol_base.specs.StartTags.{StartTag}
 use Rattle.lol_script.specs.Explaining.{IsAnsweredBy, IsDroppedIn, IsToldOf, selectors_in}
 use Rattle.lol_script.specs.Output.{shown_match}
 use Rattle.lol_script.specs.Scripts.{Script, texts_in}
-use Rattle.lol_script.specs.declared.explained.Told.{Told}
+use Rattle.lol_reasons.specs.declared.explainer.Reason.{Reason}
 use Rattle.lol_script.specs.declared.output.FieldList.{FieldList}
 use Rattle.lol_script.specs.SelectLines.{text_accepted}
 
@@ -126,18 +126,18 @@ module _ (law : NodesDecideTheRest) (s : Script) (numbered : Selectors) (nodes :
       let answered = answered_so Dropped same in
       record { answered = answered; unexplained = ap reasons_here (sym (dropped (selectors_in s) s.esi at_hand tag answered)) }
 
-  pub told_answered : (run : EventRun) (told : Told) (fields : FieldList) (matched : List Match)
-      → Started matched told.asked (names_counted (tries_in (machine_of run))) (attributes_counted (tries_in (machine_of run))) ≡ answer numbered s.esi (document numbered s.esi s.events) (Start tag)
-      → IsToldOf s (element_of (document numbered s.esi s.events) tag) (document numbered s.esi s.events).open_elements told.reasons.items fields
-      → IsAnsweredBy s tag run told fields
-  told_answered run told fields matched same is =
-      let here = subst (λ (d : Document). IsToldOf s (element_of d tag) d.open_elements told.reasons.items fields) (sym documents) is in
+  pub told_answered : (run : EventRun) (asked : Bool) (told : List Reason) (fields : FieldList) (matched : List Match)
+      → Started matched asked (names_counted (tries_in (machine_of run))) (attributes_counted (tries_in (machine_of run))) ≡ answer numbered s.esi (document numbered s.esi s.events) (Start tag)
+      → IsToldOf s (element_of (document numbered s.esi s.events) tag) (document numbered s.esi s.events).open_elements told fields
+      → IsAnsweredBy s tag run asked told fields
+  told_answered run asked told fields matched same is =
+      let here = subst (λ (d : Document). IsToldOf s (element_of d tag) d.open_elements told fields) (sym documents) is in
       let names = names_counted (tries_in (machine_of run)) in
       let attributes = attributes_counted (tries_in (machine_of run)) in
-      let answered = answered_so (Started matched told.asked names attributes) same in
+      let answered = answered_so (Started matched asked names attributes) same in
       record {
         matched = report (selectors_in s) s.esi (element_of at_hand tag) at_hand.open_elements;
         listed = here.listed;
         answered = answered;
-        explained = here.explained ∙ ap reasons_here (sym (undropped (selectors_in s) s.esi at_hand tag _ told.asked names attributes answered));
+        explained = here.explained ∙ ap reasons_here (sym (undropped (selectors_in s) s.esi at_hand tag _ asked names attributes answered));
       }

@@ -3,7 +3,7 @@ use Rattle.std.specs.Prelude.{◌≡◌, ℕ, Bool, true, false, List, [], ◌�
 use Rattle.std.specs.List.{concat}
 use Rattle.lol_base.specs.CodePoints.{line_feed}
 use Rattle.lol_base.specs.StartTags.{StartTag}
-use Rattle.lol_reasons.specs.Numbered.{reason_shown}
+use Rattle.lol_reasons.specs.declared.explainer.Reason.{Reason}
 use Rattle.lol_memory.specs.Limiter.{Limiter}
 use Rattle.lol_memory.specs.declared.match_info.MatchInfo.{MatchInfo}
 use Rattle.lol_program.specs.Paths.{Selectors}
@@ -19,7 +19,7 @@ use Rattle.lol_vm.specs.declared.event_run.EventRun.{EventRun}
 use Rattle.lol_vm.specs.declared.events.RunCause.{RunCause}
 use Rattle.lol_vm.specs.declared.events.RunCause.TheVariants.{MemoryLimitExceeded, CounterFull, Memory}
 use Rattle.lol_script.specs.Devices.{ReadsToEnd}
-use Rattle.lol_script.specs.Explaining.{Explains, IsRunThrough, limiter_of, lines_by, selectors_in}
+use Rattle.lol_script.specs.Explaining.{Explains, IsRunThrough, Tells, limiter_of, selectors_in}
 use Rattle.lol_script.specs.FieldLists.{list_text, started_by}
 use Rattle.lol_script.specs.Output.{comma_list, lines_of, shown_match}
 use Rattle.lol_script.specs.ReadLines.{ReadLines}
@@ -28,7 +28,6 @@ use Rattle.lol_script.specs.Script.{line_at}
 use Rattle.lol_script.specs.Scripts.{Output, Script, output, output_of, run_output, shown_cause, texts_for}
 use Rattle.lol_script.specs.declared.device.Counted.{Counted}
 use Rattle.lol_script.specs.declared.explained.Explained.{Explained}
-use Rattle.lol_script.specs.declared.explained.Told.{Told}
 use Rattle.lol_script.specs.declared.output.FieldList.{FieldList}
 use Rattle.lol_script.specs.declared.program.Status.TheVariants.{Refused}
 use Rattle.lol_script.specs.declared.script_run.ScriptRun.{ScriptRun}
@@ -92,15 +91,10 @@ HasTags s = s.events ≡ [] → ⊥
 abbrev pub IsTagIfFirst : List ℕ → Script → Type 0
 IsTagIfFirst line s = s.events ≡ [] → IsTagLine (line_at line)
 
--- What was added for a start tag that was answered with its reasons, or refused.
-abbrev pub IsToldIn : Explained → Result (Option Told) RunCause → ScriptRun → ScriptRun → Type 0
-IsToldIn explained (Ok None) old new = (new.refused ≡ old.refused) × (new.text.items ≡ old.text.items ++ (codes "dropped" ++ line_feed ∷ []))
-IsToldIn explained (Ok (Some told)) old new =
-    let line = started_by (list_text old.fields) told.asked old.shows_tries (tries_in (machine_of old.run)) in
-    (new.refused ≡ old.refused) × (old.fields.refused ≡ false)
-    × (new.text.items ≡ old.text.items ++ (line ++ line_feed ∷ []) ++ lines_of (lines_by explained (map reason_shown told.reasons.items)))
-IsToldIn explained (Err cause) old new =
-    (new.refused ≡ true) × ((shown : Cause) × IsCauseOf cause shown × (new.text.items ≡ old.text.items ++ lines_of (shown_cause shown ∷ [])))
+-- The reasons for the last start tag, if they are shown: then the list of fields has their ids.
+abbrev pub AreTold : Option Explained → ScriptRun → FieldList → List Reason → Type 0
+AreTold None code fields told = fields ≡ code.report.fields
+AreTold (Some explained) code fields told = (code.report.items.refused ≡ false) × Tells explained code.run code.report.items code.around.items fields told
 
 -- 3. All tags
 

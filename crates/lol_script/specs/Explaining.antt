@@ -13,20 +13,19 @@ use Rattle.lol_reasons.specs.Explanations.{added_by, reasons, reasons_at}
 use Rattle.lol_reasons.specs.Numbered.{HasItemsOf, KnowsItemsOf, reason_shown}
 use Rattle.lol_reasons.specs.NumberingLaws.{SameNodes}
 use Rattle.lol_reasons.specs.declared.explainer.Reason.{Reason}
-use Rattle.lol_vm.specs.Answers.{Answer, Match, Started, Dropped, answer, document, is_dropped, report}
+use Rattle.lol_vm.specs.Answers.{Match, Started, Dropped, answer, document, is_dropped, report}
 use Rattle.lol_vm.specs.Documents.{element_of}
 use Rattle.lol_vm.specs.EventRuns.{IsRunOf, answer_taken, machine_of}
 use Rattle.lol_vm.specs.Events.{Event, Start}
 use Rattle.lol_vm.specs.Views.{match_of}
-use Rattle.lol_vm.specs.Vms.{tries_in}
+use Rattle.lol_vm.specs.Follows.{StartedElement}
+use Rattle.lol_vm.specs.Vms.{Vm, data_in, tries_in}
 use Rattle.lol_vm.specs.declared.event_run.EventRun.{EventRun}
 use Rattle.lol_script.specs.FieldLists.{list_text}
 use Rattle.lol_script.specs.Output.{comma_list, shown_match, shown_reason}
 use Rattle.lol_script.specs.Scripts.{Script, pairs_in, texts_in}
 use Rattle.lol_script.specs.declared.explained.Explained.{Explained}
 use Rattle.lol_script.specs.declared.explained.InfoList.{InfoList}
-use Rattle.lol_script.specs.declared.explained.Matched.{Matched}
-use Rattle.lol_script.specs.declared.explained.Told.{Told}
 use Rattle.lol_script.specs.declared.output.FieldList.{FieldList}
 
 -- the selectors of a script, under their ids
@@ -58,32 +57,21 @@ abbrev pub IfSomeIs : {T : Type 0} → Option T → (T → Type 0) → Type 0
 IfSomeIs None holds = ⊥
 IfSomeIs (Some x) holds = holds x
 
--- For each script that the code explains, over whose events this is a run.
-abbrev pub ForExplained : Explained → EventRun → Limiter → (Script → Selectors → Type 0) → Type 0
-ForExplained code run now holds =
-    (s : Script) (numbered : Selectors) → Explains code s numbered → IsRunThrough numbered s run s.events now → holds s numbered
-
 -- 1. What a machine reports by numbers
+
+-- These are the numbers of the open elements, and nothing was reported.
+abbrev pub IsReady : Vm StartedElement → List ℕ → InfoList → Type 0
+IsReady vm around list = (around ≡ map (λ e. e.value) (data_in vm)) × (list.infos.items ≡ [])
 
 -- one more was reported, or memory was refused; after a refusal nothing is added
 abbrev pub AddsInfo : MatchInfo → InfoList → InfoList → Type 0
 AddsInfo info old new = (new.refused ≡ false) → (old.refused ≡ false) × (new.infos.items ≡ old.infos.items ++ info ∷ [])
-
--- what was matched, as the answer to a start tag
-abbrev pub answer_matched : Option Matched → Tries → Answer
-answer_matched None tries = Dropped
-answer_matched (Some matched) tries = answer_taken (Some matched.asked) matched.infos.items tries
 
 -- A start tag was answered; the list has what a machine reports of it, unless memory was refused for that.
 pub record IsListed (s : Selectors) (esi : Bool) (item_bytes : ℕ) (before : Limiter) (run : EventRun) (events : List Event) (tag : StartTag) (now : Limiter) (taken : Option Bool) (list : InfoList) : Type 0 where
   pub infos : List MatchInfo
   pub listed : list.refused ≡ false → list.infos.items ≡ infos
   pub answered : answer_taken taken infos (tries_in (machine_of run)) ≡ answer s esi (document s esi events) (Start tag)
-  pub goes_on : IsRunOf s esi item_bytes before run (events ++ Start tag ∷ []) now
-
--- A start tag was answered with what a machine reports.
-pub record IsMatched (s : Selectors) (esi : Bool) (item_bytes : ℕ) (before : Limiter) (run : EventRun) (events : List Event) (tag : StartTag) (now : Limiter) (matched : Option Matched) : Type 0 where
-  pub answered : answer_matched matched (tries_in (machine_of run)) ≡ answer s esi (document s esi events) (Start tag)
   pub goes_on : IsRunOf s esi item_bytes before run (events ++ Start tag ∷ []) now
 
 -- A run over selectors was told of a start tag after the events of a script, and reported these; these are the numbers of the elements around
@@ -113,20 +101,28 @@ pub record IsToldOf (s : Script) (e : Element) (outer : List Element) (told : Li
   pub listed : fields.refused ≡ false → list_text fields ≡ comma_list (map shown_match (report (selectors_in s) s.esi e outer))
   pub explained : map reason_shown told ≡ reasons (added_by (texts_in s)) e outer
 
--- A start tag was answered by what is told: with what it is reported under, which the list has unless memory was refused for it, and why.
-pub record IsAnsweredBy (s : Script) (tag : StartTag) (run : EventRun) (told : Told) (fields : FieldList) : Type 0 where
+-- After a start tag of which a machine reported these inside these elements, these are the reasons for its element.
+abbrev pub Tells : Explained → EventRun → InfoList → List ℕ → FieldList → List Reason → Type 0
+Tells code run list around fields told =
+    (s : Script) (numbered : Selectors) (tag : StartTag) (now : Limiter) → Explains code s numbered
+    → IsMatchedInside numbered s run list.infos.items around tag now
+    → IsToldOf s (element_of (document numbered s.esi s.events) tag) (document numbered s.esi s.events).open_elements told fields
+
+-- the lines that are written for reasons, if they are shown
+abbrev pub lines_told : Option Explained → List Reason → List (List ℕ)
+lines_told None told = []
+lines_told (Some code) told = lines_by code (map reason_shown told)
+
+-- A start tag was answered: with what it is reported under, which the list has unless memory was refused for it, and why.
+pub record IsAnsweredBy (s : Script) (tag : StartTag) (run : EventRun) (asked : Bool) (told : List Reason) (fields : FieldList) : Type 0 where
   pub matched : List Match
   pub listed : fields.refused ≡ false → list_text fields ≡ comma_list (map shown_match matched)
-  pub answered : Started matched told.asked (names_counted (tries_in (machine_of run))) (attributes_counted (tries_in (machine_of run)))
+  pub answered : Started matched asked (names_counted (tries_in (machine_of run))) (attributes_counted (tries_in (machine_of run)))
       ≡ answer (selectors_in s) s.esi (document (selectors_in s) s.esi s.events) (Start tag)
-  pub explained : map reason_shown told.reasons.items
+  pub explained : map reason_shown told
       ≡ reasons_at (selectors_in s) (added_by (texts_in s)) (document (selectors_in s) s.esi s.events) (Start tag)
 
 -- A start tag was dropped.
 pub record IsDroppedIn (s : Script) (tag : StartTag) : Type 0 where
   pub answered : Dropped ≡ answer (selectors_in s) s.esi (document (selectors_in s) s.esi s.events) (Start tag)
   pub unexplained : [] ≡ reasons_at (selectors_in s) (added_by (texts_in s)) (document (selectors_in s) s.esi s.events) (Start tag)
-
-abbrev pub IsToldBy : Script → StartTag → EventRun → Option Told → FieldList → Type 0
-IsToldBy s tag run None fields = IsDroppedIn s tag
-IsToldBy s tag run (Some told) fields = IsAnsweredBy s tag run told fields

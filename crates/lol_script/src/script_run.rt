@@ -11,8 +11,8 @@ ghost use Rattle.lol_vm.specs.Refusals.{Cause, refused};
 ghost use Rattle.lol_vm.specs.RunRefusals.{StopsFor, allowance_of};
 ghost use Rattle.lol_vm.specs.Views.{match_of, selectors};
 ghost use Rattle.lol_vm.specs.Vms.{tries_in};
-ghost use Rattle.lol_script.specs.Answering.{Answers, ForAnswers, HasTags, IsCauseOf, IsEnded, IsStarted, IsTagIfFirst, IsToldIn};
-ghost use Rattle.lol_script.specs.Explaining.{Explains, IfSomeIs, IsNewRun};
+ghost use Rattle.lol_script.specs.Answering.{Answers, AreTold, ForAnswers, HasTags, IsCauseOf, IsEnded, IsStarted, IsTagIfFirst};
+ghost use Rattle.lol_script.specs.Explaining.{AddsInfo, Explains, IfSomeIs, IsListed, IsNewRun, IsReady, lines_told};
 ghost use Rattle.lol_script.specs.FieldLists.{AddsField, tries_shown};
 ghost use Rattle.lol_script.specs.Lines.{AreOutlinesOf, start_tag_of};
 ghost use Rattle.lol_script.specs.Output.{lines_of, shown_match, tries_field};
@@ -22,13 +22,14 @@ ghost use Rattle.lol_script.specs.Scripts.{output_of, shown_cause, with_bytes, w
 ghost use Rattle.lol_script.specs.SelectLines.{KeepsLines};
 
 use crate::device::RunFault;
-use crate::explained::{Explained, Told};
+use crate::explained::{Explained, Report};
 use crate::lines::{Line, StartLine, line_of};
 use crate::output::{FieldList, push_ended, push_line, push_started};
 use crate::program::Status;
 use crate::select_lines::SelectLines;
 use crate::settings::{Settings, Stop, malformed};
 use crate::tags::handed_over;
+use lol_reasons::Reason;
 use lol_reasons::laws::numbers_change_reports_alone;
 use lol_vm::{
     Ast, AttributeBuffer, ElementValue, EventRun, LocalName, MatchInfo, RunCause,
@@ -48,6 +49,12 @@ pub struct ScriptRun {
     /// What explains the reports, if reasons are shown.
     explained: Option<Explained>,
 
+    /// The numbers of the elements around the last start tag, if reasons are shown.
+    around: Vec<usize>,
+
+    /// The reasons for the last start tag that was reported, if reasons are shown.
+    reasons: Vec<Reason>,
+
     /// What is written, the refusal too.
     text: Vec<u8>,
 
@@ -56,7 +63,7 @@ pub struct ScriptRun {
 
     // What each tag needs: its attributes, and its ids or numbers.
     outlines: AttributeBuffer,
-    fields: FieldList,
+    report: Report,
 }
 
 impl ScriptRun {
@@ -78,10 +85,12 @@ impl ScriptRun {
             limiter: SharedMemoryLimiter::new(limit as usize),
             shows_tries,
             explained,
+            around: Vec::new(alloc),
+            reasons: Vec::new(alloc),
             text: Vec::new(alloc),
             refused: false,
             outlines: AttributeBuffer::new(alloc),
-            fields: FieldList::new(alloc),
+            report: Report::new(alloc),
         })
     }
 
@@ -118,68 +127,73 @@ impl ScriptRun {
         if self.refused {
             return Ok(());
         }
-        if self.explained.is_some() {
-            return self.explain_start(line);
-        }
+        numbers_change_reports_alone();
+        self.look_around()?;
         let answered = answer_start(
             &mut self.run,
             line,
             &self.outlines,
             &mut self.limiter,
-            &mut self.fields,
+            &mut self.report,
         );
         match answered {
             Ok(None) => push_line(&mut self.text, b"dropped"),
             Ok(Some(asked)) => {
                 let tries = self.shown_tries();
-                push_started(&mut self.text, &self.fields, asked, tries)
+                self.find_reasons()?;
+                push_started(&mut self.text, &self.report.fields, asked, tries)?;
+                self.push_reasons()
             }
             Err(cause) => self.refuse(cause),
         }
     }
 
-    /// Answers a start tag with its reasons.
-    #[inline(never)]
-    fn explain_start(&mut self, line: StartLine<'_>) -> Result<(), AllocError>
-        requires outlines { AreOutlinesOf line.attributes self.old.outlines.items }
-        requires going { self.old.refused ≡ false }
-        requires explained { is_some self.old.explained ≡ true }
-        ensures { OnOk result (ForAnswers self.old (λ s.
-            Answers self.new (with_event s (Start (start_tag_of line.entry))))) }
+    /// Makes ready for the items that match the next start tag, if reasons are shown.
+    #[inline(always)]
+    fn look_around(&mut self) -> Result<(), AllocError>
+        ensures kept { self.new ≡ record self.old { around = self.new.around; report = self.new.report } }
+        ensures ready { OnOk result (is_some self.old.explained ≡ true
+            → IsReady (machine_of self.old.run) self.new.around.items self.new.report.items) }
     {
-        let Some(explained) = self.explained.take() else {
+        let Some(explained) = &self.explained else {
             return Ok(());
         };
-        let answered = explained.answer_start(
-            &mut self.run,
-            line,
-            &self.outlines,
-            &mut self.limiter,
-            &mut self.fields,
-        );
-        let pushed = self.push_told(&explained, answered);
-        self.explained = Some(explained);
-        pushed
+        explained.look_around(&self.run, &mut self.around, &mut self.report.items)
     }
 
-    /// Adds the lines of a start tag that was answered so.
-    fn push_told(
-        &mut self,
-        explained: &Explained,
-        answered: Result<Option<Told>, RunCause>,
-    ) -> Result<(), AllocError>
-        ensures kept { self.new ≡ record self.old { text = self.new.text; refused = self.new.refused } }
-        ensures told { OnOk result (IsToldIn explained.now answered self.old self.new) }
+    /// Finds the reasons for the last start tag, if they are shown. Then the list of fields has their ids.
+    #[inline(always)]
+    fn find_reasons(&mut self) -> Result<(), AllocError>
+        ensures kept { self.new ≡ record self.old { reasons = self.new.reasons; report = self.new.report } }
+        ensures told { OnOk result
+            (AreTold self.old.explained self.old self.new.report.fields self.new.reasons.items) }
     {
-        match answered {
-            Ok(None) => push_line(&mut self.text, b"dropped"),
-            Ok(Some(told)) => {
-                let tries = self.shown_tries();
-                push_started(&mut self.text, &self.fields, told.asked, tries)?;
-                explained.push_reasons(&mut self.text, &told.reasons)
-            }
-            Err(cause) => self.refuse(cause),
+        let Some(explained) = &self.explained else {
+            return Ok(());
+        };
+        self.reasons = explained.reasons(
+            &self.run,
+            &self.report.items,
+            &self.around,
+            &mut self.report.fields,
+        )?;
+        Ok(())
+    }
+
+    /// Adds the lines of the reasons, if they are shown.
+    #[inline(always)]
+    fn push_reasons(&mut self) -> Result<(), AllocError>
+        ensures kept { self.new ≡ record self.old { text = self.new.text } }
+        ensures text { OnOk result (self.new.text.items ≡ self.old.text.items
+            ++ lines_of (lines_told self.old.explained self.old.reasons.items)) }
+    {
+        if self.reasons.is_empty() {
+            return Ok(());
         }
+        let Some(explained) = &self.explained else {
+            return Ok(());
+        };
+        explained.push_reasons(&mut self.text, &self.reasons)
     }
 
     /// What was tried for the last start tag, if tries are shown.
@@ -218,8 +232,8 @@ impl ScriptRun {
             return Ok(());
         }
         numbers_change_reports_alone();
-        answer_end(&mut self.run, name, &mut self.fields)?;
-        push_ended(&mut self.text, &self.fields)
+        answer_end(&mut self.run, name, &mut self.report.fields)?;
+        push_ended(&mut self.text, &self.report.fields)
     }
 
     /// What is written, and how the run ends.
@@ -233,10 +247,12 @@ impl ScriptRun {
             limiter: _,
             shows_tries: _,
             explained: _,
+            around: _,
+            reasons: _,
             text,
             refused,
             outlines: _,
-            fields: _,
+            report: _,
         } = self;
         run.discard();
         let status = if refused {
@@ -288,28 +304,32 @@ fn explained_run(
     }
 }
 
-/// Answers a start tag with what it is reported under.
+/// Answers a start tag with what it is reported under. The items have the same, if they are open and had nothing.
 fn answer_start(
     run: &mut EventRun,
     line: StartLine<'_>,
     outlines: &AttributeBuffer,
     limiter: &mut SharedMemoryLimiter,
-    matched: &mut FieldList,
+    report: &mut Report,
 ) -> Result<Option<bool>, RunCause>
     requires { AreOutlinesOf line.attributes outlines.now.items }
     ensures goes { IfOk result (λ taken. ForRunOfEvents run.old limiter.old (λ s esi item_bytes before events.
-        IsStarted s esi item_bytes before run.new events (start_tag_of line.entry) limiter.new taken matched.new)) }
+        IsStarted s esi item_bytes before run.new events (start_tag_of line.entry) limiter.new taken report.new.fields)) }
+    ensures items { IfOk result (λ taken. ForRunOfEvents run.old limiter.old (λ s esi item_bytes before events.
+        report.old.items.infos.items ≡ []
+        → IsListed s esi item_bytes before run.new events (start_tag_of line.entry) limiter.new taken report.new.items)) }
     ensures refused { IfErr result (λ cause. cause ≢ RunCause.Memory
         → ForRunOfEvents run.old limiter.old (λ s esi item_bytes before events.
         (later : List Event) → StopsFor cause (length events)
         (refused s esi (allowance_of item_bytes before) (events ++ Start (start_tag_of line.entry) ∷ later)))) }
 {
-    matched.clear();
+    report.fields.clear();
     let rest = handed_over(line, outlines);
     let mut handler = |info: MatchInfo|
-        ensures { AddsField (shown_match (match_of info)) matched.entry.now matched.exit.now }
+        ensures field { AddsField (shown_match (match_of info)) report.entry.now.fields report.exit.now.fields }
+        ensures item { AddsInfo info report.entry.now.items report.exit.now.items }
     {
-        matched.add_match(info);
+        report.add(info);
     };
     run.start(
         LocalName::new(line.name),

@@ -1,6 +1,7 @@
 use Rattle.std.proofs.Common.{◌≡◌, ◌++◌, ◌∷◌, [], List, ℕ, length, map, nat_lt, sym, ap, ◌∙◌, subst, arith}
 use Rattle.std.proofs.lemmas.List.{length-append, length-map, length-reverse}
 use Rattle.lol_base.specs.Ascending.{ascending_once}
+use Rattle.lol_memory.specs.declared.match_info.MatchInfo.{MatchInfo}
 use Rattle.lol_program.specs.Paths.{Path}
 use Rattle.lol_program.specs.Sets.{SameMembers}
 use Rattle.lol_reasons.specs.Explanations as explanations
@@ -22,8 +23,8 @@ use Rattle.lol_script.proofs.ListedFields.{map_through}
 use Rattle.lol_script.proofs.Told.{events_counted, more_open, shown_ids}
 use Rattle.lol_script.proofs.explained.Explained.reasons.Goals as goal
 
-pub returns : goal.returns
-returns c = λ s numbered tag now explains inside.
+pub returns-clause-told : goal.returns-clause-told
+returns-clause-told c = λ s numbered tag now explains inside.
     let d = document numbered s.esi s.events in
     let e = element_of d tag in
     let outer = d.open_elements in
@@ -33,7 +34,7 @@ returns c = λ s numbered tag now explains inside.
     let number : c.saturating_sub-number.result ≡ e.number = omega (arith, c.saturating_sub-number.ensures, c.events.ensures, run.counted, length-append s.events (Start tag ∷ []), counted) in
     let explained = c.in_ok-reasons.ensures (texts_in s) numbered s.esi s.events tag explains.known explains.items (record {
       stands = subst (λ (vm : Vm StartedElement). Stands numbered s.esi vm (s.events ++ Start tag ∷ [])) (sym c.machine.ensures) run.follows.stands;
-      ids_are = c.deref.ensures.value ∙ (c.in_ok-ids.ensures ∙ (map_through (λ (m : Match). m.id) match_of c.args.infos.now ∙ ap ids_of inside.reported));
+      ids_are = c.deref-2.ensures.value ∙ (c.in_ok-ids.ensures ∙ (ap (map (λ (info : MatchInfo). info.match_id)) c.deref.ensures.value ∙ map_through (λ (m : Match). m.id) match_of c.args.items.now.infos.items ∙ ap ids_of inside.reported));
       number_is = number;
       numbers_are = inside.numbers;
     }) in
@@ -49,8 +50,8 @@ returns c = λ s numbered tag now explains inside.
     let pairs : pairs_added added ≡ pairs_in s = c.texts_add_pairs.ensures (texts_in s) in
     let same = subst (λ (ps : List (Path × ℕ)). SameMembers (pairs_in s) ps) (sym pairs) (λ x. (λ h. h, λ h. h)) in
     let law = c.reasons_explain_reports.ensures.report (selectors_in s) added same s.esi e outer in
-    let ids : ascending_once (reported_ids c.deref-2.result.now) ≡ ids_of (report (selectors_in s) s.esi e outer) =
-    ap (λ (rs : List Reason). ascending_once (reported_ids rs)) c.deref-2.ensures.value
+    let ids : ascending_once (reported_ids c.deref-3.result.now) ≡ ids_of (report (selectors_in s) s.esi e outer) =
+    ap (λ (rs : List Reason). ascending_once (reported_ids rs)) c.deref-3.ensures.value
     ∙ (ap ascending_once (map_through (λ (r : explanations.Reason). r.id) reason_shown told ∙ ap (map (λ (r : explanations.Reason). r.id)) explained) ∙ law) in
     record {
       listed = λ unrefused.
