@@ -71,10 +71,26 @@ impl Explained {
         Ok(())
     }
 
-    /// The reasons for the last start tag, of which the items that matched are given, and the numbers of the elements around its element.
-    /// The list of fields has what it is reported under.
+    /// Finds the reasons for the last start tag, of which the items that matched are given, and the numbers of the elements around its
+    /// element. The list of fields has what it is reported under.
     #[inline(never)]
-    pub fn reasons(
+    pub fn find_reasons(
+        &self,
+        run: &EventRun,
+        items: &InfoList,
+        around: &[usize],
+        fields: &mut FieldList,
+        found: &mut Vec<Reason>,
+    ) -> Result<(), AllocError>
+        ensures { OnOk result ((items.now.refused ≡ false)
+            × Tells self.now run.now items.now around.now fields.new found.new.items) }
+    {
+        let told = self.reasons(run, items, around, fields)?;
+        *found = told;
+        Ok(())
+    }
+
+    fn reasons(
         &self,
         run: &EventRun,
         items: &InfoList,

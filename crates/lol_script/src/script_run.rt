@@ -171,13 +171,13 @@ impl ScriptRun {
         let Some(explained) = &self.explained else {
             return Ok(());
         };
-        self.reasons = explained.reasons(
+        explained.find_reasons(
             &self.run,
             &self.report.items,
             &self.around,
             &mut self.report.fields,
-        )?;
-        Ok(())
+            &mut self.reasons,
+        )
     }
 
     /// Adds the lines of the reasons, if they are shown.
