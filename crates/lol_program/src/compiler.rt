@@ -131,7 +131,8 @@ impl Layout {
     #[cycle(compile)]
     fn compile_node(&mut self, node: &mut AstNode, place: usize) -> Result<(), AllocError>
         requires room { self.old.free_space_start
-            + (size (node_of node.old).children + size (node_of node.old).descendants) ≤ length self.old.instructions.items }
+            + (size (node_of node.old).children + size (node_of node.old).descendants)
+            ≤ length self.old.instructions.items }
         requires place { place < self.old.free_space_start }
         ensures free { OnOk result (self.new.free_space_start
             ≡ self.old.free_space_start + (size (node_of node.old).children + size (node_of node.old).descendants)) }

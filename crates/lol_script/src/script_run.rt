@@ -314,10 +314,12 @@ fn answer_start(
 ) -> Result<Option<bool>, RunCause>
     requires { AreOutlinesOf line.attributes outlines.now.items }
     ensures goes { IfOk result (λ taken. ForRunOfEvents run.old limiter.old (λ s esi item_bytes before events.
-        IsStarted s esi item_bytes before run.new events (start_tag_of line.entry) limiter.new taken report.new.fields)) }
+        IsStarted s esi item_bytes before run.new events (start_tag_of line.entry) limiter.new taken
+        report.new.fields)) }
     ensures items { IfOk result (λ taken. ForRunOfEvents run.old limiter.old (λ s esi item_bytes before events.
         report.old.items.infos.items ≡ []
-        → IsListed s esi item_bytes before run.new events (start_tag_of line.entry) limiter.new taken report.new.items)) }
+        → IsListed s esi item_bytes before run.new events (start_tag_of line.entry) limiter.new taken
+        report.new.items)) }
     ensures refused { IfErr result (λ cause. cause ≢ RunCause.Memory
         → ForRunOfEvents run.old limiter.old (λ s esi item_bytes before events.
         (later : List Event) → StopsFor cause (length events)
