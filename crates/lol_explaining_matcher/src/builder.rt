@@ -32,8 +32,9 @@ impl Model for ExplainingMatcherBuilder {
 }
 
 impl ExplainingMatcherBuilder {
-    ghost use Rattle.std.specs.Prelude.{◌≡◌, [], false, IfOk, IfErr, OnOk, OnErr, max};
+    ghost use Rattle.std.specs.Prelude.{◌≡◌, ◌<◌, ◌+◌, [], false, IfOk, IfErr, IsErrOf, OnOk, OnErr, length, max};
     ghost use Rattle.lol_matcher.specs.Building.{IsRefused};
+    ghost use Rattle.lol_reasons.specs.Explanations.{added_by};
     ghost use Rattle.lol_reasons.specs.Numbered.{texts_in};
     ghost use Rattle.lol_explaining_matcher.specs.Preparing.{AddsText, IsPlain, StartsWith};
 
@@ -92,7 +93,9 @@ impl ExplainingMatcherBuilder {
     /// # Errors
     /// `TooManyItems` if there are more items than ids, 4,294,967,296, or `Memory`.
     pub fn build(self) -> Result<ExplainingMatcher, NumberingError>
-        ensures { IfOk result (λ matcher. StartsWith self matcher) }
+        ensures ok { IfOk result (λ matcher. StartsWith self matcher) }
+        ensures too_many { IsErrOf result NumberingError.TooManyItems
+            → u32.MAX + 1 < length (added_by (texts_in self.texts)) }
     {
         self.build_with_values()
     }
@@ -102,7 +105,9 @@ impl ExplainingMatcherBuilder {
     /// # Errors
     /// `TooManyItems` if there are more items than ids, 4,294,967,296, or `Memory`.
     pub fn build_with_values<T: Drop>(self) -> Result<ExplainingMatcher<T>, NumberingError>
-        ensures { IfOk result (λ matcher. StartsWith self matcher) }
+        ensures ok { IfOk result (λ matcher. StartsWith self matcher) }
+        ensures too_many { IsErrOf result NumberingError.TooManyItems
+            → u32.MAX + 1 < length (added_by (texts_in self.texts)) }
     {
         let ExplainingMatcherBuilder {
             alloc,

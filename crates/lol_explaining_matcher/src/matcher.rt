@@ -90,8 +90,9 @@ impl<T: Drop> ExplainingMatcher<T> {
         requires holds { HoldsItems (added_by (texts_in texts))
             (record { ast = matcher.told.ast; explainer = explainer }) }
         requires started { (b : Building) × (tries : Tries) × (matcher ≡ started_with b tries) }
-        ensures { IfOk result (λ made. made
+        ensures made { IfOk result (λ made. made
             ≡ record { texts = texts; items = matcher; failed = false; matched = [] }) }
+        ensures memory { IfErr result (λ error. error ≡ NumberingError.Memory) }
     {
         explainer.index(matcher.machine().program())?;
         Ok(ExplainingMatcher {

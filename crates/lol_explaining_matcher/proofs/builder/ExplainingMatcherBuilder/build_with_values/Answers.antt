@@ -13,8 +13,8 @@ new-requires-clause-holds g c =
 pub new-requires-clause-started : goal.new-requires-clause-started
 new-requires-clause-started g c = (c.set_tree.new.self, c.in_ok-matcher.matcher.tries, c.in_ok-matcher.ensures.told)
 
-pub returns : goal.returns
-returns g c =
+pub returns-clause-ok : goal.returns-clause-ok
+returns-clause-ok g c =
     let m = c.in_ok-matcher.matcher in
     let all = tree_holds (added_by (texts_in c.self.inside.texts)) m c.set_tree.new.self c.self.inside.settings m.tries _ c.in_ok-ast.field-0.explainer c.in_ok-matcher.ensures.told c.set_tree.ensures c.in_ok-ast.ensures.numbered in
     rw (← c.self.view_is) (if_ok c.new.result (λ made is. subst (StartsWith _) (sym is) (record {
@@ -23,4 +23,4 @@ returns g c =
       started = c.in_ok-matcher.ensures.told ∙ ap (λ (b : Building). started_with b m.tries) (c.set_tree.ensures ∙ (λ i. record c.self.inside.settings { ast = sym all.0 i }));
       well = refl;
       unreported = refl;
-    })) c.new.ensures)
+    })) c.new.ensures.made)
