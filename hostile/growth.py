@@ -92,6 +92,16 @@ def hereditary_ranges(count):
     return script([f"x{number} y" for number in range(count)], [start(f"x{number}") for number in range(count)])
 
 
+def long_path(compounds, depth):
+    """One element whose reason is a path of so many compounds, inside so many that match all but its last."""
+    return "explain\n" + script(["div " * (compounds - 1) + "p"], [start("div")] * depth + [start("p")])
+
+
+def matching_items(count):
+    """One element that so many items of a list match."""
+    return "explain\n" + script([",".join(f"p:not(x{number})" for number in range(count))], [start("p")])
+
+
 def value(selector):
     """One tag whose attribute is a value up to a size in bytes."""
     return lambda size: script([selector], [start("p", "a=" + "a" * size)])
@@ -129,6 +139,9 @@ ROWS += [
     ("distinct names that begin alike", 25_000, names_with_equal_ends),
     ("distinct names in one slot, closed by one end tag", 25_000, names_in_one_slot),
     ("open elements that each add a hereditary range", 1_250, hereditary_ranges),
+    ("explained, a path of 1,000 compounds, elements around", 25_000, lambda depth: long_path(1_000, depth)),
+    ("explained inside 100,000 elements, compounds of a path", 250, lambda compounds: long_path(compounds, 100_000)),
+    ("explained, items that all match", 2_500, matching_items),
     ("value, `*=` with 1 KB", MB // 4, value(f'[a*="{KB}"]')),
     ("value, `*=` with 1 KB, without case", MB // 4, value(f'[a*="{KB.upper()}" i]')),
     ("value, `~=` with 1 KB", MB // 4, value(f'[a~="{KB}"]')),

@@ -1,8 +1,7 @@
 -- What is written for the tags so far.
-use Rattle.std.proofs.Common.{◌≡◌, ◌≢◌, ◌≤◌, ℕ, Bool, true, false, List, [], ◌∷◌, ◌++◌, length, map, take, Option, Some, None, Ok, refl, sym, ap, ◌∙◌, arith, subst, true≢false}
+use Rattle.std.proofs.Common.{◌≡◌, ◌≢◌, ◌≤◌, ℕ, Bool, true, false, List, [], ◌∷◌, ◌++◌, length, map, take, Option, Some, None, Ok, refl, sym, ap, ◌∙◌, arith, subst}
 use Rattle.std.specs.Prelude.{codes, decimal, if◌then◌else◌}
 use Rattle.std.specs.List.{concat}
-use Rattle.std.specs.Option.{is_some}
 use Rattle.std.proofs.lemmas.List.{append_assoc, append-nil, take_at}
 use Rattle.std.proofs.lemmas.List.Folds.{concat-append}
 use Rattle.lol_program.specs.ClosedLaws.{trees_are_closed}
@@ -23,8 +22,8 @@ use Rattle.lol_vm.specs.Views.{selectors}
 use Rattle.lol_vm.specs.declared.events.RunCause.{RunCause}
 use Rattle.lol_vm.specs.declared.events.RunCause.TheVariants.{MemoryLimitExceeded, CounterFull, Memory}
 use Rattle.lol_instructions.specs.declared.tries.Tries.{Tries}
-use Rattle.lol_script.specs.Answering.{Answers, HasRun, IsCauseOf, IsWritten, output_for}
-use Rattle.lol_script.specs.Explaining.{Explains, IfSomeIs, IsNewRun, IsRunThrough, limiter_of, selectors_in}
+use Rattle.lol_script.specs.Answering.{Answers, HasRun, IsCauseOf, IsWritten, has_ended, output_for}
+use Rattle.lol_script.specs.Explaining.{Explains, IfExplained, IsNewRun, IsRunThrough, limiter_of, selectors_in}
 use Rattle.lol_script.specs.FieldLists.{tries_shown}
 use Rattle.lol_script.specs.Output.{comma_list, lines_of, shown_answer, tries_field}
 use Rattle.lol_script.specs.Readings.{IsReading}
@@ -33,6 +32,8 @@ use Rattle.lol_script.specs.SelectLines.{KeepsLines}
 use Rattle.lol_script.specs.declared.explained.Explained.{Explained}
 use Rattle.lol_script.specs.declared.program.Status.{Status}
 use Rattle.lol_script.specs.declared.program.Status.TheVariants.{Good, Refused}
+use Rattle.lol_script.specs.declared.script_run.Answering.{Answering}
+use Rattle.lol_script.specs.declared.script_run.Answering.TheVariants as answering
 use Rattle.lol_script.specs.declared.script_run.ScriptRun.{ScriptRun}
 use Rattle.lol_script.specs.declared.settings.Settings.{Settings}
 
@@ -128,20 +129,9 @@ module _ (selectors : Selectors) (s : Script) (events : List Event) where
 
 -- 2. Runs
 
--- the run where no reasons are shown
-pub plain_run : (selectors : Selectors) (s : Script) (code : ScriptRun) (explained : Option Explained) → is_some explained ≡ false → HasRun selectors s code explained
-    → (s.explains ≡ false) × IsRunThrough selectors s code.run s.events code.limiter
-plain_run selectors s code None is h = h
-plain_run selectors s code (Some explained) is h = absurd (true≢false is)
-
-pub has_plain_run : (selectors : Selectors) (s : Script) (code : ScriptRun) (explained : Option Explained) → is_some explained ≡ false → s.explains ≡ false
-    → IsRunThrough selectors s code.run s.events code.limiter → HasRun selectors s code explained
-has_plain_run selectors s code None is plain runs = (plain, runs)
-has_plain_run selectors s code (Some explained) is plain runs = absurd (true≢false is)
-
 -- a tag that is answered is one more of a script
-pub answered_more : (code later : ScriptRun) (s : Script) (run : Answers code s) → code.refused ≡ false → later.refused ≡ false → later.shows_tries ≡ code.shows_tries → (event : Event)
-    → (HasRun run.selectors s code code.explained → HasRun run.selectors (with_event s event) later later.explained
+pub answered_more : (code later : ScriptRun) (s : Script) (run : Answers code s) → has_ended code.answering ≡ false → has_ended later.answering ≡ false → later.shows_tries ≡ code.shows_tries → (event : Event)
+    → (HasRun run.selectors s code code.answering → HasRun run.selectors (with_event s event) later later.answering
     × (later.text.items ≡ code.text.items ++ text_for run.selectors s (document run.selectors s.esi s.events) event))
     → Answers later (with_event s event)
 answered_more code later s run unrefused still shows event goes =
@@ -158,30 +148,16 @@ answered_more code later s run unrefused still shows event goes =
       );
     }
 
--- a tag that is answered where no reasons are shown
-pub plain_more : (code later : ScriptRun) (s : Script) (run : Answers code s) → code.refused ≡ false → later.refused ≡ false → later.shows_tries ≡ code.shows_tries
-    → later.explained ≡ code.explained → is_some code.explained ≡ false → (event : Event)
-    → (IsRunThrough run.selectors s code.run s.events code.limiter → IsRunThrough run.selectors s later.run (s.events ++ event ∷ []) later.limiter
-    × (later.text.items ≡ code.text.items ++ (shown_answer s.shows_tries (answer run.selectors s.esi (document run.selectors s.esi s.events) event) ++ 10 ∷ [])))
-    → Answers later (with_event s event)
-plain_more code later s run unrefused still shows explained none event goes =
-    answered_more code later s run unrefused still shows event (λ has.
-    let plain = plain_run run.selectors s code code.explained none has in
-    let on = goes plain.1 in (
-      subst (HasRun run.selectors (with_event s event) later) (sym explained) (has_plain_run run.selectors (with_event s event) later code.explained none plain.0 on.0),
-      on.1 ∙ ap (λ (text : List ℕ). code.text.items ++ text) (sym (plain_text run.selectors s (document run.selectors s.esi s.events) event plain.0)),
-    ))
-
 -- an end tag that is answered, whatever selectors the run has
-pub ended_more : NodesDecideTheRest → (code later : ScriptRun) (s : Script) (run : Answers code s) → code.refused ≡ false → later.refused ≡ false → later.shows_tries ≡ code.shows_tries
-    → later.explained ≡ code.explained → (name : List ℕ)
+pub ended_more : NodesDecideTheRest → (code later : ScriptRun) (s : Script) (run : Answers code s) → has_ended code.answering ≡ false → has_ended later.answering ≡ false → later.shows_tries ≡ code.shows_tries
+    → later.answering ≡ code.answering → (name : List ℕ)
     → ((selectors : Selectors) → IsRunThrough selectors s code.run s.events code.limiter → IsRunThrough selectors s later.run (s.events ++ End name ∷ []) later.limiter
     × (later.text.items ≡ code.text.items ++ ((codes "end" ++ 9 ∷ comma_list (map decimal (closed name (document selectors s.esi s.events)))) ++ 10 ∷ [])))
     → Answers later (with_event s (End name))
-ended_more law code later s run unrefused still shows explained name ends =
+ended_more law code later s run unrefused still shows same name ends =
     answered_more code later s run unrefused still shows (End name) (λ runs.
-    let on = by_explained code.explained runs in
-    (subst (HasRun run.selectors (with_event s (End name)) later) (sym explained) on.0, on.1))
+    let on = by_answering code.answering runs in
+    (subst (HasRun run.selectors (with_event s (End name)) later) (sym same) on.0, on.1))
   where
     text_with : Document → List ℕ
     text_with d = code.text.items ++ ((codes "end" ++ 9 ∷ comma_list (map decimal (closed name d))) ++ 10 ∷ [])
@@ -192,13 +168,14 @@ ended_more law code later s run unrefused still shows explained name ends =
     still_explains : (numbered : Selectors) (explained : Explained) → Explains explained s numbered → Explains explained (with_event s (End name)) numbered
     still_explains numbered explained h = record { known = h.known; items = h.items; nodes = h.nodes; lines = h.lines }
 
-    by_explained : (explained : Option Explained) → HasRun run.selectors s code explained
-        → HasRun run.selectors (with_event s (End name)) later explained
+    by_answering : (a : Answering) → HasRun run.selectors s code a
+        → HasRun run.selectors (with_event s (End name)) later a
         × (later.text.items ≡ code.text.items ++ text_for run.selectors s (document run.selectors s.esi s.events) (End name))
-    by_explained None runs =
+    by_answering answering.Refused runs = absurd runs
+    by_answering answering.Plain runs =
         let on = ends run.selectors runs.1 in
         ((runs.0, on.0), on.1 ∙ shown run.selectors)
-    by_explained (Some explained) runs =
+    by_answering (answering.WithReasons explained) runs =
         let numbered = runs.2.0 in
         let on = ends numbered runs.2.2 in
         let alike : document (selectors_in s) s.esi s.events ≡ document numbered s.esi s.events = ((law (selectors_in s) numbered runs.2.1.nodes s.esi).1 s.events).documents in
@@ -220,8 +197,8 @@ pub shown_for : (shows code_shows : Bool) (tries : Option Tries) (names attribut
 shown_for shows code_shows tries names attributes is same = is ∙ ap (λ b. tries_field b names attributes) same
 
 -- a tag that is refused ends what is written
-pub refused_ends : (code later : ScriptRun) (s : Script) (run : Answers code s) → code.refused ≡ false → later.refused ≡ true → later.shows_tries ≡ code.shows_tries → (event : Event) (cause : Cause)
-    → (HasRun run.selectors s code code.explained → (rest : List Event) → refused run.selectors s.esi (allowance_of 64 (limiter_of s)) (s.events ++ event ∷ rest) ≡ Some (length s.events, cause))
+pub refused_ends : (code later : ScriptRun) (s : Script) (run : Answers code s) → has_ended code.answering ≡ false → has_ended later.answering ≡ true → later.shows_tries ≡ code.shows_tries → (event : Event) (cause : Cause)
+    → (HasRun run.selectors s code code.answering → (rest : List Event) → refused run.selectors s.esi (allowance_of 64 (limiter_of s)) (s.events ++ event ∷ rest) ≡ Some (length s.events, cause))
     → later.text.items ≡ code.text.items ++ lines_of (shown_cause cause ∷ []) → Answers later (with_event s event)
 refused_ends code later s run unrefused ended shows event cause first text =
     let before = subst (IsWritten run.selectors s code) unrefused run.written in
@@ -237,7 +214,7 @@ refused_ends code later s run unrefused ended shows event cause first text =
     }
 
 -- after a refusal a tag changes nothing
-pub refused_stays : (code : ScriptRun) (s : Script) → Answers code s → code.refused ≡ true → (event : Event) → Answers code (with_event s event)
+pub refused_stays : (code : ScriptRun) (s : Script) → Answers code s → has_ended code.answering ≡ true → (event : Event) → Answers code (with_event s event)
 refused_stays code s run is event =
     let before = subst (IsWritten run.selectors s code) is run.written in
     record {
@@ -252,30 +229,32 @@ abbrev pub status_of : Bool → Status
 status_of true = Refused
 status_of false = Good
 
-pub written_whole : NodesDecideTheRest → (code : ScriptRun) (s : Script) → Answers code s → output_of (Ok s) ≡ record { text = code.text.items; status = status_of code.refused }
-written_whole law code s run = sym (run.same s.events) ∙ by_refusal code.refused run.written
+pub written_whole : NodesDecideTheRest → (code : ScriptRun) (s : Script) → Answers code s → output_of (Ok s) ≡ record { text = code.text.items; status = status_of (has_ended code.answering) }
+written_whole law code s run = sym (run.same s.events) ∙ by_end (has_ended code.answering) run.written
   where
     -- no event was to be refused
-    unrefused : (explained : Option Explained) → HasRun run.selectors s code explained → refused run.selectors s.esi (allowance_of 64 (limiter_of s)) s.events ≡ None
-    unrefused None runs = runs.1.follows.fits
-    unrefused (Some explained) runs =
+    unrefused : (a : Answering) → HasRun run.selectors s code a → refused run.selectors s.esi (allowance_of 64 (limiter_of s)) s.events ≡ None
+    unrefused answering.Refused runs = absurd runs
+    unrefused answering.Plain runs = runs.1.follows.fits
+    unrefused (answering.WithReasons explained) runs =
         let numbered = runs.2.0 in
         ap (λ (p : Selectors). refused p s.esi (allowance_of 64 (limiter_of s)) s.events) runs.1
         ∙ (((law (selectors_in s) numbered runs.2.1.nodes s.esi).1 s.events).refused_is (allowance_of 64 (limiter_of s)) ∙ runs.2.2.follows.fits)
 
-    by_refusal : (refused : Bool) → IsWritten run.selectors s code refused → output_for run.selectors s s.events ≡ record { text = code.text.items; status = status_of refused }
-    by_refusal true h = ap (output_for run.selectors s) (sym (append-nil s.events)) ∙ h []
-    by_refusal false h =
-        ap (run_output (texts_for run.selectors s empty s.events)) (unrefused code.explained h.0)
+    by_end : (ended : Bool) → IsWritten run.selectors s code ended → output_for run.selectors s s.events ≡ record { text = code.text.items; status = status_of ended }
+    by_end true h = ap (output_for run.selectors s) (sym (append-nil s.events)) ∙ h []
+    by_end false h =
+        ap (run_output (texts_for run.selectors s empty s.events)) (unrefused code.answering h.0)
         ∙ ap (λ (text : List ℕ). good_with text) (sym h.1)
 
 -- 3. A run that has answered nothing
 
-some_is : {T : Type 0} (P : T → Type 0) (x : Option T) → IfSomeIs x P → (y : T) × (x ≡ Some y) × P y
-some_is P None h = absurd h
-some_is P (Some y) h = (y, refl, h)
+explained_is : (P : Explained → Type 0) (a : Answering) → IfExplained a P → (x : Explained) × (a ≡ answering.WithReasons x) × P x
+explained_is P answering.Plain h = absurd h
+explained_is P answering.Refused h = absurd h
+explained_is P (answering.WithReasons x) h = (x, refl, h)
 
-module _ (code : ScriptRun) (settings : Settings) (s : Script) (reading : IsReading settings s) (unrefused : code.refused ≡ false) (shows : code.shows_tries ≡ settings.shows_tries)
+module _ (code : ScriptRun) (settings : Settings) (s : Script) (reading : IsReading settings s) (shows : code.shows_tries ≡ settings.shows_tries)
     (none : code.text.items ≡ []) (limiter : code.limiter ≡ limiter_of s) (word : s.limit ≤ 18446744073709551615) where
   -- a new run is one through a script without events
   begins : (sel : Selectors) → IsNewRun sel settings.esi code.run → IsRunThrough sel s code.run s.events code.limiter
@@ -287,8 +266,8 @@ module _ (code : ScriptRun) (settings : Settings) (s : Script) (reading : IsRead
   nothing_written : (sel : Selectors) → code.text.items ≡ concat (texts_for sel s empty s.events)
   nothing_written sel = none ∙ ap (λ (events : List Event). concat (texts_for sel s empty events)) (sym reading.none)
 
-  pub begun : (settings.explains ≡ false → (code.explained ≡ None) × IsNewRun (selectors settings.ast) settings.esi code.run)
-      → (settings.explains ≡ true → IfSomeIs code.explained (λ explained. (t : Script) → KeepsLines settings.selects t.selects → (numbered : Selectors) × Explains explained t numbered × IsNewRun numbered settings.esi code.run))
+  pub begun : (settings.explains ≡ false → (code.answering ≡ answering.Plain) × IsNewRun (selectors settings.ast) settings.esi code.run)
+      → (settings.explains ≡ true → IfExplained code.answering (λ explained. (t : Script) → KeepsLines settings.selects t.selects → (numbered : Selectors) × Explains explained t numbered × IsNewRun numbered settings.esi code.run))
       → Answers code s
   begun plain explained = by_explains settings.explains refl
     where
@@ -301,16 +280,16 @@ module _ (code : ScriptRun) (settings : Settings) (s : Script) (reading : IsRead
             selectors = sel;
             same = same_output sel s silent (same_selectors settings s reading);
             shows_tries = shows ∙ reading.shows_tries;
-            written = subst (IsWritten sel s code) (sym unrefused) (subst (HasRun sel s code) (sym new.0) (silent, begins sel new.1), nothing_written sel);
+            written = subst (IsWritten sel s code) (sym (ap has_ended new.0)) (subst (HasRun sel s code) (sym new.0) (silent, begins sel new.1), nothing_written sel);
           }
       by_explains true is =
           let sel = selectors_in s in
-          let some = some_is _ code.explained (explained is) in
+          let some = explained_is _ code.answering (explained is) in
           let new = some.2 s reading.selects in
           record {
             selectors = sel;
             same = λ events. refl;
             shows_tries = shows ∙ reading.shows_tries;
-            written = subst (IsWritten sel s code) (sym unrefused)
+            written = subst (IsWritten sel s code) (sym (ap has_ended some.1))
                 (subst (HasRun sel s code) (sym some.1) (sym reading.explains ∙ is, refl, (new.0, new.1, begins new.0 new.2)), nothing_written sel);
           }

@@ -1,16 +1,13 @@
 -- Reasons that are told for a start tag.
-use Rattle.std.proofs.Common.{◌≡◌, false, ℕ, ◌↔◌, ◌⊎◌, inl, inr, List, [], ◌∷◌, ◌++◌, Contains, sym, ap, ◌∙◌, subst}
+use Rattle.std.proofs.Common.{◌≡◌, ℕ, ◌↔◌, ◌⊎◌, inl, inr, List, [], ◌∷◌, ◌++◌, Contains, sym, ap, ◌∙◌, subst}
 use Rattle.std.proofs.lemmas.List.{append_assoc}
 use Rattle.std.proofs.lemmas.List.Kept.{AllPairs-from_increasing}
 use Rattle.lol_base.specs.MemberLaws.{among_from_contains, contains-append, contains_from_among}
 use Rattle.lol_memory.specs.AscendingLaws.{ascending_rises}
 use Rattle.lol_memory.specs.Ids.{Ids, ascending, no_ids, with_id}
-use Rattle.lol_memory.specs.declared.match_info.MatchInfo.{MatchInfo}
 use Rattle.lol_program.specs.IdSetLaws.{ascending-no_ids, with_id-IsWith}
 use Rattle.lol_base.specs.Ascending.{ascending_once}
 use Rattle.lol_base.specs.AscendingLaws.{among_ascending, ascending_among, ascending_ascends, ascending_is_determined, pairs_from_ascends}
-use Rattle.lol_script.specs.Explaining.{AddsInfo}
-use Rattle.lol_script.specs.declared.explained.InfoList.{InfoList}
 
 -- The set has these ids.
 abbrev pub HasIds : Ids → List ℕ → Type 0
@@ -36,13 +33,6 @@ ids_ascend s ids same =
       λ c. contains_from_among (ascending_once ids) id (ascending_among ids id (among_from_contains ids id ((same id).0 c))),
       λ c. (same id).1 (contains_from_among ids id (among_ascending ids id (among_from_contains (ascending_once ids) id c))),
     ))
-
--- what was collected, unless memory was refused
-abbrev pub HasInfos : List MatchInfo → InfoList → Type 0
-HasInfos infos list = list.refused ≡ false → list.infos.items ≡ infos
-
-pub infos_more : (infos : List MatchInfo) (info : MatchInfo) (old new : InfoList) → HasInfos infos old → AddsInfo info old new → HasInfos (infos ++ info ∷ []) new
-infos_more infos info old new before adds = λ unrefused. let added = adds unrefused in added.1 ∙ ap (λ l. l ++ info ∷ []) (before added.0)
 
 -- what is added after something else
 pub then_more : (old mid new added more : List ℕ) → mid ≡ old ++ added → new ≡ mid ++ more → new ≡ old ++ (added ++ more)

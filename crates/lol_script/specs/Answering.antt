@@ -1,5 +1,6 @@
 -- Tags that are answered as their lines are read.
 use Rattle.std.specs.Prelude.{◌≡◌, ℕ, Bool, true, false, List, [], ◌∷◌, ◌++◌, map, Option, Some, None, Result, Ok, Err, codes, decimal}
+use Rattle.std.specs.Global.{Vec}
 use Rattle.std.specs.List.{concat}
 use Rattle.lol_base.specs.CodePoints.{line_feed}
 use Rattle.lol_base.specs.StartTags.{StartTag}
@@ -14,14 +15,15 @@ use Rattle.lol_vm.specs.Events.{Event, Start, End}
 use Rattle.lol_vm.specs.Refusals.{Cause, Limit, Counter, refused}
 use Rattle.lol_vm.specs.RunRefusals.{allowance_of}
 use Rattle.lol_vm.specs.Views.{match_of}
-use Rattle.lol_vm.specs.Vms.{tries_in}
+use Rattle.lol_vm.specs.Follows.{StartedElement}
+use Rattle.lol_vm.specs.Vms.{Vm, tries_in}
 use Rattle.lol_vm.specs.declared.event_run.EventRun.{EventRun}
 use Rattle.lol_vm.specs.declared.events.RunCause.{RunCause}
 use Rattle.lol_vm.specs.declared.events.RunCause.TheVariants.{MemoryLimitExceeded, CounterFull, Memory}
 use Rattle.lol_script.specs.Devices.{ReadsToEnd}
-use Rattle.lol_script.specs.Explaining.{Explains, IsRunThrough, Tells, limiter_of, selectors_in}
-use Rattle.lol_script.specs.FieldLists.{list_text, started_by}
-use Rattle.lol_script.specs.Output.{comma_list, lines_of, shown_match}
+use Rattle.lol_script.specs.Explaining.{Explains, IsReady, IsRunThrough, Tells, limiter_of, selectors_in, with_reasons}
+use Rattle.lol_script.specs.FieldLists.{fields_in, list_text, match_field, started_by}
+use Rattle.lol_script.specs.Output.{comma_list, lines_of}
 use Rattle.lol_script.specs.ReadLines.{ReadLines}
 use Rattle.lol_script.specs.Readings.{IsReadTo, IsTagLine}
 use Rattle.lol_script.specs.Script.{line_at}
@@ -29,15 +31,17 @@ use Rattle.lol_script.specs.Scripts.{Output, Script, output, output_of, run_outp
 use Rattle.lol_script.specs.declared.device.Counted.{Counted}
 use Rattle.lol_script.specs.declared.explained.Explained.{Explained}
 use Rattle.lol_script.specs.declared.output.FieldList.{FieldList}
-use Rattle.lol_script.specs.declared.program.Status.TheVariants.{Refused}
+use Rattle.lol_script.specs.declared.program.Status.TheVariants as status
+use Rattle.lol_script.specs.declared.script_run.Answering.{Answering}
+use Rattle.lol_script.specs.declared.script_run.Answering.TheVariants.{Plain, WithReasons, Refused}
 use Rattle.lol_script.specs.declared.script_run.ScriptRun.{ScriptRun}
 
 -- 1. One tag
 
--- A start tag was answered; if memory wasn't refused for the list, it says what the tag is reported under.
+-- A start tag was answered; if memory wasn't refused for the list, it has what the tag is reported under.
 pub record IsStarted (s : Selectors) (esi : Bool) (item_bytes : ℕ) (before : Limiter) (run : EventRun) (events : List Event) (tag : StartTag) (now : Limiter) (taken : Option Bool) (matched : FieldList) : Type 0 where
   pub infos : List MatchInfo
-  pub listed : matched.refused ≡ false → list_text matched ≡ comma_list (map shown_match (map match_of infos))
+  pub listed : matched.refused ≡ false → fields_in matched ≡ map match_field (map match_of infos)
   pub answered : answer_taken taken infos (tries_in (machine_of run)) ≡ answer s esi (document s esi events) (Start tag)
   pub goes_on : IsRunOf s esi item_bytes before run (events ++ Start tag ∷ []) now
 
@@ -59,26 +63,33 @@ abbrev pub output_for : Selectors → Script → List Event → Output
 output_for selectors s events =
     run_output (texts_for selectors s empty events) (refused selectors s.esi (allowance_of 64 (limiter_of s)) events)
 
+-- whether no tag is answered any more
+abbrev pub has_ended : Answering → Bool
+has_ended Plain = false
+has_ended (WithReasons explained) = false
+has_ended Refused = true
+
 -- The code's run has answered a script's events: over the selectors, or where reasons are shown over ones whose items stand under their numbers.
-abbrev pub HasRun : Selectors → Script → ScriptRun → Option Explained → Type 0
-HasRun selectors s code None = (s.explains ≡ false) × IsRunThrough selectors s code.run s.events code.limiter
-HasRun selectors s code (Some explained) =
+abbrev pub HasRun : Selectors → Script → ScriptRun → Answering → Type 0
+HasRun selectors s code Plain = (s.explains ≡ false) × IsRunThrough selectors s code.run s.events code.limiter
+HasRun selectors s code (WithReasons explained) =
     (s.explains ≡ true) × (selectors ≡ selectors_in s)
     × ((numbered : Selectors) × Explains explained s numbered × IsRunThrough numbered s code.run s.events code.limiter)
+HasRun selectors s code Refused = ⊥
 
--- What was written for a script's events: the lines for each of them, where none was refused; else the whole output, whatever comes later.
+-- What was written for a script's events: the lines for each of them, unless one was refused; else the whole output, whatever comes later.
 abbrev pub IsWritten : Selectors → Script → ScriptRun → Bool → Type 0
 IsWritten selectors s code false =
-    HasRun selectors s code code.explained × (code.text.items ≡ concat (texts_for selectors s empty s.events))
+    HasRun selectors s code code.answering × (code.text.items ≡ concat (texts_for selectors s empty s.events))
 IsWritten selectors s code true =
-    (later : List Event) → output_for selectors s (s.events ++ later) ≡ record { text = code.text.items; status = Refused }
+    (later : List Event) → output_for selectors s (s.events ++ later) ≡ record { text = code.text.items; status = status.Refused }
 
 -- The code has answered the events of a script.
 pub record Answers (code : ScriptRun) (s : Script) : Type 0 where
   pub selectors : Selectors
   pub same : (events : List Event) → output_for selectors s events ≡ output_for (selectors_in s) s events
   pub shows_tries : code.shows_tries ≡ s.shows_tries
-  pub written : IsWritten selectors s code code.refused
+  pub written : IsWritten selectors s code (has_ended code.answering)
 
 -- For each script whose events the code has answered.
 abbrev pub ForAnswers : ScriptRun → (Script → Type 0) → Type 0
@@ -91,12 +102,34 @@ HasTags s = s.events ≡ [] → ⊥
 abbrev pub IsTagIfFirst : List ℕ → Script → Type 0
 IsTagIfFirst line s = s.events ≡ [] → IsTagLine (line_at line)
 
--- The reasons for the last start tag, if they are shown: then the list of fields has their ids.
-abbrev pub AreTold : Option Explained → ScriptRun → FieldList → List Reason → Type 0
-AreTold None code fields told = fields ≡ code.report.fields
-AreTold (Some explained) code fields told = (code.report.items.refused ≡ false) × Tells explained code.run code.report.items code.around.items fields told
+-- 3. One start tag of a run
 
--- 3. All tags
+-- The code was made ready for a start tag, unless a tag was refused.
+abbrev pub IsMadeReady : Bool → Vm StartedElement → Answering → Answering → Type 0
+IsMadeReady going vm Plain new = (going ≡ true) × (new ≡ Plain)
+IsMadeReady going vm (WithReasons old) new =
+    (going ≡ true) × ((around : Vec ℕ) × (new ≡ WithReasons (record old { around = around })) × IsReady vm around.items)
+IsMadeReady going vm Refused new = (going ≡ false) × (new ≡ Refused)
+
+-- The line of a start tag was written, by what it was reported under.
+pub record IsLineWritten (asked : Bool) (old new : ScriptRun) : Type 0 where
+  pub listed : old.fields.refused ≡ false
+  pub written : new.text.items ≡ old.text.items ++ (started_by (list_text old.fields) asked old.shows_tries (tries_in (machine_of old.run)) ++ line_feed ∷ [])
+
+-- The line of a start tag was written, and those of its reasons.
+pub record AreReasonsWritten (asked : Bool) (explained : Explained) (old new : ScriptRun) : Type 0 where
+  pub told : List Reason
+  pub listed : old.fields.refused ≡ false
+  pub shown : new.fields.refused ≡ false
+  pub tells : Tells explained old.run old.fields new.fields told
+  pub written : new.text.items ≡ old.text.items ++ with_reasons explained (started_by (list_text new.fields) asked old.shows_tries (tries_in (machine_of old.run))) told
+
+abbrev pub IsPushed : Bool → Answering → ScriptRun → ScriptRun → Type 0
+IsPushed asked Plain old new = IsLineWritten asked old new
+IsPushed asked (WithReasons explained) old new = AreReasonsWritten asked explained old new
+IsPushed asked Refused old new = Unit {0}
+
+-- 4. All tags
 
 module _ {D : Type 0} (remaining : D → Option (List ℕ)) where
   -- For each start of the reading, and the script read from it up to a line, whose events the code has answered.

@@ -5,7 +5,6 @@ use Rattle.lol_instructions.specs.Tests.{Element}
 use Rattle.lol_instructions.specs.Tries.{names_counted, attributes_counted}
 use Rattle.lol_instructions.specs.declared.tries.Tries.{Tries}
 use Rattle.lol_memory.specs.Limiter.{Limiter}
-use Rattle.lol_memory.specs.declared.match_info.MatchInfo.{MatchInfo}
 use Rattle.lol_program.specs.Nodes.{selectors_of}
 use Rattle.lol_program.specs.Paths.{Selectors}
 use Rattle.lol_reasons.specs.Explanations as explanations
@@ -13,20 +12,22 @@ use Rattle.lol_reasons.specs.Explanations.{added_by, reasons, reasons_at}
 use Rattle.lol_reasons.specs.Numbered.{HasItemsOf, KnowsItemsOf, reason_shown}
 use Rattle.lol_reasons.specs.NumberingLaws.{SameNodes}
 use Rattle.lol_reasons.specs.declared.explainer.Reason.{Reason}
+use Rattle.lol_base.specs.CodePoints.{line_feed}
 use Rattle.lol_vm.specs.Answers.{Match, Started, Dropped, answer, document, is_dropped, report}
 use Rattle.lol_vm.specs.Documents.{element_of}
-use Rattle.lol_vm.specs.EventRuns.{IsRunOf, answer_taken, machine_of}
+use Rattle.lol_vm.specs.EventRuns.{IsRunOf, machine_of}
 use Rattle.lol_vm.specs.Events.{Event, Start}
-use Rattle.lol_vm.specs.Views.{match_of}
 use Rattle.lol_vm.specs.Follows.{StartedElement}
 use Rattle.lol_vm.specs.Vms.{Vm, data_in, tries_in}
 use Rattle.lol_vm.specs.declared.event_run.EventRun.{EventRun}
-use Rattle.lol_script.specs.FieldLists.{list_text}
-use Rattle.lol_script.specs.Output.{comma_list, shown_match, shown_reason}
+use Rattle.lol_script.specs.FieldLists.{fields_in, list_text, match_field}
+use Rattle.lol_script.specs.Output.{comma_list, lines_of, shown_match, shown_reason}
 use Rattle.lol_script.specs.Scripts.{Script, pairs_in, texts_in}
 use Rattle.lol_script.specs.declared.explained.Explained.{Explained}
-use Rattle.lol_script.specs.declared.explained.InfoList.{InfoList}
+use Rattle.lol_script.specs.declared.output.Field.{Field}
 use Rattle.lol_script.specs.declared.output.FieldList.{FieldList}
+use Rattle.lol_script.specs.declared.script_run.Answering.{Answering}
+use Rattle.lol_script.specs.declared.script_run.Answering.TheVariants.{Plain, WithReasons, Refused}
 
 -- the selectors of a script, under their ids
 abbrev pub selectors_in : Script → Selectors
@@ -52,33 +53,23 @@ abbrev pub IsNewRun : Selectors → Bool → EventRun → Type 0
 IsNewRun selectors esi run =
     (before : Limiter) → before.maximum ≤ 18446744073709551615 → before.usage ≤ before.maximum → IsRunOf selectors esi 64 before run [] before
 
--- there is one, of which this holds
-abbrev pub IfSomeIs : {T : Type 0} → Option T → (T → Type 0) → Type 0
-IfSomeIs None holds = ⊥
-IfSomeIs (Some x) holds = holds x
+-- Tags are answered with their reasons, by what this holds of.
+abbrev pub IfExplained : Answering → (Explained → Type 0) → Type 0
+IfExplained Plain holds = ⊥
+IfExplained (WithReasons explained) holds = holds explained
+IfExplained Refused holds = ⊥
 
 -- 1. What a machine reports by numbers
 
--- These are the numbers of the open elements, and nothing was reported.
-abbrev pub IsReady : Vm StartedElement → List ℕ → InfoList → Type 0
-IsReady vm around list = (around ≡ map (λ e. e.value) (data_in vm)) × (list.infos.items ≡ [])
-
--- one more was reported, or memory was refused; after a refusal nothing is added
-abbrev pub AddsInfo : MatchInfo → InfoList → InfoList → Type 0
-AddsInfo info old new = (new.refused ≡ false) → (old.refused ≡ false) × (new.infos.items ≡ old.infos.items ++ info ∷ [])
-
--- A start tag was answered; the list has what a machine reports of it, unless memory was refused for that.
-pub record IsListed (s : Selectors) (esi : Bool) (item_bytes : ℕ) (before : Limiter) (run : EventRun) (events : List Event) (tag : StartTag) (now : Limiter) (taken : Option Bool) (list : InfoList) : Type 0 where
-  pub infos : List MatchInfo
-  pub listed : list.refused ≡ false → list.infos.items ≡ infos
-  pub answered : answer_taken taken infos (tries_in (machine_of run)) ≡ answer s esi (document s esi events) (Start tag)
-  pub goes_on : IsRunOf s esi item_bytes before run (events ++ Start tag ∷ []) now
+-- These are the numbers of the open elements.
+abbrev pub IsReady : Vm StartedElement → List ℕ → Type 0
+IsReady vm around = around ≡ map (λ e. e.value) (data_in vm)
 
 -- A run over selectors was told of a start tag after the events of a script, and reported these; these are the numbers of the elements around
 -- the tag's, the outermost first.
-pub record IsMatchedInside (numbered : Selectors) (s : Script) (run : EventRun) (infos : List MatchInfo) (around : List ℕ) (tag : StartTag) (now : Limiter) : Type 0 where
+pub record IsMatchedInside (numbered : Selectors) (s : Script) (run : EventRun) (items : List Field) (around : List ℕ) (tag : StartTag) (now : Limiter) : Type 0 where
   pub runs : IsRunThrough numbered s run (s.events ++ Start tag ∷ []) now
-  pub reported : map match_of infos ≡ report numbered s.esi (element_of (document numbered s.esi s.events) tag) (document numbered s.esi s.events).open_elements
+  pub reported : items ≡ map match_field (report numbered s.esi (element_of (document numbered s.esi s.events) tag) (document numbered s.esi s.events).open_elements)
   pub numbers : map (λ e. e.number) (document numbered s.esi s.events).open_elements ≡ reverse around
   pub undropped : is_dropped numbered (element_of (document numbered s.esi s.events) tag) (document numbered s.esi s.events).open_elements ≡ false
 
@@ -101,17 +92,16 @@ pub record IsToldOf (s : Script) (e : Element) (outer : List Element) (told : Li
   pub listed : fields.refused ≡ false → list_text fields ≡ comma_list (map shown_match (report (selectors_in s) s.esi e outer))
   pub explained : map reason_shown told ≡ reasons (added_by (texts_in s)) e outer
 
--- After a start tag of which a machine reported these inside these elements, these are the reasons for its element.
-abbrev pub Tells : Explained → EventRun → InfoList → List ℕ → FieldList → List Reason → Type 0
-Tells code run list around fields told =
+-- After a start tag of which a machine reported these items, these are the reasons for its element.
+abbrev pub Tells : Explained → EventRun → FieldList → FieldList → List Reason → Type 0
+Tells code run items fields told =
     (s : Script) (numbered : Selectors) (tag : StartTag) (now : Limiter) → Explains code s numbered
-    → IsMatchedInside numbered s run list.infos.items around tag now
+    → IsMatchedInside numbered s run (fields_in items) code.around.items tag now
     → IsToldOf s (element_of (document numbered s.esi s.events) tag) (document numbered s.esi s.events).open_elements told fields
 
--- the lines that are written for reasons, if they are shown
-abbrev pub lines_told : Option Explained → List Reason → List (List ℕ)
-lines_told None told = []
-lines_told (Some code) told = lines_by code (map reason_shown told)
+-- a line, and after it those of reasons
+abbrev pub with_reasons : Explained → List ℕ → List Reason → List ℕ
+with_reasons code line told = (line ++ line_feed ∷ []) ++ lines_of (lines_by code (map reason_shown told))
 
 -- A start tag was answered: with what it is reported under, which the list has unless memory was refused for it, and why.
 pub record IsAnsweredBy (s : Script) (tag : StartTag) (run : EventRun) (asked : Bool) (told : List Reason) (fields : FieldList) : Type 0 where

@@ -1,11 +1,10 @@
 -- Lists whose fields come one by one.
-use Rattle.std.specs.Prelude.{◌≡◌, ℕ, Bool, true, false, List, [], ◌∷◌, ◌++◌, Option, Some, None, codes, decimal, if◌then◌else◌}
-use Rattle.std.specs.Option.{is_some}
-use Rattle.std.specs.Str.{byte}
+use Rattle.std.specs.Prelude.{◌≡◌, ℕ, Bool, true, false, List, [], ◌∷◌, ◌++◌, map, Option, Some, None, codes, decimal, if◌then◌else◌}
 use Rattle.lol_base.specs.CodePoints.{tab}
 use Rattle.lol_instructions.specs.Tries.{names_counted, attributes_counted}
 use Rattle.lol_instructions.specs.declared.tries.Tries.{Tries}
-use Rattle.lol_script.specs.Output.{tries_field}
+use Rattle.lol_vm.specs.Answers.{Match}
+use Rattle.lol_script.specs.Output.{comma_list, tries_field}
 use Rattle.lol_script.specs.declared.output.Field.{Field}
 use Rattle.lol_script.specs.declared.output.FieldList.{FieldList}
 
@@ -13,31 +12,35 @@ use Rattle.lol_script.specs.declared.output.FieldList.{FieldList}
 abbrev pub shown_field : Field → List ℕ
 shown_field field = decimal field.number ++ (if field.with_content then [] else codes "/")
 
--- no field was added, and memory wasn't refused
-abbrev pub IsEmptyList : FieldList → Type 0
-IsEmptyList list = (list.first ≡ None) × (list.refused ≡ false)
+-- the field of a match, and that of the number of an element that was open
+abbrev pub match_field : Match → Field
+match_field found = record { number = found.id; with_content = found.with_content }
 
--- a first field and the others, each of which has its comma
-abbrev pub fields_from : Option Field → List ℕ → List ℕ
+abbrev pub number_field : ℕ → Field
+number_field number = record { number = number; with_content = true }
+
+abbrev pub number_in : Field → ℕ
+number_in field = field.number
+
+abbrev pub fields_from : Option Field → List Field → List Field
 fields_from None others = []
-fields_from (Some first) others = shown_field first ++ others
+fields_from (Some first) others = first ∷ others
 
--- the fields that were added, with a comma between two
-abbrev pub fields_in : FieldList → List ℕ
+-- the fields that were added
+abbrev pub fields_in : FieldList → List Field
 fields_in list = fields_from list.first list.others.items
 
--- A field comes last, after a comma unless it is the first.
-abbrev pub IsFieldAdded : List ℕ → FieldList → FieldList → Type 0
-IsFieldAdded field old new =
-    (is_some new.first ≡ true) × (fields_in new ≡ fields_in old ++ (if is_some old.first then byte "," ∷ field else field))
+-- no field was added, and memory wasn't refused
+abbrev pub IsEmptyList : FieldList → Type 0
+IsEmptyList list = (fields_in list ≡ []) × (list.refused ≡ false)
 
--- The same, or memory was refused; after a refusal nothing is added.
-abbrev pub AddsField : List ℕ → FieldList → FieldList → Type 0
-AddsField field old new = (new.refused ≡ false) → (old.refused ≡ false) × IsFieldAdded field old new
+-- A field comes last, or memory was refused; after a refusal nothing is added.
+abbrev pub AddsField : Field → FieldList → FieldList → Type 0
+AddsField field old new = (new.refused ≡ false) → (old.refused ≡ false) × (fields_in new ≡ fields_in old ++ field ∷ [])
 
 -- what stands for the list
 abbrev pub list_text : FieldList → List ℕ
-list_text list = if is_some list.first then fields_in list else codes "-"
+list_text list = comma_list (map shown_field (fields_in list))
 
 -- the field of the tries, if they are shown
 abbrev pub tries_shown : Option Tries → List ℕ

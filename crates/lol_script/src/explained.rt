@@ -1,22 +1,23 @@
 //! Start tags that are answered with their reasons.
 
-ghost use Rattle.std.specs.Prelude.{◌≡◌, ◌≢◌, ◌∷◌, ◌++◌, [], List, false, IfOk, OnOk, IfErr, length, map};
+ghost use Rattle.std.specs.Prelude.{◌≡◌, ◌∷◌, ◌++◌, [], false, List, IfOk, OnOk, map};
 ghost use Rattle.lol_memory.specs.Ids.{ascending};
 ghost use Rattle.lol_reasons.specs.Numbered.{reason_shown};
+ghost use Rattle.lol_reasons.specs.declared.explainer.Reason.{Reason};
 ghost use Rattle.lol_program.specs.Paths.{Selectors};
 ghost use Rattle.lol_base.specs.Ascending.{ascending_once};
 ghost use Rattle.lol_vm.specs.EventRuns.{machine_of};
-ghost use Rattle.lol_vm.specs.Views.{match_of, selectors};
-ghost use Rattle.lol_script.specs.Explaining.{AddsInfo, Explains, IsReady, Tells, lines_by, reported_ids};
-ghost use Rattle.lol_script.specs.FieldLists.{AddsField, list_text};
+ghost use Rattle.lol_vm.specs.Views.{selectors};
+ghost use Rattle.lol_script.specs.Explaining.{Explains, IsReady, Tells, lines_by, reported_ids, with_reasons};
+ghost use Rattle.lol_script.specs.FieldLists.{list_text, started_text};
 ghost use Rattle.lol_script.specs.Output.{comma_list, lines_of, shown_match};
 ghost use Rattle.lol_script.specs.Scripts as scripts;
 ghost use Rattle.lol_script.specs.SelectLines.{KeepsLines};
 
-use crate::output::{FieldList, push_reason};
+use crate::output::{FieldList, push_reason, push_started};
 use crate::select_lines::SelectLines;
 use lol_reasons::{Explainer, Reason};
-use lol_vm::{Ast, DenseHashSet, ElementValue, EventRun, MatchId, MatchInfo, StackItem};
+use lol_vm::{Ast, DenseHashSet, ElementValue, EventRun, MatchId, MatchInfo, StackItem, Tries};
 use std::alloc::{AllocError, Global};
 
 /// What explains the reports of a machine in which each item of the selectors has an id of its own.
@@ -27,6 +28,9 @@ pub struct Explained {
 
     /// The number of each text's line.
     lines: Vec<usize>,
+
+    /// The numbers of the elements around the last start tag.
+    around: Vec<usize>,
 }
 
 impl Explained {
@@ -44,6 +48,7 @@ impl Explained {
             alloc,
             explainer: numbering.explainer,
             lines: selects.numbers(alloc)?,
+            around: Vec::new(alloc),
         };
         Ok((numbering.ast, explained))
     }
@@ -56,66 +61,56 @@ impl Explained {
         self.explainer.index(run.machine().program())
     }
 
-    /// The numbers of the open elements, and a list for the items that match.
+    /// Keeps the numbers of the open elements, which the next start tag's element stands inside of.
     #[inline(never)]
-    pub fn look_around(
-        &self,
-        run: &EventRun,
-        around: &mut Vec<usize>,
-        items: &mut InfoList,
-    ) -> Result<(), AllocError>
-        ensures { OnOk result (IsReady (machine_of run.now) around.new.items items.new) }
+    pub fn look_around(&mut self, run: &EventRun) -> Result<(), AllocError>
+        ensures kept { self.new ≡ record self.old { around = self.new.around } }
+        ensures ready { OnOk result (IsReady (machine_of run.now) self.new.around.items) }
     {
-        *around = numbers_of(self.alloc, run.machine().open_items())?;
-        items.open();
+        self.around = numbers_of(self.alloc, run.machine().open_items())?;
         Ok(())
     }
 
-    /// Finds the reasons for the last start tag, of which the items that matched are given, and the numbers of the elements around its
-    /// element. The list of fields has what it is reported under.
+    /// Adds the line of the last start tag, of which the items that matched are given, and those of its reasons.
     #[inline(never)]
-    pub fn find_reasons(
+    pub fn push_explained(
         &self,
         run: &EventRun,
-        items: &InfoList,
-        around: &[usize],
         fields: &mut FieldList,
-        found: &mut Vec<Reason>,
+        asked: bool,
+        tries: Option<Tries>,
+        text: &mut Vec<u8>,
     ) -> Result<(), AllocError>
-        ensures { OnOk result ((items.now.refused ≡ false)
-            × Tells self.now run.now items.now around.now fields.new found.new.items) }
+        ensures listed { OnOk result (fields.old.refused ≡ false) }
+        ensures told { OnOk result ((told : List Reason) × (fields.new.refused ≡ false)
+            × Tells self.now run.now fields.old fields.new told
+            × (text.new.items ≡ text.old.items
+            ++ with_reasons self.now (started_text (list_text fields.new) asked tries) told)) }
     {
-        let told = self.reasons(run, items, around, fields)?;
-        *found = told;
-        Ok(())
+        let reasons = self.reasons(run, fields)?;
+        push_started(text, fields, asked, tries)?;
+        self.push_reasons(text, &reasons)
     }
 
-    fn reasons(
-        &self,
-        run: &EventRun,
-        items: &InfoList,
-        around: &[usize],
-        fields: &mut FieldList,
-    ) -> Result<Vec<Reason>, AllocError>
-        ensures listed { OnOk result (items.now.refused ≡ false) }
-        ensures told { IfOk result (λ told. Tells self.now run.now items.now around.now fields.new told.items) }
+    /// The reasons for the last start tag, of which the items that matched are given: then the list has what it is reported under.
+    fn reasons(&self, run: &EventRun, fields: &mut FieldList) -> Result<Vec<Reason>, AllocError>
+        ensures listed { OnOk result (fields.old.refused ≡ false) }
+        ensures told { IfOk result (λ told. Tells self.now run.now fields.old fields.new told.items) }
     {
-        if items.refused {
-            return Err(AllocError);
-        }
         lol_reasons::laws::reasons_explain_reports();
         lol_reasons::laws::texts_add_pairs();
-        let ids = ids_of(self.alloc, &items.infos)?;
+        let items = fields.ids(self.alloc)?;
         let number = run.events().saturating_sub(1);
-        let reasons = self.explainer.reasons(run.machine(), &ids, number, around)?;
-        let with_content = run.machine().open_elements() > around.len();
+        let reasons = self
+            .explainer
+            .reasons(run.machine(), &items, number, &self.around)?;
+        let with_content = run.machine().open_elements() > self.around.len();
         list_ids(self.alloc, &reasons, with_content, fields)?;
         Ok(reasons)
     }
 
     /// Adds the lines of reasons.
-    #[inline(never)]
-    pub fn push_reasons(&self, text: &mut Vec<u8>, reasons: &[Reason]) -> Result<(), AllocError>
+    fn push_reasons(&self, text: &mut Vec<u8>, reasons: &[Reason]) -> Result<(), AllocError>
         ensures { OnOk result (text.new.items ≡ text.old.items
             ++ lines_of (lines_by self.now (map reason_shown reasons.now))) }
     {
@@ -124,79 +119,6 @@ impl Explained {
             push_reason(text, line, reason)?;
         }
         Ok(())
-    }
-}
-
-/// What comes of a machine, up to the first that memory was refused for. A list that isn't open takes nothing.
-#[derive(Drop)]
-pub struct InfoList {
-    infos: Vec<MatchInfo>,
-
-    /// Whether nothing more is taken.
-    refused: bool,
-}
-
-impl InfoList {
-    /// A list that isn't open.
-    pub fn new(alloc: Global) -> Self {
-        InfoList {
-            infos: Vec::new(alloc),
-            refused: true,
-        }
-    }
-
-    /// Forgets what came, and takes what comes from now on.
-    fn open(&mut self)
-        ensures { self.new.infos.items ≡ [] }
-    {
-        self.infos.clear();
-        self.refused = false;
-    }
-
-    #[inline(always)]
-    pub fn add(&mut self, info: MatchInfo)
-        ensures { AddsInfo info self.old self.new }
-    {
-        if !self.refused {
-            self.push(info);
-        }
-    }
-
-    #[inline(never)]
-    fn push(&mut self, info: MatchInfo)
-        requires { self.old.refused ≡ false }
-        ensures { AddsInfo info self.old self.new }
-    {
-        if self.infos.push(info).is_err() {
-            self.refused = true;
-        }
-    }
-}
-
-/// What is reported of a start tag.
-#[derive(Drop)]
-pub struct Report {
-    pub fields: FieldList,
-
-    /// The same again, if it is to be explained.
-    pub items: InfoList,
-}
-
-impl Report {
-    pub fn new(alloc: Global) -> Self {
-        Report {
-            fields: FieldList::new(alloc),
-            items: InfoList::new(alloc),
-        }
-    }
-
-    #[inline(always)]
-    pub fn add(&mut self, info: MatchInfo)
-        ensures field { AddsField (shown_match (match_of info)) self.old.fields self.new.fields }
-        ensures item { AddsInfo info self.old.items self.new.items }
-    {
-        self.fields.add_match(info);
-        self.items.add(info);
     }
 }
 
@@ -212,17 +134,6 @@ fn numbers_of(
         numbers.push(item.element_data.value)?;
     }
     Ok(numbers)
-}
-
-/// The ids of what was reported.
-fn ids_of(alloc: Global, infos: &[MatchInfo]) -> Result<Vec<MatchId>, AllocError>
-    ensures { IfOk result (λ ids. ids.items ≡ map (λ info. info.match_id) infos.now) }
-{
-    let mut ids = Vec::new(alloc);
-    for info in infos {
-        ids.push(info.match_id)?;
-    }
-    Ok(ids)
 }
 
 /// Lists the ids of reasons, ascending and each once.

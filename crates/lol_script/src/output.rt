@@ -1,22 +1,23 @@
 //! The lines of a run as they are written.
 
-ghost use Rattle.std.specs.Prelude.{◌≡◌, ◌∷◌, [], ◌++◌, ◌≤◌, OnOk, decimal, false, map, reverse, true};
+ghost use Rattle.std.specs.Prelude.{◌≡◌, ◌∷◌, [], ◌++◌, ◌≤◌, IfOk, OnOk, decimal, flat_map, map, reverse, false, true};
 ghost use Rattle.lol_base.specs.CodePoints.{line_feed};
 ghost use Rattle.lol_vm.specs.Views.{match_of};
 ghost use Rattle.lol_instructions.specs.Tries.{names_counted, attributes_counted};
 ghost use Rattle.lol_reasons.specs.Numbered.{reason_shown};
 ghost use Rattle.lol_script.specs.Output.{comma_list, shown_match, shown_reason, tries_field};
 ghost use Rattle.std.specs.Str.{byte};
-ghost use Rattle.lol_script.specs.FieldLists.{AddsField, IsEmptyList, ended_text, list_text, shown_field, started_text};
+ghost use Rattle.std.specs.Option.{is_some};
+ghost use Rattle.lol_script.specs.FieldLists.{AddsField, IsEmptyList, ended_text, fields_in, list_text, match_field, number_field, number_in, shown_field, started_text};
 
 use itoa::Buffer;
 use lol_reasons::Reason;
-use lol_vm::{MatchInfo, Tries};
+use lol_vm::{MatchId, MatchInfo, Tries};
 use std::alloc::{AllocError, Global};
 
 /// A field of a list: a number, with `/` after it where the element has no content.
 #[derive(Clone, Copy)]
-struct Field {
+pub struct Field {
     number: u64,
     with_content: bool,
 }
@@ -24,16 +25,19 @@ struct Field {
 /// The fields of a list, as they come, up to the first that memory was refused for.
 #[derive(Drop)]
 pub struct FieldList {
-    /// The first field, which most lists end with. It is written where the list is.
+    /// The first field, which most lists end with.
     first: Option<Field>,
 
-    /// The fields after the first, each after a comma.
-    others: Vec<u8>,
+    /// The fields after the first, if there is one.
+    others: Vec<Field>,
     refused: bool,
 }
 
 impl FieldList {
-    pub fn new(alloc: Global) -> Self {
+    /// No fields. It takes no memory.
+    pub fn new(alloc: Global) -> Self
+        ensures { IsEmptyList result }
+    {
         FieldList {
             first: None,
             others: Vec::new(alloc),
@@ -52,7 +56,7 @@ impl FieldList {
     /// Adds an id, with `/` after it where the element has no content.
     #[inline(always)]
     pub fn add_match(&mut self, found: MatchInfo)
-        ensures { AddsField (shown_match (match_of found)) self.old self.new }
+        ensures { AddsField (match_field (match_of found)) self.old self.new }
     {
         self.add(Field {
             number: u64::from(found.match_id),
@@ -63,7 +67,7 @@ impl FieldList {
     /// Adds the number of an element that was open, and so has content.
     #[inline(always)]
     pub fn add_number(&mut self, number: usize)
-        ensures { AddsField (decimal number) self.old self.new }
+        ensures { AddsField (number_field number) self.old self.new }
     {
         self.add(Field {
             number: number as u64,
@@ -73,14 +77,43 @@ impl FieldList {
 
     #[inline(always)]
     fn add(&mut self, field: Field)
-        ensures { AddsField (shown_field field) self.old self.new }
+        ensures { AddsField field self.old self.new }
     {
         if self.first.is_none() {
             self.others.clear();
             self.first = Some(field);
-        } else if !self.refused && push_other(&mut self.others, field).is_err() {
+        } else {
+            self.add_other(field);
+        }
+    }
+
+    #[inline(never)]
+    fn add_other(&mut self, field: Field)
+        requires { is_some self.old.first ≡ true }
+        ensures { AddsField field self.old self.new }
+    {
+        if !self.refused && self.others.push(field).is_err() {
             self.refused = true;
         }
+    }
+
+    /// The ids of a report's fields, unless memory was refused for them.
+    pub fn ids(&self, alloc: Global) -> Result<Vec<MatchId>, AllocError>
+        ensures refused { OnOk result (self.now.refused ≡ false) }
+        ensures ids { IfOk result (λ ids. ids.items ≡ map number_in (fields_in self.now)) }
+    {
+        let mut ids = Vec::new(alloc);
+        if self.refused {
+            return Err(AllocError);
+        }
+        let Some(first) = self.first else {
+            return Ok(ids);
+        };
+        push_id(&mut ids, first)?;
+        for field in &self.others {
+            push_id(&mut ids, *field)?;
+        }
+        Ok(ids)
     }
 
     /// Appends the fields, separated by commas, or `-` where there are none, unless memory was refused for them.
@@ -100,17 +133,32 @@ impl FieldList {
         if self.others.is_empty() {
             return Ok(());
         }
-        text.extend_from_slice(&self.others)
+        push_others(text, &self.others)
     }
 }
 
-/// Adds a field after a comma.
-#[inline(never)]
-fn push_other(text: &mut Vec<u8>, field: Field) -> Result<(), AllocError>
-    ensures { OnOk result (text.new.items ≡ text.old.items ++ byte "," ∷ shown_field field) }
+/// Adds the id of a report's field.
+fn push_id(ids: &mut Vec<MatchId>, field: Field) -> Result<(), AllocError>
+    ensures { OnOk result (ids.new.items ≡ ids.old.items ++ number_in field ∷ []) }
 {
-    text.push(b',')?;
-    push_field(text, field)
+    let Ok(id) = MatchId::try_from(field.number) else {
+        return Err(AllocError);
+    };
+    ids.push(id)?;
+    Ok(())
+}
+
+/// Adds fields, each after a comma.
+#[inline(never)]
+fn push_others(text: &mut Vec<u8>, others: &[Field]) -> Result<(), AllocError>
+    ensures { OnOk result (text.new.items
+        ≡ text.old.items ++ flat_map (λ field. byte "," ∷ shown_field field) others.now) }
+{
+    for field in others {
+        text.push(b',')?;
+        push_field(text, *field)?;
+    }
+    Ok(())
 }
 
 /// Adds a field.

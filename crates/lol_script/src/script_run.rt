@@ -1,7 +1,6 @@
 //! The tags of a script, each answered as its line is read.
 
-ghost use Rattle.std.specs.Prelude.{◌≡◌, ◌≢◌, ◌∷◌, ◌++◌, [], List, IfOk, IfErr, OnOk, Ok, None, decimal, false, length, true};
-ghost use Rattle.std.specs.Option.{is_some};
+ghost use Rattle.std.specs.Prelude.{◌≡◌, ◌≢◌, ◌∷◌, ◌++◌, [], List, IfOk, IfErr, OnOk, Ok, decimal, false, length, map, true};
 ghost use Rattle.lol_instructions.specs.Tries.{attributes_counted, names_counted};
 ghost use Rattle.lol_memory.specs.Limiter.{Limiter};
 ghost use Rattle.lol_program.specs.Paths.{Selectors};
@@ -11,25 +10,25 @@ ghost use Rattle.lol_vm.specs.Refusals.{Cause, refused};
 ghost use Rattle.lol_vm.specs.RunRefusals.{StopsFor, allowance_of};
 ghost use Rattle.lol_vm.specs.Views.{match_of, selectors};
 ghost use Rattle.lol_vm.specs.Vms.{tries_in};
-ghost use Rattle.lol_script.specs.Answering.{Answers, AreTold, ForAnswers, HasTags, IsCauseOf, IsEnded, IsStarted, IsTagIfFirst};
-ghost use Rattle.lol_script.specs.Explaining.{AddsInfo, Explains, IfSomeIs, IsListed, IsNewRun, IsReady, lines_told};
-ghost use Rattle.lol_script.specs.FieldLists.{AddsField, tries_shown};
+ghost use Rattle.lol_script.specs.Answering.{Answers, ForAnswers, HasTags, has_ended, IsCauseOf, IsEnded, IsMadeReady, IsPushed, IsStarted, IsTagIfFirst};
+ghost use Rattle.lol_script.specs.Explaining.{Explains, IfExplained, IsNewRun};
+ghost use Rattle.lol_script.specs.FieldLists.{AddsField, match_field, number_field, tries_shown};
 ghost use Rattle.lol_script.specs.Lines.{AreOutlinesOf, start_tag_of};
-ghost use Rattle.lol_script.specs.Output.{lines_of, shown_match, tries_field};
+ghost use Rattle.lol_script.specs.Output.{lines_of, tries_field};
 ghost use Rattle.lol_script.specs.Readings.{ForReading, Stops};
 ghost use Rattle.lol_script.specs.Scripts as scripts;
 ghost use Rattle.lol_script.specs.Scripts.{output_of, shown_cause, with_bytes, with_event};
 ghost use Rattle.lol_script.specs.SelectLines.{KeepsLines};
+ghost use Rattle.lol_script.specs.declared.script_run.Answering.TheVariants.{Plain, Refused};
 
 use crate::device::RunFault;
-use crate::explained::{Explained, Report};
+use crate::explained::Explained;
 use crate::lines::{Line, StartLine, line_of};
 use crate::output::{FieldList, push_ended, push_line, push_started};
 use crate::program::Status;
 use crate::select_lines::SelectLines;
 use crate::settings::{Settings, Stop, malformed};
 use crate::tags::handed_over;
-use lol_reasons::Reason;
 use lol_reasons::laws::numbers_change_reports_alone;
 use lol_vm::{
     Ast, AttributeBuffer, ElementValue, EventRun, LocalName, MatchInfo, RunCause,
@@ -40,30 +39,30 @@ use std::alloc::{AllocError, Global};
 /// The size that an open element is charged for.
 const ITEM_BYTES: usize = 64;
 
+/// How tags are answered.
+#[derive(Drop)]
+pub enum Answering {
+    /// Without reasons.
+    Plain,
+    /// With their reasons.
+    WithReasons(Explained),
+    /// Not any more: a tag was refused.
+    Refused,
+}
+
 /// A run over the tags of a script, and what is written for those that were answered. It can't be dropped: it is given to `finish`.
 pub struct ScriptRun {
     run: EventRun,
     limiter: SharedMemoryLimiter,
     shows_tries: bool,
-
-    /// What explains the reports, if reasons are shown.
-    explained: Option<Explained>,
-
-    /// The numbers of the elements around the last start tag, if reasons are shown.
-    around: Vec<usize>,
-
-    /// The reasons for the last start tag that was reported, if reasons are shown.
-    reasons: Vec<Reason>,
+    answering: Answering,
 
     /// What is written, the refusal too.
     text: Vec<u8>,
 
-    /// Whether a tag was refused: then no other is answered.
-    refused: bool,
-
     // What each tag needs: its attributes, and its ids or numbers.
     outlines: AttributeBuffer,
-    report: Report,
+    fields: FieldList,
 }
 
 impl ScriptRun {
@@ -79,18 +78,15 @@ impl ScriptRun {
             ast,
             selects,
         } = settings;
-        let (run, explained) = new_run(alloc, ast, &selects, explains, esi)?;
+        let (run, answering) = new_run(alloc, ast, &selects, explains, esi)?;
         Ok(ScriptRun {
             run,
             limiter: SharedMemoryLimiter::new(limit as usize),
             shows_tries,
-            explained,
-            around: Vec::new(alloc),
-            reasons: Vec::new(alloc),
+            answering,
             text: Vec::new(alloc),
-            refused: false,
             outlines: AttributeBuffer::new(alloc),
-            report: Report::new(alloc),
+            fields: FieldList::new(alloc),
         })
     }
 
@@ -124,76 +120,58 @@ impl ScriptRun {
         ensures { OnOk result (ForAnswers self.old (λ s.
             Answers self.new (with_event s (Start (start_tag_of line.entry))))) }
     {
-        if self.refused {
+        if !self.make_ready()? {
             return Ok(());
         }
         numbers_change_reports_alone();
-        self.look_around()?;
         let answered = answer_start(
             &mut self.run,
             line,
             &self.outlines,
             &mut self.limiter,
-            &mut self.report,
+            &mut self.fields,
         );
         match answered {
             Ok(None) => push_line(&mut self.text, b"dropped"),
-            Ok(Some(asked)) => {
-                let tries = self.shown_tries();
-                self.find_reasons()?;
-                push_started(&mut self.text, &self.report.fields, asked, tries)?;
-                self.push_reasons()
-            }
+            Ok(Some(asked)) => self.push_answer(asked),
             Err(cause) => self.refuse(cause),
         }
     }
 
-    /// Makes ready for the items that match the next start tag, if reasons are shown.
+    /// Makes ready for a start tag, unless a tag was refused: then the answer is no.
     #[inline(always)]
-    fn look_around(&mut self) -> Result<(), AllocError>
-        ensures kept { self.new ≡ record self.old { around = self.new.around; report = self.new.report } }
-        ensures ready { OnOk result (is_some self.old.explained ≡ true
-            → IsReady (machine_of self.old.run) self.new.around.items self.new.report.items) }
+    fn make_ready(&mut self) -> Result<bool, AllocError>
+        ensures kept { self.new ≡ record self.old { answering = self.new.answering } }
+        ensures ready { IfOk result (λ going.
+            IsMadeReady going (machine_of self.old.run) self.old.answering self.new.answering) }
     {
-        let Some(explained) = &self.explained else {
-            return Ok(());
-        };
-        explained.look_around(&self.run, &mut self.around, &mut self.report.items)
-    }
-
-    /// Finds the reasons for the last start tag, if they are shown. Then the list of fields has their ids.
-    #[inline(always)]
-    fn find_reasons(&mut self) -> Result<(), AllocError>
-        ensures kept { self.new ≡ record self.old { reasons = self.new.reasons; report = self.new.report } }
-        ensures told { OnOk result
-            (AreTold self.old.explained self.old self.new.report.fields self.new.reasons.items) }
-    {
-        let Some(explained) = &self.explained else {
-            return Ok(());
-        };
-        explained.find_reasons(
-            &self.run,
-            &self.report.items,
-            &self.around,
-            &mut self.report.fields,
-            &mut self.reasons,
-        )
-    }
-
-    /// Adds the lines of the reasons, if they are shown.
-    #[inline(always)]
-    fn push_reasons(&mut self) -> Result<(), AllocError>
-        ensures kept { self.new ≡ record self.old { text = self.new.text } }
-        ensures text { OnOk result (self.new.text.items ≡ self.old.text.items
-            ++ lines_of (lines_told self.old.explained self.old.reasons.items)) }
-    {
-        if self.reasons.is_empty() {
-            return Ok(());
+        match &mut self.answering {
+            Answering::Plain => Ok(true),
+            Answering::WithReasons(explained) => {
+                explained.look_around(&self.run)?;
+                Ok(true)
+            }
+            Answering::Refused => Ok(false),
         }
-        let Some(explained) = &self.explained else {
-            return Ok(());
-        };
-        explained.push_reasons(&mut self.text, &self.reasons)
+    }
+
+    /// Adds the line of a start tag that was reported, and those of its reasons, if they are shown.
+    #[inline(always)]
+    fn push_answer(&mut self, asked: bool) -> Result<(), AllocError>
+        ensures kept { self.new ≡ record self.old { text = self.new.text; fields = self.new.fields } }
+        ensures text { OnOk result (IsPushed asked self.old.answering self.old self.new) }
+    {
+        let tries = self.shown_tries();
+        match &self.answering {
+            Answering::WithReasons(explained) => explained.push_explained(
+                &self.run,
+                &mut self.fields,
+                asked,
+                tries,
+                &mut self.text,
+            ),
+            _ => push_started(&mut self.text, &self.fields, asked, tries),
+        }
     }
 
     /// What was tried for the last start tag, if tries are shown.
@@ -212,11 +190,11 @@ impl ScriptRun {
 
     /// Says why a start tag was refused, after which no tag is answered.
     fn refuse(&mut self, cause: RunCause) -> Result<(), AllocError>
-        ensures kept { self.new ≡ record self.old { text = self.new.text; refused = true } }
+        ensures kept { self.new ≡ record self.old { text = self.new.text; answering = Refused } }
         ensures text { OnOk result ((shown : Cause) × IsCauseOf cause shown
             × (self.new.text.items ≡ self.old.text.items ++ lines_of (shown_cause shown ∷ []))) }
     {
-        self.refused = true;
+        self.answering = Answering::Refused;
         match cause {
             RunCause::MemoryLimitExceeded => push_line(&mut self.text, b"refused limit"),
             RunCause::CounterFull => push_line(&mut self.text, b"refused counter"),
@@ -228,12 +206,20 @@ impl ScriptRun {
     fn take_end(&mut self, name: &[u8]) -> Result<(), AllocError>
         ensures { OnOk result (ForAnswers self.old (λ s. Answers self.new (with_event s (End name.now)))) }
     {
-        if self.refused {
+        if self.is_refused() {
             return Ok(());
         }
         numbers_change_reports_alone();
-        answer_end(&mut self.run, name, &mut self.report.fields)?;
-        push_ended(&mut self.text, &self.report.fields)
+        answer_end(&mut self.run, name, &mut self.fields)?;
+        push_ended(&mut self.text, &self.fields)
+    }
+
+    /// Whether a tag was refused, so that no other is answered.
+    #[inline(always)]
+    fn is_refused(&self) -> bool
+        ensures { result ≡ has_ended self.now.answering }
+    {
+        matches!(self.answering, Answering::Refused)
     }
 
     /// What is written, and how the run ends.
@@ -242,46 +228,47 @@ impl ScriptRun {
             ≡ record { text = result.0.items; status = result.1 }) }
     {
         numbers_change_reports_alone();
-        let ScriptRun {
-            run,
-            limiter: _,
-            shows_tries: _,
-            explained: _,
-            around: _,
-            reasons: _,
-            text,
-            refused,
-            outlines: _,
-            report: _,
-        } = self;
-        run.discard();
-        let status = if refused {
+        let status = if self.is_refused() {
             Status::Refused
         } else {
             Status::Good
         };
+        let ScriptRun {
+            run,
+            limiter: _,
+            shows_tries: _,
+            answering: _,
+            text,
+            outlines: _,
+            fields: _,
+        } = self;
+        run.discard();
         (text, status)
     }
 }
 
-/// A run over selectors or, if reasons are shown, over those of these lines, and what explains its reports.
+/// A run over selectors or, if reasons are shown, over those of these lines, and how its tags are answered.
 fn new_run(
     alloc: Global,
     ast: Ast,
     selects: &SelectLines,
     explains: bool,
     esi: bool,
-) -> Result<(EventRun, Option<Explained>), AllocError>
-    ensures plain { explains ≡ false → IfOk result (λ made. (made.1 ≡ None) × IsNewRun (selectors ast) esi made.0) }
-    ensures explained { explains ≡ true → IfOk result (λ made. IfSomeIs made.1 (λ explained.
+) -> Result<(EventRun, Answering), AllocError>
+    ensures plain { explains ≡ false
+        → IfOk result (λ made. (made.1 ≡ Plain) × IsNewRun (selectors ast) esi made.0) }
+    ensures explained { explains ≡ true → IfOk result (λ made. IfExplained made.1 (λ explained.
         (s : scripts.Script) → KeepsLines selects.now s.selects
         → (numbered : Selectors) × Explains explained s numbered × IsNewRun numbered esi made.0)) }
 {
     if explains {
         let (run, explained) = explained_run(alloc, selects, esi)?;
-        return Ok((run, Some(explained)));
+        return Ok((run, Answering::WithReasons(explained)));
     }
-    Ok((EventRun::new(alloc, ast, ITEM_BYTES, esi)?, None))
+    Ok((
+        EventRun::new(alloc, ast, ITEM_BYTES, esi)?,
+        Answering::Plain,
+    ))
 }
 
 /// A run over the selectors of these lines, and what explains its reports.
@@ -304,34 +291,28 @@ fn explained_run(
     }
 }
 
-/// Answers a start tag with what it is reported under. The items have the same, if they are open and had nothing.
+/// Answers a start tag with what it is reported under.
 fn answer_start(
     run: &mut EventRun,
     line: StartLine<'_>,
     outlines: &AttributeBuffer,
     limiter: &mut SharedMemoryLimiter,
-    report: &mut Report,
+    matched: &mut FieldList,
 ) -> Result<Option<bool>, RunCause>
     requires { AreOutlinesOf line.attributes outlines.now.items }
     ensures goes { IfOk result (λ taken. ForRunOfEvents run.old limiter.old (λ s esi item_bytes before events.
-        IsStarted s esi item_bytes before run.new events (start_tag_of line.entry) limiter.new taken
-        report.new.fields)) }
-    ensures items { IfOk result (λ taken. ForRunOfEvents run.old limiter.old (λ s esi item_bytes before events.
-        report.old.items.infos.items ≡ []
-        → IsListed s esi item_bytes before run.new events (start_tag_of line.entry) limiter.new taken
-        report.new.items)) }
+        IsStarted s esi item_bytes before run.new events (start_tag_of line.entry) limiter.new taken matched.new)) }
     ensures refused { IfErr result (λ cause. cause ≢ RunCause.Memory
         → ForRunOfEvents run.old limiter.old (λ s esi item_bytes before events.
         (later : List Event) → StopsFor cause (length events)
         (refused s esi (allowance_of item_bytes before) (events ++ Start (start_tag_of line.entry) ∷ later)))) }
 {
-    report.fields.clear();
+    matched.clear();
     let rest = handed_over(line, outlines);
     let mut handler = |info: MatchInfo|
-        ensures field { AddsField (shown_match (match_of info)) report.entry.now.fields report.exit.now.fields }
-        ensures item { AddsInfo info report.entry.now.items report.exit.now.items }
+        ensures { AddsField (match_field (match_of info)) matched.entry.now matched.exit.now }
     {
-        report.add(info);
+        matched.add_match(info);
     };
     run.start(
         LocalName::new(line.name),
@@ -349,7 +330,7 @@ fn answer_end(run: &mut EventRun, name: &[u8], closed: &mut FieldList) -> Result
 {
     closed.clear();
     let mut handler = |element: ElementValue<usize>|
-        ensures { AddsField (decimal element.value) closed.entry.now closed.exit.now }
+        ensures { AddsField (number_field element.value) closed.entry.now closed.exit.now }
     {
         closed.add_number(element.value);
     };

@@ -8,11 +8,11 @@ use Rattle.lol_vm.specs.Vms.{Vm, stack_in}
 use Rattle.lol_script.proofs.ListedFields.{map_through}
 use Rattle.lol_script.proofs.explained.Explained.look_around.Goals as goal
 
-pub returns : goal.returns
-returns c =
+pub returns-clause-ready : goal.returns-clause-ready
+returns-clause-ready c =
     let items : List (StackItemOf Name StartedElement) = items_in (stack_in (machine_of c.args.run.now)) in
     let seen = ap (λ (vm : Vm StartedElement). items_in (stack_in vm)) c.machine.ensures in
-    let around : c.in_ok-around.field-0.items ≡ map (λ (x : StartedElement). x.value) (map (λ (item : StackItemOf Name StartedElement). item.element_data) items) =
-    c.in_ok-around.ensures ∙ (ap (map (λ (item : StackItemOf Name StartedElement). item.element_data.value)) (c.open_items.ensures ∙ seen)
+    let around : c.in_ok-self.field-0.items ≡ map (λ (x : StartedElement). x.value) (map (λ (item : StackItemOf Name StartedElement). item.element_data) items) =
+    c.in_ok-self.ensures ∙ (ap (map (λ (item : StackItemOf Name StartedElement). item.element_data.value)) (c.open_items.ensures ∙ seen)
     ∙ map_through (λ (x : StartedElement). x.value) (λ (item : StackItemOf Name StartedElement). item.element_data) items) in
-    (around, c.open.ensures)
+    around

@@ -1,7 +1,6 @@
-use Rattle.std.proofs.Common.{◌≡◌, ◌++◌, ◌∷◌, [], List, ℕ, length, map, nat_lt, sym, ap, ◌∙◌, subst, arith}
+use Rattle.std.proofs.Common.{rules, ◌≡◌, ◌++◌, ◌∷◌, [], List, ℕ, length, map, nat_lt, reverse, sym, ap, ◌∙◌, subst, arith}
 use Rattle.std.proofs.lemmas.List.{length-append, length-map, length-reverse}
 use Rattle.lol_base.specs.Ascending.{ascending_once}
-use Rattle.lol_memory.specs.declared.match_info.MatchInfo.{MatchInfo}
 use Rattle.lol_program.specs.Paths.{Path}
 use Rattle.lol_program.specs.Sets.{SameMembers}
 use Rattle.lol_reasons.specs.Explanations as explanations
@@ -14,7 +13,7 @@ use Rattle.lol_vm.specs.Events.{Start, has_content}
 use Rattle.lol_vm.specs.EventRuns.{machine_of}
 use Rattle.lol_vm.specs.Follows.{StartedElement}
 use Rattle.lol_vm.specs.Laws.{ids_of}
-use Rattle.lol_vm.specs.Views.{match_of}
+use Rattle.lol_script.specs.FieldLists.{match_field, number_in}
 use Rattle.lol_vm.specs.Vms.{Stands, Vm, data_in}
 use Rattle.lol_script.specs.Explaining.{reported_ids, selectors_in}
 use Rattle.lol_script.specs.Output.{comma_list, shown_match}
@@ -34,17 +33,18 @@ returns-clause-told c = λ s numbered tag now explains inside.
     let number : c.saturating_sub-number.result ≡ e.number = omega (arith, c.saturating_sub-number.ensures, c.events.ensures, run.counted, length-append s.events (Start tag ∷ []), counted) in
     let explained = c.in_ok-reasons.ensures (texts_in s) numbered s.esi s.events tag explains.known explains.items (record {
       stands = subst (λ (vm : Vm StartedElement). Stands numbered s.esi vm (s.events ++ Start tag ∷ [])) (sym c.machine.ensures) run.follows.stands;
-      ids_are = c.deref-2.ensures.value ∙ (c.in_ok-ids.ensures ∙ (ap (map (λ (info : MatchInfo). info.match_id)) c.deref.ensures.value ∙ map_through (λ (m : Match). m.id) match_of c.args.items.now.infos.items ∙ ap ids_of inside.reported));
+      ids_are = c.deref.ensures.value ∙ (c.in_ok-items.ensures.ids ∙ (ap (map number_in) inside.reported ∙ sym (map_through number_in match_field (report numbered s.esi e outer))));
       number_is = number;
-      numbers_are = inside.numbers;
+      numbers_are = inside.numbers ∙ ap reverse (sym c.deref-2.ensures.value);
     }) in
-    let around : length outer ≡ length c.args.around.now = sym (length-map outer (λ e. e.number)) ∙ (ap length inside.numbers ∙ length-reverse c.args.around.now) in
+    let len : c.len.result ≡ length c.args.self.now.around.items = search rules in
+    let around : length outer ≡ c.len.result = sym (length-map outer (λ e. e.number)) ∙ (ap length inside.numbers ∙ (length-reverse c.args.self.now.around.items ∙ sym len)) in
     let kept = data_in (machine_of c.args.run.now) in
     let open_now = (document numbered s.esi (s.events ++ Start tag ∷ [])).open_elements in
     let wide : length open_now ≡ c.open_elements.result =
     sym (length-map open_now (λ e. e.number)) ∙ (sym (length-reverse (map (λ e. e.number) open_now)) ∙ (sym (ap length run.follows.numbers)
     ∙ (length-map kept (λ (x : StartedElement). x.value) ∙ (ap (λ (vm : Vm StartedElement). length (data_in vm)) (sym c.machine-2.ensures) ∙ sym c.open_elements.ensures)))) in
-    let content = nat_lt (length c.args.around.now) c.open_elements.result in
+    let content = nat_lt c.len.result c.open_elements.result in
     let has : content ≡ has_content s.esi tag = more_open numbered s.esi s.events tag _ _ inside.undropped around wide in
     let told = c.in_ok-reasons.reasons.items in
     let pairs : pairs_added added ≡ pairs_in s = c.texts_add_pairs.ensures (texts_in s) in
