@@ -5,6 +5,7 @@ use Rattle.std.specs.Prelude.{codes, if◌then◌else◌}
 use Rattle.std.proofs.lemmas.List.{append_assoc, append-nil, reverse-reverse}
 use Rattle.lol_base.specs.StartTags.{StartTag}
 use Rattle.lol_instructions.specs.Tries.{attributes_counted, names_counted}
+use Rattle.lol_instructions.specs.declared.tries.Tries.{Tries}
 use Rattle.lol_memory.specs.Limiter.{Limiter}
 use Rattle.lol_program.specs.Paths.{Selectors}
 use Rattle.lol_reasons.specs.Explanations as explanations
@@ -22,9 +23,9 @@ use Rattle.lol_vm.specs.Follows.{StartedElement}
 use Rattle.lol_vm.specs.Vms.{Vm, tries_in}
 use Rattle.lol_vm.specs.declared.event_run.EventRun.{EventRun}
 use Rattle.lol_vm.specs.declared.events.RunCause.{RunCause}
-use Rattle.lol_script.specs.Answering.{Answers, HasRun, IsCauseOf, IsMadeReady, IsPushed, IsStarted, IsWritten, has_ended}
-use Rattle.lol_script.specs.Explaining.{Explains, IsAnsweredBy, IsDroppedIn, IsReady, IsRunThrough, limiter_of, lines_by, selectors_in, with_reasons}
-use Rattle.lol_script.specs.FieldLists.{list_text, match_field, started_by}
+use Rattle.lol_script.specs.Answering.{Answers, AreTold, HasRun, IsCauseOf, IsMadeReady, IsPushed, IsStarted, IsWritten, has_ended, lines_told}
+use Rattle.lol_script.specs.Explaining.{Explains, IsAnsweredBy, IsDroppedIn, IsReady, IsRunThrough, Tells, limiter_of, lines_by, selectors_in, with_reasons}
+use Rattle.lol_script.specs.FieldLists.{list_text, match_field, started_by, started_text, tries_shown}
 use Rattle.lol_script.specs.Output.{comma_list, lines_of, shown_answer, shown_match, shown_reason, tries_field}
 use Rattle.lol_script.specs.Scripts.{Script, line_number, reason_lines, shown_cause, text_for, texts_in, with_event}
 use Rattle.lol_script.specs.declared.explained.Explained.{Explained}
@@ -111,6 +112,45 @@ made_ready code ready s run kept made =
         ready_as new (WithReasons (record x { around = around })) made.1.1
         ((has.0, has.1, (has.2.0, still_explains x around s has.2.0 has.2.1, has.2.2)), h.1) refl made.1.2
 
+-- what was written for a start tag: its line, and after it those of its reasons, if they were found
+pub pushed_from : (asked : Bool) (old found pushed : ScriptRun) (tries : Option Tries) → tries_shown tries ≡ tries_field old.shows_tries (names_counted (tries_in (machine_of old.run))) (attributes_counted (tries_in (machine_of old.run)))
+    → found ≡ record old { fields = found.fields; reasons = found.reasons } → AreTold old.answering old found → found.fields.refused ≡ false
+    → (text : List ℕ) → text ≡ found.text.items ++ (started_text (list_text found.fields) asked tries ++ 10 ∷ [])
+    → pushed.fields ≡ found.fields → pushed.text.items ≡ text ++ lines_of (lines_told found.answering found.reasons.items) → IsPushed asked old.answering old pushed
+pushed_from asked old found pushed tries shown kept told has text line fields lines =
+    by_answering old.answering told (lines ∙ (ap (λ (t : List ℕ). t ++ lines_of (lines_told found.answering found.reasons.items)) line
+    ∙ (λ i. (before i ++ (line_is i ++ 10 ∷ [])) ++ lines_of (lines_told (same i) found.reasons.items))))
+  where
+    before : found.text.items ≡ old.text.items
+    before = ap (λ (r : ScriptRun). r.text.items) kept
+
+    same : found.answering ≡ old.answering
+    same = ap (λ (r : ScriptRun). r.answering) kept
+
+    shown_as : FieldList → List ℕ
+    shown_as list = started_by (list_text list) asked old.shows_tries (tries_in (machine_of old.run))
+
+    line_is : started_text (list_text found.fields) asked tries ≡ shown_as found.fields
+    line_is = ap (λ (t : List ℕ). codes "start" ++ (9 ∷ list_text found.fields ++ ((if asked then 9 ∷ codes "asked" else []) ++ t))) shown
+
+    by_answering : (a : Answering) → AreTold a old found
+        → pushed.text.items ≡ (old.text.items ++ (shown_as found.fields ++ 10 ∷ [])) ++ lines_of (lines_told a found.reasons.items) → IsPushed asked a old pushed
+    by_answering Refused tells written = tt
+    by_answering Plain tells written = record {
+      listed = ap (λ (l : FieldList). l.refused) (sym tells) ∙ has;
+      written = written ∙ (append-nil (old.text.items ++ (shown_as found.fields ++ 10 ∷ [])) ∙ ap (λ (l : FieldList). old.text.items ++ (shown_as l ++ 10 ∷ [])) tells);
+    }
+    by_answering (WithReasons x) tells written =
+        let told = found.reasons.items in
+        record {
+          told = told;
+          listed = tells.0;
+          shown = ap (λ (l : FieldList). l.refused) fields ∙ has;
+          tells = subst (λ (l : FieldList). Tells x old.run old.fields l told) (sym fields) tells.1;
+          written = written ∙ (append_assoc old.text.items (shown_as found.fields ++ 10 ∷ []) (lines_of (lines_by x (map reason_shown told)))
+              ∙ ap (λ (l : FieldList). old.text.items ++ with_reasons x (shown_as l) told) (sym fields));
+        }
+
 -- after a refusal a tag changes nothing
 pub stays_ended : (code later : ScriptRun) (s : Script) (event : Event) → Answers code s → later ≡ record code { answering = later.answering }
     → IsMadeReady false (machine_of code.run) code.answering later.answering → Answers later (with_event s event)
@@ -133,22 +173,22 @@ module _ (law : NodesDecideTheRest) (ready : ScriptRun) (s : Script) (tag : Star
   abbrev IsOneMore : ScriptRun → Answering → Type 0
   IsOneMore later a = HasRun run.selectors (with_event s (Start tag)) later a × (later.text.items ≡ ready.text.items ++ text_by run.selectors)
 
-  abbrev after_tag : EventRun → Limiter → FieldList → Vec ℕ → ScriptRun
-  after_tag r l fields text = record ready { run = r; limiter = l; fields = fields; text = text }
+  abbrev after_tag : EventRun → Limiter → FieldList → Vec Reason → Vec ℕ → ScriptRun
+  after_tag r l fields reasons text = record ready { run = r; limiter = l; fields = fields; reasons = reasons; text = text }
 
-  one_more : (r : EventRun) (l : Limiter) (fields : FieldList) (text : Vec ℕ)
-      → ((a : Answering) → ready.answering ≡ a → HasRun run.selectors s ready a → IsOneMore (after_tag r l fields text) a)
-      → Answers (after_tag r l fields text) (with_event s (Start tag))
-  one_more r l fields text goes = answered_more ready (after_tag r l fields text) s run going going refl (Start tag) (goes ready.answering refl)
+  one_more : (r : EventRun) (l : Limiter) (fields : FieldList) (reasons : Vec Reason) (text : Vec ℕ)
+      → ((a : Answering) → ready.answering ≡ a → HasRun run.selectors s ready a → IsOneMore (after_tag r l fields reasons text) a)
+      → Answers (after_tag r l fields reasons text) (with_event s (Start tag))
+  one_more r l fields reasons text goes = answered_more ready (after_tag r l fields reasons text) s run going going refl (Start tag) (goes ready.answering refl)
 
   -- it was dropped
-  pub dropped_more : (r : EventRun) (l : Limiter) (fields : FieldList) (text : Vec ℕ)
+  pub dropped_more : (r : EventRun) (l : Limiter) (fields : FieldList) (reasons : Vec Reason) (text : Vec ℕ)
       → ((selectors : Selectors) → IsRunThrough selectors s ready.run s.events ready.limiter
       → (Dropped ≡ answer selectors s.esi (document selectors s.esi s.events) (Start tag)) × IsRunThrough selectors s r (s.events ++ Start tag ∷ []) l)
-      → text.items ≡ ready.text.items ++ (codes "dropped" ++ 10 ∷ []) → Answers (after_tag r l fields text) (with_event s (Start tag))
-  dropped_more r l fields text goes written = one_more r l fields text by_answering
+      → text.items ≡ ready.text.items ++ (codes "dropped" ++ 10 ∷ []) → Answers (after_tag r l fields reasons text) (with_event s (Start tag))
+  dropped_more r l fields reasons text goes written = one_more r l fields reasons text by_answering
     where
-      by_answering : (a : Answering) → ready.answering ≡ a → HasRun run.selectors s ready a → IsOneMore (after_tag r l fields text) a
+      by_answering : (a : Answering) → ready.answering ≡ a → HasRun run.selectors s ready a → IsOneMore (after_tag r l fields reasons text) a
       by_answering Refused is h = absurd h
       by_answering Plain is h =
           let on = goes run.selectors h.1 in (
@@ -166,13 +206,13 @@ module _ (law : NodesDecideTheRest) (ready : ScriptRun) (s : Script) (tag : Star
           )
 
   -- it is reported, and its reasons are told if they are shown
-  pub told_more : (r : EventRun) (l : Limiter) (asked : Bool) (matched fields : FieldList) (text : Vec ℕ) → KnowsAround (machine_of ready.run) ready.answering
+  pub told_more : (r : EventRun) (l : Limiter) (asked : Bool) (matched fields : FieldList) (reasons : Vec Reason) (text : Vec ℕ) → KnowsAround (machine_of ready.run) ready.answering
       → ((selectors : Selectors) → IsRunThrough selectors s ready.run s.events ready.limiter → IsStarted selectors s.esi 64 (limiter_of s) r s.events tag l (Some asked) matched)
-      → IsPushed asked ready.answering (record ready { run = r; limiter = l; fields = matched }) (after_tag r l fields text)
-      → Answers (after_tag r l fields text) (with_event s (Start tag))
-  told_more r l asked matched fields text knows starts pushed =
-      one_more r l fields text (λ a is. by_answering a (subst (KnowsAround (machine_of ready.run)) is knows)
-      (subst (λ (a : Answering). IsPushed asked a (record ready { run = r; limiter = l; fields = matched }) (after_tag r l fields text)) is pushed))
+      → IsPushed asked ready.answering (record ready { run = r; limiter = l; fields = matched }) (after_tag r l fields reasons text)
+      → Answers (after_tag r l fields reasons text) (with_event s (Start tag))
+  told_more r l asked matched fields reasons text knows starts pushed =
+      one_more r l fields reasons text (λ a is. by_answering a (subst (KnowsAround (machine_of ready.run)) is knows)
+      (subst (λ (a : Answering). IsPushed asked a (record ready { run = r; limiter = l; fields = matched }) (after_tag r l fields reasons text)) is pushed))
     where
       names : ℕ
       names = names_counted (tries_in (machine_of r))
@@ -180,8 +220,8 @@ module _ (law : NodesDecideTheRest) (ready : ScriptRun) (s : Script) (tag : Star
       attributes : ℕ
       attributes = attributes_counted (tries_in (machine_of r))
 
-      by_answering : (a : Answering) → KnowsAround (machine_of ready.run) a → IsPushed asked a (record ready { run = r; limiter = l; fields = matched }) (after_tag r l fields text)
-          → HasRun run.selectors s ready a → IsOneMore (after_tag r l fields text) a
+      by_answering : (a : Answering) → KnowsAround (machine_of ready.run) a → IsPushed asked a (record ready { run = r; limiter = l; fields = matched }) (after_tag r l fields reasons text)
+          → HasRun run.selectors s ready a → IsOneMore (after_tag r l fields reasons text) a
       by_answering Refused knows pushed h = absurd h
       by_answering Plain knows pushed h =
           let started = starts run.selectors h.1 in
@@ -213,12 +253,12 @@ module _ (law : NodesDecideTheRest) (ready : ScriptRun) (s : Script) (tag : Star
           )
 
   -- it was refused
-  pub refused_more : (r : EventRun) (l : Limiter) (fields : FieldList) (text : Vec ℕ) (cause : RunCause) (of : Cause) → IsCauseOf cause of
+  pub refused_more : (r : EventRun) (l : Limiter) (fields : FieldList) (reasons : Vec Reason) (text : Vec ℕ) (cause : RunCause) (of : Cause) → IsCauseOf cause of
       → ((selectors : Selectors) → IsRunThrough selectors s ready.run s.events ready.limiter → (rest : List Event)
       → StopsFor cause (length s.events) (refused selectors s.esi (allowance_of 64 (limiter_of s)) (s.events ++ Start tag ∷ rest)))
-      → text.items ≡ ready.text.items ++ lines_of (shown_cause of ∷ []) → Answers (record (after_tag r l fields text) { answering = Refused }) (with_event s (Start tag))
-  refused_more r l fields text cause of is stops written =
-      refused_ends ready (record (after_tag r l fields text) { answering = Refused }) s run going refl refl (Start tag) of (by_answering ready.answering) written
+      → text.items ≡ ready.text.items ++ lines_of (shown_cause of ∷ []) → Answers (record (after_tag r l fields reasons text) { answering = Refused }) (with_event s (Start tag))
+  refused_more r l fields reasons text cause of is stops written =
+      refused_ends ready (record (after_tag r l fields reasons text) { answering = Refused }) s run going refl refl (Start tag) of (by_answering ready.answering) written
     where
       by_answering : (a : Answering) → HasRun run.selectors s ready a → (rest : List Event)
           → refused run.selectors s.esi (allowance_of 64 (limiter_of s)) (s.events ++ Start tag ∷ rest) ≡ Some (length s.events, of)

@@ -4,6 +4,7 @@ use Rattle.std.specs.Global.{Vec}
 use Rattle.std.specs.List.{concat}
 use Rattle.lol_base.specs.CodePoints.{line_feed}
 use Rattle.lol_base.specs.StartTags.{StartTag}
+use Rattle.lol_reasons.specs.Numbered.{reason_shown}
 use Rattle.lol_reasons.specs.declared.explainer.Reason.{Reason}
 use Rattle.lol_memory.specs.Limiter.{Limiter}
 use Rattle.lol_memory.specs.declared.match_info.MatchInfo.{MatchInfo}
@@ -21,7 +22,7 @@ use Rattle.lol_vm.specs.declared.event_run.EventRun.{EventRun}
 use Rattle.lol_vm.specs.declared.events.RunCause.{RunCause}
 use Rattle.lol_vm.specs.declared.events.RunCause.TheVariants.{MemoryLimitExceeded, CounterFull, Memory}
 use Rattle.lol_script.specs.Devices.{ReadsToEnd}
-use Rattle.lol_script.specs.Explaining.{Explains, IsReady, IsRunThrough, Tells, limiter_of, selectors_in, with_reasons}
+use Rattle.lol_script.specs.Explaining.{Explains, IsReady, IsRunThrough, Tells, limiter_of, lines_by, selectors_in, with_reasons}
 use Rattle.lol_script.specs.FieldLists.{fields_in, list_text, match_field, started_by}
 use Rattle.lol_script.specs.Output.{comma_list, lines_of}
 use Rattle.lol_script.specs.ReadLines.{ReadLines}
@@ -128,6 +129,18 @@ abbrev pub IsPushed : Bool → Answering → ScriptRun → ScriptRun → Type 0
 IsPushed asked Plain old new = IsLineWritten asked old new
 IsPushed asked (WithReasons explained) old new = AreReasonsWritten asked explained old new
 IsPushed asked Refused old new = Unit {0}
+
+-- The reasons for the last start tag were found, if they are shown: then the list of fields has their ids.
+abbrev pub AreTold : Answering → ScriptRun → ScriptRun → Type 0
+AreTold Plain old new = new.fields ≡ old.fields
+AreTold (WithReasons explained) old new = (old.fields.refused ≡ false) × Tells explained old.run old.fields new.fields new.reasons.items
+AreTold Refused old new = Unit {0}
+
+-- the lines that are written for reasons, if they are shown
+abbrev pub lines_told : Answering → List Reason → List (List ℕ)
+lines_told Plain told = []
+lines_told (WithReasons explained) told = lines_by explained (map reason_shown told)
+lines_told Refused told = []
 
 -- 4. All tags
 

@@ -1,23 +1,22 @@
 //! Start tags that are answered with their reasons.
 
-ghost use Rattle.std.specs.Prelude.{◌≡◌, ◌∷◌, ◌++◌, [], false, List, IfOk, OnOk, map};
+ghost use Rattle.std.specs.Prelude.{◌≡◌, ◌++◌, false, IfOk, OnOk, map};
 ghost use Rattle.lol_memory.specs.Ids.{ascending};
 ghost use Rattle.lol_reasons.specs.Numbered.{reason_shown};
-ghost use Rattle.lol_reasons.specs.declared.explainer.Reason.{Reason};
 ghost use Rattle.lol_program.specs.Paths.{Selectors};
 ghost use Rattle.lol_base.specs.Ascending.{ascending_once};
 ghost use Rattle.lol_vm.specs.EventRuns.{machine_of};
 ghost use Rattle.lol_vm.specs.Views.{selectors};
-ghost use Rattle.lol_script.specs.Explaining.{Explains, IsReady, Tells, lines_by, reported_ids, with_reasons};
-ghost use Rattle.lol_script.specs.FieldLists.{list_text, started_text};
+ghost use Rattle.lol_script.specs.Explaining.{Explains, IsReady, Tells, lines_by, reported_ids};
+ghost use Rattle.lol_script.specs.FieldLists.{list_text};
 ghost use Rattle.lol_script.specs.Output.{comma_list, lines_of, shown_match};
 ghost use Rattle.lol_script.specs.Scripts as scripts;
 ghost use Rattle.lol_script.specs.SelectLines.{KeepsLines};
 
-use crate::output::{FieldList, push_reason, push_started};
+use crate::output::{FieldList, push_reason};
 use crate::select_lines::SelectLines;
 use lol_reasons::{Explainer, Reason};
-use lol_vm::{Ast, DenseHashSet, ElementValue, EventRun, MatchId, MatchInfo, StackItem, Tries};
+use lol_vm::{Ast, DenseHashSet, ElementValue, EventRun, MatchId, MatchInfo, StackItem};
 use std::alloc::{AllocError, Global};
 
 /// What explains the reports of a machine in which each item of the selectors has an id of its own.
@@ -71,28 +70,21 @@ impl Explained {
         Ok(())
     }
 
-    /// Adds the line of the last start tag, of which the items that matched are given, and those of its reasons.
+    /// Finds the reasons for the last start tag, of which the items that matched are given: then the list has what it is reported under.
     #[inline(never)]
-    pub fn push_explained(
+    pub fn find_reasons(
         &self,
         run: &EventRun,
         fields: &mut FieldList,
-        asked: bool,
-        tries: Option<Tries>,
-        text: &mut Vec<u8>,
+        found: &mut Vec<Reason>,
     ) -> Result<(), AllocError>
-        ensures listed { OnOk result (fields.old.refused ≡ false) }
-        ensures told { OnOk result ((told : List Reason) × (fields.new.refused ≡ false)
-            × Tells self.now run.now fields.old fields.new told
-            × (text.new.items ≡ text.old.items
-            ++ with_reasons self.now (started_text (list_text fields.new) asked tries) told)) }
+        ensures { OnOk result ((fields.old.refused ≡ false)
+            × Tells self.now run.now fields.old fields.new found.new.items) }
     {
-        let reasons = self.reasons(run, fields)?;
-        push_started(text, fields, asked, tries)?;
-        self.push_reasons(text, &reasons)
+        *found = self.reasons(run, fields)?;
+        Ok(())
     }
 
-    /// The reasons for the last start tag, of which the items that matched are given: then the list has what it is reported under.
     fn reasons(&self, run: &EventRun, fields: &mut FieldList) -> Result<Vec<Reason>, AllocError>
         ensures listed { OnOk result (fields.old.refused ≡ false) }
         ensures told { IfOk result (λ told. Tells self.now run.now fields.old fields.new told.items) }
@@ -110,7 +102,8 @@ impl Explained {
     }
 
     /// Adds the lines of reasons.
-    fn push_reasons(&self, text: &mut Vec<u8>, reasons: &[Reason]) -> Result<(), AllocError>
+    #[inline(never)]
+    pub fn push_reasons(&self, text: &mut Vec<u8>, reasons: &[Reason]) -> Result<(), AllocError>
         ensures { OnOk result (text.new.items ≡ text.old.items
             ++ lines_of (lines_by self.now (map reason_shown reasons.now))) }
     {

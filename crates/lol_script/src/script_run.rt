@@ -10,7 +10,7 @@ ghost use Rattle.lol_vm.specs.Refusals.{Cause, refused};
 ghost use Rattle.lol_vm.specs.RunRefusals.{StopsFor, allowance_of};
 ghost use Rattle.lol_vm.specs.Views.{match_of, selectors};
 ghost use Rattle.lol_vm.specs.Vms.{tries_in};
-ghost use Rattle.lol_script.specs.Answering.{Answers, ForAnswers, HasTags, has_ended, IsCauseOf, IsEnded, IsMadeReady, IsPushed, IsStarted, IsTagIfFirst};
+ghost use Rattle.lol_script.specs.Answering.{Answers, AreTold, ForAnswers, HasTags, has_ended, IsCauseOf, IsEnded, IsMadeReady, IsPushed, IsStarted, IsTagIfFirst, lines_told};
 ghost use Rattle.lol_script.specs.Explaining.{Explains, IfExplained, IsNewRun};
 ghost use Rattle.lol_script.specs.FieldLists.{AddsField, match_field, number_field, tries_shown};
 ghost use Rattle.lol_script.specs.Lines.{AreOutlinesOf, start_tag_of};
@@ -29,6 +29,7 @@ use crate::program::Status;
 use crate::select_lines::SelectLines;
 use crate::settings::{Settings, Stop, malformed};
 use crate::tags::handed_over;
+use lol_reasons::Reason;
 use lol_reasons::laws::numbers_change_reports_alone;
 use lol_vm::{
     Ast, AttributeBuffer, ElementValue, EventRun, LocalName, MatchInfo, RunCause,
@@ -60,9 +61,10 @@ pub struct ScriptRun {
     /// What is written, the refusal too.
     text: Vec<u8>,
 
-    // What each tag needs: its attributes, and its ids or numbers.
+    // What each tag needs: its attributes, its ids or numbers, and its reasons.
     outlines: AttributeBuffer,
     fields: FieldList,
+    reasons: Vec<Reason>,
 }
 
 impl ScriptRun {
@@ -87,6 +89,7 @@ impl ScriptRun {
             text: Vec::new(alloc),
             outlines: AttributeBuffer::new(alloc),
             fields: FieldList::new(alloc),
+            reasons: Vec::new(alloc),
         })
     }
 
@@ -158,20 +161,38 @@ impl ScriptRun {
     /// Adds the line of a start tag that was reported, and those of its reasons, if they are shown.
     #[inline(always)]
     fn push_answer(&mut self, asked: bool) -> Result<(), AllocError>
-        ensures kept { self.new ≡ record self.old { text = self.new.text; fields = self.new.fields } }
+        ensures kept { self.new ≡ record self.old { text = self.new.text; fields = self.new.fields; reasons = self.new.reasons } }
         ensures text { OnOk result (IsPushed asked self.old.answering self.old self.new) }
     {
         let tries = self.shown_tries();
-        match &self.answering {
-            Answering::WithReasons(explained) => explained.push_explained(
-                &self.run,
-                &mut self.fields,
-                asked,
-                tries,
-                &mut self.text,
-            ),
-            _ => push_started(&mut self.text, &self.fields, asked, tries),
-        }
+        self.find_reasons()?;
+        push_started(&mut self.text, &self.fields, asked, tries)?;
+        self.push_reasons()
+    }
+
+    /// Finds the reasons for the last start tag, if they are shown. Then the list of fields has their ids.
+    #[inline(always)]
+    fn find_reasons(&mut self) -> Result<(), AllocError>
+        ensures kept { self.new ≡ record self.old { fields = self.new.fields; reasons = self.new.reasons } }
+        ensures told { OnOk result (AreTold self.old.answering self.old self.new) }
+    {
+        let Answering::WithReasons(explained) = &self.answering else {
+            return Ok(());
+        };
+        explained.find_reasons(&self.run, &mut self.fields, &mut self.reasons)
+    }
+
+    /// Adds the lines of the reasons, if they are shown.
+    #[inline(always)]
+    fn push_reasons(&mut self) -> Result<(), AllocError>
+        ensures kept { self.new ≡ record self.old { text = self.new.text } }
+        ensures text { OnOk result (self.new.text.items ≡ self.old.text.items
+            ++ lines_of (lines_told self.old.answering self.old.reasons.items)) }
+    {
+        let Answering::WithReasons(explained) = &self.answering else {
+            return Ok(());
+        };
+        explained.push_reasons(&mut self.text, &self.reasons)
     }
 
     /// What was tried for the last start tag, if tries are shown.
@@ -241,6 +262,7 @@ impl ScriptRun {
             text,
             outlines: _,
             fields: _,
+            reasons: _,
         } = self;
         run.discard();
         (text, status)

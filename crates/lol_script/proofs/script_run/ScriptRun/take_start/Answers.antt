@@ -18,7 +18,7 @@ returns-in-Ok-None c = on_ok_weaker c.push_line.result
     let going : c.in_ok-make_ready.field-0 ≡ true = search rules in
     let ready = made_ready c.args.self.now c.make_ready.new.self s answers c.make_ready.ensures.kept
     (subst (λ (b : Bool). IsMadeReady b (machine_of c.args.self.now.run) c.args.self.now.answering c.make_ready.new.self.answering) going c.in_ok-make_ready.ensures.ready) in
-    dropped_more c.numbers_change_reports_alone.ensures.alike c.make_ready.new.self s (start_tag_of c.args.line) ready.answers ready.going _ _ _ _
+    dropped_more c.numbers_change_reports_alone.ensures.alike c.make_ready.new.self s (start_tag_of c.args.line) ready.answers ready.going _ _ _ _ _
     (λ selectors runs.
     let taken = at_ok _ c.answer_start-answered.result None (let is : c.answer_start-answered.result ≡ Ok None = search rules in is) c.answer_start-answered.ensures.goes in
     let started = taken selectors s.esi 64 (limiter_of s) s.events runs in
@@ -36,7 +36,7 @@ returns-in-Ok-Some c = on_ok_weaker c.push_answer.result
     let after = c.answer_start-answered.new in
     let mid : ScriptRun = record c.make_ready.new.self { run = after.run; limiter = after.limiter; fields = after.matched } in
     subst (λ (later : ScriptRun). Answers later (with_event s (Start (start_tag_of c.args.line)))) (sym c.push_answer.ensures.kept)
-    (told_more c.numbers_change_reports_alone.ensures.alike c.make_ready.new.self s (start_tag_of c.args.line) ready.answers ready.going after.run after.limiter c.in-Ok-Some.asked after.matched c.push_answer.new.self.fields c.push_answer.new.self.text ready.knows
+    (told_more c.numbers_change_reports_alone.ensures.alike c.make_ready.new.self s (start_tag_of c.args.line) ready.answers ready.going after.run after.limiter c.in-Ok-Some.asked after.matched c.push_answer.new.self.fields c.push_answer.new.self.reasons c.push_answer.new.self.text ready.knows
     (λ selectors runs. at_ok _ c.answer_start-answered.result (Some c.in-Ok-Some.asked) is c.answer_start-answered.ensures.goes selectors s.esi 64 (limiter_of s) s.events runs)
     (subst (λ (later : ScriptRun). IsPushed c.in-Ok-Some.asked c.make_ready.new.self.answering mid later) c.push_answer.ensures.kept pushed)))
     c.push_answer.ensures.text
@@ -48,7 +48,7 @@ returns-in-Err c = on_ok_weaker c.refuse.result
     let ready = made_ready c.args.self.now c.make_ready.new.self s answers c.make_ready.ensures.kept
     (subst (λ (b : Bool). IsMadeReady b (machine_of c.args.self.now.run) c.args.self.now.answering c.make_ready.new.self.answering) going c.in_ok-make_ready.ensures.ready) in
     subst (λ (later : ScriptRun). Answers later (with_event s (Start (start_tag_of c.args.line)))) (sym c.refuse.ensures.kept)
-    (refused_more c.numbers_change_reports_alone.ensures.alike c.make_ready.new.self s (start_tag_of c.args.line) ready.answers ready.going _ _ _ _ c.in-Err.cause text.0 text.1
+    (refused_more c.numbers_change_reports_alone.ensures.alike c.make_ready.new.self s (start_tag_of c.args.line) ready.answers ready.going _ _ _ _ _ c.in-Err.cause text.0 text.1
     (λ selectors runs rest.
     let stopped = at_err _ c.answer_start-answered.result c.in-Err.cause (let is : c.answer_start-answered.result ≡ Err c.in-Err.cause = search rules in is) c.answer_start-answered.ensures.refused in
     stopped (cause_is_no_memory c.in-Err.cause text.0 text.1) selectors s.esi 64 (limiter_of s) s.events runs rest)
