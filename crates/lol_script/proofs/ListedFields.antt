@@ -2,7 +2,7 @@
 use Rattle.std.proofs.Common.{◌≡◌, ℕ, false, List, [], ◌∷◌, ◌++◌, map, refl, sym, ap, ◌∙◌}
 use Rattle.std.specs.List.{flat_map}
 use Rattle.std.proofs.lemmas.List.{append-nil, map-append}
-use Rattle.lol_script.specs.FieldLists.{AddsField, IsEmptyList, fields_in, list_text, shown_field}
+use Rattle.lol_script.specs.FieldLists.{AddsField, IsEmptyList, fields_in, list_text, shown_field, was_refused}
 use Rattle.lol_script.specs.Output.{comma_list}
 use Rattle.lol_script.specs.declared.output.Field.{Field}
 use Rattle.lol_script.specs.declared.output.FieldList.{FieldList}
@@ -19,7 +19,7 @@ listed_is shown x (y ∷ ys) = ap (λ rest. shown x ++ 44 ∷ rest) (listed_is s
 module _ {A : Type 0} (field : A → Field) where
   -- The list has the fields of these, unless memory was refused.
   abbrev pub HasFields : List A → FieldList → Type 0
-  HasFields xs list = list.refused ≡ false → fields_in list ≡ map field xs
+  HasFields xs list = was_refused list ≡ false → fields_in list ≡ map field xs
 
   pub fields_none : (list : FieldList) → IsEmptyList list → HasFields [] list
   fields_none list none = λ unrefused. none.0

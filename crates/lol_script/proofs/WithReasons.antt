@@ -25,7 +25,7 @@ use Rattle.lol_vm.specs.declared.event_run.EventRun.{EventRun}
 use Rattle.lol_vm.specs.declared.events.RunCause.{RunCause}
 use Rattle.lol_script.specs.Answering.{Answers, AreTold, HasRun, IsCauseOf, IsMadeReady, IsPushed, IsStarted, IsWritten, has_ended, lines_told}
 use Rattle.lol_script.specs.Explaining.{Explains, IsAnsweredBy, IsDroppedIn, IsReady, IsRunThrough, Tells, limiter_of, lines_by, selectors_in, with_reasons}
-use Rattle.lol_script.specs.FieldLists.{list_text, match_field, started_by, started_text, tries_shown}
+use Rattle.lol_script.specs.FieldLists.{list_text, match_field, started_by, started_text, tries_shown, was_refused}
 use Rattle.lol_script.specs.Output.{comma_list, lines_of, shown_answer, shown_match, shown_reason, tries_field}
 use Rattle.lol_script.specs.Scripts.{Script, line_number, reason_lines, shown_cause, text_for, texts_in, with_event}
 use Rattle.lol_script.specs.declared.explained.Explained.{Explained}
@@ -52,7 +52,7 @@ dropped_text s tag told =
 
 -- what is written for one that is reported
 pub told_text : (x : Explained) (s : Script) (numbered : Selectors) (tag : StartTag) (run : EventRun) (asked shows_tries : Bool) (told : List Reason) (fields : FieldList) → Explains x s numbered → s.explains ≡ true → shows_tries ≡ s.shows_tries
-    → IsAnsweredBy s tag run asked told fields → fields.refused ≡ false
+    → IsAnsweredBy s tag run asked told fields → was_refused fields ≡ false
     → with_reasons x (started_by (list_text fields) asked shows_tries (tries_in (machine_of run))) told
     ≡ text_for (selectors_in s) s (document (selectors_in s) s.esi s.events) (Start tag)
 told_text x s numbered tag run asked shows_tries told fields explains shows tries is unrefused =
@@ -114,7 +114,7 @@ made_ready code ready s run kept made =
 
 -- what was written for a start tag: its line, and after it those of its reasons, if they were found
 pub pushed_from : (asked : Bool) (old found pushed : ScriptRun) (tries : Option Tries) → tries_shown tries ≡ tries_field old.shows_tries (names_counted (tries_in (machine_of old.run))) (attributes_counted (tries_in (machine_of old.run)))
-    → found ≡ record old { fields = found.fields; reasons = found.reasons } → AreTold old.answering old found → found.fields.refused ≡ false
+    → found ≡ record old { fields = found.fields; reasons = found.reasons } → AreTold old.answering old found → was_refused found.fields ≡ false
     → (text : List ℕ) → text ≡ found.text.items ++ (started_text (list_text found.fields) asked tries ++ 10 ∷ [])
     → pushed.fields ≡ found.fields → pushed.text.items ≡ text ++ lines_of (lines_told found.answering found.reasons.items) → IsPushed asked old.answering old pushed
 pushed_from asked old found pushed tries shown kept told has text line fields lines =
@@ -137,7 +137,7 @@ pushed_from asked old found pushed tries shown kept told has text line fields li
         → pushed.text.items ≡ (old.text.items ++ (shown_as found.fields ++ 10 ∷ [])) ++ lines_of (lines_told a found.reasons.items) → IsPushed asked a old pushed
     by_answering Refused tells written = tt
     by_answering Plain tells written = record {
-      listed = ap (λ (l : FieldList). l.refused) (sym tells) ∙ has;
+      listed = ap was_refused (sym tells) ∙ has;
       written = written ∙ (append-nil (old.text.items ++ (shown_as found.fields ++ 10 ∷ [])) ∙ ap (λ (l : FieldList). old.text.items ++ (shown_as l ++ 10 ∷ [])) tells);
     }
     by_answering (WithReasons x) tells written =
@@ -145,7 +145,7 @@ pushed_from asked old found pushed tries shown kept told has text line fields li
         record {
           told = told;
           listed = tells.0;
-          shown = ap (λ (l : FieldList). l.refused) fields ∙ has;
+          shown = ap was_refused fields ∙ has;
           tells = subst (λ (l : FieldList). Tells x old.run old.fields l told) (sym fields) tells.1;
           written = written ∙ (append_assoc old.text.items (shown_as found.fields ++ 10 ∷ []) (lines_of (lines_by x (map reason_shown told)))
               ∙ ap (λ (l : FieldList). old.text.items ++ with_reasons x (shown_as l) told) (sym fields));

@@ -23,7 +23,7 @@ use Rattle.lol_vm.specs.declared.events.RunCause.{RunCause}
 use Rattle.lol_vm.specs.declared.events.RunCause.TheVariants.{MemoryLimitExceeded, CounterFull, Memory}
 use Rattle.lol_script.specs.Devices.{ReadsToEnd}
 use Rattle.lol_script.specs.Explaining.{Explains, IsReady, IsRunThrough, Tells, limiter_of, lines_by, selectors_in, with_reasons}
-use Rattle.lol_script.specs.FieldLists.{fields_in, list_text, match_field, started_by}
+use Rattle.lol_script.specs.FieldLists.{fields_in, list_text, match_field, started_by, was_refused}
 use Rattle.lol_script.specs.Output.{comma_list, lines_of}
 use Rattle.lol_script.specs.ReadLines.{ReadLines}
 use Rattle.lol_script.specs.Readings.{IsReadTo, IsTagLine}
@@ -42,13 +42,13 @@ use Rattle.lol_script.specs.declared.script_run.ScriptRun.{ScriptRun}
 -- A start tag was answered; if memory wasn't refused for the list, it has what the tag is reported under.
 pub record IsStarted (s : Selectors) (esi : Bool) (item_bytes : ℕ) (before : Limiter) (run : EventRun) (events : List Event) (tag : StartTag) (now : Limiter) (taken : Option Bool) (matched : FieldList) : Type 0 where
   pub infos : List MatchInfo
-  pub listed : matched.refused ≡ false → fields_in matched ≡ map match_field (map match_of infos)
+  pub listed : was_refused matched ≡ false → fields_in matched ≡ map match_field (map match_of infos)
   pub answered : answer_taken taken infos (tries_in (machine_of run)) ≡ answer s esi (document s esi events) (Start tag)
   pub goes_on : IsRunOf s esi item_bytes before run (events ++ Start tag ∷ []) now
 
 -- An end tag was answered; if memory wasn't refused for the list, it says what the tag closes.
 pub record IsEnded (s : Selectors) (esi : Bool) (item_bytes : ℕ) (before : Limiter) (run : EventRun) (events : List Event) (name : List ℕ) (now : Limiter) (list : FieldList) : Type 0 where
-  pub listed : list.refused ≡ false → list_text list ≡ comma_list (map decimal (closed name (document s esi events)))
+  pub listed : was_refused list ≡ false → list_text list ≡ comma_list (map decimal (closed name (document s esi events)))
   pub goes_on : IsRunOf s esi item_bytes before run (events ++ End name ∷ []) now
 
 -- the cause of a refusal that isn't want of memory
@@ -114,14 +114,14 @@ IsMadeReady going vm Refused new = (going ≡ false) × (new ≡ Refused)
 
 -- The line of a start tag was written, by what it was reported under.
 pub record IsLineWritten (asked : Bool) (old new : ScriptRun) : Type 0 where
-  pub listed : old.fields.refused ≡ false
+  pub listed : was_refused old.fields ≡ false
   pub written : new.text.items ≡ old.text.items ++ (started_by (list_text old.fields) asked old.shows_tries (tries_in (machine_of old.run)) ++ line_feed ∷ [])
 
 -- The line of a start tag was written, and those of its reasons.
 pub record AreReasonsWritten (asked : Bool) (explained : Explained) (old new : ScriptRun) : Type 0 where
   pub told : List Reason
-  pub listed : old.fields.refused ≡ false
-  pub shown : new.fields.refused ≡ false
+  pub listed : was_refused old.fields ≡ false
+  pub shown : was_refused new.fields ≡ false
   pub tells : Tells explained old.run old.fields new.fields told
   pub written : new.text.items ≡ old.text.items ++ with_reasons explained (started_by (list_text new.fields) asked old.shows_tries (tries_in (machine_of old.run))) told
 
@@ -133,7 +133,7 @@ IsPushed asked Refused old new = Unit {0}
 -- The reasons for the last start tag were found, if they are shown: then the list of fields has their ids.
 abbrev pub AreTold : Answering → ScriptRun → ScriptRun → Type 0
 AreTold Plain old new = new.fields ≡ old.fields
-AreTold (WithReasons explained) old new = (old.fields.refused ≡ false) × Tells explained old.run old.fields new.fields new.reasons.items
+AreTold (WithReasons explained) old new = (was_refused old.fields ≡ false) × Tells explained old.run old.fields new.fields new.reasons.items
 AreTold Refused old new = Unit {0}
 
 -- the lines that are written for reasons, if they are shown

@@ -20,7 +20,7 @@ use Rattle.lol_vm.specs.Events.{Event, Start}
 use Rattle.lol_vm.specs.Follows.{StartedElement}
 use Rattle.lol_vm.specs.Vms.{Vm, data_in, tries_in}
 use Rattle.lol_vm.specs.declared.event_run.EventRun.{EventRun}
-use Rattle.lol_script.specs.FieldLists.{fields_in, list_text, match_field}
+use Rattle.lol_script.specs.FieldLists.{fields_in, list_text, match_field, was_refused}
 use Rattle.lol_script.specs.Output.{comma_list, lines_of, shown_match, shown_reason}
 use Rattle.lol_script.specs.Scripts.{Script, pairs_in, texts_in}
 use Rattle.lol_script.specs.declared.explained.Explained.{Explained}
@@ -89,7 +89,7 @@ lines_by code reasons = map (λ reason. shown_reason (line_of code reason.text) 
 
 -- These are the reasons for an element of a script, and the list has what the element is reported under, unless memory was refused for it.
 pub record IsToldOf (s : Script) (e : Element) (outer : List Element) (told : List Reason) (fields : FieldList) : Type 0 where
-  pub listed : fields.refused ≡ false → list_text fields ≡ comma_list (map shown_match (report (selectors_in s) s.esi e outer))
+  pub listed : was_refused fields ≡ false → list_text fields ≡ comma_list (map shown_match (report (selectors_in s) s.esi e outer))
   pub explained : map reason_shown told ≡ reasons (added_by (texts_in s)) e outer
 
 -- After a start tag of which a machine reported these items, these are the reasons for its element.
@@ -106,7 +106,7 @@ with_reasons code line told = (line ++ line_feed ∷ []) ++ lines_of (lines_by c
 -- A start tag was answered: with what it is reported under, which the list has unless memory was refused for it, and why.
 pub record IsAnsweredBy (s : Script) (tag : StartTag) (run : EventRun) (asked : Bool) (told : List Reason) (fields : FieldList) : Type 0 where
   pub matched : List Match
-  pub listed : fields.refused ≡ false → list_text fields ≡ comma_list (map shown_match matched)
+  pub listed : was_refused fields ≡ false → list_text fields ≡ comma_list (map shown_match matched)
   pub answered : Started matched asked (names_counted (tries_in (machine_of run))) (attributes_counted (tries_in (machine_of run)))
       ≡ answer (selectors_in s) s.esi (document (selectors_in s) s.esi s.events) (Start tag)
   pub explained : map reason_shown told

@@ -7,6 +7,8 @@ use Rattle.lol_vm.specs.Answers.{Match}
 use Rattle.lol_script.specs.Output.{comma_list, tries_field}
 use Rattle.lol_script.specs.declared.output.Field.{Field}
 use Rattle.lol_script.specs.declared.output.FieldList.{FieldList}
+use Rattle.lol_script.specs.declared.output.Filling.{Filling}
+use Rattle.lol_script.specs.declared.output.Filling.TheVariants.{Empty, Listed, Refused}
 
 -- a field as it is written
 abbrev pub shown_field : Field → List ℕ
@@ -22,21 +24,31 @@ number_field number = record { number = number; with_content = true }
 abbrev pub number_in : Field → ℕ
 number_in field = field.number
 
-abbrev pub fields_from : Option Field → List Field → List Field
-fields_from None others = []
-fields_from (Some first) others = first ∷ others
+abbrev pub fields_from : Filling → Field → List Field → List Field
+fields_from Empty first others = []
+fields_from Listed first others = first ∷ others
+fields_from Refused first others = first ∷ others
 
 -- the fields that were added
 abbrev pub fields_in : FieldList → List Field
-fields_in list = fields_from list.first list.others.items
+fields_in list = fields_from list.filling list.first list.others.items
+
+abbrev pub refuses : Filling → Bool
+refuses Empty = false
+refuses Listed = false
+refuses Refused = true
+
+-- whether memory was refused for a field
+abbrev pub was_refused : FieldList → Bool
+was_refused list = refuses list.filling
 
 -- no field was added, and memory wasn't refused
 abbrev pub IsEmptyList : FieldList → Type 0
-IsEmptyList list = (fields_in list ≡ []) × (list.refused ≡ false)
+IsEmptyList list = (fields_in list ≡ []) × (was_refused list ≡ false)
 
 -- A field comes last, or memory was refused; after a refusal nothing is added.
 abbrev pub AddsField : Field → FieldList → FieldList → Type 0
-AddsField field old new = (new.refused ≡ false) → (old.refused ≡ false) × (fields_in new ≡ fields_in old ++ field ∷ [])
+AddsField field old new = (was_refused new ≡ false) → (was_refused old ≡ false) × (fields_in new ≡ fields_in old ++ field ∷ [])
 
 -- what stands for the list
 abbrev pub list_text : FieldList → List ℕ

@@ -8,7 +8,7 @@ ghost use Rattle.lol_base.specs.Ascending.{ascending_once};
 ghost use Rattle.lol_vm.specs.EventRuns.{machine_of};
 ghost use Rattle.lol_vm.specs.Views.{selectors};
 ghost use Rattle.lol_script.specs.Explaining.{Explains, IsReady, Tells, lines_by, reported_ids};
-ghost use Rattle.lol_script.specs.FieldLists.{list_text};
+ghost use Rattle.lol_script.specs.FieldLists.{list_text, was_refused};
 ghost use Rattle.lol_script.specs.Output.{comma_list, lines_of, shown_match};
 ghost use Rattle.lol_script.specs.Scripts as scripts;
 ghost use Rattle.lol_script.specs.SelectLines.{KeepsLines};
@@ -78,7 +78,7 @@ impl Explained {
         fields: &mut FieldList,
         found: &mut Vec<Reason>,
     ) -> Result<(), AllocError>
-        ensures { OnOk result ((fields.old.refused ≡ false)
+        ensures { OnOk result ((was_refused fields.old ≡ false)
             × Tells self.now run.now fields.old fields.new found.new.items) }
     {
         *found = self.reasons(run, fields)?;
@@ -86,7 +86,7 @@ impl Explained {
     }
 
     fn reasons(&self, run: &EventRun, fields: &mut FieldList) -> Result<Vec<Reason>, AllocError>
-        ensures listed { OnOk result (fields.old.refused ≡ false) }
+        ensures listed { OnOk result (was_refused fields.old ≡ false) }
         ensures told { IfOk result (λ told. Tells self.now run.now fields.old fields.new told.items) }
     {
         lol_reasons::laws::reasons_explain_reports();
@@ -136,7 +136,7 @@ fn list_ids(
     with_content: bool,
     fields: &mut FieldList,
 ) -> Result<(), AllocError>
-    ensures { OnOk result (fields.new.refused ≡ false → list_text fields.new ≡ comma_list
+    ensures { OnOk result (was_refused fields.new ≡ false → list_text fields.new ≡ comma_list
         (map (λ id. shown_match (record { id = id; with_content = with_content }))
         (ascending_once (reported_ids reasons.now)))) }
 {

@@ -1,14 +1,14 @@
 //! The lines of a run as they are written.
 
-ghost use Rattle.std.specs.Prelude.{◌≡◌, ◌∷◌, [], ◌++◌, ◌≤◌, IfOk, OnOk, decimal, flat_map, map, reverse, false, true};
+ghost use Rattle.std.specs.Prelude.{◌≡◌, ◌≢◌, ◌∷◌, [], ◌++◌, ◌≤◌, IfOk, OnOk, decimal, flat_map, map, reverse, false, true};
 ghost use Rattle.lol_base.specs.CodePoints.{line_feed};
 ghost use Rattle.lol_vm.specs.Views.{match_of};
 ghost use Rattle.lol_instructions.specs.Tries.{names_counted, attributes_counted};
 ghost use Rattle.lol_reasons.specs.Numbered.{reason_shown};
 ghost use Rattle.lol_script.specs.Output.{comma_list, shown_match, shown_reason, tries_field};
 ghost use Rattle.std.specs.Str.{byte};
-ghost use Rattle.std.specs.Option.{is_some};
-ghost use Rattle.lol_script.specs.FieldLists.{AddsField, IsEmptyList, ended_text, fields_in, list_text, match_field, number_field, number_in, shown_field, started_text};
+ghost use Rattle.lol_script.specs.FieldLists.{AddsField, IsEmptyList, ended_text, fields_in, list_text, match_field, number_field, number_in, shown_field, started_text, was_refused};
+ghost use Rattle.lol_script.specs.declared.output.Filling.TheVariants.{Empty};
 
 use itoa::Buffer;
 use lol_reasons::Reason;
@@ -22,15 +22,25 @@ pub struct Field {
     with_content: bool,
 }
 
+/// How far a list of fields has come.
+#[derive(Clone, Copy)]
+enum Filling {
+    Empty,
+    Listed,
+    /// Memory was refused for a field: then none is added any more.
+    Refused,
+}
+
 /// The fields of a list, as they come, up to the first that memory was refused for.
 #[derive(Drop)]
 pub struct FieldList {
-    /// The first field, which most lists end with.
-    first: Option<Field>,
+    filling: Filling,
 
-    /// The fields after the first, if there is one.
+    /// The first field, if there is one. Most lists end with it.
+    first: Field,
+
+    /// The fields after the first.
     others: Vec<Field>,
-    refused: bool,
 }
 
 impl FieldList {
@@ -39,9 +49,12 @@ impl FieldList {
         ensures { IsEmptyList result }
     {
         FieldList {
-            first: None,
+            filling: Filling::Empty,
+            first: Field {
+                number: 0,
+                with_content: true,
+            },
             others: Vec::new(alloc),
-            refused: false,
         }
     }
 
@@ -49,8 +62,7 @@ impl FieldList {
     pub fn clear(&mut self)
         ensures { IsEmptyList self.new }
     {
-        self.first = None;
-        self.refused = false;
+        self.filling = Filling::Empty;
     }
 
     /// Adds an id, with `/` after it where the element has no content.
@@ -79,9 +91,10 @@ impl FieldList {
     fn add(&mut self, field: Field)
         ensures { AddsField field self.old self.new }
     {
-        if self.first.is_none() {
+        if let Filling::Empty = self.filling {
             self.others.clear();
-            self.first = Some(field);
+            self.first = field;
+            self.filling = Filling::Listed;
         } else {
             self.add_other(field);
         }
@@ -89,27 +102,27 @@ impl FieldList {
 
     #[inline(never)]
     fn add_other(&mut self, field: Field)
-        requires { is_some self.old.first ≡ true }
+        requires { self.old.filling ≢ Empty }
         ensures { AddsField field self.old self.new }
     {
-        if !self.refused && self.others.push(field).is_err() {
-            self.refused = true;
+        if let Filling::Listed = self.filling
+            && self.others.push(field).is_err()
+        {
+            self.filling = Filling::Refused;
         }
     }
 
     /// The ids of a report's fields, unless memory was refused for them.
     pub fn ids(&self, alloc: Global) -> Result<Vec<MatchId>, AllocError>
-        ensures refused { OnOk result (self.now.refused ≡ false) }
+        ensures refused { OnOk result (was_refused self.now ≡ false) }
         ensures ids { IfOk result (λ ids. ids.items ≡ map number_in (fields_in self.now)) }
     {
         let mut ids = Vec::new(alloc);
-        if self.refused {
-            return Err(AllocError);
+        match self.filling {
+            Filling::Empty => return Ok(ids),
+            Filling::Listed => push_id(&mut ids, self.first)?,
+            Filling::Refused => return Err(AllocError),
         }
-        let Some(first) = self.first else {
-            return Ok(ids);
-        };
-        push_id(&mut ids, first)?;
         for field in &self.others {
             push_id(&mut ids, *field)?;
         }
@@ -119,17 +132,17 @@ impl FieldList {
     /// Appends the fields, separated by commas, or `-` where there are none, unless memory was refused for them.
     #[inline(always)]
     pub fn append_to(&self, text: &mut Vec<u8>) -> Result<(), AllocError>
-        ensures refused { OnOk result (self.now.refused ≡ false) }
+        ensures refused { OnOk result (was_refused self.now ≡ false) }
         ensures appended { OnOk result (text.new.items ≡ text.old.items ++ list_text self.now) }
     {
-        if self.refused {
-            return Err(AllocError);
+        match self.filling {
+            Filling::Empty => {
+                text.push(b'-')?;
+                return Ok(());
+            }
+            Filling::Listed => push_field(text, self.first)?,
+            Filling::Refused => return Err(AllocError),
         }
-        let Some(first) = self.first else {
-            text.push(b'-')?;
-            return Ok(());
-        };
-        push_field(text, first)?;
         if self.others.is_empty() {
             return Ok(());
         }
@@ -227,7 +240,7 @@ pub fn push_started(
     asked: bool,
     tries: Option<Tries>,
 ) -> Result<(), AllocError>
-    ensures { OnOk result ((matched.now.refused ≡ false) × (text.new.items
+    ensures { OnOk result ((was_refused matched.now ≡ false) × (text.new.items
         ≡ text.old.items ++ (started_text (list_text matched.now) asked tries ++ line_feed ∷ []))) }
 {
     text.extend_from_slice(b"start\t")?;
@@ -278,7 +291,7 @@ fn push_outermost_first(text: &mut Vec<u8>, witness: &[usize]) -> Result<(), All
 
 /// Adds the line of an end tag that closed these.
 pub fn push_ended(text: &mut Vec<u8>, closed: &FieldList) -> Result<(), AllocError>
-    ensures { OnOk result ((closed.now.refused ≡ false) × (text.new.items
+    ensures { OnOk result ((was_refused closed.now ≡ false) × (text.new.items
         ≡ text.old.items ++ (ended_text (list_text closed.now) ++ line_feed ∷ []))) }
 {
     text.extend_from_slice(b"end\t")?;

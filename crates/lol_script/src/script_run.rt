@@ -164,8 +164,8 @@ impl ScriptRun {
         ensures kept { self.new ≡ record self.old { text = self.new.text; fields = self.new.fields; reasons = self.new.reasons } }
         ensures text { OnOk result (IsPushed asked self.old.answering self.old self.new) }
     {
-        let tries = self.shown_tries();
         self.find_reasons()?;
+        let tries = self.shown_tries();
         push_started(&mut self.text, &self.fields, asked, tries)?;
         self.push_reasons()
     }
