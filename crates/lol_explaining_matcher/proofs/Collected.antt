@@ -1,9 +1,12 @@
 -- Reports under the ids of texts.
-use Rattle.std.proofs.Common.{◌≡◌, ℕ, zero, suc, ◌+◌, Bool, true, false, cond, List, [], ◌∷◌, ◌++◌, map, Option, Some, None, Contains, refl, sym, ap, ◌∙◌, subst, arith, inl, inr, ⊎_elim, append-nil}
+use Rattle.std.proofs.Common.{◌≡◌, ℕ, List, [], ◌∷◌, ◌++◌, map, Option, Some, None, Contains, refl, sym, ap, ◌∙◌, subst, inl, inr, ⊎_elim, append-nil}
+use Rattle.lol_base.specs.Ascending.{ascending_once}
 use Rattle.lol_base.specs.AscendingLaws.{ascending_is_determined, ascending_ascends, pairs_from_ascends, among_ascending, ascending_among}
-use Rattle.std.specs.Prelude.{is_some, slice_get}
+use Rattle.std.specs.Prelude.{filter_map, slice_get}
+use Rattle.std.specs.Iterator.{YieldsFirst, Yields}
 use Rattle.std.specs.List.{cons_option}
 use Rattle.std.specs.Option.{option_map}
+use Rattle.std.proofs.lemmas.Iterator.Consumers.{YieldsList-from_first, YieldsList-end}
 use Rattle.std.proofs.lemmas.List.{map-append}
 use Rattle.std.proofs.lemmas.List.Elements.{filter_map-append, Contains-append_left, Contains-append_right, Contains-append_cases}
 use Rattle.std.proofs.lemmas.List.Kept.{AllPairs-from_increasing}
@@ -14,18 +17,11 @@ use Rattle.lol_memory.specs.Ids.{Ids, ascending, no_ids, with_id}
 use Rattle.lol_memory.specs.declared.match_info.MatchInfo.{MatchInfo}
 use Rattle.lol_program.specs.IdSetLaws.{ascending-no_ids, with_id-IsWith}
 use Rattle.lol_program.specs.Paths.{Selectors}
-use Rattle.lol_program.specs.Programs.{IsAt}
-use Rattle.lol_base.specs.Ascending.{ascending_once}
 use Rattle.lol_vm.specs.Answers.{matching_ids}
-use Rattle.lol_vm.specs.Matching.{matches}
-use Rattle.lol_reasons.specs.Explanations.{Added, Reason, Text, added_by, reason_by, reasons}
+use Rattle.lol_reasons.specs.Explanations.{Reason, Text, added_by, reasons}
 use Rattle.lol_reasons.specs.Numbered.{HasItemsOf}
-use Rattle.lol_reasons.specs.ReasonLaws.{ids_of_reasons, place_of_added}
-use Rattle.lol_reasons.specs.Witnesses.{innermost_witness}
-use Rattle.lol_reasons.proofs.Climbing.{at_map}
-use Rattle.lol_reasons.proofs.Numbers.{matched_from}
-use Rattle.lol_reasons.proofs.Telling.{matched_are}
-use Rattle.lol_reasons.proofs.Witnesses.{innermost_where_matches}
+use Rattle.lol_reasons.specs.NumberingLaws.{NumbersNameWhatMatches}
+use Rattle.lol_reasons.specs.ReasonLaws.{EachHasOneReason, ids_of_reasons, place_of_added, place_of_reason}
 use Rattle.lol_explaining_matcher.specs.Explaining.{HasIds, ids_under, numbers_in}
 
 -- 1. Sets of ids
@@ -70,29 +66,32 @@ in_order set ids has =
 
 -- 2. The ids of the items that match are those of the reasons
 
-module _ (e : Element) (outer : List Element) where
-  ids_with : (a : Added) (o : Option (List ℕ)) (b : Bool) → is_some o ≡ b → (rest : List Reason) → ids_of_reasons (cons_option (option_map (reason_by a) o) rest) ≡ cond b (a.id ∷ ids_of_reasons rest) (ids_of_reasons rest)
-  ids_with a None true is rest = cc
-  ids_with a None false is rest = refl
-  ids_with a (Some w) true is rest = refl
-  ids_with a (Some w) false is rest = cc
+ids_named : (items : List (ℕ × ℕ × ℕ)) (numbers : List ℕ) → ids_under items numbers ≡ map (λ (item : ℕ × ℕ × ℕ). item.0) (filter_map (slice_get items) numbers)
+ids_named items [] = refl
+ids_named items (n ∷ numbers) = by_item (slice_get items n) (ids_named items numbers)
+  where
+    by_item : (o : Option (ℕ × ℕ × ℕ)) → ids_under items numbers ≡ map (λ (item : ℕ × ℕ × ℕ). item.0) (filter_map (slice_get items) numbers)
+        → cons_option (option_map (λ (item : ℕ × ℕ × ℕ). item.0) o) (ids_under items numbers)
+        ≡ map (λ (item : ℕ × ℕ × ℕ). item.0) (cons_option o (filter_map (slice_get items) numbers))
+    by_item None later = later
+    by_item (Some item) later = ap (λ ids. item.0 ∷ ids) later
 
-  ids_from : (items : List (ℕ × ℕ × ℕ)) (n : ℕ) (added : List Added) → ((place : ℕ) (a : Added) → IsAt added place a → slice_get items (n + place) ≡ Some (place_of_added a))
-      → ids_under items (matched_from e outer n added) ≡ ids_of_reasons (reasons added e outer)
-  ids_from items n [] at = refl
-  ids_from items n (a ∷ added) at =
-      by_test (matches a.path e outer) (ids_from items (n + 1) added (λ place b is. ap (slice_get items) (omega arith) ∙ at (suc place) b is))
-      ∙ sym (ids_with a (innermost_witness a.path e outer) (matches a.path e outer) (innermost_where_matches a.path e outer) (reasons added e outer))
-    where
-      first : slice_get items n ≡ Some (place_of_added a)
-      first = ap (slice_get items) (omega arith) ∙ at zero a refl
+ids_placed : (rs : List Reason) → map (λ (item : ℕ × ℕ × ℕ). item.0) (map place_of_reason rs) ≡ ids_of_reasons rs
+ids_placed [] = refl
+ids_placed (r ∷ rs) = ap (λ ids. r.id ∷ ids) (ids_placed rs)
 
-      by_test : (b : Bool) → ids_under items (matched_from e outer (n + 1) added) ≡ ids_of_reasons (reasons added e outer)
-          → ids_under items (cond b (n ∷ matched_from e outer (n + 1) added) (matched_from e outer (n + 1) added)) ≡ cond b (a.id ∷ ids_of_reasons (reasons added e outer)) (ids_of_reasons (reasons added e outer))
-      by_test true later = λ i. cons_option (option_map (λ (item : ℕ × ℕ × ℕ). item.0) (first i)) (later i)
-      by_test false later = later
+pub numbers_give_ids : NumbersNameWhatMatches → EachHasOneReason → (ts : List Text) (s : Selectors) → HasItemsOf ts s → (e : Element) (outer : List Element)
+    → ids_under (map place_of_added (added_by ts)) (matching_ids s.pairs e outer) ≡ ids_of_reasons (reasons (added_by ts) e outer)
+numbers_give_ids named one ts s has e outer =
+    ids_named (map place_of_added (added_by ts)) (matching_ids s.pairs e outer)
+    ∙ (ap (map (λ (item : ℕ × ℕ × ℕ). item.0)) (named ts s has e outer ∙ sym (one (added_by ts) e outer)) ∙ ids_placed (reasons (added_by ts) e outer))
 
-  pub numbers_give_ids : (ts : List Text) (s : Selectors) → HasItemsOf ts s → ids_under (map place_of_added (added_by ts)) (matching_ids s.pairs e outer) ≡ ids_of_reasons (reasons (added_by ts) e outer)
-  numbers_give_ids ts s has =
-      ap (ids_under (map place_of_added (added_by ts))) (matched_are ts s has e outer)
-      ∙ ids_from (map place_of_added (added_by ts)) 0 (added_by ts) (λ place a is. ap (slice_get (map place_of_added (added_by ts))) (omega arith) ∙ at_map place_of_added (added_by ts) place a is)
+-- 3. What the iterator of a set yields
+
+map_same : (xs : List ℕ) → map (λ x. x) xs ≡ xs
+map_same [] = refl
+map_same (x ∷ xs) = ap (λ rest. x ∷ rest) (map_same xs)
+
+pub all_yielded : (ids first yielded rest left : List ℕ) (r : Option ℕ) → first ≡ ids → Yields (YieldsFirst {A = ℕ} (λ rest. rest)) first yielded rest → r ≡ None → YieldsFirst {A = ℕ} (λ rest. rest) rest r left → yielded ≡ ids
+all_yielded ids first yielded rest left r is by item step =
+    sym (map_same yielded) ∙ (YieldsList-end (YieldsList-from_first {A = ℕ} (λ x. x) (λ rest. rest) ids is) yielded rest by r left item step).0

@@ -1,2 +1,4 @@
 mod Going
 mod Collected
+mod Plainly
+mod Calls

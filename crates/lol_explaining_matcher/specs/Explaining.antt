@@ -17,9 +17,12 @@ use Rattle.lol_matcher.specs.Answering.{with_ended, with_value}
 use Rattle.lol_matcher.specs.Told.{Told, Matching, elements_of, heard}
 use Rattle.lol_reasons.specs.Explanations.{Reason, Text, added_by, explanations}
 use Rattle.lol_reasons.specs.Numbered.{HoldsItems}
+use Rattle.lol_reasons.specs.NumberingLaws.{SameNodes}
 use Rattle.lol_reasons.specs.ReasonLaws.{ids_of_reasons}
 use Rattle.lol_reasons.specs.declared.explainer.Explainer.{Explainer}
 use Rattle.lol_reasons.specs.declared.texts.Texts.{Texts}
+use Rattle.lol_explaining_matcher.specs.Notes.{Noting}
+use Rattle.lol_explaining_matcher.specs.Plain.{IsShownPlainly, last_or, plain_selectors}
 
 -- A matcher that explains: the texts that were added; the matcher of their items, each under its number; whether a tag was
 -- refused; and what the last tag was reported under, by the ids of the texts.
@@ -28,11 +31,6 @@ pub record Explaining (T : Type 0) : Type 0 where
   pub items : Matching T
   pub failed : Bool
   pub matched : List MatchInfo
-
--- the last of a list, or a given one where there is none
-abbrev pub last_or : {A : Type 0} → A → List A → A
-last_or given [] = given
-last_or given (x ∷ xs) = last_or x xs
 
 -- The reasons for the last of the events that were heard; there are none before the first.
 abbrev pub reasons_told : List Text → Told → List Reason
@@ -57,6 +55,10 @@ numbers_open elements = map (λ e. e.number) elements
 -- a report of these ids, of an element that has content or not
 abbrev pub matches_under : Bool → List ℕ → List MatchInfo
 matches_under content ids = map (λ id. record { match_id = id; with_content = content }) ids
+
+-- the report of items as one under the ids that they were added under
+abbrev pub report_under : List (ℕ × ℕ × ℕ) → Bool → List MatchInfo → List MatchInfo
+report_under items content matched = matches_under content (ascending_once (ids_under items (numbers_in matched)))
 
 -- A report has exactly the ids of these reasons, ascending and each once.
 abbrev pub ReportsFor : Bool → List Reason → List MatchInfo → Type 0
@@ -106,20 +108,23 @@ AsksIfWaits told =
     IfSome told.asked (λ asked. is_asked_for (selectors told.ast) told.esi told.events (bare_tag asked.0 asked.1) ≡ true)
 
 -- Until a tag is refused: the events that were heard are counted, and the numbers of the open elements are kept, the outermost first.
-pub record Goes {T : Type 0} (texts : List Text) (events : ℕ) (reported : Bool) (numbers : List ℕ) (m : Matching T) : Type 0 where
+pub record Goes {T : Type 0} (texts : List Text) (notes : Noting) (m : Matching T) : Type 0 where
   pub unfailed : m.failed ≡ false
-  pub counted : AreNumbered m.told → events ≡ length (heard m.told)
+  pub counted : AreNumbered m.told → notes.events ≡ length (heard m.told)
   pub are_open : m.open_elements ≡ elements_of m.told
-  pub numbered : AreNumbered m.told → numbers_open (elements_of m.told) ≡ reverse numbers
+  pub numbered : AreNumbered m.told → numbers_open (elements_of m.told) ≡ reverse notes.numbers
   pub waits : AsksIfWaits m.told
-  pub last : IsLast texts reported m numbers
+  pub last : IsLast texts notes.reported m notes.numbers
 
--- What holds between the parts: the matcher has the items of the texts, each under its number, and the explainer knows them.
-pub record Explains {T : Type 0} (texts : List Text) (explainer : Explainer) (events : ℕ) (reported failed : Bool) (numbers : List ℕ) (matched : List MatchInfo) (m : Matching T) : Type 0 where
+-- What holds between the parts: the matcher has the items of the texts, each under its number, and the explainer knows them. Its nodes are those
+-- of the texts' selectors, and until a tag is refused the last event is answered as these have it.
+pub record Explains {T : Type 0} (texts : List Text) (explainer : Explainer) (notes : Noting) (m : Matching T) : Type 0 where
   pub holds : HoldsItems (added_by texts) (record { ast = m.told.ast; explainer = explainer })
-  pub goes : failed ≡ false → Goes texts events reported numbers m
-  pub reports : failed ≡ false → ReportsFor m.opened (reasons_told texts m.told) matched
-  pub silent : failed ≡ true → (reported ≡ false) × (matched ≡ [])
+  pub nodes : SameNodes (plain_selectors texts) (selectors m.told.ast)
+  pub goes : notes.failed ≡ false → Goes texts notes m
+  pub reports : notes.failed ≡ false → ReportsFor m.opened (reasons_told texts m.told) notes.matched
+  pub shows : notes.failed ≡ false → IsShownPlainly texts m notes.matched
+  pub silent : notes.failed ≡ true → (notes.reported ≡ false) × (notes.matched ≡ [])
 
 -- the same, where the last open element has another value
 abbrev pub with_last : {T : Type 0} → Option T → Explaining T → Explaining T

@@ -2,7 +2,9 @@
 #![tactic(auto)]
 
 mod builder;
+mod laws;
 mod matcher;
+mod notes;
 mod reports;
 
 pub use builder::ExplainingMatcherBuilder;

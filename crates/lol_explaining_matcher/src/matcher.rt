@@ -1,12 +1,9 @@
 //! The explaining matcher.
 
-ghost use Rattle.std.specs.Prelude.{◌≡◌, IfOk, OnOk};
-ghost use Rattle.lol_reasons.specs.Numbered.{items_of};
-ghost use Rattle.lol_base.specs.Ascending.{ascending_once};
-ghost use Rattle.lol_explaining_matcher.specs.Explaining.{ids_under, matches_under, numbers_in, with_opened};
-
 use crate::builder::ExplainingMatcherBuilder;
-use crate::reports::{numbers_of, report_of};
+use crate::laws::plain_laws;
+use crate::notes::Notes;
+use crate::reports::numbers_of;
 use lol_matcher::{
     AuxStartTagInfo, ElementValue, MatchInfo, Matcher, MatcherError, Namespace, Started, Tries,
 };
@@ -22,11 +19,7 @@ pub struct ExplainingMatcher<T = ()> {
     texts: Texts,
     explainer: Explainer,
     matcher: Matcher<T>,
-    events: usize,
-    numbers: Vec<usize>,
-    matches: Vec<MatchInfo>,
-    reported: bool,
-    failed: bool,
+    notes: Notes,
 }
 
 impl<T> Model for ExplainingMatcher<T> {
@@ -44,13 +37,11 @@ impl<T> Model for ExplainingMatcher<T> {
     ghost view = { λ m. record {
       texts = m.texts;
       items = m.matcher;
-      failed = m.failed;
-      matched = m.matches.items;
+      failed = m.notes.failed;
+      matched = m.notes.matched;
     } };
 
-    ghost invariant = { λ m.
-        Explains (texts_in m.texts) m.explainer m.events m.reported m.failed m.numbers.items m.matches.items
-        m.matcher };
+    ghost invariant = { λ m. Explains (texts_in m.texts) m.explainer m.notes m.matcher };
 }
 
 impl ExplainingMatcher {
@@ -77,8 +68,10 @@ impl<T: Drop> ExplainingMatcher<T> {
     ghost use Rattle.lol_matcher.specs.Told.{heard};
     ghost use Rattle.lol_reasons.specs.Explanations.{added_by};
     ghost use Rattle.lol_reasons.specs.Numbered.{HoldsItems, reason_shown, texts_in};
+    ghost use Rattle.lol_vm.specs.Views.{match_of};
     ghost use Rattle.lol_vm.specs.Vms.{open_after};
     ghost use Rattle.lol_explaining_matcher.specs.Explaining.{AreNumbered, ReportsFor, reasons_told, with_end, with_last};
+    ghost use Rattle.lol_explaining_matcher.specs.Plain.{FinishesPlainly, HasOpenPlainly, HasTries, IsHandedPlainly, RefusesPlainly, RefusesStartPlainly, StartsPlainly, last_answer, last_opens, matches_in, plain_reasons};
 
     /// An explaining matcher of the items of texts, and of what explains them.
     pub(crate) fn new(
@@ -94,17 +87,14 @@ impl<T: Drop> ExplainingMatcher<T> {
             ≡ record { texts = texts; items = matcher; failed = false; matched = [] }) }
         ensures memory { IfErr result (λ error. error ≡ NumberingError.Memory) }
     {
+        plain_laws();
         explainer.index(matcher.machine().program())?;
         Ok(ExplainingMatcher {
             alloc,
             texts,
             explainer,
             matcher,
-            events: 0,
-            numbers: Vec::new(alloc),
-            matches: Vec::new(alloc),
-            reported: false,
-            failed: false,
+            notes: Notes::new(alloc),
         })
     }
 
@@ -114,30 +104,37 @@ impl<T: Drop> ExplainingMatcher<T> {
         ensures reasons { self.now.failed ≡ false → ReportsFor self.now.items.opened
             (reasons_told (texts_in self.now.texts) self.now.items.told) self.now.matched }
         ensures none { self.now.failed ≡ true → self.now.matched ≡ [] }
+        ensures plainly { self.now.failed ≡ false → map match_of self.now.matched
+            ≡ matches_in (last_answer (texts_in self.now.texts) self.now.items.told) }
     {
-        &self.matches
+        self.notes.matches()
     }
 
     /// How many nodes were tried for the last start tag that wasn't answered `Failed`, its finishing included.
     pub fn tries(&self) -> Tries
-        ensures { result ≡ self.now.items.tries }
+        ensures tries { result ≡ self.now.items.tries }
+        ensures plainly { self.now.failed ≡ false
+            → HasTries (last_answer (texts_in self.now.texts) self.now.items.told) result }
     {
         self.matcher.tries()
     }
 
     /// Whether a start tag was refused, so that each that comes later is answered `Failed`.
     pub fn has_failed(&self) -> bool
-        ensures { result ≡ self.now.failed }
+        ensures failed { result ≡ self.now.failed }
+        ensures plainly { self.now.failed ≡ false → HasOpenPlainly (texts_in self.now.texts) self.now.items }
     {
-        self.failed
+        self.notes.has_failed()
     }
 
     /// Whether the last tag was a start tag that was reported, and opened its element: it has content, so that an end tag may come.
     pub fn has_opened(&self) -> bool
         ensures opened { self.now.failed ≡ false → result ≡ self.now.items.opened }
         ensures failed { self.now.failed ≡ true → result ≡ false }
+        ensures plainly { self.now.failed ≡ false
+            → result ≡ last_opens (texts_in self.now.texts) self.now.items.told }
     {
-        !self.failed && self.matcher.has_opened()
+        !self.notes.has_failed() && self.matcher.has_opened()
     }
 
     /// Why the last tag was reported: a reason for each item that matches its element, in the order of adding. There is none where it is an
@@ -150,20 +147,17 @@ impl<T: Drop> ExplainingMatcher<T> {
         ensures reasons { IfOk result (λ told. self.now.failed ≡ false → AreNumbered self.now.items.told
             → map reason_shown told.items ≡ reasons_told (texts_in self.now.texts) self.now.items.told) }
         ensures none { IfOk result (λ told. self.now.failed ≡ true → told.items ≡ []) }
+        ensures plainly { IfOk result (λ told. self.now.failed ≡ false → AreNumbered self.now.items.told
+            → map reason_shown told.items ≡ plain_reasons (texts_in self.now.texts) self.now.items.told) }
     {
-        if !self.reported {
+        plain_laws();
+        if !self.notes.is_reported() {
             return Ok(Vec::new(self.alloc));
         }
         let matched = numbers_of(self.alloc, self.matcher.matches())?;
-        let opened = self.matcher.has_opened() as usize;
-        let around = self.numbers.len().saturating_sub(opened);
-        let number = self.events.saturating_sub(1);
-        self.explainer.reasons(
-            self.matcher.machine(),
-            &matched,
-            number,
-            &self.numbers[..around],
-        )
+        let around = self.notes.around(self.matcher.has_opened());
+        let number = self.notes.number();
+        self.explainer.reasons(self.matcher.machine(), &matched, number, around)
     }
 
     /// A start tag: it is reported, or its attributes are asked for. A start tag that waits for its attributes is dropped.
@@ -185,40 +179,27 @@ impl<T: Drop> ExplainingMatcher<T> {
         ensures after { OnErr result (self.old.failed ≡ false
             → (self.new.failed ≡ true) × (self.new.matched ≡ [])) }
         ensures texts { self.new.texts ≡ self.old.texts }
+        ensures plainly { IfOk result (λ started. StartsPlainly started (texts_in self.old.texts)
+            self.old.items name.now ns self.new.matched self.new.items.tries) }
+        ensures refused_plainly { IfErr result (λ error. self.old.failed ≡ false
+            → RefusesStartPlainly error (texts_in self.old.texts) self.old.items name.now ns) }
     {
-        if self.failed {
+        if self.notes.has_failed() {
             return Err(MatcherError::Failed);
         }
-        self.reported = false;
-        self.matches.clear();
+        plain_laws();
         match self.matcher.start(name, ns) {
             Ok(Started::Reported) => {
-                let number = self.events;
-                self.events = number.saturating_add(1);
-                match note_report(
-                    self.alloc,
-                    &self.explainer,
-                    &self.matcher,
-                    number,
-                    &mut self.numbers,
-                ) {
-                    Ok(matches) => {
-                        self.matches = matches;
-                        self.reported = true;
-                        Ok(Started::Reported)
-                    }
-                    Err(_) => {
-                        self.failed = true;
-                        Err(MatcherError::Memory)
-                    }
-                }
+                self.notes.count();
+                self.notes.report(&self.explainer, &self.matcher)?;
+                Ok(Started::Reported)
             }
             Ok(Started::NeedsAttributes) => {
-                self.events = self.events.saturating_add(1);
+                self.notes.count();
                 Ok(Started::NeedsAttributes)
             }
             Err(error) => {
-                self.failed = true;
+                self.notes.fail();
                 Err(error)
             }
         }
@@ -251,38 +232,24 @@ impl<T: Drop> ExplainingMatcher<T> {
             → (self.new.failed ≡ true) × (self.new.matched ≡ [])) }
         ensures unchanged { IfErr result (λ error. (IsRefusal error → ⊥) → self.new ≡ self.old) }
         ensures texts { self.new.texts ≡ self.old.texts }
+        ensures plainly { OnOk result (IfWaits self.old.items.told aux_info.entry (λ tag. FinishesPlainly
+            (texts_in self.old.texts) self.old.items tag self.new.matched self.new.items.tries)) }
+        ensures refused_plainly { IfErr result (λ error. IsRefusal error
+            → IfWaits self.old.items.told aux_info.entry (λ tag. RefusesPlainly error
+            (texts_in self.old.texts) self.old.items self.old.items.told.events tag)) }
     {
-        if self.failed {
+        if self.notes.has_failed() {
             return Err(MatcherError::Failed);
         }
+        plain_laws();
         match self.matcher.finish(aux_info) {
             Ok(()) => {
-                let number = self.events.saturating_sub(1);
-                match note_report(
-                    self.alloc,
-                    &self.explainer,
-                    &self.matcher,
-                    number,
-                    &mut self.numbers,
-                ) {
-                    Ok(matches) => {
-                        self.matches = matches;
-                        self.reported = true;
-                        Ok(())
-                    }
-                    Err(_) => {
-                        self.matches.clear();
-                        self.reported = false;
-                        self.failed = true;
-                        Err(MatcherError::Memory)
-                    }
-                }
+                self.notes.report(&self.explainer, &self.matcher)?;
+                Ok(())
             }
             Err(error) => {
                 if self.matcher.has_failed() {
-                    self.failed = true;
-                    self.reported = false;
-                    self.matches.clear();
+                    self.notes.fail();
                 }
                 Err(error)
             }
@@ -320,39 +287,25 @@ impl<T: Drop> ExplainingMatcher<T> {
             → (self.new.failed ≡ true) × (self.new.matched ≡ [])) }
         ensures unchanged { IfErr result (λ error. (IsRefusal error → ⊥) → self.new ≡ self.old) }
         ensures texts { self.new.texts ≡ self.old.texts }
+        ensures plainly { OnOk result (IsHandedPlainly (texts_in self.old.texts) self.old.items self.new.items
+            (handed name.now ns aux_info.entry) self.new.matched) }
+        ensures refused_plainly { IfErr result (λ error. IsRefusal error
+            → RefusesPlainly error (texts_in self.old.texts) self.old.items (heard self.old.items.told)
+            (handed name.now ns aux_info.entry)) }
     {
-        if self.failed {
+        if self.notes.has_failed() {
             return Err(MatcherError::Failed);
         }
+        plain_laws();
         match self.matcher.start_with(name, ns, aux_info) {
             Ok(()) => {
-                let number = self.events;
-                self.events = number.saturating_add(1);
-                match note_report(
-                    self.alloc,
-                    &self.explainer,
-                    &self.matcher,
-                    number,
-                    &mut self.numbers,
-                ) {
-                    Ok(matches) => {
-                        self.matches = matches;
-                        self.reported = true;
-                        Ok(())
-                    }
-                    Err(_) => {
-                        self.matches.clear();
-                        self.reported = false;
-                        self.failed = true;
-                        Err(MatcherError::Memory)
-                    }
-                }
+                self.notes.count();
+                self.notes.report(&self.explainer, &self.matcher)?;
+                Ok(())
             }
             Err(error) => {
                 if self.matcher.has_failed() {
-                    self.failed = true;
-                    self.reported = false;
-                    self.matches.clear();
+                    self.notes.fail();
                 }
                 Err(error)
             }
@@ -384,31 +337,9 @@ impl<T: Drop> ExplainingMatcher<T> {
         ensures called { IsCalledAtEach F.step handler.old
             (drop (length (open_after name.now self.old.items.open_elements)) self.old.items.kept) handler.new }
     {
+        plain_laws();
         self.matcher.end_with(name, handler);
-        self.numbers
-            .truncate(self.matcher.machine().open_elements());
-        self.events = self.events.saturating_add(1);
-        self.matches.clear();
-        self.reported = false;
+        self.notes.count();
+        self.notes.close(self.matcher.machine().open_elements());
     }
-}
-
-/// After a start tag was reported under items: keeps its number, if its element is open, and answers the report under the ids of texts.
-fn note_report<T: Drop>(
-    alloc: Global,
-    explainer: &Explainer,
-    matcher: &Matcher<T>,
-    number: usize,
-    numbers: &mut Vec<usize>,
-) -> Result<Vec<MatchInfo>, AllocError>
-    ensures numbers { OnOk result (numbers.new.items ≡ with_opened matcher.now.opened number numbers.old.items) }
-    ensures report { IfOk result (λ report. report.items ≡ matches_under matcher.now.opened
-        (ascending_once (ids_under (items_of explainer.now) (numbers_in matcher.now.matched)))) }
-{
-    let opened = matcher.has_opened();
-    let report = report_of(alloc, explainer, matcher.matches(), opened)?;
-    if opened {
-        numbers.push(number)?;
-    }
-    Ok(report)
 }

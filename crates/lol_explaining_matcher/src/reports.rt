@@ -2,8 +2,7 @@
 
 ghost use Rattle.std.specs.Prelude.{◌≡◌, IfOk};
 ghost use Rattle.lol_reasons.specs.Numbered.{items_of};
-ghost use Rattle.lol_base.specs.Ascending.{ascending_once};
-ghost use Rattle.lol_explaining_matcher.specs.Explaining.{HasIds, ids_under, matches_under, numbers_in};
+ghost use Rattle.lol_explaining_matcher.specs.Explaining.{HasIds, ids_under, numbers_in, report_under};
 
 use lol_matcher::{MatchId, MatchInfo};
 use lol_memory::DenseHashSet;
@@ -45,8 +44,7 @@ pub(crate) fn report_of(
     matches: &[MatchInfo],
     with_content: bool,
 ) -> Result<Vec<MatchInfo>, AllocError>
-    ensures { IfOk result (λ report. report.items ≡ matches_under with_content
-        (ascending_once (ids_under (items_of explainer.now) (numbers_in matches.now)))) }
+    ensures { IfOk result (λ report. report.items ≡ report_under (items_of explainer.now) with_content matches.now) }
 {
     let mut report = Vec::new(alloc);
     let ids = ids_of(alloc, explainer, matches)?;

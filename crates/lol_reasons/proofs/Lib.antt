@@ -1,10 +1,11 @@
-pub mod Witnesses
+mod Witnesses
 mod Reasons
-pub mod Climbing
+mod Climbing
 mod Climbs
 mod Nodes
 mod Around
-pub mod Numbers
+mod Numbers
 mod Growing
-pub mod Telling
+mod Telling
+mod Naming
 mod Alike

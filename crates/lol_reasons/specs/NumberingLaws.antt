@@ -1,16 +1,18 @@
 -- Selectors whose items stand under their numbers, beside those with the ids that the texts were added under.
-use Rattle.std.specs.Prelude.{ℕ, ◌≡◌, ◌≢◌, Bool, List, AllPairs}
+use Rattle.std.specs.Prelude.{ℕ, ◌≡◌, ◌≢◌, Bool, List, map, filter, filter_map, slice_get, AllPairs}
 use Rattle.lol_base.specs.StartTags.{StartTag}
 use Rattle.lol_instructions.specs.Tests.{Element}
 use Rattle.lol_program.specs.Paths.{Selectors, all_beginnings}
 use Rattle.lol_program.specs.Sets.{SameMembers}
-use Rattle.lol_vm.specs.Answers.{Answer, Match, Started, Dropped, Ended, after, answer, asks, document, report}
+use Rattle.lol_vm.specs.Answers.{Answer, Match, Started, Dropped, Ended, after, answer, asks, document, matching_ids, report}
 use Rattle.lol_vm.specs.Documents.{Document, element_of}
 use Rattle.lol_vm.specs.Events.{Event, Start}
+use Rattle.lol_vm.specs.Matching.{matches}
 use Rattle.lol_vm.specs.Refusals.{Allowance, longest, refusal, refused}
 use Rattle.lol_vm.specs.Views.{selectors}
 use Rattle.lol_reasons.specs.Explanations.{Text, added_by, pairs_added}
-use Rattle.lol_reasons.specs.Numbered.{HoldsItems}
+use Rattle.lol_reasons.specs.Numbered.{HasItemsOf, HoldsItems}
+use Rattle.lol_reasons.specs.ReasonLaws.{place_of_added}
 use Rattle.lol_reasons.specs.declared.texts.Numbering.{Numbering}
 
 -- The same nodes, each once, in any order; the pairs may be others.
@@ -50,3 +52,10 @@ NumbersChangeNoNode =
     (texts : List Text) (numbering : Numbering) → HoldsItems (added_by texts) numbering
     → (s : Selectors) → SameMembers s.nodes (all_beginnings (pairs_added (added_by texts))) → AllPairs (λ a b. a ≢ b) s.nodes
     → SameNodes s (selectors numbering.ast)
+
+-- The numbers that are reported name exactly the items that match, by id, text and item, in the order of adding.
+abbrev pub NumbersNameWhatMatches : Type 0
+NumbersNameWhatMatches =
+    (texts : List Text) (s : Selectors) → HasItemsOf texts s → (e : Element) (outer : List Element)
+    → filter_map (slice_get (map place_of_added (added_by texts))) (matching_ids s.pairs e outer)
+    ≡ map place_of_added (filter (λ a. matches a.path e outer) (added_by texts))

@@ -2,7 +2,7 @@
 
 ghost use Rattle.lol_reasons.specs.WitnessLaws.{InnermostIsKnown, InnermostIsOnlyOne, InnermostIsWitness, InnermostWhereMatches, MatchesByWitness, NoneIsNearer, NoneIsNearerInDocuments, WitnessesAreComplete};
 ghost use Rattle.lol_reasons.specs.MachinesShow.{MachinesShowAround};
-ghost use Rattle.lol_reasons.specs.NumberingLaws.{NodesDecideTheRest, NumbersChangeNoNode};
+ghost use Rattle.lol_reasons.specs.NumberingLaws.{NodesDecideTheRest, NumbersChangeNoNode, NumbersNameWhatMatches};
 ghost use Rattle.lol_reasons.specs.ReasonLaws.{EachHasOneReason, PairsAreAdded, ReasonsAreExact, ReasonsGiveReport, ReasonsStay, RunsAreExplained};
 
 /// A path matches exactly if there is a witness, which has a number for each compound; the innermost
@@ -63,4 +63,10 @@ pub fn machines_show_around<E>()
 pub fn numbers_change_reports_alone()
     ensures alike { NodesDecideTheRest }
     ensures nodes { NumbersChangeNoNode }
+{}
+
+/// Where the items of texts stand under their numbers, the numbers that are reported name exactly the items that match, in the order of
+/// adding.
+pub fn numbers_name_what_matches()
+    ensures { NumbersNameWhatMatches }
 {}

@@ -1,4 +1,4 @@
-pub mod Alike
+mod Alike
 mod ContentMarks
 mod Closings
 mod OneId

@@ -10,6 +10,7 @@ use Rattle.lol_vm.specs.Refusals.{Allowance, Cause, Counter, Limit, exceeds, gre
 use Rattle.lol_vm.specs.Views.{selectors}
 use Rattle.lol_program.specs.ClosedLaws.{trees_are_closed}
 use Rattle.lol_run_laws.specs.AskedRuns.{AskedRunsAnswerAlike, ToldGoesOn, bare_tag, told_from, told_of}
+use Rattle.lol_run_laws.specs.ToldTags.{ToldIsAnsweredAlike}
 use Rattle.lol_run_laws.proofs.Alike.{AlikeDocuments, alike_after, documents_self, documents_trans, dropped_after, dropped_answered, same_answer, same_depth, same_position, unasked_after, unasked_answered}
 
 module _ (s : Selectors) (closed : AreClosed s) (esi : Bool) where
@@ -66,6 +67,9 @@ module _ (s : Selectors) (closed : AreClosed s) (esi : Bool) where
         let depth = same_depth s closed esi next next' k in
         (λ i. or_later (h.events i) (refusal_alike d g most event h i) (refused_from s esi a next (max most (depth i)) (told_from s esi next events)))
         ∙ ap (or_later g.events (refusal s esi a g most event)) (told_refused next next' (max most (length next'.open_elements)) events k)
+
+pub told_is_answered_alike : ToldIsAnsweredAlike
+told_is_answered_alike s closed esi d event = (told_alike s closed esi d event).answered
 
 told_push : (s : Selectors) (esi : Bool) (d : Document) (events : List Event) (event : Event)
     → told_from s esi d (events ++ event ∷ []) ≡ told_from s esi d events ++ told_of s (document_from s esi d (told_from s esi d events)) event ∷ []

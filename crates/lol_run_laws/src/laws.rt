@@ -1,6 +1,7 @@
 //! What those who use the answers of a run rely on, each law the contract of an empty function.
 
 ghost use Rattle.lol_run_laws.specs.AskedRuns.{AskedRunsAnswerAlike, ToldGoesOn};
+ghost use Rattle.lol_run_laws.specs.ToldTags.{ToldIsAnsweredAlike};
 ghost use Rattle.lol_run_laws.specs.RunLaws.{EndsCloseInside, MarksTellContent, OneIdsPathsDecide, UnaskedAttributesChangeNothing};
 
 /// The content mark of a report is false exactly for an HTML tag with a void name, where ESI is on
@@ -32,4 +33,9 @@ pub fn unasked_attributes_change_nothing()
 pub fn asked_runs_answer_alike()
     ensures alike { AskedRunsAnswerAlike }
     ensures goes_on { ToldGoesOn }
+{}
+
+/// What is told of one event, a start tag's attributes only where they are asked for, is answered as the event is.
+pub fn told_tags_answer_alike()
+    ensures { ToldIsAnsweredAlike }
 {}

@@ -1,10 +1,10 @@
 use Rattle.std.proofs.Common.{ap, ◌∙◌}
-use Rattle.lol_memory.proofs.UnionLemmas.{all_yielded}
+use Rattle.lol_memory.specs.Ids.{ascending}
 use Rattle.lol_explaining_matcher.specs.Explaining.{matches_under}
-use Rattle.lol_explaining_matcher.proofs.Collected.{in_order}
+use Rattle.lol_explaining_matcher.proofs.Collected.{all_yielded, in_order}
 use Rattle.lol_explaining_matcher.proofs.reports.report_of.Goals as goal
 
 pub returns : goal.returns
 returns c =
-    let all = all_yielded c.in_ok-ids.ids c.into_iter-match_id-iterator.result (cc) c.loop-match_id.yielded _ c.loop-match_id.yielded_by _ _ c.in-None.is c.next.ensures.steps in
+    let all = all_yielded (ascending c.in_ok-ids.ids) c.into_iter-match_id-iterator.result c.loop-match_id.yielded _ _ _ (cc) c.loop-match_id.yielded_by c.in-None.is c.next.ensures.steps in
     c.loop-match_id.invariant ∙ ap (matches_under c.args.with_content) (all ∙ in_order c.in_ok-ids.ids _ c.in_ok-ids.ensures)

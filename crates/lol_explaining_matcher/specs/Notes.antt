@@ -1,0 +1,28 @@
+-- What is kept of the tags, beside the machine.
+use Rattle.std.specs.Prelude.{ℕ, ◌+◌, ◌-◌, ◌^◌, min, Bool, true, false, List, []}
+use Rattle.lol_memory.specs.declared.match_info.MatchInfo.{MatchInfo}
+
+-- How many events came, as far as a word counts; the numbers of the start tags whose elements are open, the outermost first; what the last tag
+-- was reported under, whether it was reported, and whether a tag was refused.
+pub record Noting : Type 0 where
+  pub events : ℕ
+  pub numbers : List ℕ
+  pub matched : List MatchInfo
+  pub reported : Bool
+  pub failed : Bool
+
+-- before the first tag
+abbrev pub nothing_noted : Noting
+nothing_noted = record { events = 0; numbers = []; matched = []; reported = false; failed = false }
+
+-- after one event more, of which nothing is reported yet
+abbrev pub with_event : Noting → Noting
+with_event n = record n { events = min (n.events + 1) (2 ^ 64 - 1); matched = []; reported = false }
+
+-- after the last event was reported: with these numbers of open elements, under these
+abbrev pub with_report : List ℕ → List MatchInfo → Noting → Noting
+with_report numbers matched n = record n { numbers = numbers; matched = matched; reported = true }
+
+-- after a refusal
+abbrev pub with_refusal : Noting → Noting
+with_refusal n = record n { matched = []; reported = false; failed = true }
