@@ -27,8 +27,8 @@ const ITEMS: &str =
 
 /// Selectors and tags that are drawn.
 #[derive(Drop)]
-struct Drawn {
-    random: Random,
+pub(crate) struct Drawn {
+    pub random: Random,
 }
 
 impl Drawn {
@@ -39,7 +39,7 @@ impl Drawn {
         text.split(sign).nth(at as usize).unwrap_or("")
     }
 
-    fn selectors(&mut self, alloc: Global) -> Result<Vec<(&'static str, u32)>, AllocError> {
+    pub(crate) fn selectors(&mut self, alloc: Global) -> Result<Vec<(&'static str, u32)>, AllocError> {
         let mut selectors = Vec::new(alloc);
         for _selector in 0..SELECTORS {
             selectors.push((self.part(ITEMS, '|'), self.random.below(4)))?;
@@ -47,7 +47,7 @@ impl Drawn {
         Ok(selectors)
     }
 
-    fn tags(&mut self, alloc: Global) -> Result<Vec<TagWord<'static>>, AllocError> {
+    pub(crate) fn tags(&mut self, alloc: Global) -> Result<Vec<TagWord<'static>>, AllocError> {
         let mut tags = Vec::new(alloc);
         for _tag in 0..TAGS {
             tags.push(TagWord::of(self.part(NAMES, ' ')))?;
