@@ -149,7 +149,7 @@ module _ {T : Type 0} (laws : LawsHold) (texts : List Text) (explainer : Explain
     asks name ns none answers fits = (
       none,
       λ tag named spaced. record {
-          asked = same_asked laws texts n was.nodes t.esi (heard t) tag ∙ answers.1 tag named spaced;
-          fits = λ unfinished. same (heard t) tag ∙ fits tag named spaced unfinished;
-        },
+        asked = same_asked laws texts n was.nodes t.esi (heard t) tag ∙ answers.1 tag named spaced;
+        fits = λ unfinished. same (heard t) tag ∙ fits tag named spaced unfinished;
+      },
     )

@@ -116,8 +116,8 @@ pub record Goes {T : Type 0} (texts : List Text) (notes : Noting) (m : Matching 
   pub waits : AsksIfWaits m.told
   pub last : IsLast texts notes.reported m notes.numbers
 
--- What holds between the parts: the matcher has the items of the texts, each under its number, and the explainer knows them. Its nodes are those
--- of the texts' selectors, and until a tag is refused the last event is answered as these have it.
+-- What holds between the parts: the matcher has the items of the texts, each under its number, and the explainer knows them. Its nodes are
+-- those of the texts' selectors, and until a tag is refused the last event is answered as these have it.
 pub record Explains {T : Type 0} (texts : List Text) (explainer : Explainer) (notes : Noting) (m : Matching T) : Type 0 where
   pub holds : HoldsItems (added_by texts) (record { ast = m.told.ast; explainer = explainer })
   pub nodes : SameNodes (plain_selectors texts) (selectors m.told.ast)

@@ -2,8 +2,8 @@
 use Rattle.std.specs.Prelude.{ℕ, ◌+◌, ◌-◌, ◌^◌, min, Bool, true, false, List, []}
 use Rattle.lol_memory.specs.declared.match_info.MatchInfo.{MatchInfo}
 
--- How many events came, as far as a word counts; the numbers of the start tags whose elements are open, the outermost first; what the last tag
--- was reported under, whether it was reported, and whether a tag was refused.
+-- How many events came, as far as a word counts; the numbers of the start tags whose elements are open, the outermost first; what the last
+-- tag was reported under, whether it was reported, and whether a tag was refused.
 pub record Noting : Type 0 where
   pub events : ℕ
   pub numbers : List ℕ

@@ -157,7 +157,8 @@ impl<T: Drop> ExplainingMatcher<T> {
         let matched = numbers_of(self.alloc, self.matcher.matches())?;
         let around = self.notes.around(self.matcher.has_opened());
         let number = self.notes.number();
-        self.explainer.reasons(self.matcher.machine(), &matched, number, around)
+        self.explainer
+            .reasons(self.matcher.machine(), &matched, number, around)
     }
 
     /// A start tag: it is reported, or its attributes are asked for. A start tag that waits for its attributes is dropped.

@@ -147,7 +147,8 @@ impl Notes {
         matcher: &Matcher<T>,
     ) -> Result<Vec<MatchInfo>, AllocError>
         ensures numbers { OnOk result (self.new ≡ record self.old {
-            numbers = with_opened matcher.now.opened (self.old.events - 1) self.old.numbers }) }
+          numbers = with_opened matcher.now.opened (self.old.events - 1) self.old.numbers;
+        }) }
         ensures report { IfOk result (λ report.
             report.items ≡ report_under (items_of explainer.now) matcher.now.opened matcher.now.matched) }
         ensures refused { OnErr result (self.new ≡ self.old) }

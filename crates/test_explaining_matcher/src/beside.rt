@@ -33,12 +33,10 @@ impl Both {
         let Ok(explaining) = explaining.build() else {
             return Err(Fail::from("no matcher was built"));
         };
-        Ok(
-            Both {
-                explaining,
-                plain: plain.build()?,
-            },
-        )
+        Ok(Both {
+            explaining,
+            plain: plain.build()?,
+        })
     }
 
     /// Tells both of a tag, and answers whether each call gives the same.

@@ -39,7 +39,10 @@ impl Drawn {
         text.split(sign).nth(at as usize).unwrap_or("")
     }
 
-    pub(crate) fn selectors(&mut self, alloc: Global) -> Result<Vec<(&'static str, u32)>, AllocError> {
+    pub(crate) fn selectors(
+        &mut self,
+        alloc: Global,
+    ) -> Result<Vec<(&'static str, u32)>, AllocError> {
         let mut selectors = Vec::new(alloc);
         for _selector in 0..SELECTORS {
             selectors.push((self.part(ITEMS, '|'), self.random.below(4)))?;
