@@ -37,8 +37,8 @@ use Rattle.lol_reasons.specs.declared.explainer.Explainer.{Explainer}
 use Rattle.lol_reasons.specs.Numbered.{HasItemsOf, HoldsItems, items_of}
 use Rattle.lol_reasons.specs.NumberingLaws.{SameNodes}
 use Rattle.lol_reasons.specs.ReasonLaws.{ids_of_reasons, place_of_added}
-use Rattle.lol_explaining_matcher.specs.Explaining.{AreNumbered, Explains, Goes, IsLast, IsReported, matches_under, numbers_around, numbers_in, numbers_open, ReportsFor, reasons_told, report_under, with_opened}
-use Rattle.lol_explaining_matcher.specs.Notes.{Noting, nothing_noted, with_event, with_refusal, with_report}
+use Rattle.lol_explaining_matcher.specs.Explaining.{AreNumbered, Explains, Goes, IsLast, IsReported, matches_under, numbers_around, numbers_in, numbers_open, ReportsFor, reasons_told, report_under, with_opened, with_report_of}
+use Rattle.lol_explaining_matcher.specs.Notes.{Noting, nothing_noted, with_event, with_refusal}
 use Rattle.lol_explaining_matcher.specs.Plain.{last_or, plain_selectors}
 use Rattle.lol_explaining_matcher.specs.PlainLaws.{LawsHold}
 use Rattle.lol_explaining_matcher.proofs.Plainly.{IsKept, answered, ids_match, ids_told, last_push, opens_if, opens_none, reported_plainly, same_asked, shown_dropped, shown_end, shown_first, shown_start}
@@ -175,7 +175,7 @@ module _ {T : Type 0} (laws : LawsHold) (texts : List Text) (explainer : Explain
   under_ids = report_under (items_of explainer) m.opened m.matched
 
   abbrev pub noted : Noting
-  noted = with_report (with_opened m.opened number notes.numbers) under_ids notes
+  noted = with_report_of (items_of explainer) m notes
 
   what : IsKept (is_dropped of_matcher (element_of before_it tag) before_it.open_elements) (report of_matcher m.told.esi (element_of before_it tag) before_it.open_elements) (map match_of m.matched) (is_asked_for of_matcher m.told.esi before tag) asked
   what = answered of_matcher m.told.esi before_it tag (map match_of m.matched) asked (names_counted m.tries) (attributes_counted m.tries) is
@@ -212,6 +212,7 @@ module _ {T : Type 0} (laws : LawsHold) (texts : List Text) (explainer : Explain
   }
 
   pub explains_reported : Explains texts explainer noted m
+  unfolding last_reported
   explains_reported = record {
     holds = holds;
     nodes = nodes;
@@ -253,17 +254,13 @@ module _ {T : Type 0} (laws : LawsHold) (texts : List Text) (explainer : Explain
     next_counted = next_number notes.events (length (heard t)) (with_event notes).events (goes.counted few_before) (omega (arith, few, one_more)) refl
 
   module _ (new : Matching T) where
-    -- what is kept after a report
-    abbrev pub noted_after : Noting → Noting
-    noted_after n = with_report (with_opened new.opened (n.events - 1) n.numbers) (report_under (items_of explainer) new.opened new.matched) n
-
     -- a start tag that is reported without attributes
     pub started_explains : (name : List ℕ) (ns : Namespace) → Answers Reported t name ns new.matched new.tries → OpensStart Reported name ns old new → new ≡ with_told (started_told t name ns) old new
-        → Explains texts explainer (noted_after (with_event notes)) new
+        → Explains texts explainer (with_report_of (items_of explainer) new (with_event notes)) new
     started_explains name ns answers opens as_told =
         let bare = bare_tag name ns in
         let later = started_told t name ns in
-        subst (λ (m : Matching T). Explains texts explainer (with_report (with_opened m.opened ((with_event notes).events - 1) notes.numbers) (report_under (items_of explainer) m.opened m.matched) (with_event notes)) m) (sym as_told)
+        subst (λ (m : Matching T). Explains texts explainer (with_report_of (items_of explainer) m (with_event notes)) m) (sym as_told)
         (explains_reported laws texts explainer (with_told later old new) was.holds was.nodes (with_event notes) ok (heard t) bare refl goes.unfailed refl refl false (answers bare refl refl) (opens bare refl refl).opened
         (λ few. goes.numbered (few_before later (Start bare) refl few)) (λ few. next_counted later (Start bare) refl few))
 
@@ -306,7 +303,7 @@ module _ {T : Type 0} (laws : LawsHold) (texts : List Text) (explainer : Explain
 
     -- a start tag whose attributes are at hand
     pub handed_explains : (tag : StartTag) → tag.finish ≡ true → IsAnsweredAfter t tag new → OpensFor tag old new → new ≡ with_told (handed_told t tag) old new
-        → Explains texts explainer (noted_after (with_event notes)) new
+        → Explains texts explainer (with_report_of (items_of explainer) new (with_event notes)) new
     handed_explains tag finish is opens as_told = by_asked (is_asked_for s t.esi (heard t) tag) refl
       where
         d : Document
@@ -315,14 +312,14 @@ module _ {T : Type 0} (laws : LawsHold) (texts : List Text) (explainer : Explain
         told : Told
         told = handed_told t tag
 
-        goes_on : (told_tag : StartTag) → told_of s d (Start tag) ≡ Start told_tag → has_content t.esi tag ≡ has_content t.esi told_tag → Explains texts explainer (noted_after (with_event notes)) new
+        goes_on : (told_tag : StartTag) → told_of s d (Start tag) ≡ Start told_tag → has_content t.esi tag ≡ has_content t.esi told_tag → Explains texts explainer (with_report_of (items_of explainer) new (with_event notes)) new
         goes_on told_tag same content =
-            subst (λ (m : Matching T). Explains texts explainer (with_report (with_opened m.opened ((with_event notes).events - 1) notes.numbers) (report_under (items_of explainer) m.opened m.matched) (with_event notes)) m) (sym as_told)
+            subst (λ (m : Matching T). Explains texts explainer (with_report_of (items_of explainer) m (with_event notes)) m) (sym as_told)
             (explains_reported laws texts explainer (with_told told old new) was.holds was.nodes (with_event notes) ok (heard t) told_tag (ap (λ event. heard t ++ event ∷ []) same) goes.unfailed refl refl _
             (ap (answer s t.esi d) (sym same) ∙ (laws.told_alike s (trees_are_closed t.ast) t.esi d (Start tag) ∙ is)) (opens.opened ∙ content)
             (λ few. goes.numbered (few_before told _ refl few)) (λ few. next_counted told _ refl few))
 
-        by_asked : (asked : Bool) → is_asked_for s t.esi (heard t) tag ≡ asked → Explains texts explainer (noted_after (with_event notes)) new
+        by_asked : (asked : Bool) → is_asked_for s t.esi (heard t) tag ≡ asked → Explains texts explainer (with_report_of (items_of explainer) new (with_event notes)) new
         by_asked true asks = goes_on tag (λ i. if asks i && finish i then Start tag else Start (bare_tag tag.name tag.namespace)) refl
         by_asked false asks =
             goes_on (bare_tag tag.name tag.namespace) (ap (λ b. if b && tag.finish then Start tag else Start (bare_tag tag.name tag.namespace)) asks)
@@ -330,10 +327,10 @@ module _ {T : Type 0} (laws : LawsHold) (texts : List Text) (explainer : Explain
 
     -- the attributes of a start tag that waits
     pub finished_explains : (aux : AuxStartTagInfo) → IsSome t.asked → IfWaits t aux (λ tag. IsFinishedAs t tag new) → IfWaits t aux (λ tag. OpensFor tag old new) → new ≡ with_told (finished_told t aux) old new
-        → Explains texts explainer (noted_after notes) new
+        → Explains texts explainer (with_report_of (items_of explainer) new notes) new
     finished_explains aux some is opens as_told = by_asked t.asked refl
       where
-        by_asked : (o : Option (List ℕ × Namespace)) → t.asked ≡ o → Explains texts explainer (noted_after notes) new
+        by_asked : (o : Option (List ℕ × Namespace)) → t.asked ≡ o → Explains texts explainer (with_report_of (items_of explainer) new notes) new
         by_asked None none = let h = subst (λ (o : Option (List ℕ × Namespace)). IsSome o) none some in cc
         by_asked (Some asked) waits =
             let tag = handed asked.0 asked.1 aux in
@@ -347,7 +344,7 @@ module _ {T : Type 0} (laws : LawsHold) (texts : List Text) (explainer : Explain
             let were : AreNumbered later → numbers_open (document s t.esi t.events).open_elements ≡ reverse notes.numbers = λ few.
             sym (ap numbers_open (ap (λ events. (document s t.esi events).open_elements) heard_was ∙ open_after_start s t.esi t.events bare false (opens_none (has_content t.esi bare) _ (dropped_bare (is_asked_for s t.esi t.events bare) asks))))
             ∙ goes.numbered (few_then few) in
-            subst (λ (m : Matching T). Explains texts explainer (with_report (with_opened m.opened (notes.events - 1) notes.numbers) (report_under (items_of explainer) m.opened m.matched) notes) m) (sym as_told)
+            subst (λ (m : Matching T). Explains texts explainer (with_report_of (items_of explainer) m notes) m) (sym as_told)
             (explains_reported laws texts explainer (with_told later old new) was.holds was.nodes notes ok t.events tag heard_is goes.unfailed refl refl true
             (subst (λ (o : Option (List ℕ × Namespace)). IfSome o (λ a. IsFinishedAs t (handed a.0 a.1 aux) new)) waits is)
             (subst (λ (o : Option (List ℕ × Namespace)). IfSome o (λ a. OpensFor (handed a.0 a.1 aux) old new)) waits opens).opened were counted)

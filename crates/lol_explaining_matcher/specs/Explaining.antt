@@ -107,6 +107,15 @@ abbrev pub AsksIfWaits : Told → Type 0
 AsksIfWaits told =
     IfSome told.asked (λ asked. is_asked_for (selectors told.ast) told.esi told.events (bare_tag asked.0 asked.1) ≡ true)
 
+-- what is kept once a matcher of items reported the last event
+abbrev pub with_report_of : {T : Type 0} → List (ℕ × ℕ × ℕ) → Matching T → Noting → Noting
+with_report_of items m notes =
+    record notes {
+      numbers = with_opened m.opened (notes.events - 1) notes.numbers;
+      matched = report_under items m.opened m.matched;
+      reported = true;
+    }
+
 -- Until a tag is refused: the events that were heard are counted, and the numbers of the open elements are kept, the outermost first.
 pub record Goes {T : Type 0} (texts : List Text) (notes : Noting) (m : Matching T) : Type 0 where
   pub unfailed : m.failed ≡ false

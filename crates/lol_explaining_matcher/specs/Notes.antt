@@ -19,10 +19,6 @@ nothing_noted = record { events = 0; numbers = []; matched = []; reported = fals
 abbrev pub with_event : Noting → Noting
 with_event n = record n { events = min (n.events + 1) (2 ^ 64 - 1); matched = []; reported = false }
 
--- after the last event was reported: with these numbers of open elements, under these
-abbrev pub with_report : List ℕ → List MatchInfo → Noting → Noting
-with_report numbers matched n = record n { numbers = numbers; matched = matched; reported = true }
-
 -- after a refusal
 abbrev pub with_refusal : Noting → Noting
 with_refusal n = record n { matched = []; reported = false; failed = true }

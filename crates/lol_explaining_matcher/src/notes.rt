@@ -2,8 +2,8 @@
 
 ghost use Rattle.std.specs.Prelude.{◌≡◌, OnOk};
 ghost use Rattle.lol_reasons.specs.Numbered.{items_of};
-ghost use Rattle.lol_explaining_matcher.specs.Explaining.{numbers_around, report_under, with_opened};
-ghost use Rattle.lol_explaining_matcher.specs.Notes.{nothing_noted, with_event, with_refusal, with_report};
+ghost use Rattle.lol_explaining_matcher.specs.Explaining.{numbers_around, report_under, with_opened, with_report_of};
+ghost use Rattle.lol_explaining_matcher.specs.Notes.{nothing_noted, with_event, with_refusal};
 
 use crate::reports::report_of;
 use lol_matcher::{MatchInfo, Matcher, MatcherError};
@@ -121,9 +121,7 @@ impl Notes {
         explainer: &Explainer,
         matcher: &Matcher<T>,
     ) -> Result<(), MatcherError>
-        ensures ok { OnOk result (self.new ≡ with_report
-            (with_opened matcher.now.opened (self.old.events - 1) self.old.numbers)
-            (report_under (items_of explainer.now) matcher.now.opened matcher.now.matched) self.old) }
+        ensures ok { OnOk result (self.new ≡ with_report_of (items_of explainer.now) matcher.now self.old) }
         ensures refused { IfErr result (λ error.
             (error ≡ MatcherError.Memory) × (self.new ≡ with_refusal self.old)) }
     {
