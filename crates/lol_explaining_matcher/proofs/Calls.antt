@@ -1,6 +1,6 @@
 -- What the calls answer, by the texts' selectors.
-use Rattle.std.proofs.Common.{◌≡◌, ℕ, ◌+◌, ◌<◌, Bool, true, false, List, [], ◌∷◌, ◌++◌, length, Option, Some, None, inl, inr, refl, sym, ap, ◌∙◌, subst, arith}
-use Rattle.std.specs.Prelude.{IfSome}
+use Rattle.std.proofs.Common.{◌≡◌, ℕ, ◌+◌, ◌<◌, Bool, true, false, List, [], ◌∷◌, ◌++◌, length, Option, Some, None, Result, Err, inl, inr, refl, sym, ap, ◌∙◌, subst, arith}
+use Rattle.std.specs.Prelude.{IfErr, IfSome}
 use Rattle.lol_base.specs.MemberLaws.{Among, among_from_contains}
 use Rattle.lol_base.specs.StartTags.{StartTag}
 use Rattle.lol_base.specs.declared.namespace.Namespace.{Namespace}
@@ -59,9 +59,12 @@ if_all : {A : Type 0} {P Q R S : A → Type 0} (o : Option A) → ((x : A) → P
 if_all (Some x) f p q r = f x p q r
 if_all None f p q r = tt
 
-if_some : {A : Type 0} {P Q : A → Type 0} (o : Option A) → ((x : A) → P x → Q x) → IfSome o P → IfSome o Q
+pub if_some : {A : Type 0} {P Q : A → Type 0} (o : Option A) → ((x : A) → P x → Q x) → IfSome o P → IfSome o Q
 if_some (Some x) f h = f x h
 if_some None f h = h
+
+pub if_err : {A E : Type 0} (P : E → Type 0) (r : Result A E) (e : E) → r ≡ Err e → P e → IfErr r P
+if_err {A} {E} P r e is h = subst (λ (r : Result A E). IfErr r P) (sym is) h
 
 -- 2. What a matcher shows of the texts' selectors
 

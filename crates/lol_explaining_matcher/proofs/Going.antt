@@ -151,10 +151,6 @@ pub if_ok : {A E : Type 0} {P Q : A → Type 0} (r : Result A E) → ((x : A) �
 if_ok (Ok x) f h = f x h
 if_ok (Err e) f h = h
 
-pub if_some : {A : Type 0} {P Q : A → Type 0} (o : Option A) → ((x : A) → P x → Q x) → IfSome o P → IfSome o Q
-if_some (Some x) f h = f x h
-if_some None f h = h
-
 -- 4. A start tag that is reported
 
 module _ {T : Type 0} (laws : LawsHold) (texts : List Text) (explainer : Explainer) (m : Matching T) (holds : HoldsItems (added_by texts) (record { ast = m.told.ast; explainer = explainer }))

@@ -1,15 +1,13 @@
-use Rattle.std.proofs.Common.{◌≡◌, sym, ap, subst, ◌∙◌, Result, Err, rules}
-use Rattle.std.specs.Prelude.{IfErr}
+use Rattle.std.proofs.Common.{◌≡◌, sym, ap, subst, ◌∙◌, Err, rules}
 use Rattle.lol_reasons.specs.Numbered.{items_of, texts_in}
 use Rattle.lol_matcher.specs.Answering.{Answers, OpensStart, told_after, with_told}
 use Rattle.lol_matcher.specs.Refusing.{Fits}
 use Rattle.lol_matcher.specs.Told.{Matching}
-use Rattle.lol_matcher.specs.declared.error.MatcherError.{MatcherError}
 use Rattle.lol_matcher.specs.declared.error.MatcherError.TheVariants.{Memory}
 use Rattle.lol_matcher.specs.declared.matcher.Started.{Started}
 use Rattle.lol_explaining_matcher.specs.Explaining.{Explains, with_report_of}
 use Rattle.lol_explaining_matcher.specs.Notes.{Noting}
-use Rattle.lol_explaining_matcher.proofs.Calls.{asks, refused_unreported, refuses_report, refuses_start, starts}
+use Rattle.lol_explaining_matcher.proofs.Calls.{asks, if_err, refused_unreported, refuses_report, refuses_start, starts}
 use Rattle.lol_explaining_matcher.proofs.Going.{asked_explains, refused_explains, started_explains}
 use Rattle.lol_explaining_matcher.proofs.matcher.ExplainingMatcher.start.Goals as goal
 
@@ -101,11 +99,11 @@ pub returns-in_err-report-in-Ok-Reported-clause-refused : goal.returns-in_err-re
 returns-in_err-report-in-Ok-Reported-clause-refused g c =
     let is : c.from_residual.result ≡ Err Memory = search rules in
     let fits = subst (λ (s : Started). Fits s c.self.inside.matcher c.args.name.now c.args.ns) c.in-Ok-Reported.field-0-is c.in-Ok-Reported.ensures.fits.1 in
-    subst (λ (r : Result Started MatcherError). IfErr r _) (sym is) (rw (← c.self.view_is) (λ well tag named spaced. refused_unreported (fits tag named spaced)))
+    rw (← c.self.view_is) (if_err _ c.from_residual.result Memory is (λ well tag named spaced. refused_unreported (fits tag named spaced)))
 
 pub returns-in_err-report-in-Ok-Reported-clause-refused_plainly : goal.returns-in_err-report-in-Ok-Reported-clause-refused_plainly
 returns-in_err-report-in-Ok-Reported-clause-refused_plainly g c =
     let is : c.from_residual.result ≡ Err Memory = search rules in
     let fits = subst (λ (s : Started). Fits s c.self.inside.matcher c.args.name.now c.args.ns) c.in-Ok-Reported.field-0-is c.in-Ok-Reported.ensures.fits.1 in
-    subst (λ (r : Result Started MatcherError). IfErr r _) (sym is)
-    (rw (← c.self.view_is) (λ well. refuses_report c.plain_laws.ensures (texts_in c.self.inside.texts) c.self.inside.explainer c.self.inside.notes c.self.inside.matcher c.self.invariant c.args.name.now c.args.ns fits))
+    rw (← c.self.view_is)
+    (if_err _ c.from_residual.result Memory is (λ well. refuses_report c.plain_laws.ensures (texts_in c.self.inside.texts) c.self.inside.explainer c.self.inside.notes c.self.inside.matcher c.self.invariant c.args.name.now c.args.ns fits))
