@@ -1,21 +1,18 @@
 -- What the calls answer, by the texts' selectors.
-use Rattle.std.proofs.Common.{◌≡◌, ℕ, ◌+◌, ◌<◌, Bool, true, false, List, [], ◌∷◌, ◌++◌, length, Option, Some, None, Result, Err, inl, inr, refl, sym, ap, ◌∙◌, subst, arith}
+use Rattle.std.proofs.Common.{◌≡◌, ℕ, ◌+◌, ◌<◌, Bool, true, false, List, [], ◌∷◌, ◌++◌, length, Option, Some, None, Result, Err, inl, inr, sym, ap, ◌∙◌, subst, arith}
 use Rattle.std.specs.Prelude.{IfErr, IfSome}
 use Rattle.lol_base.specs.MemberLaws.{Among, among_from_contains}
 use Rattle.lol_base.specs.StartTags.{StartTag}
 use Rattle.lol_base.specs.declared.namespace.Namespace.{Namespace}
 use Rattle.lol_base.specs.declared.start_tag.AuxStartTagInfo.{AuxStartTagInfo}
 use Rattle.lol_instructions.specs.Tries.{names_counted, attributes_counted}
-use Rattle.lol_instructions.specs.declared.tries.Tries.{Tries}
 use Rattle.lol_memory.specs.declared.match_info.MatchInfo.{MatchInfo}
 use Rattle.lol_program.specs.Paths.{Path, Selectors}
-use Rattle.lol_vm.specs.Answers.{answer, document, Started}
-use Rattle.lol_vm.specs.Events.{Event, Start, has_content}
+use Rattle.lol_vm.specs.Events.{Event, has_content}
 use Rattle.lol_vm.specs.FreeTags.{AreFlat, RunsWithoutMemory}
 use Rattle.lol_vm.specs.Refusals.{Allowance, Cause}
-use Rattle.lol_vm.specs.Views.{match_of, selectors}
+use Rattle.lol_vm.specs.Views.{selectors}
 use Rattle.lol_vm.specs.Vms.{is_asked_for}
-use Rattle.lol_run_laws.specs.AskedRuns.{told_of}
 use Rattle.lol_matcher.specs.Answering.{Answers, IfWaits, IsAnsweredAfter, IsFinishedAs, IsReported, OpensFor, OpensStart, with_told}
 use Rattle.lol_matcher.specs.Noted.{handed, handed_told}
 use Rattle.lol_matcher.specs.Refusing.{Fits, IsRefusedFor, RefusesFinish, RefusesStart, RefusesStartWith, allowance, refusal_of}

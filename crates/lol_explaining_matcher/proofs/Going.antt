@@ -1,6 +1,6 @@
 -- What holds between the parts, one event on.
 use Rattle.std.proofs.Common.{◌≡◌, ℕ, ◌+◌, ◌-◌, ◌<◌, ◌^◌, Bool, true, false, List, [], ◌∷◌, ◌++◌, length, map, take, Option, Some, None, Result, Ok, Err, refl, sym, ap, ◌∙◌, subst, arith, true≢false}
-use Rattle.std.specs.Prelude.{reverse, drop, min, IfOk, IfSome, IsSome, not, ◌&&◌, ◌||◌, if◌then◌else◌}
+use Rattle.std.specs.Prelude.{reverse, min, IfOk, IfSome, IsSome, not, ◌&&◌, ◌||◌, if◌then◌else◌}
 use Rattle.std.proofs.lemmas.List.{length-append, length-map, length-reverse, map-append, reverse-append, reverse-reverse, take-append-drop, take_at}
 use Rattle.lol_base.specs.StartTags.{StartTag}
 use Rattle.lol_base.specs.declared.namespace.Namespace.{Namespace}
@@ -16,7 +16,7 @@ use Rattle.lol_program.specs.PairNodeLaws.{nodes_of-AreNodes}
 use Rattle.lol_program.specs.Paths.{Path, Selectors, all_beginnings}
 use Rattle.lol_program.specs.Sets.{SameMembers}
 use Rattle.lol_base.specs.Ascending.{ascending_once}
-use Rattle.lol_vm.specs.Answers.{Match, Started, Dropped, after, answer, asks, document, document_from, is_dropped, report}
+use Rattle.lol_vm.specs.Answers.{after, answer, asks, document, document_from, is_dropped, report}
 use Rattle.lol_vm.specs.AnswerLaws.{document_push}
 use Rattle.lol_run_laws.specs.AskedRuns.{bare_tag, told_of}
 use Rattle.lol_vm.specs.Documents.{Document, empty, element_of, outer_part, inner_part, place_of}
@@ -32,12 +32,12 @@ use Rattle.lol_matcher.specs.Building.{Building, started_with}
 use Rattle.lol_matcher.specs.Told.{Told, Matching, elements_of, heard, with_dropped}
 use Rattle.lol_matcher.specs.declared.matcher.Started.TheVariants.{Reported, NeedsAttributes}
 use Rattle.lol_matcher.specs.Noted.{finished, handed, handed_told, started_told, asked_told, finished_told, ended_told}
-use Rattle.lol_reasons.specs.Explanations.{Added, Reason, Text, added_by, explanations, explanations_from, pairs_added, reasons, reasons_at}
+use Rattle.lol_reasons.specs.Explanations.{Added, Reason, Text, added_by, explanations, explanations_from, reasons, reasons_at}
 use Rattle.lol_reasons.specs.declared.explainer.Explainer.{Explainer}
-use Rattle.lol_reasons.specs.Numbered.{HasItemsOf, HoldsItems, items_of}
+use Rattle.lol_reasons.specs.Numbered.{HoldsItems, items_of}
 use Rattle.lol_reasons.specs.NumberingLaws.{SameNodes}
-use Rattle.lol_reasons.specs.ReasonLaws.{ids_of_reasons, place_of_added}
-use Rattle.lol_explaining_matcher.specs.Explaining.{AreNumbered, Explains, Goes, IsLast, IsReported, matches_under, numbers_around, numbers_in, numbers_open, ReportsFor, reasons_told, report_under, with_opened, with_report_of}
+use Rattle.lol_reasons.specs.ReasonLaws.{ids_of_reasons}
+use Rattle.lol_explaining_matcher.specs.Explaining.{AreNumbered, Explains, Goes, IsLast, IsReported, matches_under, numbers_around, numbers_open, reasons_told, report_under, with_opened, with_report_of}
 use Rattle.lol_explaining_matcher.specs.Notes.{Noting, nothing_noted, with_event, with_refusal}
 use Rattle.lol_explaining_matcher.specs.Plain.{last_or, plain_selectors}
 use Rattle.lol_explaining_matcher.specs.PlainLaws.{LawsHold}

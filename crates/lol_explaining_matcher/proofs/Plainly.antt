@@ -1,12 +1,12 @@
 -- What the texts' selectors answer, where a machine has their items under numbers.
-use Rattle.std.proofs.Common.{◌≡◌, ℕ, Bool, true, false, List, [], ◌∷◌, ◌++◌, length, map, Option, Some, None, refl, sym, ap, ◌∙◌, subst}
+use Rattle.std.proofs.Common.{◌≡◌, ℕ, Bool, true, false, List, [], ◌∷◌, ◌++◌, map, refl, sym, ap, ◌∙◌, subst}
 use Rattle.std.specs.Prelude.{not, ◌&&◌, if◌then◌else◌}
 use Rattle.lol_base.specs.Ascending.{ascending_once}
 use Rattle.lol_base.specs.StartTags.{StartTag}
 use Rattle.lol_instructions.specs.Tests.{Element}
 use Rattle.lol_instructions.specs.Tries.{names_counted, attributes_counted}
 use Rattle.lol_memory.specs.declared.match_info.MatchInfo.{MatchInfo}
-use Rattle.lol_program.specs.Paths.{Path, Selectors}
+use Rattle.lol_program.specs.Paths.{Selectors}
 use Rattle.lol_program.specs.Sets.{SameMembers}
 use Rattle.lol_vm.specs.Answers.{Answer, Match, Started, Dropped, Ended, after, answer, answers_from, asks, document, document_from, is_dropped, matching_ids, report}
 use Rattle.lol_vm.specs.Documents.{Document, element_of, empty}
@@ -18,7 +18,7 @@ use Rattle.lol_vm.specs.Vms.{is_asked_for}
 use Rattle.lol_run_laws.specs.AskedRuns.{bare_tag, told_of}
 use Rattle.lol_matcher.specs.Refusing.{refusal_after}
 use Rattle.lol_matcher.specs.Told.{Matching, elements_of, heard}
-use Rattle.lol_reasons.specs.Explanations.{Added, Reason, Text, added_by, explanations, explanations_from, pairs_added, reasons, reasons_at}
+use Rattle.lol_reasons.specs.Explanations.{Added, Text, added_by, explanations, explanations_from, pairs_added, reasons, reasons_at}
 use Rattle.lol_reasons.specs.Numbered.{HasItemsOf}
 use Rattle.lol_reasons.specs.NumberingLaws.{GoesAlike, RunsAlike, SameNodes, reporting}
 use Rattle.lol_reasons.specs.ReasonLaws.{ids_of_reasons, place_of_added}

@@ -1,8 +1,8 @@
 use Rattle.std.proofs.Common.{◌≡◌, sym, ap, subst, ◌∙◌, Err, rules}
-use Rattle.lol_reasons.specs.Numbered.{items_of, texts_in}
+use Rattle.lol_reasons.specs.Numbered.{texts_in}
 use Rattle.lol_matcher.specs.Told.{Matching}
 use Rattle.lol_matcher.specs.declared.error.MatcherError.TheVariants.{Memory}
-use Rattle.lol_explaining_matcher.specs.Explaining.{Explains, with_report_of}
+use Rattle.lol_explaining_matcher.specs.Explaining.{Explains}
 use Rattle.lol_explaining_matcher.specs.Notes.{Noting}
 use Rattle.lol_explaining_matcher.proofs.Calls.{finishes, if_err, if_some, refused_unreported, refuses_finish, refuses_last_report}
 use Rattle.lol_explaining_matcher.proofs.Going.{finished_explains, refused_explains}
