@@ -5,7 +5,8 @@ import sys
 import unittest
 from pathlib import Path
 
-from zugrenja import Match, Matcher, Refused, ScriptError, SelectorError, TagError, run_script, select
+import zugrenja
+from zugrenja import Match, Matcher, Reason, Refused, ScriptError, SelectorError, TagError, run_script, select
 
 HERE = Path(__file__).resolve().parent
 EXAMPLES = HERE.parent.parent / "examples"
@@ -42,6 +43,26 @@ class StoredCases(unittest.TestCase):
         for script, answer, status in cases.cases():
             with self.subTest(script=script):
                 self.assertEqual(tags.run(script), (answer.decode(), status))
+
+    def test_are_explained_as_scripts_are(self) -> None:
+        explained = 0
+        for script, _, status in cases.cases():
+            script = b"explain\n" + script
+            with self.subTest(script=script):
+                output = output_of(script)
+                self.assertEqual(tags.run(script), (output, status))
+                explained += output.count("why\t")
+        self.assertGreater(explained, 5000)
+
+
+def output_of(script: bytes) -> str:
+    """The output of a script, however it ends."""
+    try:
+        return run_script(script)
+    except ScriptError as bad:
+        return f"bad line {bad.line}: {bad.cause}\n"
+    except Refused as refused:
+        return refused.output
 
 
 class TableOfCalls(unittest.TestCase):
@@ -114,6 +135,73 @@ class Tags(unittest.TestCase):
                     matcher.add(0, text)
             with self.assertRaises(ValueError):
                 matcher.add(2**32, "p")
+
+
+class Reasons(unittest.TestCase):
+    def test_tell_the_elements_of_the_compounds(self) -> None:
+        with Matcher(["div p", "div > p"], explain=True) as matcher:
+            for name in ("div", "section", "p"):
+                matcher.start(name)
+            self.assertEqual(matcher.explain(), [Reason(id=0, text=0, item=0, witness=(0, 2))])
+            self.assertEqual(matcher.explain_text(), "why\t0\t0\t0\t0,2\n")
+            self.assertEqual(str(matcher.explain()[0]), "why\t0\t0\t0\t0,2")
+            matcher.end("section")
+            self.assertEqual((matcher.explain(), matcher.explain_text()), ([], ""))
+            matcher.start("p")
+            self.assertEqual(matcher.explain(), [(0, 0, 0, (0, 4)), (1, 1, 0, (0, 4))])
+
+    def test_name_each_item_of_each_text(self) -> None:
+        with Matcher(explain=True) as matcher:
+            for text in ("em, p.new, p", "body > p, [class], body [class=new]"):
+                matcher.add(7, text)
+            self.assertEqual((matcher.explain(), matcher.explain_text()), ([], ""))
+            matcher.start("body")
+            self.assertEqual(matcher.start("p", {"class": "new"}), (7,))
+            items = [(0, 1, (1,)), (0, 2, (1,)), (1, 0, (0, 1)), (1, 1, (1,)), (1, 2, (0, 1))]
+            self.assertEqual(matcher.explain(), [Reason(7, *item) for item in items])
+            self.assertEqual(matcher.explain_text(), "".join(f"{reason}\n" for reason in matcher.explain()))
+
+    def test_of_elements_without_content(self) -> None:
+        with Matcher(["br", "br > p", "* p"], explain=True) as matcher:
+            matcher.start("br")
+            self.assertEqual(matcher.explain(), [Reason(0, 0, 0, (0,))])
+            matcher.start("p")
+            self.assertEqual(matcher.explain(), [])
+
+    def test_count_dropped_tags(self) -> None:
+        with Matcher(["p[id]", "b"], explain=True) as matcher:
+            self.assertEqual((matcher.start("p", None), matcher.explain()), ((), []))
+            matcher.start("b")
+            self.assertEqual(matcher.explain(), [Reason(1, 1, 0, (1,))])
+
+    def test_are_none_after_a_refusal(self) -> None:
+        with Matcher(["p, br"], max_memory=8 * 64, explain=True) as matcher:
+            for _ in range(8):
+                matcher.start("p")
+            self.assertEqual(matcher.explain(), [Reason(0, 0, 0, (7,))])
+            with self.assertRaises(TagError):
+                matcher.start("p")
+            self.assertEqual(matcher.explain(), [])
+
+    def test_as_many_and_as_long_as_they_come(self) -> None:
+        with Matcher([" ".join(["p"] * 100), "p, " * 30 + "p"], explain=True) as matcher:
+            for _ in range(100):
+                matcher.start("p")
+            reasons = [Reason(0, 0, 0, tuple(range(100))), *(Reason(1, 1, item, (99,)) for item in range(31))]
+            self.assertEqual(matcher.explain(), reasons)
+            self.assertEqual(matcher.explain_text(), "".join(f"{reason}\n" for reason in reasons))
+
+    def test_are_not_told_unless_it_was_made_so(self) -> None:
+        with Matcher(["p"]) as matcher:
+            for tells in (matcher.explain, matcher.explain_text):
+                with self.assertRaises(TagError):
+                    tells()
+                matcher.start("p")
+                with self.assertRaises(TagError) as raised:
+                    tells()
+                self.assertEqual(raised.exception.status, zugrenja.NOT_EXPLAINING)
+        with self.assertRaises(TagError):
+            matcher.explain()
 
 
 class Select(unittest.TestCase):

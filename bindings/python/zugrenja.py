@@ -4,19 +4,22 @@
         matcher.start("main")
         matcher.start("a", {"href": "/"})   # (0,)
         matcher.end("main")
+
+A matcher with `explain=True` says why the last tag was reported: `matcher.explain()`.
 """
 
 from __future__ import annotations
 
 import ctypes
 import os
-from collections.abc import Iterable, Mapping
+from collections.abc import Callable, Iterable, Mapping
+from functools import partial
 from html.parser import HTMLParser
 from pathlib import Path
 from typing import NamedTuple
 
 GOOD, NEEDS_ATTRIBUTES, BAD_LINE, REFUSED, OUT_OF_MEMORY, NO_MATCHER = range(6)
-BUILT, NOT_UTF8, NOT_ACCEPTED, LIMIT, COUNTER = 8, 9, 10, 12, 13
+BUILT, NOT_UTF8, NOT_ACCEPTED, LIMIT, COUNTER, NOT_EXPLAINING = 8, 9, 10, 12, 13, 19
 NAMESPACES = {"html": 0, "svg": 1, "mathml": 2}
 CAUSES = (
     "UnexpectedToken", "UnexpectedEnd", "MissingAttributeName", "EmptySelector", "DanglingCombinator", "UnexpectedTokenInAttribute",
@@ -67,6 +70,21 @@ class Match(NamedTuple):
     attributes: dict[str, str | None]
 
 
+class Reason(NamedTuple):
+    """Why a tag was reported: the id, the number of the text that was added under it, in the order of adding, and of the item of its list
+    that matches, both from 0; and for each compound of the item the number of the start tag whose element it is passed by, the outermost
+    first, that of the tag itself last."""
+
+    id: int
+    text: int
+    item: int
+    witness: tuple[int, ...]
+
+    def __str__(self) -> str:
+        """Its line in `Matcher.explain_text`, without the line's end."""
+        return f"why\t{self.id}\t{self.text}\t{self.item}\t{','.join(map(str, self.witness))}"
+
+
 class _Handle(ctypes.Structure):
     _fields_ = [("at", ctypes.c_void_p), ("live", ctypes.c_uint8)]
 
@@ -82,12 +100,20 @@ class _Attribute(ctypes.Structure):
     ]
 
 
+class _Reason(ctypes.Structure):
+    _fields_ = [
+        ("text", ctypes.c_size_t), ("item", ctypes.c_size_t), ("numbers_start", ctypes.c_size_t), ("numbers_len", ctypes.c_size_t),
+        ("id", ctypes.c_uint32),
+    ]
+
+
 def _library() -> ctypes.CDLL:
     path = os.environ.get("ZUGRENJA_LIBRARY", Path(__file__).parent / "libzugrenja.so")
     library = ctypes.CDLL(str(path))
     number, size, text, out = ctypes.c_uint32, ctypes.c_size_t, ctypes.c_char_p, ctypes.c_void_p
     for name, arguments in {
         "new": [out, size, size, number],
+        "new_explaining": [out, size, size, number],
         "add": [out, number, text, size, out],
         "build": [out],
         "start": [out, text, size, number, out],
@@ -97,6 +123,8 @@ def _library() -> ctypes.CDLL:
         "ids": [out, out, size, out],
         "has_opened": [out, out],
         "tries": [out, out, out],
+        "explain": [out, out, size, out, size, out, out],
+        "explain_text": [out, text, size, out],
         "free": [out],
         "run_script": [text, size, text, size, out],
         "text": [number, number, number, text, size],
@@ -120,21 +148,42 @@ def _text(status: int, cause: int = 0, combinator: int = 0) -> str:
     return text.raw[:length].decode()
 
 
+def _written(write: Callable[..., int], room: int) -> tuple[int, str]:
+    """The status of a call that writes the beginning of a text that fits, and all of the text."""
+    written = ctypes.c_size_t()
+    while True:
+        out = ctypes.create_string_buffer(room)
+        status = write(out, room, ctypes.addressof(written))
+        if written.value <= room:
+            return status, out.raw[: written.value].decode()
+        room = written.value
+
+
 class Matcher:
     """Matches selectors against the start tags of a document, as its tags come. It is built by the first tag.
 
     A list of selectors gets the ids 0, 1, .. Close it by `close`, or use it in a `with` block. It stays on its thread.
+
+    With `explain` it says of each tag why it was reported. That takes more memory and time at each tag.
     """
 
     def __init__(
-        self, selectors: Iterable[str] = (), *, max_memory: int | None = None, element_bytes: int = 64, esi: bool = False
+        self,
+        selectors: Iterable[str] = (),
+        *,
+        max_memory: int | None = None,
+        element_bytes: int = 64,
+        esi: bool = False,
+        explain: bool = False,
     ) -> None:
         self._handle, self._built, self._open = _Handle(), False, 0
         self._at = ctypes.addressof(self._handle)
         limit = ctypes.c_size_t(-1).value if max_memory is None else max_memory
-        self._check(_LIBRARY.zugrenja_new(self._at, limit, element_bytes, esi))
+        new = _LIBRARY.zugrenja_new_explaining if explain else _LIBRARY.zugrenja_new
+        self._check(new(self._at, limit, element_bytes, esi))
         self._count, self._opened = ctypes.c_size_t(), ctypes.c_uint32()
         self._values = (ctypes.c_uint64 * 0)()
+        self._explains, self._reasons, self._numbers = explain, (_Reason * 8)(), (ctypes.c_size_t * 64)()
         self.ids: tuple[int, ...] = ()
         self.asked = False
         for number, selector in enumerate(selectors):
@@ -241,6 +290,42 @@ class Matcher:
         _LIBRARY.zugrenja_tries(self._at, ctypes.addressof(names), ctypes.addressof(attributes))
         return names.value, attributes.value
 
+    def explain(self) -> list[Reason]:
+        """Why the last tag was reported: a reason for each item of a text that matches its element, in the order of adding and of the list.
+
+        Tags are numbered from 0 in the order of the calls, end tags and dropped tags too; one that was refused has no number. There are
+        no reasons after an end tag, where the tag was dropped or refused, and before the first tag.
+        Raises TagError if the matcher was made without `explain`, and MemoryError.
+        """
+        if self._explains and not self._built:
+            return []
+        reasons, numbers = ctypes.c_size_t(), ctypes.c_size_t()
+        while True:
+            status = _LIBRARY.zugrenja_explain(
+                self._at, ctypes.addressof(self._reasons), len(self._reasons), ctypes.addressof(self._numbers), len(self._numbers),
+                ctypes.addressof(reasons), ctypes.addressof(numbers),
+            )
+            self._check(status)
+            if reasons.value <= len(self._reasons) and numbers.value <= len(self._numbers):
+                break
+            self._reasons, self._numbers = (_Reason * (2 * reasons.value))(), (ctypes.c_size_t * (2 * numbers.value))()
+        told, witnesses = self._reasons[: reasons.value], self._numbers[: numbers.value]
+        return [
+            Reason(one.id, one.text, one.item, tuple(witnesses[one.numbers_start : one.numbers_start + one.numbers_len])) for one in told
+        ]
+
+    def explain_text(self) -> str:
+        """The same as text: for each reason a line of `why`, the id, the text's number, the item's and the witness, with TABs between.
+
+        It is what a script's `explain` writes (docs/SCRIPT.md), with the text's number in the place of its line's. It raises what `explain`
+        raises.
+        """
+        if self._explains and not self._built:
+            return ""
+        status, text = _written(partial(_LIBRARY.zugrenja_explain_text, self._at), 256)
+        self._check(status)
+        return text
+
     def end(self, name: str | bytes) -> list[int]:
         """An end tag: the values of the elements that it closes, the outermost first, 0 if none was given. Raises MemoryError."""
         self._begin()
@@ -262,15 +347,7 @@ def run_script(script: bytes) -> str:
 
     Raises ScriptError for a bad line, Refused for a refused tag, and MemoryError.
     """
-    written = ctypes.c_size_t()
-    room = len(script) + 64
-    while True:
-        out = ctypes.create_string_buffer(room)
-        status = _LIBRARY.zugrenja_run_script(script, len(script), out, room, ctypes.addressof(written))
-        if written.value <= room:
-            break
-        room = written.value
-    text = out.raw[: written.value].decode()
+    status, text = _written(partial(_LIBRARY.zugrenja_run_script, script, len(script)), len(script) + 64)
     if status == BAD_LINE:
         head, _, cause = text.rstrip("\n").partition(": ")
         raise ScriptError(int(head.rsplit(" ", 1)[1]), cause)

@@ -10,7 +10,7 @@ from pathlib import Path
 sys.path.insert(0, str(Path(__file__).resolve().parent.parent))
 from zugrenja import LIMIT, Matcher, SelectorError, TagError  # noqa: E402
 
-BEFORE = (b"limit", b"esi", b"tries", b"select")
+BEFORE = (b"limit", b"esi", b"tries", b"explain", b"select")
 
 
 def joined(numbers: Iterable[object]) -> str:
@@ -39,12 +39,19 @@ def answer(matcher: Matcher, number: int, fields: list[bytes], shows_tries: bool
     return f"start\t{joined(f'{number}{mark}' for number in ids)}{asked}{tries}\n"
 
 
+def why(matcher: Matcher, numbers: list[int]) -> str:
+    """The lines that say why the last tag was reported; `numbers` are those of the lines of the texts."""
+    reasons = ((one, joined(one.witness)) for one in matcher.explain())
+    return "".join(f"why\t{one.id}\t{numbers[one.text]}\t{one.item}\t{witness}\n" for one, witness in reasons)
+
+
 def run(script: bytes) -> tuple[str, int]:
     """The output of a script, and lol_match's exit status."""
     lines = [line.split(b"\t") for line in script.split(b"\n")]
     limits = [int(fields[1]) for fields in lines if fields[0] == b"limit"]
-    out = []
-    with Matcher(max_memory=limits[-1] if limits else None, esi=[b"esi"] in lines) as matcher:
+    texts = [number for number, fields in enumerate(lines, 1) if fields[0] == b"select"]
+    explain, out = [b"explain"] in lines, []
+    with Matcher(max_memory=limits[-1] if limits else None, esi=[b"esi"] in lines, explain=explain) as matcher:
         for number, fields in enumerate(lines, 1):
             if fields[0] == b"select":
                 try:
@@ -54,7 +61,8 @@ def run(script: bytes) -> tuple[str, int]:
         for fields in lines:
             if fields[0] and fields[0] not in BEFORE:
                 try:
-                    out.append(answer(matcher, len(out), fields, [b"tries"] in lines))
+                    line = answer(matcher, len(out), fields, [b"tries"] in lines)
+                    out.append(line + why(matcher, texts) if explain else line)
                 except TagError as error:
                     return "".join(out) + f"refused {'limit' if error.status == LIMIT else 'counter'}\n", 3
     return "".join(out), 0
