@@ -3,7 +3,7 @@
 
 use std::io::{self, Read, Write};
 use std::process::ExitCode;
-use zugrenja::{Attribute, Builder, Cause, Error, Matcher, Namespace, Settings, Started};
+use zugrenja::{Attribute, Builder, Cause, Error, Matcher, Namespace, Reason, Settings, Started};
 
 /// How a run ends before its last line.
 enum Stopped {
@@ -37,6 +37,13 @@ fn joined(numbers: impl Iterator<Item = String>) -> String {
     }
 }
 
+/// The lines that say why the last tag was reported; `numbers` are those of the lines of the texts.
+fn why(matcher: &mut Matcher, numbers: &[usize]) -> Result<String, Error> {
+    let reasons = matcher.explain()?.into_iter();
+    let in_lines = reasons.map(|reason| Reason { text: numbers[reason.text], ..reason });
+    Ok(in_lines.map(|reason| format!("{reason}\n")).collect())
+}
+
 /// The settings of a script, and whether tries are shown.
 fn settings_of(script: &[u8]) -> (Settings, bool) {
     let (mut settings, mut shows_tries) = (Settings::default(), false);
@@ -44,6 +51,7 @@ fn settings_of(script: &[u8]) -> (Settings, bool) {
         match cut(line, b'\t') {
             (b"limit", Some(number)) => settings.max_memory = text(number).parse().unwrap_or(usize::MAX),
             (b"esi", None) => settings.esi = true,
+            (b"explain", None) => settings.explain = true,
             (b"tries", None) => shows_tries = true,
             _ => {}
         }
@@ -51,9 +59,10 @@ fn settings_of(script: &[u8]) -> (Settings, bool) {
     (settings, shows_tries)
 }
 
-/// The matcher of a script, before the first tag.
-fn matcher_of(script: &[u8], settings: Settings) -> Result<Matcher, Stopped> {
+/// The matcher of a script, before the first tag, and the numbers of the lines of its texts.
+fn matcher_of(script: &[u8], settings: Settings) -> Result<(Matcher, Vec<usize>), Stopped> {
     let mut builder = Builder::with_settings(settings)?;
+    let mut numbers = Vec::new();
     for (line, number) in script.split(|byte| *byte == b'\n').zip(1..) {
         let (b"select", Some(rest)) = cut(line, b'\t') else { continue };
         let (id, selectors) = cut(rest, b'\t');
@@ -61,8 +70,9 @@ fn matcher_of(script: &[u8], settings: Settings) -> Result<Matcher, Stopped> {
             Err(Error::Selector { cause, .. }) => return Err(Stopped::BadLine(number, cause)),
             added => added?,
         }
+        numbers.push(number);
     }
-    Ok(builder.build()?)
+    Ok((builder.build()?, numbers))
 }
 
 /// Tells of a start tag, whose number becomes its element's value: the line that answers it.
@@ -99,7 +109,7 @@ fn start(matcher: &mut Matcher, fields: &[&[u8]], shows_tries: bool, number: u64
 /// Runs a script: its output is added to `out`.
 fn run(script: &[u8], out: &mut String) -> Result<(), Stopped> {
     let (settings, shows_tries) = settings_of(script);
-    let mut matcher = matcher_of(script, settings)?;
+    let (mut matcher, numbers) = matcher_of(script, settings)?;
     let mut number = 0;
     for line in script.split(|byte| *byte == b'\n') {
         let fields: Vec<&[u8]> = line.split(|byte| *byte == b'\t').collect();
@@ -110,6 +120,9 @@ fn run(script: &[u8], out: &mut String) -> Result<(), Stopped> {
                 out.push_str(&format!("end\t{}\n", joined(closed.map(u64::to_string))));
             }
             _ => continue,
+        }
+        if settings.explain {
+            out.push_str(&why(&mut matcher, &numbers)?);
         }
         number += 1;
     }

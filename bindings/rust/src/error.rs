@@ -117,6 +117,10 @@ pub enum Error {
     OutsideText,
     /// The last tag has opened no element.
     NotOpened,
+    /// The matcher doesn't explain: it was made without [`Settings::explain`](crate::Settings::explain).
+    NotExplaining,
+    /// A matcher that explains has more items of selectors than there are ids, 4,294,967,296.
+    TooManyItems,
 }
 
 impl Error {
@@ -134,6 +138,8 @@ impl Error {
             ffi::NOT_ASKED => Error::NotAsked,
             ffi::OUTSIDE => Error::OutsideText,
             ffi::NOT_OPENED => Error::NotOpened,
+            ffi::NOT_EXPLAINING => Error::NotExplaining,
+            ffi::TOO_MANY_ITEMS => Error::TooManyItems,
             _ => panic!("no error has the status {status}: the archive is of another version"),
         }
     }
@@ -159,6 +165,8 @@ impl fmt::Display for Error {
             Error::NotAsked => ffi::NOT_ASKED,
             Error::OutsideText => ffi::OUTSIDE,
             Error::NotOpened => ffi::NOT_OPENED,
+            Error::NotExplaining => ffi::NOT_EXPLAINING,
+            Error::TooManyItems => ffi::TOO_MANY_ITEMS,
         };
         write_text(f, status, 0, 0)
     }
@@ -175,8 +183,8 @@ mod tests {
         assert_eq!(Error::of(4).to_string(), "out of memory");
         assert_eq!(Error::of(14).to_string(), "out of memory");
         assert_eq!(Error::of(18).to_string(), "the last tag has opened no element");
-        let shown: std::collections::HashSet<_> = (12..19).map(|status| Error::of(status).to_string()).collect();
-        assert_eq!(shown.len(), 7);
+        let shown: std::collections::HashSet<_> = (12..21).map(|status| Error::of(status).to_string()).collect();
+        assert_eq!(shown.len(), 9);
     }
 
     #[test]
@@ -192,6 +200,6 @@ mod tests {
     #[test]
     #[should_panic(expected = "another version")]
     fn other_statuses_are_no_errors() {
-        Error::of(19);
+        Error::of(21);
     }
 }

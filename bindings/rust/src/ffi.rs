@@ -24,6 +24,8 @@ pub const FAILED: u32 = 15;
 pub const NOT_ASKED: u32 = 16;
 pub const OUTSIDE: u32 = 17;
 pub const NOT_OPENED: u32 = 18;
+pub const NOT_EXPLAINING: u32 = 19;
+pub const TOO_MANY_ITEMS: u32 = 20;
 
 /// `ZUGRENJA_TEXT`.
 pub const TEXT: usize = 96;
@@ -62,14 +64,28 @@ pub struct Attribute {
     pub has_value: u32,
 }
 
+/// `zugrenja_reason`.
+#[repr(C)]
+#[derive(Clone, Copy, Debug, Default)]
+pub struct Reason {
+    pub text: usize,
+    pub item: usize,
+    pub numbers_start: usize,
+    pub numbers_len: usize,
+    pub id: u32,
+}
+
 extern "C" {
     /// GOOD, IN_USE, OUT_OF_MEMORY. After GOOD, `zugrenja_free` is owed before the handle goes.
     pub fn zugrenja_new(matcher: *mut Handle, max_memory: usize, element_bytes: usize, esi: u32) -> u32;
 
+    /// As `zugrenja_new`, but the matcher explains.
+    pub fn zugrenja_new_explaining(matcher: *mut Handle, max_memory: usize, element_bytes: usize, esi: u32) -> u32;
+
     /// GOOD, NOT_ACCEPTED, NOT_UTF8, BUILT, NO_MATCHER, OUT_OF_MEMORY. Writes `refusal` if NOT_ACCEPTED alone, and doesn't keep `text`.
     pub fn zugrenja_add(matcher: *mut Handle, id: u32, text: *const u8, text_len: usize, refusal: *mut Refusal) -> u32;
 
-    /// GOOD, BUILT, NO_MATCHER, OUT_OF_MEMORY. Out of memory, the matcher is freed.
+    /// GOOD, BUILT, NO_MATCHER, OUT_OF_MEMORY, TOO_MANY_ITEMS. After the last two the matcher is freed.
     pub fn zugrenja_build(matcher: *mut Handle) -> u32;
 
     /// GOOD, NEEDS_ATTRIBUTES, LIMIT, COUNTER, TAG_OUT_OF_MEMORY, FAILED, NO_NAMESPACE, NOT_BUILT, NO_MATCHER. Writes `matched` always, and
@@ -115,6 +131,21 @@ extern "C" {
 
     /// GOOD, NOT_BUILT, NO_MATCHER. Writes both numbers if GOOD.
     pub fn zugrenja_tries(matcher: *mut Handle, names: *mut u64, attributes: *mut u64) -> u32;
+
+    /// GOOD, NOT_EXPLAINING, NOT_BUILT, NO_MATCHER, OUT_OF_MEMORY. If GOOD, writes both counts, and as many `reasons` and `numbers` as there
+    /// are and fit.
+    pub fn zugrenja_explain(
+        matcher: *mut Handle,
+        reasons: *mut Reason,
+        reasons_len: usize,
+        numbers: *mut usize,
+        numbers_len: usize,
+        reasons_count: *mut usize,
+        numbers_count: *mut usize,
+    ) -> u32;
+
+    /// GOOD, NOT_EXPLAINING, NOT_BUILT, NO_MATCHER, OUT_OF_MEMORY. If GOOD, writes `written`, and of `out` what fits of the text.
+    pub fn zugrenja_explain_text(matcher: *mut Handle, out: *mut u8, out_len: usize, written: *mut usize) -> u32;
 
     /// GOOD, NO_MATCHER.
     pub fn zugrenja_free(matcher: *mut Handle) -> u32;

@@ -19,6 +19,8 @@
 //! # Ok::<(), zugrenja::Error>(())
 //! ```
 //!
+//! A matcher that is built with [`Settings::explain`] also says why the last tag was reported: [`Matcher::explain`].
+//!
 //! The selectors that are accepted stand in `docs/SELECTORS.md`. What is proved is the contract of each function of `crates/zugrenja_c`;
 //! this package, which calls them, is tested only. Beside what a matcher is refused, a vector of this package that finds no memory
 //! ends the program, as everywhere in Rust.
@@ -26,9 +28,11 @@
 
 mod error;
 mod ffi;
+mod reason;
 mod script;
 
 pub use error::{Cause, Error};
+pub use reason::Reason;
 pub use script::{run_script, Ending};
 
 use std::ops::Range;
@@ -111,12 +115,14 @@ pub struct Settings {
     pub element_bytes: usize,
     /// Whether `esi:include` and `esi:comment` are void names, those of elements without content.
     pub esi: bool,
+    /// Whether the matcher explains its reports, which takes more memory and time at each tag.
+    pub explain: bool,
 }
 
 impl Default for Settings {
-    /// No bound, 64 bytes for each element, and no names of ESI.
+    /// No bound, 64 bytes for each element, no names of ESI, and no explanations.
     fn default() -> Settings {
-        Settings { max_memory: usize::MAX, element_bytes: 64, esi: false }
+        Settings { max_memory: usize::MAX, element_bytes: 64, esi: false, explain: false }
     }
 }
 
@@ -159,10 +165,11 @@ impl Builder {
     /// # Errors
     /// [`Error::OutOfMemory`].
     pub fn with_settings(settings: Settings) -> Result<Builder, Error> {
-        let Settings { max_memory, element_bytes, esi } = settings;
+        let Settings { max_memory, element_bytes, esi, explain } = settings;
+        let new = if explain { ffi::zugrenja_new_explaining } else { ffi::zugrenja_new };
         let mut handle = Handle(Box::new(ffi::Handle::ZEROS));
         // SAFETY: the handle is all zeros.
-        match unsafe { ffi::zugrenja_new(handle.raw(), max_memory, element_bytes, esi.into()) } {
+        match unsafe { new(handle.raw(), max_memory, element_bytes, esi.into()) } {
             ffi::GOOD => Ok(Builder(handle)),
             status => Err(Error::of(status)),
         }
@@ -194,7 +201,7 @@ impl Builder {
     /// The matcher, before a document's first tag.
     ///
     /// # Errors
-    /// [`Error::OutOfMemory`]: the builder is gone then.
+    /// [`Error::OutOfMemory`], and [`Error::TooManyItems`] if it is to explain: the builder is gone then.
     pub fn build(mut self) -> Result<Matcher, Error> {
         // SAFETY: only the handle is given.
         match unsafe { ffi::zugrenja_build(self.0.raw()) } {
@@ -228,6 +235,9 @@ pub struct Matcher {
     values: Vec<u64>,
     places: Vec<ffi::Attribute>,
     text: Vec<u8>,
+    /// Room for as many reasons and numbers of tags as there ever were.
+    reasons: Vec<ffi::Reason>,
+    numbers: Vec<usize>,
 }
 
 impl Matcher {
@@ -261,6 +271,8 @@ impl Matcher {
             values: Vec::new(),
             places: Vec::new(),
             text: Vec::new(),
+            reasons: Vec::new(),
+            numbers: Vec::new(),
         }
     }
 
@@ -428,9 +440,7 @@ impl Matcher {
     /// ```
     pub fn end(&mut self, name: impl AsRef<[u8]>) -> Result<&[u64], Error> {
         let (name, mut closed) = (name.as_ref(), 0);
-        let more = self.open.saturating_sub(self.values.len());
-        self.values.try_reserve(more).map_err(|_| Error::OutOfMemory)?;
-        self.values.resize(self.values.len() + more, 0);
+        make_room(&mut self.values, self.open)?;
         let (handle, values) = (self.handle.raw(), self.values.as_mut_ptr());
         // SAFETY: `name`, `values` and `closed` live.
         match unsafe { ffi::zugrenja_end(handle, name.as_ptr(), name.len(), values, self.values.len(), &mut closed) } {
@@ -449,6 +459,82 @@ impl Matcher {
         unsafe { ffi::zugrenja_tries(self.handle.raw(), &mut tries.names, &mut tries.attributes) };
         tries
     }
+
+    /// Why the last tag was reported: a reason for each item of a text that matches its element, in the order of adding and of the list.
+    /// There are none after an end tag, or where a tag waits or is refused.
+    ///
+    /// Tags are numbered from 0 in the order in which they are told, end tags and dropped tags too; one that was refused has no number.
+    ///
+    /// # Errors
+    /// [`Error::NotExplaining`] for a matcher that was made without [`Settings::explain`], and [`Error::OutOfMemory`].
+    ///
+    /// ```
+    /// use zugrenja::{Builder, Namespace, Reason, Settings};
+    ///
+    /// let mut builder = Builder::with_settings(Settings { explain: true, ..Settings::default() })?;
+    /// builder.add(7, "li, div p")?;
+    /// let mut matcher = builder.build()?;
+    /// for name in ["div", "section", "p"] {
+    ///     matcher.tag(name, Namespace::Html, &[], false)?;
+    /// }
+    /// assert_eq!(matcher.explain()?, [Reason { id: 7, text: 0, item: 1, witness: vec![0, 2] }]);
+    /// # Ok::<(), zugrenja::Error>(())
+    /// ```
+    pub fn explain(&mut self) -> Result<Vec<Reason>, Error> {
+        loop {
+            let (handle, mut reasons, mut numbers) = (self.handle.raw(), 0, 0);
+            // SAFETY: both vectors and both counts live.
+            let status = unsafe {
+                ffi::zugrenja_explain(
+                    handle,
+                    self.reasons.as_mut_ptr(),
+                    self.reasons.len(),
+                    self.numbers.as_mut_ptr(),
+                    self.numbers.len(),
+                    &mut reasons,
+                    &mut numbers,
+                )
+            };
+            if status != ffi::GOOD {
+                return Err(Error::of(status));
+            }
+            if reasons <= self.reasons.len() && numbers <= self.numbers.len() {
+                return Ok(self.reasons[..reasons].iter().map(|one| Reason::of(one, &self.numbers)).collect());
+            }
+            make_room(&mut self.reasons, reasons)?;
+            make_room(&mut self.numbers, numbers)?;
+        }
+    }
+
+    /// The same as text: for each reason its line, as [`Reason`] is shown. It is what a script's `explain` writes (`docs/SCRIPT.md`), with
+    /// the text's number in the place of its line's.
+    ///
+    /// # Errors
+    /// Those of [`Matcher::explain`].
+    pub fn explain_text(&mut self) -> Result<String, Error> {
+        let mut out = vec![0; 256];
+        loop {
+            let mut written = 0;
+            // SAFETY: `out` and `written` live.
+            let status =
+                unsafe { ffi::zugrenja_explain_text(self.handle.raw(), out.as_mut_ptr(), out.len(), &mut written) };
+            if status != ffi::GOOD {
+                return Err(Error::of(status));
+            }
+            if written <= out.len() {
+                return Ok(String::from_utf8_lossy(&out[..written]).into_owned());
+            }
+            make_room(&mut out, written)?;
+        }
+    }
+}
+
+/// Makes a vector at least so long.
+fn make_room<T: Clone + Default>(vector: &mut Vec<T>, length: usize) -> Result<(), Error> {
+    let more = length.saturating_sub(vector.len());
+    vector.try_reserve(more).map_err(|_| Error::OutOfMemory)?;
+    vector.resize(vector.len() + more, T::default());
+    Ok(())
 }
 
 /// How many nodes of the selectors' tree were tried for a start tag.

@@ -6,11 +6,30 @@ use Namespace::{Html, MathMl, Svg};
 
 /// A matcher with this room for open elements.
 fn limited(max_memory: usize, element_bytes: usize, texts: &[&str]) -> Matcher {
-    let mut builder = Builder::with_settings(Settings { max_memory, element_bytes, esi: false }).unwrap();
+    built(Settings { max_memory, element_bytes, ..Settings::default() }, texts)
+}
+
+/// A matcher for texts under the id 0.
+fn built(settings: Settings, texts: &[&str]) -> Matcher {
+    let mut builder = Builder::with_settings(settings).unwrap();
     for text in texts {
         builder.add(0, text).unwrap();
     }
     builder.build().unwrap()
+}
+
+/// One that explains.
+fn explaining(texts: &[&str]) -> Matcher {
+    built(Settings { explain: true, ..Settings::default() }, texts)
+}
+
+/// The texts, the items and the witnesses of the last tag's reasons, which are all under the id 0.
+fn reasons(matcher: &mut Matcher) -> Vec<(usize, usize, Vec<usize>)> {
+    let reasons = matcher.explain().unwrap();
+    let lines: String = reasons.iter().map(|reason| format!("{reason}\n")).collect();
+    assert_eq!(matcher.explain_text(), Ok(lines));
+    assert!(reasons.iter().all(|reason| reason.id == 0));
+    reasons.into_iter().map(|reason| (reason.text, reason.item, reason.witness)).collect()
 }
 
 fn matcher(texts: &[&str]) -> Matcher {
@@ -209,6 +228,72 @@ fn tries_are_told() {
     let tries = matcher.tries();
     let last = format!("start\t1\tasked\ttries {} {}\n", tries.names, tries.attributes);
     assert!(String::from_utf8(output).unwrap().ends_with(&last), "{last}");
+}
+
+#[test]
+fn reasons_tell_the_elements_of_the_compounds() {
+    let mut matcher = explaining(&["div p", "div > p"]);
+    for name in ["div", "section", "p"] {
+        matcher.tag(name, Html, &[], false).unwrap();
+    }
+    assert_eq!(reasons(&mut matcher), [(0, 0, vec![0, 2])]);
+    assert_eq!(matcher.explain_text().unwrap(), "why\t0\t0\t0\t0,2\n");
+    matcher.end("section").unwrap();
+    assert_eq!(reasons(&mut matcher), []);
+    matcher.tag("p", Html, &[], false).unwrap();
+    assert_eq!(reasons(&mut matcher), [(0, 0, vec![0, 4]), (1, 0, vec![0, 4])]);
+}
+
+#[test]
+fn reasons_name_each_item_of_each_text() {
+    let mut matcher = explaining(&["em, p.new, p", "body > p, [class], body [class=new]"]);
+    assert_eq!(reasons(&mut matcher), []);
+    matcher.tag("body", Html, &[], false).unwrap();
+    assert_eq!(matcher.tag("p", Html, &[Attribute::new("class", "new")], false), Ok(&[0][..]));
+    let wanted = [(0, 1, vec![1]), (0, 2, vec![1]), (1, 0, vec![0, 1]), (1, 1, vec![1]), (1, 2, vec![0, 1])];
+    assert_eq!(reasons(&mut matcher), wanted);
+    matcher.end("p").unwrap();
+    matcher.tag("br", Html, &[Attribute::new("class", "new")], false).unwrap();
+    assert_eq!(reasons(&mut matcher), [(1, 1, vec![3]), (1, 2, vec![0, 3])]);
+}
+
+#[test]
+fn tags_that_are_dropped_have_numbers_and_no_reasons() {
+    let mut matcher = explaining(&["p[id], b"]);
+    assert_eq!(matcher.start("p", Html), Ok(Started::NeedsAttributes));
+    assert_eq!(reasons(&mut matcher), []);
+    matcher.tag("b", Html, &[], false).unwrap();
+    assert_eq!(reasons(&mut matcher), [(0, 1, vec![1])]);
+}
+
+#[test]
+fn a_tag_that_is_refused_has_no_reasons() {
+    let mut matcher = built(Settings { max_memory: 512, explain: true, ..Settings::default() }, &["p"]);
+    while matcher.start("p", Html).is_ok() {}
+    assert_eq!(reasons(&mut matcher), []);
+    assert_eq!(matcher.end("p").map(<[u64]>::len), Ok(1));
+    assert_eq!(reasons(&mut matcher), []);
+}
+
+#[test]
+fn reasons_are_as_many_and_as_long_as_they_come() {
+    let mut matcher = explaining(&["p, ".repeat(40).trim_end_matches(", "), "p ".repeat(100).trim_end()]);
+    for _ in 0..100 {
+        matcher.tag("p", Html, &[], false).unwrap();
+    }
+    let mut wanted: Vec<_> = (0..40).map(|item| (0, item, vec![99])).collect();
+    wanted.push((1, 0, (0..100).collect()));
+    assert_eq!(reasons(&mut matcher), wanted);
+}
+
+#[test]
+fn a_matcher_that_was_made_without_explains_nothing() {
+    let mut matcher = matcher(&["p"]);
+    for _ in 0..2 {
+        assert_eq!(matcher.explain(), Err(Error::NotExplaining));
+        assert_eq!(matcher.explain_text(), Err(Error::NotExplaining));
+        matcher.tag("p", Html, &[], false).unwrap();
+    }
 }
 
 #[test]

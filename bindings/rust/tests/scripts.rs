@@ -7,7 +7,7 @@ use zugrenja::{run_script, Ending};
 
 #[test]
 fn tags_are_answered_as_in_scripts() {
-    let mut reported = 0;
+    let (mut reported, mut explained) = (0, 0);
     for seed in 0..400 {
         let case = Case::random(&mut Numbers::of(seed));
         let script = script_of(&case);
@@ -16,6 +16,7 @@ fn tags_are_answered_as_in_scripts() {
         assert_eq!(answers, String::from_utf8(output).unwrap(), "seed {seed}:\n{script}");
         assert_eq!(ending == Ending::Refused, answers.contains("refused"));
         reported += answers.lines().filter(|line| line.starts_with("start") && !line.starts_with("start\t-")).count();
+        explained += answers.lines().filter(|line| line.starts_with("why")).count();
     }
-    assert!(reported > 2000, "{reported}");
+    assert!(reported > 2000 && explained > 2000, "{reported}, {explained}");
 }

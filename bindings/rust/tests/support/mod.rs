@@ -1,7 +1,7 @@
 //! Random documents, as calls and as scripts.
 #![allow(dead_code)] // each test uses a part
 
-use zugrenja::{Attribute, Builder, Error, Matcher, Namespace, Settings, Started};
+use zugrenja::{Attribute, Builder, Error, Matcher, Namespace, Reason, Settings, Started};
 
 const SELECTORS: [&str; 16] = [
     "*",
@@ -81,7 +81,7 @@ impl Case {
         let settings = Settings { max_memory, esi: numbers.below(2) == 0, ..Settings::default() };
         let selectors = (0..numbers.below(8)).map(|_| (numbers.below(6) as u32, numbers.one_of(&SELECTORS))).collect();
         let tags = (0..1 + numbers.below(60)).map(|_| Tag::random(numbers)).collect();
-        Case { settings, selectors, tags }
+        Case { settings: Settings { explain: numbers.below(2) == 0, ..settings }, selectors, tags }
     }
 
     /// One whose tags are never refused.
@@ -105,14 +105,18 @@ impl Tag {
     }
 }
 
-/// The script of a case.
+/// The script of a case: a text stands in the line after that of its number.
 pub fn script_of(case: &Case) -> String {
-    let mut script = format!("limit\t{}\ntries\n", case.settings.max_memory);
+    let mut script = String::new();
+    for (id, text) in &case.selectors {
+        script += &format!("select\t{id}\t{text}\n");
+    }
+    script += &format!("limit\t{}\ntries\n", case.settings.max_memory);
     if case.settings.esi {
         script += "esi\n";
     }
-    for (id, text) in &case.selectors {
-        script += &format!("select\t{id}\t{text}\n");
+    if case.settings.explain {
+        script += "explain\n";
     }
     for tag in &case.tags {
         script += &match tag {
@@ -160,7 +164,7 @@ pub fn answers_of(case: &Case) -> String {
 pub fn answer_of(matcher: &mut Matcher, tag: &Tag, number: u64) -> Result<String, Error> {
     match tag {
         Tag::End(name) => Ok(format!("end\t{}\n", joined(matcher.end(name)?, ""))),
-        Tag::Start(tag) => start_of(matcher, tag, number),
+        Tag::Start(tag) => Ok(start_of(matcher, tag, number)? + &why(matcher)?),
     }
 }
 
@@ -184,6 +188,18 @@ fn start_of(matcher: &mut Matcher, tag: &StartTag, number: u64) -> Result<String
     let tries = matcher.tries();
     let ids = joined(matcher.ids(), mark);
     Ok(format!("start\t{ids}{asked}\ttries {} {}\n", tries.names, tries.attributes))
+}
+
+/// The lines of the reasons for the last tag, if they are told.
+fn why(matcher: &mut Matcher) -> Result<String, Error> {
+    let reasons = match matcher.explain() {
+        Err(Error::NotExplaining) => Vec::new(),
+        explained => explained?,
+    };
+    let text: String = reasons.iter().map(|reason| format!("{reason}\n")).collect();
+    assert_eq!(matcher.explain_text().unwrap_or_default(), text);
+    let in_lines = reasons.into_iter().map(|reason| Reason { text: reason.text + 1, ..reason });
+    Ok(in_lines.map(|reason| format!("{reason}\n")).collect())
 }
 
 fn joined<T: std::fmt::Display>(all: &[T], mark: &str) -> String {
