@@ -28,6 +28,18 @@ class Case(NamedTuple):
     calls: list[Call]
 
 
+class Reason(NamedTuple):
+    """A reason in words: its numbers with commas between."""
+
+    id: str
+    text: str
+    item: str
+    numbers: str
+
+
+ASIDES = ("ids", "ids_in", "tries", "explain", "explain_in", "explain_text")
+
+
 def number(word: str | bytes) -> int:
     return 2**64 - 1 if word == "max" else int(word)
 
@@ -84,6 +96,8 @@ class Life:
     def __init__(self, new: Call) -> None:
         max_memory, element_bytes, esi = map(number, new.arguments)
         self.lines = [b"tries", b"limit\t%d" % limit_of(max_memory, element_bytes)] + [b"esi"] * (esi != 0)
+        self.lines += [b"explain"] * (new.kind == "new_explaining")
+        self.settings = len(self.lines)
         self.tags: list[tuple[Call, str]] = []
         self.waits: Call | None = None
         self.asides: list[tuple[int, Call]] = []
@@ -122,14 +136,14 @@ class Life:
             self.waits = None
         elif call.kind == "value":
             self.values[len(self.tags) - 1] = number(call.arguments[0])
-        elif call.kind in ("ids", "ids_in", "tries") and not self.waits and self.tags:
+        elif call.kind in ASIDES and not self.waits and self.tags:
             self.asides.append((len(self.tags) - 1, call))
         self.is_refused = status == "LIMIT"
 
     def wrong(self, program: list[str]) -> Iterator[str]:
         """What a program answers otherwise."""
         self._drop()
-        answers = answer_of(program, b"\n".join(self.lines) + b"\n")
+        answers, reasons = self.told(answer_of(program, b"\n".join(self.lines) + b"\n"))
         if len(answers) != len(self.tags):
             yield f"{self.lines}: {answers}"
             return
@@ -142,16 +156,48 @@ class Life:
                 yield f"{call.line}: {answer}"
         for place, call in self.asides:
             wanted, answer = call.answer.removeprefix("GOOD "), answers[place].split("\t")
+            if call.kind.startswith("explain"):
+                if wanted != (said := explained(call, reasons[place])):
+                    yield f"{call.line}: {said}"
+                continue
             if call.kind == "tries" and answer[0] == "start" and answer[-1] != "tries " + wanted:
                 yield f"{call.line}: {answer[-1]}"
             ids = answer[1].replace("/", "") if answer[0] == "start" else "-"
             if call.kind != "tries" and wanted != (ids if call.kind == "ids" else _cut(ids, call.arguments[0])):
                 yield f"{call.line}: {ids}"
 
+    def told(self, output: list[str]) -> tuple[list[str], list[list[Reason]]]:
+        """The lines of tags, and for each the reasons in the lines after it."""
+        answers, reasons = [], []
+        for line in output:
+            kind, *fields = line.split("\t")
+            if kind == "why":
+                reasons[-1].append(Reason(fields[0], str(int(fields[1]) - self.settings - 1), *fields[2:]))
+            else:
+                answers.append(line)
+                reasons.append([])
+        return answers, reasons
+
     def _values(self, answer: str, call: Call) -> str:
         closed = [int(digits) for digits in answer.split("\t")[1].split(",") if digits != "-"]
         values = ",".join(str(self.values.get(element, 0)) for element in closed) or "-"
         return values if call.kind == "end" else _cut(values, call.arguments[1])
+
+
+def explained(call: Call, reasons: list[Reason]) -> str:
+    """What a call that asks for reasons is answered."""
+    if call.kind == "explain":
+        return "|".join(map(" ".join, reasons)) or "-"
+    room = number(call.arguments[0])
+    if call.kind == "explain_text":
+        text = "".join(f"why {' '.join(reason)}|" for reason in reasons)
+        return f"{len(text)} {text[:room] or '-'}"
+    numbers = [reason.numbers.split(",") for reason in reasons]
+    starts = [sum(map(len, numbers[:place])) for place in range(len(reasons))]
+    shown = [f"{one.id}/{one.text}/{one.item}/{at}+{len(own)}" for one, at, own in zip(reasons, starts, numbers)]
+    joined = ",".join(reason.numbers for reason in reasons) or "-"
+    counts, told = _cut(joined, call.arguments[1]).split(" ")
+    return f"{len(reasons)} {counts} {','.join(shown[:room]) or '-'} {told}"
 
 
 def _cut(numbers: str, room: str | bytes) -> str:
@@ -197,7 +243,7 @@ def lives(every: list[Case], program: list[str], wrong: list[str]) -> Iterator[L
     for case in every:
         life = None
         for call in case.calls:
-            if call.kind == "new" and call.answer == "GOOD":
+            if call.kind in ("new", "new_explaining") and call.answer == "GOOD":
                 life = Life(call)
             elif call.kind == "add" and call.answer.startswith(("NOT_ACCEPTED", "NOT_UTF8")):
                 wrong += wrong_refusals(program, call)

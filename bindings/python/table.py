@@ -13,12 +13,17 @@ from calls import Call, attributes_of, number, places  # noqa: E402
 STATUSES = (
     "GOOD", "NEEDS_ATTRIBUTES", "BAD_LINE", "REFUSED", "OUT_OF_MEMORY", "NO_MATCHER", "IN_USE", "NOT_BUILT", "BUILT", "NOT_UTF8",
     "NOT_ACCEPTED", "NO_NAMESPACE", "LIMIT", "COUNTER", "TAG_OUT_OF_MEMORY", "FAILED", "NOT_ASKED", "OUTSIDE", "NOT_OPENED",
+    "NOT_EXPLAINING", "TOO_MANY_ITEMS",
 )
 ROOM = 4096
 
 
 def joined(numbers: list[int] | tuple[int, ...], mark: str = "") -> str:
     return ",".join(f"{one}{mark}" for one in numbers) or "-"
+
+
+def in_a_row(text: str) -> str:
+    return text.replace("\n", "|").replace("\t", " ") or "-"
 
 
 class Functions:
@@ -42,6 +47,9 @@ class Functions:
 
     def new(self, max_memory: str, element_bytes: str, esi: str) -> tuple[int, list]:
         return self.function("new", number(max_memory), number(element_bytes), number(esi)), []
+
+    def new_explaining(self, max_memory: str, element_bytes: str, esi: str) -> tuple[int, list]:
+        return self.function("new_explaining", number(max_memory), number(element_bytes), number(esi)), []
 
     def add(self, id: str, text: bytes) -> tuple[int, list]:
         why = zugrenja._Refusal()
@@ -118,6 +126,30 @@ class Functions:
         status = self.function("tries", ctypes.addressof(tries), ctypes.addressof(tries) + 8)
         return status, tries[:]
 
+    def explained(self, reasons_room: int, numbers_room: int) -> tuple[int, list, list, list[int]]:
+        """The status, the counts, and the reasons and numbers that there is room for."""
+        reasons, numbers = (zugrenja._Reason * reasons_room)(), (ctypes.c_size_t * numbers_room)()
+        counts = (ctypes.c_size_t * 2)(99, 99)
+        at = ctypes.addressof(counts)
+        status = self.function("explain", ctypes.addressof(reasons), reasons_room, ctypes.addressof(numbers), numbers_room, at, at + 8)
+        return status, counts[:], reasons[: counts[0]], numbers[: counts[1]]
+
+    def explain(self) -> tuple[int, list]:
+        status, _, reasons, numbers = self.explained(ROOM, ROOM)
+        witnesses = (numbers[one.numbers_start :][: one.numbers_len] for one in reasons)
+        shown = (f"{one.id} {one.text} {one.item} {joined(witness)}" for one, witness in zip(reasons, witnesses))
+        return status, ["|".join(shown) or "-"]
+
+    def explain_in(self, reasons_room: str, numbers_room: str) -> tuple[int, list]:
+        status, counts, reasons, numbers = self.explained(number(reasons_room), number(numbers_room))
+        shown = (f"{one.id}/{one.text}/{one.item}/{one.numbers_start}+{one.numbers_len}" for one in reasons)
+        return status, [*counts, joined(list(shown)), joined(numbers)]
+
+    def explain_text(self, room: str) -> tuple[int, list]:
+        out = ctypes.create_string_buffer(number(room))
+        status = self.function("explain_text", out, len(out), self.counted)
+        return status, [self.count.value, in_a_row(out.raw[: self.count.value].decode())]
+
     def script(self, text: bytes) -> str:
         status, output = "GOOD", ""
         try:
@@ -126,7 +158,7 @@ class Functions:
             status, output = "BAD_LINE", f"bad line {bad.line}: {bad.cause}\n"
         except zugrenja.Refused as refused:
             status, output = "REFUSED", refused.output
-        return f"{status} {output}".replace("\n", "|").replace("\t", " ")
+        return in_a_row(f"{status} {output}")
 
 
 class Typed:
@@ -138,9 +170,10 @@ class Typed:
 
     def call(self, call: Call, rest: list[Call]) -> str | None:
         """What a call is answered, or `None` if Matcher can't make it. `rest` are the calls after it."""
-        if call.kind == "new" and self.matcher is None:
+        if call.kind in ("new", "new_explaining") and self.matcher is None:
             max_memory, element_bytes, esi = map(number, call.arguments)
-            self.matcher = Matcher(max_memory=max_memory, element_bytes=element_bytes, esi=bool(esi))
+            explain = call.kind == "new_explaining"
+            self.matcher = Matcher(max_memory=max_memory, element_bytes=element_bytes, esi=bool(esi), explain=explain)
             return "GOOD"
         if call.kind == "start" and call.answer == "NEEDS_ATTRIBUTES" and is_finished(rest):
             self.waiting = call
@@ -208,8 +241,18 @@ class Typed:
     def tries(self, _call: Call) -> str:
         return "GOOD %d %d" % self.matcher.tries()
 
+    def explain(self, _call: Call) -> str:
+        reasons = (f"{one.id} {one.text} {one.item} {joined(one.witness)}" for one in self.matcher.explain())
+        return f"GOOD {'|'.join(reasons) or '-'}"
 
-MATCHER_CALLS = ("add", "build", "free", "start", "end", "end_in", "value", "ids", "ids_in", "opened", "tries")
+    def explain_text(self, call: Call) -> str:
+        text = self.matcher.explain_text()
+        return f"GOOD {len(text)} {in_a_row(text[: number(call.arguments[0])])}"
+
+
+MATCHER_CALLS = (
+    "add", "build", "free", "start", "end", "end_in", "value", "ids", "ids_in", "opened", "tries", "explain", "explain_text",
+)
 
 
 def is_finished(rest: list[Call]) -> bool:

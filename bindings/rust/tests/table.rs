@@ -1,7 +1,9 @@
 //! Makes the calls of the table of calls (`bindings/calls.txt`), and checks what each answers. Those that the types rule out are counted.
 
 use std::{fs, iter::Peekable, str::Chars};
-use zugrenja::{run_script, Attribute, Builder, Cause, Ending, Error, Matcher, Namespace, Place, Settings, Started};
+use zugrenja::{
+    run_script, Attribute, Builder, Cause, Ending, Error, Matcher, Namespace, Place, Reason, Settings, Started,
+};
 
 /// A call: its words up to `=`, those in quotes as their bytes, and what it has to answer.
 struct Call<'a> {
@@ -93,6 +95,8 @@ fn name_of(error: Error) -> String {
         Error::NotAsked => "NOT_ASKED",
         Error::OutsideText => "OUTSIDE",
         Error::NotOpened => "NOT_OPENED",
+        Error::NotExplaining => "NOT_EXPLAINING",
+        Error::TooManyItems => "TOO_MANY_ITEMS",
     };
     name.to_string()
 }
@@ -117,6 +121,18 @@ fn within<T>(all: &[T], room: usize) -> &[T] {
     &all[..all.len().min(room)]
 }
 
+fn explained(reasons: &[Reason]) -> String {
+    let shown = |one: &Reason| format!("{} {} {} {}", one.id, one.text, one.item, joined(&one.witness, ""));
+    let all: Vec<_> = reasons.iter().map(shown).collect();
+    format!("GOOD {}", if all.is_empty() { "-".to_string() } else { all.join("|") })
+}
+
+/// The length of a text, and its beginning.
+fn beginning(text: &str, room: usize) -> String {
+    let shown = text[..room.min(text.len())].replace('\n', "|").replace('\t', " ");
+    format!("GOOD {} {}", text.len(), if shown.is_empty() { "-" } else { &shown })
+}
+
 fn report(matcher: &Matcher) -> String {
     format!("GOOD {}", joined(matcher.ids(), if matcher.has_opened() { "" } else { "/" }))
 }
@@ -128,9 +144,9 @@ impl Handle {
             return answer_of(run_script(&call.words[1]).map(|(ending, output)| script_answer(ending, &output)));
         }
         match (std::mem::replace(self, Handle::None), call.word(0)) {
-            (Handle::None, "new") => {
-                let settings =
-                    Settings { max_memory: call.number(1)?, element_bytes: call.number(2)?, esi: call.flag(3) };
+            (Handle::None, kind @ ("new" | "new_explaining")) => {
+                let (max_memory, element_bytes, esi) = (call.number(1)?, call.number(2)?, call.flag(3));
+                let settings = Settings { max_memory, element_bytes, esi, explain: kind == "new_explaining" };
                 *self = Handle::Adding(Builder::with_settings(settings).unwrap());
                 Some(good(()))
             }
@@ -194,6 +210,11 @@ fn told(matcher: &mut Matcher, call: &Call) -> Option<String> {
             ended.map(|values| format!("GOOD {} {}", values.len(), joined(within(values, room), "")))
         }
         "value" => matcher.set_value(call.number(1)?).map(good),
+        "explain" => matcher.explain().map(|reasons| explained(&reasons)),
+        "explain_text" => {
+            let room = call.number(1)?;
+            matcher.explain_text().map(|text| beginning(&text, room))
+        }
         "ids" => Ok(format!("GOOD {}", joined(matcher.ids(), ""))),
         "ids_in" => {
             let ids = matcher.ids();
