@@ -13,7 +13,8 @@ using words = std::vector<std::string>;
 
 static const char *const STATUSES[] = {
     "GOOD", "NEEDS_ATTRIBUTES", "BAD_LINE", "REFUSED", "OUT_OF_MEMORY", "NO_MATCHER", "IN_USE", "NOT_BUILT", "BUILT", "NOT_UTF8",
-    "NOT_ACCEPTED", "NO_NAMESPACE", "LIMIT", "COUNTER", "TAG_OUT_OF_MEMORY", "FAILED", "NOT_ASKED", "OUTSIDE", "NOT_OPENED"};
+    "NOT_ACCEPTED", "NO_NAMESPACE", "LIMIT", "COUNTER", "TAG_OUT_OF_MEMORY", "FAILED", "NOT_ASKED", "OUTSIDE", "NOT_OPENED",
+    "NOT_EXPLAINING", "TOO_MANY_ITEMS"};
 static const char *const CAUSES[] = {
     "UnexpectedToken", "UnexpectedEnd", "MissingAttributeName", "EmptySelector", "DanglingCombinator", "UnexpectedTokenInAttribute",
     "UnsupportedPseudoClassOrElement", "NestedNegation", "NamespacedSelector", "InvalidClassName", "EmptyNegation",
@@ -141,6 +142,27 @@ static std::string end(zugrenja::matcher &m, const words &words) {
     return "GOOD" + (bounded ? " " + std::to_string(values.size()) : "") + joined(values, bounded ? number(words[2]) : SIZE_MAX);
 }
 
+static std::string explain(zugrenja::matcher &m) {
+    std::vector<zugrenja::reason> reasons;
+    status explained = m.try_explain(reasons);
+    std::string shown;
+    for (const zugrenja::reason &why : reasons) {
+        shown += (shown.empty() ? "" : "|") + std::to_string(why.id) + " " + std::to_string(why.text) + " " + std::to_string(why.item);
+        shown += joined(why.witness, SIZE_MAX);
+    }
+    return name_of(explained) + (explained != status::good ? "" : shown.empty() ? " -" : " " + shown);
+}
+
+static std::string explain_text(zugrenja::matcher &m, std::size_t room) {
+    std::string text;
+    status explained = m.try_explain_text(text);
+    std::string shown = text.substr(0, room);
+    std::replace(shown.begin(), shown.end(), '\n', '|');
+    std::replace(shown.begin(), shown.end(), '\t', ' ');
+    std::string answer = " " + std::to_string(text.size()) + " " + (shown.empty() ? "-" : shown);
+    return name_of(explained) + (explained == status::good ? answer : "");
+}
+
 // What a call is answered by a matcher, which may have been moved away; nothing if there is no such call, or none with a status.
 static std::optional<std::string> call(zugrenja::matcher &m, bool &there, const words &words, bool good) {
     const std::string &kind = words[0];
@@ -148,8 +170,8 @@ static std::optional<std::string> call(zugrenja::matcher &m, bool &there, const 
         zugrenja::refusal why = {zugrenja::cause(number(words[2])), char32_t(number(words[3])), 0, 0};
         return zugrenja::message(status(number(words[1])), why);
     }
-    if (kind == "new" && !there) {
-        m = zugrenja::matcher({number(words[1]), number(words[2]), number(words[3]) != 0});
+    if ((kind == "new" || kind == "new_explaining") && !there) {
+        m = zugrenja::matcher({number(words[1]), number(words[2]), number(words[3]) != 0, kind == "new_explaining"});
         there = true;
         return "GOOD";
     }
@@ -158,7 +180,7 @@ static std::optional<std::string> call(zugrenja::matcher &m, bool &there, const 
         there = false;
         return "GOOD";
     }
-    if (kind == "new" || kind == "free" || kind == "script") {
+    if (kind == "new" || kind == "new_explaining" || kind == "free" || kind == "script" || kind == "explain_in") {
         return std::nullopt;
     }
     if (kind == "ids" || kind == "ids_in" || kind == "opened" || kind == "tries") {
@@ -170,13 +192,15 @@ static std::optional<std::string> call(zugrenja::matcher &m, bool &there, const 
                                                 : " " + std::to_string(tries.names) + " " + std::to_string(tries.attributes);
         return good ? std::optional("GOOD" + answer) : std::nullopt;
     }
-    return kind == "add"         ? add(m, words)
-           : kind == "build"     ? name_of(m.try_build())
-           : kind == "start"     ? start(m, words)
-           : kind == "finish"    ? finish(m, words)
-           : kind == "finish_in" ? finish_in(m, words)
-           : kind == "value"     ? name_of(m.try_set_value(number(words[1])))
-                                 : end(m, words);
+    return kind == "add"            ? add(m, words)
+           : kind == "build"        ? name_of(m.try_build())
+           : kind == "start"        ? start(m, words)
+           : kind == "finish"       ? finish(m, words)
+           : kind == "finish_in"    ? finish_in(m, words)
+           : kind == "value"        ? name_of(m.try_set_value(number(words[1])))
+           : kind == "explain"      ? explain(m)
+           : kind == "explain_text" ? explain_text(m, number(words[1]))
+                                    : end(m, words);
 }
 
 int main(int argc, char **argv) {

@@ -14,6 +14,7 @@ using zugrenja::name_space;
 using zugrenja::status;
 using ids = std::vector<std::uint32_t>;
 using values = std::vector<std::uint64_t>;
+using witness = std::vector<std::size_t>;
 
 #define WANT(fact) ((fact) ? void() : (std::fprintf(stderr, "line %d: %s\n", __LINE__, #fact), std::exit(1)))
 
@@ -79,6 +80,83 @@ static void content_depends_on_name_namespace_and_slash() {
     WANT(tell(matcher, "mi", {}, name_space::mathml, true) == status::good && !matcher.has_opened());
     WANT(matcher.try_start("a", name_space(3)) == status::no_namespace);
     WANT(ended(matcher, "div").size() == 2);
+}
+
+static zugrenja::settings explaining(std::size_t max_memory = SIZE_MAX) {
+    zugrenja::settings settings;
+    settings.explain = true;
+    settings.max_memory = max_memory;
+    return settings;
+}
+
+// The reasons of the last tag, which are those of explain_text.
+static std::vector<zugrenja::reason> reasons_of(matcher &matcher) {
+    std::vector<zugrenja::reason> reasons;
+    std::string text, lines;
+    WANT(matcher.try_explain(reasons) == status::good && matcher.try_explain_text(text) == status::good);
+    for (const zugrenja::reason &why : reasons) {
+        lines += to_string(why) + "\n";
+    }
+    WANT(text == lines);
+    return reasons;
+}
+
+static void reasons_tell_the_elements_of_the_compounds() {
+    matcher matcher = built({"div p", "div > p"}, explaining());
+    for (std::string_view name : {"div", "section", "p"}) {
+        WANT(tell(matcher, name) == status::good);
+    }
+    std::vector<zugrenja::reason> reasons = reasons_of(matcher);
+    WANT(reasons.size() == 1 && reasons[0].id == 0 && reasons[0].text == 0 && reasons[0].item == 0);
+    WANT((reasons[0].witness == witness{0, 2}) && to_string(reasons[0]) == "why\t0\t0\t0\t0,2");
+    WANT(ended(matcher, "section").size() == 2 && reasons_of(matcher).empty() && tell(matcher, "p") == status::good);
+    reasons = reasons_of(matcher);
+    WANT(reasons.size() == 2 && reasons[1].id == 1 && reasons[1].text == 1 && (reasons[1].witness == witness{0, 4}));
+}
+
+static void reasons_name_each_item_of_each_text() {
+    matcher matcher(explaining());
+    zugrenja::refusal why;
+    for (std::string_view text : {"em, p.new, p", "body > p, [class], body [class=new]"}) {
+        WANT(matcher.try_add(7, text, why) == status::good);
+    }
+    WANT(matcher.try_build() == status::good && reasons_of(matcher).empty() && tell(matcher, "body") == status::good);
+    WANT(tell(matcher, "p", {{"class", "new"}}) == status::good && matcher.ids() == ids{7});
+    std::string text;
+    WANT(reasons_of(matcher).size() == 5 && matcher.try_explain_text(text) == status::good);
+    WANT(text == "why\t7\t0\t1\t1\nwhy\t7\t0\t2\t1\nwhy\t7\t1\t0\t0,1\nwhy\t7\t1\t1\t1\nwhy\t7\t1\t2\t0,1\n");
+    WANT(matcher.try_start("p") == status::needs_attributes && reasons_of(matcher).empty());
+    WANT(tell(matcher, "br", {{"class"}}) == status::good && !matcher.has_opened());
+    WANT(reasons_of(matcher).size() == 1 && reasons_of(matcher)[0].item == 1 && reasons_of(matcher)[0].witness == witness{3});
+}
+
+static void reasons_are_as_many_and_as_long_as_they_come() {
+    std::string deep = "p", list = "p";
+    for (int more = 1; more < 100; more++) {
+        deep += " p";
+        list += ", p";
+    }
+    matcher matcher = built({deep, list}, explaining());
+    for (std::size_t tag = 0; tag < 100; tag++) {
+        WANT(tell(matcher, "p") == status::good && reasons_of(matcher).size() == (tag < 99 ? 100 : 101));
+        WANT(reasons_of(matcher).back().witness == witness{tag});
+    }
+    WANT(reasons_of(matcher)[0].witness.size() == 100 && reasons_of(matcher)[0].witness[98] == 98);
+}
+
+static void reasons_are_none_where_they_are_not_told() {
+    matcher plain = built({"p"}), unbuilt(explaining()), refused = built({"p"}, explaining(512));
+    std::vector<zugrenja::reason> reasons(1);
+    std::string text = "text";
+    WANT(plain.try_explain(reasons) == status::not_explaining && reasons.empty());
+    WANT(plain.try_explain_text(text) == status::not_explaining && text.empty());
+    WANT(unbuilt.try_explain(reasons) == status::not_built && unbuilt.try_explain_text(text) == status::not_built);
+    matcher moved(std::move(plain));
+    WANT(plain.try_explain(reasons) == status::no_matcher && plain.try_explain_text(text) == status::no_matcher);
+    while (tell(refused, "p") == status::good) {
+        WANT(reasons_of(refused).size() == 1);
+    }
+    WANT(reasons_of(refused).empty());
 }
 
 static void tells_each_cause_and_place() {
@@ -171,14 +249,53 @@ static void throws_what_is_refused() {
     WANT(thrown([&] { matcher.finish({}); }) == status::not_asked && matcher.start("b"));
     WANT(thrown([&] { matcher.finish_in("b", {{0, 2, 0, 0, 0}}); }) == status::outside);
     WANT(thrown([&] { matcher.set_value(1); }) == status::not_opened);
+    WANT(thrown([&] { matcher.explain(); }) == status::not_explaining);
+    WANT(thrown([&] { matcher.explain_text(); }) == status::not_explaining);
     WANT(thrown([&] { matcher.finish({}); }) == status::limit && thrown([&] { matcher.start("p"); }) == status::failed);
     WANT(matcher.end("b").empty());
     zugrenja::matcher other = built({"a"});
     WANT(!other.start("a") && other.ids() == ids{0});
     other.set_value(3);
     WANT(other.end("a") == values{3});
+    other = built({"a", "a[b], a"}, explaining());
+    WANT(other.start("a"));
+    other.finish({{"c"}});
+    WANT(other.explain().size() == 2 && other.explain()[1].item == 1 && other.explain()[1].witness == witness{0});
+    WANT(other.explain_text() == "why\t0\t0\t0\t0\nwhy\t1\t1\t1\t0\n");
 }
 #endif
+
+// A random document is explained as the script of its tags is.
+static void explains_as_scripts_do(std::uint32_t seed) {
+    const std::string_view texts[] = {"div p, div > p", "p *, [id] br", "div div > a, a"}, names[] = {"div", "p", "a", "br"};
+    matcher matcher = built({texts[0], texts[1], texts[2]}, explaining());
+    std::string script = "explain\n", told, out(200000, ' ');
+    for (std::size_t text = 0; text < 3; text++) {
+        script.append("select\t").append(std::to_string(text)).append("\t").append(texts[text]).append("\n");
+    }
+    for (int tag = 0; tag < 500; tag++) {
+        seed = seed * 1664525 + 1013904223;
+        std::string name(names[seed >> 30]);
+        bool ends = seed >> 28 & 1;
+        script += ends ? "end\t" + name + "\n" : "start\thtml\t" + name + (seed >> 27 & 1 ? "\tid=x\n" : "\n");
+        std::vector<zugrenja::attribute> attributes(seed >> 27 & 1, {"id", "x"});
+        WANT(ends ? (ended(matcher, name), true) : tell(matcher, name, attributes) == status::good);
+        for (zugrenja::reason &why : reasons_of(matcher)) {
+            why.text += 2; // its line
+            told += to_string(why) + "\n";
+        }
+    }
+    std::size_t written = 0;
+    auto bytes = [](const std::string &text) { return reinterpret_cast<const std::uint8_t *>(text.data()); };
+    WANT(zugrenja_run_script(bytes(script), script.size(), reinterpret_cast<std::uint8_t *>(&out[0]), out.size(), &written) == 0);
+    WANT(written <= out.size());
+    out.resize(written);
+    std::string wanted;
+    for (std::size_t start = 0, end; (end = out.find('\n', start)) != out.npos; start = end + 1) {
+        wanted += out.compare(start, 3, "why") == 0 ? out.substr(start, end + 1 - start) : "";
+    }
+    WANT(told == wanted && told.size() > 5000);
+}
 
 // A document's reports, as a number.
 static std::uint64_t reports(std::uint32_t seed) {
@@ -235,10 +352,10 @@ void __wrap_free(void *at) {
 }
 }
 
-// A life of a matcher: whether one of its calls was refused.
+// A life of a matcher, which explains: whether one of its calls was refused.
 static bool live_once() {
     try {
-        matcher matcher;
+        matcher matcher(explaining());
         matcher.add(400, "div a[href^='p' i]:not(.b, #c), a");
         matcher.build();
         for (int tag = 0; tag < 20; tag++) {
@@ -246,6 +363,7 @@ static bool live_once() {
                 matcher.finish({{"href", "page"}});
             }
             matcher.set_value(7);
+            WANT(matcher.explain().size() == std::size_t(tag % 2 * 2) && (tag % 2 == 0) == matcher.explain_text().empty());
         }
         WANT(matcher.end("div").size() == 2);
     } catch (const std::bad_alloc &) {
@@ -272,6 +390,11 @@ int main() {
     goes_tag_by_tag();
     places_lie_in_the_text();
     content_depends_on_name_namespace_and_slash();
+    reasons_tell_the_elements_of_the_compounds();
+    reasons_name_each_item_of_each_text();
+    reasons_are_as_many_and_as_long_as_they_come();
+    reasons_are_none_where_they_are_not_told();
+    explains_as_scripts_do(1);
     tells_each_cause_and_place();
     answers_each_order_of_calls();
     a_refused_tag_fails_the_later_ones();

@@ -9,6 +9,8 @@
 //     }
 //     for (std::uint32_t id : matcher.ids()) { .. } // 7
 //
+// A matcher that is made with settings::explain says why the last tag was reported: `explain`.
+//
 // Each call that may be refused has two forms: `add` throws, and isn't there under -fno-exceptions; `try_add` returns a status. What
 // was refused has changed nothing, unless it is said at the call. Two matchers may be used at once by two threads, one by one at a time.
 #ifndef ZUGRENJA_HPP
@@ -16,6 +18,7 @@
 
 #include "zugrenja.h"
 
+#include <algorithm>
 #include <cstddef>
 #include <cstdint>
 #include <memory>
@@ -47,7 +50,9 @@ enum class status : std::uint32_t {
     failed = ZUGRENJA_FAILED,
     not_asked = ZUGRENJA_NOT_ASKED,
     outside = ZUGRENJA_OUTSIDE,
-    not_opened = ZUGRENJA_NOT_OPENED
+    not_opened = ZUGRENJA_NOT_OPENED,
+    not_explaining = ZUGRENJA_NOT_EXPLAINING,
+    too_many_items = ZUGRENJA_TOO_MANY_ITEMS
 };
 
 // Why a text isn't accepted as a selector: the causes of zugrenja.h.
@@ -119,12 +124,13 @@ private:
 
 enum class name_space : std::uint32_t { html = ZUGRENJA_HTML, svg = ZUGRENJA_SVG, mathml = ZUGRENJA_MATHML };
 
-// The most bytes that open elements may be charged for, how many each is charged for (0 counts as 1), and whether `esi:include` and
-// `esi:comment` are void names.
+// The most bytes that open elements may be charged for, how many each is charged for (0 counts as 1), whether `esi:include` and
+// `esi:comment` are void names, and whether the matcher explains its reports, which takes more memory and time at each tag.
 struct settings {
     std::size_t max_memory = SIZE_MAX;
     std::size_t element_bytes = 64;
     bool esi = false;
+    bool explain = false;
 };
 
 // An attribute of a start tag: its name, and its value if it has one.
@@ -139,6 +145,27 @@ struct tries {
     std::uint64_t attributes = 0;
 };
 
+// Why a tag was reported: the id, the number of the text that was added under it, in the order of adding, and of the item of its list that
+// matches, both from 0; and for each compound of the item the number of the start tag whose element it is passed by, the outermost first,
+// that of the tag itself last.
+struct reason {
+    std::uint32_t id = 0;
+    std::size_t text = 0;
+    std::size_t item = 0;
+    std::vector<std::size_t> witness;
+};
+
+// A reason's line in explain_text, without the line's end.
+inline std::string to_string(const reason &why) {
+    std::string line = "why\t" + std::to_string(why.id) + "\t" + std::to_string(why.text) + "\t" + std::to_string(why.item);
+    char sign = '\t';
+    for (std::size_t number : why.witness) {
+        line += sign + std::to_string(number);
+        sign = ',';
+    }
+    return line;
+}
+
 // Matches selectors against the start tags of a document. It can be moved and not copied; one that was moved away has no matcher.
 class matcher {
 public:
@@ -146,7 +173,8 @@ public:
     explicit matcher(const settings &settings = {}) : handle_(new (std::nothrow) zugrenja_matcher{}) {
         status made = status::out_of_memory;
         if (handle_) {
-            made = status(zugrenja_new(at(), settings.max_memory, settings.element_bytes, settings.esi));
+            auto make = settings.explain ? zugrenja_new_explaining : zugrenja_new;
+            made = status(make(at(), settings.max_memory, settings.element_bytes, settings.esi));
         }
 #if defined(__cpp_exceptions)
         check(made);
@@ -169,7 +197,7 @@ public:
         return added;
     }
 
-    // Builds the matcher: from now on it is told of tags, and takes no selector. Out of memory, it is gone.
+    // Builds the matcher: from now on it is told of tags, and takes no selector. After out_of_memory and too_many_items it is gone.
     status try_build() noexcept { return handle_ ? status(zugrenja_build(at())) : status::no_matcher; }
 
     // A start tag: good, then it is reported; or needs_attributes, then it waits for try_finish, and is dropped by any other call that
@@ -233,6 +261,42 @@ public:
         return status(zugrenja_set_value(at(), value));
     }
 
+    // Why the last tag was reported: `reasons` becomes a reason for each item of a text that matches its element, in the order of adding
+    // and of the list. There are none after an end tag, or where a tag waits or is refused. Tags are numbered from 0 in the order in which
+    // they are told, end tags and dropped tags too; one that was refused has no number.
+    status try_explain(std::vector<reason> &reasons) {
+        reasons.clear();
+        if (!handle_) {
+            return status::no_matcher;
+        }
+        std::size_t count = 0;
+        status explained = read_reasons(count);
+        reasons.reserve(count);
+        for (std::size_t place = 0; place < count; place++) {
+            const zugrenja_reason &why = reasons_[place];
+            auto first = numbers_.begin() + std::ptrdiff_t(why.numbers_start);
+            reasons.push_back({why.id, why.text, why.item, {first, first + std::ptrdiff_t(why.numbers_len)}});
+        }
+        return explained;
+    }
+
+    // The same as text: for each reason its line, as to_string has it. It is what a script's `explain` writes (docs/SCRIPT.md), with the
+    // text's number in the place of its line's.
+    status try_explain_text(std::string &text) {
+        text.clear();
+        if (!handle_) {
+            return status::no_matcher;
+        }
+        std::size_t written = text.capacity();
+        status explained = status::good;
+        do {
+            text.resize(written);
+            explained = status(zugrenja_explain_text(at(), reinterpret_cast<std::uint8_t *>(&text[0]), text.size(), &written));
+        } while (written > text.size());
+        text.resize(written);
+        return explained;
+    }
+
 #if defined(__cpp_exceptions)
     // Throws selector_error, and error for a text that isn't UTF-8 or for a matcher that is built.
     void add(std::uint32_t id, std::string_view text) {
@@ -269,6 +333,18 @@ public:
     }
 
     void set_value(std::uint64_t value) { check(try_set_value(value)); }
+
+    std::vector<reason> explain() {
+        std::vector<reason> reasons;
+        check(try_explain(reasons));
+        return reasons;
+    }
+
+    std::string explain_text() {
+        std::string text;
+        check(try_explain_text(text));
+        return text;
+    }
 #endif
 
     // The ids that the last tag was reported under, ascending, each once: none after an end tag, where a tag waits or is refused, or before
@@ -321,6 +397,19 @@ private:
         return answer;
     }
 
+    // Reads the reasons for the last tag, so many, and their numbers.
+    status read_reasons(std::size_t &count) {
+        std::size_t numbers = 0;
+        status explained = status::good;
+        do {
+            reasons_.resize(std::max(reasons_.size(), count));
+            numbers_.resize(std::max(numbers_.size(), numbers));
+            zugrenja_reason *reasons = reasons_.data();
+            explained = status(zugrenja_explain(at(), reasons, reasons_.size(), numbers_.data(), numbers_.size(), &count, &numbers));
+        } while (count > reasons_.size() || numbers > numbers_.size());
+        return explained;
+    }
+
 #if defined(__cpp_exceptions)
     static void check(status status) {
         if (status == status::out_of_memory || status == status::tag_out_of_memory) {
@@ -337,6 +426,8 @@ private:
     std::vector<std::uint64_t> room_;                 // for the values of as many as were ever open at an end tag
     std::string text_;
     std::vector<zugrenja_attribute> places_;
+    std::vector<zugrenja_reason> reasons_; // for as many as there ever were, and their numbers
+    std::vector<std::size_t> numbers_;
 };
 
 } // namespace zugrenja

@@ -41,6 +41,7 @@ public:
     explicit run(const fields &lines) : matcher_(settings_of(lines)) {
         for (std::string_view line : lines) {
             shows_tries_ = shows_tries_ || line == "tries";
+            explains_ = explains_ || line == "explain";
         }
     }
 
@@ -51,6 +52,7 @@ public:
             fields parts = split(line, '\t');
             if (parts[0] == "select") {
                 matcher_.add(std::uint32_t(number_of(parts[1])), line.substr(parts[0].size() + parts[1].size() + 2));
+                lines_.push_back(number);
             }
         }
         matcher_.build();
@@ -75,6 +77,7 @@ private:
         zugrenja::settings settings;
         for (std::string_view line : lines) {
             settings.esi = settings.esi || line == "esi";
+            settings.explain = settings.explain || line == "explain";
             if (line.substr(0, 6) == "limit\t") {
                 settings.max_memory = number_of(line.substr(6));
             }
@@ -104,6 +107,17 @@ private:
         if (matcher_.has_opened()) {
             matcher_.set_value(number_);
         }
+        if (explains_) {
+            explain();
+        }
+    }
+
+    // Writes why the last tag was reported, with the number of a text's line in the place of its own.
+    void explain() {
+        for (zugrenja::reason &why : matcher_.explain()) {
+            why.text = lines_[why.text];
+            out += to_string(why) + "\n";
+        }
     }
 
     void finish(const fields &parts, bool self_closing) {
@@ -120,6 +134,8 @@ private:
 
     zugrenja::matcher matcher_;
     bool shows_tries_ = false;
+    bool explains_ = false;
+    std::vector<std::size_t> lines_; // of the selectors' texts
     std::uint64_t number_ = 0;
 };
 
