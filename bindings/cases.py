@@ -1,6 +1,7 @@
 """Runs a program over the stored cases of diff/cases: cases.py PROGRAM..
 
-The program reads a script and writes its answer, as lol_match does. Cases whose answer is a line of no right form are left out.
+The program reads a script and writes its answer, as lol_match does. Cases whose answer is a line of no right form are left out. Then each
+case is run with a line `explain` before the others, and the answer is that of the model in diff/model.py.
 """
 
 import subprocess
@@ -8,6 +9,7 @@ import sys
 from pathlib import Path
 
 sys.path.insert(0, str(Path(__file__).resolve().parent.parent / "diff"))
+import model  # noqa: E402
 import stored  # noqa: E402
 
 
@@ -16,15 +18,31 @@ def cases() -> list[tuple[bytes, bytes, int]]:
     return [(script, *answer) for _, script, answer in stored.cases() if not answer[0].endswith(b": form\n")]
 
 
-def main() -> None:
+def explained(every: list[tuple[bytes, bytes, int]]) -> list[tuple[bytes, bytes, int]]:
+    """The same cases with a line `explain`."""
+    scripts = [b"explain\n" + script for script, _, _ in every]
+    return [(script, *model.answer(script)) for script in scripts]
+
+
+def wrong_of(every: list[tuple[bytes, bytes, int]]) -> int:
+    """How many of the cases are answered otherwise."""
     wrong = 0
-    for script, answer, status in (every := cases()):
+    for script, answer, status in every:
         done = subprocess.run(sys.argv[1:], input=script, stdout=subprocess.PIPE)
         if (done.stdout, done.returncode) != (answer, status):
             wrong += 1
             print(f"wanted {status} {answer!r}, got {done.returncode} {done.stdout!r}, for {script!r}")
+    return wrong
+
+
+def main() -> None:
+    every = cases()
+    told = explained(every)
+    wrong, wrongly_told = wrong_of(every), wrong_of(told)
+    reasons = sum(answer.count(b"why\t") for _, answer, _ in told)
     print(f"{len(every) - wrong} of {len(every)} cases answered as stored")
-    sys.exit(wrong > 0)
+    print(f"{len(every) - wrongly_told} of {len(every)} cases explained as the model does, with {reasons} reasons")
+    sys.exit(wrong + wrongly_told > 0)
 
 
 if __name__ == "__main__":

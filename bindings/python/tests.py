@@ -1,5 +1,6 @@
 """Tests of the Python module, on the stored examples and on small pages."""
 
+import re
 import subprocess
 import sys
 import unittest
@@ -15,6 +16,7 @@ import calls  # noqa: E402
 import cases  # noqa: E402
 import table  # noqa: E402
 import tags  # noqa: E402
+import why  # noqa: E402
 
 
 class RunScript(unittest.TestCase):
@@ -44,25 +46,21 @@ class StoredCases(unittest.TestCase):
             with self.subTest(script=script):
                 self.assertEqual(tags.run(script), (answer.decode(), status))
 
-    def test_are_explained_as_scripts_are(self) -> None:
+    def test_are_explained_as_the_model_does(self) -> None:
         explained = 0
-        for script, _, status in cases.cases():
-            script = b"explain\n" + script
+        for script, answer, status in cases.explained(cases.cases()):
             with self.subTest(script=script):
-                output = output_of(script)
-                self.assertEqual(tags.run(script), (output, status))
-                explained += output.count("why\t")
+                self.assertEqual(tags.run(script), (answer.decode(), status))
+                explained += self.compounds_of(script, answer.decode())
         self.assertGreater(explained, 5000)
 
-
-def output_of(script: bytes) -> str:
-    """The output of a script, however it ends."""
-    try:
-        return run_script(script)
-    except ScriptError as bad:
-        return f"bad line {bad.line}: {bad.cause}\n"
-    except Refused as refused:
-        return refused.output
+    def compounds_of(self, script: bytes, output: str) -> int:
+        """How many reasons there are: each has a number for each compound that the example cuts its item into."""
+        lines, reasons = script.split(b"\n"), re.findall(r"^why\t.*\t(.*)\t(.*)\t(.*)$", output, re.M)
+        for line, item, numbers in reasons:
+            text = lines[int(line) - 1].split(b"\t", 2)[2].decode()
+            self.assertEqual(len(why.items_of(text)[int(item)]), len(numbers.split(",")), text)
+        return len(reasons)
 
 
 class TableOfCalls(unittest.TestCase):
@@ -229,6 +227,28 @@ class Select(unittest.TestCase):
         example = Path(__file__).resolve().parent / "examples" / "select.py"
         done = subprocess.run([sys.executable, example, "br"], input=self.PAGE, stdout=subprocess.PIPE, text=True, check=True)
         self.assertEqual(done.stdout, "3:26\t0\t<br>\n")
+
+    def test_example_says_why(self) -> None:
+        example = HERE / "examples" / "why.py"
+        selectors = ["main .card > a", 'nav > a[href="/"], .sold-out .card a.more', "img:not([alt]), br"]
+        page, wanted = (example.with_suffix(suffix).read_text() for suffix in (".html", ".out"))
+        done = subprocess.run([sys.executable, example, *selectors], input=page, stdout=subprocess.PIPE, text=True, check=True)
+        self.assertEqual(done.stdout, wanted)
+        done = subprocess.run([sys.executable, example, "a + b"], input=page, capture_output=True, text=True)
+        self.assertEqual((done.stdout, done.returncode), ("", 1))
+        self.assertEqual(done.stderr, "Unsupported combinator `+` in selector. (item 0, byte 0) in 'a + b'\n")
+
+    def test_example_cuts_selectors(self) -> None:
+        for text, items in {
+            "p": [["p"]],
+            " a\tb\n.c>d , *|e>\f#f ": [["a", "b", ".c", "> d"], ["*|e", "> #f"]],
+            "a/* > b, */.c /**/ d": [["a.c", "d"]],
+            """[a="] > ,"]:not( .b, [c='\\' )'] ) d""": [["""[a="] > ,"]:not( .b, [c='\\' )'] )""", "d"]],
+            r".a\,b \31  c.\>.\(d e": [[r".a\,b", r"\31 ", r"c.\>.\(d", "e"]],
+            "a [b = 'c": [["a", "[b = 'c"]],
+            "a /* b": [["a"]],
+        }.items():
+            self.assertEqual(why.items_of(text), items)
 
     def test_example_checks_links(self) -> None:
         example = Path(__file__).resolve().parent / "examples" / "links.py"
