@@ -294,7 +294,7 @@ static void explains_as_scripts_do(std::uint32_t seed) {
     for (std::size_t start = 0, end; (end = out.find('\n', start)) != out.npos; start = end + 1) {
         wanted += out.compare(start, 3, "why") == 0 ? out.substr(start, end + 1 - start) : "";
     }
-    WANT(told == wanted && told.size() > 5000);
+    WANT(told == wanted && told.size() > 4000);
 }
 
 // A document's reports, as a number.
