@@ -132,7 +132,7 @@ extern "C" {
     /// GOOD, NOT_BUILT, NO_MATCHER. Writes both numbers if GOOD.
     pub fn zugrenja_tries(matcher: *mut Handle, names: *mut u64, attributes: *mut u64) -> u32;
 
-    /// GOOD, NOT_EXPLAINING, NOT_BUILT, NO_MATCHER, OUT_OF_MEMORY. If GOOD, writes both counts, and as many `reasons` and `numbers` as there
+    /// GOOD, NOT_EXPLAINING, NOT_BUILT, NO_MATCHER, OUT_OF_MEMORY. Writes both counts always, and as many `reasons` and `numbers` as there
     /// are and fit.
     pub fn zugrenja_explain(
         matcher: *mut Handle,
@@ -144,7 +144,7 @@ extern "C" {
         numbers_count: *mut usize,
     ) -> u32;
 
-    /// GOOD, NOT_EXPLAINING, NOT_BUILT, NO_MATCHER, OUT_OF_MEMORY. If GOOD, writes `written`, and of `out` what fits of the text.
+    /// GOOD, NOT_EXPLAINING, NOT_BUILT, NO_MATCHER, OUT_OF_MEMORY. Writes `written` always, and of `out` what fits of the text.
     pub fn zugrenja_explain_text(matcher: *mut Handle, out: *mut u8, out_len: usize, written: *mut usize) -> u32;
 
     /// GOOD, NO_MATCHER.
