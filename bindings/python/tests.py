@@ -55,11 +55,14 @@ class StoredCases(unittest.TestCase):
         self.assertGreater(explained, 5000)
 
     def compounds_of(self, script: bytes, output: str) -> int:
-        """How many reasons there are: each has a number for each compound that the example cuts its item into."""
+        """How many reasons there are: each has a number for each compound that the example cuts its item into, and the compounds together
+        are read as the text is."""
         lines, reasons = script.split(b"\n"), re.findall(r"^why\t.*\t(.*)\t(.*)\t(.*)$", output, re.M)
         for line, item, numbers in reasons:
             text = lines[int(line) - 1].split(b"\t", 2)[2].decode()
-            self.assertEqual(len(why.items_of(text)[int(item)]), len(numbers.split(",")), text)
+            items = why.items_of(text)
+            self.assertEqual(len(items[int(item)]), len(numbers.split(",")), text)
+            self.assertEqual(cases.model.accept(", ".join(map(" ".join, items))), cases.model.accept(text), text)
         return len(reasons)
 
 
@@ -242,9 +245,9 @@ class Select(unittest.TestCase):
         for text, items in {
             "p": [["p"]],
             " a\tb\n.c>d , *|e>\f#f ": [["a", "b", ".c", "> d"], ["*|e", "> #f"]],
-            "a/* > b, */.c /**/ d": [["a.c", "d"]],
+            "/* a */ a/* > b, */.c /**/ > /**/d": [["a/* > b, */.c", "> d"]],
             """[a="] > ,"]:not( .b, [c='\\' )'] ) d""": [["""[a="] > ,"]:not( .b, [c='\\' )'] )""", "d"]],
-            r".a\,b \31  c.\>.\(d e": [[r".a\,b", r"\31 ", r"c.\>.\(d", "e"]],
+            r".a\,b \31  c.\>.\(d \31/**/ e": [[r".a\,b", r"\31 ", r"c.\>.\(d", r"\31/**/", "e"]],
             "a [b = 'c": [["a", "[b = 'c"]],
             "a /* b": [["a"]],
         }.items():

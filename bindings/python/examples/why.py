@@ -23,7 +23,7 @@ WHITE_SPACE = " \t\r\n\f"
 
 
 def items_of(text: str) -> list[list[str]]:
-    """The compounds of each item of a list of selectors; one after a child step begins with `> `."""
+    """The compounds of each item of a list of selectors, as written; one after a child step begins with `> `."""
     items: list[list[str]] = [[]]
     begins, step, depth = True, "", 0
     for piece in PIECE.findall(text):
@@ -34,7 +34,7 @@ def items_of(text: str) -> list[list[str]]:
         elif depth == 0 and piece == ",":
             items.append([])
             begins, step = True, ""
-        elif not piece.startswith("/*"):
+        elif not (begins and piece.startswith("/*")):
             if begins:
                 items[-1].append(step)
                 begins, step = False, ""
