@@ -51,7 +51,11 @@ enum {
     /* A name or a value lies outside the text. A tag that waits still does. */
     ZUGRENJA_OUTSIDE = 17,
     /* The last tag has opened no element. */
-    ZUGRENJA_NOT_OPENED = 18
+    ZUGRENJA_NOT_OPENED = 18,
+    /* The matcher doesn't explain: it was made by zugrenja_new. */
+    ZUGRENJA_NOT_EXPLAINING = 19,
+    /* There are more items of selectors than ids, 4,294,967,296. (zugrenja_build of a matcher that explains; then it is freed) */
+    ZUGRENJA_TOO_MANY_ITEMS = 20
 };
 
 /* The bytes that each text of zugrenja_text fits into. */
@@ -101,10 +105,22 @@ typedef struct zugrenja_attribute {
     uint32_t has_value;
 } zugrenja_attribute;
 
+/* Why the last tag was reported, by one item of a list of selectors. */
+typedef struct zugrenja_reason {
+    size_t text;          /* the number of the text, in the order of adding, from 0 */
+    size_t item;          /* the item of its list, from 0 */
+    size_t numbers_start; /* where its numbers begin among those of all reasons */
+    size_t numbers_len;   /* how many they are: one for each compound */
+    uint32_t id;          /* the id that the text was added under */
+} zugrenja_reason;
+
 /* Makes a matcher without selectors. Its open elements may be charged for at most `max_memory` bytes (SIZE_MAX is no bound), each for
    `element_bytes` (64 fits most; 0 counts as 1). With `esi` other than 0, `esi:include` and `esi:comment` are void names.
    GOOD, IN_USE, OUT_OF_MEMORY. The matcher is given back by zugrenja_free alone. */
 uint32_t zugrenja_new(zugrenja_matcher *matcher, size_t max_memory, size_t element_bytes, uint32_t esi);
+
+/* The same, but the matcher explains (zugrenja_explain). It takes all other calls too, and some more time and memory for each tag. */
+uint32_t zugrenja_new_explaining(zugrenja_matcher *matcher, size_t max_memory, size_t element_bytes, uint32_t esi);
 
 /* Adds the selectors of a text, a list of them with commas, under an id. Several texts may have one id. The text isn't kept. `refusal` is
    written if the status is NOT_ACCEPTED alone.
@@ -112,7 +128,7 @@ uint32_t zugrenja_new(zugrenja_matcher *matcher, size_t max_memory, size_t eleme
 uint32_t zugrenja_add(zugrenja_matcher *matcher, uint32_t id, const uint8_t *text, size_t text_len, zugrenja_refusal *refusal);
 
 /* Builds the matcher: from now on it is told of tags, and takes no selector.
-   GOOD, BUILT, NO_MATCHER; and OUT_OF_MEMORY: then the matcher is freed, with its selectors. */
+   GOOD, BUILT, NO_MATCHER; and OUT_OF_MEMORY and TOO_MANY_ITEMS: then the matcher is freed, with its selectors. */
 uint32_t zugrenja_build(zugrenja_matcher *matcher);
 
 /* A start tag. GOOD: it is reported under `matched` ids, which zugrenja_ids gives. NEEDS_ATTRIBUTES: it waits for zugrenja_finish, and is
@@ -149,6 +165,21 @@ uint32_t zugrenja_has_opened(zugrenja_matcher *matcher, uint32_t *opened);
 /* How many nodes of the selectors' tree were tried for the last start tag, by their names and by their attributes.
    GOOD, NOT_BUILT, NO_MATCHER. */
 uint32_t zugrenja_tries(zugrenja_matcher *matcher, uint64_t *names, uint64_t *attributes);
+
+/* Why the last tag was reported: a reason for each item that matches its element, in the order of adding and of the list. `numbers` has for
+   each compound the number of the start tag whose element it is passed by, the outermost first and that of the element itself last, reason
+   after reason. Tags are numbered from 0, end tags and dropped tags too; one that was refused has no number. Both get as many as there is
+   room for; `reasons_count` and `numbers_count` are how many there are, 0 with each other status. There is none after an end tag, or where
+   a tag waits or was refused.
+   GOOD, NOT_EXPLAINING, NOT_BUILT, NO_MATCHER, OUT_OF_MEMORY. */
+uint32_t zugrenja_explain(zugrenja_matcher *matcher, zugrenja_reason *reasons, size_t reasons_len, size_t *numbers, size_t numbers_len,
+                          size_t *reasons_count, size_t *numbers_count);
+
+/* The same as text: for each reason a line `why<TAB>ID<TAB>TEXT<TAB>ITEM<TAB>NUMBERS`, as a script's `explain` writes it (docs/SCRIPT.md),
+   with the text's number in the place of the line's. The beginning that fits is written; `written` is the length of all of it, 0 with each
+   other status.
+   GOOD, NOT_EXPLAINING, NOT_BUILT, NO_MATCHER, OUT_OF_MEMORY. */
+uint32_t zugrenja_explain_text(zugrenja_matcher *matcher, uint8_t *out, size_t out_len, size_t *written);
 
 /* Frees the matcher. The handle may be used again.
    GOOD, NO_MATCHER. */

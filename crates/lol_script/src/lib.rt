@@ -18,6 +18,7 @@ mod settings;
 mod tags;
 
 pub use device::{Counted, RunFault};
+pub use output::push_reason;
 pub use program::{Status, run};
 use std::io;
 use std::process::ExitCode;

@@ -24,6 +24,8 @@ status_texts =
     codes "no start tag waits for its attributes" ∷
     codes "the range of an attribute's name or value lies outside the input" ∷
     codes "the last tag has opened no element" ∷
+    codes "the matcher doesn't explain" ∷
+    codes "there are more items of selectors than ids" ∷
     []
 
 -- what the causes say for which a text isn't accepted, from 0

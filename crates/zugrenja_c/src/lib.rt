@@ -2,12 +2,17 @@
 #![tactic(auto)]
 
 mod closing;
+mod explaining;
+#[cfg(test)]
+mod explaining_tests;
+mod explanations;
 mod handle;
 #[cfg(test)]
 mod handle_tests;
 mod making;
 mod matching;
 mod raw_box;
+mod reasons;
 mod reports;
 mod session;
 mod status;

@@ -9,7 +9,8 @@ ghost use Rattle.zugrenja_c.specs.Sessions.{IsAdding, IsBuiltFrom, IsMatching, I
 
 use crate::handle::Handle;
 use crate::session::Session;
-use crate::status::{GOOD, IN_USE, NO_MATCHER, OUT_OF_MEMORY, Refusal};
+use crate::status::{GOOD, IN_USE, NO_MATCHER, OUT_OF_MEMORY, Refusal, TOO_MANY_ITEMS};
+use lol_explaining_matcher::ExplainingMatcher;
 use lol_matcher::Matcher;
 use std::alloc::Global;
 
@@ -38,6 +39,31 @@ pub extern "C" fn zugrenja_new(
     builder.element_bytes(element_bytes);
     builder.enable_esi_tags(esi != 0);
     match Box::new(alloc, Session::Adding(builder)) {
+        Ok(session) => {
+            handle.put(session);
+            GOOD
+        }
+        Err(_) => OUT_OF_MEMORY,
+    }
+}
+
+/// As `zugrenja_new`, but the matcher explains.
+#[unsafe(no_mangle)]
+pub extern "C" fn zugrenja_new_explaining(
+    alloc: Global,
+    handle: &mut Handle,
+    max_memory: usize,
+    element_bytes: usize,
+    esi: u32,
+) -> u32 {
+    if handle.is_live() {
+        return IN_USE;
+    }
+    let mut builder = ExplainingMatcher::builder(alloc);
+    builder.max_memory(max_memory);
+    builder.element_bytes(element_bytes);
+    builder.enable_esi_tags(esi != 0);
+    match Box::new(alloc, Session::AddingExplained(builder)) {
         Ok(session) => {
             handle.put(session);
             GOOD
@@ -92,7 +118,7 @@ pub extern "C" fn zugrenja_build(alloc: Global, handle: &mut Handle) -> u32
     }
     let mut session = handle.take(alloc);
     let status = session.build(alloc);
-    if status != OUT_OF_MEMORY {
+    if status != OUT_OF_MEMORY && status != TOO_MANY_ITEMS {
         handle.put(session);
     }
     status

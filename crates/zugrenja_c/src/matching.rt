@@ -11,6 +11,7 @@ ghost use Rattle.zugrenja_c.specs.Sessions.{IsAdding, IsMatching, StaysMatching}
 ghost use Rattle.zugrenja_c.specs.Tags.{AreInside, HasClosed, closed_elements, IsFinished, IsFinishRefused, IsStarted, IsStartRefused, closed_values, given_tag, ids_of, outline_of};
 
 use crate::closing::Closing;
+use crate::explaining;
 use crate::session::Session;
 use crate::status::{
     GOOD, NEEDS_ATTRIBUTES, NO_NAMESPACE, NOT_BUILT, NOT_OPENED, OUT_OF_MEMORY, namespace_of,
@@ -58,7 +59,11 @@ impl AttributePlace {
     }
 }
 
-fn outlines_of(alloc: Global, places: &[AttributePlace]) -> Result<AttributeBuffer, AllocError>
+/// The outlines of attributes.
+pub(crate) fn outlines_of(
+    alloc: Global,
+    places: &[AttributePlace],
+) -> Result<AttributeBuffer, AllocError>
     ensures { IfOk result (λ outlines. outlines.items ≡ map outline_of places.now) }
 {
     let mut outlines = Vec::new(alloc);
@@ -92,8 +97,12 @@ impl Session {
         ensures none { result ≢ 0 → matched.new ≡ 0 }
     {
         *matched = 0;
-        let Session::Matching(matcher) = self else {
-            return NOT_BUILT;
+        let matcher = match self {
+            Session::Matching(matcher) => matcher,
+            Session::Explaining(matcher) => {
+                return explaining::start(matcher, name, namespace, matched);
+            }
+            Session::Adding(_) | Session::AddingExplained(_) => return NOT_BUILT,
         };
         let Some(ns) = namespace_of(namespace) else {
             return NO_NAMESPACE;
@@ -142,8 +151,12 @@ impl Session {
         ensures none { result ≢ 0 → matched.new ≡ 0 }
     {
         *matched = 0;
-        let Session::Matching(matcher) = self else {
-            return NOT_BUILT;
+        let matcher = match self {
+            Session::Matching(matcher) => matcher,
+            Session::Explaining(matcher) => {
+                return explaining::finish(matcher, alloc, text, places, self_closing, matched);
+            }
+            Session::Adding(_) | Session::AddingExplained(_) => return NOT_BUILT,
         };
         let Ok(outlines) = outlines_of(alloc, places) else {
             return OUT_OF_MEMORY;
@@ -181,8 +194,12 @@ impl Session {
         ensures statuses { IsOneOf (0 ∷ 4 ∷ 5 ∷ 7 ∷ []) result }
         ensures unchanged { result ≢ 0 → self.new ≡ self.old }
     {
-        let Session::Matching(matcher) = self else {
-            return NOT_BUILT;
+        let matcher = match self {
+            Session::Matching(matcher) => matcher,
+            Session::Explaining(matcher) => {
+                return explaining::end(matcher, alloc, name, values, closed);
+            }
+            Session::Adding(_) | Session::AddingExplained(_) => return NOT_BUILT,
         };
         let Ok(mut closing) = Closing::new(alloc, values.len()) else {
             return OUT_OF_MEMORY;
@@ -203,8 +220,10 @@ impl Session {
         ensures statuses { IsOneOf (0 ∷ 5 ∷ 7 ∷ 18 ∷ []) result }
         ensures unchanged { result ≢ 0 → self.new ≡ self.old }
     {
-        let Session::Matching(matcher) = self else {
-            return NOT_BUILT;
+        let matcher = match self {
+            Session::Matching(matcher) => matcher,
+            Session::Explaining(matcher) => return explaining::set_value(matcher, value),
+            Session::Adding(_) | Session::AddingExplained(_) => return NOT_BUILT,
         };
         if !matcher.has_opened() {
             return NOT_OPENED;
@@ -222,10 +241,11 @@ impl Session {
         ensures no_matcher { result ≢ 5 }
         ensures statuses { IsOneOf (0 ∷ 5 ∷ 7 ∷ []) result }
     {
-        let Session::Matching(matcher) = self else {
-            return NOT_BUILT;
+        let matches = match self {
+            Session::Matching(matcher) => matcher.matches(),
+            Session::Explaining(matcher) => matcher.matches(),
+            Session::Adding(_) | Session::AddingExplained(_) => return NOT_BUILT,
         };
-        let matches = matcher.matches();
         *matched = matches.len();
         write_ids(matches, ids);
         GOOD
@@ -240,10 +260,12 @@ impl Session {
         ensures no_matcher { result ≢ 5 }
         ensures statuses { IsOneOf (0 ∷ 5 ∷ 7 ∷ []) result }
     {
-        let Session::Matching(matcher) = self else {
-            return NOT_BUILT;
+        let has_opened = match self {
+            Session::Matching(matcher) => matcher.has_opened(),
+            Session::Explaining(matcher) => matcher.has_opened(),
+            Session::Adding(_) | Session::AddingExplained(_) => return NOT_BUILT,
         };
-        *opened = matcher.has_opened() as u32;
+        *opened = has_opened as u32;
         GOOD
     }
 
@@ -256,10 +278,11 @@ impl Session {
         ensures no_matcher { result ≢ 5 }
         ensures statuses { IsOneOf (0 ∷ 5 ∷ 7 ∷ []) result }
     {
-        let Session::Matching(matcher) = self else {
-            return NOT_BUILT;
+        let tries = match self {
+            Session::Matching(matcher) => matcher.tries(),
+            Session::Explaining(matcher) => matcher.tries(),
+            Session::Adding(_) | Session::AddingExplained(_) => return NOT_BUILT,
         };
-        let tries = matcher.tries();
         *names = tries.names();
         *attributes = tries.attributes();
         GOOD

@@ -6,7 +6,8 @@ ghost use Rattle.lol_matcher.specs.Building.{Adds, KeepsPairs};
 ghost use Rattle.zugrenja_c.specs.Numbers.{IsOneOf};
 ghost use Rattle.zugrenja_c.specs.Sessions.{IsAdding, IsBuiltFrom, IsMatching, IsNotAccepted};
 
-use crate::status::{BUILT, GOOD, NOT_ACCEPTED, NOT_UTF8, OUT_OF_MEMORY, Refusal};
+use crate::status::{BUILT, GOOD, NOT_ACCEPTED, NOT_UTF8, OUT_OF_MEMORY, Refusal, TOO_MANY_ITEMS};
+use lol_explaining_matcher::{ExplainingMatcher, ExplainingMatcherBuilder, NumberingError};
 use lol_matcher::{AddError, Matcher, MatcherBuilder};
 use std::alloc::Global;
 use std::{mem, str};
@@ -18,6 +19,10 @@ pub enum Session {
     Adding(MatcherBuilder),
     /// Tags are told.
     Matching(Matcher<u64>),
+    /// Selectors are added, and the matcher will explain.
+    AddingExplained(ExplainingMatcherBuilder),
+    /// Tags are told, and the matcher explains.
+    Explaining(ExplainingMatcher<u64>),
 }
 
 impl Session {
@@ -35,19 +40,16 @@ impl Session {
         ensures unchanged { result ≢ 0 → result ≢ 4 → self.new ≡ self.old }
         ensures untouched { result ≢ 10 → refusal.new ≡ refusal.old }
     {
-        let Session::Adding(builder) = self else {
-            return BUILT;
-        };
-        let Ok(text) = str::from_utf8(text) else {
-            return NOT_UTF8;
-        };
-        match builder.add(id, text) {
-            Ok(()) => GOOD,
-            Err(AddError::Memory) => OUT_OF_MEMORY,
-            Err(AddError::Refused { cause, location }) => {
-                *refusal = Refusal::of(cause, location);
-                NOT_ACCEPTED
-            }
+        match self {
+            Session::Matching(_) | Session::Explaining(_) => BUILT,
+            Session::Adding(builder) => match str::from_utf8(text) {
+                Ok(text) => status_of(builder.add(id, text), refusal),
+                Err(_) => NOT_UTF8,
+            },
+            Session::AddingExplained(builder) => match str::from_utf8(text) {
+                Ok(text) => status_of(builder.add(id, text), refusal),
+                Err(_) => NOT_UTF8,
+            },
         }
     }
 
@@ -61,16 +63,41 @@ impl Session {
         ensures statuses { IsOneOf (0 ∷ 4 ∷ 5 ∷ 8 ∷ []) result }
         ensures unchanged { result ≢ 0 → result ≢ 4 → self.new ≡ self.old }
     {
-        let Session::Adding(builder) = self else {
-            return BUILT;
-        };
-        let builder = mem::replace(builder, Matcher::builder(alloc));
-        match builder.build_with_values() {
-            Ok(matcher) => {
-                *self = Session::Matching(matcher);
-                GOOD
+        match self {
+            Session::Matching(_) | Session::Explaining(_) => BUILT,
+            Session::Adding(builder) => {
+                let builder = mem::replace(builder, Matcher::builder(alloc));
+                match builder.build_with_values() {
+                    Ok(matcher) => {
+                        *self = Session::Matching(matcher);
+                        GOOD
+                    }
+                    Err(_) => OUT_OF_MEMORY,
+                }
             }
-            Err(_) => OUT_OF_MEMORY,
+            Session::AddingExplained(builder) => {
+                let builder = mem::replace(builder, ExplainingMatcher::builder(alloc));
+                match builder.build_with_values() {
+                    Ok(matcher) => {
+                        *self = Session::Explaining(matcher);
+                        GOOD
+                    }
+                    Err(NumberingError::TooManyItems) => TOO_MANY_ITEMS,
+                    Err(NumberingError::Memory) => OUT_OF_MEMORY,
+                }
+            }
+        }
+    }
+}
+
+/// The status of a text that was added, or wasn't; then why it isn't accepted is written.
+fn status_of(added: Result<(), AddError>, refusal: &mut Refusal) -> u32 {
+    match added {
+        Ok(()) => GOOD,
+        Err(AddError::Memory) => OUT_OF_MEMORY,
+        Err(AddError::Refused { cause, location }) => {
+            *refusal = Refusal::of(cause, location);
+            NOT_ACCEPTED
         }
     }
 }

@@ -39,6 +39,12 @@ pub(crate) const NO_NAMESPACE: u32 = 11;
 /// The last tag has opened no element.
 pub(crate) const NOT_OPENED: u32 = 18;
 
+/// The matcher doesn't explain.
+pub(crate) const NOT_EXPLAINING: u32 = 19;
+
+/// There are more items of selectors than ids.
+pub(crate) const TOO_MANY_ITEMS: u32 = 20;
+
 /// The number of the error that a matcher answers a tag with.
 pub(crate) fn number_of(error: MatcherError) -> u32
     ensures { result ≡ error_number error }

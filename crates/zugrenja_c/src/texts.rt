@@ -55,6 +55,8 @@ fn text_of(status: u32, cause: u32, combinator: u32) -> &'static str
         16 => "no start tag waits for its attributes",
         17 => "the range of an attribute's name or value lies outside the input",
         18 => "the last tag has opened no element",
+        19 => "the matcher doesn't explain",
+        20 => "there are more items of selectors than ids",
         _ => "unknown status",
     }
 }
