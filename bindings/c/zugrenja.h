@@ -110,7 +110,7 @@ typedef struct zugrenja_reason {
     size_t text;          /* the number of the text, in the order of adding, from 0 */
     size_t item;          /* the item of its list, from 0 */
     size_t numbers_start; /* where its numbers begin among those of all reasons */
-    size_t numbers_len;   /* how many they are: one for each compound */
+    size_t numbers_len;   /* how many they are: one for each compound, the element's own last */
     uint32_t id;          /* the id that the text was added under */
 } zugrenja_reason;
 

@@ -32,7 +32,7 @@ impl Model for ExplainingMatcherBuilder {
 }
 
 impl ExplainingMatcherBuilder {
-    ghost use Rattle.std.specs.Prelude.{◌≡◌, ◌<◌, ◌+◌, [], false, IfOk, IfErr, IsErrOf, OnOk, OnErr, length, max};
+    ghost use Rattle.std.specs.Prelude.{◌≡◌, ◌<◌, ◌+◌, [], false, Err, IfOk, IfErr, IsErrOf, OnOk, OnErr, length, max};
     ghost use Rattle.lol_matcher.specs.Building.{IsRefused};
     ghost use Rattle.lol_reasons.specs.Explanations.{added_by};
     ghost use Rattle.lol_reasons.specs.Numbered.{texts_in};
@@ -79,6 +79,7 @@ impl ExplainingMatcherBuilder {
         ensures added { OnOk result (AddsText id text.now self.old self.new) }
         ensures refused { IfErr result (λ error. IsRefused text.now error) }
         ensures unchanged { OnErr result (texts_in self.new.texts ≡ texts_in self.old.texts) }
+        ensures same { OnErr result ((result ≡ Err AddError.Memory → ⊥) → self.new ≡ self.old) }
         ensures rest { self.new ≡ record self.old { texts = self.new.texts } }
     {
         let selector = read_selector(self.alloc, text)?;

@@ -3,3 +3,5 @@ pub mod Held
 pub mod Sessions
 pub mod Tags
 pub mod Texts
+pub mod Reasons
+pub mod Explaining

@@ -10,7 +10,7 @@ use Rattle.lol_script.specs.declared.program.Status.{Status}
 use Rattle.lol_script.specs.declared.program.Status.TheVariants.{Good, BadLine, Refused}
 
 -- the beginning of a list that fits into a buffer, and then what is left of the buffer
-abbrev pub overwritten : List ℕ → List ℕ → List ℕ
+abbrev pub overwritten : {A : Type 0} → List A → List A → List A
 overwritten text buffer = take (length buffer) text ++ drop (length text) buffer
 
 -- the number of a status: the program's exit status

@@ -1,5 +1,16 @@
 //! A session whose matcher explains.
 
+ghost use Rattle.std.specs.Prelude.{ℕ, List, Option, ◌++◌, ◌≡◌, ◌≢◌, ◌↔◌, [], ◌∷◌, None, Some, true, false, length, map, IfOk};
+ghost use Rattle.lol_stack.specs.declared.element_value.ElementValue.{ElementValue};
+ghost use Rattle.lol_explaining_matcher.specs.Explaining.{with_end};
+ghost use Rattle.lol_reasons.specs.Explanations as shown;
+ghost use Rattle.lol_reasons.specs.Numbered.{reason_shown};
+ghost use Rattle.zugrenja_c.specs.Explaining.{EndsExplained, FinishesExplained, GivesExplained, StartsExplained, WritesLines, WritesReasons, has_opened};
+ghost use Rattle.zugrenja_c.specs.Numbers.{IsOneOf, numbered_namespace};
+ghost use Rattle.zugrenja_c.specs.Reasons.{AreReasons, HasReasons, reason_lines};
+ghost use Rattle.zugrenja_c.specs.Sessions.{IsExplaining, IsMatching, IsUnbuilt};
+ghost use Rattle.zugrenja_c.specs.Tags.{HasClosed, closed_elements};
+
 use crate::closing::Closing;
 use crate::matching::{AttributePlace, outlines_of};
 use crate::reasons::{ReasonPlace, ReasonTable, lines_of};
@@ -8,9 +19,7 @@ use crate::status::{
     GOOD, NEEDS_ATTRIBUTES, NO_NAMESPACE, NOT_BUILT, NOT_EXPLAINING, NOT_OPENED, OUT_OF_MEMORY,
     namespace_of, number_of,
 };
-use lol_explaining_matcher::{
-    AuxStartTagInfo, Bytes, ElementValue, ExplainingMatcher, Reason, Started,
-};
+use lol_explaining_matcher::{AuxStartTagInfo, Bytes, ElementValue, ExplainingMatcher, Started};
 use std::alloc::{AllocError, Global};
 
 /// Tells of a start tag.
@@ -19,7 +28,13 @@ pub(crate) fn start(
     name: &[u8],
     namespace: u32,
     matched: &mut usize,
-) -> u32 {
+) -> u32
+    ensures told { StartsExplained result name.now namespace matched.new matcher.old matcher.new }
+    ensures no_namespace { (result ≡ 11) ↔ (numbered_namespace namespace ≡ None) }
+    ensures statuses { IsOneOf (0 ∷ 1 ∷ 11 ∷ 12 ∷ 13 ∷ 14 ∷ 15 ∷ []) result }
+    ensures unchanged { IsOneOf (11 ∷ 15 ∷ []) result → matcher.new ≡ matcher.old }
+    ensures none { result ≢ 0 → matched.new ≡ matched.old }
+{
     let Some(ns) = namespace_of(namespace) else {
         return NO_NAMESPACE;
     };
@@ -41,7 +56,12 @@ pub(crate) fn finish(
     places: &[AttributePlace],
     self_closing: bool,
     matched: &mut usize,
-) -> u32 {
+) -> u32
+    ensures told { FinishesExplained result text.now places.now self_closing matched.new matcher.old matcher.new }
+    ensures statuses { IsOneOf (0 ∷ 4 ∷ 12 ∷ 13 ∷ 14 ∷ 15 ∷ 16 ∷ 17 ∷ []) result }
+    ensures unchanged { IsOneOf (4 ∷ 15 ∷ 16 ∷ 17 ∷ []) result → matcher.new ≡ matcher.old }
+    ensures none { result ≢ 0 → matched.new ≡ matched.old }
+{
     let Ok(outlines) = outlines_of(alloc, places) else {
         return OUT_OF_MEMORY;
     };
@@ -66,7 +86,12 @@ pub(crate) fn end(
     name: &[u8],
     values: &mut [u64],
     closed: &mut usize,
-) -> u32 {
+) -> u32
+    ensures told { result ≡ 0 → EndsExplained name.now values.old values.new closed.new matcher.old matcher.new }
+    ensures none { result ≢ 0 → (values.new ≡ values.old) × (closed.new ≡ closed.old) }
+    ensures statuses { IsOneOf (0 ∷ 4 ∷ []) result }
+    ensures unchanged { result ≢ 0 → matcher.new ≡ matcher.old }
+{
     let Ok(mut closing) = Closing::new(alloc, values.len()) else {
         return OUT_OF_MEMORY;
     };
@@ -77,15 +102,28 @@ pub(crate) fn end(
 }
 
 /// Tells a matcher of an end tag, and keeps the values of the elements that it closes.
-fn close(matcher: &mut ExplainingMatcher<u64>, name: &[u8], closing: &mut Closing) {
-    let mut handler = |element: ElementValue<Option<u64>>| {
+fn close(matcher: &mut ExplainingMatcher<u64>, name: &[u8], closing: &mut Closing)
+    ensures ended { matcher.new ≡ with_end matcher.old name.now }
+    ensures closed { (room : ℕ) → HasClosed room [] closing.old
+        → HasClosed room (closed_elements matcher.old.items name.now) closing.new }
+{
+    let mut handler = |element: ElementValue<Option<u64>>|
+        ensures { (room : ℕ) (elements : List (ElementValue (Option ℕ)))
+            → HasClosed room elements closing.entry.now
+            → HasClosed room (elements ++ element ∷ []) closing.exit.now }
+    {
         closing.keep(element);
     };
     matcher.end_with(name, &mut handler);
 }
 
 /// Gives a value to the element that the last tag has opened.
-pub(crate) fn set_value(matcher: &mut ExplainingMatcher<u64>, value: u64) -> u32 {
+pub(crate) fn set_value(matcher: &mut ExplainingMatcher<u64>, value: u64) -> u32
+    ensures given { result ≡ 0 → GivesExplained value matcher.old matcher.new }
+    ensures not_opened { (result ≡ 18) ↔ (has_opened matcher.old ≡ false) }
+    ensures statuses { IsOneOf (0 ∷ 18 ∷ []) result }
+    ensures unchanged { result ≢ 0 → matcher.new ≡ matcher.old }
+{
     if !matcher.has_opened() {
         return NOT_OPENED;
     }
@@ -102,7 +140,18 @@ impl Session {
         numbers: &mut [usize],
         reasons_count: &mut usize,
         numbers_count: &mut usize,
-    ) -> u32 {
+    ) -> u32
+        ensures explained { result ≡ 0 → IsExplaining (Some self.now) (λ m.
+            WritesReasons m reasons.old reasons.new numbers.old numbers.new reasons_count.new numbers_count.new) }
+        ensures rest { result ≢ 0 → (reasons.new ≡ reasons.old) × (numbers.new ≡ numbers.old) }
+        ensures none { result ≢ 0
+            → (reasons_count.new ≡ reasons_count.old) × (numbers_count.new ≡ numbers_count.old) }
+        ensures memory { result ≡ 4 → IsExplaining (Some self.now) (λ _. Unit {0}) }
+        ensures not_explaining { (result ≡ 19) ↔ IsMatching (Some self.now) (λ _. Unit {0}) }
+        ensures not_built { (result ≡ 7) ↔ IsUnbuilt (Some self.now) }
+        ensures no_matcher { result ≢ 5 }
+        ensures statuses { IsOneOf (0 ∷ 4 ∷ 5 ∷ 7 ∷ 19 ∷ []) result }
+    {
         let matcher = match self {
             Session::Explaining(matcher) => matcher,
             Session::Matching(_) => return NOT_EXPLAINING,
@@ -117,7 +166,16 @@ impl Session {
     }
 
     /// Writes the same as text.
-    pub(crate) fn explain_text(&self, alloc: Global, out: &mut [u8], written: &mut usize) -> u32 {
+    pub(crate) fn explain_text(&self, alloc: Global, out: &mut [u8], written: &mut usize) -> u32
+        ensures explained { result ≡ 0 → IsExplaining (Some self.now) (λ m.
+            WritesLines m out.old out.new written.new) }
+        ensures rest { result ≢ 0 → (out.new ≡ out.old) × (written.new ≡ written.old) }
+        ensures memory { result ≡ 4 → IsExplaining (Some self.now) (λ _. Unit {0}) }
+        ensures not_explaining { (result ≡ 19) ↔ IsMatching (Some self.now) (λ _. Unit {0}) }
+        ensures not_built { (result ≡ 7) ↔ IsUnbuilt (Some self.now) }
+        ensures no_matcher { result ≢ 5 }
+        ensures statuses { IsOneOf (0 ∷ 4 ∷ 5 ∷ 7 ∷ 19 ∷ []) result }
+    {
         let matcher = match self {
             Session::Explaining(matcher) => matcher,
             Session::Matching(_) => return NOT_EXPLAINING,
@@ -134,13 +192,19 @@ impl Session {
 }
 
 /// The reasons of the last tag's report.
-fn table_of(alloc: Global, matcher: &ExplainingMatcher<u64>) -> Result<ReasonTable, AllocError> {
+fn table_of(alloc: Global, matcher: &ExplainingMatcher<u64>) -> Result<ReasonTable, AllocError>
+    ensures { IfOk result (λ table. (reasons : List shown.Reason) × AreReasons matcher.now reasons
+        × HasReasons reasons table) }
+{
     let told = matcher.explain()?;
     ReasonTable::of(alloc, &told)
 }
 
 /// The reasons of the last tag's report, as lines.
-fn text_of(alloc: Global, matcher: &ExplainingMatcher<u64>) -> Result<Vec<u8>, AllocError> {
+fn text_of(alloc: Global, matcher: &ExplainingMatcher<u64>) -> Result<Vec<u8>, AllocError>
+    ensures { IfOk result (λ text. (reasons : List shown.Reason) × AreReasons matcher.now reasons
+        × (text.items ≡ reason_lines reasons)) }
+{
     let told = matcher.explain()?;
     lines_of(alloc, &told)
 }

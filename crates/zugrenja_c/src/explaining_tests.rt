@@ -1,10 +1,8 @@
 //! A matcher that explains, through the calls that C makes.
 
-use crate::explanations::{zugrenja_explain, zugrenja_explain_text};
+use crate::explanations::{zugrenja_explain, zugrenja_explain_text, zugrenja_new_explaining};
 use crate::handle::Handle;
-use crate::making::{
-    zugrenja_add, zugrenja_build, zugrenja_free, zugrenja_new, zugrenja_new_explaining,
-};
+use crate::making::{zugrenja_add, zugrenja_build, zugrenja_free, zugrenja_new};
 use crate::matching::AttributePlace;
 use crate::reasons::ReasonPlace;
 use crate::reports::{zugrenja_has_opened, zugrenja_ids, zugrenja_tries};

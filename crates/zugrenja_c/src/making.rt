@@ -1,16 +1,19 @@
 //! From zeros to a matcher, and back.
 
-ghost use Rattle.std.specs.Prelude.{◌≡◌, ◌≢◌, ◌↔◌, [], ◌∷◌, None, true, false, max, is_some};
+ghost use Rattle.std.specs.Prelude.{◌≡◌, ◌≢◌, ◌<◌, ◌+◌, ◌↔◌, [], ◌∷◌, None, true, false, length, max, is_some};
 ghost use Rattle.std.specs.Str.{IsUtf8};
+ghost use Rattle.lol_explaining_matcher.specs.Preparing.{StartsWith};
 ghost use Rattle.lol_program.specs.Asts.{pairs_of, nodes_of};
 ghost use Rattle.lol_matcher.specs.Building.{Adds, KeepsPairs};
+ghost use Rattle.lol_reasons.specs.Explanations.{added_by};
+ghost use Rattle.lol_reasons.specs.Numbered.{texts_in};
+ghost use Rattle.zugrenja_c.specs.Explaining.{AddsExplained};
 ghost use Rattle.zugrenja_c.specs.Numbers.{IsOneOf};
-ghost use Rattle.zugrenja_c.specs.Sessions.{IsAdding, IsBuiltFrom, IsMatching, IsNotAccepted};
+ghost use Rattle.zugrenja_c.specs.Sessions.{IfAdding, IfAddingExplained, IsAdding, IsAddingExplained, IsBuilt, IsBuiltFrom, IsExplaining, IsMatching, IsNotAccepted, IsUnbuilt, StaysAddingExplained};
 
 use crate::handle::Handle;
 use crate::session::Session;
 use crate::status::{GOOD, IN_USE, NO_MATCHER, OUT_OF_MEMORY, Refusal, TOO_MANY_ITEMS};
-use lol_explaining_matcher::ExplainingMatcher;
 use lol_matcher::Matcher;
 use std::alloc::Global;
 
@@ -47,31 +50,6 @@ pub extern "C" fn zugrenja_new(
     }
 }
 
-/// As `zugrenja_new`, but the matcher explains.
-#[unsafe(no_mangle)]
-pub extern "C" fn zugrenja_new_explaining(
-    alloc: Global,
-    handle: &mut Handle,
-    max_memory: usize,
-    element_bytes: usize,
-    esi: u32,
-) -> u32 {
-    if handle.is_live() {
-        return IN_USE;
-    }
-    let mut builder = ExplainingMatcher::builder(alloc);
-    builder.max_memory(max_memory);
-    builder.element_bytes(element_bytes);
-    builder.enable_esi_tags(esi != 0);
-    match Box::new(alloc, Session::AddingExplained(builder)) {
-        Ok(session) => {
-            handle.put(session);
-            GOOD
-        }
-        Err(_) => OUT_OF_MEMORY,
-    }
-}
-
 /// Adds the selectors of a text, a list of them with commas, under an id. `refusal` is written only if the text isn't accepted.
 #[unsafe(no_mangle)]
 pub extern "C" fn zugrenja_add(
@@ -81,14 +59,16 @@ pub extern "C" fn zugrenja_add(
     text: &[u8],
     refusal: &mut Refusal,
 ) -> u32
-    ensures added { result ≡ 0 → IsAdding handle.old.slot.value (λ b. IsAdding handle.new.slot.value (λ c.
+    ensures added { result ≡ 0 → IfAdding handle.old.slot.value (λ b. IsAdding handle.new.slot.value (λ c.
         Adds id text.now b.ast c.ast × (c ≡ record b { ast = c.ast }))) }
-    ensures memory { result ≡ 4 → IsAdding handle.old.slot.value (λ b. IsAdding handle.new.slot.value (λ c.
+    ensures memory { result ≡ 4 → IfAdding handle.old.slot.value (λ b. IsAdding handle.new.slot.value (λ c.
         KeepsPairs id text.now b.ast c.ast × (c ≡ record b { ast = c.ast }))) }
-    ensures not_accepted { result ≡ 10 → IsAdding handle.old.slot.value (λ _. IsNotAccepted text.now refusal.new) }
+    ensures explaining { StaysAddingExplained handle.old.slot.value handle.new.slot.value (λ b c.
+        AddsExplained result id text.now b c) }
+    ensures not_accepted { result ≡ 10 → IsUnbuilt handle.old.slot.value × IsNotAccepted text.now refusal.new }
     ensures no_matcher { (result ≡ 5) ↔ (handle.old.slot.value ≡ None) }
-    ensures built { (result ≡ 8) ↔ IsMatching handle.old.slot.value (λ _. Unit {0}) }
-    ensures not_utf8 { (result ≡ 9) ↔ (IsAdding handle.old.slot.value (λ _. ¬ (IsUtf8 text.now))) }
+    ensures built { (result ≡ 8) ↔ IsBuilt handle.old.slot.value }
+    ensures not_utf8 { (result ≡ 9) ↔ (IsUnbuilt handle.old.slot.value × (¬ (IsUtf8 text.now))) }
     ensures statuses { IsOneOf (0 ∷ 4 ∷ 5 ∷ 8 ∷ 9 ∷ 10 ∷ []) result }
     ensures unchanged { result ≢ 0 → result ≢ 4 → handle.new.slot.value ≡ handle.old.slot.value }
     ensures untouched { result ≢ 10 → refusal.new ≡ refusal.old }
@@ -102,16 +82,21 @@ pub extern "C" fn zugrenja_add(
     status
 }
 
-/// Builds the matcher: from now on tags are told, and no selector is added. Out of memory, the matcher is freed.
+/// Builds the matcher: from now on tags are told, and no selector is added. Out of memory, the matcher is freed; one that explains also if
+/// there are more items of selectors than ids, 4,294,967,296.
 #[unsafe(no_mangle)]
 pub extern "C" fn zugrenja_build(alloc: Global, handle: &mut Handle) -> u32
-    ensures built { result ≡ 0 → IsAdding handle.old.slot.value (λ b. IsMatching handle.new.slot.value (λ m.
+    ensures built { result ≡ 0 → IfAdding handle.old.slot.value (λ b. IsMatching handle.new.slot.value (λ m.
         IsBuiltFrom b m)) }
-    ensures memory { result ≡ 4 → IsAdding handle.old.slot.value (λ _. handle.new.slot.value ≡ None) }
+    ensures explaining { result ≡ 0 → IfAddingExplained handle.old.slot.value (λ b.
+        IsExplaining handle.new.slot.value (λ m. StartsWith b m)) }
+    ensures memory { result ≡ 4 → IsUnbuilt handle.old.slot.value × (handle.new.slot.value ≡ None) }
+    ensures too_many { result ≡ 20 → IsAddingExplained handle.old.slot.value (λ b.
+        (u32.MAX + 1 < length (added_by (texts_in b.texts))) × (handle.new.slot.value ≡ None)) }
     ensures no_matcher { (result ≡ 5) ↔ (handle.old.slot.value ≡ None) }
-    ensures twice { (result ≡ 8) ↔ IsMatching handle.old.slot.value (λ _. Unit {0}) }
-    ensures statuses { IsOneOf (0 ∷ 4 ∷ 5 ∷ 8 ∷ []) result }
-    ensures unchanged { result ≢ 0 → result ≢ 4 → handle.new.slot.value ≡ handle.old.slot.value }
+    ensures twice { (result ≡ 8) ↔ IsBuilt handle.old.slot.value }
+    ensures statuses { IsOneOf (0 ∷ 4 ∷ 5 ∷ 8 ∷ 20 ∷ []) result }
+    ensures unchanged { IsOneOf (5 ∷ 8 ∷ []) result → handle.new.slot.value ≡ handle.old.slot.value }
 {
     if !handle.is_live() {
         return NO_MATCHER;

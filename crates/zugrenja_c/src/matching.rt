@@ -7,7 +7,8 @@ ghost use Rattle.lol_matcher.specs.Answering.{with_ended, with_value};
 ghost use Rattle.lol_matcher.specs.declared.error.MatcherError.TheVariants as errors;
 ghost use Rattle.lol_matcher.specs.declared.matcher.Started.TheVariants as answers;
 ghost use Rattle.zugrenja_c.specs.Numbers.{IsOneOf, numbered_namespace, overwritten};
-ghost use Rattle.zugrenja_c.specs.Sessions.{IsAdding, IsMatching, StaysMatching};
+ghost use Rattle.zugrenja_c.specs.Explaining.{EndsExplained, FinishesExplained, GivesExplained, StartsExplained, WritesIds, has_opened};
+ghost use Rattle.zugrenja_c.specs.Sessions.{HasOpenedNone, IfExplaining, IfMatching, IsBuilt, IsUnbuilt, StaysExplaining, StaysMatching};
 ghost use Rattle.zugrenja_c.specs.Tags.{AreInside, HasClosed, closed_elements, IsFinished, IsFinishRefused, IsStarted, IsStartRefused, closed_values, given_tag, ids_of, outline_of};
 
 use crate::closing::Closing;
@@ -88,9 +89,11 @@ impl Session {
             IsSomeAnd (numbered_namespace namespace) (λ ns. IsStartRefused errors.CounterFull m name.now ns n)) }
         ensures memory { result ≡ 14 → StaysMatching (Some self.old) (Some self.new) (λ m n.
             IsSomeAnd (numbered_namespace namespace) (λ ns. IsStartRefused errors.Memory m name.now ns n)) }
-        ensures failed { result ≡ 15 → IsMatching (Some self.old) (λ m. m.failed ≡ true) }
-        ensures no_namespace { (result ≡ 11) ↔ (IsMatching (Some self.old) (λ _. numbered_namespace namespace ≡ None)) }
-        ensures not_built { (result ≡ 7) ↔ IsAdding (Some self.old) (λ _. Unit {0}) }
+        ensures failed { result ≡ 15 → IfMatching (Some self.old) (λ m. m.failed ≡ true) }
+        ensures explaining { StaysExplaining (Some self.old) (Some self.new) (λ m n.
+            StartsExplained result name.now namespace matched.new m n) }
+        ensures no_namespace { (result ≡ 11) ↔ (IsBuilt (Some self.old) × (numbered_namespace namespace ≡ None)) }
+        ensures not_built { (result ≡ 7) ↔ IsUnbuilt (Some self.old) }
         ensures no_matcher { result ≢ 5 }
         ensures statuses { IsOneOf (0 ∷ 1 ∷ 5 ∷ 7 ∷ 11 ∷ 12 ∷ 13 ∷ 14 ∷ 15 ∷ []) result }
         ensures unchanged { IsOneOf (5 ∷ 7 ∷ 11 ∷ 15 ∷ []) result → self.new ≡ self.old }
@@ -138,13 +141,15 @@ impl Session {
         ensures memory { result ≡ 14 → StaysMatching (Some self.old) (Some self.new) (λ m n.
             IsSomeAnd m.told.asked (λ asked.
             IsFinishRefused errors.Memory m (given_tag asked text.now places.now self_closing) n)) }
-        ensures failed { result ≡ 15 → IsMatching (Some self.old) (λ m. m.failed ≡ true) }
-        ensures not_asked { result ≡ 16 → IsMatching (Some self.old) (λ m.
+        ensures failed { result ≡ 15 → IfMatching (Some self.old) (λ m. m.failed ≡ true) }
+        ensures not_asked { result ≡ 16 → IfMatching (Some self.old) (λ m.
             (m.failed ≡ false) × AreInside text.now places.now × (m.told.asked ≡ None)) }
-        ensures outside { result ≡ 17 → IsMatching (Some self.old) (λ m.
+        ensures outside { result ≡ 17 → IfMatching (Some self.old) (λ m.
             (m.failed ≡ false) × ¬ (AreInside text.now places.now)) }
-        ensures no_places { result ≡ 4 → IsMatching (Some self.old) (λ _. Unit {0}) }
-        ensures not_built { (result ≡ 7) ↔ IsAdding (Some self.old) (λ _. Unit {0}) }
+        ensures explaining { StaysExplaining (Some self.old) (Some self.new) (λ m n.
+            FinishesExplained result text.now places.now self_closing matched.new m n) }
+        ensures no_places { result ≡ 4 → IsBuilt (Some self.old) }
+        ensures not_built { (result ≡ 7) ↔ IsUnbuilt (Some self.old) }
         ensures no_matcher { result ≢ 5 }
         ensures statuses { IsOneOf (0 ∷ 4 ∷ 5 ∷ 7 ∷ 12 ∷ 13 ∷ 14 ∷ 15 ∷ 16 ∷ 17 ∷ []) result }
         ensures unchanged { IsOneOf (4 ∷ 5 ∷ 7 ∷ 15 ∷ 16 ∷ 17 ∷ []) result → self.new ≡ self.old }
@@ -184,12 +189,14 @@ impl Session {
         closed: &mut usize,
     ) -> u32
         ensures ended { result ≡ 0 → StaysMatching (Some self.old) (Some self.new) (λ m n. n ≡ with_ended m name.now) }
-        ensures values { result ≡ 0 → IsMatching (Some self.old) (λ m.
+        ensures values { result ≡ 0 → IfMatching (Some self.old) (λ m.
             values.new ≡ overwritten (closed_values m name.now) values.old) }
-        ensures closed { result ≡ 0 → IsMatching (Some self.old) (λ m.
+        ensures closed { result ≡ 0 → IfMatching (Some self.old) (λ m.
             closed.new ≡ min (length (closed_values m name.now)) usize.MAX) }
+        ensures explaining { result ≡ 0 → StaysExplaining (Some self.old) (Some self.new) (λ m n.
+            EndsExplained name.now values.old values.new closed.new m n) }
         ensures none { result ≢ 0 → (values.new ≡ values.old) × (closed.new ≡ closed.old) }
-        ensures not_built { (result ≡ 7) ↔ IsAdding (Some self.old) (λ _. Unit {0}) }
+        ensures not_built { (result ≡ 7) ↔ IsUnbuilt (Some self.old) }
         ensures no_matcher { result ≢ 5 }
         ensures statuses { IsOneOf (0 ∷ 4 ∷ 5 ∷ 7 ∷ []) result }
         ensures unchanged { result ≢ 0 → self.new ≡ self.old }
@@ -214,8 +221,10 @@ impl Session {
     pub(crate) fn set_value(&mut self, value: u64) -> u32
         ensures given { result ≡ 0 → StaysMatching (Some self.old) (Some self.new) (λ m n.
             (m.opened ≡ true) × (n ≡ record m { kept = with_value (Some value) m.kept })) }
-        ensures not_opened { (result ≡ 18) ↔ IsMatching (Some self.old) (λ m. m.opened ≡ false) }
-        ensures not_built { (result ≡ 7) ↔ IsAdding (Some self.old) (λ _. Unit {0}) }
+        ensures explaining { result ≡ 0 → StaysExplaining (Some self.old) (Some self.new) (λ m n.
+            GivesExplained value m n) }
+        ensures not_opened { (result ≡ 18) ↔ HasOpenedNone (Some self.old) }
+        ensures not_built { (result ≡ 7) ↔ IsUnbuilt (Some self.old) }
         ensures no_matcher { result ≢ 5 }
         ensures statuses { IsOneOf (0 ∷ 5 ∷ 7 ∷ 18 ∷ []) result }
         ensures unchanged { result ≢ 0 → self.new ≡ self.old }
@@ -234,10 +243,12 @@ impl Session {
 
     /// Writes the ids of the last report.
     pub(crate) fn ids(&self, ids: &mut [u32], matched: &mut usize) -> u32
-        ensures ids { result ≡ 0 → IsMatching (Some self.now) (λ m.
+        ensures ids { result ≡ 0 → IfMatching (Some self.now) (λ m.
             (ids.new ≡ overwritten (ids_of m) ids.old) × (matched.new ≡ length m.matched)) }
+        ensures explaining { result ≡ 0 → IfExplaining (Some self.now) (λ m.
+            WritesIds m ids.old ids.new matched.new) }
         ensures rest { result ≢ 0 → (ids.new ≡ ids.old) × (matched.new ≡ matched.old) }
-        ensures not_built { (result ≡ 7) ↔ IsAdding (Some self.now) (λ _. Unit {0}) }
+        ensures not_built { (result ≡ 7) ↔ IsUnbuilt (Some self.now) }
         ensures no_matcher { result ≢ 5 }
         ensures statuses { IsOneOf (0 ∷ 5 ∷ 7 ∷ []) result }
     {
@@ -253,10 +264,12 @@ impl Session {
 
     /// Writes whether the last tag has opened an element.
     pub(crate) fn has_opened(&self, opened: &mut u32) -> u32
-        ensures opened { result ≡ 0 → IsMatching (Some self.now) (λ m.
+        ensures opened { result ≡ 0 → IfMatching (Some self.now) (λ m.
             opened.new ≡ (if m.opened then 1 else 0)) }
+        ensures explaining { result ≡ 0 → IfExplaining (Some self.now) (λ m.
+            opened.new ≡ (if has_opened m then 1 else 0)) }
         ensures rest { result ≢ 0 → opened.new ≡ opened.old }
-        ensures not_built { (result ≡ 7) ↔ IsAdding (Some self.now) (λ _. Unit {0}) }
+        ensures not_built { (result ≡ 7) ↔ IsUnbuilt (Some self.now) }
         ensures no_matcher { result ≢ 5 }
         ensures statuses { IsOneOf (0 ∷ 5 ∷ 7 ∷ []) result }
     {
@@ -271,10 +284,12 @@ impl Session {
 
     /// Writes how many nodes were tried for the last start tag.
     pub(crate) fn tries(&self, names: &mut u64, attributes: &mut u64) -> u32
-        ensures tries { result ≡ 0 → IsMatching (Some self.now) (λ m.
+        ensures tries { result ≡ 0 → IfMatching (Some self.now) (λ m.
             (names.new ≡ names_counted m.tries) × (attributes.new ≡ attributes_counted m.tries)) }
+        ensures explaining { result ≡ 0 → IfExplaining (Some self.now) (λ m.
+            (names.new ≡ names_counted m.items.tries) × (attributes.new ≡ attributes_counted m.items.tries)) }
         ensures rest { result ≢ 0 → (names.new ≡ names.old) × (attributes.new ≡ attributes.old) }
-        ensures not_built { (result ≡ 7) ↔ IsAdding (Some self.now) (λ _. Unit {0}) }
+        ensures not_built { (result ≡ 7) ↔ IsUnbuilt (Some self.now) }
         ensures no_matcher { result ≢ 5 }
         ensures statuses { IsOneOf (0 ∷ 5 ∷ 7 ∷ []) result }
     {

@@ -1,5 +1,11 @@
 //! Reasons as C gets them.
 
+ghost use Rattle.std.specs.Prelude.{◌≡◌, ◌∷◌, [], ◌++◌, List, IfOk, OnOk, length, map, reverse};
+ghost use Rattle.lol_reasons.specs.Explanations as shown;
+ghost use Rattle.lol_reasons.specs.Numbered.{reason_shown};
+ghost use Rattle.zugrenja_c.specs.Numbers.{overwritten};
+ghost use Rattle.zugrenja_c.specs.Reasons.{HasReasons, numbers_of, placed_from, reason_lines};
+
 use lol_explaining_matcher::Reason;
 use lol_script::push_reason;
 use std::alloc::{AllocError, Global};
@@ -29,7 +35,9 @@ pub(crate) struct ReasonTable {
 
 impl ReasonTable {
     /// The table of reasons.
-    pub(crate) fn of(alloc: Global, told: &[Reason]) -> Result<ReasonTable, AllocError> {
+    pub(crate) fn of(alloc: Global, told: &[Reason]) -> Result<ReasonTable, AllocError>
+        ensures { IfOk result (λ table. HasReasons (map reason_shown told.now) table) }
+    {
         let mut table = ReasonTable {
             places: Vec::new(alloc),
             numbers: Vec::new(alloc),
@@ -41,7 +49,10 @@ impl ReasonTable {
     }
 
     /// Adds a reason.
-    fn add(&mut self, reason: &Reason) -> Result<(), AllocError> {
+    fn add(&mut self, reason: &Reason) -> Result<(), AllocError>
+        ensures { OnOk result ((reasons : List shown.Reason) → HasReasons reasons self.old
+            → HasReasons (reasons ++ reason_shown reason.now ∷ []) self.new) }
+    {
         self.places.push(ReasonPlace {
             text: reason.item.text,
             item: reason.item.item,
@@ -53,12 +64,19 @@ impl ReasonTable {
     }
 
     /// How many reasons there are, and how many numbers.
-    pub(crate) fn counts(&self) -> (usize, usize) {
+    pub(crate) fn counts(&self) -> (usize, usize)
+        ensures { (reasons : List shown.Reason) → HasReasons reasons self.now
+            → (result.0 ≡ length reasons) × (result.1 ≡ length (numbers_of reasons)) }
+    {
         (self.places.len(), self.numbers.len())
     }
 
     /// Writes both, each as far as there is room.
-    pub(crate) fn write(&self, reasons: &mut [ReasonPlace], numbers: &mut [usize]) {
+    pub(crate) fn write(&self, reasons: &mut [ReasonPlace], numbers: &mut [usize])
+        ensures { (all : List shown.Reason) → HasReasons all self.now
+            → (reasons.new ≡ overwritten (placed_from 0 all) reasons.old)
+            × (numbers.new ≡ overwritten (numbers_of all) numbers.old) }
+    {
         let fitting = self.places.len().min(reasons.len());
         reasons[..fitting].copy_from_slice(&self.places[..fitting]);
         let fitting = self.numbers.len().min(numbers.len());
@@ -67,7 +85,9 @@ impl ReasonTable {
 }
 
 /// Adds numbers, the last of them first.
-fn add_outermost_first(numbers: &mut Vec<usize>, witness: &[usize]) -> Result<(), AllocError> {
+fn add_outermost_first(numbers: &mut Vec<usize>, witness: &[usize]) -> Result<(), AllocError>
+    ensures { OnOk result (numbers.new.items ≡ numbers.old.items ++ reverse witness.now) }
+{
     for number in witness.iter().rev() {
         numbers.push(*number)?;
     }
@@ -75,7 +95,9 @@ fn add_outermost_first(numbers: &mut Vec<usize>, witness: &[usize]) -> Result<()
 }
 
 /// Reasons as lines.
-pub(crate) fn lines_of(alloc: Global, told: &[Reason]) -> Result<Vec<u8>, AllocError> {
+pub(crate) fn lines_of(alloc: Global, told: &[Reason]) -> Result<Vec<u8>, AllocError>
+    ensures { IfOk result (λ lines. lines.items ≡ reason_lines (map reason_shown told.now)) }
+{
     let mut lines = Vec::new(alloc);
     for reason in told {
         push_reason(&mut lines, reason.item.text, reason)?;

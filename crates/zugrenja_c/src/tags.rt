@@ -5,7 +5,8 @@ ghost use Rattle.lol_matcher.specs.Answering.{with_ended, with_value};
 ghost use Rattle.lol_matcher.specs.declared.error.MatcherError.TheVariants as errors;
 ghost use Rattle.lol_matcher.specs.declared.matcher.Started.TheVariants as answers;
 ghost use Rattle.zugrenja_c.specs.Numbers.{IsOneOf, is_flag, numbered_namespace, overwritten};
-ghost use Rattle.zugrenja_c.specs.Sessions.{IsAdding, IsMatching, StaysMatching};
+ghost use Rattle.zugrenja_c.specs.Explaining.{EndsExplained, FinishesExplained, GivesExplained, StartsExplained};
+ghost use Rattle.zugrenja_c.specs.Sessions.{HasOpenedNone, IfMatching, IsBuilt, IsUnbuilt, StaysExplaining, StaysMatching};
 ghost use Rattle.zugrenja_c.specs.Tags.{AreInside, IsFinished, IsFinishRefused, IsStarted, IsStartRefused, closed_values, given_tag};
 
 use crate::handle::Handle;
@@ -35,10 +36,12 @@ pub extern "C" fn zugrenja_start(
         IsSomeAnd (numbered_namespace namespace) (λ ns. IsStartRefused errors.CounterFull m name.now ns n)) }
     ensures memory { result ≡ 14 → StaysMatching handle.old.slot.value handle.new.slot.value (λ m n.
         IsSomeAnd (numbered_namespace namespace) (λ ns. IsStartRefused errors.Memory m name.now ns n)) }
-    ensures failed { result ≡ 15 → IsMatching handle.old.slot.value (λ m. m.failed ≡ true) }
+    ensures failed { result ≡ 15 → IfMatching handle.old.slot.value (λ m. m.failed ≡ true) }
+    ensures explaining { StaysExplaining handle.old.slot.value handle.new.slot.value (λ m n.
+        StartsExplained result name.now namespace matched.new m n) }
     ensures no_namespace { (result ≡ 11)
-        ↔ (IsMatching handle.old.slot.value (λ _. numbered_namespace namespace ≡ None)) }
-    ensures not_built { (result ≡ 7) ↔ IsAdding handle.old.slot.value (λ _. Unit {0}) }
+        ↔ (IsBuilt handle.old.slot.value × (numbered_namespace namespace ≡ None)) }
+    ensures not_built { (result ≡ 7) ↔ IsUnbuilt handle.old.slot.value }
     ensures no_matcher { (result ≡ 5) ↔ (handle.old.slot.value ≡ None) }
     ensures statuses { IsOneOf (0 ∷ 1 ∷ 5 ∷ 7 ∷ 11 ∷ 12 ∷ 13 ∷ 14 ∷ 15 ∷ []) result }
     ensures unchanged { IsOneOf (5 ∷ 7 ∷ 11 ∷ 15 ∷ []) result
@@ -80,13 +83,15 @@ pub extern "C" fn zugrenja_finish(
     ensures memory { result ≡ 14 → StaysMatching handle.old.slot.value handle.new.slot.value (λ m n.
         IsSomeAnd m.told.asked (λ asked.
         IsFinishRefused errors.Memory m (given_tag asked text.now attributes.now (is_flag self_closing)) n)) }
-    ensures failed { result ≡ 15 → IsMatching handle.old.slot.value (λ m. m.failed ≡ true) }
-    ensures not_asked { result ≡ 16 → IsMatching handle.old.slot.value (λ m.
+    ensures failed { result ≡ 15 → IfMatching handle.old.slot.value (λ m. m.failed ≡ true) }
+    ensures not_asked { result ≡ 16 → IfMatching handle.old.slot.value (λ m.
         (m.failed ≡ false) × AreInside text.now attributes.now × (m.told.asked ≡ None)) }
-    ensures outside { result ≡ 17 → IsMatching handle.old.slot.value (λ m.
+    ensures outside { result ≡ 17 → IfMatching handle.old.slot.value (λ m.
         (m.failed ≡ false) × ¬ (AreInside text.now attributes.now)) }
-    ensures no_places { result ≡ 4 → IsMatching handle.old.slot.value (λ _. Unit {0}) }
-    ensures not_built { (result ≡ 7) ↔ IsAdding handle.old.slot.value (λ _. Unit {0}) }
+    ensures explaining { StaysExplaining handle.old.slot.value handle.new.slot.value (λ m n.
+        FinishesExplained result text.now attributes.now (is_flag self_closing) matched.new m n) }
+    ensures no_places { result ≡ 4 → IsBuilt handle.old.slot.value }
+    ensures not_built { (result ≡ 7) ↔ IsUnbuilt handle.old.slot.value }
     ensures no_matcher { (result ≡ 5) ↔ (handle.old.slot.value ≡ None) }
     ensures statuses { IsOneOf (0 ∷ 4 ∷ 5 ∷ 7 ∷ 12 ∷ 13 ∷ 14 ∷ 15 ∷ 16 ∷ 17 ∷ []) result }
     ensures unchanged { IsOneOf (4 ∷ 5 ∷ 7 ∷ 15 ∷ 16 ∷ 17 ∷ []) result
@@ -115,12 +120,14 @@ pub extern "C" fn zugrenja_end(
 ) -> u32
     ensures ended { result ≡ 0 → StaysMatching handle.old.slot.value handle.new.slot.value (λ m n.
         n ≡ with_ended m name.now) }
-    ensures values { result ≡ 0 → IsMatching handle.old.slot.value (λ m.
+    ensures values { result ≡ 0 → IfMatching handle.old.slot.value (λ m.
         values.new ≡ overwritten (closed_values m name.now) values.old) }
-    ensures closed { result ≡ 0 → IsMatching handle.old.slot.value (λ m.
+    ensures closed { result ≡ 0 → IfMatching handle.old.slot.value (λ m.
         closed.new ≡ min (length (closed_values m name.now)) usize.MAX) }
+    ensures explaining { result ≡ 0 → StaysExplaining handle.old.slot.value handle.new.slot.value (λ m n.
+        EndsExplained name.now values.old values.new closed.new m n) }
     ensures none { result ≢ 0 → (values.new ≡ values.old) × (closed.new ≡ 0) }
-    ensures not_built { (result ≡ 7) ↔ IsAdding handle.old.slot.value (λ _. Unit {0}) }
+    ensures not_built { (result ≡ 7) ↔ IsUnbuilt handle.old.slot.value }
     ensures no_matcher { (result ≡ 5) ↔ (handle.old.slot.value ≡ None) }
     ensures statuses { IsOneOf (0 ∷ 4 ∷ 5 ∷ 7 ∷ []) result }
     ensures unchanged { result ≢ 0 → handle.new.slot.value ≡ handle.old.slot.value }
@@ -140,8 +147,10 @@ pub extern "C" fn zugrenja_end(
 pub extern "C" fn zugrenja_set_value(alloc: Global, handle: &mut Handle, value: u64) -> u32
     ensures given { result ≡ 0 → StaysMatching handle.old.slot.value handle.new.slot.value (λ m n.
         (m.opened ≡ true) × (n ≡ record m { kept = with_value (Some value) m.kept })) }
-    ensures not_opened { (result ≡ 18) ↔ IsMatching handle.old.slot.value (λ m. m.opened ≡ false) }
-    ensures not_built { (result ≡ 7) ↔ IsAdding handle.old.slot.value (λ _. Unit {0}) }
+    ensures explaining { result ≡ 0 → StaysExplaining handle.old.slot.value handle.new.slot.value (λ m n.
+        GivesExplained value m n) }
+    ensures not_opened { (result ≡ 18) ↔ HasOpenedNone handle.old.slot.value }
+    ensures not_built { (result ≡ 7) ↔ IsUnbuilt handle.old.slot.value }
     ensures no_matcher { (result ≡ 5) ↔ (handle.old.slot.value ≡ None) }
     ensures statuses { IsOneOf (0 ∷ 5 ∷ 7 ∷ 18 ∷ []) result }
     ensures unchanged { result ≢ 0 → handle.new.slot.value ≡ handle.old.slot.value }
