@@ -23,6 +23,7 @@ static const char *const CAUSES[] = {
 typedef struct {
     zugrenja_matcher matcher;
     bool tries;
+    bool explains;
     bool built;
     uint64_t number;
     size_t open;
@@ -30,6 +31,8 @@ typedef struct {
     size_t ids_len;
     uint64_t *values;
     zugrenja_attribute *attributes;
+    size_t *lines; /* those of the selectors' texts */
+    size_t texts;
 } run;
 
 /* Cuts the next piece off before a separator, which goes too. */
@@ -92,12 +95,17 @@ static void make(run *r, text script) {
         }
         esi = esi || is(kind, "esi");
         r->tries = r->tries || is(kind, "tries");
+        r->explains = r->explains || is(kind, "explain");
     }
     r->ids_len = lines;
     r->ids = malloc(lines * sizeof *r->ids);
     r->values = malloc(lines * sizeof *r->values);
     r->attributes = malloc(fields * sizeof *r->attributes);
-    if (r->ids == NULL || r->values == NULL || r->attributes == NULL || zugrenja_new(&r->matcher, max_memory, 64, esi) != ZUGRENJA_GOOD) {
+    r->lines = malloc(lines * sizeof *r->lines);
+    if (r->ids == NULL || r->values == NULL || r->attributes == NULL || r->lines == NULL) {
+        exit(3);
+    }
+    if ((r->explains ? zugrenja_new_explaining : zugrenja_new)(&r->matcher, max_memory, 64, esi) != ZUGRENJA_GOOD) {
         exit(3);
     }
 }
@@ -115,6 +123,7 @@ static int add(run *r, size_t line, text fields) {
         puts("");
         return 2;
     }
+    r->lines[r->texts++] = line;
     return status == ZUGRENJA_GOOD ? 0 : 3;
 }
 
@@ -160,6 +169,34 @@ static void write_start(run *r, bool asked) {
     }
 }
 
+/* Writes why the last start tag was reported: 0, or the exit status. */
+static int write_reasons(run *r) {
+    size_t count, all;
+    if (zugrenja_explain(&r->matcher, NULL, 0, NULL, 0, &count, &all) != ZUGRENJA_GOOD) {
+        return 3;
+    }
+    if (count == 0) {
+        return 0;
+    }
+    zugrenja_reason *reasons = malloc(count * sizeof *reasons);
+    size_t *numbers = malloc(all * sizeof *numbers);
+    int status = 3;
+    if (reasons != NULL && numbers != NULL
+        && zugrenja_explain(&r->matcher, reasons, count, numbers, all, &count, &all) == ZUGRENJA_GOOD) {
+        for (const zugrenja_reason *why = reasons; why < reasons + count; why++) {
+            printf("why\t%u\t%zu\t%zu\t", why->id, r->lines[why->text], why->item);
+            for (size_t place = 0; place < why->numbers_len; place++) {
+                printf("%s%zu", place > 0 ? "," : "", numbers[why->numbers_start + place]);
+            }
+            puts("");
+        }
+        status = 0;
+    }
+    free(reasons);
+    free(numbers);
+    return status;
+}
+
 static int refused(uint32_t status) {
     if (status == ZUGRENJA_LIMIT || status == ZUGRENJA_COUNTER) {
         printf("refused %s\n", status == ZUGRENJA_LIMIT ? "limit" : "counter");
@@ -187,7 +224,7 @@ static int start(run *r, text fields, bool drops) {
         return refused(status);
     }
     write_start(r, asked);
-    return 0;
+    return r->explains ? write_reasons(r) : 0;
 }
 
 static int end(run *r, text name) {
@@ -242,5 +279,6 @@ int main(int argc, char **argv) {
     free(r.ids);
     free(r.values);
     free(r.attributes);
+    free(r.lines);
     return status;
 }

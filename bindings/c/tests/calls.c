@@ -10,7 +10,8 @@ enum { WORDS = 32, ROOM = 1 << 16 };
 
 static const char *const STATUSES[] = {
     "GOOD", "NEEDS_ATTRIBUTES", "BAD_LINE", "REFUSED", "OUT_OF_MEMORY", "NO_MATCHER", "IN_USE", "NOT_BUILT", "BUILT", "NOT_UTF8",
-    "NOT_ACCEPTED", "NO_NAMESPACE", "LIMIT", "COUNTER", "TAG_OUT_OF_MEMORY", "FAILED", "NOT_ASKED", "OUTSIDE", "NOT_OPENED"};
+    "NOT_ACCEPTED", "NO_NAMESPACE", "LIMIT", "COUNTER", "TAG_OUT_OF_MEMORY", "FAILED", "NOT_ASKED", "OUTSIDE", "NOT_OPENED",
+    "NOT_EXPLAINING", "TOO_MANY_ITEMS"};
 static const char *const CAUSES[] = {
     "UnexpectedToken", "UnexpectedEnd", "MissingAttributeName", "EmptySelector", "DanglingCombinator", "UnexpectedTokenInAttribute",
     "UnsupportedPseudoClassOrElement", "NestedNegation", "NamespacedSelector", "InvalidClassName", "EmptyNegation",
@@ -243,13 +244,80 @@ static void tries(zugrenja_matcher *m) {
     }
 }
 
+/* The reasons of the last tag, with room for all. */
+static void explain(zugrenja_matcher *m) {
+    static zugrenja_reason reasons[256];
+    static size_t numbers[ROOM];
+    size_t reasons_count = 99, numbers_count = 99;
+    uint32_t status = zugrenja_explain(m, reasons, 256, numbers, ROOM, &reasons_count, &numbers_count);
+    answers("%s", STATUSES[status]);
+    if (status == ZUGRENJA_GOOD && reasons_count == 0) {
+        answers(" -");
+    }
+    for (size_t place = 0; place < reasons_count; place++) {
+        const zugrenja_reason *r = &reasons[place];
+        answers("%s%" PRIu32 " %zu %zu ", place > 0 ? "|" : " ", r->id, r->text, r->item);
+        for (size_t number = 0; number < r->numbers_len; number++) {
+            answers("%s%zu", number > 0 ? "," : "", numbers[r->numbers_start + number]);
+        }
+    }
+}
+
+/* The same, with room for so many reasons and numbers. */
+static void explain_in(zugrenja_matcher *m, size_t reasons_room, size_t numbers_room) {
+    zugrenja_reason reasons[65];
+    size_t numbers[65], reasons_count = 99, numbers_count = 99;
+    reasons[reasons_room].id = 99;
+    numbers[numbers_room] = 99;
+    uint32_t status = zugrenja_explain(m, reasons_room > 0 ? reasons : NULL, reasons_room, numbers_room > 0 ? numbers : NULL, numbers_room,
+                                       &reasons_count, &numbers_count);
+    answers("%s", STATUSES[status]);
+    if (status == ZUGRENJA_GOOD) {
+        answers(" %zu %zu", reasons_count, numbers_count);
+        for (size_t place = 0; place < reasons_count && place < reasons_room; place++) {
+            const zugrenja_reason *r = &reasons[place];
+            answers("%s%" PRIu32 "/%zu/%zu/%zu+%zu", place > 0 ? "," : " ", r->id, r->text, r->item, r->numbers_start, r->numbers_len);
+        }
+        answers(reasons_count > 0 && reasons_room > 0 ? "" : " -");
+        for (size_t place = 0; place < numbers_count && place < numbers_room; place++) {
+            answers("%s%zu", place > 0 ? "," : " ", numbers[place]);
+        }
+        answers(numbers_count > 0 && numbers_room > 0 ? "" : " -");
+    } else if (reasons_count != 0 || numbers_count != 0) {
+        answers(" but counts are written");
+    }
+    if (reasons[reasons_room].id != 99 || numbers[numbers_room] != 99) {
+        answers(" but it is written beyond the room");
+    }
+}
+
+/* Bytes of the output in one line: `|` for LF and a blank for TAB. */
+static void list_bytes(size_t length) {
+    for (size_t place = 0; place < length; place++) {
+        output[place] = output[place] == '\n' ? '|' : output[place] == '\t' ? ' ' : output[place];
+    }
+    answers("%.*s", (int)length, (const char *)output);
+}
+
+static void explain_text(zugrenja_matcher *m, size_t room) {
+    size_t written = 99;
+    output[room] = '!';
+    uint32_t status = zugrenja_explain_text(m, room > 0 ? output : NULL, room, &written);
+    answers("%s", STATUSES[status]);
+    if (status == ZUGRENJA_GOOD) {
+        answers(" %zu %s", written, written > 0 && room > 0 ? "" : "-");
+        list_bytes(written < room ? written : room);
+    }
+    if (output[room] != '!' || (status != ZUGRENJA_GOOD && written != 0)) {
+        answers(" but what is written is wrong");
+    }
+}
+
 static void script(void) {
     size_t written = 0;
     uint32_t status = zugrenja_run_script(words[1].bytes, words[1].len, output, sizeof output, &written);
-    for (size_t place = 0; place < written; place++) {
-        output[place] = output[place] == '\n' ? '|' : output[place] == '\t' ? ' ' : output[place];
-    }
-    answers("%s %.*s", STATUSES[status], (int)written, (const char *)output);
+    answers("%s ", STATUSES[status]);
+    list_bytes(written);
 }
 
 static void text(void) {
@@ -263,6 +331,8 @@ static void call(zugrenja_matcher *m, const char *line) {
     answer[0] = 0;
     if (is(kind, "new")) {
         answers("%s", STATUSES[zugrenja_new(m, number(1), number(2), (uint32_t)number(3))]);
+    } else if (is(kind, "new_explaining")) {
+        answers("%s", STATUSES[zugrenja_new_explaining(m, number(1), number(2), (uint32_t)number(3))]);
     } else if (is(kind, "build")) {
         answers("%s", STATUSES[zugrenja_build(m)]);
     } else if (is(kind, "value")) {
@@ -289,6 +359,12 @@ static void call(zugrenja_matcher *m, const char *line) {
         opened(m);
     } else if (is(kind, "tries")) {
         tries(m);
+    } else if (is(kind, "explain")) {
+        explain(m);
+    } else if (is(kind, "explain_in")) {
+        explain_in(m, number(1), number(2));
+    } else if (is(kind, "explain_text")) {
+        explain_text(m, number(1));
     } else if (is(kind, "script")) {
         script();
     } else if (is(kind, "text")) {

@@ -13,7 +13,7 @@ enum { HANDLES = 100, ROOM = 8 };
 typedef struct {
     zugrenja_matcher matcher;
     enum { NONE, ADDING, BUILT } stage;
-    int failed, waits, opened;
+    int explains, failed, waits, opened;
     size_t matched;
     recording told;
 } model;
@@ -58,13 +58,15 @@ static void call_new(model *m) {
     static const size_t BYTES[] = {64, 64, 64, 64, 0, 1, 1000, SIZE_MAX};
     size_t max_memory = LIMITS[draw(8)], element_bytes = BYTES[draw(8)];
     uint32_t esi = draw(3);
-    uint32_t status = zugrenja_new(&m->matcher, max_memory, element_bytes, esi);
+    int explains = draw(2) == 0;
+    uint32_t status = (explains ? zugrenja_new_explaining : zugrenja_new)(&m->matcher, max_memory, element_bytes, esi);
     assert(status == (m->stage == NONE ? ZUGRENJA_GOOD : ZUGRENJA_IN_USE));
     if (status == ZUGRENJA_GOOD) {
         m->stage = ADDING;
+        m->explains = explains;
         m->failed = m->waits = m->opened = 0;
         m->matched = 0;
-        record_new(&m->told, max_memory, element_bytes, esi);
+        record_new(&m->told, max_memory, element_bytes, esi, explains);
     }
 }
 
@@ -192,6 +194,33 @@ static void call_report(model *m) {
     }
 }
 
+/* Reasons, as far as there is room: with less of it what is written is the beginning of the same. */
+static void call_explain(model *m) {
+    static zugrenja_reason reasons[2][ROOM];
+    static size_t numbers[2][ROOM];
+    static uint8_t lines[2][16 * ROOM];
+    size_t room = draw(ROOM + 1), counts[2][2], written[2] = {99, 99};
+    uint32_t status = zugrenja_explain(&m->matcher, room ? reasons[0] : NULL, room, numbers[0], ROOM, &counts[0][0], &counts[0][1]);
+    assert(zugrenja_explain(&m->matcher, reasons[1], ROOM, room ? numbers[1] : NULL, room, &counts[1][0], &counts[1][1]) == status);
+    assert(zugrenja_explain_text(&m->matcher, room ? lines[0] : NULL, room, &written[0]) == status);
+    assert(zugrenja_explain_text(&m->matcher, lines[1], sizeof lines[1], &written[1]) == status);
+    assert(counts[0][0] == counts[1][0] && counts[0][1] == counts[1][1] && written[0] == written[1]);
+    if (m->stage != BUILT || !m->explains || m->matched == 0) {
+        assert(counts[0][0] == 0 && counts[0][1] == 0 && written[0] == 0);
+    }
+    if (is_early(m, status)) {
+        return;
+    }
+    assert(status == (m->explains ? ZUGRENJA_GOOD : ZUGRENJA_NOT_EXPLAINING));
+    assert(counts[0][0] >= (m->explains ? m->matched : 0) && counts[0][1] >= counts[0][0]);
+    for (size_t place = 0; place < counts[0][0] && place < room; place++) {
+        assert(memcmp(&reasons[0][place], &reasons[1][place], offsetof(zugrenja_reason, id)) == 0);
+        assert(reasons[0][place].id == reasons[1][place].id);
+    }
+    assert(memcmp(numbers[0], numbers[1], (counts[0][1] < room ? counts[0][1] : room) * sizeof numbers[0][0]) == 0);
+    assert(memcmp(lines[0], lines[1], written[0] < room ? written[0] : room) == 0);
+}
+
 static void call_value(model *m) {
     uint64_t value = ((uint64_t)draw(UINT32_MAX) << 32) + draw(1000);
     uint32_t status = zugrenja_set_value(&m->matcher, value);
@@ -208,7 +237,7 @@ static void call_text(model *m) {
     uint8_t text[ZUGRENJA_TEXT + 1];
     size_t room = draw(sizeof text);
     memset(text, 0, sizeof text);
-    size_t length = zugrenja_text(m->stage == NONE ? draw(UINT32_MAX) : draw(20), draw(14), draw(2) ? '+' : draw(128), room ? text : NULL, room);
+    size_t length = zugrenja_text(m->stage == NONE ? draw(UINT32_MAX) : draw(22), draw(14), draw(2) ? '+' : draw(128), room ? text : NULL, room);
     assert(length > 0 && length <= ZUGRENJA_TEXT);
     assert(strlen((const char *)text) == (length < room ? length : room));
 }
@@ -222,7 +251,8 @@ static void call_free(model *m) {
 }
 
 int main(int argc, char **argv) {
-    static void (*const CALLS[])(model *) = {call_new, call_add, call_build, call_start, call_finish, call_end, call_report, call_value, call_text};
+    static void (*const CALLS[])(model *) = {call_new,    call_add,   call_build, call_start,  call_finish,
+                                             call_end,    call_report, call_value, call_text,   call_explain};
     static model models[HANDLES];
     unsigned long count = argc > 1 ? strtoul(argv[1], NULL, 10) : 100000;
     state = argc > 2 ? strtoull(argv[2], NULL, 10) : 1;
@@ -234,8 +264,8 @@ int main(int argc, char **argv) {
         } else if (kind < 10 && m->stage == ADDING) {
             call_build(m);
         } else {
-            uint32_t chosen = draw(m->stage == ADDING && draw(40) ? 2 : 13);
-            chosen = m->waits && draw(2) ? 4 : chosen < 9 ? chosen : 3 + chosen % 2;
+            uint32_t chosen = draw(m->stage == ADDING && draw(40) ? 2 : 14);
+            chosen = m->waits && draw(2) ? 4 : chosen < 10 ? chosen : 3 + chosen % 2;
             CALLS[chosen](m);
         }
     }
@@ -244,6 +274,7 @@ int main(int argc, char **argv) {
         assert(zugrenja_free(&models[place].matcher) == ZUGRENJA_NO_MATCHER);
         record_free(&models[place].told);
     }
-    printf("%lu random calls, seed %s: all as the model wants; as in %lu scripts %lu tags, %lu of them under ids, and %lu elements closed\n", count,
-           argc > 2 ? argv[2] : "1", compared_runs, compared_tags, compared_reports, compared_closed);
+    printf("%lu random calls, seed %s: all as the model wants; as in %lu scripts %lu tags, %lu of them under ids, %lu elements closed, and %lu "
+           "reasons\n",
+           count, argc > 2 ? argv[2] : "1", compared_runs, compared_tags, compared_reports, compared_closed, compared_reasons);
 }

@@ -31,11 +31,13 @@ typedef struct {
     buffer waits; /* the fields of the start tag that waits, if any */
     element *open;
     size_t open_len, open_room, tags;
+    int explains;
+    size_t first_line; /* that of the first selector */
 } recording;
 
-/* How many runs of scripts were compared; with how many tags that were answered, how many of them under some id, and how many elements
-   closed. */
-static unsigned long compared_runs, compared_tags, compared_reports, compared_closed;
+/* How many runs of scripts were compared; with how many tags that were answered, how many of them under some id, how many elements closed,
+   and how many reasons. */
+static unsigned long compared_runs, compared_tags, compared_reports, compared_closed, compared_reasons;
 
 static void append(buffer *b, const void *bytes, size_t len) {
     if (b->len + len > b->room) {
@@ -128,9 +130,11 @@ static size_t limit_of(size_t max_memory, size_t element_bytes) {
     return slots > SIZE_MAX / 64 ? SIZE_MAX : slots * 64;
 }
 
-static void record_new(recording *r, size_t max_memory, size_t element_bytes, uint32_t esi) {
+static void record_new(recording *r, size_t max_memory, size_t element_bytes, uint32_t esi, int explains) {
     r->script.len = r->output.len = r->waits.len = r->open_len = r->tags = 0;
-    appendf(&r->script, "tries\nlimit\t%zu\n%s", limit_of(max_memory, element_bytes), esi ? "esi\n" : "");
+    r->explains = explains;
+    r->first_line = 3u + (esi != 0) + (explains != 0);
+    appendf(&r->script, "tries\nlimit\t%zu\n%s%s", limit_of(max_memory, element_bytes), esi ? "esi\n" : "", explains ? "explain\n" : "");
 }
 
 /* A text that isn't accepted: a script with it is bad for the same cause. */
@@ -163,6 +167,28 @@ static void record_waiting(recording *r, uint32_t name_space, text name) {
     append_name(&r->waits, name);
 }
 
+/* Why the handle's last start tag is reported. */
+static void record_reasons(recording *r, zugrenja_matcher *m) {
+    size_t count = 99, all = 99, again = 99, total = 99;
+    assert(zugrenja_explain(m, NULL, 0, NULL, 0, &count, &all) == ZUGRENJA_GOOD);
+    zugrenja_reason *reasons = malloc((count + 1) * sizeof *reasons);
+    size_t *numbers = malloc((all + 1) * sizeof *numbers);
+    assert(reasons != NULL && numbers != NULL);
+    assert(zugrenja_explain(m, reasons, count, numbers, all, &again, &total) == ZUGRENJA_GOOD && again == count && total == all);
+    for (size_t place = 0; place < count; place++) {
+        const zugrenja_reason *why = &reasons[place];
+        assert(why->numbers_start == (place > 0 ? reasons[place - 1].numbers_start + reasons[place - 1].numbers_len : 0));
+        appendf(&r->output, "why\t%" PRIu32 "\t%zu\t%zu\t", why->id, why->text + r->first_line, why->item);
+        for (size_t number = 0; number < why->numbers_len; number++) {
+            appendf(&r->output, "%s%zu", number > 0 ? "," : "", numbers[why->numbers_start + number]);
+        }
+        append(&r->output, "\n", 1);
+    }
+    free(reasons);
+    free(numbers);
+    compared_reasons += count;
+}
+
 /* What the handle says of its last start tag, which is reported. */
 static void record_report(recording *r, zugrenja_matcher *m, int asked, size_t matched) {
     uint32_t opened = 99, *ids = malloc((matched + 1) * sizeof *ids);
@@ -177,6 +203,9 @@ static void record_report(recording *r, zugrenja_matcher *m, int asked, size_t m
     }
     appendf(&r->output, "%s\ttries %" PRIu64 " %" PRIu64 "\n", asked ? "\tasked" : "", names, attributes);
     free(ids);
+    if (r->explains) {
+        record_reasons(r, m);
+    }
     compared_reports += matched > 0;
     if (opened) {
         if (r->open_len == r->open_room) {

@@ -41,8 +41,27 @@ static uint32_t add(zugrenja_matcher *m, uint32_t id, const char *text) {
     return status == ZUGRENJA_OUT_OF_MEMORY ? zugrenja_add(m, id, bytes(text), strlen(text), &refusal) : status;
 }
 
+/* Asks why the last tag was reported, twice if memory was refused the first time: then nothing is written. */
+static void explain(zugrenja_matcher *m, int explains) {
+    zugrenja_reason reasons[4] = {{99, 99, 99, 99, 99}};
+    size_t numbers[16] = {99}, reasons_count = 99, numbers_count = 99, written = 99;
+    uint8_t line[64] = "!";
+    uint32_t status = zugrenja_explain(m, reasons, 4, numbers, 16, &reasons_count, &numbers_count);
+    if (status == ZUGRENJA_OUT_OF_MEMORY) {
+        assert(reasons[0].id == 99 && numbers[0] == 99 && reasons_count == 0 && numbers_count == 0);
+        status = zugrenja_explain(m, reasons, 4, numbers, 16, &reasons_count, &numbers_count);
+    }
+    assert(status == (explains ? ZUGRENJA_GOOD : ZUGRENJA_NOT_EXPLAINING) && (reasons_count > 0) == (reasons[0].id != 99));
+    status = zugrenja_explain_text(m, line, sizeof line, &written);
+    if (status == ZUGRENJA_OUT_OF_MEMORY) {
+        assert(line[0] == '!' && written == 0);
+        status = zugrenja_explain_text(m, line, sizeof line, &written);
+    }
+    assert(status == (explains ? ZUGRENJA_GOOD : ZUGRENJA_NOT_EXPLAINING) && (written > 0) == (reasons_count > 0));
+}
+
 /* Tells of a tag with one attribute: the status. */
-static uint32_t tell(zugrenja_matcher *m, const char *name) {
+static uint32_t tell(zugrenja_matcher *m, const char *name, int explains) {
     static const zugrenja_attribute HREF = {0, 4, 5, 9, 1};
     size_t matched;
     uint32_t status = zugrenja_start(m, bytes(name), strlen(name), ZUGRENJA_HTML, &matched);
@@ -52,16 +71,17 @@ static uint32_t tell(zugrenja_matcher *m, const char *name) {
     if (status == ZUGRENJA_GOOD) {
         uint32_t ids[4];
         assert(zugrenja_ids(m, ids, 4, &matched) == ZUGRENJA_GOOD);
+        explain(m, explains);
         assert(zugrenja_set_value(m, 7) == ZUGRENJA_GOOD);
     }
     return status;
 }
 
 /* A life of a matcher. Returns how many of its calls were refused. */
-static int live_once(void) {
+static int live_once(int explains) {
     zugrenja_matcher m = {0};
     int refused = 0;
-    while (zugrenja_new(&m, SIZE_MAX, 64, 0) == ZUGRENJA_OUT_OF_MEMORY) {
+    while ((explains ? zugrenja_new_explaining : zugrenja_new)(&m, SIZE_MAX, 64, 0) == ZUGRENJA_OUT_OF_MEMORY) {
         refused++;
     }
     assert(add(&m, 400, "div a[href^='p' i]:not(.b, #c), a") == ZUGRENJA_GOOD);
@@ -72,7 +92,7 @@ static int live_once(void) {
     }
     int failed = 0;
     for (int tag = 0; tag < 20; tag++) {
-        uint32_t status = tell(&m, tag % 2 ? "a" : "div");
+        uint32_t status = tell(&m, tag % 2 ? "a" : "div", explains);
         assert(status == (failed ? ZUGRENJA_FAILED : ZUGRENJA_GOOD) || (!failed && status == ZUGRENJA_TAG_OUT_OF_MEMORY));
         failed = status != ZUGRENJA_GOOD;
         refused += status == ZUGRENJA_TAG_OUT_OF_MEMORY;
@@ -86,14 +106,20 @@ static int live_once(void) {
     return refused;
 }
 
-int main(void) {
+/* Lives of a matcher, in each of which another allocation is refused. Whether there were enough. */
+static int refuse_each(int explains) {
     int refusals = 0;
-    live_once();
+    allocations = refused_at = 0;
+    live_once(explains);
     size_t needed = allocations;
     for (refused_at = 1; refused_at <= needed; refused_at++) {
         allocations = 0;
-        refusals += live_once() > 0;
+        refusals += live_once(explains) > 0;
     }
     printf("%zu allocations refused in turn: %d lives had a call that was refused\n", needed, refusals);
-    return needed < 20;
+    return needed >= 20;
+}
+
+int main(void) {
+    return !refuse_each(0) || !refuse_each(1);
 }
