@@ -3,3 +3,5 @@ pub mod AsBox
 pub mod Statuses
 pub mod Buffers
 pub mod Closings
+pub mod Reasons
+pub mod Inside

@@ -25,3 +25,15 @@ module _ (m : Matching ℕ) (name : List ℕ) (ns : Namespace) where
 
   pub start_status : (error : MatcherError) → (m.failed ≡ true → error ≡ Failed) → (m.failed ≡ false → RefusesStart error m name ns) → IsStartStatus error
   start_status error is refuses = status_of error m.failed is refuses
+
+  -- the same of a matcher that explains, which fails of itself too
+  pub explained_status : (error : MatcherError) (failed : Bool) → (failed ≡ true → error ≡ Failed) → (failed ≡ false → RefusesStart error m name ns)
+      → IsOneOf (0 ∷ 1 ∷ 11 ∷ 12 ∷ 13 ∷ 14 ∷ 15 ∷ []) (error_number error)
+  explained_status MemoryLimitExceeded failed is refuses = grind arith
+  explained_status CounterFull failed is refuses = grind arith
+  explained_status Memory failed is refuses = grind arith
+  explained_status Failed failed is refuses = grind arith
+  explained_status NotAsked true is refuses = let e = is refl in cc
+  explained_status NotAsked false is refuses = absurd (refuses refl (bare_tag name ns) refl refl)
+  explained_status OutsideInput true is refuses = let e = is refl in cc
+  explained_status OutsideInput false is refuses = absurd (refuses refl (bare_tag name ns) refl refl)

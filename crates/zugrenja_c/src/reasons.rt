@@ -4,7 +4,7 @@ ghost use Rattle.std.specs.Prelude.{◌≡◌, ◌∷◌, [], ◌++◌, List, If
 ghost use Rattle.lol_reasons.specs.Explanations as shown;
 ghost use Rattle.lol_reasons.specs.Numbered.{reason_shown};
 ghost use Rattle.zugrenja_c.specs.Numbers.{overwritten};
-ghost use Rattle.zugrenja_c.specs.Reasons.{HasReasons, numbers_of, placed_from, reason_lines};
+ghost use Rattle.zugrenja_c.specs.Reasons.{HasReasons, reason_lines};
 
 use lol_explaining_matcher::Reason;
 use lol_script::push_reason;
@@ -65,17 +65,16 @@ impl ReasonTable {
 
     /// How many reasons there are, and how many numbers.
     pub(crate) fn counts(&self) -> (usize, usize)
-        ensures { (reasons : List shown.Reason) → HasReasons reasons self.now
-            → (result.0 ≡ length reasons) × (result.1 ≡ length (numbers_of reasons)) }
+        ensures places { result.0 ≡ length self.now.places.items }
+        ensures numbers { result.1 ≡ length self.now.numbers.items }
     {
         (self.places.len(), self.numbers.len())
     }
 
     /// Writes both, each as far as there is room.
     pub(crate) fn write(&self, reasons: &mut [ReasonPlace], numbers: &mut [usize])
-        ensures { (all : List shown.Reason) → HasReasons all self.now
-            → (reasons.new ≡ overwritten (placed_from 0 all) reasons.old)
-            × (numbers.new ≡ overwritten (numbers_of all) numbers.old) }
+        ensures reasons { reasons.new ≡ overwritten self.now.places.items reasons.old }
+        ensures numbers { numbers.new ≡ overwritten self.now.numbers.items numbers.old }
     {
         let fitting = self.places.len().min(reasons.len());
         reasons[..fitting].copy_from_slice(&self.places[..fitting]);
