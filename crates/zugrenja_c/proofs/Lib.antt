@@ -3,5 +3,5 @@ pub mod AsBox
 pub mod Statuses
 pub mod Buffers
 pub mod Closings
-pub mod Reasons
+pub mod ReasonTables
 pub mod Inside

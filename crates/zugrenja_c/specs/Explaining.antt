@@ -41,7 +41,7 @@ has_opened m = if m.failed then false else m.items.opened
 -- The ids of the last report are written, as far as there is room, and how many there are.
 pub record WritesIds (m : Explaining ℕ) (old new : List ℕ) (matched : ℕ) : Type 0 where
   pub ids : new ≡ overwritten (map (λ info. info.match_id) m.matched) old
-  pub matched : matched ≡ length m.matched
+  pub counted : matched ≡ length m.matched
   pub reports : ReportsReasons m
 
 -- 3. Start tags
@@ -117,7 +117,7 @@ pub record FinishesExplained (status : ℕ) (text : List ℕ) (places : List Att
 pub record EndsExplained (name : List ℕ) (old_values new_values : List ℕ) (closed : ℕ) (old new : Explaining ℕ) : Type 0 where
   pub ended : new ≡ with_end old name
   pub values : new_values ≡ overwritten (closed_values old.items name) old_values
-  pub closed : closed ≡ min (length (closed_values old.items name)) (2 ^ 64 - 1)
+  pub counted : closed ≡ min (length (closed_values old.items name)) (2 ^ 64 - 1)
 
 -- The element that the last tag has opened has another value.
 pub record GivesExplained (value : ℕ) (old new : Explaining ℕ) : Type 0 where
@@ -132,12 +132,11 @@ pub record WritesReasons (m : Explaining ℕ) (old_reasons new_reasons : List Re
   pub are : AreReasons m told
   pub reasons : new_reasons ≡ overwritten (placed_from 0 told) old_reasons
   pub numbers : new_numbers ≡ overwritten (numbers_of told) old_numbers
-  pub reasons_count : reasons_count ≡ length told
-  pub numbers_count : numbers_count ≡ length (numbers_of told)
+  pub counted : (reasons_count ≡ length told) × (numbers_count ≡ length (numbers_of told))
 
 -- The lines of the reasons are written as far as there is room, and their length.
 pub record WritesLines (m : Explaining ℕ) (old new : List ℕ) (written : ℕ) : Type 0 where
   pub told : List Reason
   pub are : AreReasons m told
   pub text : new ≡ overwritten (reason_lines told) old
-  pub written : written ≡ length (reason_lines told)
+  pub counted : written ≡ length (reason_lines told)

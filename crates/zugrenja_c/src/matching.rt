@@ -100,23 +100,20 @@ impl Session {
         ensures none { result ≢ 0 → matched.new ≡ 0 }
     {
         *matched = 0;
-        let matcher = match self {
-            Session::Matching(matcher) => matcher,
-            Session::Explaining(matcher) => {
-                return explaining::start(matcher, name, namespace, matched);
-            }
-            Session::Adding(_) | Session::AddingExplained(_) => return NOT_BUILT,
-        };
-        let Some(ns) = namespace_of(namespace) else {
-            return NO_NAMESPACE;
-        };
-        match matcher.start(name, ns) {
-            Ok(Started::Reported) => {
-                *matched = matcher.matches().len();
-                GOOD
-            }
-            Ok(Started::NeedsAttributes) => NEEDS_ATTRIBUTES,
-            Err(error) => number_of(error),
+        match self {
+            Session::Adding(_) | Session::AddingExplained(_) => NOT_BUILT,
+            Session::Explaining(matcher) => explaining::start(matcher, name, namespace, matched),
+            Session::Matching(matcher) => match namespace_of(namespace) {
+                None => NO_NAMESPACE,
+                Some(ns) => match matcher.start(name, ns) {
+                    Ok(Started::Reported) => {
+                        *matched = matcher.matches().len();
+                        GOOD
+                    }
+                    Ok(Started::NeedsAttributes) => NEEDS_ATTRIBUTES,
+                    Err(error) => number_of(error),
+                },
+            },
         }
     }
 
@@ -156,27 +153,28 @@ impl Session {
         ensures none { result ≢ 0 → matched.new ≡ 0 }
     {
         *matched = 0;
-        let matcher = match self {
-            Session::Matching(matcher) => matcher,
+        match self {
+            Session::Adding(_) | Session::AddingExplained(_) => NOT_BUILT,
             Session::Explaining(matcher) => {
-                return explaining::finish(matcher, alloc, text, places, self_closing, matched);
+                explaining::finish(matcher, alloc, text, places, self_closing, matched)
             }
-            Session::Adding(_) | Session::AddingExplained(_) => return NOT_BUILT,
-        };
-        let Ok(outlines) = outlines_of(alloc, places) else {
-            return OUT_OF_MEMORY;
-        };
-        let aux_info = AuxStartTagInfo {
-            input: Bytes::new(text),
-            attr_buffer: &outlines,
-            self_closing,
-        };
-        match matcher.finish(aux_info) {
-            Ok(()) => {
-                *matched = matcher.matches().len();
-                GOOD
+            Session::Matching(matcher) => {
+                let Ok(outlines) = outlines_of(alloc, places) else {
+                    return OUT_OF_MEMORY;
+                };
+                let aux_info = AuxStartTagInfo {
+                    input: Bytes::new(text),
+                    attr_buffer: &outlines,
+                    self_closing,
+                };
+                match matcher.finish(aux_info) {
+                    Ok(()) => {
+                        *matched = matcher.matches().len();
+                        GOOD
+                    }
+                    Err(error) => number_of(error),
+                }
             }
-            Err(error) => number_of(error),
         }
     }
 
@@ -201,20 +199,19 @@ impl Session {
         ensures statuses { IsOneOf (0 ∷ 4 ∷ 5 ∷ 7 ∷ []) result }
         ensures unchanged { result ≢ 0 → self.new ≡ self.old }
     {
-        let matcher = match self {
-            Session::Matching(matcher) => matcher,
-            Session::Explaining(matcher) => {
-                return explaining::end(matcher, alloc, name, values, closed);
+        match self {
+            Session::Adding(_) | Session::AddingExplained(_) => NOT_BUILT,
+            Session::Explaining(matcher) => explaining::end(matcher, alloc, name, values, closed),
+            Session::Matching(matcher) => {
+                let Ok(mut closing) = Closing::new(alloc, values.len()) else {
+                    return OUT_OF_MEMORY;
+                };
+                close(matcher, name, &mut closing);
+                closing.write(values);
+                *closed = closing.closed();
+                GOOD
             }
-            Session::Adding(_) | Session::AddingExplained(_) => return NOT_BUILT,
-        };
-        let Ok(mut closing) = Closing::new(alloc, values.len()) else {
-            return OUT_OF_MEMORY;
-        };
-        close(matcher, name, &mut closing);
-        closing.write(values);
-        *closed = closing.closed();
-        GOOD
+        }
     }
 
     /// Gives a value to the element that the last tag has opened.
@@ -229,16 +226,17 @@ impl Session {
         ensures statuses { IsOneOf (0 ∷ 5 ∷ 7 ∷ 18 ∷ []) result }
         ensures unchanged { result ≢ 0 → self.new ≡ self.old }
     {
-        let matcher = match self {
-            Session::Matching(matcher) => matcher,
-            Session::Explaining(matcher) => return explaining::set_value(matcher, value),
-            Session::Adding(_) | Session::AddingExplained(_) => return NOT_BUILT,
-        };
-        if !matcher.has_opened() {
-            return NOT_OPENED;
+        match self {
+            Session::Adding(_) | Session::AddingExplained(_) => NOT_BUILT,
+            Session::Explaining(matcher) => explaining::set_value(matcher, value),
+            Session::Matching(matcher) => {
+                if !matcher.has_opened() {
+                    return NOT_OPENED;
+                }
+                matcher.replace_value(Some(value));
+                GOOD
+            }
         }
-        matcher.replace_value(Some(value));
-        GOOD
     }
 
     /// Writes the ids of the last report.

@@ -60,7 +60,8 @@ impl ReasonTable {
             numbers_len: reason.witness.len(),
             id: reason.item.id,
         })?;
-        add_outermost_first(&mut self.numbers, &reason.witness)
+        add_outermost_first(&mut self.numbers, &reason.witness)?;
+        Ok(())
     }
 
     /// How many reasons there are, and how many numbers.

@@ -1,5 +1,5 @@
 -- Tables of reasons.
-use Rattle.std.proofs.Common.{arith, ◌≡◌, ◌+◌, ℕ, List, [], ◌∷◌, ◌++◌, length, reverse, refl, sym, ap, ◌∙◌, zero-add, add-zero, append-nil, append_assoc}
+use Rattle.std.proofs.Common.{arith, ◌≡◌, ◌+◌, ℕ, suc, List, [], ◌∷◌, ◌++◌, length, reverse, refl, sym, ap, ◌∙◌, zero-add, add-zero, append-nil, append_assoc}
 use Rattle.std.proofs.lemmas.List.{length-append, length-reverse}
 use Rattle.lol_reasons.specs.Explanations.{Reason}
 use Rattle.zugrenja_c.specs.Reasons.{numbers_of, placed_at, placed_from}
@@ -19,11 +19,11 @@ placed_next reasons reason = placed_more 0 reasons reason ∙ ap (λ n. placed_f
 
 -- its numbers come last
 pub numbers_next : (reasons : List Reason) (reason : Reason) → numbers_of (reasons ++ reason ∷ []) ≡ numbers_of reasons ++ reverse reason.witness
-numbers_next [] reason = sym (append-nil (reverse reason.witness))
+numbers_next [] reason = append-nil (reverse reason.witness)
 numbers_next (first ∷ reasons) reason =
     ap (λ (ns : List ℕ). reverse first.witness ++ ns) (numbers_next reasons reason) ∙ sym (append_assoc (reverse first.witness) (numbers_of reasons) (reverse reason.witness))
 
 -- there is a place for each
 pub placed_length : (start : ℕ) (reasons : List Reason) → length (placed_from start reasons) ≡ length reasons
 placed_length start [] = refl
-placed_length start (reason ∷ reasons) = ap (λ n. n + 1) (placed_length (start + length reason.witness) reasons)
+placed_length start (reason ∷ reasons) = ap suc (placed_length (start + length reason.witness) reasons)
