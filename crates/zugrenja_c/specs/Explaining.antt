@@ -1,10 +1,9 @@
 -- What the calls of a handle do whose matcher explains.
-use Rattle.std.specs.Prelude.{ℕ, ◌-◌, ◌^◌, ◌<◌, ◌≡◌, ◌≢◌, Bool, true, false, List, [], length, map, min, None, Some, IsSomeAnd, if◌then◌else◌}
+use Rattle.std.specs.Prelude.{ℕ, ◌-◌, ◌^◌, ◌≡◌, ◌≢◌, Bool, true, false, List, [], length, map, min, None, Some, IsSomeAnd, if◌then◌else◌}
 use Rattle.lol_base.specs.StartTags.{StartTag}
 use Rattle.lol_base.specs.declared.namespace.Namespace.{Namespace}
 use Rattle.lol_explaining_matcher.specs.Explaining.{Explaining, ReportsFor, reasons_told, with_end, with_last}
 use Rattle.lol_explaining_matcher.specs.Preparing.{AddsText, Preparing}
-use Rattle.lol_instructions.specs.Tries.{names_counted, attributes_counted}
 use Rattle.lol_matcher.specs.Answering.{Answers, IsFinishedAs, OpensFor, OpensStart, told_after, with_told}
 use Rattle.lol_matcher.specs.Refusing.{Fits, RefusesFinish, RefusesStart, refusal_of}
 use Rattle.lol_matcher.specs.declared.error.MatcherError.{MatcherError}

@@ -1,5 +1,5 @@
 -- Reasons as C gets them.
-use Rattle.std.specs.Prelude.{ℕ, ◌+◌, ◌≡◌, true, false, List, [], ◌∷◌, ◌++◌, length, map, reverse}
+use Rattle.std.specs.Prelude.{ℕ, ◌+◌, ◌≡◌, true, false, List, [], ◌∷◌, length, map, reverse}
 use Rattle.std.specs.List.{flat_map}
 use Rattle.lol_explaining_matcher.specs.Explaining.{AreNumbered, Explaining, reasons_told}
 use Rattle.lol_reasons.specs.Explanations.{Reason}

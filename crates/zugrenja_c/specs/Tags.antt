@@ -13,7 +13,6 @@ use Rattle.lol_matcher.specs.Told.{Told, Matching}
 use Rattle.lol_matcher.specs.declared.error.MatcherError.{MatcherError}
 use Rattle.lol_matcher.specs.declared.matcher.Started.{Started}
 use Rattle.lol_stack.specs.declared.element_value.ElementValue.{ElementValue}
-use Rattle.zugrenja_c.specs.Numbers.{overwritten}
 use Rattle.zugrenja_c.specs.declared.matching.AttributePlace.{AttributePlace}
 use Rattle.zugrenja_c.specs.declared.closing.Closing.{Closing}
 

@@ -1,5 +1,5 @@
 -- the errors of a start tag that waited
-use Rattle.std.proofs.Common.{rules, arith}
+use Rattle.std.proofs.Common.{rules}
 use Rattle.zugrenja_c.proofs.explaining.finish.Goals as goal
 
 pub returns-clause-told : goal.returns-clause-told

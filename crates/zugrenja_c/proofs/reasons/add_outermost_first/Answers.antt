@@ -1,5 +1,5 @@
 -- the numbers of the list came in turn, the last first
-use Rattle.std.proofs.Common.{◌≡◌, ◌++◌, List, ℕ, map, reverse, ap, ◌∙◌}
+use Rattle.std.proofs.Common.{◌++◌, List, ℕ, ap, ◌∙◌}
 use Rattle.std.proofs.lemmas.Iterator.Adapters.{YieldsList-from_rev_slice}
 use Rattle.std.proofs.lemmas.Iterator.Consumers.{YieldsList-end}
 use Rattle.zugrenja_c.proofs.reasons.add_outermost_first.Goals as goal

@@ -1,5 +1,5 @@
 -- the value is kept where there is room, and the element counted
-use Rattle.std.proofs.Common.{arith, ◌≡◌, ◌<◌, ◌≤◌, length, map, take, ◌++◌, ◌∷◌, [], ◌∙◌, sym, ap}
+use Rattle.std.proofs.Common.{arith, ◌<◌, ◌≤◌, length, map, take, ◌++◌, ◌∷◌, [], ◌∙◌, sym, ap}
 use Rattle.std.specs.Prelude.{vec_capacity}
 use Rattle.std.proofs.lemmas.List.{map-append}
 use Rattle.zugrenja_c.specs.Tags.{value_of}

@@ -1,7 +1,6 @@
 -- the reason's place comes last, and its numbers
-use Rattle.std.proofs.Common.{rules, ◌≡◌, ◌++◌, ◌∷◌, [], List, ℕ, length, reverse, ap, sym, ◌∙◌}
+use Rattle.std.proofs.Common.{rules, ◌≡◌, ◌++◌, ◌∷◌, [], ℕ, length, reverse, ap, sym, ◌∙◌}
 use Rattle.lol_reasons.specs.Numbered.{reason_shown}
-use Rattle.zugrenja_c.specs.Reasons.{numbers_of, placed_at, placed_from}
 use Rattle.zugrenja_c.specs.declared.reasons.ReasonPlace.{ReasonPlace}
 use Rattle.zugrenja_c.proofs.ReasonTables.{placed_next, numbers_next}
 use Rattle.zugrenja_c.proofs.reasons.ReasonTable.add.Goals as goal
