@@ -96,7 +96,7 @@ pub extern "C" fn zugrenja_build(alloc: Global, handle: &mut Handle) -> u32
     ensures no_matcher { (result ≡ 5) ↔ (handle.old.slot.value ≡ None) }
     ensures twice { (result ≡ 8) ↔ IsBuilt handle.old.slot.value }
     ensures statuses { IsOneOf (0 ∷ 4 ∷ 5 ∷ 8 ∷ 20 ∷ []) result }
-    ensures unchanged { IsOneOf (5 ∷ 8 ∷ []) result → handle.new.slot.value ≡ handle.old.slot.value }
+    ensures unchanged { result ≢ 0 → result ≢ 4 → result ≢ 20 → handle.new.slot.value ≡ handle.old.slot.value }
 {
     if !handle.is_live() {
         return NO_MATCHER;

@@ -71,7 +71,7 @@ impl Session {
         ensures live { result ≢ 5 }
         ensures twice { (result ≡ 8) ↔ IsBuilt (Some self.old) }
         ensures statuses { IsOneOf (0 ∷ 4 ∷ 5 ∷ 8 ∷ 20 ∷ []) result }
-        ensures unchanged { result ≡ 8 → self.new ≡ self.old }
+        ensures unchanged { result ≢ 0 → result ≢ 4 → result ≢ 20 → self.new ≡ self.old }
     {
         match self {
             Session::Matching(_) | Session::Explaining(_) => BUILT,
