@@ -2,6 +2,7 @@
 use Rattle.std.specs.Prelude.{ℕ, ◌-◌, ◌^◌, ◌≡◌, Bool, false, List, [], ◌∷◌, ◌++◌, Ok}
 use Rattle.lol_css.specs.Accepting.{accept}
 use Rattle.lol_css.specs.Trees.{Items}
+use Rattle.lol_instructions.specs.Tries.{names_counted, attributes_counted}
 use Rattle.lol_matcher.specs.Building.{started_with}
 use Rattle.lol_reasons.specs.Numbered.{HasItemsOf, texts_in}
 use Rattle.lol_reasons.specs.declared.texts.Texts.{Texts}
@@ -38,3 +39,4 @@ pub record StartsWith {T : Type 0} (b : Preparing) (m : Explaining T) : Type 0 w
       m.items.tries
   pub well : m.failed ≡ false
   pub unreported : m.matched ≡ []
+  pub untried : (names_counted m.items.tries ≡ 0) × (attributes_counted m.items.tries ≡ 0)

@@ -23,4 +23,5 @@ returns-clause-ok g c =
       started = c.in_ok-matcher.ensures.told ∙ ap (λ (b : Building). started_with b m.tries) (c.set_tree.ensures ∙ (λ i. record c.self.inside.settings { ast = sym all.0 i }));
       well = refl;
       unreported = refl;
+      untried = c.in_ok-matcher.ensures.tries;
     })) c.new.ensures.made)
