@@ -1,10 +1,9 @@
 //! A session whose matcher explains.
 
-ghost use Rattle.std.specs.Prelude.{ℕ, List, Option, ◌++◌, ◌≡◌, ◌≢◌, ◌↔◌, [], ◌∷◌, None, Some, true, false, length, map, IfOk};
+ghost use Rattle.std.specs.Prelude.{ℕ, List, Option, ◌++◌, ◌≡◌, ◌≢◌, ◌↔◌, [], ◌∷◌, None, Some, false, IfOk};
 ghost use Rattle.lol_stack.specs.declared.element_value.ElementValue.{ElementValue};
 ghost use Rattle.lol_explaining_matcher.specs.Explaining.{with_end};
 ghost use Rattle.lol_reasons.specs.Explanations as shown;
-ghost use Rattle.lol_reasons.specs.Numbered.{reason_shown};
 ghost use Rattle.zugrenja_c.specs.Explaining.{EndsExplained, FinishesExplained, GivesExplained, StartsExplained, WritesLines, WritesReasons, has_opened};
 ghost use Rattle.zugrenja_c.specs.Numbers.{IsOneOf, numbered_namespace};
 ghost use Rattle.zugrenja_c.specs.Reasons.{AreReasons, HasReasons, reason_lines};
