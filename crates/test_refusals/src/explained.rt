@@ -90,7 +90,8 @@ fn reasons_in_turn(explainer: &Explainer, vm: &Machine) -> Result<Met, Stop> {
     Err(Stop::Wrong)
 }
 
-fn are_both(reasons: &[Reason]) -> bool {
+/// Whether these are the reasons for the second tag.
+pub(crate) fn are_both(reasons: &[Reason]) -> bool {
     let [first, second] = reasons else {
         return false;
     };

@@ -7,6 +7,7 @@ mod attributes;
 mod compiling;
 mod element;
 mod explained;
+mod explaining;
 mod lists;
 mod machines;
 mod matchers;
@@ -23,7 +24,7 @@ use std::io::Read;
 use std::process::ExitCode;
 
 /// The names of the scenarios.
-const NAMES: [&str; 33] = [
+const NAMES: [&str; 35] = [
     "from_str",
     "css_string",
     "to_boxed_slice",
@@ -57,6 +58,8 @@ const NAMES: [&str; 33] = [
     "attributes_push",
     "matcher",
     "explained",
+    "run_explained",
+    "explaining_matcher",
 ];
 
 fn main(rt: HostRuntime) -> ExitCode {
@@ -111,6 +114,7 @@ fn part(alloc: Global, name: &str) -> Result<Met, Stop> {
         "attributes_push" => attributes::attributes_push(alloc),
         "matcher" => matchers::matcher(alloc),
         "explained" => explained::explained(alloc),
+        "explaining_matcher" => explaining::explaining_matcher(alloc),
         "push" => lists::push(alloc),
         "push_item" => stacks::push_item(alloc),
         "stack_add_child" => stacks::stack_add_child(alloc),
@@ -145,6 +149,7 @@ fn made(alloc: Global, name: &str) -> Result<bool, Stop> {
         "run" => runs::run_tags(alloc),
         "run_of_a_bad_line" => runs::run_of_a_bad_line(alloc),
         "run_past_the_limit" => runs::run_past_the_limit(alloc),
+        "run_explained" => runs::run_explained(alloc),
         "name_into_owned" => names::name_into_owned(alloc),
         "item_into_owned" => names::item_into_owned(alloc),
         "context_into_owned" => names::context_into_owned(alloc),

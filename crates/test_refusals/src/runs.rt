@@ -237,3 +237,12 @@ pub(crate) fn run_past_the_limit(alloc: Global) -> Result<bool, Stop> {
         b"start\t40/\nrefused limit\n",
     )
 }
+
+pub(crate) fn run_explained(alloc: Global) -> Result<bool, Stop> {
+    written(
+        alloc,
+        b"explain\nselect\t7\tdiv p, p\nselect\t1\tp\nstart\thtml\tdiv\nstart\thtml\tp\n",
+        Ok(Status::Good),
+        b"start\t-\nstart\t1,7\nwhy\t7\t2\t0\t0,1\nwhy\t7\t2\t1\t1\nwhy\t1\t3\t0\t1\n",
+    )
+}
