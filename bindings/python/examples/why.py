@@ -1,7 +1,7 @@
 """Why start tags of a page match selectors: why.py SELECTOR.. < page.html
 
-For each tag that is matched its line:column and the tag; below it, for each item of a selector's list that matches it, the selector's number
-from 0, the item, and the elements that its compounds are passed by: the line:column of the start tag, the compound, and the tag.
+For each tag that is matched its line:column and the tag; below it, for each item of a selector's list that matches it, the selector's
+number from 0, the item, and the elements that its compounds are passed by: the line:column of the start tag, the compound, and the tag.
 """
 
 import re
