@@ -4,4 +4,3 @@ pub mod Statuses
 pub mod Buffers
 pub mod Closings
 pub mod ReasonTables
-pub mod Inside
