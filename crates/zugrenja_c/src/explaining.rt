@@ -22,6 +22,7 @@ use lol_explaining_matcher::{AuxStartTagInfo, Bytes, ElementValue, ExplainingMat
 use std::alloc::{AllocError, Global};
 
 /// Tells of a start tag.
+#[inline(never)]
 pub(crate) fn start(
     matcher: &mut ExplainingMatcher<u64>,
     name: &[u8],
@@ -48,6 +49,7 @@ pub(crate) fn start(
 }
 
 /// Hands the attributes over that were asked for.
+#[inline(never)]
 pub(crate) fn finish(
     matcher: &mut ExplainingMatcher<u64>,
     alloc: Global,
@@ -79,6 +81,7 @@ pub(crate) fn finish(
 }
 
 /// Tells of an end tag.
+#[inline(never)]
 pub(crate) fn end(
     matcher: &mut ExplainingMatcher<u64>,
     alloc: Global,
@@ -117,6 +120,7 @@ fn close(matcher: &mut ExplainingMatcher<u64>, name: &[u8], closing: &mut Closin
 }
 
 /// Gives a value to the element that the last tag has opened.
+#[inline(never)]
 pub(crate) fn set_value(matcher: &mut ExplainingMatcher<u64>, value: u64) -> u32
     ensures given { result ≡ 0 → GivesExplained value matcher.old matcher.new }
     ensures not_opened { (result ≡ 18) ↔ (has_opened matcher.old ≡ false) }
