@@ -274,7 +274,7 @@ int main(int argc, char **argv) {
         assert(zugrenja_free(&models[place].matcher) == ZUGRENJA_NO_MATCHER);
         record_free(&models[place].told);
     }
-    printf("%lu random calls, seed %s: all as the model wants; as in %lu scripts %lu tags, %lu of them under ids, %lu elements closed, and %lu "
-           "reasons\n",
+    printf("%lu random calls, seed %s: all as the model wants; as in %lu scripts %lu tags, %lu of them under ids, %lu elements closed, "
+           "and %lu reasons\n",
            count, argc > 2 ? argv[2] : "1", compared_runs, compared_tags, compared_reports, compared_closed, compared_reasons);
 }
