@@ -8,7 +8,9 @@ mod plain_element;
 mod plain_nodes;
 mod plain_run;
 mod plain_witness;
+mod tag_words;
 
 pub use plain::{PlainAnswer, plain_answers};
 pub use plain_run::plain_reasons;
 pub use plain_witness::{PlainReason, PlainText};
+pub use tag_words::events_of;

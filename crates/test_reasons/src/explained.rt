@@ -4,13 +4,12 @@ ghost use Rattle.std.specs.Prelude.{All};
 ghost use Rattle.lol_base.specs.StartTags.{RangesAreInside};
 ghost use Rattle.lol_vm.specs.Views.{HasRangesInside};
 
-use crate::tag_words::events_of;
 use lol_reasons::{Explainer, Reason, Texts};
 use lol_vm::{
     AuxStartTagInfo, LocalName, MatchInfo, Namespace, Selector, SelectorMatchingVm,
     SharedMemoryLimiter, TagEvent,
 };
-use plain_matcher::{PlainReason, PlainText, plain_reasons};
+use plain_matcher::{PlainReason, PlainText, events_of, plain_reasons};
 use std::alloc::{AllocError, Global};
 use std::process::Abort;
 use std::test::Fail;

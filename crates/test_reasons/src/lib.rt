@@ -4,6 +4,5 @@
 #[cfg(test)]
 mod explained;
 #[cfg(test)]
-mod tag_words;
 #[cfg(test)]
 mod witnesses;

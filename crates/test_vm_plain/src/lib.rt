@@ -7,7 +7,6 @@ mod plain_model;
 #[cfg(test)]
 mod plain_rows;
 #[cfg(test)]
-mod tag_words;
 #[cfg(test)]
 mod told;
 #[cfg(test)]

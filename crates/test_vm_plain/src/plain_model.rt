@@ -3,9 +3,8 @@
 ghost use Rattle.std.specs.Prelude.{All};
 ghost use Rattle.lol_vm.specs.Views.{HasRangesInside};
 
-use crate::tag_words::events_of;
 use lol_vm::{Ast, Namespace, Selector, SharedMemoryLimiter, TagEvent, TagReport, match_events};
-use plain_matcher::{PlainAnswer, plain_answers};
+use plain_matcher::{PlainAnswer, events_of, plain_answers};
 use std::alloc::{AllocError, Global};
 use std::process::Abort;
 use std::test::Fail;

@@ -1,8 +1,7 @@
 //! Worked rows that are answered plainly.
 
-use crate::tag_words::events_of;
 use lol_vm::{Ast, MatchInfo};
-use plain_matcher::{PlainAnswer, plain_answers};
+use plain_matcher::{PlainAnswer, events_of, plain_answers};
 use std::alloc::{AllocError, Global};
 use std::process::Abort;
 use std::test::Fail;

@@ -1,7 +1,7 @@
 //! What the machine answers to tags as words.
 
-use crate::tag_words::events_of;
 use lol_vm::{RunStop, SharedMemoryLimiter, TagReport, match_each_event, match_events};
+use plain_matcher::events_of;
 use std::alloc::Global;
 use std::process::Abort;
 use std::test::Fail;
