@@ -1,13 +1,12 @@
 //! Pages that are drawn, beside the definitions.
 
-ghost use Rattle.std.specs.Prelude.{All, IfOk};
+ghost use Rattle.std.specs.Prelude.{All};
 ghost use Rattle.lol_vm.specs.Views.{HasRangesInside};
 
 use crate::pages::{Selectors, is_reason, matcher_of, reports_ids_of, tell};
-use lol_base::Attributes;
 use lol_explaining_matcher::Reason;
 use lol_vm::{Selector, TagEvent};
-use plain_matcher::{PlainReason, PlainText, plain_reasons};
+use plain_matcher::{PlainReason, PlainText, events_of, plain_reasons};
 use std::alloc::{AllocError, Global};
 use std::process::Abort;
 use std::test::Fail;
@@ -57,35 +56,6 @@ impl Drawn {
         }
         Ok(tags)
     }
-}
-
-fn event<'e, 't: 'e>(tag: &TagWord<'t>, attributes: &'e Attributes) -> TagEvent<'e>
-    ensures { HasRangesInside result }
-{
-    let name = tag.name.as_bytes();
-    if tag.ends {
-        return TagEvent::End { name };
-    }
-    TagEvent::Start {
-        name,
-        ns: tag.ns,
-        aux_info: attributes.aux_info(tag.self_closing),
-        finish: tag.finish,
-    }
-}
-
-fn events_of<'e, 't: 'e>(
-    alloc: Global,
-    tags: &[TagWord<'t>],
-    attributes: &'e [Attributes],
-) -> Result<Vec<TagEvent<'e>>, AllocError>
-    ensures { IfOk result (λ events. All HasRangesInside events.items) }
-{
-    let mut events = Vec::new(alloc);
-    for (tag, attributes) in tags.iter().zip(attributes) {
-        events.push(event(tag, attributes))?;
-    }
-    Ok(events)
 }
 
 /// The reasons by the definitions.

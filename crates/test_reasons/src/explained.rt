@@ -265,12 +265,22 @@ fn last_has(alloc: Global, indexed: bool, row: &Row) -> Result<bool, Fail> {
     })
 }
 
-/// How many documents are drawn, how many selectors are looked for in each of them, and how many tags it has.
-const DOCUMENTS: u64 = 200;
+/// How many selectors are looked for in a document, and how many tags it has.
+#[derive(Clone, Copy)]
+struct Size {
+    selectors: usize,
+    tags: usize,
+}
 
-const SELECTORS: usize = 6;
+const LONG: Size = Size {
+    selectors: 6,
+    tags: 30,
+};
 
-const TAGS: usize = 30;
+const SHORT: Size = Size {
+    selectors: 2,
+    tags: 6,
+};
 
 const NAMES: &str = "a b p br svg:a svg:b/ /a /b /p a@class=x b@class=x";
 
@@ -316,17 +326,17 @@ impl Drawn {
     }
 
     /// Lists under ids, of which several may be the same.
-    fn lists(&mut self, alloc: Global) -> Result<Vec<(String, u32)>, AllocError> {
+    fn lists(&mut self, alloc: Global, count: usize) -> Result<Vec<(String, u32)>, AllocError> {
         let mut lists = Vec::new(alloc);
-        for _selector in 0..SELECTORS {
+        for _selector in 0..count {
             lists.push((self.list(alloc)?, self.random.below(4)))?;
         }
         Ok(lists)
     }
 
-    fn tags(&mut self, alloc: Global) -> Result<Vec<TagWord<'static>>, AllocError> {
+    fn tags(&mut self, alloc: Global, count: usize) -> Result<Vec<TagWord<'static>>, AllocError> {
         let mut tags = Vec::new(alloc);
-        for _tag in 0..TAGS {
+        for _tag in 0..count {
             tags.push(TagWord::of(self.word(NAMES)))?;
         }
         Ok(tags)
@@ -382,25 +392,38 @@ fn compare(
     Ok(count)
 }
 
-fn compare_drawn(rt: &impl Abort, alloc: Global, seed: u64) -> Result<usize, Fail> {
+fn compare_drawn(rt: &impl Abort, alloc: Global, seed: u64, size: Size) -> Result<usize, Fail> {
     let mut drawn = Drawn {
         random: Random::new(seed),
     };
-    let lists = drawn.lists(alloc)?;
+    let lists = drawn.lists(alloc, size.selectors)?;
     let mut texts = Vec::new(alloc);
     for (text, id) in &lists {
         texts.push((text.as_str(), *id))?;
     }
-    let tags = drawn.tags(alloc)?;
+    let tags = drawn.tags(alloc, size.tags)?;
     compare(rt, alloc, &texts, seed % 2 == 0, &tags)
+}
+
+/// Compares documents of this size, and answers how many reasons they have.
+fn compare_all(rt: &impl Abort, alloc: Global, documents: u64, size: Size) -> Result<usize, Fail> {
+    let mut count = 0usize;
+    for seed in 0..documents {
+        count = count.saturating_add(compare_drawn(rt, alloc, seed, size)?);
+    }
+    Ok(count)
 }
 
 #[test]
 fn agree_with_the_definitions(rt: HostRuntime) -> Result<(), Fail> {
-    let mut count = 0usize;
-    for seed in 0..DOCUMENTS {
-        count = count.saturating_add(compare_drawn(&rt, rt.alloc(), seed)?);
-    }
+    let count = compare_all(&rt, rt.alloc(), 200, LONG)?;
+    assert!(rt; count > 5_000, "{count} reasons");
+    Ok(())
+}
+
+#[test]
+fn agree_on_short_documents(rt: HostRuntime) -> Result<(), Fail> {
+    let count = compare_all(&rt, rt.alloc(), 5_000, SHORT)?;
     assert!(rt; count > 5_000, "{count} reasons");
     Ok(())
 }
