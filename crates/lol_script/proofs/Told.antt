@@ -1,7 +1,10 @@
 -- What is told of a start tag, by a machine that has items under their numbers.
-use Rattle.std.proofs.Common.{◌≡◌, ℕ, ◌+◌, ◌<◌, nat_lt, Bool, true, false, List, [], ◌∷◌, ◌++◌, length, map, Result, Ok, Err, refl, sym, ap, ◌∙◌, arith, subst}
+use Rattle.std.proofs.Common.{◌≡◌, ℕ, ◌+◌, ◌<◌, nat_lt, Bool, true, false, List, [], ◌∷◌, ◌++◌, length, map, reverse, take, Result, Ok, Err, refl, sym, ap, ◌∙◌, arith, subst}
 use Rattle.std.specs.Prelude.{◌&&◌, not, if◌then◌else◌}
 use Rattle.std.proofs.lemmas.Bool.Decides.{Decides-ltb}
+use Rattle.std.proofs.lemmas.List.{length-map, length-reverse, reverse-append}
+use Rattle.std.proofs.Math.Seq.{take-append_seam, take-length}
+use Rattle.lol_instructions.specs.Tests.{Element}
 use Rattle.lol_css.specs.Trees.{Items, NoItems}
 use Rattle.lol_css.specs.declared.error.SelectorError.{SelectorError}
 use Rattle.lol_program.specs.Paths.{Selectors}
@@ -94,6 +97,36 @@ more_open s esi events tag around now undropped before after_it = by_content (ha
         lower : (b : Bool) → (b ≡ true → around < now) → b ≡ false
         lower false h = refl
         lower true h = absurd (omega (arith, h refl, grown false is, before, after_it))
+
+-- the numbers of the elements around a start tag's stand first among those that are open after it, the outermost first
+pub numbers_around : (s : Selectors) (esi : Bool) (events : List Event) (tag : StartTag) → is_dropped s (element_of (document s esi events) tag) (document s esi events).open_elements ≡ false
+    → take (length (document s esi events).open_elements) (reverse (map (λ e. e.number) (document s esi (events ++ Start tag ∷ [])).open_elements)) ≡ reverse (map (λ e. e.number) (document s esi events).open_elements)
+numbers_around s esi events tag undropped =
+    ap (λ (d : Document). first_of (numbers d.open_elements)) (document_push s esi empty events (Start tag))
+    ∙ ((λ i. first_of (numbers (if has_content esi tag && not (undropped i) then element_of (document s esi events) tag ∷ outer else outer))) ∙ by_content (has_content esi tag))
+  where
+    outer : List Element
+    outer = (document s esi events).open_elements
+
+    numbers : List Element → List ℕ
+    numbers elements = reverse (map (λ e. e.number) elements)
+
+    first_of : List ℕ → List ℕ
+    first_of all = take (length outer) all
+
+    as_many : length (numbers outer) ≡ length outer
+    as_many = length-reverse (map (λ e. e.number) outer) ∙ length-map outer (λ e. e.number)
+
+    by_content : (content : Bool) → first_of (numbers (if content && not false then element_of (document s esi events) tag ∷ outer else outer)) ≡ numbers outer
+    by_content true =
+        let own = (element_of (document s esi events) tag).number in
+        ap first_of (reverse-append (own ∷ []) (map (λ (e : Element). e.number) outer))
+        ∙ (ap (λ n. take n (numbers outer ++ own ∷ [])) (sym as_many) ∙ take-append_seam (numbers outer) (own ∷ []))
+    by_content false = ap (λ n. take n (numbers outer)) (sym as_many) ∙ take-length (numbers outer)
+
+pub none_mapped : {A B : Type 0} (f : A → B) (xs : List A) → map f xs ≡ [] → xs ≡ []
+none_mapped f [] h = refl
+none_mapped f (x ∷ xs) h = cc
 
 -- ids shown with the same content
 pub shown_ids : (content with_content : Bool) (ids : List ℕ) → content ≡ with_content

@@ -1,8 +1,8 @@
 -- A start tag that is answered is one more of a script.
 use Rattle.std.specs.Global.{Vec}
-use Rattle.std.proofs.Common.{◌≡◌, ℕ, Bool, true, false, List, [], ◌∷◌, ◌++◌, length, get_or, map, reverse, Option, Some, refl, sym, ap, ◌∙◌, subst, true≢false}
+use Rattle.std.proofs.Common.{◌≡◌, ℕ, Bool, true, false, List, [], ◌∷◌, ◌++◌, length, get_or, map, Option, Some, refl, sym, ap, ◌∙◌, subst, true≢false}
 use Rattle.std.specs.Prelude.{codes, if◌then◌else◌}
-use Rattle.std.proofs.lemmas.List.{append_assoc, append-nil, reverse-reverse}
+use Rattle.std.proofs.lemmas.List.{append_assoc, append-nil, length-map, length-reverse}
 use Rattle.lol_base.specs.StartTags.{StartTag}
 use Rattle.lol_instructions.specs.Tries.{attributes_counted, names_counted}
 use Rattle.lol_instructions.specs.declared.tries.Tries.{Tries}
@@ -20,11 +20,11 @@ use Rattle.lol_vm.specs.Refusals.{Cause, refused}
 use Rattle.lol_vm.specs.RunRefusals.{StopsFor, allowance_of}
 use Rattle.lol_vm.specs.Views.{match_of}
 use Rattle.lol_vm.specs.Follows.{StartedElement}
-use Rattle.lol_vm.specs.Vms.{Vm, tries_in}
+use Rattle.lol_vm.specs.Vms.{Vm, data_in, tries_in}
 use Rattle.lol_vm.specs.declared.event_run.EventRun.{EventRun}
 use Rattle.lol_vm.specs.declared.events.RunCause.{RunCause}
 use Rattle.lol_script.specs.Answering.{Answers, AreTold, HasRun, IsCauseOf, IsMadeReady, IsPushed, IsStarted, IsWritten, has_ended, lines_told}
-use Rattle.lol_script.specs.Explaining.{Explains, IsAnsweredBy, IsDroppedIn, IsReady, IsRunThrough, Tells, limiter_of, lines_by, selectors_in, with_reasons}
+use Rattle.lol_script.specs.Explaining.{Explains, IsAnsweredBy, IsDroppedIn, IsRunThrough, Tells, limiter_of, lines_by, selectors_in, with_reasons}
 use Rattle.lol_script.specs.FieldLists.{list_text, match_field, started_by, started_text, tries_shown, was_refused}
 use Rattle.lol_script.specs.Output.{comma_list, lines_of, shown_answer, shown_match, shown_reason, tries_field}
 use Rattle.lol_script.specs.Scripts.{Script, line_number, reason_lines, shown_cause, text_for, texts_in, with_event}
@@ -64,14 +64,14 @@ told_text x s numbered tag run asked shows_tries told fields explains shows trie
 
 -- 1. Made ready for a start tag
 
--- the numbers of the open elements are kept, if reasons are shown
+-- so many elements are open, if reasons are shown
 abbrev pub KnowsAround : Vm StartedElement → Answering → Type 0
 KnowsAround vm Plain = Unit {0}
-KnowsAround vm (WithReasons x) = IsReady vm x.around.items
+KnowsAround vm (WithReasons x) = x.around ≡ length (data_in vm)
 KnowsAround vm Refused = Unit {0}
 
--- what explains a script explains it with other numbers around, and with an event more
-still_explains : (x : Explained) (around : Vec ℕ) (s : Script) (numbered : Selectors) → Explains x s numbered → Explains (record x { around = around }) s numbered
+-- what explains a script explains it with another count, and with an event more
+still_explains : (x : Explained) (around : ℕ) (s : Script) (numbered : Selectors) → Explains x s numbered → Explains (record x { around = around }) s numbered
 still_explains x around s numbered h = record { known = h.known; items = h.items; nodes = h.nodes; lines = h.lines }
 
 one_event_more : (x : Explained) (s : Script) (numbered : Selectors) (event : Event) → Explains x s numbered → Explains x (with_event s event) numbered
@@ -108,9 +108,9 @@ made_ready code ready s run kept made =
     by_answering (WithReasons x) new same made =
         let h = written_by (WithReasons x) same in
         let has = subst (HasRun run.selectors s code) same h.0 in
-        let around = made.1.0 in
-        ready_as new (WithReasons (record x { around = around })) made.1.1
-        ((has.0, has.1, (has.2.0, still_explains x around s has.2.0 has.2.1, has.2.2)), h.1) refl made.1.2
+        let around = length (data_in (machine_of code.run)) in
+        ready_as new (WithReasons (record x { around = around })) made.1
+        ((has.0, has.1, (has.2.0, still_explains x around s has.2.0 has.2.1, has.2.2)), h.1) refl refl
 
 -- what was written for a start tag: its line, and after it those of its reasons, if they were found
 pub pushed_from : (asked : Bool) (old found pushed : ScriptRun) (tries : Option Tries) → tries_shown tries ≡ tries_field old.shows_tries (names_counted (tries_in (machine_of old.run))) (attributes_counted (tries_in (machine_of old.run)))
@@ -244,7 +244,8 @@ module _ (law : NodesDecideTheRest) (ready : ScriptRun) (s : Script) (tag : Star
           (pushed.tells s numbered tag l e (record {
             runs = started.goes_on;
             reported = started.listed pushed.listed ∙ ap (map match_field) report_is;
-            numbers = sym (ap reverse (knows ∙ h.2.2.follows.numbers) ∙ reverse-reverse (map (λ e. e.number) d.open_elements));
+            around_is = sym (knows ∙ (sym (length-map (data_in (machine_of ready.run)) (λ (e : StartedElement). e.value))
+                ∙ (ap length h.2.2.follows.numbers ∙ (length-reverse (map (λ e. e.number) d.open_elements) ∙ length-map d.open_elements (λ e. e.number)))));
             undropped = undropped numbered s.esi d tag found asked names attributes started.answered;
           })) in (
             (h.0, h.1, (numbered, one_event_more x s numbered (Start tag) e, started.goes_on)),

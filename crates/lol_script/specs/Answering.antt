@@ -1,6 +1,5 @@
 -- Tags that are answered as their lines are read.
-use Rattle.std.specs.Prelude.{◌≡◌, ℕ, Bool, true, false, List, [], ◌∷◌, ◌++◌, map, Option, Some, None, Result, Ok, Err, codes, decimal}
-use Rattle.std.specs.Global.{Vec}
+use Rattle.std.specs.Prelude.{◌≡◌, ℕ, Bool, true, false, List, [], ◌∷◌, ◌++◌, length, map, Option, Some, None, Result, Ok, Err, codes, decimal}
 use Rattle.std.specs.List.{concat}
 use Rattle.lol_base.specs.CodePoints.{line_feed}
 use Rattle.lol_base.specs.StartTags.{StartTag}
@@ -17,12 +16,12 @@ use Rattle.lol_vm.specs.Refusals.{Cause, Limit, Counter, refused}
 use Rattle.lol_vm.specs.RunRefusals.{allowance_of}
 use Rattle.lol_vm.specs.Views.{match_of}
 use Rattle.lol_vm.specs.Follows.{StartedElement}
-use Rattle.lol_vm.specs.Vms.{Vm, tries_in}
+use Rattle.lol_vm.specs.Vms.{Vm, data_in, tries_in}
 use Rattle.lol_vm.specs.declared.event_run.EventRun.{EventRun}
 use Rattle.lol_vm.specs.declared.events.RunCause.{RunCause}
 use Rattle.lol_vm.specs.declared.events.RunCause.TheVariants.{MemoryLimitExceeded, CounterFull, Memory}
 use Rattle.lol_script.specs.Devices.{ReadsToEnd}
-use Rattle.lol_script.specs.Explaining.{Explains, IsReady, IsRunThrough, Tells, limiter_of, lines_by, selectors_in, with_reasons}
+use Rattle.lol_script.specs.Explaining.{Explains, IsRunThrough, Tells, limiter_of, lines_by, selectors_in, with_reasons}
 use Rattle.lol_script.specs.FieldLists.{fields_in, list_text, match_field, started_by, was_refused}
 use Rattle.lol_script.specs.Output.{comma_list, lines_of}
 use Rattle.lol_script.specs.ReadLines.{ReadLines}
@@ -109,7 +108,7 @@ IsTagIfFirst line s = s.events ≡ [] → IsTagLine (line_at line)
 abbrev pub IsMadeReady : Bool → Vm StartedElement → Answering → Answering → Type 0
 IsMadeReady going vm Plain new = (going ≡ true) × (new ≡ Plain)
 IsMadeReady going vm (WithReasons old) new =
-    (going ≡ true) × ((around : Vec ℕ) × (new ≡ WithReasons (record old { around = around })) × IsReady vm around.items)
+    (going ≡ true) × (new ≡ WithReasons (record old { around = length (data_in vm) }))
 IsMadeReady going vm Refused new = (going ≡ false) × (new ≡ Refused)
 
 -- The line of a start tag was written, by what it was reported under.

@@ -1,5 +1,5 @@
 -- Start tags that are answered with their reasons.
-use Rattle.std.specs.Prelude.{ℕ, ◌≡◌, ◌≤◌, Bool, false, List, [], ◌∷◌, ◌++◌, get_or, map, reverse, Option, Some, None}
+use Rattle.std.specs.Prelude.{ℕ, ◌≡◌, ◌≤◌, Bool, false, List, [], ◌∷◌, ◌++◌, get_or, length, map, Option, Some, None}
 use Rattle.lol_base.specs.StartTags.{StartTag}
 use Rattle.lol_instructions.specs.Tests.{Element}
 use Rattle.lol_instructions.specs.Tries.{names_counted, attributes_counted}
@@ -17,8 +17,7 @@ use Rattle.lol_vm.specs.Answers.{Match, Started, Dropped, answer, document, is_d
 use Rattle.lol_vm.specs.Documents.{element_of}
 use Rattle.lol_vm.specs.EventRuns.{IsRunOf, machine_of}
 use Rattle.lol_vm.specs.Events.{Event, Start}
-use Rattle.lol_vm.specs.Follows.{StartedElement}
-use Rattle.lol_vm.specs.Vms.{Vm, data_in, tries_in}
+use Rattle.lol_vm.specs.Vms.{tries_in}
 use Rattle.lol_vm.specs.declared.event_run.EventRun.{EventRun}
 use Rattle.lol_script.specs.FieldLists.{fields_in, list_text, match_field, was_refused}
 use Rattle.lol_script.specs.Output.{comma_list, lines_of, shown_match, shown_reason}
@@ -61,16 +60,11 @@ IfExplained Refused holds = ⊥
 
 -- 1. What a machine reports by numbers
 
--- These are the numbers of the open elements.
-abbrev pub IsReady : Vm StartedElement → List ℕ → Type 0
-IsReady vm around = around ≡ map (λ e. e.value) (data_in vm)
-
--- A run over selectors was told of a start tag after the events of a script, and reported these; these are the numbers of the elements around
--- the tag's, the outermost first.
-pub record IsMatchedInside (numbered : Selectors) (s : Script) (run : EventRun) (items : List Field) (around : List ℕ) (tag : StartTag) (now : Limiter) : Type 0 where
+-- A run over selectors was told of a start tag after the events of a script, and reported these; so many elements are around the tag's.
+pub record IsMatchedInside (numbered : Selectors) (s : Script) (run : EventRun) (items : List Field) (around : ℕ) (tag : StartTag) (now : Limiter) : Type 0 where
   pub runs : IsRunThrough numbered s run (s.events ++ Start tag ∷ []) now
   pub reported : items ≡ map match_field (report numbered s.esi (element_of (document numbered s.esi s.events) tag) (document numbered s.esi s.events).open_elements)
-  pub numbers : map (λ e. e.number) (document numbered s.esi s.events).open_elements ≡ reverse around
+  pub around_is : length (document numbered s.esi s.events).open_elements ≡ around
   pub undropped : is_dropped numbered (element_of (document numbered s.esi s.events) tag) (document numbered s.esi s.events).open_elements ≡ false
 
 -- 2. What is told
@@ -96,7 +90,7 @@ pub record IsToldOf (s : Script) (e : Element) (outer : List Element) (told : Li
 abbrev pub Tells : Explained → EventRun → FieldList → FieldList → List Reason → Type 0
 Tells code run items fields told =
     (s : Script) (numbered : Selectors) (tag : StartTag) (now : Limiter) → Explains code s numbered
-    → IsMatchedInside numbered s run (fields_in items) code.around.items tag now
+    → IsMatchedInside numbered s run (fields_in items) code.around tag now
     → IsToldOf s (element_of (document numbered s.esi s.events) tag) (document numbered s.esi s.events).open_elements told fields
 
 -- a line, and after it those of reasons

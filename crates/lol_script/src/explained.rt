@@ -1,13 +1,14 @@
 //! Start tags that are answered with their reasons.
 
-ghost use Rattle.std.specs.Prelude.{◌≡◌, ◌++◌, false, IfOk, OnOk, map};
+ghost use Rattle.std.specs.Prelude.{◌≡◌, ◌++◌, false, length, IfOk, OnOk, map};
 ghost use Rattle.lol_memory.specs.Ids.{ascending};
 ghost use Rattle.lol_reasons.specs.Numbered.{reason_shown};
 ghost use Rattle.lol_program.specs.Paths.{Selectors};
 ghost use Rattle.lol_base.specs.Ascending.{ascending_once};
 ghost use Rattle.lol_vm.specs.EventRuns.{machine_of};
 ghost use Rattle.lol_vm.specs.Views.{selectors};
-ghost use Rattle.lol_script.specs.Explaining.{Explains, IsReady, Tells, lines_by, reported_ids};
+ghost use Rattle.lol_vm.specs.Vms.{data_in};
+ghost use Rattle.lol_script.specs.Explaining.{Explains, Tells, lines_by, reported_ids};
 ghost use Rattle.lol_script.specs.FieldLists.{list_text, was_refused};
 ghost use Rattle.lol_script.specs.Output.{comma_list, lines_of, shown_match};
 ghost use Rattle.lol_script.specs.Scripts as scripts;
@@ -28,8 +29,8 @@ pub struct Explained {
     /// The number of each text's line.
     lines: Vec<usize>,
 
-    /// The numbers of the elements around the last start tag.
-    around: Vec<usize>,
+    /// How many elements are around that of the last start tag.
+    around: usize,
 }
 
 impl Explained {
@@ -47,7 +48,7 @@ impl Explained {
             alloc,
             explainer: numbering.explainer,
             lines: selects.numbers(alloc)?,
-            around: Vec::new(alloc),
+            around: 0,
         };
         Ok((numbering.ast, explained))
     }
@@ -60,14 +61,12 @@ impl Explained {
         self.explainer.index(run.machine().program())
     }
 
-    /// Keeps the numbers of the open elements, which the next start tag's element stands inside of.
+    /// Counts the open elements, which the next start tag's element stands inside of.
     #[inline(never)]
-    pub fn look_around(&mut self, run: &EventRun) -> Result<(), AllocError>
-        ensures kept { self.new ≡ record self.old { around = self.new.around } }
-        ensures ready { OnOk result (IsReady (machine_of run.now) self.new.around.items) }
+    pub fn look_around(&mut self, run: &EventRun)
+        ensures { self.new ≡ record self.old { around = length (data_in (machine_of run.now)) } }
     {
-        self.around = numbers_of(self.alloc, run.machine().open_items())?;
-        Ok(())
+        self.around = run.machine().open_elements();
     }
 
     /// Finds the reasons for the last start tag, of which the items that matched are given: then the list has what it is reported under.
@@ -91,12 +90,18 @@ impl Explained {
     {
         lol_reasons::laws::reasons_explain_reports();
         lol_reasons::laws::texts_add_pairs();
+        lol_reasons::laws::numbers_name_what_matches();
         let items = fields.ids(self.alloc)?;
+        if items.is_empty() {
+            return Ok(Vec::new(self.alloc));
+        }
+        let open = run.machine().open_items();
+        let around = numbers_of(self.alloc, &open[..self.around.min(open.len())])?;
         let number = run.events().saturating_sub(1);
         let reasons = self
             .explainer
-            .reasons(run.machine(), &items, number, &self.around)?;
-        let with_content = run.machine().open_elements() > self.around.len();
+            .reasons(run.machine(), &items, number, &around)?;
+        let with_content = open.len() > self.around;
         list_ids(self.alloc, &reasons, with_content, fields)?;
         Ok(reasons)
     }

@@ -123,7 +123,7 @@ impl ScriptRun {
         ensures { OnOk result (ForAnswers self.old (λ s.
             Answers self.new (with_event s (Start (start_tag_of line.entry))))) }
     {
-        if !self.make_ready()? {
+        if !self.make_ready() {
             return Ok(());
         }
         numbers_change_reports_alone();
@@ -143,18 +143,17 @@ impl ScriptRun {
 
     /// Makes ready for a start tag, unless a tag was refused: then the answer is no.
     #[inline(always)]
-    fn make_ready(&mut self) -> Result<bool, AllocError>
+    fn make_ready(&mut self) -> bool
         ensures kept { self.new ≡ record self.old { answering = self.new.answering } }
-        ensures ready { IfOk result (λ going.
-            IsMadeReady going (machine_of self.old.run) self.old.answering self.new.answering) }
+        ensures ready { IsMadeReady result (machine_of self.old.run) self.old.answering self.new.answering }
     {
         match &mut self.answering {
-            Answering::Plain => Ok(true),
+            Answering::Plain => true,
             Answering::WithReasons(explained) => {
-                explained.look_around(&self.run)?;
-                Ok(true)
+                explained.look_around(&self.run);
+                true
             }
-            Answering::Refused => Ok(false),
+            Answering::Refused => false,
         }
     }
 

@@ -15,9 +15,9 @@ use Rattle.lol_script.proofs.script_run.ScriptRun.take_start.Goals as goal
 pub returns-in-Ok-None : goal.returns-in-Ok-None
 returns-in-Ok-None c = on_ok_weaker c.push_line.result
     (λ text s answers.
-    let going : c.in_ok-make_ready.field-0 ≡ true = search rules in
+    let going : c.make_ready.result ≡ true = search rules in
     let ready = made_ready c.args.self.now c.make_ready.new.self s answers c.make_ready.ensures.kept
-    (subst (λ (b : Bool). IsMadeReady b (machine_of c.args.self.now.run) c.args.self.now.answering c.make_ready.new.self.answering) going c.in_ok-make_ready.ensures.ready) in
+    (subst (λ (b : Bool). IsMadeReady b (machine_of c.args.self.now.run) c.args.self.now.answering c.make_ready.new.self.answering) going c.make_ready.ensures.ready) in
     dropped_more c.numbers_change_reports_alone.ensures.alike c.make_ready.new.self s (start_tag_of c.args.line) ready.answers ready.going _ _ _ _ _
     (λ selectors runs.
     let taken = at_ok _ c.answer_start-answered.result None (let is : c.answer_start-answered.result ≡ Ok None = search rules in is) c.answer_start-answered.ensures.goes in
@@ -29,9 +29,9 @@ returns-in-Ok-None c = on_ok_weaker c.push_line.result
 pub returns-in-Ok-Some : goal.returns-in-Ok-Some
 returns-in-Ok-Some c = on_ok_weaker c.push_answer.result
     (λ pushed s answers.
-    let going : c.in_ok-make_ready.field-0 ≡ true = search rules in
+    let going : c.make_ready.result ≡ true = search rules in
     let ready = made_ready c.args.self.now c.make_ready.new.self s answers c.make_ready.ensures.kept
-    (subst (λ (b : Bool). IsMadeReady b (machine_of c.args.self.now.run) c.args.self.now.answering c.make_ready.new.self.answering) going c.in_ok-make_ready.ensures.ready) in
+    (subst (λ (b : Bool). IsMadeReady b (machine_of c.args.self.now.run) c.args.self.now.answering c.make_ready.new.self.answering) going c.make_ready.ensures.ready) in
     let is : c.answer_start-answered.result ≡ Ok (Some c.in-Ok-Some.asked) = search rules in
     let after = c.answer_start-answered.new in
     let mid : ScriptRun = record c.make_ready.new.self { run = after.run; limiter = after.limiter; fields = after.matched } in
@@ -44,9 +44,9 @@ returns-in-Ok-Some c = on_ok_weaker c.push_answer.result
 pub returns-in-Err : goal.returns-in-Err
 returns-in-Err c = on_ok_weaker c.refuse.result
     (λ text s answers.
-    let going : c.in_ok-make_ready.field-0 ≡ true = search rules in
+    let going : c.make_ready.result ≡ true = search rules in
     let ready = made_ready c.args.self.now c.make_ready.new.self s answers c.make_ready.ensures.kept
-    (subst (λ (b : Bool). IsMadeReady b (machine_of c.args.self.now.run) c.args.self.now.answering c.make_ready.new.self.answering) going c.in_ok-make_ready.ensures.ready) in
+    (subst (λ (b : Bool). IsMadeReady b (machine_of c.args.self.now.run) c.args.self.now.answering c.make_ready.new.self.answering) going c.make_ready.ensures.ready) in
     subst (λ (later : ScriptRun). Answers later (with_event s (Start (start_tag_of c.args.line)))) (sym c.refuse.ensures.kept)
     (refused_more c.numbers_change_reports_alone.ensures.alike c.make_ready.new.self s (start_tag_of c.args.line) ready.answers ready.going _ _ _ _ _ c.in-Err.cause text.0 text.1
     (λ selectors runs rest.
