@@ -85,9 +85,6 @@ pub fn worked_outputs()
         ≡ written (codes "start\t0/\tasked\n") Good }
     ensures esi { output (codes "esi\nselect\t0\t*\nstart\thtml\tesi:include\nstart\thtml\tp\nend\tesi:include\n")
         ≡ written (codes "start\t0/\nstart\t0\nend\t-\n") Good }
-    ensures reasons { output (codes "explain\nselect\t7\tp, div > p\nselect\t7\tdiv p\n"
-        ++ codes "start\thtml\tdiv\nstart\thtml\tsection\nstart\thtml\tp\nend\tdiv\n")
-        ≡ written (codes "start\t-\nstart\t-\nstart\t7\nwhy\t7\t2\t0\t2\nwhy\t7\t3\t0\t0,2\nend\t0,1,2\n") Good }
     ensures bad_selector { output (codes "select\t0\tdiv + span")
         ≡ written (codes "bad line 1: UnsupportedCombinator(+)\n") BadLine }
     ensures empty_selector { output (codes "select\t0\t") ≡ written (codes "bad line 1: EmptySelector\n") BadLine }
@@ -95,4 +92,11 @@ pub fn worked_outputs()
     ensures late_setting { output (codes "end\tp\nesi\n") ≡ written (codes "bad line 2: form\n") BadLine }
     ensures late_bad_line { output (codes "start\thtml\tp\n\nselect\t0\tdiv + span")
         ≡ written (codes "bad line 3: form\n") BadLine }
+{}
+
+/// The lines of reasons.
+pub fn worked_reasons()
+    ensures lists { output (codes "explain\nselect\t7\tp, div > p\nselect\t7\tdiv p\n"
+        ++ codes "start\thtml\tdiv\nstart\thtml\tsection\nstart\thtml\tp\nend\tdiv\n")
+        ≡ written (codes "start\t-\nstart\t-\nstart\t7\nwhy\t7\t2\t0\t2\nwhy\t7\t3\t0\t0,2\nend\t0,1,2\n") Good }
 {}

@@ -160,7 +160,8 @@ impl ScriptRun {
     /// Adds the line of a start tag that was reported, and those of its reasons, if they are shown.
     #[inline(always)]
     fn push_answer(&mut self, asked: bool) -> Result<(), AllocError>
-        ensures kept { self.new ≡ record self.old { text = self.new.text; fields = self.new.fields; reasons = self.new.reasons } }
+        ensures kept { self.new
+            ≡ record self.old { text = self.new.text; fields = self.new.fields; reasons = self.new.reasons } }
         ensures text { OnOk result (IsPushed asked self.old.answering self.old self.new) }
     {
         self.find_reasons()?;

@@ -26,7 +26,6 @@ returns c = record {
   attributes = refl;
   attribute_with_equals = refl;
   esi = refl;
-  reasons = refl;
   bad_selector = refl;
   empty_selector = refl;
   bad_form = refl;
