@@ -12,6 +12,9 @@ use crate::selector::CssString;
 use crate::syntax::points::{escaped_point, name_point};
 use std::alloc::{AllocError, Global};
 
+/// The bytes of room that a copied name begins with. Most names fit; the text after a name may be long.
+const ROOM: usize = 24;
+
 /// A name: the text from its first code point on, escapes and all.
 #[derive(Clone, Copy)]
 pub(crate) struct Name<'a> {
@@ -46,7 +49,7 @@ impl<'a> Name<'a> {
     pub(crate) fn to_text(self, alloc: Global) -> Result<CssString, AllocError>
         ensures { IfOk result (λ s. s ≡ utf8 (points_of self.entry)) }
     {
-        let mut text = String::with_capacity(alloc, self.text.len())?;
+        let mut text = String::with_capacity(alloc, self.text.len().min(ROOM))?;
         let mut rest = self;
         while let Some((c, after)) = rest.split_first() {
             text.push(c)?;
@@ -59,7 +62,7 @@ impl<'a> Name<'a> {
     pub(crate) fn to_lowercase_text(self, alloc: Global) -> Result<CssString, AllocError>
         ensures { IfOk result (λ s. s ≡ utf8 (lowercase (points_of self.entry))) }
     {
-        let mut text = String::with_capacity(alloc, self.text.len())?;
+        let mut text = String::with_capacity(alloc, self.text.len().min(ROOM))?;
         let mut rest = self;
         while let Some((c, after)) = rest.split_first() {
             text.push(c.to_ascii_lowercase())?;
