@@ -100,6 +100,17 @@ fn tells_by_which_elements(rt: HostRuntime) -> Result<(), Fail> {
     Ok(())
 }
 
+/// A reason's text, item, first number, how many numbers, and id.
+fn fields_of(reason: &ReasonPlace) -> (usize, usize, usize, usize, u32) {
+    (
+        reason.text,
+        reason.item,
+        reason.numbers_start,
+        reason.numbers_len,
+        reason.id,
+    )
+}
+
 #[test]
 fn tells_each_item_and_each_text(rt: HostRuntime) -> Result<(), Fail> {
     let alloc = rt.alloc();
@@ -132,14 +143,7 @@ fn tells_each_item_and_each_text(rt: HostRuntime) -> Result<(), Fail> {
         (99, 99, 99, 99, 99),
     ];
     for (told, want) in reasons.iter().zip(wanted.iter()) {
-        let place = (
-            told.text,
-            told.item,
-            told.numbers_start,
-            told.numbers_len,
-            told.id,
-        );
-        assert!(rt; place == *want);
+        assert!(rt; fields_of(told) == *want);
     }
     assert!(rt; zugrenja_free(alloc, &mut handle) == 0);
     handle.close();
