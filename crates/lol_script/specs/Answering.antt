@@ -111,10 +111,14 @@ IsMadeReady going vm (WithReasons old) new =
     (going ≡ true) × (new ≡ WithReasons (record old { around = length (data_in vm) }))
 IsMadeReady going vm Refused new = (going ≡ false) × (new ≡ Refused)
 
+-- the line of the last start tag of a run, by a list of what it is reported under
+abbrev pub line_for : FieldList → Bool → ScriptRun → List ℕ
+line_for list asked code = started_by (list_text list) asked code.shows_tries (tries_in (machine_of code.run))
+
 -- The line of a start tag was written, by what it was reported under.
 pub record IsLineWritten (asked : Bool) (old new : ScriptRun) : Type 0 where
   pub listed : was_refused old.fields ≡ false
-  pub written : new.text.items ≡ old.text.items ++ (started_by (list_text old.fields) asked old.shows_tries (tries_in (machine_of old.run)) ++ line_feed ∷ [])
+  pub written : new.text.items ≡ old.text.items ++ (line_for old.fields asked old ++ line_feed ∷ [])
 
 -- The line of a start tag was written, and those of its reasons.
 pub record AreReasonsWritten (asked : Bool) (explained : Explained) (old new : ScriptRun) : Type 0 where
@@ -122,7 +126,7 @@ pub record AreReasonsWritten (asked : Bool) (explained : Explained) (old new : S
   pub listed : was_refused old.fields ≡ false
   pub shown : was_refused new.fields ≡ false
   pub tells : Tells explained old.run old.fields new.fields told
-  pub written : new.text.items ≡ old.text.items ++ with_reasons explained (started_by (list_text new.fields) asked old.shows_tries (tries_in (machine_of old.run))) told
+  pub written : new.text.items ≡ old.text.items ++ with_reasons explained (line_for new.fields asked old) told
 
 abbrev pub IsPushed : Bool → Answering → ScriptRun → ScriptRun → Type 0
 IsPushed asked Plain old new = IsLineWritten asked old new
@@ -132,7 +136,8 @@ IsPushed asked Refused old new = Unit {0}
 -- The reasons for the last start tag were found, if they are shown: then the list of fields has their ids.
 abbrev pub AreTold : Answering → ScriptRun → ScriptRun → Type 0
 AreTold Plain old new = new.fields ≡ old.fields
-AreTold (WithReasons explained) old new = (was_refused old.fields ≡ false) × Tells explained old.run old.fields new.fields new.reasons.items
+AreTold (WithReasons explained) old new =
+    (was_refused old.fields ≡ false) × Tells explained old.run old.fields new.fields new.reasons.items
 AreTold Refused old new = Unit {0}
 
 -- the lines that are written for reasons, if they are shown

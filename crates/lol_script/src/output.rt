@@ -102,8 +102,7 @@ impl FieldList {
 
     #[inline(never)]
     fn add_other(&mut self, field: Field)
-        requires { self.old.filling ≢ Empty }
-        ensures { AddsField field self.old self.new }
+        ensures { self.old.filling ≢ Empty → AddsField field self.old self.new }
     {
         if let Filling::Listed = self.filling
             && self.others.push(field).is_err()
