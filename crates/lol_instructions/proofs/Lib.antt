@@ -1,5 +1,6 @@
 mod AttributeValues
 mod MarkLemmas
+mod KeyLemmas
 mod MatcherLemmas
 pub mod PredicateMarkLemmas
 mod WordPlaces

@@ -9,6 +9,8 @@ pub mod Marks
 pub mod Words
 pub mod AttributeLaws
 pub mod Compiled
+pub mod Keys
+pub mod CompiledKeys
 pub mod CompiledRowLaws
 pub mod DecisionLaws
 pub mod Running

@@ -8,6 +8,7 @@ mod compiled_expr;
 mod compiled_predicate;
 mod execution_branch;
 mod instruction;
+mod keys;
 mod marks;
 mod name_value;
 mod predicate_marks;
@@ -21,6 +22,7 @@ pub use compiled_expr::{
 };
 pub use compiled_predicate::{CompiledPredicate, CompiledTest};
 pub use execution_branch::{AddressRange, ExecutionBranch};
+pub use keys::KeyBytes;
 pub use instruction::{Instruction, TryExecResult};
 pub use name_value::NameValue;
 pub use selector_state::SelectorState;

@@ -406,6 +406,7 @@ module _ (f : Forest) (differ : SiblingsDiffer f) where
       let node = node_entry t a in
       record {
         means = λ e. (ap (λ (i : Instruction). i.value e) node.is, ap (λ (i : Instruction). i.holds e) node.is);
+        keys = ap (λ (i : Instruction). i.keys) node.is;
         ids = λ id. (
           λ h. (pairs_listed First f (t.path, id)).1 (elim (among_either entry_tops entry_below t a) [
             | inl top ↦ pair_of_top First f 0 (0 + width f) t id top h

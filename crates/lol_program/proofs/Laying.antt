@@ -9,6 +9,8 @@ use Rattle.lol_instructions.specs.Compounds.{Compound, has_test_by_type}
 use Rattle.lol_program.specs.Forest.{Node, Forest, none, more, link, size}
 use Rattle.lol_program.specs.Views.{forest_of}
 use Rattle.lol_instructions.specs.Compiled.{tests_in}
+use Rattle.lol_instructions.specs.Keys.{key_tests, keys_of_tests}
+use Rattle.lol_instructions.specs.CompiledKeys.{compiled_key_test}
 use Rattle.lol_program.specs.Compiling.{Serves, AreCompiledTests}
 use Rattle.lol_program.specs.Programs.{Instruction}
 use Rattle.lol_program.specs.Layouts.{width, range_of, instruction_of, any_by_type}
@@ -138,14 +140,16 @@ half_step all start end old n left place free more_free instructions next h s e 
 
 -- an instruction means its node's compound, and has its ids and ranges
 pub instruction_right : (by_type : Bool) (c : Compound) (ids : List ℕ) (children descendants : Forest) (free : ℕ) (i : code.Instruction)
-    → Serves by_type (has_test_by_type c) → AreCompiledTests (tests_in i.predicate) c → ascending i.associated_branch.matched_ids ≡ ids
+    → Serves by_type (has_test_by_type c) → AreCompiledTests (tests_in i.predicate) c → map compiled_key_test (tests_in i.predicate) ≡ key_tests c
+    → ascending i.associated_branch.matched_ids ≡ ids
     → i.associated_branch.jumps ≡ range_of children free
     → i.associated_branch.hereditary_jumps ≡ range_of descendants (free + size children)
     → instruction_shown by_type i ≡ instruction_of c ids children descendants free
-instruction_right by_type c ids children descendants free i serves compiled same_ids jumps hereditary_jumps =
+instruction_right by_type c ids children descendants free i serves compiled keys same_ids jumps hereditary_jumps =
     λ j. record {
       value = λ e. (compiled by_type serves e).0 j;
       holds = λ e. (compiled by_type serves e).1 j;
+      keys = keys_of_tests (keys j);
       ids = same_ids j;
       jumps = jumps j;
       hereditary_jumps = hereditary_jumps j;
@@ -218,17 +222,18 @@ range_some (n ∷ nodes) r at h s e =
 pub node_done : (n : Node) (place free start middle more_free : ℕ) (first second : List code.Instruction) (i : code.Instruction)
     → start ≡ free → middle ≡ start + size n.children → more_free ≡ middle + size n.descendants → place < free → place < length second
     → AreLaid first start (start + width n.children) n.children → AreLaid second middle (middle + width n.descendants) n.descendants → SameOutside middle more_free first second
-    → AreCompiledTests (tests_in i.predicate) n.compound → ascending i.associated_branch.matched_ids ≡ n.ids
+    → AreCompiledTests (tests_in i.predicate) n.compound → map compiled_key_test (tests_in i.predicate) ≡ key_tests n.compound
+    → ascending i.associated_branch.matched_ids ≡ n.ids
     → i.associated_branch.jumps ≡ range_of n.children start → i.associated_branch.hereditary_jumps ≡ range_of n.descendants middle
     → AreLaid (slice_set second place i) place free (link n none)
-node_done n place free start middle more_free first second i start_is middle_is more_is before within lc ld s compiled ids jumps hereditary_jumps =
+node_done n place free start middle more_free first second i start_is middle_is more_is before within lc ld s compiled keys ids jumps hereditary_jumps =
     let at : middle ≡ free + size n.children = middle_is ∙ ap (λ k. k + size n.children) start_is in
     let end : more_free ≡ free + size n.children + size n.descendants = more_is ∙ ap (λ k. k + size n.descendants) at in
     node_laid n place free first second i before within
     (subst (λ k. AreLaid first k (k + width n.children) n.children) start_is lc)
     (subst (λ k. AreLaid second k (k + width n.descendants) n.descendants) at ld)
     (subst (λ k. SameOutside (free + size n.children) k first second) end (subst (λ k. SameOutside k more_free first second) at s))
-    (λ by_type serves. instruction_right by_type n.compound n.ids n.children n.descendants free i serves compiled ids (jumps ∙ ap (range_of n.children) start_is) (hereditary_jumps ∙ ap (range_of n.descendants) at))
+    (λ by_type serves. instruction_right by_type n.compound n.ids n.children n.descendants free i serves compiled keys ids (jumps ∙ ap (range_of n.children) start_is) (hereditary_jumps ∙ ap (range_of n.descendants) at))
 
 pub same_from : (start start' end : ℕ) (old old' new : List code.Instruction) → start ≡ start' → old ≡ old' → SameOutside start end old new → SameOutside start' end old' new
 same_from start start' end old old' new start_is old_is h = subst (λ k. SameOutside k end old' new) start_is (subst (λ l. SameOutside start end l new) old_is h)

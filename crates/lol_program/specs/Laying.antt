@@ -1,5 +1,5 @@
 -- How far a layout has come.
-use Rattle.std.specs.Prelude.{ℕ, ◌+◌, ◌<◌, ◌≤◌, ◌≡◌, ◌≢◌, suc, Bool, List, length, slice_get, slice_set, Option, Some}
+use Rattle.std.specs.Prelude.{ℕ, ◌+◌, ◌<◌, ◌≤◌, ◌≡◌, ◌≢◌, suc, Bool, List, length, map, slice_get, slice_set, Option, Some}
 use Rattle.lol_program.specs.Forest.{Forest, none, more, size}
 use Rattle.lol_program.specs.Layouts.{width, instruction_of, any_by_type}
 use Rattle.lol_program.specs.Compiling.{Serves, AreCompiledTests}
@@ -9,6 +9,8 @@ use Rattle.std.specs.declared.ops.Range.{Range}
 use Rattle.lol_memory.specs.Ids.{Ids}
 use Rattle.lol_instructions.specs.Compounds.{Compound}
 use Rattle.lol_instructions.specs.Compiled.{tests_in}
+use Rattle.lol_instructions.specs.Keys.{key_tests}
+use Rattle.lol_instructions.specs.CompiledKeys.{compiled_key_test}
 use Rattle.lol_instructions.specs.declared.instruction.Instruction as code
 
 -- how many nodes there are under the roots
@@ -47,6 +49,7 @@ pub record IsPlaced (place : ℕ) (ids : Ids) (compound : Compound) (old new : L
   pub is : new ≡ slice_set old place instruction
   pub ids_are : instruction.associated_branch.matched_ids ≡ ids
   pub tests_are : AreCompiledTests (tests_in instruction.predicate) compound
+  pub keys_are : map compiled_key_test (tests_in instruction.predicate) ≡ key_tests compound
 
 -- the instruction at the place has these ranges, and all else is as before
 pub record HasJumps (place : ℕ) (jumps hereditary_jumps : Option (Range ℕ)) (old new : List code.Instruction) : Type 0 where

@@ -4,6 +4,7 @@ use Rattle.std.specs.declared.ops.Range.{Range}
 use Rattle.lol_css.specs.declared.selector.Combinator.{Combinator}
 use Rattle.lol_css.specs.declared.selector.Combinator.TheVariants.{Child, Descendant}
 use Rattle.lol_instructions.specs.Compounds.{Compound, all_hold, by_names, has_test_by_type}
+use Rattle.lol_instructions.specs.Keys.{both_keys}
 use Rattle.lol_program.specs.Paths.{Path, First, Then, Selectors}
 use Rattle.lol_program.specs.Forest.{Forest, none, more, size, nodes_in, pairs_in, SiblingsDiffer}
 use Rattle.lol_program.specs.Programs.{Instruction, Program, IsProgramOf, IsAt, IsWithin, range_by}
@@ -21,7 +22,7 @@ range_of (more c ids children descendants rest) at = Some (record { start = at; 
 -- a node's instruction, where what is under it begins at a free place
 abbrev pub instruction_of : Compound → List ℕ → Forest → Forest → ℕ → Instruction
 instruction_of c ids children descendants free =
-    record { value = by_names c; holds = all_hold c; ids = ids; jumps = range_of children free; hereditary_jumps = range_of descendants (free + size children) }
+    record { value = by_names c; holds = all_hold c; keys = both_keys c; ids = ids; jumps = range_of children free; hereditary_jumps = range_of descendants (free + size children) }
 
 pub record Entry : Type 0 where
   pub place : ℕ

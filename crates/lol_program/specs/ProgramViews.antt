@@ -4,6 +4,7 @@ use Rattle.std.specs.Global.{Global}
 use Rattle.lol_memory.specs.Ids.{ascending}
 use Rattle.lol_instructions.specs.Attributes.{tag_attributes}
 use Rattle.lol_instructions.specs.Compiled.{sight_of, predicate_value, predicate_holds}
+use Rattle.lol_instructions.specs.CompiledKeys.{keys_in}
 use Rattle.lol_program.specs.Programs.{Instruction, Program}
 use Rattle.lol_program.specs.declared.compiler.Compiler.{Compiler}
 use Rattle.lol_instructions.specs.declared.instruction.Instruction as code
@@ -15,6 +16,7 @@ instruction_shown by_type i =
     record {
       value = λ e. predicate_value i.predicate (sight_of by_type e);
       holds = λ e. predicate_holds i.predicate (sight_of by_type e) (tag_attributes e.tag);
+      keys = keys_in i.predicate;
       ids = ascending i.associated_branch.matched_ids;
       jumps = i.associated_branch.jumps;
       hereditary_jumps = i.associated_branch.hereditary_jumps;

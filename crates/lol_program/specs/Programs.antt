@@ -6,6 +6,7 @@ use Rattle.lol_css.specs.declared.selector.Combinator.{Combinator}
 use Rattle.lol_css.specs.declared.selector.Combinator.TheVariants.{Child, Descendant}
 use Rattle.lol_instructions.specs.Tests.{Element}
 use Rattle.lol_instructions.specs.Compounds.{Compound, all_hold, by_names, has_test_by_type}
+use Rattle.lol_instructions.specs.Keys.{Keys, both_keys}
 use Rattle.lol_program.specs.Paths.{Path, First, Then, Selectors, last_compound}
 use Rattle.lol_instructions.specs.declared.name_value.NameValue.{NameValue}
 
@@ -22,11 +23,12 @@ places r = range_with_len r.start (r.end - r.start)
 abbrev pub all_places : List (Range ℕ) → List ℕ
 all_places ranges = flat_map places ranges
 
--- An instruction by its meaning: its value by names at an element, whether it holds there with the attributes, its ids, and where the
--- nodes under it stand, by a child step and by a descendant step.
+-- An instruction by its meaning: its value by names at an element, whether it holds there with the attributes, its keys, its ids, and where
+-- the nodes under it stand, by a child step and by a descendant step.
 pub record Instruction : Type 0 where
   pub value : Element → NameValue
   pub holds : Element → Bool
+  pub keys : Keys
   pub ids : List ℕ
   pub jumps : Option (Range ℕ)
   pub hereditary_jumps : Option (Range ℕ)
@@ -75,6 +77,7 @@ Means i c = (e : Element) → (i.value e ≡ by_names c e) × (i.holds e ≡ all
 
 pub record IsInstruction (s : Selectors) (paths : List Path) (path : Path) (i : Instruction) : Type 0 where
   pub means : Means i (last_compound path)
+  pub keys : i.keys ≡ both_keys (last_compound path)
   pub ids : (id : ℕ) → Contains i.ids id ↔ Contains s.pairs (path, id)
   pub jumps : IsRangeOf paths i.jumps (Some (path, Child))
   pub hereditary_jumps : IsRangeOf paths i.hereditary_jumps (Some (path, Descendant))

@@ -4,6 +4,8 @@ ghost use Rattle.std.specs.Prelude.{◌≡◌, ◌||◌, IfOk, OnOk, IsTrue, map
 ghost use Rattle.lol_instructions.specs.Compounds.{is_by_type, test_has_type, has_test_by_type, some_has_type, all_of, any_of};
 ghost use Rattle.lol_instructions.specs.Tests.{Compares};
 ghost use Rattle.lol_program.specs.Predicates.{name_test, attribute_test, test_shown, tests_of};
+ghost use Rattle.lol_instructions.specs.Keys.{name_key_test, attribute_key_test, key_test, key_tests};
+ghost use Rattle.lol_instructions.specs.CompiledKeys.{name_expr_key_test, attribute_expr_key_test, compiled_key_test};
 ghost use Rattle.lol_program.specs.Compiling.{IsCompiledName, IsCompiledAttribute, IsCompiledTest, AreCompiledTests, AreCompiledPredicates};
 
 use crate::condition::{AttributeComparisonExpr, OnAttributesExpr, OnTagNameExpr};
@@ -31,6 +33,7 @@ pub trait Compilable {
         enable_nth_of_type: &mut bool,
     ) -> Result<CompiledTest, AllocError>
         ensures test { IfOk result (λ compiled. IsCompiledTest compiled (test_of self)) }
+        ensures keys { IfOk result (λ compiled. compiled_key_test compiled ≡ key_test (test_of self)) }
         ensures flag { OnOk result (enable_nth_of_type.new ≡ (enable_nth_of_type.old || test_has_type (test_of self))) }
         ensures stays { IsTrue enable_nth_of_type.old → IsTrue enable_nth_of_type.new };
 }
@@ -57,6 +60,7 @@ fn compile_test(
     enable_nth_of_type: &mut bool,
 ) -> Result<CompiledTest, AllocError>
     ensures test { IfOk result (λ compiled. IsCompiledTest compiled (test_shown test)) }
+    ensures keys { IfOk result (λ compiled. compiled_key_test compiled ≡ key_test (test_shown test)) }
     ensures flag { OnOk result (enable_nth_of_type.new ≡ (enable_nth_of_type.old || test_has_type (test_shown test))) }
     ensures stays { IsTrue enable_nth_of_type.old → IsTrue enable_nth_of_type.new }
 {
@@ -90,6 +94,8 @@ pub(crate) fn compile_tests(
     enable_nth_of_type: &mut bool,
 ) -> Result<Vec<CompiledTest>, AllocError>
     ensures tests { IfOk result (λ compiled. AreCompiledTests compiled.items (all_of (map test_shown tests.items))) }
+    ensures keys { IfOk result (λ compiled.
+        map compiled_key_test compiled.items ≡ key_tests (all_of (map test_shown tests.items))) }
     ensures flag { OnOk result (enable_nth_of_type.new
         ≡ (enable_nth_of_type.old || has_test_by_type (all_of (map test_shown tests.items)))) }
     ensures stays { IsTrue enable_nth_of_type.old → IsTrue enable_nth_of_type.new }
@@ -124,6 +130,7 @@ fn compile_predicates(
 
 fn compile_name(expr: OnTagNameExpr, enable_nth_of_type: &mut bool) -> LocalNameExprTest
     ensures test { IsCompiledName result (name_test expr) }
+    ensures keys { name_expr_key_test result ≡ name_key_test (name_test expr) }
     ensures flag { enable_nth_of_type.new ≡ (enable_nth_of_type.old || is_by_type (name_test expr)) }
 {
     match expr {
@@ -141,7 +148,8 @@ fn compile_name(expr: OnTagNameExpr, enable_nth_of_type: &mut bool) -> LocalName
 }
 
 fn compile_attribute(expr: OnAttributesExpr) -> AttributeExprTest
-    ensures { IsCompiledAttribute result (attribute_test expr) }
+    ensures test { IsCompiledAttribute result (attribute_test expr) }
+    ensures keys { attribute_expr_key_test result ≡ attribute_key_test (attribute_test expr) }
 {
     match expr {
         OnAttributesExpr::Id(id) => AttributeExprTest::Id(id.into_bytes()),
@@ -152,7 +160,9 @@ fn compile_attribute(expr: OnAttributesExpr) -> AttributeExprTest
 }
 
 fn compile_comparison(expr: AttributeComparisonExpr) -> AttributeExprTest
-    ensures { IsCompiledAttribute result
+    ensures test { IsCompiledAttribute result
+        (Compares (string_bytes expr.name) expr.operator (string_bytes expr.value) expr.case_sensitivity) }
+    ensures keys { attribute_expr_key_test result ≡ attribute_key_test
         (Compares (string_bytes expr.name) expr.operator (string_bytes expr.value) expr.case_sensitivity) }
 {
     let AttributeComparisonExpr {

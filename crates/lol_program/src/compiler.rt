@@ -1,6 +1,6 @@
 //! From a tree of selectors to their program.
 
-ghost use Rattle.std.specs.Prelude.{◌≡◌, ◌+◌, ◌<◌, ◌≤◌, ◌||◌, IfOk, OnOk, length};
+ghost use Rattle.std.specs.Prelude.{◌≡◌, ◌+◌, ◌<◌, ◌≤◌, ◌||◌, IfOk, OnOk, length, map};
 ghost use Rattle.lol_program.specs.Asts.{trees_of, nodes_of};
 ghost use Rattle.lol_program.specs.Views.{node_of, forest_of};
 ghost use Rattle.lol_program.specs.Forest.{none, link, size};
@@ -8,6 +8,8 @@ ghost use Rattle.lol_instructions.specs.Compounds.{has_test_by_type};
 ghost use Rattle.lol_program.specs.Predicates.{tests_of};
 ghost use Rattle.lol_program.specs.Compiling.{AreCompiledTests};
 ghost use Rattle.lol_instructions.specs.Compiled.{tests_in};
+ghost use Rattle.lol_instructions.specs.CompiledKeys.{compiled_key_test};
+ghost use Rattle.lol_instructions.specs.Keys.{key_tests};
 ghost use Rattle.lol_program.specs.Programs.{IsProgramOf};
 ghost use Rattle.lol_program.specs.Layouts.{width, range_of, any_by_type, selectors_in};
 ghost use Rattle.lol_program.specs.ProgramViews.{program_shown, allocator_of};
@@ -202,6 +204,8 @@ impl Layout {
 
     fn compile_predicate(&mut self, predicate: Predicate) -> Result<CompiledPredicate, AllocError>
         ensures tests { IfOk result (λ compiled. AreCompiledTests (tests_in compiled) (tests_of predicate)) }
+        ensures keys { IfOk result (λ compiled.
+            map compiled_key_test (tests_in compiled) ≡ key_tests (tests_of predicate)) }
         ensures by_type { OnOk result (self.new.enable_nth_of_type
             ≡ (self.old.enable_nth_of_type || has_test_by_type (tests_of predicate))) }
         ensures free { self.new.free_space_start ≡ self.old.free_space_start }

@@ -1,6 +1,8 @@
-use Rattle.std.proofs.Common.{◌≡◌, ◌+◌, ◌≤◌, ◌||◌, length, map, IsTrue, vec_len, vec_capacity}
+use Rattle.std.proofs.Common.{◌≡◌, ◌+◌, ◌≤◌, ◌||◌, ◌++◌, length, map, IsTrue, vec_len, vec_capacity}
 use Rattle.std.specs.Vec.Iter.{into_iter_items}
 use Rattle.lol_instructions.specs.Compounds.{has_test_by_type, some_has_type, all_of, any_of}
+use Rattle.lol_instructions.specs.Keys.{key_tests}
+use Rattle.lol_instructions.specs.CompiledKeys.{compiled_key_test}
 use Rattle.lol_program.specs.Predicates.{test_shown, tests_of}
 use Rattle.lol_program.specs.Compiling.{IsCompiledTest}
 use Rattle.lol_program.proofs.CompiledLists.{Completes, IsCompiledPredicate}
@@ -23,6 +25,7 @@ invariant-compile_tests-loop-test l = record {
   finite : (goal.iterator-compile_tests-loop-test).is_finite l.test-iterator;
   done : Completes IsCompiledTest l.compiled.items (map test_shown (into_iter_items l.test-iterator)) (map test_shown l.fn.tests.items);
   flag : (l.enable_nth_of_type || has_test_by_type (all_of (map test_shown (into_iter_items l.test-iterator)))) ≡ (l.fn.enable_nth_of_type || has_test_by_type (all_of (map test_shown l.fn.tests.items)));
+  keys : (map compiled_key_test l.compiled.items ++ key_tests (all_of (map test_shown (into_iter_items l.test-iterator)))) ≡ key_tests (all_of (map test_shown l.fn.tests.items));
   stays : IsTrue l.fn.enable_nth_of_type → IsTrue l.enable_nth_of_type;
   room : vec_len l.compiled + length (into_iter_items l.test-iterator) ≤ vec_capacity l.compiled;
 }

@@ -1,4 +1,4 @@
-use Rattle.std.proofs.Common.{rules, arith, Bool, true, false, ◌||◌, drop, get_or, [], ◌∷◌, ◌≡◌, ◌+◌, ◌<◌, length, List, refl, sym, ap, subst, ◌∙◌}
+use Rattle.std.proofs.Common.{rules, arith, Bool, true, false, ◌||◌, drop, get_or, [], ◌∷◌, ◌≡◌, ◌+◌, ◌<◌, length, List, map, refl, sym, ap, subst, ◌∙◌}
 use Rattle.std.specs.Prelude.{slice_set}
 use Rattle.std.proofs.lemmas.List.{length-set, drop_more, drop-set-lt, drop_all}
 use Rattle.std.proofs.lemmas.Grind.{drop_more_same}
@@ -6,6 +6,7 @@ use Rattle.lol_memory.specs.Ids.{ascending}
 use Rattle.lol_instructions.specs.Compounds.{has_test_by_type}
 use Rattle.lol_program.specs.Predicates.{tests_of}
 use Rattle.lol_instructions.specs.Compiled.{tests_in}
+use Rattle.lol_instructions.specs.CompiledKeys.{compiled_key_test}
 use Rattle.lol_program.specs.Compiling.{AreCompiledTests}
 use Rattle.lol_instructions.specs.declared.compiled_predicate.CompiledPredicate.{CompiledPredicate}
 use Rattle.lol_program.specs.Views.{node_of, forest_of}
@@ -65,6 +66,7 @@ compile_node-returns-clause-laid t c =
     p.free (subst (λ (f : Forest). middle ≡ start + size f) children a.free) (subst (λ (f : Forest). more ≡ middle + size f) descendants b.free) c.requires.place within
     (subst (λ (f : Forest). AreLaid first start (start + width f) f) children a.laid) (subst (λ (f : Forest). AreLaid second middle (middle + width f) f) descendants b.laid) b.same
     (subst (λ (q : CompiledPredicate). AreCompiledTests (tests_in q) (tests_of x.predicate)) (sym kept.0) p.placed.tests_are)
+    (ap (λ (q : CompiledPredicate). map compiled_key_test (tests_in q)) kept.0 ∙ p.placed.keys_are)
     (ap ascending (kept.1 ∙ p.placed.ids_are))
     (done.jumps_are ∙ subst (λ (f : Forest). c.in_ok-jumps.jumps ≡ range_of f start) children a.range)
     (done.hereditary_are ∙ subst (λ (f : Forest). c.in_ok-hereditary_jumps.hereditary_jumps ≡ range_of f middle) descendants b.range)))
