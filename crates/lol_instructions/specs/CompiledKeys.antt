@@ -1,5 +1,5 @@
 -- The keys of compiled tests.
-use Rattle.std.specs.Prelude.{ℕ, Bool, true, false, not, List, map, Option, Some, None, codes}
+use Rattle.std.specs.Prelude.{Bool, true, false, not, map, Option, Some, None, codes}
 use Rattle.std.specs.Str.{bytes_eq}
 use Rattle.lol_base.specs.declared.attribute.AttrSelectorOperator.TheVariants.{Includes}
 use Rattle.lol_instructions.specs.Tests.{has_value, operator_holds}

@@ -1,7 +1,7 @@
 //! Tests of attributes over borrowed input.
 
-ghost use Rattle.std.specs.Prelude.{◌≡◌, ◌==◌, true, [], ◌∷◌, All, map, length, unwrap_or, codes};
-ghost use Rattle.std.specs.Option.{option_copied, option_or};
+ghost use Rattle.std.specs.Prelude.{◌≡◌, ◌==◌, true, [], ◌∷◌, All, map, length, unwrap_or, codes, slice_get};
+ghost use Rattle.std.specs.Option.{option_copied, option_map, option_or};
 ghost use Rattle.std.specs.Char.{to_ascii_lowercase};
 ghost use Rattle.std.specs.Str.{bytes_eq};
 ghost use Rattle.std.specs.Bool.{OnTrue};
@@ -83,6 +83,28 @@ impl<'i> AttributeMatcher<'i> {
             namespace: ns,
             marks: marks.with_id(id).with_words(class),
         }
+    }
+
+    /// The value of `id`, if it is there.
+    pub fn id(&self) -> Option<&'i [u8]>
+        ensures { option_copied result ≡ value_in (codes "id") self.now }
+    {
+        self.id
+    }
+
+    /// The value of `class`, if it is there.
+    pub fn class(&self) -> Option<&'i [u8]>
+        ensures { option_copied result ≡ value_in (codes "class") self.now }
+    {
+        self.class
+    }
+
+    /// The name of the attribute at a place, from 0, as it is written; none where there are not so many.
+    pub fn name_at(&self, place: usize) -> Option<&'i [u8]>
+        ensures { option_copied result ≡ option_map (λ a. a.name) (slice_get self.now.attributes place) }
+    {
+        let outline = self.attributes.get(place)?;
+        Some(&self.input[outline.name.start..outline.name.end])
     }
 
     /// Whether the attribute is there.

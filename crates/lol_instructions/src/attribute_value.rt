@@ -4,7 +4,8 @@ ghost use Rattle.std.specs.Prelude.{◌≡◌, ◌↔◌, ◌<◌, ◌≤◌, �
 ghost use Rattle.std.specs.List.{list_any};
 ghost use Rattle.std.specs.Option.{option_copied};
 ghost use Rattle.lol_base.specs.declared.attribute.AttrSelectorOperator.TheVariants.{Equal, Includes, DashMatch, Prefix, Substring, Suffix};
-ghost use Rattle.lol_instructions.specs.Tests.{is_white, stands_in};
+ghost use Rattle.lol_instructions.specs.Tests.{is_white, stands_in, words};
+ghost use Rattle.lol_instructions.specs.Keys.{words_of};
 ghost use Rattle.lol_instructions.specs.Attributes.{value_holds};
 ghost use Rattle.memchr.specs.Find.{IsFirstByte};
 ghost use Rattle.lol_instructions.specs.Words.{is_letter_of, NoLetter, IsLetterEnd, IsWordBefore};
@@ -22,6 +23,18 @@ pub(crate) fn is_white_space(byte: u8) -> bool
     ensures { result ≡ is_white byte }
 {
     byte <= b' ' && matches!(byte, b' ' | b'\n' | b'\r' | b'\t' | b'\x0c')
+}
+
+/// The first word of a value, up to its first white space byte, and what is after that byte, if there is one. It takes no memory.
+pub fn first_word(value: &[u8]) -> (&[u8], Option<&[u8]>)
+    ensures { words value.now ≡ result.0.now ∷ words_of (option_copied result.1) }
+{
+    for (at, byte) in value.iter().enumerate() {
+        if is_white_space(*byte) {
+            return (&value[..at], Some(&value[at + 1..]));
+        }
+    }
+    (value, None)
 }
 
 /// Whether a value is the operand.

@@ -16,14 +16,15 @@ mod selector_state;
 mod tries;
 
 pub use attribute_matcher::{AttrExprOperands, AttributeMatcher};
+pub use attribute_value::first_word;
 pub use child_counter::ChildCounter;
 pub use compiled_expr::{
     AttributeExprTest, CompiledAttributeExpr, CompiledLocalNameExpr, LocalNameExprTest,
 };
 pub use compiled_predicate::{CompiledPredicate, CompiledTest};
 pub use execution_branch::{AddressRange, ExecutionBranch};
-pub use keys::KeyBytes;
 pub use instruction::{Instruction, TryExecResult};
+pub use keys::KeyBytes;
 pub use name_value::NameValue;
 pub use selector_state::SelectorState;
 pub use tries::Tries;

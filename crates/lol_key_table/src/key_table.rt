@@ -9,12 +9,14 @@ use std::ops::Range;
 
 /// An address, and its hash.
 #[derive(Debug, Clone, Copy, PartialEq, Eq)]
-pub(crate) struct Entry {
-    pub hash: u64,
-    pub address: usize,
+pub struct Entry {
+    /// The hash of the key at the address.
+    pub hash: u32,
+    /// The place of the hash in the list that the table was made of.
+    pub address: u32,
 }
 
-/// Which addresses have a hash: the addresses are the places of a list of hashes, from 0. It takes 16 bytes for each.
+/// Which addresses have a hash: the addresses are the places of a list of hashes, from 0. It takes 8 bytes for each.
 #[derive(Debug, Drop)]
 pub struct KeyTable {
     entries: Vec<Entry>,
@@ -24,15 +26,18 @@ impl KeyTable {
     /// The table of a list of hashes. For `n` of them it takes `n log n` steps.
     ///
     /// # Errors
-    /// Out of memory.
-    pub fn of(alloc: Global, hashes: &[u64]) -> Result<Self, AllocError>
+    /// Out of memory, also where there are more hashes than a `u32` can number.
+    pub fn of(alloc: Global, hashes: &[u32]) -> Result<Self, AllocError>
         ensures { IfOk result (λ table. IsTableOf hashes.now table) }
     {
+        if hashes.len() > u32::MAX as usize {
+            return Err(AllocError);
+        }
         let mut entries = Vec::with_capacity(alloc, hashes.len())?;
         for (address, hash) in hashes.iter().enumerate() {
             entries.push_reserved(Entry {
                 hash: *hash,
-                address,
+                address: address as u32,
             });
         }
         entries.sort_by_key(|entry| entry.hash)?;
@@ -47,7 +52,7 @@ impl KeyTable {
     /// Out of memory.
     pub fn find(
         &self,
-        hashes: &[u64],
+        hashes: &[u32],
         range: Range<usize>,
         found: &mut Vec<usize>,
     ) -> Result<(), AllocError>
@@ -64,16 +69,17 @@ impl KeyTable {
         Ok(())
     }
 
-    /// The entries of the addresses from `start` up to `end` that have a hash.
-    fn entries_within(&self, hash: u64, start: usize, end: usize) -> &[Entry]
+    /// The entries of the addresses from `start` up to `end` that have a hash, in the order of their addresses. It takes a logarithm of the
+    /// table's size, and no memory.
+    pub fn entries_within(&self, hash: u32, start: usize, end: usize) -> &[Entry]
         ensures { (all : List ℕ) → IsTableOf all self.now
             → (entry : Entry) → Contains result.now entry ↔ IsEntryWithin all hash start end entry }
     {
         let run = self.entries.as_slice();
         let run = &run[..run.partition_point(|entry| entry.hash <= hash)];
         let run = &run[run.partition_point(|entry| entry.hash < hash)..];
-        let run = &run[..run.partition_point(|entry| entry.address < end)];
-        &run[run.partition_point(|entry| entry.address < start)..]
+        let run = &run[..run.partition_point(|entry| (entry.address as usize) < end)];
+        &run[run.partition_point(|entry| (entry.address as usize) < start)..]
     }
 }
 
@@ -81,7 +87,7 @@ fn add_addresses(entries: &[Entry], found: &mut Vec<usize>) -> Result<(), AllocE
     ensures { OnOk result (found.new.items ≡ found.old.items ++ map (λ e. e.address) entries.now) }
 {
     for entry in entries {
-        found.push(entry.address)?;
+        found.push(entry.address as usize)?;
     }
     Ok(())
 }

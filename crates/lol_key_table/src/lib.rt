@@ -3,4 +3,4 @@
 
 mod key_table;
 
-pub use key_table::KeyTable;
+pub use key_table::{Entry, KeyTable};

@@ -1,17 +1,17 @@
 -- The keys of a compound are right.
-use Rattle.std.proofs.Common.{◌≡◌, ℕ, Bool, true, false, cond, not, ◌||◌, List, [], ◌∷◌, ◌++◌, map, Option, Some, None, ◌⊎◌, inl, inr, refl, sym, ap, ◌∙◌, subst}
+use Rattle.std.proofs.Common.{◌≡◌, ℕ, Bool, true, false, cond, not, ◌||◌, ◌&&◌, filter, List, [], ◌∷◌, ◌++◌, map, Option, Some, None, ◌⊎◌, inl, inr, refl, sym, ap, ◌∙◌, subst}
 use Rattle.lol_base.specs.Names.{same_name, lowercased}
 use Rattle.lol_base.specs.BoolLaws.{and_parts, not_true}
-use Rattle.lol_instructions.specs.Tests.{Element, AnyName, NoName, HasName, IsNthChild, IsNthOfType, HasId, HasClass, HasAttribute, Compares, attribute_holds, attribute_value, find_attribute, words, has_value, compares, compared, ignores_case}
-use Rattle.lol_instructions.specs.Compounds.{Test, OfName, OfAttributes, NoneOf, SomeOf, Compound, NoTests, AndTest, Compounds, NoCompounds, OrCompound, holds, all_hold, value_of_bool, both, opposite, either, test_by_names, by_names, some_by_names}
+use Rattle.lol_instructions.specs.Tests.{Element, AnyName, NoName, HasName, IsNthChild, IsNthOfType, AttributeTest, HasId, HasClass, HasAttribute, Compares, attribute_holds, attribute_value, find_attribute, words, has_value, needs_operand, is_empty_text, compares, compared, ignores_case}
+use Rattle.lol_instructions.specs.Compounds.{Test, OfName, OfAttributes, NoneOf, SomeOf, Compound, NoTests, AndTest, holds, all_hold, value_of_bool, both, test_by_names, by_names}
 use Rattle.lol_instructions.specs.declared.name_value.NameValue.{NameValue}
 use Rattle.lol_instructions.specs.declared.name_value.NameValue.TheVariants.{True, False, Open}
-use Rattle.lol_keys.specs.Keys.{AttributeKey, ById, ByClass, ByAttribute, first_of, first_read, read_name, read_id, read_class, read_attribute, name_key, attribute_key, test_opens, compound_opens, rest_opens, some_open, others_open, without_any, without_name, opens_where_named, unless_named, one_key, both_keys, is_another_name, test_of_key, lacks, AreKeysOf, no_keys, same_key, words_of}
+use Rattle.lol_instructions.specs.Keys.{AttributeKey, ById, ByClass, ByAttribute, KeyTest, HasKey, IsOfAttributes, attribute_key_test, key_test, key_tests, first_of, first_read, read_name, read_id, read_class, read_attribute, name_key, attribute_key, is_of_attributes, is_of_any, are_of_attributes, without_name, opens_where_named, unless_named, one_key, both_keys, is_another_name, test_of_key, lacks, AreKeysOf, no_keys, same_key, words_of}
 use Rattle.lol_keys.specs.KeyLaws.{KeysAreOfTags}
 use Rattle.std.specs.Prelude.{codes, option_to_list, unwrap_or}
 use Rattle.std.specs.Option.{option_map}
 use Rattle.std.specs.Str.{bytes_eq}
-use Rattle.std.specs.List.{list_any}
+use Rattle.std.specs.List.{list_any, list_all}
 use Rattle.lol_base.specs.BoolLaws.{or-false}
 use Rattle.lol_base.specs.StartTags.{Attribute}
 
@@ -24,12 +24,12 @@ some_injective x y h = ap (of_some x) h
 
 -- 1. A key that was read comes from a test that must hold
 
-module _ {K : Type 0} (read : Test → Option K) (P : K → Type 0) (e : Element) (each : (test : Test) (key : K) → read test ≡ Some key → holds test e ≡ true → P key) where
-  read_right : (c : Compound) (key : K) → first_read read c ≡ Some key → all_hold c e ≡ true → P key
+module _ {K : Type 0} (read : KeyTest → Option K) (P : K → Type 0) (e : Element) (each : (test : Test) (key : K) → read (key_test test) ≡ Some key → holds test e ≡ true → P key) where
+  read_right : (c : Compound) (key : K) → first_read read (key_tests c) ≡ Some key → all_hold c e ≡ true → P key
   read_right NoTests key h all = cc
-  read_right (AndTest test tests) key h all = by_first (read test) refl h (λ found. read_right tests key found (and_parts (holds test e) (all_hold tests e) all).1)
+  read_right (AndTest test tests) key h all = by_first (read (key_test test)) refl h (λ found. read_right tests key found (and_parts (holds test e) (all_hold tests e) all).1)
     where
-      by_first : (o : Option K) → read test ≡ o → first_of o (first_read read tests) ≡ Some key → (first_read read tests ≡ Some key → P key) → P key
+      by_first : (o : Option K) → read (key_test test) ≡ o → first_of o (first_read read (key_tests tests)) ≡ Some key → (first_read read (key_tests tests) ≡ Some key → P key) → P key
       by_first None is found later = later found
       by_first (Some k) is found later = each test key (is ∙ found) (and_parts (holds test e) (all_hold tests e) all).0
 
@@ -38,50 +38,74 @@ there_if_compared : (o : Option (List ℕ)) (test : List ℕ → Bool) → has_v
 there_if_compared None test h = h
 there_if_compared (Some value) test h = refl
 
-id_right : (e : Element) (test : Test) (key : AttributeKey) → read_id test ≡ Some key → holds test e ≡ true → attribute_holds (test_of_key key) e ≡ true
-id_right e (OfName test) key h = cc
+id_right : (e : Element) (test : Test) (key : AttributeKey) → read_id (key_test test) ≡ Some key → holds test e ≡ true → attribute_holds (test_of_key key) e ≡ true
+id_right e (OfName AnyName) key h = cc
+id_right e (OfName NoName) key h = cc
+id_right e (OfName (HasName name)) key h = cc
+id_right e (OfName (IsNthChild nth)) key h = cc
+id_right e (OfName (IsNthOfType nth)) key h = cc
 id_right e (OfAttributes (HasId id)) key h = λ all. subst (λ k. attribute_holds (test_of_key k) e ≡ true) (some_injective (ById id) key h) all
 id_right e (OfAttributes (HasClass name)) key h = cc
 id_right e (OfAttributes (HasAttribute name)) key h = cc
-id_right e (OfAttributes (Compares name operator operand case)) key h = cc
+id_right e (OfAttributes (Compares name operator operand case)) key h = by_operand (needs_operand operator && is_empty_text operand) h
+  where
+    by_operand : (b : Bool) → read_id (cond b IsOfAttributes (HasKey (ByAttribute (lowercased name)))) ≡ Some key → holds (OfAttributes (Compares name operator operand case)) e ≡ true → attribute_holds (test_of_key key) e ≡ true
+    by_operand true found all = cc
+    by_operand false found all = cc
 id_right e (NoneOf _) key h = cc
 id_right e (SomeOf _) key h = cc
 
-class_right : (e : Element) (test : Test) (key : AttributeKey) → read_class test ≡ Some key → holds test e ≡ true → attribute_holds (test_of_key key) e ≡ true
-class_right e (OfName test) key h = cc
+class_right : (e : Element) (test : Test) (key : AttributeKey) → read_class (key_test test) ≡ Some key → holds test e ≡ true → attribute_holds (test_of_key key) e ≡ true
+class_right e (OfName AnyName) key h = cc
+class_right e (OfName NoName) key h = cc
+class_right e (OfName (HasName name)) key h = cc
+class_right e (OfName (IsNthChild nth)) key h = cc
+class_right e (OfName (IsNthOfType nth)) key h = cc
 class_right e (OfAttributes (HasId id)) key h = cc
 class_right e (OfAttributes (HasClass name)) key h = λ all. subst (λ k. attribute_holds (test_of_key k) e ≡ true) (some_injective (ByClass name) key h) all
 class_right e (OfAttributes (HasAttribute name)) key h = cc
-class_right e (OfAttributes (Compares name operator operand case)) key h = cc
+class_right e (OfAttributes (Compares name operator operand case)) key h = by_operand (needs_operand operator && is_empty_text operand) h
+  where
+    by_operand : (b : Bool) → read_class (cond b IsOfAttributes (HasKey (ByAttribute (lowercased name)))) ≡ Some key → holds (OfAttributes (Compares name operator operand case)) e ≡ true → attribute_holds (test_of_key key) e ≡ true
+    by_operand true found all = cc
+    by_operand false found all = cc
 class_right e (NoneOf _) key h = cc
 class_right e (SomeOf _) key h = cc
 
-attribute_right : (e : Element) (test : Test) (key : AttributeKey) → read_attribute test ≡ Some key → holds test e ≡ true → attribute_holds (test_of_key key) e ≡ true
-attribute_right e (OfName test) key h = cc
+attribute_right : (e : Element) (test : Test) (key : AttributeKey) → read_attribute (key_test test) ≡ Some key → holds test e ≡ true → attribute_holds (test_of_key key) e ≡ true
+attribute_right e (OfName AnyName) key h = cc
+attribute_right e (OfName NoName) key h = cc
+attribute_right e (OfName (HasName name)) key h = cc
+attribute_right e (OfName (IsNthChild nth)) key h = cc
+attribute_right e (OfName (IsNthOfType nth)) key h = cc
 attribute_right e (OfAttributes (HasId id)) key h = cc
 attribute_right e (OfAttributes (HasClass name)) key h = cc
 attribute_right e (OfAttributes (HasAttribute name)) key h = λ all. subst (λ k. attribute_holds (test_of_key k) e ≡ true) (some_injective (ByAttribute name) key h) all
-attribute_right e (OfAttributes (Compares name operator operand case)) key h = λ all.
-    subst (λ k. attribute_holds (test_of_key k) e ≡ true) (some_injective (ByAttribute (lowercased name)) key h)
-    (there_if_compared (attribute_value (lowercased name) e.tag) (λ value. compares operator (compared (ignores_case case e.tag.namespace) value) (compared (ignores_case case e.tag.namespace) operand)) all)
+attribute_right e (OfAttributes (Compares name operator operand case)) key h = by_operand (needs_operand operator && is_empty_text operand) h
+  where
+    by_operand : (b : Bool) → read_attribute (cond b IsOfAttributes (HasKey (ByAttribute (lowercased name)))) ≡ Some key → holds (OfAttributes (Compares name operator operand case)) e ≡ true → attribute_holds (test_of_key key) e ≡ true
+    by_operand true found all = cc
+    by_operand false found all =
+        subst (λ k. attribute_holds (test_of_key k) e ≡ true) (some_injective (ByAttribute (lowercased name)) key found)
+        (there_if_compared (attribute_value (lowercased name) e.tag) (λ value. compares operator (compared (ignores_case case e.tag.namespace) value) (compared (ignores_case case e.tag.namespace) operand)) all)
 attribute_right e (NoneOf _) key h = cc
 attribute_right e (SomeOf _) key h = cc
 
-key_right : (e : Element) (c : Compound) (key : AttributeKey) → attribute_key c ≡ Some key → all_hold c e ≡ true → attribute_holds (test_of_key key) e ≡ true
-key_right e c key h all = by_id (first_read read_id c) refl h
+key_right : (e : Element) (c : Compound) (key : AttributeKey) → attribute_key (key_tests c) ≡ Some key → all_hold c e ≡ true → attribute_holds (test_of_key key) e ≡ true
+key_right e c key h all = by_id (first_read read_id (key_tests c)) refl h
   where
-    by_class : (o : Option AttributeKey) → first_read read_class c ≡ o → first_of o (first_read read_attribute c) ≡ Some key → attribute_holds (test_of_key key) e ≡ true
+    by_class : (o : Option AttributeKey) → first_read read_class (key_tests c) ≡ o → first_of o (first_read read_attribute (key_tests c)) ≡ Some key → attribute_holds (test_of_key key) e ≡ true
     by_class None is found = read_right read_attribute (λ k. attribute_holds (test_of_key k) e ≡ true) e (attribute_right e) c key found all
     by_class (Some k) is found = read_right read_class (λ k. attribute_holds (test_of_key k) e ≡ true) e (class_right e) c key (is ∙ found) all
 
-    by_id : (o : Option AttributeKey) → first_read read_id c ≡ o → first_of o (first_of (first_read read_class c) (first_read read_attribute c)) ≡ Some key → attribute_holds (test_of_key key) e ≡ true
-    by_id None is found = by_class (first_read read_class c) refl found
+    by_id : (o : Option AttributeKey) → first_read read_id (key_tests c) ≡ o → first_of o (first_of (first_read read_class (key_tests c)) (first_read read_attribute (key_tests c))) ≡ Some key → attribute_holds (test_of_key key) e ≡ true
+    by_id None is found = by_class (first_read read_class (key_tests c)) refl found
     by_id (Some k) is found = read_right read_id (λ k. attribute_holds (test_of_key k) e ≡ true) e (id_right e) c key (is ∙ found) all
 
-pub lacking_fails : (e : Element) (c : Compound) → lacks (attribute_key c) e ≡ true → all_hold c e ≡ false
-lacking_fails e c h = by_key (attribute_key c) refl h
+pub lacking_fails : (e : Element) (c : Compound) → lacks (attribute_key (key_tests c)) e ≡ true → all_hold c e ≡ false
+lacking_fails e c h = by_key (attribute_key (key_tests c)) refl h
   where
-    by_key : (o : Option AttributeKey) → attribute_key c ≡ o → lacks o e ≡ true → all_hold c e ≡ false
+    by_key : (o : Option AttributeKey) → attribute_key (key_tests c) ≡ o → lacks o e ≡ true → all_hold c e ≡ false
     by_key None is lack = cc
     by_key (Some key) is lack = not_true (all_hold c e) (λ all. let has = key_right e c key is all in cc)
 
@@ -92,123 +116,132 @@ both-right_false True = refl
 both-right_false False = refl
 both-right_false Open = refl
 
-name_false : (e : Element) (test : Test) (name : List ℕ) → read_name test ≡ Some name → not (same_name e.tag.name name) ≡ true → test_by_names test e ≡ False
+negated : (b : Bool) → not b ≡ true → b ≡ false
+negated true h = sym h
+negated false h = refl
+
+name_false : (e : Element) (test : Test) (name : List ℕ) → read_name (key_test test) ≡ Some name → not (bytes_eq (lowercased e.tag.name) name) ≡ true → test_by_names test e ≡ False
 name_false e (OfName AnyName) name h = cc
 name_false e (OfName NoName) name h = cc
 name_false e (OfName (HasName own)) name h = λ other.
-    let differs : same_name e.tag.name own ≡ false = ap (same_name e.tag.name) (some_injective own name h) ∙ negated (same_name e.tag.name name) other in
-    ap value_of_bool differs
-  where
-    negated : (b : Bool) → not b ≡ true → b ≡ false
-    negated true h = sym h
-    negated false h = refl
+    ap value_of_bool (ap (bytes_eq (lowercased e.tag.name)) (some_injective (lowercased own) name h) ∙ negated (bytes_eq (lowercased e.tag.name) name) other)
 name_false e (OfName (IsNthChild nth)) name h = cc
 name_false e (OfName (IsNthOfType nth)) name h = cc
-name_false e (OfAttributes test) name h = cc
+name_false e (OfAttributes (HasId id)) name h = cc
+name_false e (OfAttributes (HasClass class)) name h = cc
+name_false e (OfAttributes (HasAttribute attribute)) name h = cc
+name_false e (OfAttributes (Compares attribute operator operand case)) name h = by_operand (needs_operand operator && is_empty_text operand) h
+  where
+    by_operand : (b : Bool) → read_name (cond b IsOfAttributes (HasKey (ByAttribute (lowercased attribute)))) ≡ Some name → not (bytes_eq (lowercased e.tag.name) name) ≡ true → test_by_names (OfAttributes (Compares attribute operator operand case)) e ≡ False
+    by_operand true found other = cc
+    by_operand false found other = cc
 name_false e (NoneOf _) name h = cc
 name_false e (SomeOf _) name h = cc
 
-named_false : (e : Element) (c : Compound) (name : List ℕ) → name_key c ≡ Some name → not (same_name e.tag.name name) ≡ true → by_names c e ≡ False
+named_false : (e : Element) (c : Compound) (name : List ℕ) → name_key (key_tests c) ≡ Some name → not (bytes_eq (lowercased e.tag.name) name) ≡ true → by_names c e ≡ False
 named_false e NoTests name h other = cc
-named_false e (AndTest test tests) name h other = by_first (read_name test) refl h (λ found. named_false e tests name found other)
+named_false e (AndTest test tests) name h other = by_first (read_name (key_test test)) refl h (λ found. named_false e tests name found other)
   where
-    by_first : (o : Option (List ℕ)) → read_name test ≡ o → first_of o (name_key tests) ≡ Some name → (name_key tests ≡ Some name → by_names tests e ≡ False) → by_names (AndTest test tests) e ≡ False
+    by_first : (o : Option (List ℕ)) → read_name (key_test test) ≡ o → first_of o (name_key (key_tests tests)) ≡ Some name → (name_key (key_tests tests) ≡ Some name → by_names tests e ≡ False) → by_names (AndTest test tests) e ≡ False
     by_first None is found later = ap (both (test_by_names test e)) (later found) ∙ both-right_false (test_by_names test e)
     by_first (Some k) is found later = ap (λ (v : NameValue). both v (by_names tests e)) (name_false e test name (is ∙ found) other)
 
-pub another_name_is_false : (e : Element) (c : Compound) → is_another_name (name_key c) e ≡ true → by_names c e ≡ False
-another_name_is_false e c h = by_key (name_key c) refl h
+pub another_name_is_false : (e : Element) (c : Compound) → is_another_name (name_key (key_tests c)) (lowercased e.tag.name) ≡ true → by_names c e ≡ False
+another_name_is_false e c h = by_key (name_key (key_tests c)) refl h
   where
-    by_key : (o : Option (List ℕ)) → name_key c ≡ o → is_another_name o e ≡ true → by_names c e ≡ False
+    by_key : (o : Option (List ℕ)) → name_key (key_tests c) ≡ o → is_another_name o (lowercased e.tag.name) ≡ true → by_names c e ≡ False
     by_key None is other = cc
     by_key (Some name) is other = named_false e c name is other
 
 -- 3. What is surely open
 
--- what is open stays open with what isn't false, and or what isn't true
+-- what is open stays open with what isn't false
 open_with : (v : NameValue) → (v ≡ True) ⊎ (v ≡ Open) → both Open v ≡ Open
 open_with v (inl h) = ap (both Open) h
 open_with v (inr h) = ap (both Open) h
 
-open_or : (v : NameValue) → (v ≡ False) ⊎ (v ≡ Open) → either Open v ≡ Open
-open_or v (inl h) = ap (either Open) h
-open_or v (inr h) = ap (either Open) h
+-- the tests but `*`
+abbrev but_any : List KeyTest → List KeyTest
+but_any tests = filter (λ test. not (is_of_any test)) tests
 
 module _ (e : Element) where
-  mutual
-    open_test : (test : Test) → test_opens test ≡ true → test_by_names test e ≡ Open
-    open_test (OfName test) h = cc
-    open_test (OfAttributes test) h = refl
-    open_test (NoneOf compounds) h = ap opposite (open_some compounds h)
-    open_test (SomeOf compounds) h = open_some compounds h
+  -- a test of attributes before tests that aren't false
+  first_open : (test : AttributeTest) (tests : Compound) → (by_names tests e ≡ True) ⊎ (by_names tests e ≡ Open) → by_names (AndTest (OfAttributes test) tests) e ≡ Open
+  first_open test tests h = open_with (by_names tests e) h
 
-    open_compound : (c : Compound) → compound_opens c ≡ true → by_names c e ≡ Open
-    open_compound NoTests h = cc
-    open_compound (AndTest test tests) h =
-        let parts = and_parts (test_opens test) (rest_opens tests) h in
-        ap (λ (v : NameValue). both v (by_names tests e)) (open_test test parts.0) ∙ open_with (by_names tests e) (open_rest tests parts.1)
+  -- the key of a test of attributes is one of attributes
+  split_attributes : (test : AttributeTest) (P : KeyTest → Type 0) → ((key : AttributeKey) → P (HasKey key)) → P IsOfAttributes → P (attribute_key_test test)
+  split_attributes (HasId id) P keyed other = keyed (ById id)
+  split_attributes (HasClass name) P keyed other = keyed (ByClass name)
+  split_attributes (HasAttribute name) P keyed other = keyed (ByAttribute name)
+  split_attributes (Compares name operator operand case) P keyed other = by_operand (needs_operand operator && is_empty_text operand)
+    where
+      by_operand : (b : Bool) → P (cond b IsOfAttributes (HasKey (ByAttribute (lowercased name))))
+      by_operand true = other
+      by_operand false = keyed (ByAttribute (lowercased name))
 
-    open_rest : (c : Compound) → rest_opens c ≡ true → (by_names c e ≡ True) ⊎ (by_names c e ≡ Open)
-    open_rest NoTests h = inl refl
-    open_rest (AndTest test tests) h =
-        let parts = and_parts (test_opens test) (rest_opens tests) h in
-        inr (ap (λ (v : NameValue). both v (by_names tests e)) (open_test test parts.0) ∙ open_with (by_names tests e) (open_rest tests parts.1))
+  -- all are of attributes
+  rest_open : (c : Compound) → list_all is_of_attributes (but_any (key_tests c)) ≡ true → (by_names c e ≡ True) ⊎ (by_names c e ≡ Open)
+  rest_open NoTests h = inl refl
+  rest_open (AndTest (OfName AnyName) tests) h = rest_open tests h
+  rest_open (AndTest (OfName NoName) tests) h = cc
+  rest_open (AndTest (OfName (HasName name)) tests) h = cc
+  rest_open (AndTest (OfName (IsNthChild nth)) tests) h = cc
+  rest_open (AndTest (OfName (IsNthOfType nth)) tests) h = cc
+  rest_open (AndTest (OfAttributes test) tests) h =
+      inr (first_open test tests (rest_open tests (split_attributes test (λ k. list_all is_of_attributes (but_any (k ∷ key_tests tests)) ≡ true → list_all is_of_attributes (but_any (key_tests tests)) ≡ true) (λ key x. x) (λ x. x) h)))
+  rest_open (AndTest (NoneOf cs) tests) h = cc
+  rest_open (AndTest (SomeOf cs) tests) h = cc
 
-    open_some : (cs : Compounds) → some_open cs ≡ true → some_by_names cs e ≡ Open
-    open_some NoCompounds h = cc
-    open_some (OrCompound c cs) h =
-        let parts = and_parts (compound_opens c) (others_open cs) h in
-        ap (λ (v : NameValue). either v (some_by_names cs e)) (open_compound c parts.0) ∙ open_or (some_by_names cs e) (open_others cs parts.1)
-
-    open_others : (cs : Compounds) → others_open cs ≡ true → (some_by_names cs e ≡ False) ⊎ (some_by_names cs e ≡ Open)
-    open_others NoCompounds h = inl refl
-    open_others (OrCompound c cs) h =
-        let parts = and_parts (compound_opens c) (others_open cs) h in
-        inr (ap (λ (v : NameValue). either v (some_by_names cs e)) (open_compound c parts.0) ∙ open_or (some_by_names cs e) (open_others cs parts.1))
-
-  -- tests of any name are true
-  without_any_same : (c : Compound) → by_names (without_any c) e ≡ by_names c e
-  without_any_same NoTests = refl
-  without_any_same (AndTest (OfName AnyName) tests) = without_any_same tests
-  without_any_same (AndTest (OfName NoName) tests) = ap (both False) (without_any_same tests)
-  without_any_same (AndTest (OfName (HasName name)) tests) = ap (both (value_of_bool (same_name e.tag.name name))) (without_any_same tests)
-  without_any_same (AndTest (OfName (IsNthChild nth)) tests) = ap (both (test_by_names (OfName (IsNthChild nth)) e)) (without_any_same tests)
-  without_any_same (AndTest (OfName (IsNthOfType nth)) tests) = ap (both (test_by_names (OfName (IsNthOfType nth)) e)) (without_any_same tests)
-  without_any_same (AndTest (OfAttributes test) tests) = ap (both Open) (without_any_same tests)
-  without_any_same (AndTest (NoneOf cs) tests) = ap (both (test_by_names (NoneOf cs) e)) (without_any_same tests)
-  without_any_same (AndTest (SomeOf cs) tests) = ap (both (test_by_names (SomeOf cs) e)) (without_any_same tests)
-
-  without_any_key : (c : Compound) → name_key (without_any c) ≡ name_key c
-  without_any_key NoTests = refl
-  without_any_key (AndTest (OfName AnyName) tests) = without_any_key tests
-  without_any_key (AndTest (OfName NoName) tests) = without_any_key tests
-  without_any_key (AndTest (OfName (HasName name)) tests) = refl
-  without_any_key (AndTest (OfName (IsNthChild nth)) tests) = without_any_key tests
-  without_any_key (AndTest (OfName (IsNthOfType nth)) tests) = without_any_key tests
-  without_any_key (AndTest (OfAttributes test) tests) = without_any_key tests
-  without_any_key (AndTest (NoneOf cs) tests) = without_any_key tests
-  without_any_key (AndTest (SomeOf cs) tests) = without_any_key tests
+  -- and there is one
+  some_open : (c : Compound) → are_of_attributes (but_any (key_tests c)) ≡ true → by_names c e ≡ Open
+  some_open NoTests h = cc
+  some_open (AndTest (OfName AnyName) tests) h = some_open tests h
+  some_open (AndTest (OfName NoName) tests) h = cc
+  some_open (AndTest (OfName (HasName name)) tests) h = cc
+  some_open (AndTest (OfName (IsNthChild nth)) tests) h = cc
+  some_open (AndTest (OfName (IsNthOfType nth)) tests) h = cc
+  some_open (AndTest (OfAttributes test) tests) h =
+      first_open test tests (rest_open tests (split_attributes test (λ k. are_of_attributes (but_any (k ∷ key_tests tests)) ≡ true → list_all is_of_attributes (but_any (key_tests tests)) ≡ true) (λ key x. x) (λ x. x) h))
+  some_open (AndTest (NoneOf cs) tests) h = cc
+  some_open (AndTest (SomeOf cs) tests) h = cc
 
   -- the test of the name is true where it isn't another
-  without_name_same : (c : Compound) → is_another_name (name_key c) e ≡ false → by_names (without_name c) e ≡ by_names c e
-  without_name_same NoTests h = refl
-  without_name_same (AndTest (OfName AnyName) tests) h = ap (both True) (without_name_same tests h)
-  without_name_same (AndTest (OfName NoName) tests) h = ap (both False) (without_name_same tests h)
-  without_name_same (AndTest (OfName (HasName name)) tests) h = ap (λ b. both (value_of_bool b) (by_names tests e)) (sym (not_another (same_name e.tag.name name) h))
-    where
-      not_another : (b : Bool) → not b ≡ false → b ≡ true
-      not_another true h = refl
-      not_another false h = sym h
-  without_name_same (AndTest (OfName (IsNthChild nth)) tests) h = ap (both (test_by_names (OfName (IsNthChild nth)) e)) (without_name_same tests h)
-  without_name_same (AndTest (OfName (IsNthOfType nth)) tests) h = ap (both (test_by_names (OfName (IsNthOfType nth)) e)) (without_name_same tests h)
-  without_name_same (AndTest (OfAttributes test) tests) h = ap (both Open) (without_name_same tests h)
-  without_name_same (AndTest (NoneOf cs) tests) h = ap (both (test_by_names (NoneOf cs) e)) (without_name_same tests h)
-  without_name_same (AndTest (SomeOf cs) tests) h = ap (both (test_by_names (SomeOf cs) e)) (without_name_same tests h)
+  name_true : (b : Bool) → not b ≡ false → b ≡ true
+  name_true true h = refl
+  name_true false h = sym h
 
-  pub opens_is_open : (c : Compound) → opens_where_named c ≡ true → is_another_name (name_key c) e ≡ false → by_names c e ≡ Open
-  opens_is_open c h named =
-      sym (without_name_same (without_any c) (ap (λ o. is_another_name o e) (without_any_key c) ∙ named) ∙ without_any_same c)
-      ∙ open_compound (without_name (without_any c)) h
+  -- but for the first name all are of attributes
+  named_rest_open : (c : Compound) → list_all is_of_attributes (without_name (but_any (key_tests c))) ≡ true → is_another_name (name_key (key_tests c)) (lowercased e.tag.name) ≡ false
+      → (by_names c e ≡ True) ⊎ (by_names c e ≡ Open)
+  named_rest_open NoTests h named = inl refl
+  named_rest_open (AndTest (OfName AnyName) tests) h named = named_rest_open tests h named
+  named_rest_open (AndTest (OfName NoName) tests) h named = cc
+  named_rest_open (AndTest (OfName (HasName name)) tests) h named =
+      subst (λ b. (both (value_of_bool b) (by_names tests e) ≡ True) ⊎ (both (value_of_bool b) (by_names tests e) ≡ Open)) (sym (name_true (same_name e.tag.name name) named)) (rest_open tests h)
+  named_rest_open (AndTest (OfName (IsNthChild nth)) tests) h named = cc
+  named_rest_open (AndTest (OfName (IsNthOfType nth)) tests) h named = cc
+  named_rest_open (AndTest (OfAttributes test) tests) h named =
+      inr (first_open test tests (split_attributes test
+      (λ k. list_all is_of_attributes (without_name (but_any (k ∷ key_tests tests))) ≡ true → is_another_name (name_key (k ∷ key_tests tests)) (lowercased e.tag.name) ≡ false → (by_names tests e ≡ True) ⊎ (by_names tests e ≡ Open))
+      (λ key x y. named_rest_open tests x y) (λ x y. named_rest_open tests x y) h named))
+  named_rest_open (AndTest (NoneOf cs) tests) h named = cc
+  named_rest_open (AndTest (SomeOf cs) tests) h named = cc
+
+  pub opens_is_open : (c : Compound) → opens_where_named (key_tests c) ≡ true → is_another_name (name_key (key_tests c)) (lowercased e.tag.name) ≡ false → by_names c e ≡ Open
+  opens_is_open NoTests h named = cc
+  opens_is_open (AndTest (OfName AnyName) tests) h named = opens_is_open tests h named
+  opens_is_open (AndTest (OfName NoName) tests) h named = cc
+  opens_is_open (AndTest (OfName (HasName name)) tests) h named =
+      ap (λ b. both (value_of_bool b) (by_names tests e)) (name_true (same_name e.tag.name name) named) ∙ some_open tests h
+  opens_is_open (AndTest (OfName (IsNthChild nth)) tests) h named = cc
+  opens_is_open (AndTest (OfName (IsNthOfType nth)) tests) h named = cc
+  opens_is_open (AndTest (OfAttributes test) tests) h named =
+      first_open test tests (split_attributes test
+      (λ k. opens_where_named (k ∷ key_tests tests) ≡ true → is_another_name (name_key (k ∷ key_tests tests)) (lowercased e.tag.name) ≡ false → (by_names tests e ≡ True) ⊎ (by_names tests e ≡ Open))
+      (λ key x y. named_rest_open tests x y) (λ x y. named_rest_open tests x y) h named)
+  opens_is_open (AndTest (NoneOf cs) tests) h named = cc
+  opens_is_open (AndTest (SomeOf cs) tests) h named = cc
 
 -- 4. The choices are right
 
@@ -226,7 +259,7 @@ unless_named_lacks (Some name) key e h = cc
 pub one_key_is_right : (c : Compound) → AreKeysOf (one_key c) c
 one_key_is_right c = record {
   by_name = λ e h. another_name_is_false e c h;
-  by_attributes = λ e h. lacking_fails e c (unless_named_lacks (name_key c) (attribute_key c) e h);
+  by_attributes = λ e h. lacking_fails e c (unless_named_lacks (name_key (key_tests c)) (attribute_key (key_tests c)) e h);
   opens = λ e h named. opens_is_open e c h named;
 }
 

@@ -1,14 +1,13 @@
 -- What is tried by keys.
-use Rattle.std.proofs.Common.{◌≡◌, ℕ, ◌+◌, Bool, true, false, cond, not, ◌&&◌, ◌||◌, List, [], ◌∷◌, map, filter, length, refl, sym, ap, ◌∙◌, arith, Option, Some, None}
+use Rattle.std.proofs.Common.{◌≡◌, ℕ, ◌+◌, Bool, true, false, cond, not, ◌&&◌, ◌||◌, List, [], ◌∷◌, map, filter, length, refl, sym, ap, ◌∙◌, arith}
 use Rattle.lol_base.specs.Ascending.{ascending_once}
 use Rattle.std.specs.Prelude.{count_by, sum_by}
 use Rattle.std.specs.List.{list_any}
 use Rattle.std.proofs.lemmas.List.Sums.{sum_by-cons, length-filter}
 use Rattle.lol_base.specs.BoolLaws.{and_parts, and_of, same_bool}
 use Rattle.lol_base.specs.MemberLaws.{Among, among_from_contains, contains_from_among, distinct_from_pairs, same_count, count_by-cons}
-use Rattle.lol_base.specs.StartTags.{Attribute}
 use Rattle.lol_instructions.specs.Tests.{Element, is_html}
-use Rattle.lol_instructions.specs.Compounds.{all_hold, by_names, is_open, with_rest, Decides}
+use Rattle.lol_instructions.specs.Compounds.{all_hold, by_names, is_open, Decides}
 use Rattle.lol_instructions.specs.declared.name_value.NameValue.{NameValue}
 use Rattle.lol_instructions.specs.declared.name_value.NameValue.TheVariants.{True, False, Open}
 use Rattle.lol_program.specs.Paths.{Path, Selectors, last_compound}
@@ -17,7 +16,7 @@ use Rattle.lol_vm.specs.Matching.{matches, left_matches}
 use Rattle.lol_vm.specs.Events.{Event, Start, End}
 use Rattle.lol_vm.specs.Documents.{Document, element_of}
 use Rattle.lol_vm.specs.Answers.{Started, Dropped, report, is_dropped, answer, after, answers_from, name_tries, attribute_tries, needs_attributes, asks}
-use Rattle.lol_keys.specs.Keys.{Keys, is_another_name, is_ruled_out_by_name, is_ruled_out_by_attributes, no_keys}
+use Rattle.lol_instructions.specs.Keys.{Keys, is_ruled_out_by_name, is_ruled_out_by_attributes, no_keys}
 use Rattle.lol_keys.specs.KeyTries.{AreRight, is_left_by_name, is_left_open, asks_at_once, is_left, is_tried, name_tries_by_keys, tries_attributes, attribute_tries_by_keys, Without, Completing, With, one_if, name_counted, attribute_counted, calls_by_names, calls_in, needs_them, answer_by_keys, answers_by_keys_from}
 use Rattle.lol_keys.specs.KeyLaws.{KeysAreRight, MatchingNodesAreTried, TriedPairsGiveIds, NamesKeepAsks, AsksByTries, FirstStepSeesNoRest, TriesAreAtMost, TriesAndSparedAreAll, CallsAreCounted, CallsAskWhereAsked, OrderChangesNoTries, NoKeysAreExact, Spares, AllSpare, AnswersAreSparing}
 use Rattle.lol_keys.proofs.RightKeys.{one_key_is_right, both_keys_are_right, no_keys_are_right}
@@ -122,15 +121,8 @@ module _ (keys : Path → Keys) (right : AreRight keys) (e : Element) (outer : L
 pub asks_by_tries : AsksByTries
 asks_by_tries keys right s e outer = asked keys right e outer s.nodes (not (is_html e.tag.namespace))
 
-name_without_rest : (name : Option (List ℕ)) (e : Element) (attributes : List Attribute) (self_closing finish : Bool) → is_another_name name (with_rest e attributes self_closing finish) ≡ is_another_name name e
-name_without_rest None e attributes self_closing finish = refl
-name_without_rest (Some name) e attributes self_closing finish = refl
-
 pub first_step_sees_no_rest : FirstStepSeesNoRest
-first_step_sees_no_rest keys nodes e outer attributes self_closing finish = (
-  λ i. not (is_html e.tag.namespace) || list_any (λ node. (left_matches node outer && not (name_without_rest (keys node).name e attributes self_closing finish i)) && (keys node).opens) nodes,
-  λ node i. left_matches node outer && not (name_without_rest (keys node).name e attributes self_closing finish i),
-)
+first_step_sees_no_rest keys nodes e outer attributes self_closing finish = (refl, λ node. refl)
 
 -- 3. Counts
 

@@ -10,7 +10,7 @@ use Rattle.lol_vm.specs.Matching.{matches, left_matches}
 use Rattle.lol_vm.specs.Events.{Event}
 use Rattle.lol_vm.specs.Documents.{Document}
 use Rattle.lol_vm.specs.Answers.{Answer, Started, Dropped, Ended, answers_from, matching_ids, name_tries, attribute_tries, needs_attributes, asks}
-use Rattle.lol_keys.specs.Keys.{Keys, AreKeysOf, one_key, both_keys, AttributeKey, test_of_key, same_key, keys_of_tag, no_keys}
+use Rattle.lol_instructions.specs.Keys.{Keys, AreKeysOf, one_key, both_keys, AttributeKey, test_of_key, same_key, keys_of_tag, no_keys}
 use Rattle.lol_keys.specs.KeyTries.{AreRight, is_left_by_name, asks_at_once, is_tried, name_tries_by_keys, tries_attributes, attribute_tries_by_keys, name_counted, attribute_counted, needs_them, calls, answers_by_keys_from}
 
 -- The keys of a compound are right: one, both, and none.

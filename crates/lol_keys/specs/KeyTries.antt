@@ -8,7 +8,7 @@ use Rattle.lol_vm.specs.Matching.{left_matches}
 use Rattle.lol_vm.specs.Events.{Event, Start, End}
 use Rattle.lol_vm.specs.Documents.{Document, element_of, closed}
 use Rattle.lol_vm.specs.Answers.{Answer, Started, Dropped, Ended, asks, is_dropped, report, after}
-use Rattle.lol_keys.specs.Keys.{Keys, AreKeysOf, is_ruled_out_by_name, is_ruled_out_by_attributes}
+use Rattle.lol_instructions.specs.Keys.{Keys, AreKeysOf, is_ruled_out_by_name, is_ruled_out_by_attributes}
 
 -- 1. Two steps. `keys` chooses the keys of each node.
 

@@ -1,4 +1,3 @@
-pub mod Keys
 pub mod KeyTries
 pub mod KeyLaws
 pub mod Rows

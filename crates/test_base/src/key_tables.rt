@@ -7,13 +7,13 @@ use std::test::Fail;
 
 /// Hashes by address, those that are looked for, a range, and the addresses in it that have one of them.
 type Row = (
-    &'static [u64],
-    &'static [u64],
+    &'static [u32],
+    &'static [u32],
     (usize, usize),
     &'static [usize],
 );
 
-const HASHES: &[u64] = &[5, 3, 5, 5, 18_446_744_073_709_551_615, 3, 5, 0];
+const HASHES: &[u32] = &[5, 3, 5, 5, 4_294_967_295, 3, 5, 0];
 
 const ROWS: [Row; 11] = [
     (HASHES, &[5], (0, 8), &[0, 2, 3, 6]),
@@ -22,7 +22,7 @@ const ROWS: [Row; 11] = [
     (HASHES, &[3, 4, 3], (0, 8), &[1, 5]),
     (HASHES, &[5, 3], (1, 3), &[1, 2]),
     (HASHES, &[5], (3, 6), &[3]),
-    (HASHES, &[0, 18_446_744_073_709_551_615], (0, 100), &[4, 7]),
+    (HASHES, &[0, 4_294_967_295], (0, 100), &[4, 7]),
     (HASHES, &[5], (7, 100), &[]),
     // Ranges without an address.
     (HASHES, &[5], (2, 2), &[]),
@@ -46,8 +46,8 @@ fn find_the_addresses_of_hashes(rt: HostRuntime) -> Result<(), Fail> {
 /// The addresses in a range that have one of some hashes, by a look at each.
 fn addresses(
     alloc: Global,
-    hashes: &[u64],
-    wanted: &[u64],
+    hashes: &[u32],
+    wanted: &[u32],
     start: usize,
     end: usize,
 ) -> Result<Vec<usize>, AllocError> {
@@ -61,9 +61,9 @@ fn addresses(
 }
 
 /// 60 hashes of seven values.
-fn some_hashes(alloc: Global) -> Result<Vec<u64>, AllocError> {
+fn some_hashes(alloc: Global) -> Result<Vec<u32>, AllocError> {
     let mut hashes = Vec::new(alloc);
-    for n in 0..60_u64 {
+    for n in 0..60_u32 {
         hashes.push(n * n % 11)?;
     }
     Ok(hashes)
@@ -77,7 +77,7 @@ fn find_what_a_look_at_each_finds(rt: HostRuntime) -> Result<(), Fail> {
     let mut found = Vec::new(alloc);
     for start in 0..=62 {
         for end in 0..=62 {
-            let wanted = [start as u64 % 11, end as u64 % 11, 4];
+            let wanted = [start as u32 % 11, end as u32 % 11, 4];
             table.find(&wanted, start..end, &mut found)?;
             assert!(rt; found == addresses(alloc, &hashes, &wanted, start, end)?);
         }

@@ -1,0 +1,180 @@
+-- What is left of a range is found by its hashes.
+use Rattle.std.proofs.Common.{◌≡◌, ℕ, zero, suc, ◌+◌, ◌-◌, ◌<◌, ◌≤◌, Bool, true, false, cond, not, List, [], ◌∷◌, ◌++◌, length, map, filter, take, get_or, Option, Some, None, Contains, ◌⊎◌, inl, inr, refl, sym, ap, ◌∙◌, arith, append_assoc, true≢false}
+use Rattle.std.specs.Prelude.{slice_get}
+use Rattle.std.specs.Str.{bytes_eq}
+use Rattle.std.specs.Option.{option_map}
+use Rattle.std.specs.List.{range_with_len}
+use Rattle.std.specs.declared.ops.Range.{Range}
+use Rattle.std.proofs.lemmas.Bool.{cases_lt}
+use Rattle.std.proofs.lemmas.List.Elements.{filter_more}
+use Rattle.std.proofs.lemmas.Option.{slice_get-map}
+use Rattle.std.proofs.lemmas.Slice.Eq.{bytes_eq-Decides}
+use Rattle.lol_base.specs.Ascending.{IsStrictlyAscending}
+use Rattle.lol_base.specs.AscendingLaws.{Ascends, ascends_from_pairs, determined}
+use Rattle.lol_base.specs.MemberLaws.{Among, among_from_contains, contains_from_among, among_filter, filter_among, any_among, among_any}
+use Rattle.lol_base.specs.ListLaws.{get_or-any}
+use Rattle.lol_base.specs.BoolLaws.{and_parts, not_true}
+use Rattle.lol_instructions.specs.Keys.{is_another_name}
+use Rattle.lol_instructions.specs.declared.instruction.Instruction.{Instruction}
+use Rattle.lol_key_table.specs.KeyTables.{AreFound, IsEntryWithin}
+use Rattle.lol_key_table.specs.declared.key_table.Entry.{Entry}
+use Rattle.lol_rows.specs.KeyHashes.{hash_of_name}
+use Rattle.lol_rows.specs.Rows.{keys_of, name_hash_of, is_left_by_name, is_left_open, passes, passes_at, addresses, some_pass, passing, HasPassing, NonePasses}
+
+-- 1. Addresses of a range
+
+among_range : (start n x : ℕ) → Among (range_with_len start n) x → (start ≤ x) × (x < start + n)
+among_range start zero x a = absurd a
+among_range start (suc n) x (inl is) = (omega (arith, is), omega (arith, is))
+among_range start (suc n) x (inr a) = let later = among_range (start + 1) n x a in (omega (arith, later.0), omega (arith, later.1))
+
+range_among : (start n x : ℕ) → start ≤ x → x < start + n → Among (range_with_len start n) x
+range_among start zero x low high = absurd (omega (arith, low, high))
+range_among start (suc n) x low high = by_place (cases_lt start x) (λ above. range_among (start + 1) n x (omega (arith, above)) (omega (arith, high)))
+  where
+    by_place : (start < x) ⊎ (x ≤ start) → (start < x → Among (range_with_len (start + 1) n) x) → Among (range_with_len start (suc n)) x
+    by_place (inl above) later = inr (later above)
+    by_place (inr most) later = inl (omega (arith, low, most))
+
+ascends_range : (start n : ℕ) → Ascends (range_with_len start n)
+ascends_range start zero = tt
+ascends_range start (suc n) = (λ m a. let later = among_range (start + 1) n m a in omega (arith, later.0), ascends_range (start + 1) n)
+
+ascends_filter : (p : ℕ → Bool) (xs : List ℕ) → Ascends xs → Ascends (filter p xs)
+ascends_filter p [] h = tt
+ascends_filter p (x ∷ xs) h = by_test (p x) (ascends_filter p xs h.1)
+  where
+    by_test : (b : Bool) → Ascends (filter p xs) → Ascends (cond b (x ∷ filter p xs) (filter p xs))
+    by_test true later = (λ m a. h.0 m (among_filter p xs m a).0, later)
+    by_test false later = later
+
+-- 2. Instructions at addresses
+
+pub instruction_at : (p : Instruction → Bool) (o : Option Instruction) → passes p o ≡ true → (i : Instruction) × (o ≡ Some i) × (p i ≡ true)
+instruction_at p None h = cc
+instruction_at p (Some i) h = (i, refl, h)
+
+hashed_at : (hash : Instruction → ℕ) (instructions : List Instruction) (address : ℕ) (i : Instruction) → slice_get instructions address ≡ Some i → slice_get (map hash instructions) address ≡ Some (hash i)
+hashed_at hash instructions address i at = slice_get-map hash instructions address ∙ ap (option_map hash) at
+
+-- What has one of the hashes is found, so what passes of it is all that passes.
+pub left_found : (p : Instruction → Bool) (hash : Instruction → ℕ) (instructions : List Instruction) (hashes : List ℕ) (range : Range ℕ) (found : List ℕ)
+    → IsStrictlyAscending found → AreFound (map hash instructions) hashes range found → ((i : Instruction) → p i ≡ true → Contains hashes (hash i))
+    → filter (passes_at p instructions) found ≡ passing p instructions range
+left_found p hash instructions hashes range found up are wanted =
+    determined (filter q found) (filter q all) (ascends_filter q found (ascends_from_pairs found up)) (ascends_filter q all (ascends_range range.start (range.end - range.start))) to from
+  where
+    q : ℕ → Bool
+    q = passes_at p instructions
+
+    all : List ℕ
+    all = addresses range
+
+    to : (n : ℕ) → Among (filter q found) n → Among (filter q all) n
+    to n a =
+        let parts = among_filter q found n a in
+        let w = (are n).0 (contains_from_among found n parts.0) in
+        filter_among q all n (range_among range.start (range.end - range.start) n w.low (omega (arith, w.low, w.high))) parts.1
+
+    from : (n : ℕ) → Among (filter q all) n → Among (filter q found) n
+    from n a =
+        let parts = among_filter q all n a in
+        let place = among_range range.start (range.end - range.start) n parts.0 in
+        let at = instruction_at p (slice_get instructions n) parts.1 in
+        let found_at = (are n).1 (record { hash = hash at.0; wanted = wanted at.0 at.2; hashed = hashed_at hash instructions n at.0 at.1; low = place.0; high = omega (arith, place.0, place.1) }) in
+        filter_among q found n (among_from_contains found n found_at) parts.1
+
+-- 3. Hashes of names
+
+abbrev unnamed_or : Option (List ℕ) → List ℕ → Type 0
+unnamed_or key name = (key ≡ None) ⊎ (key ≡ Some name)
+
+key_is : (key : Option (List ℕ)) (name : List ℕ) → not (is_another_name key name) ≡ true → unnamed_or key name
+key_is None name h = inl refl
+key_is (Some own) name h = inr (ap Some (sym ((bytes_eq-Decides name own).0 (twice (bytes_eq name own) h))))
+  where
+    twice : (b : Bool) → not (not b) ≡ true → b ≡ true
+    twice true h = refl
+    twice false h = h
+
+-- the hash of an instruction that tests no other name
+pub hash_is : (name : List ℕ) (i : Instruction) → is_left_by_name name i ≡ true → (name_hash_of i ≡ hash_of_name None (keys_of i).opens) ⊎ (name_hash_of i ≡ hash_of_name (Some name) (keys_of i).opens)
+hash_is name i h = by_key (key_is (keys_of i).name name h)
+  where
+    by_key : unnamed_or (keys_of i).name name → (name_hash_of i ≡ hash_of_name None (keys_of i).opens) ⊎ (name_hash_of i ≡ hash_of_name (Some name) (keys_of i).opens)
+    by_key (inl is) = inl (ap (λ o. hash_of_name o (keys_of i).opens) is)
+    by_key (inr is) = inr (ap (λ o. hash_of_name o (keys_of i).opens) is)
+
+-- it is one of four
+pub hash_among : (name : List ℕ) (a b c d : ℕ) → a ≡ hash_of_name None false → b ≡ hash_of_name None true → c ≡ hash_of_name (Some name) false → d ≡ hash_of_name (Some name) true
+    → (i : Instruction) → is_left_by_name name i ≡ true → Contains (a ∷ b ∷ c ∷ d ∷ []) (name_hash_of i)
+hash_among name a b c d is_a is_b is_c is_d i h = contains_from_among (a ∷ b ∷ c ∷ d ∷ []) (name_hash_of i) (by_opens (keys_of i).opens (hash_is name i h))
+  where
+    by_opens : (opens : Bool) → (name_hash_of i ≡ hash_of_name None opens) ⊎ (name_hash_of i ≡ hash_of_name (Some name) opens) → Among (a ∷ b ∷ c ∷ d ∷ []) (name_hash_of i)
+    by_opens false (inl is) = inl (is_a ∙ sym is)
+    by_opens true (inl is) = inr (inl (is_b ∙ sym is))
+    by_opens false (inr is) = inr (inr (inl (is_c ∙ sym is)))
+    by_opens true (inr is) = inr (inr (inr (inl (is_d ∙ sym is))))
+
+-- 4. Whether one is left that is open
+
+module _ (name : List ℕ) (instructions : List Instruction) (range : Range ℕ) where
+  pub some_found : HasPassing (is_left_open name) instructions range → true ≡ some_pass (is_left_open name) instructions range
+  some_found h =
+      sym (any_among (passes_at (is_left_open name) instructions) (addresses range) h.address (range_among range.start (range.end - range.start) h.address h.low (omega (arith, h.low, h.high))) h.passes)
+
+  pub none_left : (a b : ℕ) → a ≡ hash_of_name None true → b ≡ hash_of_name (Some name) true → NonePasses (is_left_open name) instructions range a → NonePasses (is_left_open name) instructions range b
+      → false ≡ some_pass (is_left_open name) instructions range
+  none_left a b is_a is_b none_a none_b = sym (not_true (some_pass (is_left_open name) instructions range) (λ some.
+      let there = among_any (passes_at (is_left_open name) instructions) (addresses range) some in
+      let place = among_range range.start (range.end - range.start) there.0 there.1 in
+      let at = instruction_at (is_left_open name) (slice_get instructions there.0) there.2 in
+      let parts = and_parts (is_left_by_name name at.0) (keys_of at.0).opens at.2 in
+      let high : there.0 < range.end = omega (arith, place.0, place.1) in
+      let fails : is_left_open name at.0 ≡ false =
+      elim (hash_is name at.0 parts.0) [
+        | inl is ↦ none_a there.0 at.0 place.0 high at.1 (is ∙ ap (hash_of_name None) parts.1 ∙ sym is_a)
+        | inr is ↦ none_b there.0 at.0 place.0 high at.1 (is ∙ ap (hash_of_name (Some name)) parts.1 ∙ sym is_b)
+      ] in
+      true≢false (sym at.2 ∙ fails)))
+
+  -- no entry before a place passes
+  abbrev pub NoneSoFar : List Entry → ℕ → Type 0
+  NoneSoFar entries n = (k : ℕ) (d : Entry) → k < n → k < length entries → passes_at (is_left_open name) instructions (get_or entries k d).address ≡ false
+
+  pub one_less : (entries : List Entry) (n : ℕ) (d : Entry) → n < length entries → NoneSoFar entries n
+      → passes_at (is_left_open name) instructions (get_or entries n d).address ≡ false → NoneSoFar entries (n + 1)
+  one_less entries n d within before fails k other low inside = by_place (cases_lt k n)
+    where
+      by_place : (k < n) ⊎ (n ≤ k) → passes_at (is_left_open name) instructions (get_or entries k other).address ≡ false
+      by_place (inl less) = before k other less inside
+      by_place (inr most) =
+          let here : n ≡ k = omega (arith, low, most) in
+          ap (λ (e : Entry). passes_at (is_left_open name) instructions e.address) (ap (λ j. get_or entries j other) (sym here) ∙ get_or-any entries n other d within) ∙ fails
+
+  -- an entry that passes
+  pub entry_passes : (all : List ℕ) (entries : List Entry) (n hash : ℕ) (d : Entry) → n < length entries
+      → ((entry : Entry) → Contains entries entry → IsEntryWithin all hash range.start range.end entry)
+      → passes_at (is_left_open name) instructions (get_or entries n d).address ≡ true → HasPassing (is_left_open name) instructions range
+  entry_passes all entries n hash d within entry_within passes =
+      let entry = get_or entries n d in
+      let w = entry_within entry (n, within, get_or-any entries n entry d within) in
+      record { address = entry.address; low = w.low; high = w.high; passes = passes }
+
+  pub none_of_hash : (entries : List Entry) (n hash : ℕ) → length entries ≤ n → NoneSoFar entries n
+      → ((entry : Entry) → IsEntryWithin (map name_hash_of instructions) hash range.start range.end entry → Contains entries entry)
+      → NonePasses (is_left_open name) instructions range hash
+  none_of_hash entries n hash all none within address i low high at hashed =
+      let entry : Entry = record { hash = hash; address = address } in
+      let there = within entry (record { hashed = hashed_at name_hash_of instructions address i at ∙ ap Some hashed; same = refl; low = low; high = high }) in
+      let fails = none there.0 entry (omega (arith, there.1, all)) there.1 in
+      sym (ap (passes (is_left_open name)) at) ∙ (ap (λ (e : Entry). passes_at (is_left_open name) instructions e.address) (sym there.2) ∙ fails)
+
+-- 5. Adding what passes, address by address
+
+pub next_added : (q : ℕ → Bool) (found : List ℕ) (i address : ℕ) (b : Bool) (old before after : List ℕ) → i < length found → address ≡ get_or found i address
+    → before ≡ old ++ filter q (take i found) → q address ≡ b → after ≡ before ++ cond b (address ∷ []) [] → after ≡ old ++ filter q (take (i + 1) found)
+next_added q found i address b old before after within is so passes added =
+    added ∙ ap (λ l. l ++ cond b (address ∷ []) []) so
+    ∙ (append_assoc old (filter q (take i found)) (cond b (address ∷ []) [])
+    ∙ ap (λ l. old ++ l) (sym (filter_more q found i address within ∙ ap (λ l. filter q (take i found) ++ l) (λ j. cond ((ap q (sym is) ∙ passes) j) (sym is j ∷ []) []))))

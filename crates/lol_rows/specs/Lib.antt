@@ -1,0 +1,2 @@
+pub mod KeyHashes
+pub mod Rows

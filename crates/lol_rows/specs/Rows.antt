@@ -1,0 +1,67 @@
+-- Rows of instructions, and what is left of them by their keys.
+use Rattle.std.specs.Prelude.{ℕ, ◌≡◌, ◌≤◌, ◌<◌, ◌-◌, Bool, true, false, not, ◌&&◌, List, map, filter, slice_get, Option, Some, None}
+use Rattle.std.specs.List.{range_with_len, list_any}
+use Rattle.std.specs.declared.ops.Range.{Range}
+use Rattle.lol_instructions.specs.Keys.{Keys, is_another_name}
+use Rattle.lol_instructions.specs.CompiledKeys.{keys_in}
+use Rattle.lol_instructions.specs.declared.instruction.Instruction.{Instruction}
+use Rattle.lol_key_table.specs.KeyTables.{IsTableOf}
+use Rattle.lol_rows.specs.KeyHashes.{hash_of_name, hash_of_pair}
+use Rattle.lol_rows.specs.declared.rows.Rows.{Rows}
+
+-- 1. Rows
+
+abbrev pub keys_of : Instruction → Keys
+keys_of i = keys_in i.predicate
+
+abbrev pub name_hash_of : Instruction → ℕ
+name_hash_of i = hash_of_name (keys_of i).name (keys_of i).opens
+
+abbrev pub pair_hash_of : Instruction → ℕ
+pair_hash_of i = hash_of_pair (keys_of i).name (keys_of i).attribute
+
+-- Rows have each instruction once by its name, and once by both of its keys.
+pub record AreRowsOf (instructions : List Instruction) (rows : Rows) : Type 0 where
+  pub names : IsTableOf (map name_hash_of instructions) rows.names
+  pub pairs : IsTableOf (map pair_hash_of instructions) rows.pairs
+
+-- 2. What is left
+
+-- an instruction that tests no other name than this one, in lower case
+abbrev pub is_left_by_name : List ℕ → Instruction → Bool
+is_left_by_name name i = not (is_another_name (keys_of i).name name)
+
+-- and of which it is known that it needs attributes
+abbrev pub is_left_open : List ℕ → Instruction → Bool
+is_left_open name i = is_left_by_name name i && (keys_of i).opens
+
+-- whether there is an instruction, and it passes
+abbrev pub passes : (Instruction → Bool) → Option Instruction → Bool
+passes p None = false
+passes p (Some i) = p i
+
+abbrev pub passes_at : (Instruction → Bool) → List Instruction → ℕ → Bool
+passes_at p instructions address = passes p (slice_get instructions address)
+
+abbrev pub addresses : Range ℕ → List ℕ
+addresses r = range_with_len r.start (r.end - r.start)
+
+-- Whether some instruction of a range passes.
+abbrev pub some_pass : (Instruction → Bool) → List Instruction → Range ℕ → Bool
+some_pass p instructions r = list_any (passes_at p instructions) (addresses r)
+
+-- The addresses of those of a range that pass, ascending.
+abbrev pub passing : (Instruction → Bool) → List Instruction → Range ℕ → List ℕ
+passing p instructions r = filter (passes_at p instructions) (addresses r)
+
+-- An instruction of a range passes.
+pub record HasPassing (p : Instruction → Bool) (instructions : List Instruction) (r : Range ℕ) : Type 0 where
+  pub address : ℕ
+  pub low : r.start ≤ address
+  pub high : address < r.end
+  pub passes : passes_at p instructions address ≡ true
+
+-- None of a range passes that has this hash of its name.
+abbrev pub NonePasses : (Instruction → Bool) → List Instruction → Range ℕ → ℕ → Type 0
+NonePasses p instructions r hash =
+    (address : ℕ) (i : Instruction) → r.start ≤ address → address < r.end → slice_get instructions address ≡ Some i → name_hash_of i ≡ hash → p i ≡ false
