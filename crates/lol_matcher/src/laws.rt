@@ -1,11 +1,11 @@
 //! Laws, each the contract of a function that takes and gives nothing.
 
-ghost use Rattle.lol_vm.specs.Standing.{CountersArePlaces, DocumentsAreOrdered};
+ghost use Rattle.lol_vm.specs.Standing.{DocumentsAreOrdered};
 ghost use Rattle.lol_vm.specs.VmLaws.{DataChangeNothing, DataKeepOpen, DataKeepRequests, LastDataAreLent, LastDataChange, PendingStands, SlotsAreOfDepth, StandingHasOpen};
 ghost use Rattle.lol_run_laws.specs.AskedRuns.{AskedRunsAnswerAlike, ToldGoesOn};
 
 use lol_run_laws::laws::asked_runs_answer_alike;
-use lol_vm::machine_laws::{counters_are_places, documents_are_ordered};
+use lol_vm::machine_laws::documents_are_ordered;
 use lol_vm::vm_laws::{
     data_change_nothing, dropped_requests_stand, last_data_are_lent, slots_are_of_depth,
     standing_has_open,
@@ -24,13 +24,11 @@ pub fn calls_answer_alike()
 pub(crate) fn run_laws<E>()
     ensures depths { SlotsAreOfDepth E }
     ensures ordered { DocumentsAreOrdered }
-    ensures places { CountersArePlaces }
     ensures dropped { PendingStands E }
     ensures has_open { StandingHasOpen E }
 {
     slots_are_of_depth::<E>();
     documents_are_ordered();
-    counters_are_places();
     dropped_requests_stand::<E>();
     standing_has_open::<E>();
 }

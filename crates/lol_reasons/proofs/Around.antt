@@ -4,7 +4,7 @@ use Rattle.std.proofs.lemmas.List.{length-map, length-reverse, take_all, take-ma
 use Rattle.lol_base.specs.LocalNames.{Name}
 use Rattle.lol_instructions.specs.Tests.{Element}
 use Rattle.lol_program.specs.Paths.{Path}
-use Rattle.lol_program.specs.Programs.{Program, IsProgramOf}
+use Rattle.lol_program.specs.Programs.{Program}
 use Rattle.lol_program.specs.ProgramViews.{program_shown}
 use Rattle.lol_stack.specs.Stacks.{items_in}
 use Rattle.lol_stack.specs.declared.stack_item.StackItemOf.{StackItemOf}
@@ -13,8 +13,7 @@ use Rattle.lol_vm.specs.AnswerLaws.{document_push}
 use Rattle.lol_vm.specs.Documents.{Document, empty, element_of}
 use Rattle.lol_vm.specs.Events.{Start}
 use Rattle.lol_vm.specs.Follows.{opens}
-use Rattle.lol_vm.specs.Machines.{OpenItem, AreItems}
-use Rattle.lol_vm.specs.StackMachines.{item_shown, items_shown}
+use Rattle.lol_vm.specs.Machines.{OpenItem, AreItems, item_shown, items_shown}
 use Rattle.lol_vm.specs.Vms.{program_in, stack_in}
 use Rattle.lol_reasons.specs.MachinesShow.{MachinesShowAround, items_around}
 use Rattle.lol_reasons.proofs.Climbs.{cut}
@@ -45,15 +44,13 @@ module _ {E : Type 0} (paths : List Path) (p : Program) (e : Element) (outer : L
 pub machines_show_around : (E : Type 0) → MachinesShowAround E
 machines_show_around E s esi vm events tag numbers st numbered =
     let d = document s esi events in
-    let now = ap (λ (x : Document). x.open_elements) (document_push s esi empty events (Start tag)) in
-    let are_items = subst (λ (q : Program). AreItems st.paths q (items_shown (items_in (stack_in vm))) (document s esi (events ++ Start tag ∷ [])).open_elements) st.shows.program
-    (subst (λ l. AreItems st.paths st.machine.program l (document s esi (events ++ Start tag ∷ [])).open_elements) st.shows.stack.items st.standing.items) in (
+    let now = ap (λ (x : Document). x.open_elements) (document_push s esi empty events (Start tag)) in (
       st.paths,
       record {
         closed = st.closed;
-        program = subst (λ q. IsProgramOf s st.paths q) st.shows.program st.standing.program;
+        program = st.standing.program;
         are_items = around_items st.paths (program_shown (program_in vm)) (element_of d tag) d.open_elements (opens s esi events tag) (items_in (stack_in vm))
-            (subst (AreItems st.paths (program_shown (program_in vm)) (items_shown (items_in (stack_in vm)))) now are_items);
+            (subst (AreItems st.paths (program_shown (program_in vm)) (items_shown (items_in (stack_in vm)))) now st.standing.items);
         are_numbers = numbered;
       },
     )

@@ -11,7 +11,7 @@ use Rattle.lol_vm.specs.Documents.{element_of}
 use Rattle.lol_vm.specs.Events.{Event, Start}
 use Rattle.lol_vm.specs.Follows.{opens}
 use Rattle.lol_vm.specs.Laws.{ids_of}
-use Rattle.lol_vm.specs.StackMachines.{items_shown}
+use Rattle.lol_vm.specs.Machines.{items_shown}
 use Rattle.lol_vm.specs.Vms.{Vm, Stands, program_in, stack_in}
 use Rattle.lol_reasons.specs.Matched.{IsAround}
 

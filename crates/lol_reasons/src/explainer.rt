@@ -11,7 +11,7 @@ ghost use Rattle.lol_vm.specs.Answers.{document};
 ghost use Rattle.lol_vm.specs.Documents.{element_of};
 ghost use Rattle.lol_vm.specs.Events.{Event};
 ghost use Rattle.lol_vm.specs.Matching.{matches};
-ghost use Rattle.lol_vm.specs.StackMachines.{items_shown};
+ghost use Rattle.lol_vm.specs.Machines.{items_shown};
 ghost use Rattle.lol_reasons.specs.Explanations.{Added, Text, added_by, reason_of, reasons};
 ghost use Rattle.lol_reasons.specs.Matched.{IsAround};
 ghost use Rattle.lol_reasons.specs.MachinesShow.{HasReported};

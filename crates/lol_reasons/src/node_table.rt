@@ -8,7 +8,7 @@ ghost use Rattle.lol_program.specs.Paths.{Path, Selectors};
 ghost use Rattle.lol_program.specs.Programs.{AreClosed, IsAt, IsProgramOf};
 ghost use Rattle.lol_program.specs.ProgramViews.{program_shown};
 ghost use Rattle.lol_vm.specs.Matching.{matches};
-ghost use Rattle.lol_vm.specs.StackMachines.{items_shown};
+ghost use Rattle.lol_vm.specs.Machines.{items_shown};
 ghost use Rattle.lol_reasons.specs.Climbing.{StandsUnder, has_number, has_place, range_in};
 ghost use Rattle.lol_reasons.specs.Matched.{HasMatched, IsAlone, IsAround};
 ghost use Rattle.lol_reasons.specs.Witnesses.{innermost_witness};

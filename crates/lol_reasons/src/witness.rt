@@ -7,7 +7,7 @@ ghost use Rattle.lol_instructions.specs.Tests.{Element};
 ghost use Rattle.lol_program.specs.Paths.{Path, Selectors};
 ghost use Rattle.lol_program.specs.ProgramViews.{program_shown};
 ghost use Rattle.lol_vm.specs.Matching.{matches};
-ghost use Rattle.lol_vm.specs.StackMachines.{items_shown};
+ghost use Rattle.lol_vm.specs.Machines.{items_shown};
 ghost use Rattle.lol_reasons.specs.Matched.{HasMatched, IsAlone, IsAround};
 ghost use Rattle.lol_reasons.specs.Climbing.{has_number, has_place, have_place, is_within, nearest_giving, node_above_from, node_with_from, reached_by};
 ghost use Rattle.lol_reasons.specs.Witnesses.{innermost_witness};

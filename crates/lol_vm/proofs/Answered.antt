@@ -1,6 +1,6 @@
--- What a machine that stands for events answers.
-use Rattle.lol_vm.proofs.Common.{Event, StartTag, ◌≡◌, ℕ, true, List, ◌↔◌, ap, Contains, ◌||◌, not, Bool, Element, is_html, Selectors, Path, element_of, document, ascending_once, matching_ids, asks, ascending_is_determined, ascending_ascends, pairs_from_ascends, matching_ids_ascend, among_ascending, ascending_among, all_places, AreClosed, context_of, Machine, StandsFor, ranges_of_machine, among_from_contains, contains_from_among, starts_open}
-use Rattle.lol_vm.proofs.Held.{ranges_hold_left_matches}
+-- What a start tag is answered, by what is run for it.
+use Rattle.lol_vm.proofs.Common.{◌≡◌, ℕ, true, List, ◌↔◌, ap, Contains, ◌||◌, not, Range, Element, is_html, Selectors, Path, ascending_once, matching_ids, asks, ascending_is_determined, ascending_ascends, pairs_from_ascends, matching_ids_ascend, among_ascending, ascending_among, all_places, AreClosed, IsProgramOf, HoldOnce, LeftMatches, context_of, among_from_contains, contains_from_among, starts_open}
+use Rattle.lol_program.specs.Programs.{Program}
 use Rattle.lol_vm.proofs.Gathered.{runs_give_reports}
 use Rattle.lol_vm.proofs.Stops.{stopped_starts_are_whole, started_by_names}
 
@@ -14,19 +14,13 @@ in_order ids s e outer same =
     ))
 
 -- what it asks and reports is what the definition says
-pub record AnswersStart (s : Selectors) (m : Machine) (e : Element) (outer : List Element) : Type 0 where
-  pub asked : (not (is_html e.tag.namespace) || starts_open m.program e (started_by_names m.program true e (ranges_of_machine m)).left) ≡ asks s e outer
-  pub matched : ascending_once (context_of m.program true e (all_places (ranges_of_machine m))).ids ≡ matching_ids s.pairs e outer
+pub record AnswersStart (s : Selectors) (p : Program) (ranges : List (Range ℕ)) (e : Element) (outer : List Element) : Type 0 where
+  pub asked : (not (is_html e.tag.namespace) || starts_open p e (started_by_names p true e ranges).left) ≡ asks s e outer
+  pub matched : ascending_once (context_of p true e (all_places ranges)).ids ≡ matching_ids s.pairs e outer
 
-pub starts_answer : (s : Selectors) (esi : Bool) (paths : List Path) (m : Machine) (events : List Event) (tag : StartTag) → AreClosed s
-    → StandsFor s esi paths m events
-    → AnswersStart s m (element_of (document s esi events) tag) (document s esi events).open_elements
-starts_answer s esi paths m events tag closed stands =
-    let d = document s esi events in
-    let e = element_of d tag in
-    let ranges = ranges_of_machine m in
-    let held = ranges_hold_left_matches s paths m.program m.items d.open_elements closed stands.program stands.items in
-    record {
-      asked = ap (λ b. not (is_html e.tag.namespace) || b) (stopped_starts_are_whole s paths m.program ranges e d.open_elements true closed stands.program held).asks;
-      matched = in_order (context_of m.program true e (all_places ranges)).ids s e d.open_elements (runs_give_reports s paths m.program ranges e d.open_elements closed stands.program held).ids;
-    }
+pub starts_answer : (s : Selectors) (paths : List Path) (p : Program) (ranges : List (Range ℕ)) (e : Element) (outer : List Element) → AreClosed s → IsProgramOf s paths p → HoldOnce paths ranges (LeftMatches outer)
+    → AnswersStart s p ranges e outer
+starts_answer s paths p ranges e outer closed program held = record {
+  asked = ap (λ b. not (is_html e.tag.namespace) || b) (stopped_starts_are_whole s paths p ranges e outer true closed program held).asks;
+  matched = in_order (context_of p true e (all_places ranges)).ids s e outer (runs_give_reports s paths p ranges e outer closed program held).ids;
+}

@@ -1,10 +1,9 @@
 -- What a caller of a machine cites: the charge of its slots, from call to call, up to `release`; what it has of its document, and whether a start tag opens an element.
-use Rattle.lol_vm.proofs.Common.{◌≡◌, ℕ, ◌+◌, ◌-◌, ◌*◌, ◌≤◌, ◌<◌, Bool, true, false, cond, not, List, [], ◌∷◌, length, Option, Some, None, Result, Ok, Err, refl, sym, ap, ◌∙◌, arith, true≢false, ◌&&◌, ◌↔◌, nat_lt, Decides-eqb, nat_tests, and_parts, and-false, Name, StartTag, full_count, grown_slots, Limiter, charged, Selectors, StackItemOf, IsPushed, IsSame, item_bytes_in, items_in, last_count, list_in, document, Document, after_start, children_of, element_of, parent_of, same_parent, Event, has_content, opens, greatest_count, counted_last, counted_root, or_root, unfinished, Vm, ChargesSlots, IsChargedFor, IsCovered, OpensNothing, Stands, has_failed, is_asked_for, slots_charged, slot_bytes, stack_in}
+use Rattle.lol_vm.proofs.Common.{◌≡◌, ℕ, ◌+◌, ◌-◌, ◌*◌, ◌≤◌, ◌<◌, Bool, true, false, cond, not, List, length, Option, Some, None, Result, Ok, Err, refl, sym, ap, ◌∙◌, arith, true≢false, ◌&&◌, ◌↔◌, nat_lt, Decides-eqb, nat_tests, and_parts, and-false, Name, StartTag, full_count, grown_slots, Limiter, charged, Selectors, StackItemOf, IsPushed, IsSame, item_bytes_in, items_in, last_count, list_in, document, Document, after_start, children_of, element_of, parent_of, same_parent, Event, has_content, opens, greatest_count, unfinished, Vm, ChargesSlots, IsChargedFor, IsCovered, OpensNothing, Stands, has_failed, is_asked_for, slots_charged, slot_bytes, stack_in}
 use Rattle.std.specs.Result.{OnErr, OnOk}
 use Rattle.std.proofs.Math.Nat.{add-mul}
-use Rattle.lol_vm.proofs.Kept.{children-cons, items_length, counters_are_places}
-use Rattle.lol_vm.proofs.StackCounting.{seen_children}
-use Rattle.lol_vm.proofs.StackMachines.{items_counted}
+use Rattle.lol_vm.proofs.Children.{children-cons}
+use Rattle.lol_vm.proofs.StackCounting.{last_is, many_are}
 
 -- 1. What a call charges
 
@@ -117,24 +116,14 @@ module _ {E : Type 0} {first last : Vm E} {before now : Limiter} where
 
 -- 5. What a machine that stands for events has of their document
 
-one_more : (counts : List ℕ) (root : ℕ) → or_root (counted_last counts) (counted_root counts root) ≡ or_root counts root + 1
-one_more [] root = refl
-one_more (c ∷ counts) root = refl
-
 module _ {E : Type 0} (s : Selectors) (esi : Bool) (vm : Vm E) (events : List Event) (stands : Stands s esi vm events) where
-  as_many : length stands.machine.items ≡ length (document s esi events).open_elements
-  as_many = items_length stands.paths stands.machine.program stands.machine.items (document s esi events).open_elements stands.standing.items
-
   -- as many items as elements are open
   pub many_open : length (items_in vm.stack) ≡ length (document s esi events).open_elements
-  many_open = sym (items_counted vm.stack stands.machine stands.shows.stack) ∙ as_many
+  many_open = many_are vm.stack vm.program.enable_nth_of_type (document s esi events) stands.standing.counted
 
   -- the next element is the child after those that were counted
   pub position_is : (tag : StartTag) → (element_of (document s esi events) tag).position ≡ last_count vm.stack + 1
-  position_is tag =
-      let m = stands.machine in
-      sym (counters_are_places m (document s esi events) tag stands.standing.counted as_many).0
-      ∙ (one_more m.children m.root_children ∙ ap (λ n. n + 1) (sym (seen_children vm.stack m stands.shows.stack (items_in vm.stack) refl)))
+  position_is tag = sym (ap (λ n. n + 1) (last_is vm.stack vm.program.enable_nth_of_type (document s esi events) stands.standing.counted))
 
   -- no tag was refused
   pub hasnt_failed : vm.failed ≡ false

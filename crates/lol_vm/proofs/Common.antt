@@ -33,16 +33,15 @@ pub use Rattle.lol_vm.specs.Events.{End, Event, Start, has_content, has_content_
 pub use Rattle.lol_vm.specs.Follows.{Follows, IsCharged, IsDropped, IsHandedOver, IsRefusedFor, IsRunWithoutMemory, IsTaken, StartedElement, Stops, opens, refusal_after}
 pub use Rattle.lol_vm.specs.InstructionRuns.{AreRunnable, HasTriesLeft, IsInsideOf, NeedNoMemory, all_at, first_open_from, gathered_by_names, gathered_with_attributes, holds_seen, instructions_at, is_true, open_among, tried_until, value_seen, with_branch_if}
 pub use Rattle.lol_vm.specs.MachineLaws.{IsRequest, ProgramsHaveEachNode, RangesHoldLeftMatches, starts_open}
-pub use Rattle.lol_vm.specs.Machines.{AreItems, HasRanges, HoldOnce, IsItem, IsReached, LeftMatches, Matches, OpenItem, active_of, hereditary_jumps_of, jumps_of, last_jumps, ranges_of_active, ranges_to_run}
+pub use Rattle.lol_vm.specs.Machines.{AreItems, HasRanges, HoldOnce, IsItem, IsReached, LeftMatches, Matches, OpenItem, active_of, children_shown, hereditary_jumps_of, item_shown, items_shown, jumps_of, last_jumps, ranges_of_active, ranges_to_run}
 pub use Rattle.lol_vm.specs.Matching.{left_matches, matches, parent_passes, some_ancestor_passes}
 pub use Rattle.lol_vm.specs.PlaceRuns.{Context, Gathers, branch, context_of, gathered_from_places, given_by, hereditary_jumps_list, ids_list, instruction_value, is_open_at, jumps_list, no_context, run, step_with_attributes, value_at}
 pub use Rattle.lol_vm.specs.Refusals.{Allowance, Cause, Counter, Limit, exceeds, greatest_count, longest, longest_from, or_later, refusal, refused, refused_from}
 pub use Rattle.lol_vm.specs.ReportLaws.{among_matching_ids, every_report, matching_ids_among, matching_ids_ascend}
-pub use Rattle.lol_vm.specs.StackMachines.{KeepsMachine, KeepsTyped, children_shown, item_shown, items_shown}
-pub use Rattle.lol_vm.specs.Standing.{AreCounted, AreTyped, CountersArePlaces, Descend, DocumentsAreOrdered, IsOrdered, Machine, StandsFor, StandsOn, TypedStand, closed_count, counted, counted_last, counted_root, counted_typed, cut, ended, finished, machine_after, new_machine, opened, or_root, ranges_of_machine, started, unfinished}
+pub use Rattle.lol_vm.specs.Standing.{AreTyped, AreTypedIf, CountersArePlaces, Descend, DocumentsAreOrdered, HasCounted, IsOrdered, StandsFor, StandsOn, unfinished}
 pub use Rattle.lol_vm.specs.TagRuns.{AreExecuted, AreTried, AreWithin, IsPointIn, IsStopIn, jumps_in, jumps_of_item, number_of, ranges_from, ranges_left, ranges_of, ranges_to_run_in, rest_of, sight_in, tag_ranges, tried_at}
 pub use Rattle.lol_vm.specs.Views.{answer_of, event_of, match_of, selectors, tag_of}
-pub use Rattle.lol_vm.specs.Vms.{AreOpened, ChargesSlots, GoesOnAt, HasOpen, IsAnswered, IsChargedFor, IsCovered, IsEntered, IsPending, IsRefusal, IsReported, IsRequested, IsRestOf, IsSilent, IsTagOf, IsTriedAtMost, OpensNothing, Shows, Stands, StaysFailed, Vm, content_at, content_of, data_in, has_failed, info_of, instructions_in, is_asked_for, open_after, slot_bytes, slots_charged, stack_in, tries_in}
+pub use Rattle.lol_vm.specs.Vms.{AreOpened, ChargesSlots, GoesOnAt, HasOpen, IsAnswered, IsChargedFor, IsCovered, IsEntered, IsPending, IsRefusal, IsReported, IsRequested, IsRestOf, IsSilent, IsTagOf, IsTriedAtMost, OpensNothing, Stands, StaysFailed, Vm, content_at, content_of, data_in, has_failed, info_of, instructions_in, is_asked_for, open_after, ranges_to_try, slot_bytes, slots_charged, stack_in, tries_in}
 pub use Rattle.std.proofs.Common.{All, Bool, Contains, Err, List, None, Ok, Option, Result, Some, [], ap, arith, cond, count_by, drop, drop-cons, false, filter, flat_map, get_or, if◌then◌else◌, inl, inr, is_none, length, map, map-id, max, nat_le, nat_lt, not, of_calls, option_to_list, position, refl, reverse, rules, slice_get, slice_set, subst, suc, sym, take, true, true≢false, unwrap_or, zero, ℕ, ◌&&◌, ◌*◌, ◌++◌, ◌+◌, ◌-◌, ◌<◌, ◌==◌, ◌^◌, ◌||◌, ◌↔◌, ◌∙◌, ◌∷◌, ◌≡◌, ◌≢◌, ◌≤◌, ◌⊎◌}
 pub use Rattle.std.proofs.lemmas.Bool.Decides.{Decides-eqb, nat_tests}
 pub use Rattle.std.proofs.lemmas.List.{append-nil, append_cancel_right, drop-append-le, drop_all, drop_at, get_or-append-add, length-drop, length-map, length-reverse, length-set, length-take, length-take-le, map-append, map_push, reverse-append, reverse-reverse, take-append-drop, take_all, take_at, take_more}

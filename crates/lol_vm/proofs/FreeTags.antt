@@ -1,5 +1,5 @@
 -- Start tags that take no memory.
-use Rattle.lol_vm.proofs.Common.{◌≡◌, ℕ, ◌<◌, Bool, true, false, cond, true≢false, List, length, Option, Some, None, Result, Err, refl, sym, ap, ◌∙◌, subst, arith, inl, inr, get_or, Contains, ◌||◌, ◌⊎◌, slice_get, not, ◌&&◌, list_all, IsNone, option_map, not_true, length-map, Range, is_hash, local_name, Among, contains_from_among, is_void, is_esi, lowercased, same_name, StartTag, Namespace, Html, has_test_by_type, Path, Selectors, last_compound, IsProgramOf, is_html, has_content, has_content_in, AllSmall, NeedNoMemory, KeepsTyped, typed_in, Machine, Context, Vm, Shows, IsRequested, GoesOnAt, content_at, ExecutionCtx, at_among, within_at}
+use Rattle.lol_vm.proofs.Common.{◌≡◌, ℕ, ◌<◌, Bool, true, false, cond, true≢false, List, length, Option, Some, None, Result, Err, refl, sym, ap, ◌∙◌, subst, arith, inl, inr, get_or, Contains, ◌||◌, ◌⊎◌, slice_get, not, ◌&&◌, list_all, IsNone, option_map, not_true, length-map, Range, is_hash, local_name, Among, contains_from_among, is_void, is_esi, lowercased, same_name, StartTag, Namespace, Html, has_test_by_type, Path, Selectors, last_compound, IsProgramOf, is_html, has_content, has_content_in, AllSmall, NeedNoMemory, typed_in, Context, Vm, IsRequested, GoesOnAt, content_at, ExecutionCtx, at_among, within_at, AreTypedIf, StandsOn, Document, Element}
 use Rattle.lol_base.specs.MemberLaws.{among_any}
 use Rattle.std.proofs.lemmas.Option.{slice_get-map, slice_get-get_or}
 use Rattle.std.proofs.lemmas.Slice.Eq.{bytes_eq-Decides}
@@ -13,6 +13,7 @@ use Rattle.lol_css.specs.declared.selector.Combinator.{Combinator}
 use Rattle.lol_css.specs.declared.selector.Combinator.TheVariants.{Child, Descendant}
 use Rattle.lol_vm.specs.FreeTags.{AreFlat, AreSmall, TakesNoMemory}
 use Rattle.lol_stack.specs.TypedCounts.{TypedCount}
+use Rattle.lol_vm.specs.Documents as documents
 use Rattle.lol_vm.specs.VmErrors.{IsAskedOrFull, IsNotForMemory, push_error}
 use Rattle.lol_memory.specs.declared.limited_vec.PushError.{PushError}
 use Rattle.lol_memory.specs.declared.limited_vec.PushError.TheVariants as pushes
@@ -107,35 +108,30 @@ module _ (s : Selectors) (paths : List Path) (prog : Program) (small : AreSmall 
       let found = among_any (λ path. has_test_by_type (last_compound path)) paths typed in
       true≢false (sym found.2 ∙ small.untyped found.0 ((program.same found.0).0 (contains_from_among paths found.0 found.1))))
 
-pub untyped : (typed : Option (List TypedCount)) (by_type : Bool) (top : ℕ) (count : ℕ → List ℕ → ℕ) → KeepsTyped typed by_type top count → by_type ≡ false → IsNone typed
-untyped None by_type top count keeps without = refl
-untyped (Some ts) by_type top count keeps without = absurd (true≢false (sym keeps.0 ∙ without))
+untyped : (typed : Option (List TypedCount)) (by_type : Bool) (children : List documents.Child) (elements : List Element) → AreTypedIf typed by_type children elements → by_type ≡ false → IsNone typed
+untyped None by_type children elements are without = refl
+untyped (Some ts) by_type children elements are without = absurd (true≢false (sym are.0 ∙ without))
 
 -- a machine of such selectors
-module _ {E : Type 0} (s : Selectors) (paths : List Path) (vm : Vm E) (m : Machine) (shown : Shows vm m) (program : IsProgramOf s paths m.program) (small : AreSmall s) where
-  shown_program : IsProgramOf s paths (program_shown vm.program)
-  shown_program = subst (IsProgramOf s paths) shown.program program
-
+module _ {E : Type 0} (s : Selectors) (paths : List Path) (vm : Vm E) (d : Document) (most : ℕ) (standing : StandsOn s paths (program_shown vm.program) vm.stack d most) (small : AreSmall s) where
   pub is_closed_free : (content : Bool) → content ≡ false → NeedNoMemory content vm.program.instructions.items
-  is_closed_free = closed_free s paths vm.program small shown_program
+  is_closed_free = closed_free s paths vm.program small standing.program
 
   pub is_alone_free : ((node : Path) → Contains s.nodes node → programs.above node ≡ None) → (content : Bool) → NeedNoMemory content vm.program.instructions.items
-  is_alone_free = alone_free s paths vm.program small shown_program
+  is_alone_free = alone_free s paths vm.program small standing.program
 
   pub has_none_typed : IsNone (typed_in vm.stack)
-  has_none_typed =
-      untyped (typed_in vm.stack) m.program.by_type (length m.items) m.typed shown.stack.typed
-      (ap (λ (p : programs.Program). p.by_type) shown.program ∙ not_by_type s paths vm.program small shown_program)
+  has_none_typed = untyped (typed_in vm.stack) vm.program.enable_nth_of_type d.children d.open_elements standing.counted.typed (not_by_type s paths vm.program small standing.program)
 
 -- a start tag that takes no memory, or one of flat selectors
 pub small_if : (s : Selectors) (tag : StartTag) → TakesNoMemory s tag ⊎ AreFlat s → AreSmall s
 small_if s tag (inl takes) = takes.0
 small_if s tag (inr flat) = flat.small
 
-pub free_if : {E : Type 0} (s : Selectors) (paths : List Path) (vm : Vm E) (m : Machine) → Shows vm m → IsProgramOf s paths m.program → (esi : Bool) (tag : StartTag)
+pub free_if : {E : Type 0} (s : Selectors) (paths : List Path) (vm : Vm E) (d : Document) (most : ℕ) → StandsOn s paths (program_shown vm.program) vm.stack d most → (esi : Bool) (tag : StartTag)
     → TakesNoMemory s tag ⊎ AreFlat s → NeedNoMemory (has_content esi tag) vm.program.instructions.items
-free_if s paths vm m shown program esi tag (inl takes) = is_closed_free s paths vm m shown program takes.0 (has_content esi tag) (void_is_closed esi tag takes.1 takes.2)
-free_if s paths vm m shown program esi tag (inr flat) = is_alone_free s paths vm m shown program flat.small flat.alone (has_content esi tag)
+free_if s paths vm d most standing esi tag (inl takes) = is_closed_free s paths vm d most standing takes.0 (has_content esi tag) (void_is_closed esi tag takes.1 takes.2)
+free_if s paths vm d most standing esi tag (inr flat) = is_alone_free s paths vm d most standing flat.small flat.alone (has_content esi tag)
 
 -- 3. Answers
 

@@ -20,7 +20,7 @@ pub mod Stops
 pub mod Kept
 pub mod Answered
 pub mod Whole
-pub mod StackMachines
+pub mod Children
 pub mod StackCounting
 pub mod GatheringLemmas
 pub mod InstructionLists

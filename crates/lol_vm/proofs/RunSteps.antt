@@ -1,5 +1,5 @@
 -- What one event does to a run.
-use Rattle.lol_vm.proofs.Common.{◌≡◌, ℕ, suc, ◌+◌, ◌-◌, ◌*◌, ◌≤◌, ◌<◌, ◌^◌, Bool, true, false, List, [], ◌∷◌, ◌++◌, length, map, take, drop, reverse, Option, Some, None, refl, sym, ap, ◌∙◌, subst, arith, max, nat_lt, if◌then◌else◌, nat_tests, length-map, length-drop, length-reverse, take_at, drop_at, StartTag, IsLimited, Limiter, charged, full_count, Selectors, Element, after, document, Document, empty, element_of, children_of, closed, place_of, inner_part, after_start, after_end, Event, Start, End, Follows, IsCharged, IsRefusedFor, Stops, opens, refusal_after, StartedElement, Cause, Limit, Counter, longest, exceeds, greatest_count, list_in, last_count, closed_count, Vm, Stands, stack_in, data_in, slots_charged, slot_bytes, open_after}
+use Rattle.lol_vm.proofs.Common.{◌≡◌, ℕ, suc, ◌+◌, ◌-◌, ◌*◌, ◌≤◌, ◌<◌, ◌^◌, Bool, true, false, List, [], ◌∷◌, ◌++◌, length, map, take, drop, reverse, Option, Some, None, refl, sym, ap, ◌∙◌, subst, arith, max, nat_lt, if◌then◌else◌, nat_tests, length-map, length-drop, length-reverse, take_at, drop_at, StartTag, IsLimited, Limiter, charged, full_count, Selectors, Element, after, document, Document, empty, element_of, children_of, closed, place_of, inner_part, after_start, after_end, Event, Start, End, Follows, IsCharged, IsRefusedFor, Stops, opens, refusal_after, StartedElement, Cause, Limit, Counter, longest, exceeds, greatest_count, list_in, last_count, Vm, Stands, stack_in, data_in, slots_charged, slot_bytes, open_after}
 use Rattle.std.specs.List.{take-map, drop-map}
 use Rattle.lol_memory.specs.Slots.{slots}
 use Rattle.lol_vm.specs.RunRefusals.{allowance_of}
@@ -7,7 +7,7 @@ use Rattle.lol_vm.specs.declared.events.RunCause.{RunCause}
 use Rattle.lol_vm.specs.declared.events.RunCause.TheVariants.{MemoryLimitExceeded, CounterFull, Memory}
 use Rattle.lol_vm.proofs.Runs.{cut_reverse}
 use Rattle.lol_vm.proofs.CallerLemmas.{countable_after, many_open, no_room_for, room_for}
-use Rattle.lol_vm.proofs.Kept.{documents_are_ordered, outer_is}
+use Rattle.lol_vm.proofs.Children.{closed_count, documents_are_ordered, outer_is}
 use Rattle.lol_vm.specs.ChargeLaws.{slots_rise, stays_within, passes_maximum}
 use Rattle.lol_vm.proofs.RefusedRuns.{fits_on}
 use Rattle.lol_vm.specs.AnswerLaws.{document_push, longest_push}

@@ -1,12 +1,25 @@
--- Stacks that close elements as a machine does.
-use Rattle.lol_vm.proofs.Common.{◌≡◌, ℕ, suc, ◌+◌, ◌-◌, ◌<◌, Bool, true, false, List, [], ◌∷◌, ◌++◌, length, map, position, Option, Some, None, refl, sym, ap, ◌∙◌, subst, arith, if◌then◌else◌, position_from, option_map, option_or, reverse-append, lowercased, Name, local_name, OpenItem, Machine, ended, items_in, place_to_close, IsEndedAt, IsEnded, item_shown, items_shown, KeepsMachine, StackItemOf, StackOf, StackNames}
+-- Which elements of a stack an end tag closes.
+use Rattle.lol_vm.proofs.Common.{◌≡◌, ℕ, suc, ◌+◌, ◌-◌, ◌<◌, Bool, true, false, List, [], ◌∷◌, ◌++◌, length, map, drop, take, reverse, position, Option, Some, None, refl, sym, ap, ◌∙◌, arith, if◌then◌else◌, position_from, option_map, option_or, reverse-append, length-drop, length-map, length-reverse, drop_at, lowercased, Name, local_name, OpenItem, items_in, place_to_close, item_shown, items_shown, StackItemOf, StackOf, StackNames}
+use Rattle.std.specs.List.{take-map}
 use Rattle.std.specs.Str.{bytes_eq}
 use Rattle.std.proofs.lemmas.Iterator.Adapters.{position_from-zero}
-use Rattle.lol_stack.specs.SoundStacks.{last_place_from, last_place, IsSound}
+use Rattle.std.proofs.lemmas.List.Quantifiers.{position-Some}
+use Rattle.lol_stack.specs.SoundStacks.{last_place_from, IsSound}
 use Rattle.lol_stack.specs.SoundLaws.{ends_at_last}
-use Rattle.lol_vm.proofs.StackMachines.{found_within, shown_length, items_counted, place_of_last, ended_at_last_keeps}
+use Rattle.lol_vm.proofs.Runs.{cut_reverse}
+use Rattle.lol_vm.proofs.StackCounting.{shown_length}
 
--- 1. The first place at which a test passes, with one element more
+-- 1. Lists, the last element first
+
+pub shown_cut : {A B : Type 0} (f : A → B) (xs : List A) (n place : ℕ) → n + place ≡ length xs → drop n (reverse (map f xs)) ≡ reverse (map f (take place xs))
+shown_cut f xs n place sizes =
+    let back = length-reverse (drop place (map f xs)) ∙ length-drop place (map f xs) in
+    ap (drop n) (cut_reverse place (map f xs)) ∙ (drop_at (reverse (drop place (map f xs))) (reverse (take place (map f xs))) n (omega (arith, back, length-map xs f, sizes)) ∙ ap reverse (take-map f place xs))
+
+pub found_within : (p : OpenItem → Bool) (xs : List OpenItem) (k : ℕ) → position p xs ≡ Some k → k < length xs
+found_within p xs k is = (position-Some p xs k (record { name = []; jumps = []; hereditary_jumps = [] }) is).0
+
+-- 2. The first place at which a test passes, with one element more
 
 module _ {A : Type 0} (p : A → Bool) where
   place_push : (i : ℕ) (ys : List A) (y : A) → position_from p i (ys ++ y ∷ []) ≡ option_or (position_from p i ys) (if p y then Some (i + length ys) else None)
@@ -21,7 +34,7 @@ module _ {A : Type 0} (p : A → Bool) where
       by_test true later = refl
       by_test false later = later ∙ ap (λ k. option_or (position_from p (i + 1) ys) (if p y then Some k else None)) sizes
 
--- 2. The last element of a name
+-- 3. The last element of a name
 
 abbrev from_last : ℕ → ℕ → ℕ → ℕ
 from_last place count k = place + (count - (k + 1))
@@ -31,7 +44,7 @@ same_option f g same None = refl
 same_option f g same (Some k) = ap Some (same k)
 
 module _ (name : List ℕ) where
-  abbrev is_named : OpenItem → Bool
+  abbrev pub is_named : OpenItem → Bool
   is_named item = bytes_eq item.name (lowercased name)
 
   last_is : {E : Type 0} (place : ℕ) (xs : List (StackItemOf Name E)) → option_map (from_last place (length xs)) (position_from is_named 0 (items_shown xs)) ≡ last_place_from place xs (local_name name)
@@ -55,16 +68,10 @@ module _ (name : List ℕ) where
           ap Some same ∙ ap (λ o. option_or o (Some place)) later
       by_place None within later false count = ap (λ o. option_or o None) later
 
-  pub place_is_last : {E : Type 0} (s : StackOf Name StackNames E) (m : Machine) → KeepsMachine s m → place_of_last m name ≡ last_place (items_in s) (local_name name)
-  place_is_last s m keeps =
-      let count = items_counted s m keeps in
-      same_option (λ k. length m.items - (k + 1)) (from_last 0 (length (items_in s))) (λ k. omega (arith, count)) (position is_named m.items)
-      ∙ (ap (option_map (from_last 0 (length (items_in s)))) (ap (position is_named) keeps.items ∙ position_from-zero is_named (items_shown (items_in s)))
-      ∙ last_is 0 (items_in s))
-
--- An end tag closes what it closes on the machine, where the stack's lists are those of its elements.
-pub ending_stack_keeps : {E : Type 0} → (old new : StackOf Name StackNames E) (m : Machine) (name : List ℕ)
-    → KeepsMachine old m → IsSound old → IsEnded old (local_name name) new → KeepsMachine new (ended m name)
-ending_stack_keeps old new m name keeps sound ended =
-    let place : place_to_close old (local_name name) ≡ place_of_last m name = ends_at_last old (local_name name) sound ∙ sym (place_is_last name old m keeps) in
-    ended_at_last_keeps old new m name keeps (subst (λ o. IsEndedAt o old new) place ended)
+  -- an end tag closes the innermost element of its name and all inside it
+  pub closes_innermost : {E : Type 0} (s : StackOf Name StackNames E) → IsSound s
+      → place_to_close s (local_name name) ≡ option_map (λ k. length (items_in s) - (k + 1)) (position is_named (items_shown (items_in s)))
+  closes_innermost s sound =
+      ends_at_last s (local_name name) sound
+      ∙ sym (same_option (λ k. length (items_in s) - (k + 1)) (from_last 0 (length (items_in s))) (λ k. omega arith) (position is_named (items_shown (items_in s)))
+      ∙ (ap (option_map (from_last 0 (length (items_in s)))) (position_from-zero is_named (items_shown (items_in s))) ∙ last_is 0 (items_in s)))

@@ -1,10 +1,10 @@
 -- What the machine of the code runs for a start tag, and what that gives.
-use Rattle.lol_vm.proofs.Common.{◌≡◌, ℕ, suc, zero, reverse, ◌+◌, ◌-◌, ◌<◌, ◌≤◌, ◌^◌, Bool, true, false, cond, List, [], ◌∷◌, ◌++◌, length, map, drop, take, get_or, All, Option, Some, None, refl, sym, ap, ◌∙◌, subst, arith, Contains, drop-cons, slice_get, if◌then◌else◌, count_by, length-map, length-drop, length-reverse, map-append, reverse-append, reverse-reverse, take-append-drop, option_map, range_with_len, Range, Name, Among, among_from_contains, Ids, TagAttributes, Sight, sight_of, is_open, Path, Selectors, AreClosed, IsProgramOf, places, all_places, Element, names_counted, attributes_counted, Tries, name_tries, attribute_tries, Gathers, Context, no_context, context_of, branch, is_open_at, value_at, run, step_with_attributes, AreRunnable, IsInsideOf, all_at, value_seen, is_true, holds_seen, first_open_from, with_branch_if, gathered_by_names, gathered_with_attributes, starts_open, AreItems, HoldOnce, LeftMatches, active_of, last_jumps, ranges_of_active, ranges_to_run, KeepsMachine, item_shown, items_shown, items_in, active_in, Machine, ranges_of_machine, AreTried, number_of, ranges_from, jumps_in, jumps_of_item, ranges_to_run_in, sight_in, content_of, ExecutionCtx, StackItemOf, StackOf, StackNames}
+use Rattle.lol_vm.proofs.Common.{◌≡◌, ℕ, suc, zero, reverse, ◌+◌, ◌-◌, ◌<◌, ◌≤◌, ◌^◌, Bool, true, false, cond, List, [], ◌∷◌, ◌++◌, length, map, drop, take, get_or, All, Option, Some, None, refl, sym, ap, ◌∙◌, subst, arith, Contains, drop-cons, slice_get, if◌then◌else◌, count_by, length-map, length-drop, length-reverse, map-append, reverse-append, reverse-reverse, take-append-drop, option_map, range_with_len, Range, Name, Among, among_from_contains, Ids, TagAttributes, Sight, sight_of, is_open, Path, Selectors, AreClosed, places, all_places, Element, names_counted, attributes_counted, Tries, name_tries, attribute_tries, Gathers, Context, no_context, context_of, branch, is_open_at, value_at, run, step_with_attributes, AreRunnable, IsInsideOf, all_at, value_seen, is_true, holds_seen, first_open_from, with_branch_if, gathered_by_names, gathered_with_attributes, starts_open, HoldOnce, LeftMatches, active_of, last_jumps, ranges_of_active, ranges_to_run, item_shown, items_shown, items_in, active_in, AreTried, number_of, ranges_from, jumps_of_item, ranges_to_run_in, sight_in, content_of, ExecutionCtx, StackItemOf, StackOf, StackNames, StandsOn, Document}
 use Rattle.std.proofs.lemmas.List.Sums.{count_by-le-length}
 use Rattle.std.proofs.lemmas.List.FromFn.{length-range_with_len}
 use Rattle.std.proofs.lemmas.List.Elements.{All-contains_itself, All-weaker, All-take}
 use Rattle.lol_program.specs.Programs as programs
-use Rattle.lol_program.specs.ProgramViews.{instruction_shown, code_of, program_shown}
+use Rattle.lol_program.specs.ProgramViews.{instruction_shown, program_shown}
 use Rattle.lol_instructions.specs.declared.instruction.Instruction.{Instruction}
 use Rattle.lol_instructions.specs.declared.name_value.NameValue.{NameValue}
 use Rattle.lol_instructions.specs.declared.name_value.NameValue.TheVariants.{True, False, Open}
@@ -21,8 +21,7 @@ use Rattle.lol_vm.proofs.Counted.{places_count_tries}
 use Rattle.lol_vm.proofs.Held.{ranges_are_inside, ranges_hold_left_matches, programs_have_each_node}
 use Rattle.lol_vm.proofs.InstructionLists.{offset_inside}
 use Rattle.lol_vm.proofs.InstructionPlaces.{AreRangesOf, AreAsOpen, instructions_are_as_open, names_gather}
-use Rattle.lol_vm.proofs.StackCounting.{ends, last_at, last_place}
-use Rattle.lol_vm.proofs.StackMachines.{shown_push}
+use Rattle.lol_vm.proofs.StackCounting.{ends, last_at, last_place, shown_push}
 use Rattle.lol_vm.proofs.Stops.{stopped_starts_are_whole, stops_leave, numbers_are_offsets, WholeStart, started_by_names, from_number, first_open, run_by_names, step_by_names}
 
 -- 1. Lists
@@ -55,88 +54,78 @@ active_turned (item ∷ items) =
     (λ i. activated (active_turned items i) (count i) item.hereditary_jumps)
     ∙ (sym (active_after-append [] 0 (hereditary_jumps_in (reverse items)) (item.hereditary_jumps ∷ [])) ∙ sym (ap active_ranges_of more))
 
--- those of a machine's items are those of a sound stack
-active_kept : {E : Type 0} (stack : StackOf Name StackNames E) (m : Machine) → KeepsMachine stack m → IsSound stack → active_in stack ≡ active_of m.items
-active_kept stack m keeps sound =
+-- the ranges that the code runs are those of the open items, where the stack's lists are those of its elements
+ranges_shown : {E : Type 0} (stack : StackOf Name StackNames E) (prog : Program) → IsSound stack → ranges_to_run_in prog stack ≡ ranges_to_run (program_shown prog) (items_shown (items_in stack))
+ranges_shown stack prog sound =
+    let active : active_in stack ≡ active_of (items_shown (items_in stack)) =
     sound.active
     ∙ (ap (λ xs. active_ranges_of (hereditary_jumps_in xs)) (sym (reverse-reverse (items_in stack)))
-    ∙ (sym (active_turned (reverse (items_in stack)))
-    ∙ (ap active_of (sym (reverse-map item_shown (items_in stack))) ∙ sym (ap active_of keeps.items))))
-
--- the ranges that the code runs are those of the machine
-pub ranges_shown : {E : Type 0} (stack : StackOf Name StackNames E) (m : Machine) (prog : Program) → KeepsMachine stack m → IsSound stack → m.program ≡ program_shown prog
-    → ranges_to_run_in prog stack ≡ ranges_of_machine m
-ranges_shown stack m prog keeps sound is =
-    let jumps : jumps_in stack ≡ last_jumps m.items = sym (ap last_jumps keeps.items ∙ last_shown (items_in stack)) in
-    λ i. sym (ap (λ (p : programs.Program). p.entry) is) i ∷ (jumps i ++ ranges_of_active (active_kept stack m keeps sound i))
+    ∙ (sym (active_turned (reverse (items_in stack))) ∙ ap active_of (sym (reverse-map item_shown (items_in stack))))) in
+    λ i. prog.entry_points ∷ (sym (last_shown (items_in stack)) i ++ ranges_of_active (active i))
 
 -- 3. What is run
 
--- What is run is that of a machine that stands on open elements, and the code's stack and program show it.
+-- A program and a stack that stand on a document are run.
 pub record Running (E : Type 0) : Type 0 where
   pub s : Selectors
   pub paths : List Path
-  pub m : Machine
-  pub outer : List Element
   pub closed : AreClosed s
-  pub program : IsProgramOf s paths m.program
-  pub items : AreItems paths m.program m.items outer
-  pub stack : StackOf Name StackNames E
-  pub sound : IsSound stack
   pub prog : Program
-  pub keeps : KeepsMachine stack m
-  pub is : m.program ≡ program_shown prog
+  pub stack : StackOf Name StackNames E
+  pub d : Document
+  pub most : ℕ
+  pub standing : StandsOn s paths (program_shown prog) stack d most
 
 module _ {E : Type 0} (r : Running E) where
-  open r use {s, paths, m, outer, closed, program, items, stack, sound, prog, keeps, is}
+  open r use {s, paths, closed, prog, stack, standing}
+
+  abbrev model : programs.Program
+  model = program_shown prog
+
+  abbrev outer : List Element
+  outer = r.d.open_elements
 
   abbrev ranges : List (Range ℕ)
-  ranges = ranges_of_machine m
-
-  abbrev code_ranges : List (Range ℕ)
-  code_ranges = ranges_to_run_in prog stack
+  ranges = ranges_to_run_in prog stack
 
   abbrev instructions : List Instruction
   instructions = prog.instructions.items
 
+  shown : ranges ≡ ranges_to_run model (items_shown (items_in stack))
+  shown = ranges_shown stack prog standing.sound
+
   pub held : HoldOnce paths ranges (LeftMatches outer)
-  held = ranges_hold_left_matches s paths m.program m.items outer closed program items
+  held = subst (λ rs. HoldOnce paths rs (LeftMatches outer)) (sym shown) (ranges_hold_left_matches s paths model (items_shown (items_in stack)) outer closed standing.program standing.items)
 
-  shown : m.program.instructions ≡ code_of m.program.by_type instructions
-  shown = ap (λ (p : programs.Program). p.instructions) is ∙ ap (λ b. code_of b instructions) (sym (ap (λ (p : programs.Program). p.by_type) is))
+  as_many : length model.instructions ≡ length instructions
+  as_many = length-map instructions (instruction_shown model.by_type)
 
-  as_many : length m.program.instructions ≡ length instructions
-  as_many = ap length shown ∙ length-map instructions (instruction_shown m.program.by_type)
+  inside : All (IsInsideOf instructions) ranges
+  inside = All-weaker (Contains ranges) (IsInsideOf instructions) (λ q c.
+      let among : Among (ranges_to_run model (items_shown (items_in stack))) q = subst (λ rs. Among rs q) shown (among_from_contains ranges q c) in
+      let within = ranges_are_inside s paths model (items_shown (items_in stack)) outer closed standing.program standing.items q among in
+      (within.0, omega (arith, within.1, as_many))) ranges (All-contains_itself ranges)
 
-  inside : All (IsInsideOf instructions) code_ranges
-  inside = All-weaker (Contains code_ranges) (IsInsideOf instructions) (λ q c.
-      let among : Among (ranges_to_run m.program m.items) q = subst (λ rs. Among rs q) (ranges_shown stack m prog keeps sound is) (among_from_contains code_ranges q c) in
-      let within = ranges_are_inside s paths m.program m.items outer closed program items q among in
-      (within.0, omega (arith, within.1, as_many))) code_ranges (All-contains_itself code_ranges)
-
-  pub are_ranges : AreRangesOf m.program m.program.by_type instructions code_ranges
-  are_ranges = record { same_code = shown; inside = inside }
-
-  pub all_shown : all_places code_ranges ≡ all_places ranges
-  all_shown = ap all_places (ranges_shown stack m prog keeps sound is)
+  pub are_ranges : AreRangesOf model model.by_type instructions ranges
+  are_ranges = record { same_code = refl; inside = inside }
 
   module _ (e : Element) where
-    pub as_open : AreAsOpen m.program m.program.by_type e instructions code_ranges
-    as_open = instructions_are_as_open m.program m.program.by_type e instructions code_ranges are_ranges
+    pub as_open : AreAsOpen model model.by_type e instructions ranges
+    as_open = instructions_are_as_open model model.by_type e instructions ranges are_ranges
 
-    pub whole : (content : Bool) → WholeStart s m.program ranges e outer content
-    whole content = stopped_starts_are_whole s paths m.program ranges e outer content closed program held
+    pub whole : (content : Bool) → WholeStart s model ranges e outer content
+    whole content = stopped_starts_are_whole s paths model ranges e outer content closed standing.program held
 
     -- so many instructions are run
-    pub counted : length (all_at instructions code_ranges) ≡ name_tries s.nodes outer
-    counted = as_open.count ∙ (ap length all_shown ∙ (places_count_tries s paths m.program ranges e outer closed program held).names)
+    pub counted : length (all_at instructions ranges) ≡ name_tries s.nodes outer
+    counted = as_open.count ∙ (places_count_tries s paths model ranges e outer closed standing.program held).names
 
     pub within_bounds : name_tries s.nodes outer ≤ length instructions
     within_bounds =
-        let nodes = (programs_have_each_node s paths m.program closed program).count in
+        let nodes = (programs_have_each_node s paths model closed standing.program).count in
         omega (arith, nodes, as_many, count_by-le-length (λ node. matching.left_matches node outer) s.nodes)
 
-    pub runnable : (tries : Tries) → names_counted tries ≡ 0 → attributes_counted tries ≡ 0 → length instructions < 2 ^ 63 → AreRunnable instructions code_ranges tries
+    pub runnable : (tries : Tries) → names_counted tries ≡ 0 → attributes_counted tries ≡ 0 → length instructions < 2 ^ 63 → AreRunnable instructions ranges tries
     runnable tries names attributes size = record {
       inside = inside;
       room = (omega (arith, names, size, counted, within_bounds), omega (arith, attributes, size, counted, within_bounds));
@@ -264,44 +253,40 @@ module _ (p : programs.Program) (e : Element) where
           let rest = later k refl in
           (omega (arith, next, rest.0), subst (λ m. starts_open p e (drop m (place ∷ ps)) ≡ true) next rest.1)
 
-module _ {E : Type 0} (r : Running E) (ids : E → Ids) (with_ids : E → Ids → E) (lends : (w : E) (more : Ids) → ids (with_ids w more) ≡ more) (e : Element) (name : Name) (seen : sight_in r.stack name ≡ sight_of r.m.program.by_type e) where
-  open r use {s, m, outer, stack, prog}
+module _ {E : Type 0} (r : Running E) (ids : E → Ids) (with_ids : E → Ids → E) (lends : (w : E) (more : Ids) → ids (with_ids w more) ≡ more) (e : Element) (name : Name) (seen : sight_in r.stack name ≡ sight_of r.prog.enable_nth_of_type e) where
+  open r use {s, stack}
 
   abbrev p : programs.Program
-  p = m.program
+  p = model r
 
   abbrev all : List Instruction
   all = instructions r
 
-  abbrev tag_code : List (Range ℕ)
-  tag_code = code_ranges r
-
   abbrev rs : List (Range ℕ)
   rs = ranges r
 
-  module _ {old new : ExecutionCtx E} {before after : Tries} {stop : Option Stop} (tried : AreTried ids with_ids (sight_in stack name) all tag_code old new before after stop) where
+  module _ {old new : ExecutionCtx E} {before after : Tries} {stop : Option Stop} (tried : AreTried ids with_ids (sight_in stack name) all rs old new before after stop) where
     pub stays : StaysThe old new
-    stays = subst (StaysThe old) (sym tried.gathered) (names_stay ids with_ids (sight_in stack name) old (all_at all tag_code))
+    stays = subst (StaysThe old) (sym tried.gathered) (names_stay ids with_ids (sight_in stack name) old (all_at all rs))
 
-    pub stop_shown : option_map (number_of all tag_code) stop ≡ first_open p e (all_places rs)
+    pub stop_shown : option_map (number_of all rs) stop ≡ first_open p e (all_places rs)
     stop_shown =
         tried.stops
-        ∙ (ap (λ z. first_open_from z 0 (all_at all tag_code)) seen
-        ∙ ((as_open r e).stop ∙ ap (first_open p e) (all_shown r)))
+        ∙ (ap (λ z. first_open_from z 0 (all_at all rs)) seen
+        ∙ (as_open r e).stop)
 
     -- what was gathered is what the run by names gathers
     pub gathered : Gathers ids old.stack_item no_context → Gathers ids new.stack_item (content_of new.with_content (started_by_names p true e rs).context)
     gathered none =
-        let by_names = names_gather p p.by_type e all tag_code (are_ranges r) ids with_ids lends old no_context none in
-        let is_new : gathered_by_names ids with_ids (sight_of p.by_type e) old (all_at all tag_code) ≡ new = sym (tried.gathered ∙ ap (λ z. gathered_by_names ids with_ids z old (all_at all tag_code)) seen) in
-        let context : (run_by_names p old.with_content e no_context (all_places tag_code)).context ≡ content_of old.with_content (started_by_names p true e rs).context =
-        ap (λ ps. (run_by_names p old.with_content e no_context ps).context) (all_shown r)
-        ∙ (ap (λ x. (run_by_names p old.with_content e x (all_places rs)).context) (nothing_content old.with_content) ∙ by_names_content p old.with_content e no_context (all_places rs)) in
+        let by_names = names_gather p p.by_type e all rs (are_ranges r) ids with_ids lends old no_context none in
+        let is_new : gathered_by_names ids with_ids (sight_of p.by_type e) old (all_at all rs) ≡ new = sym (tried.gathered ∙ ap (λ z. gathered_by_names ids with_ids z old (all_at all rs)) seen) in
+        let context : (run_by_names p old.with_content e no_context (all_places rs)).context ≡ content_of old.with_content (started_by_names p true e rs).context =
+        ap (λ x. (run_by_names p old.with_content e x (all_places rs)).context) (nothing_content old.with_content) ∙ by_names_content p old.with_content e no_context (all_places rs) in
         subst (λ c. Gathers ids new.stack_item (content_of c (started_by_names p true e rs).context)) (sym stays.content)
-        (subst (Gathers ids new.stack_item) context (subst (λ (x : ExecutionCtx E). Gathers ids x.stack_item (run_by_names p old.with_content e no_context (all_places tag_code)).context) is_new by_names))
+        (subst (Gathers ids new.stack_item) context (subst (λ (x : ExecutionCtx E). Gathers ids x.stack_item (run_by_names p old.with_content e no_context (all_places rs)).context) is_new by_names))
 
   -- where no instruction needs attributes
-  module _ {old new : ExecutionCtx E} {before after : Tries} (tried : AreTried ids with_ids (sight_in stack name) all tag_code old new before after None) where
+  module _ {old new : ExecutionCtx E} {before after : Tries} (tried : AreTried ids with_ids (sight_in stack name) all rs old new before after None) where
     pub none_left : (started_by_names p true e rs).left ≡ []
     none_left = stops_leave p true e no_context (all_places rs) ∙ ap (λ o. from_number o (all_places rs)) (sym (stop_shown tried))
 
@@ -309,22 +294,22 @@ module _ {E : Type 0} (r : Running E) (ids : E → Ids) (with_ids : E → Ids �
     gathered_all =
         ap (λ ps. run p true e (started_by_names p true e rs).context ps) (sym none_left) ∙ (whole r e true).whole
 
-    pub names_all : names_counted before ≡ 0 → names_counted after ≡ name_tries s.nodes outer
+    pub names_all : names_counted before ≡ 0 → names_counted after ≡ name_tries s.nodes (outer r)
     names_all none = omega (arith, none, tried.names, counted r e)
 
-    pub no_attributes : 0 ≡ attribute_tries s.nodes e outer
+    pub no_attributes : 0 ≡ attribute_tries s.nodes e (outer r)
     no_attributes = ap (count_by (is_open_at p e)) (sym none_left) ∙ (whole r e true).attributes
 
     pub no_need : starts_open p e (started_by_names p true e rs).left ≡ false
     no_need = ap (starts_open p e) none_left
 
   -- where one does
-  module _ {old new : ExecutionCtx E} {before after : Tries} {stop : Stop} (tried : AreTried ids with_ids (sight_in stack name) all tag_code old new before after (Some stop)) where
+  module _ {old new : ExecutionCtx E} {before after : Tries} {stop : Stop} (tried : AreTried ids with_ids (sight_in stack name) all rs old new before after (Some stop)) where
     abbrev number : ℕ
-    number = number_of all tag_code stop
+    number = number_of all rs stop
 
     abbrev stopped : Range ℕ
-    stopped = get_or tag_code stop.range no_range
+    stopped = get_or rs stop.range no_range
 
     found : first_open p e (all_places rs) ≡ Some number
     found = sym (stop_shown tried)
@@ -333,18 +318,18 @@ module _ {E : Type 0} (r : Running E) (ids : E → Ids) (with_ids : E → Ids �
     needs = ap (starts_open p e) (stops_leave p true e no_context (all_places rs) ∙ ap (λ o. from_number o (all_places rs)) found) ∙ (first_is p e (all_places rs) number found).1
 
     -- what is left are the places of the ranges from the stop on
-    pub left_places : (started_by_names p true e rs).left ≡ all_places (ranges_from tag_code stop)
+    pub left_places : (started_by_names p true e rs).left ≡ all_places (ranges_from rs stop)
     left_places =
         let within = tried.within in
-        let front = take stop.range tag_code in
-        let back = drop (stop.range + 1) tag_code in
-        let parts = around tag_code stop.range no_range within.0 in
-        let same_count = (instructions_are_as_open p p.by_type e all front (record { same_code = (are_ranges r).same_code; inside = All-take (IsInsideOf all) stop.range tag_code (are_ranges r).inside })).count in
-        let inside = offset_inside all tag_code stop within in
+        let front = take stop.range rs in
+        let back = drop (stop.range + 1) rs in
+        let parts = around rs stop.range no_range within.0 in
+        let same_count = (instructions_are_as_open p p.by_type e all front (record { same_code = (are_ranges r).same_code; inside = All-take (IsInsideOf all) stop.range rs (are_ranges r).inside })).count in
+        let inside = offset_inside all rs stop within in
         let sizes = length-range_with_len stopped.start (stopped.end - stopped.start) in
         stops_leave p true e no_context (all_places rs)
         ∙ (ap (λ o. from_number o (all_places rs)) found
-        ∙ (ap (drop number) (sym (all_shown r) ∙ ap all_places parts)
+        ∙ (ap (λ qs. drop number (all_places qs)) parts
         ∙ (ap (λ n. drop (n + stop.offset) (all_places (front ++ stopped ∷ back))) same_count
         ∙ (numbers_are_offsets front stopped back stop.offset (omega (arith, inside, sizes))
         ∙ ap (λ ps. ps ++ all_places back) (range_after stopped.start stopped.end stop.offset inside)))))

@@ -1,5 +1,5 @@
 -- What trying a counted start tag by its name comes to.
-use Rattle.lol_vm.proofs.Common.{◌≡◌, Result, Ok, ◌<◌, Bool, true, false, List, Option, Some, None, refl, sym, ap, ◌∙◌, subst, inl, inr, ◌+◌, not, [], ◌∷◌, ◌++◌, length, arith, ◌↔◌, ◌⊎◌, ◌||◌, ◌&&◌, Name, local_name, StartTag, Namespace, Ids, ascending, full_count, is_html, Element, names_counted, attributes_counted, Tries, Selectors, counted_in, last_count, list_in, items_in, typed_count, element_data_of, ExecutionCtx, StackNames, StackOf, IsLimited, Limiter, Event, has_content, Start, NeedNoMemory, AreRunnable, AreTried, ranges_to_run_in, sight_in, Vm, Stands, IsTagOf, IsAnswered, IsReported, IsTriedAtMost, IsPending, IsEntered, is_asked_for, Shows, content_of, list_any, sight_of, all_places, needs_attributes, asks, is_dropped, document, ascending_once, Document, element_of, Gathers, Context, no_context, context_of, KeepsMachine, Machine, StandsFor, counted, started, ranges_of_machine, unfinished, StackItemOf, and-true, or-right_true}
+use Rattle.lol_vm.proofs.Common.{◌≡◌, Result, Ok, ◌<◌, Bool, true, false, List, Option, Some, None, refl, sym, ap, ◌∙◌, subst, inl, inr, ◌+◌, not, [], ◌∷◌, ◌++◌, length, arith, ◌↔◌, ◌⊎◌, ◌||◌, Name, local_name, StartTag, Namespace, Ids, ascending, full_count, is_html, Element, names_counted, attributes_counted, Tries, Selectors, counted_in, last_count, list_in, items_in, typed_count, element_data_of, ExecutionCtx, StackNames, StackOf, IsLimited, Limiter, Event, has_content, Start, NeedNoMemory, AreRunnable, AreTried, ranges_to_run_in, sight_in, Vm, Stands, IsTagOf, IsAnswered, IsReported, IsTriedAtMost, IsPending, IsEntered, is_asked_for, content_of, list_any, sight_of, all_places, needs_attributes, asks, document, ascending_once, Document, element_of, Gathers, Context, no_context, context_of, unfinished, StackItemOf, or-right_true, StandsOn, Range, ℕ, after_start, max, longest}
 use Rattle.std.specs.Result.{IfOk, IsOk}
 use Rattle.lol_memory.specs.declared.match_info.MatchInfo.{MatchInfo}
 use Rattle.lol_stack.specs.Calls.{IsCalledAtEach, reports}
@@ -10,13 +10,15 @@ use Rattle.lol_vm.specs.declared.tag_runs.RecoveryPoint.{RecoveryPoint}
 use Rattle.lol_vm.specs.declared.tag_runs.RecoveryPoint.TheVariants.{AtOnce, At}
 use Rattle.lol_vm.specs.declared.tag_runs.Stop.{Stop}
 use Rattle.lol_vm.proofs.VmRefusals.{limited_counted}
-use Rattle.lol_stack.specs.SoundStacks.{IsSound}
 use Rattle.lol_vm.proofs.Answered.{starts_answer, AnswersStart}
 use Rattle.lol_vm.proofs.GatheringLemmas.{new_elements_gather, gathered_ids_ascend}
-use Rattle.lol_vm.proofs.Kept.{items_length, requests_stand, standing_is_kept}
-use Rattle.lol_stack.specs.SoundLaws.{counting_keeps_sound}
-use Rattle.lol_vm.proofs.StackCounting.{counting_stack_keeps, seen_places}
-use Rattle.lol_vm.proofs.Starts.{Running, all_shown, content_ids, counted as run_count, gathered, gathered_all, left_places, names_all, names_left, needs, no_attributes, no_need, runnable, stays}
+use Rattle.lol_program.specs.Programs.{Program}
+use Rattle.lol_program.specs.ProgramViews.{program_shown}
+use Rattle.lol_vm.proofs.Children.{documents_are_ordered}
+use Rattle.lol_vm.proofs.Gathered.{runs_give_reports}
+use Rattle.lol_vm.proofs.Kept.{after_unfinished, counted_stands, for_on}
+use Rattle.lol_vm.proofs.StackCounting.{counters_are_places}
+use Rattle.lol_vm.proofs.Starts.{Running, held, content_ids, counted as run_count, gathered, gathered_all, left_places, names_all, names_left, needs, no_attributes, no_need, runnable, stays}
 use Rattle.lol_vm.proofs.Stops.{foreign_tags_ask, stops_are_requests, started_by_names}
 use Rattle.lol_vm.proofs.VmStarts.{IsComplete, answered, counted_data, none_tried}
 use Rattle.std.specs.declared.alloc.AllocError.{AllocError}
@@ -79,17 +81,20 @@ module _ {E R : Type 0} {ids : E → Ids} {with_ids : E → Ids → E} {vm new :
     (s : Selectors) (esi : Bool) (events : List Event) (tag : StartTag) (st : Stands s esi vm events) (named : IsTagOf name ns tag) where
   open t use {lends, ctx, item, stack, before}
 
-  abbrev m : Machine
-  m = st.machine
-
   abbrev d : Document
   d = document s esi events
 
   abbrev e : Element
   e = element_of d tag
 
+  abbrev p : Program
+  p = program_shown vm.program
+
+  abbrev ranges : List (Range ℕ)
+  ranges = ranges_to_run_in vm.program stack
+
   abbrev x : Context
-  x = context_of m.program true e (all_places (ranges_of_machine m))
+  x = context_of p true e (all_places ranges)
 
   abbrev start : Vm E
   start = record vm { stack = stack; tries = before }
@@ -100,36 +105,37 @@ module _ {E R : Type 0} {ids : E → Ids} {with_ids : E → Ids → E} {vm new :
   abbrev opens : Bool
   opens = has_content vm.enable_esi_tags tag
 
-  sizes : length m.items ≡ length d.open_elements
-  sizes = items_length st.paths m.program m.items d.open_elements st.standing.items
-
   stack_is : stack ≡ counted_in vm.stack (local_name tag.name)
   stack_is = t.counted_is ∙ ap (counted_in vm.stack) named.0
 
-  keeps : KeepsMachine stack (counted m tag.name)
-  keeps = subst (λ x. KeepsMachine x (counted m tag.name)) (sym stack_is) (counting_stack_keeps vm.stack m d tag.name st.standing.counted sizes st.shows.stack t.room)
+  -- once it was counted
+  standing : StandsOn s st.paths p stack (after_start d tag false) (max (longest s esi events) (length d.open_elements))
+  standing =
+      subst (λ (x : StackOf Name StackNames E). StandsOn s st.paths p x (after_start d tag false) (max (longest s esi events) (length d.open_elements))) (sym stack_is)
+      (counted_stands s st.paths p vm.stack d (longest s esi events) (documents_are_ordered s esi events) st.standing tag t.room)
 
-  sound : IsSound stack
-  sound = subst (λ (x : StackOf Name StackNames E). IsSound x) (sym stack_is) (counting_keeps_sound vm.stack (local_name tag.name) st.shows.sound)
-
-  seen : sight_in stack name ≡ sight_of m.program.by_type e
+  seen : sight_in stack name ≡ sight_of vm.program.enable_nth_of_type e
   seen =
-      let places = seen_places stack m d tag st.standing.counted sizes keeps in
-      let typed = ap (λ n. typed_count stack n) named.0 ∙ places.1 in
-      λ i. record { name = (named.0 i).lowercased; position = places.0 i; typed_position = typed i }
-
-  answers : AnswersStart s m e d.open_elements
-  answers = starts_answer s esi st.paths m events tag st.closed st.standing
+      let places = counters_are_places vm.stack vm.program.enable_nth_of_type d tag st.standing.counted in
+      let position = ap last_count stack_is ∙ places.0 in
+      let typed = ap (λ n. typed_count stack n) named.0 ∙ (ap (λ (x : StackOf Name StackNames E). typed_count x (local_name tag.name)) stack_is ∙ places.1 t.room) in
+      λ i. record { name = (named.0 i).lowercased; position = position i; typed_position = typed i }
 
   abbrev running : Running E
-  running = record { s = s; paths = st.paths; m = counted m tag.name; outer = d.open_elements; closed = st.closed; program = st.standing.program; items = st.standing.items; stack = stack; sound = sound; prog = vm.program; keeps = keeps; is = st.shows.program }
+  running = record { s = s; paths = st.paths; closed = st.closed; prog = vm.program; stack = stack; d = after_start d tag false; most = max (longest s esi events) (length d.open_elements); standing = standing }
 
-  shown_now : (after : Tries) → Shows (record vm { stack = stack; tries = after }) (counted m tag.name)
-  shown_now after = record { stack = keeps; sound = sound; program = st.shows.program }
+  answers : AnswersStart s p ranges e d.open_elements
+  answers = starts_answer s st.paths p ranges e d.open_elements st.closed st.standing.program (held running)
 
   -- once it asks for the rest, it stands for the events with this one dropped
   abbrev request_stands : (after : Tries) → asks s e d.open_elements ≡ true → Stands s esi (record vm { stack = stack; tries = after }) (events ++ Start (unfinished tag) ∷ [])
-  request_stands after asked = record { paths = st.paths; machine = counted m tag.name; closed = st.closed; shows = shown_now after; standing = requests_stand s esi st.paths m events tag st.standing asked; switch = st.switch; unfailed = st.unfailed }
+  request_stands after asked = record {
+    paths = st.paths;
+    closed = st.closed;
+    standing = for_on s esi events (Start (unfinished tag)) (after_start d tag false) (after_unfinished s esi events tag asked) st.paths p stack standing;
+    switch = st.switch;
+    unfailed = st.unfailed;
+  }
 
   is_tried : IsTried ids with_ids start new ctx next result tag
   is_tried = t.tried tag (named_so item t.namespace tag named)
@@ -145,16 +151,16 @@ module _ {E R : Type 0} {ids : E → Ids} {with_ids : E → Ids → E} {vm new :
         stands = request_stands before asked;
         asks = asked;
         context = no_context;
-        left = all_places (ranges_of_machine m);
-        is_request = foreign_tags_ask m.program true e (ranges_of_machine m) foreign;
+        left = all_places ranges;
+        is_request = foreign_tags_ask p true e ranges foreign;
         named = named_so item t.namespace tag named;
         sight = ap (sight_in stack) item.name ∙ seen;
         childless = item.children;
         gathered = subst (λ c. Gathers ids ctx.stack_item (content_of c no_context)) (sym t.content) (new_elements_gather ids name ctx.stack_item item);
         goes_on = (foreign, refl, t.content);
         stopped = tt;
-        places_left = sym (all_shown running);
-        names = ap (λ n. n + length (all_places (ranges_of_machine m))) t.no_names ∙ omega arith;
+        places_left = refl;
+        names = ap (λ n. n + length (all_places ranges)) t.no_names ∙ omega arith;
         attributes = t.no_attributes;
       }
 
@@ -172,7 +178,7 @@ module _ {E R : Type 0} {ids : E → Ids} {with_ids : E → Ids → E} {vm new :
     was_tried : (found : Option RecoveryPoint) → result ≡ Ok found → OfStop (Tried name) found
     was_tried found at = subst (λ own. OfStop (Tried own) found) item.name (subst (λ r. IfOk r (OfStop (Tried ctx.stack_item.local_name))) at (by_name.tried can_run))
 
-    has_gathered : {stop : Option Stop} → Tried name stop → Gathers ids next.stack_item (content_of next.with_content (started_by_names m.program true e (ranges_of_machine m)).context)
+    has_gathered : {stop : Option Stop} → Tried name stop → Gathers ids next.stack_item (content_of next.with_content (started_by_names p true e ranges).context)
     has_gathered tried = gathered running ids with_ids lends e name seen tried (new_elements_gather ids name ctx.stack_item item)
 
     pending_stop : (stop : Stop) → Tried name (Some stop) → IsPending ids s esi events tag ended (left_at next (At stop))
@@ -183,9 +189,9 @@ module _ {E R : Type 0} {ids : E → Ids} {with_ids : E → Ids → E} {vm new :
         record {
           stands = request_stands new.tries asked;
           asks = asked;
-          context = (started_by_names m.program true e (ranges_of_machine m)).context;
-          left = (started_by_names m.program true e (ranges_of_machine m)).left;
-          is_request = stops_are_requests s st.paths m.program true e (ranges_of_machine m) st.standing.program open_there;
+          context = (started_by_names p true e ranges).context;
+          left = (started_by_names p true e ranges).left;
+          is_request = stops_are_requests s st.paths p true e ranges st.standing.program open_there;
           named = (same.name ∙ (item.name ∙ named.0), named.1 ∙ sym (same.namespace ∙ t.namespace));
           sight = ap (sight_in stack) (same.name ∙ item.name) ∙ seen;
           childless = same.children ∙ item.children;
@@ -262,11 +268,9 @@ module _ {E R : Type 0} {ids : E → Ids} {with_ids : E → Ids → E} {vm new :
           → IsCalledAtEach step f (reports next.with_content (ascending (ids next.stack_item.element_data))) g
           → IsEntered next.with_content next.stack_item new last → IsAnswered ids step s esi events tag false vm last f g
       answered_now step f g last called entered =
-          let opened : (has_content esi tag && not (is_dropped s e d.open_elements)) ≡ has_content esi tag =
-          (λ i. has_content esi tag && not (complete.asks i && not tag.finish)) ∙ and-true (has_content esi tag) in
-          answered complete called vm stack st.paths (counted m tag.name) (shown_now new.tries) (ap (λ (x : StackOf Name StackNames E). element_data_of (items_in x)) t.counted_is ∙ counted_data vm.stack name) st.closed
-          (subst (λ b. StandsFor s esi st.paths (started m b e) (events ++ Start tag ∷ [])) opened (standing_is_kept s esi st.paths m events (Start tag) st.closed st.standing))
-          st.switch st.unfailed last (subst (λ (v : Vm E). IsEntered next.with_content next.stack_item v last) new_is entered)
+          answered complete called vm stack st.paths st.closed standing (runs_give_reports s st.paths p ranges e d.open_elements st.closed st.standing.program (held running))
+          (ap (λ (x : StackOf Name StackNames E). element_data_of (items_in x)) t.counted_is ∙ counted_data vm.stack name) st.switch st.unfailed last
+          (subst (λ (v : Vm E). IsEntered next.with_content next.stack_item v last) new_is entered)
 
 -- 3. What comes of a start tag that was begun
 
@@ -301,7 +305,7 @@ module _ {E : Type 0} {ids : E → Ids} {with_ids : E → Ids → E} {vm new : V
     pub begun_pending : (point : RecoveryPoint) → stopped ≡ Some point → IsPending ids s esi events tag new (left_at next point)
     begun_pending point at = pending b.trial s esi events tag st named b.kept point (ap Ok at)
 
-    pub begun_complete : stopped ≡ None → IsComplete ids s esi events tag false next (context_of st.machine.program true (element_of (document s esi events) tag) (all_places (ranges_of_machine st.machine))) new.tries
+    pub begun_complete : stopped ≡ None → IsComplete ids s esi events tag false next (context_of (program_shown vm.program) true (element_of (document s esi events) tag) (all_places (ranges_to_run_in vm.program b.trial.stack))) new.tries
     begun_complete at = complete b.trial s esi events tag st named b.kept (ap Ok at)
 
     pub begun_answered : stopped ≡ None → {F : Type 0} (step : F → MatchInfo → Unit {0} → F → Type 0) (f g : F) (last : Vm E)

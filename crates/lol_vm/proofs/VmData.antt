@@ -1,6 +1,8 @@
 -- Machines with other data of their last element.
-use Rattle.lol_vm.proofs.Common.{◌≡◌, ℕ, suc, zero, ◌-◌, List, [], ◌∷◌, ◌++◌, length, map, Option, Some, None, refl, sym, ap, subst, ◌∙◌, reverse, slice_get, slice_set, option_map, length-map, Name, ranges_of_active, longest, KeepsMachine, item_shown, items_in, active_in, count_or, typed_in, count_by_type, all_places, Start, Machine, unfinished, jumps_of_item, jumps_in, sight_in, tag_ranges, ranges_left, IsPointIn, Vm, Shows, instructions_in, data_in, StackItemOf, StackOf, StackNames, some_is}
-use Rattle.lol_memory.specs.Slots.{slots}
+use Rattle.lol_vm.proofs.Common.{◌≡◌, ℕ, suc, zero, ◌-◌, List, [], ◌∷◌, ◌++◌, length, map, Option, Some, None, refl, sym, ap, subst, ◌∙◌, reverse, slice_get, slice_set, option_map, length-map, Name, ranges_of_active, longest, item_shown, items_in, active_in, count_or, typed_in, count_by_type, all_places, Start, unfinished, jumps_of_item, sight_in, tag_ranges, ranges_left, IsPointIn, Vm, instructions_in, data_in, StackItemOf, StackOf, StackNames, some_is, ◌+◌, true, StandsOn, AreItems, Selectors, Path, Document, document, element_of, ranges_to_run_in, ranges_to_try, IsRequest, names_counted, tried_at}
+use Rattle.lol_program.specs.Programs.{Program}
+use Rattle.lol_program.specs.ProgramViews.{program_shown}
+use Rattle.lol_program.specs.declared.program.Program as code
 use Rattle.lol_stack.specs.Lending.{with_data}
 use Rattle.lol_stack.specs.SoundLaws.{set_keeps, data_keep_sound}
 use Rattle.lol_stack.specs.StackLending.{with_current, with_data_at, with_data_if}
@@ -24,14 +26,17 @@ module _ {E : Type 0} (w : E) where
     abbrev last : Option (StackItemOf Name E)
     last = slice_get (items_in s) (length (items_in s) - 1)
 
-    keeps_data : (m : Machine) → KeepsMachine s m → KeepsMachine (with_current s w) m
-    keeps_data m k = record {
-      items = k.items ∙ sym (ap reverse (same_map item_shown (λ item. refl) last refl));
-      root_children = k.root_children;
-      children = k.children ∙ sym (ap reverse (same_map (λ (x : StackItemOf Name E). x.child_counter) (λ item. refl) last refl));
-      typed = k.typed;
-      item_bytes = k.item_bytes;
-      slots = k.slots;
+    data_stand : (t : Selectors) (paths : List Path) (p : Program) (d : Document) (most : ℕ) → StandsOn t paths p s d most → StandsOn t paths p (with_current s w) d most
+    data_stand t paths p d most h = record {
+      program = h.program;
+      sound = data_keep_sound s w h.sound;
+      items = subst (λ shown. AreItems paths p shown d.open_elements) (sym (ap reverse (same_map item_shown (λ item. refl) last refl))) h.items;
+      counted = record {
+        root = h.counted.root;
+        children = ap reverse (same_map (λ (x : StackItemOf Name E). x.child_counter) (λ item. refl) last refl) ∙ h.counted.children;
+        typed = h.counted.typed;
+      };
+      charged = h.charged;
     }
 
   -- what looks at one element, and not at its data
@@ -58,8 +63,8 @@ module _ {E : Type 0} (w : E) where
         → f (slice_get (changed s (last s)) (length (changed s (last s)) - 1)) ≡ f (slice_get (items_in s) (length (items_in s) - 1))
     same_last f same = ap (λ n. f (slice_get (changed s (last s)) (n - 1))) same_length ∙ same_get f same (length (items_in s) - 1) (last s) refl
 
-    same_jumps : jumps_in (with_current s w) ≡ jumps_in s
-    same_jumps = same_last jumps_of_item (λ item. refl)
+    same_ranges : (prog : code.Program) → ranges_to_run_in prog (with_current s w) ≡ ranges_to_run_in prog s
+    same_ranges prog = ap (λ js. tag_ranges prog.entry_points js (ranges_of_active (active_in s))) (same_last jumps_of_item (λ item. refl))
 
     same_sight : (name : Name) → sight_in (with_current s w) name ≡ sight_in s name
     same_sight name i = record {
@@ -68,21 +73,16 @@ module _ {E : Type 0} (w : E) where
       typed_position = count_by_type (typed_in s) (same_length i) name;
     }
 
-  shows_data : (vm : Vm E) (m : Machine) → Shows vm m → Shows (with_current_in vm w) m
-  shows_data vm m h = record { stack = keeps_data vm.stack m h.stack; sound = data_keep_sound vm.stack w h.sound; program = h.program }
-
 pub data_change_nothing : {E : Type 0} → DataChangeNothing E
-data_change_nothing s esi vm events w h = record { paths = h.paths; machine = h.machine; closed = h.closed; shows = shows_data w vm h.machine h.shows; standing = h.standing; switch = h.switch; unfailed = h.unfailed }
+data_change_nothing s esi vm events w h = record { paths = h.paths; closed = h.closed; standing = data_stand w vm.stack s h.paths (program_shown vm.program) (document s esi events) (longest s esi events) h.standing; switch = h.switch; unfailed = h.unfailed }
 
 pub data_keep_open : {E : Type 0} → DataKeepOpen E
 data_keep_open vm elements w h = record {
   selectors = h.selectors;
   paths = h.paths;
-  machine = h.machine;
   document = h.document;
   most = h.most;
-  shows = shows_data w vm h.machine h.shows;
-  standing = h.standing;
+  standing = data_stand w vm.stack h.selectors h.paths (program_shown vm.program) h.document h.most h.standing;
   ordered = h.ordered;
   same = h.same;
 }
@@ -94,31 +94,26 @@ data_keep_requests ids_of s esi events tag vm request w h = record {
   asks = h.asks;
   context = h.context;
   left = h.left;
-  is_request = h.is_request;
+  is_request = subst (λ rs. IsRequest (program_shown vm.program) true (element_of (document s esi events) tag) rs h.context h.left) back h.is_request;
   named = h.named;
   sight = same_sight w vm.stack request.ctx.stack_item.local_name ∙ h.sight;
   childless = h.childless;
   gathered = h.gathered;
   goes_on = h.goes_on;
-  stopped = subst (λ js. IsPointIn (instructions_in vm) (tag_ranges vm.program.entry_points js (ranges_of_active (active_in vm.stack))) request.point) back h.stopped;
-  places_left =
-      subst
-      (λ js. h.left ≡ all_places (ranges_left (tag_ranges vm.program.entry_points js (ranges_of_active (active_in vm.stack))) request.point))
-      back
-      h.places_left;
-  names = h.names;
+  stopped = subst (λ rs. IsPointIn (instructions_in vm) rs request.point) back h.stopped;
+  places_left = subst (λ rs. h.left ≡ all_places (ranges_left rs request.point)) back h.places_left;
+  names = subst (λ rs. names_counted vm.tries + length h.left ≡ length (all_places rs) + tried_at request.point) back h.names;
   attributes = h.attributes;
 }
   where
-    back : jumps_in vm.stack ≡ jumps_in (with_current vm.stack w)
-    back = sym (same_jumps w vm.stack)
+    back : ranges_to_try vm ≡ ranges_to_try (with_current_in vm w)
+    back = sym (same_ranges w vm.stack vm.program)
 
 pub pending_stands : {E : Type 0} → PendingStands E
 pending_stands ids_of s esi events tag vm request h = h.stands
 
 pub slots_are_of_depth : {E : Type 0} → SlotsAreOfDepth E
-slots_are_of_depth s esi vm events h =
-    sym h.shows.stack.slots ∙ (h.standing.charged ∙ ap (λ n. slots n (longest s esi events)) h.shows.stack.item_bytes)
+slots_are_of_depth s esi vm events h = h.standing.charged
 
 -- the data, where those of the last element change
 module _ {E : Type 0} where

@@ -1,5 +1,5 @@
 -- Requests that are finished, and what the machine of the code answers to them.
-use Rattle.lol_vm.proofs.Common.{◌≡◌, ℕ, ◌+◌, ◌<◌, ◌≤◌, ◌^◌, Bool, true, false, not, List, [], ◌∷◌, ◌++◌, length, drop, get_or, All, refl, sym, ap, ◌∙◌, subst, arith, ◌||◌, count_by, Range, contains_from_among, StartTag, Namespace, Html, Svg, MathML, Ids, ascending, tag_attributes, Selectors, all_places, Element, is_html, Tries, document, ascending_once, attribute_tries, Document, element_of, Event, Start, has_content, has_content_in, Gathers, Context, no_context, context_of, is_open_at, run, gathered_with_attributes, AreRunnable, IsInsideOf, all_at, open_among, starts_open, AreItems, Machine, StandsFor, ranges_of_machine, finished, AreExecuted, AreWithin, IsPointIn, ranges_left, ranges_to_run_in, sight_in, tried_at, Vm, IsAnswered, IsTriedAtMost, IsEntered, IsPending, GoesOnAt, content_at, content_of, ExecutionCtx}
+use Rattle.lol_vm.proofs.Common.{◌≡◌, ℕ, ◌+◌, ◌<◌, ◌≤◌, ◌^◌, Bool, true, false, not, List, [], ◌∷◌, length, drop, get_or, All, refl, sym, ap, ◌∙◌, subst, arith, ◌||◌, count_by, Range, contains_from_among, StartTag, Namespace, Html, Svg, MathML, Ids, ascending, tag_attributes, Selectors, all_places, Element, is_html, Tries, document, ascending_once, attribute_tries, Document, element_of, Event, Start, has_content, has_content_in, Gathers, Context, no_context, context_of, is_open_at, run, gathered_with_attributes, AreRunnable, IsInsideOf, all_at, open_among, starts_open, AreExecuted, AreWithin, IsPointIn, ranges_left, ranges_to_run_in, sight_in, tried_at, Vm, IsAnswered, IsTriedAtMost, IsEntered, IsPending, GoesOnAt, content_at, content_of, ExecutionCtx, StandsOn, after_start, max, longest, unfinished}
 use Rattle.std.proofs.lemmas.List.{length-append}
 use Rattle.std.proofs.lemmas.List.Elements.{All-cons, All-drop}
 use Rattle.lol_memory.specs.declared.match_info.MatchInfo.{MatchInfo}
@@ -12,11 +12,13 @@ use Rattle.lol_vm.specs.declared.tag_runs.RecoveryPoint.{RecoveryPoint}
 use Rattle.lol_vm.specs.declared.tag_runs.RecoveryPoint.TheVariants.{AtOnce, At}
 use Rattle.lol_vm.proofs.Answered.{in_order}
 use Rattle.lol_vm.proofs.Counted.{places_count_tries, TriesAreExact}
-use Rattle.lol_vm.proofs.Gathered.{runs_give_reports}
+use Rattle.lol_program.specs.Programs.{Program}
+use Rattle.lol_program.specs.ProgramViews.{program_shown}
+use Rattle.lol_vm.proofs.Gathered.{GivesReport, runs_give_reports}
 use Rattle.lol_vm.proofs.GatheringLemmas.{gathered_ids_ascend}
 use Rattle.lol_vm.proofs.InstructionLists.{offset_inside}
 use Rattle.lol_vm.proofs.InstructionPlaces.{AreRangesOf, attributes_gather, instructions_are_as_open}
-use Rattle.lol_vm.proofs.Kept.{after_unfinished, finishing_is_kept}
+use Rattle.lol_vm.proofs.Kept.{after_unfinished, on_for}
 use Rattle.lol_vm.proofs.Starts.{Running, StaysThe, held, are_ranges, within_bounds, attributes_stay, run_content, content_ids}
 use Rattle.lol_vm.proofs.Stops.{left_counted, requests_finish}
 use Rattle.lol_vm.proofs.VmStarts.{IsComplete, answered}
@@ -45,8 +47,8 @@ module _ (instructions : List Instruction) (ranges : List (Range ℕ)) (inside :
 
 module _ {E : Type 0} (ids : E → Ids) (vm : Vm E) (s : Selectors) (esi : Bool) (events : List Event) (tag : StartTag) (request : AuxStartTagInfoRequest E)
     (pending : IsPending ids s esi events tag vm request) where
-  abbrev m : Machine
-  m = pending.stands.machine
+  abbrev p : Program
+  p = program_shown vm.program
 
   abbrev d : Document
   d = document s esi events
@@ -55,7 +57,7 @@ module _ {E : Type 0} (ids : E → Ids) (vm : Vm E) (s : Selectors) (esi : Bool)
   e = element_of d tag
 
   abbrev rs : List (Range ℕ)
-  rs = ranges_of_machine m
+  rs = ranges_to_run_in vm.program vm.stack
 
   abbrev all : List Instruction
   all = vm.program.instructions.items
@@ -63,23 +65,26 @@ module _ {E : Type 0} (ids : E → Ids) (vm : Vm E) (s : Selectors) (esi : Bool)
   abbrev left_code : List (Range ℕ)
   left_code = ranges_left (ranges_to_run_in vm.program vm.stack) request.point
 
-  items : AreItems pending.stands.paths m.program m.items d.open_elements
-  items = subst (λ (x : Document). AreItems pending.stands.paths m.program m.items x.open_elements) (after_unfinished s esi events tag pending.asks) pending.stands.standing.items
+  standing : StandsOn s pending.stands.paths p vm.stack (after_start d tag false) (max (longest s esi events) (length d.open_elements))
+  standing = on_for s esi events (Start (unfinished tag)) (after_start d tag false) (after_unfinished s esi events tag pending.asks) pending.stands.paths p vm.stack pending.stands.standing
 
   abbrev running : Running E
-  running = record { s = s; paths = pending.stands.paths; m = m; outer = d.open_elements; closed = pending.stands.closed; program = pending.stands.standing.program; items = items; stack = vm.stack; sound = pending.stands.shows.sound; prog = vm.program; keeps = pending.stands.shows.stack; is = pending.stands.shows.program }
+  running = record { s = s; paths = pending.stands.paths; closed = pending.stands.closed; prog = vm.program; stack = vm.stack; d = after_start d tag false; most = max (longest s esi events) (length d.open_elements); standing = standing }
 
-  are_left : AreRangesOf m.program m.program.by_type all left_code
+  given : GivesReport s pending.stands.paths p (context_of p true e (all_places rs)) e d.open_elements
+  given = runs_give_reports s pending.stands.paths p rs e d.open_elements pending.stands.closed pending.stands.standing.program (held running)
+
+  are_left : AreRangesOf p p.by_type all left_code
   are_left = record {
     same_code = (are_ranges running).same_code;
     inside = left_inside all (ranges_to_run_in vm.program vm.stack) (are_ranges running).inside request.point pending.stopped;
   }
 
-  tries_all : TriesAreExact s m.program rs e d.open_elements
-  tries_all = places_count_tries s pending.stands.paths m.program rs e d.open_elements pending.stands.closed pending.stands.standing.program (held running)
+  tries_all : TriesAreExact s p rs e d.open_elements
+  tries_all = places_count_tries s pending.stands.paths p rs e d.open_elements pending.stands.closed pending.stands.standing.program (held running)
 
   left_count : length (all_at all left_code) ≡ length pending.left
-  left_count = (instructions_are_as_open m.program m.program.by_type e all left_code are_left).count ∙ ap length (sym pending.places_left)
+  left_count = (instructions_are_as_open p p.by_type e all left_code are_left).count ∙ ap length (sym pending.places_left)
 
   pub can_finish : length all < 2 ^ 63 → AreRunnable all left_code vm.tries
   can_finish size =
@@ -100,10 +105,10 @@ module _ {E : Type 0} (ids : E → Ids) (vm : Vm E) (s : Selectors) (esi : Bool)
   opens_left : open_among (sight_in vm.stack request.ctx.stack_item.local_name) (all_at all left_code) ≡ attribute_tries s.nodes e d.open_elements
   opens_left =
       ap (λ z. open_among z (all_at all left_code)) pending.sight
-      ∙ ((instructions_are_as_open m.program m.program.by_type e all left_code are_left).opens
-      ∙ (ap (count_by (is_open_at m.program e)) (sym pending.places_left)
-      ∙ (left_counted (is_open_at m.program e) pending.is_request.before pending.left (λ place a. pending.is_request.closed place (contains_from_among pending.is_request.before place a))
-      ∙ (ap (count_by (is_open_at m.program e)) (sym pending.is_request.parts) ∙ tries_all.attributes))))
+      ∙ ((instructions_are_as_open p p.by_type e all left_code are_left).opens
+      ∙ (ap (count_by (is_open_at p e)) (sym pending.places_left)
+      ∙ (left_counted (is_open_at p e) pending.is_request.before pending.left (λ place a. pending.is_request.closed place (contains_from_among pending.is_request.before place a))
+      ∙ (ap (count_by (is_open_at p e)) (sym pending.is_request.parts) ∙ tries_all.attributes))))
 
   -- while the request is open, and once it is finished or refused, no more nodes are tried than the definition tries
   pub open_tried : IsTriedAtMost s esi events tag vm.tries
@@ -112,7 +117,7 @@ module _ {E : Type 0} (ids : E → Ids) (vm : Vm E) (s : Selectors) (esi : Bool)
       let before = ap length pending.is_request.parts ∙ length-append pending.is_request.before pending.left in
       record { names = omega (arith, names, tries_all.names, before, one_left request.point pending.goes_on); attributes = omega (arith, pending.attributes) }
     where
-      some_left : (left : List ℕ) → starts_open m.program e left ≡ true → 1 ≤ length left
+      some_left : (left : List ℕ) → starts_open p e left ≡ true → 1 ≤ length left
       some_left [] h = cc
       some_left (place ∷ left) h = omega arith
 
@@ -122,7 +127,7 @@ module _ {E : Type 0} (ids : E → Ids) (vm : Vm E) (s : Selectors) (esi : Bool)
 
       one_left : (point : RecoveryPoint) → GoesOnAt (is_html tag.namespace) (has_content esi tag) pending.context point request.ctx.with_content → tried_at point ≤ length pending.left
       one_left AtOnce h = omega arith
-      one_left (At stop) h = some_left pending.left (starts (is_html tag.namespace) (starts_open m.program e pending.left) h.0 pending.is_request.asks)
+      one_left (At stop) h = some_left pending.left (starts (is_html tag.namespace) (starts_open p e pending.left) h.0 pending.is_request.asks)
 
   pub tried_at_most : (after : Tries) → AreWithin (sight_in vm.stack request.ctx.stack_item.local_name) all left_code vm.tries after (tried_at request.point) → IsTriedAtMost s esi events tag after
   tried_at_most after within = record { names = omega (arith, within.names, pending.names, left_count, tries_all.names); attributes = omega (arith, within.attributes, pending.attributes, opens_left) }
@@ -157,25 +162,24 @@ module _ {E : Type 0} (ids : E → Ids) (vm : Vm E) (s : Selectors) (esi : Bool)
     Executed = AreExecuted ids with_ids (sight_in vm.stack request.ctx.stack_item.local_name) all left_code ctx new_ctx vm.tries after (tag_attributes tag) (tried_at request.point)
 
     abbrev x : Context
-    x = context_of m.program true e (all_places rs)
+    x = context_of p true e (all_places rs)
 
     module _ (executed : Executed) where
-      finishes : run m.program true e pending.context pending.left ≡ x
-      finishes = requests_finish m.program true e rs pending.context pending.left pending.is_request tag.attributes tag.self_closing tag.finish
+      finishes : run p true e pending.context pending.left ≡ x
+      finishes = requests_finish p true e rs pending.context pending.left pending.is_request tag.attributes tag.self_closing tag.finish
 
       all_gathered : Gathers ids new_ctx.stack_item (content_of (has_content esi tag) x)
       all_gathered =
-          let gathers = attributes_gather m.program m.program.by_type e all left_code are_left ids with_ids lends ctx (content_of ctx.with_content pending.context) (gathered_before self_closing) in
+          let gathers = attributes_gather p p.by_type e all left_code are_left ids with_ids lends ctx (content_of ctx.with_content pending.context) (gathered_before self_closing) in
           let new_is = executed.gathered ∙ ap (λ z. gathered_with_attributes ids with_ids z (tag_attributes tag) ctx (all_at all left_code)) pending.sight in
-          let ran : run m.program ctx.with_content e (content_of ctx.with_content pending.context) (all_places left_code) ≡ content_of (has_content esi tag) x =
-          ap (run m.program ctx.with_content e (content_of ctx.with_content pending.context)) (sym pending.places_left)
-          ∙ (run_content m.program ctx.with_content e pending.context pending.left ∙ (λ i. content_of (content_now self_closing is_closing i) (finishes i))) in
+          let ran : run p ctx.with_content e (content_of ctx.with_content pending.context) (all_places left_code) ≡ content_of (has_content esi tag) x =
+          ap (run p ctx.with_content e (content_of ctx.with_content pending.context)) (sym pending.places_left)
+          ∙ (run_content p ctx.with_content e pending.context pending.left ∙ (λ i. content_of (content_now self_closing is_closing i) (finishes i))) in
           subst (λ (c : ExecutionCtx E). Gathers ids c.stack_item (content_of (has_content esi tag) x)) (sym new_is) (subst (Gathers ids _) ran gathers)
 
       pub complete : IsComplete ids s esi events tag true new_ctx x after
       complete =
           let same : StaysThe ctx new_ctx = subst (StaysThe ctx) (sym executed.gathered) (attributes_stay ids with_ids (sight_in vm.stack request.ctx.stack_item.local_name) (tag_attributes tag) ctx (all_at all left_code)) in
-          let given = runs_give_reports s pending.stands.paths m.program rs e d.open_elements pending.stands.closed pending.stands.standing.program (held running) in
           record {
             asks = pending.asks;
             kept = ap not finish;
@@ -191,10 +195,7 @@ module _ {E : Type 0} (ids : E → Ids) (vm : Vm E) (s : Selectors) (esi : Bool)
           → IsEntered new_ctx.with_content new_ctx.stack_item (record vm { tries = after }) next
           → IsAnswered ids step s esi events tag true vm next f g
       answered_now step f g next called entered =
-          answered complete called vm vm.stack pending.stands.paths m (record { stack = pending.stands.shows.stack; sound = pending.stands.shows.sound; program = pending.stands.shows.program }) refl pending.stands.closed
-          (subst (λ c. StandsFor s esi pending.stands.paths (finished m (has_content esi tag) tag.name c) (events ++ Start tag ∷ [])) finishes
-          (finishing_is_kept s esi pending.stands.paths m events tag pending.context pending.left pending.stands.closed finish pending.asks pending.stands.standing pending.is_request))
-          pending.stands.switch pending.stands.unfailed next entered
+          answered complete called vm vm.stack pending.stands.paths pending.stands.closed standing given refl pending.stands.switch pending.stands.unfailed next entered
 
 pub requests_try_at_most : {E : Type 0} → RequestsTryAtMost E
 requests_try_at_most ids s esi events tag vm request pending = open_tried ids vm s esi events tag request pending

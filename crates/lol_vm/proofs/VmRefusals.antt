@@ -1,5 +1,5 @@
 -- What survives a refusal, and what end tags do.
-use Rattle.lol_vm.proofs.Common.{◌≡◌, ◌-◌, Result, Ok, Err, ℕ, ◌<◌, ◌≤◌, Bool, true, false, List, [], ◌∷◌, ◌++◌, length, take, drop, Option, Some, None, refl, sym, ap, ◌∙◌, subst, arith, ◌↔◌, slice_get, max, nat_lt, if◌then◌else◌, nat_tests, length-set, length-map, length-take, take_all, drop_all, Name, local_name, StartTag, Html, LimitedVec, IsLimited, Limiter, full_count, IsProgramOf, Selectors, Element, document, Document, after_start, after_end, Event, End, KeepsMachine, items_in, list_in, slots_in, places_in, last_count, counted_in, counted_if, counted_item, with_typed, closed_from, element_data_of, place_to_close, last_below, IsSame, IsEnded, IsEndedAt, Machine, new_machine, IsOrdered, counted, ended, selectors, Vm, Shows, Stands, HasOpen, IsRefusal, IsRequested, IsSilent, has_failed, open_after, data_in, OpensNothing, StaysFailed, ExecutionCtx, StackItemOf, StackOf, StackNames}
+use Rattle.lol_vm.proofs.Common.{◌≡◌, ◌-◌, Result, Ok, Err, ℕ, ◌<◌, ◌≤◌, Bool, true, false, List, [], ◌∷◌, ◌++◌, length, take, drop, Option, Some, None, refl, sym, ap, ◌∙◌, subst, arith, ◌↔◌, slice_get, max, nat_lt, if◌then◌else◌, nat_tests, length-set, length-map, length-take, take_all, drop_all, Name, local_name, StartTag, Html, LimitedVec, IsLimited, Limiter, full_count, IsProgramOf, Selectors, Element, document, Document, after_start, after_end, Event, End, items_in, list_in, slots_in, places_in, last_count, counted_in, counted_if, counted_item, with_typed, closed_from, element_data_of, place_to_close, last_below, IsSame, IsEnded, IsEndedAt, IsOrdered, selectors, Vm, Stands, HasOpen, IsRefusal, IsRequested, IsSilent, has_failed, open_after, data_in, OpensNothing, StaysFailed, ExecutionCtx, StackItemOf, StackOf, StackNames, StandsOn, StandsFor, longest, empty}
 use Rattle.std.specs.Result.{OnOk, OnErr, IsOk}
 use Rattle.std.specs.List.{take-map, drop-map}
 use Rattle.lol_program.specs.Asts.{nodes_of}
@@ -7,7 +7,6 @@ use Rattle.lol_program.specs.ClosedLaws.{trees_are_closed}
 use Rattle.lol_program.specs.declared.ast.Ast.{Ast}
 use Rattle.lol_program.specs.declared.program.Program.{Program}
 use Rattle.lol_program.specs.ProgramViews.{program_shown}
-use Rattle.lol_stack.specs.SoundStacks.{IsSound}
 use Rattle.lol_memory.specs.declared.limited_vec.PushError.{PushError}
 use Rattle.lol_memory.specs.declared.limited_vec.PushError.TheVariants as pushes
 use Rattle.lol_vm.specs.VmErrors.{IsAskedOrFull, push_error, refused_child, refused_push, vm_error}
@@ -19,12 +18,13 @@ use Rattle.lol_vm.specs.declared.error.AuxStartTagInfoRequest.{AuxStartTagInfoRe
 use Rattle.lol_vm.specs.declared.error.VmError.{VmError}
 use Rattle.lol_vm.specs.declared.error.VmError.TheVariants.{InfoRequest, MemoryLimitExceeded, Memory, CounterFull, Failed}
 use Rattle.lol_vm.specs.declared.tag_runs.RecoveryPoint.{RecoveryPoint}
-use Rattle.lol_vm.proofs.Kept.{items_length, counted_stands, ended_stands, documents_are_ordered, ordered_start, ordered_end, new_stands, standing_is_kept}
-use Rattle.lol_stack.specs.SoundLaws.{new_is_sound, same_is_sound, closing_keeps_sound, counting_keeps_sound}
-use Rattle.lol_vm.proofs.StackCounting.{counting_stack_keeps}
-use Rattle.lol_vm.proofs.StackEnds.{ending_stack_keeps}
+use Rattle.lol_program.specs.Programs as programs
+use Rattle.lol_stack.specs.SoundLaws.{new_is_sound}
+use Rattle.lol_vm.specs.AnswerLaws.{document_push}
+use Rattle.lol_vm.proofs.Children.{documents_are_ordered, ordered_end, ordered_start}
+use Rattle.lol_vm.proofs.Kept.{IsNew, counted_stands, ended_stands, for_on, new_stands, same_stands}
+use Rattle.lol_vm.proofs.StackCounting.{many_are}
 use Rattle.lol_vm.proofs.VmStarts.{counted_data}
-use Rattle.lol_vm.proofs.StackMachines.{IsNew, new_stack_keeps, items_counted, same_stack_keeps}
 
 -- 1. Machines that stand
 
@@ -32,10 +32,8 @@ pub stands_has_open : {E : Type 0} (s : Selectors) (esi : Bool) (vm : Vm E) (eve
 stands_has_open s esi vm events h = record {
   selectors = s;
   paths = h.paths;
-  machine = h.machine;
   document = document s esi events;
   most = _;
-  shows = h.shows;
   standing = h.standing;
   ordered = documents_are_ordered s esi events;
   same = refl;
@@ -44,44 +42,43 @@ stands_has_open s esi vm events h = record {
 wider : (d : Document) (a b : ℕ) → a ≤ b → IsOrdered d a → IsOrdered d b
 wider d a b le h = let enough = h.enough in record { numbers = h.numbers; fresh = h.fresh; enough = omega (arith, le, enough) }
 
-module _ {E : Type 0} where
-  -- what a machine shows with another stack
-  shows_as : (vm new : Vm E) (m next : Machine) → Shows vm m → KeepsMachine new.stack next → IsSound new.stack → next.program ≡ m.program → new.program ≡ vm.program → Shows new next
-  shows_as vm new m next shown keeps sound program same_program = record { stack = keeps; sound = sound; program = program ∙ (shown.program ∙ sym (ap program_shown same_program)) }
+module _ {E : Type 0} (vm new : Vm E) (elements : List Element) (same_program : new.program ≡ vm.program) (h : HasOpen vm elements) where
+  open h use {paths, most, standing, ordered}
 
-  pub has_open_same : (vm new : Vm E) (elements : List Element) → IsSame vm.stack new.stack → new.program ≡ vm.program → new.enable_esi_tags ≡ vm.enable_esi_tags → HasOpen vm elements → HasOpen new elements
-  has_open_same vm new elements same same_program same_switch h = record {
+  abbrev p : programs.Program
+  p = program_shown vm.program
+
+  -- with another stack, and the same program
+  open_as : (d : Document) (n : ℕ) → StandsOn h.selectors paths p new.stack d n → IsOrdered d n → (now : List Element) → d.open_elements ≡ now → HasOpen new now
+  open_as d n stands orders now is = record {
     selectors = h.selectors;
-    paths = h.paths;
-    machine = h.machine;
-    document = h.document;
-    most = h.most;
-    shows = shows_as vm new h.machine h.machine h.shows (same_stack_keeps vm.stack new.stack h.machine h.shows.stack same) (same_is_sound vm.stack new.stack h.shows.sound same) refl same_program;
-    standing = h.standing;
-    ordered = h.ordered;
-    same = h.same;
+    paths = paths;
+    document = d;
+    most = n;
+    standing = subst (λ prog. StandsOn h.selectors paths (program_shown prog) new.stack d n) (sym same_program) stands;
+    ordered = orders;
+    same = is;
   }
 
+  pub has_open_same : IsSame vm.stack new.stack → HasOpen new elements
+  has_open_same same = open_as h.document most (same_stands h.selectors paths p vm.stack new.stack h.document most same standing) ordered elements h.same
+
   -- a refused tag may be counted
-  pub has_open_counted : (vm new : Vm E) (elements : List Element) (bytes : List ℕ) → new.stack ≡ counted_in vm.stack (local_name bytes) → last_count vm.stack < full_count
-      → new.program ≡ vm.program → new.enable_esi_tags ≡ vm.enable_esi_tags → HasOpen vm elements → HasOpen new elements
-  has_open_counted vm new elements bytes is room same_program same_switch h =
-      let m = h.machine in
-      let d = h.document in
+  pub has_open_counted : (bytes : List ℕ) → new.stack ≡ counted_in vm.stack (local_name bytes) → last_count vm.stack < full_count → HasOpen new elements
+  has_open_counted bytes is room =
       let tag : StartTag = record { name = bytes; namespace = Html; attributes = []; self_closing = false; finish = false } in
-      let keeps = counting_stack_keeps vm.stack m d bytes h.standing.counted (items_length h.paths m.program m.items d.open_elements h.standing.items) h.shows.stack room in
-      record {
-        selectors = h.selectors;
-        paths = h.paths;
-        machine = counted m bytes;
-        document = after_start d tag false;
-        most = max h.most (length d.open_elements);
-        shows = shows_as vm new m (counted m bytes) h.shows (subst (λ x. KeepsMachine x (counted m bytes)) (sym is) keeps)
-            (subst (λ (x : StackOf Name StackNames E). IsSound x) (sym is) (counting_keeps_sound vm.stack (local_name bytes) h.shows.sound)) refl same_program;
-        standing = counted_stands h.selectors h.paths m d h.most h.ordered h.standing tag;
-        ordered = wider (after_start d tag false) (length d.open_elements) (max h.most (length d.open_elements)) (omega arith) (ordered_start d h.most tag false h.ordered);
-        same = h.same;
-      }
+      let d = after_start h.document tag false in
+      let n = max most (length h.document.open_elements) in
+      let counted = counted_stands h.selectors paths p vm.stack h.document most ordered standing tag room in
+      open_as d n (subst (λ (x : StackOf Name StackNames E). StandsOn h.selectors paths p x d n) (sym is) counted)
+      (wider d (length h.document.open_elements) n (omega arith) (ordered_start h.document most tag false ordered)) elements h.same
+
+  pub has_open_ended : (name : List ℕ) → IsEnded vm.stack (local_name name) new.stack → HasOpen new (open_after name elements)
+  has_open_ended name is =
+      let d = after_end h.document name in
+      let n = max most (length d.open_elements) in
+      open_as d n (ended_stands h.selectors paths p vm.stack h.document most ordered standing new.stack name is)
+      (wider d (length d.open_elements) n (omega arith) (ordered_end h.document most name ordered)) (open_after name elements) (ap (open_after name) h.same)
 
 -- 2. End tags
 
@@ -95,43 +92,16 @@ below n (p ∷ []) k is = by_test (nat_lt p n) refl is
 below n (p ∷ q ∷ ps) k is = below n (q ∷ ps) k is
 
 module _ {E : Type 0} where
-  sound_at : (old new : StackOf Name StackNames E) (o : Option ℕ) → ((k : ℕ) → o ≡ Some k → k < length (items_in old)) → IsEndedAt o old new → IsSound old → IsSound new
-  sound_at old new None within ended sound = same_is_sound old new sound ended
-  sound_at old new (Some place) within ended sound = let less = within place refl in closing_keeps_sound place old new (omega (arith, less)) sound ended
-
-  sound_after : (old new : StackOf Name StackNames E) (name : Name) → IsEnded old name new → IsSound old → IsSound new
-  sound_after old new name ended sound = sound_at old new (place_to_close old name) (λ k is. below (length (items_in old)) (places_in old name) k is) ended sound
-
-  pub has_open_ended : (vm new : Vm E) (elements : List Element) (name : List ℕ) → IsEnded vm.stack (local_name name) new.stack → new.program ≡ vm.program → new.enable_esi_tags ≡ vm.enable_esi_tags
-      → HasOpen vm elements → HasOpen new (open_after name elements)
-  has_open_ended vm new elements name is same_program same_switch h =
-      let m = h.machine in
-      let d = h.document in
-      record {
-        selectors = h.selectors;
-        paths = h.paths;
-        machine = ended m name;
-        document = after_end d name;
-        most = max h.most (length (after_end d name).open_elements);
-        shows = shows_as vm new m (ended m name) h.shows (ending_stack_keeps vm.stack new.stack m name h.shows.stack h.shows.sound is) (sound_after vm.stack new.stack (local_name name) is h.shows.sound)
-            refl same_program;
-        standing = ended_stands h.selectors h.paths m d h.most h.ordered h.standing name;
-        ordered = wider (after_end d name) (length (after_end d name).open_elements) (max h.most (length (after_end d name).open_elements)) (omega arith) (ordered_end d h.most name h.ordered);
-        same = ap (open_after name) h.same;
-      }
-
   pub stands_ended : (s : Selectors) (esi : Bool) (vm new : Vm E) (events : List Event) (name : List ℕ) → IsEnded vm.stack (local_name name) new.stack → new.program ≡ vm.program → new.enable_esi_tags ≡ vm.enable_esi_tags → new.failed ≡ vm.failed
       → Stands s esi vm events → Stands s esi new (events ++ End name ∷ [])
   stands_ended s esi vm new events name is same_program same_switch same_failed h =
-      let m = h.machine in
-      let shown = shows_as vm new m (ended m name) h.shows (ending_stack_keeps vm.stack new.stack m name h.shows.stack h.shows.sound is) (sound_after vm.stack new.stack (local_name name) is h.shows.sound)
-      refl same_program in
+      let d = document s esi events in
+      let ended = ended_stands s h.paths (program_shown vm.program) vm.stack d (longest s esi events) (documents_are_ordered s esi events) h.standing new.stack name is in
       record {
         paths = h.paths;
-        machine = ended m name;
         closed = h.closed;
-        shows = shown;
-        standing = standing_is_kept s esi h.paths m events (End name) h.closed h.standing;
+        standing = subst (λ prog. StandsFor s esi h.paths (program_shown prog) new.stack (events ++ End name ∷ [])) (sym same_program)
+            (for_on s esi events (End name) (after_end d name) (document_push s esi empty events (End name)) h.paths (program_shown vm.program) new.stack ended);
         switch = same_switch ∙ h.switch;
         unfailed = same_failed ∙ h.unfailed;
       }
@@ -141,12 +111,11 @@ module _ {E : Type 0} where
     pub kept : data_in new ≡ take n (data_in vm)
     pub handed : element_data_of (closed_from o (items_in vm.stack)) ≡ drop n (data_in vm)
 
-  pub ends_data : (vm new : Vm E) (elements : List Element) (name : List ℕ) → IsEnded vm.stack (local_name name) new.stack → new.program ≡ vm.program → new.enable_esi_tags ≡ vm.enable_esi_tags → HasOpen vm elements
+  pub ends_data : (vm new : Vm E) (elements : List Element) (name : List ℕ) → IsEnded vm.stack (local_name name) new.stack → new.program ≡ vm.program → HasOpen vm elements
       → EndsAt vm new (length (open_after name elements)) (place_to_close vm.stack (local_name name))
-  ends_data vm new elements name is same_program same_switch h =
-      let after = has_open_ended vm new elements name is same_program same_switch h in
-      let many : length (open_after name elements) ≡ length (items_in new.stack) =
-      sym (ap length after.same) ∙ (sym (items_length after.paths after.machine.program after.machine.items after.document.open_elements after.standing.items) ∙ items_counted new.stack after.machine after.shows.stack) in
+  ends_data vm new elements name is same_program h =
+      let after = has_open_ended vm new elements same_program h name is in
+      let many : length (open_after name elements) ≡ length (items_in new.stack) = sym (ap length after.same) ∙ sym (many_are new.stack new.program.enable_nth_of_type after.document after.standing.counted) in
       by_place (place_to_close vm.stack (local_name name)) (λ k at. below (length (items_in vm.stack)) (places_in vm.stack (local_name name)) k at) is (length (open_after name elements)) many
     where
       by_place : (o : Option ℕ) → ((k : ℕ) → o ≡ Some k → k < length (items_in vm.stack)) → IsEndedAt o vm.stack new.stack → (n : ℕ) → n ≡ length (items_in new.stack)
@@ -177,14 +146,10 @@ pub new_vm_stands : {E : Type 0} (ast : Ast) (prog : Program) (stack : StackOf N
     → vm.program ≡ prog → vm.stack ≡ stack → vm.enable_esi_tags ≡ esi → vm.failed ≡ false → Stands (selectors ast) esi vm []
 new_vm_stands ast prog stack vm esi item_bytes is new places program has switch failed = record {
   paths = nodes_of ast;
-  machine = new_machine (program_shown prog) item_bytes;
   closed = trees_are_closed ast;
-  shows = record {
-    stack = subst (λ s. KeepsMachine s (new_machine (program_shown prog) item_bytes)) (sym has) (new_stack_keeps stack (program_shown prog) item_bytes new);
-    sound = subst (λ (s : StackOf Name StackNames _). IsSound s) (sym has) (new_is_sound stack (ap (λ (v : LimitedVec (StackItemOf Name _)). v.items) new.items) new.active places);
-    program = ap program_shown (sym program);
-  };
-  standing = new_stands (selectors ast) esi (nodes_of ast) (program_shown prog) item_bytes is;
+  standing = subst (λ prog. StandsFor (selectors ast) esi (nodes_of ast) (program_shown prog) vm.stack []) (sym program)
+      (subst (λ (x : StackOf Name StackNames _). StandsFor (selectors ast) esi (nodes_of ast) (program_shown prog) x []) (sym has)
+      (new_stands (selectors ast) (nodes_of ast) (program_shown prog) stack item_bytes is new (new_is_sound stack (ap (λ (v : LimitedVec (StackItemOf Name _)). v.items) new.items) new.active places)));
   switch = switch;
   unfailed = failed;
 }
@@ -313,7 +278,7 @@ module _ {E : Type 0} where
     uncharged = uncharged;
     slots = ap (λ (v : LimitedVec (StackItemOf Name E)). v.slots) alike.items;
     unchanged = ap (λ (v : LimitedVec (StackItemOf Name E)). element_data_of v.items) alike.items;
-    still_open = λ told elements h. has_open_same vm new elements alike program switch h;
+    still_open = λ told elements h. has_open_same vm new elements program h alike;
   }
 
   -- it is the same
@@ -327,7 +292,7 @@ module _ {E : Type 0} where
     uncharged = refl;
     slots = ap slots_in is ∙ slots;
     unchanged = ap (λ (s : StackOf Name StackNames E). element_data_of (items_in s)) (is ∙ ok) ∙ counted_data vm.stack name;
-    still_open = λ told elements h. has_open_counted vm new elements told.0 (is ∙ (ok ∙ ap (counted_in vm.stack) told.1)) room program switch h;
+    still_open = λ told elements h. has_open_counted vm new elements program h told.0 (is ∙ (ok ∙ ap (counted_in vm.stack) told.1)) room;
   }
 
   -- two steps, one after the other

@@ -1,14 +1,17 @@
 -- Start tags that the machine of the code counted, and what it answers to them.
-use Rattle.lol_vm.proofs.Common.{map-id, ◌≡◌, ℕ, Result, Err, ◌-◌, Bool, true, false, not, List, [], ◌∷◌, ◌++◌, length, map, Option, Some, None, refl, sym, ap, ◌∙◌, subst, arith, ◌&&◌, if◌then◌else◌, slice_get, map-append, Name, map-map, StartTag, Ids, ascending, LimitedVec, Selectors, Path, Element, names_counted, attributes_counted, Tries, Match, Started, Dropped, asks, document, matching_ids, name_tries, attribute_tries, report, Document, element_of, Event, Start, has_content, Context, items_in, counted_in, counted_item, counted_if, with_typed, element_data_of, Machine, StandsFor, opened, finished, IsRequested, Vm, Shows, IsAnswered, IsReported, IsTriedAtMost, IsPending, IsEntered, AreOpened, content_of, info_of, data_in, ExecutionCtx, StackItemOf, StackOf, StackNames, AreClosed}
+use Rattle.lol_vm.proofs.Common.{map-id, ◌≡◌, ℕ, suc, Result, Err, ◌-◌, Bool, true, false, not, List, [], ◌∷◌, ◌++◌, length, map, max, Option, Some, None, refl, sym, ap, ◌∙◌, subst, arith, ◌&&◌, and-true, if◌then◌else◌, slice_get, map-append, Name, map-map, StartTag, Ids, ascending, LimitedVec, Selectors, Path, Element, names_counted, attributes_counted, Tries, Match, Started, Dropped, asks, document, longest, matching_ids, name_tries, attribute_tries, report, Document, after_start, element_of, empty, Event, Start, has_content, Context, items_in, counted_in, counted_item, counted_if, with_typed, element_data_of, IsOrdered, StandsOn, IsRequested, Vm, IsAnswered, IsReported, IsTriedAtMost, IsPending, IsEntered, AreOpened, content_of, info_of, data_in, ExecutionCtx, StackItemOf, StackOf, StackNames, AreClosed}
 use Rattle.lol_memory.specs.declared.match_info.MatchInfo.{MatchInfo}
 use Rattle.lol_stack.specs.Calls.{IsCalledAtEach, reports}
 use Rattle.lol_vm.specs.declared.error.AuxStartTagInfoRequest.{AuxStartTagInfoRequest}
 use Rattle.lol_vm.specs.declared.error.VmError.{VmError}
 use Rattle.lol_vm.specs.declared.error.VmError.TheVariants.{InfoRequest}
 use Rattle.lol_vm.specs.declared.tag_runs.RecoveryPoint.{RecoveryPoint}
-use Rattle.lol_stack.specs.SoundLaws.{set_keeps, opening_keeps_sound}
-use Rattle.lol_vm.proofs.StackMachines.{IsItemOf, opening_stack_keeps}
-use Rattle.lol_vm.proofs.Starts.{no_attributes}
+use Rattle.lol_program.specs.ProgramViews.{program_shown}
+use Rattle.lol_stack.specs.SoundLaws.{set_keeps}
+use Rattle.lol_vm.specs.AnswerLaws.{document_push}
+use Rattle.lol_vm.proofs.Children.{documents_are_ordered}
+use Rattle.lol_vm.proofs.Gathered.{GivesReport}
+use Rattle.lol_vm.proofs.Kept.{IsItemOf, for_on, opened_stands}
 
 -- 1. Data
 
@@ -28,30 +31,29 @@ abbrev pub data_with : {E : Type 0} → Bool → StackItemOf Name E → List E �
 data_with true item old = old ++ item.element_data ∷ []
 data_with false item old = old
 
-pub record Enters {E : Type 0} (vm : Vm E) (after : Tries) (before : List E) (m : Machine) (name : List ℕ) (x : Context) (item : StackItemOf Name E) (next : Vm E) (content : Bool) : Type 0 where
-  pub shows : Shows next (finished m content name x)
+-- what an element's tag that was counted comes to, once it is opened if it has content
+pub record Enters {E : Type 0} (s : Selectors) (paths : List Path) (vm : Vm E) (after : Tries) (before : List E) (d : Document) (most : ℕ) (item : StackItemOf Name E) (next : Vm E) (content : Bool) : Type 0 where
+  pub standing : StandsOn s paths (program_shown next.program) next.stack d most
   pub tries : next.tries ≡ after
   pub switch : next.enable_esi_tags ≡ vm.enable_esi_tags
   pub failed : next.failed ≡ vm.failed
   pub has : data_in next ≡ data_with content item before
 
-pub entered_stands : {E : Type 0} (vm : Vm E) (stack : StackOf Name StackNames E) (after : Tries) (m : Machine) → Shows (record vm { stack = stack; tries = after }) m → (name : List ℕ) (x : Context) (item : StackItemOf Name E) (next : Vm E) (content : Bool)
-    → IsItemOf item name (content_of content x) → IsEntered content item (record vm { stack = stack; tries = after }) next → Enters vm after (element_data_of (items_in stack)) m name x item next content
-entered_stands vm stack after m shown name x item next true is entered =
-    let opened_now : Shows (record vm { stack = next.stack; tries = after }) (opened m name x) = record {
-      stack = opening_stack_keeps stack next.stack m item name x shown.stack entered.0 is;
-      sound = opening_keeps_sound stack next.stack item shown.sound entered.0;
-      program = shown.program;
-    } in
+entered_stands : {E : Type 0} (s : Selectors) (paths : List Path) (vm : Vm E) (stack : StackOf Name StackNames E) (after : Tries) (d : Document) (most : ℕ) → IsOrdered d most → (tag : StartTag) (x : Context) (item : StackItemOf Name E) (next : Vm E) (content : Bool)
+    → StandsOn s paths (program_shown vm.program) stack (after_start d tag false) (max most (length d.open_elements)) → GivesReport s paths (program_shown vm.program) x (element_of d tag) d.open_elements
+    → IsItemOf item tag.name (content_of content x) → IsEntered content item (record vm { stack = stack; tries = after }) next
+    → Enters s paths vm after (element_data_of (items_in stack)) (after_start d tag content) (max most (length (after_start d tag content).open_elements)) item next content
+entered_stands s paths vm stack after d most ordered tag x item next true here given is entered =
+    let opened = opened_stands s paths (program_shown vm.program) d most ordered tag stack next.stack item x here entered.0 is given.jumps given.hereditary_jumps in
     record {
-      shows = subst (λ v. Shows v (opened m name x)) (sym entered.1) opened_now;
+      standing = subst (λ (v : Vm _). StandsOn s paths (program_shown v.program) v.stack (after_start d tag true) (max most (suc (length d.open_elements)))) (sym entered.1) opened;
       tries = ap (λ (v : Vm _). v.tries) entered.1;
       switch = ap (λ (v : Vm _). v.enable_esi_tags) entered.1;
       failed = ap (λ (v : Vm _). v.failed) entered.1;
       has = ap (λ (v : LimitedVec (StackItemOf Name _)). element_data_of v.items) entered.0.items ∙ map-append (λ (i : StackItemOf Name _). i.element_data) (items_in stack) (item ∷ []);
     }
-entered_stands vm stack after m shown name x item next false is entered = record {
-  shows = subst (λ v. Shows v m) (sym entered) shown;
+entered_stands s paths vm stack after d most ordered tag x item next false here given is entered = record {
+  standing = subst (λ (v : Vm _). StandsOn s paths (program_shown v.program) v.stack (after_start d tag false) (max most (length d.open_elements))) (sym entered) here;
   tries = ap (λ (v : Vm _). v.tries) entered;
   switch = ap (λ (v : Vm _). v.enable_esi_tags) entered;
   failed = ap (λ (v : Vm _). v.failed) entered;
@@ -95,12 +97,15 @@ module _ {E : Type 0} {ids : E → Ids} {s : Selectors} {esi : Bool} {events : L
     }
 
     -- the machine stands for the events with this one
-    pub answered : (vm : Vm E) (stack : StackOf Name StackNames E) (paths : List Path) (m : Machine) → Shows (record vm { stack = stack; tries = tries }) m → element_data_of (items_in stack) ≡ data_in vm → AreClosed s
-        → StandsFor s esi paths (finished m (has_content esi tag) tag.name x) (events ++ Start tag ∷ []) → vm.enable_esi_tags ≡ esi → vm.failed ≡ false
+    pub answered : (vm : Vm E) (stack : StackOf Name StackNames E) (paths : List Path) → AreClosed s → StandsOn s paths (program_shown vm.program) stack (after_start d tag false) (max (longest s esi events) (length d.open_elements))
+        → GivesReport s paths (program_shown vm.program) x e d.open_elements → element_data_of (items_in stack) ≡ data_in vm → vm.enable_esi_tags ≡ esi → vm.failed ≡ false
         → (next : Vm E) → IsEntered ctx.with_content ctx.stack_item (record vm { stack = stack; tries = tries }) next → IsAnswered ids step s esi events tag asked vm next f g
-    answered vm stack paths m shown same_data closed standing switch unfailed next entered =
-        let entering = entered_stands vm stack tries m shown tag.name x ctx.stack_item next (has_content esi tag) all.item
+    answered vm stack paths closed here given same_data switch unfailed next entered =
+        let entering = entered_stands s paths vm stack tries d (longest s esi events) (documents_are_ordered s esi events) tag x ctx.stack_item next (has_content esi tag) here given all.item
         (subst (λ b. IsEntered b ctx.stack_item (record vm { stack = stack; tries = tries }) next) all.content entered) in
+        let now : document s esi (events ++ Start tag ∷ []) ≡ after_start d tag (has_content esi tag) =
+        document_push s esi empty events (Start tag)
+        ∙ ap (after_start d tag) ((λ i. has_content esi tag && not (all.asks i && not tag.finish)) ∙ ((λ i. has_content esi tag && not (all.kept i)) ∙ and-true (has_content esi tag))) in
         let told_all = reported next.tries entering.tries in
         record {
           matched = report s esi e d.open_elements;
@@ -109,7 +114,13 @@ module _ {E : Type 0} {ids : E → Ids} {s : Selectors} {esi : Bool} {events : L
               ∙ (ap (λ b. if b then Dropped else Started (report s esi e d.open_elements) asked (name_tries s.nodes d.open_elements) (attribute_tries s.nodes e d.open_elements)) all.kept
               ∙ (λ i. Started (report s esi e d.open_elements) asked (sym told_all.names i) (sym told_all.attributes i)));
           reported = told_all.called;
-          stands = record { paths = paths; machine = finished m (has_content esi tag) tag.name x; closed = closed; shows = entering.shows; standing = standing; switch = entering.switch ∙ switch; unfailed = entering.failed ∙ unfailed };
+          stands = record {
+            paths = paths;
+            closed = closed;
+            standing = for_on s esi events (Start tag) (after_start d tag (has_content esi tag)) now paths (program_shown next.program) next.stack entering.standing;
+            switch = entering.switch ∙ switch;
+            unfailed = entering.failed ∙ unfailed;
+          };
           opened = opened_as ids (has_content esi tag) (report s esi e d.open_elements) ctx.stack_item
               (all.matched ∙ sym (map-map (λ (r : Match). r.id) as_match (matching_ids s.pairs e d.open_elements) ∙ map-id (matching_ids s.pairs e d.open_elements)))
               (data_in vm) (data_in next) (element_data_of (items_in stack)) same_data entering.has;

@@ -26,5 +26,4 @@ pub mod Machines
 pub mod PlaceRuns
 pub mod MachineLaws
 pub mod Standing
-pub mod StackMachines
 pub mod ChargeLaws

@@ -1,11 +1,13 @@
 -- What a machine keeps of the open elements.
-use Rattle.std.specs.Prelude.{ℕ, ◌≡◌, ◌↔◌, true, List, [], ◌∷◌, ◌++◌, map, length, Option, Some, Contains}
+use Rattle.std.specs.Prelude.{ℕ, ◌≡◌, ◌↔◌, true, List, [], ◌∷◌, ◌++◌, map, reverse, length, Option, Some, Contains}
 use Rattle.std.specs.declared.ops.Range.{Range}
+use Rattle.lol_base.specs.LocalNames.{Name}
 use Rattle.lol_base.specs.Names.{lowercased}
 use Rattle.lol_instructions.specs.Tests.{Element}
 use Rattle.lol_program.specs.Paths.{Path}
 use Rattle.lol_vm.specs.Matching.{matches, left_matches}
 use Rattle.lol_stack.specs.Active.{activated}
+use Rattle.lol_stack.specs.declared.stack_item.StackItemOf.{StackItemOf}
 use Rattle.lol_program.specs.Programs.{Instruction, Program, IsAt, Once, all_places}
 
 -- An open element: its name in ASCII lower case, and the ranges that it gives to elements right inside it, and to all inside it.
@@ -13,6 +15,19 @@ pub record OpenItem : Type 0 where
   pub name : List ℕ
   pub jumps : List (Range ℕ)
   pub hereditary_jumps : List (Range ℕ)
+
+module _ {E : Type 0} where
+  abbrev pub item_shown : StackItemOf Name E → OpenItem
+  item_shown item =
+      record { name = item.local_name.lowercased; jumps = item.jumps; hereditary_jumps = item.hereditary_jumps }
+
+  -- a stack's elements, the innermost first
+  abbrev pub items_shown : List (StackItemOf Name E) → List OpenItem
+  items_shown items = reverse (map item_shown items)
+
+  -- how many children each of them had
+  abbrev pub children_shown : List (StackItemOf Name E) → List ℕ
+  children_shown items = reverse (map (λ item. item.child_counter) items)
 
 -- some place has a path with P, and an instruction with this range
 abbrev pub IsReached : (Instruction → Option (Range ℕ)) → List Path → Program → (Path → Type 0) → Range ℕ → Type 0

@@ -23,10 +23,8 @@ use Rattle.lol_vm.specs.Documents.{Document, element_of, place_of, outer_part}
 use Rattle.lol_vm.specs.Events.{Event, Start, has_content}
 use Rattle.lol_vm.specs.PlaceRuns.{Gathers, Context, no_context}
 use Rattle.lol_vm.specs.MachineLaws.{IsRequest}
-use Rattle.lol_stack.specs.SoundStacks.{IsSound}
-use Rattle.lol_vm.specs.StackMachines.{KeepsMachine}
 use Rattle.lol_stack.specs.Stacks.{items_in, element_data_of, slots_in, item_bytes_in, IsPushed}
-use Rattle.lol_vm.specs.Standing.{Machine, StandsOn, IsOrdered, StandsFor, ranges_of_machine, unfinished}
+use Rattle.lol_vm.specs.Standing.{StandsOn, IsOrdered, StandsFor, unfinished}
 use Rattle.lol_vm.specs.TagRuns.{sight_in, ranges_to_run_in, ranges_left, IsPointIn, tried_at}
 use Rattle.lol_vm.specs.declared.error.AuxStartTagInfoRequest.{AuxStartTagInfoRequest}
 use Rattle.lol_vm.specs.declared.error.VmError.{VmError}
@@ -78,19 +76,11 @@ module _ {E : Type 0} where
 
 -- 2. Standing
 
--- A machine of the code keeps what one of the definitions does.
-pub record Shows {E : Type 0} (vm : Vm E) (m : Machine) : Type 0 where
-  pub stack : KeepsMachine vm.stack m
-  pub sound : IsSound vm.stack
-  pub program : m.program ≡ program_shown vm.program
-
--- It stands for events: with selectors and the ESI switch.
+-- A machine stands for events: its program and its stack do, with selectors and the ESI switch.
 pub record Stands {E : Type 0} (s : Selectors) (esi : Bool) (vm : Vm E) (events : List Event) : Type 0 where
   pub paths : List Path
-  pub machine : Machine
   pub closed : AreClosed s
-  pub shows : Shows vm machine
-  pub standing : StandsFor s esi paths machine events
+  pub standing : StandsFor s esi paths (program_shown vm.program) vm.stack events
   pub switch : vm.enable_esi_tags ≡ esi
   pub unfailed : vm.failed ≡ false
 
@@ -98,11 +88,9 @@ pub record Stands {E : Type 0} (s : Selectors) (esi : Bool) (vm : Vm E) (events 
 pub record HasOpen {E : Type 0} (vm : Vm E) (elements : List Element) : Type 0 where
   pub selectors : Selectors
   pub paths : List Path
-  pub machine : Machine
   pub document : Document
   pub most : ℕ
-  pub shows : Shows vm machine
-  pub standing : StandsOn selectors paths machine document most
+  pub standing : StandsOn selectors paths (program_shown vm.program) vm.stack document most
   pub ordered : IsOrdered document most
   pub same : document.open_elements ≡ elements
 
@@ -215,15 +203,15 @@ module _ {E : Type 0} (ids_of : E → Ids) where
     pub asks : asks s (element_of (document s esi events) tag) (document s esi events).open_elements ≡ true
     pub context : Context
     pub left : List ℕ
-    pub is_request : IsRequest stands.machine.program true (element_of (document s esi events) tag) (ranges_of_machine stands.machine) context left
+    pub is_request : IsRequest (program_shown vm.program) true (element_of (document s esi events) tag) (ranges_to_try vm) context left
     pub named : IsTagOf request.ctx.stack_item.local_name request.ctx.ns tag
-    pub sight : sight_in vm.stack request.ctx.stack_item.local_name ≡ sight_of stands.machine.program.by_type (element_of (document s esi events) tag)
+    pub sight : sight_in vm.stack request.ctx.stack_item.local_name ≡ sight_of vm.program.enable_nth_of_type (element_of (document s esi events) tag)
     pub childless : request.ctx.stack_item.child_counter ≡ 0
     pub gathered : Gathers ids_of request.ctx.stack_item (content_of request.ctx.with_content context)
     pub goes_on : GoesOnAt (is_html tag.namespace) (has_content esi tag) context request.point request.ctx.with_content
     pub stopped : IsPointIn (instructions_in vm) (ranges_to_try vm) request.point
     pub places_left : left ≡ all_places (ranges_left (ranges_to_try vm) request.point)
-    pub names : names_counted vm.tries + length left ≡ length (all_places (ranges_of_machine stands.machine)) + tried_at request.point
+    pub names : names_counted vm.tries + length left ≡ length (all_places (ranges_to_try vm)) + tried_at request.point
     pub attributes : attributes_counted vm.tries ≡ 0
 
 -- 6. Charges

@@ -1,4 +1,4 @@
-//! Laws of the machine over the definitions, each the contract of an empty function.
+//! Laws of what a machine keeps, each the contract of an empty function.
 
 ghost use Rattle.lol_vm.specs.MachineLaws.{ProgramsHaveEachNode, RangesHoldLeftMatches};
 ghost use Rattle.lol_vm.specs.Standing.{CountersArePlaces, DocumentsAreOrdered};
@@ -20,7 +20,8 @@ pub fn documents_are_ordered()
     ensures { DocumentsAreOrdered }
 {}
 
-/// The counters after a start tag is counted are its element's places among its siblings.
-pub fn counters_are_places()
-    ensures { CountersArePlaces }
+/// The counters of a stack that counts a start tag are its element's places among its siblings; those by type where the counter of its
+/// parent isn't full.
+pub fn counters_are_places<E>()
+    ensures { CountersArePlaces E }
 {}

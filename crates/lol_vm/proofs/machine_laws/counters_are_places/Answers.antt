@@ -1,5 +1,5 @@
-use Rattle.lol_vm.proofs.Kept as proved
+use Rattle.lol_vm.proofs.StackCounting as proved
 use Rattle.lol_vm.proofs.machine_laws.counters_are_places.Goals as goal
 
 pub returns : goal.returns
-returns c = proved.counters_are_places
+returns g c = proved.counters_are_places

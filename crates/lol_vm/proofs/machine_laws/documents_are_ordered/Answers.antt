@@ -1,4 +1,4 @@
-use Rattle.lol_vm.proofs.Kept as proved
+use Rattle.lol_vm.proofs.Children as proved
 use Rattle.lol_vm.proofs.machine_laws.documents_are_ordered.Goals as goal
 
 pub returns : goal.returns

@@ -8,7 +8,7 @@ use Rattle.lol_vm.specs.Answers.{document, matching_ids}
 use Rattle.lol_vm.specs.Documents.{element_of}
 use Rattle.lol_vm.specs.Events.{has_content}
 use Rattle.lol_vm.specs.Follows.{opens}
-use Rattle.lol_vm.specs.StackMachines.{items_shown}
+use Rattle.lol_vm.specs.Machines.{items_shown}
 use Rattle.lol_vm.specs.Vms.{program_in, stack_in}
 use Rattle.lol_reasons.specs.Matched.{IsAround}
 use Rattle.lol_reasons.proofs.Reasons.{ids_of_matches}

@@ -1,4 +1,4 @@
-use Rattle.lol_vm.proofs.Common.{◌≡◌, arith, Err, refl, ap, ◌∙◌, subst, Vm, slot_bytes}
+use Rattle.lol_vm.proofs.Common.{◌≡◌, arith, Err, refl, ap, ◌∙◌, subst, Vm, slot_bytes, document, longest}
 use Rattle.lol_stack.specs.declared.stack.AddChildError.TheVariants.{CounterFull}
 use Rattle.lol_vm.specs.TriedStarts.{IsTried}
 use Rattle.lol_vm.specs.VmErrors.{refused_child}
@@ -39,7 +39,7 @@ returns-in-Err g c =
       refused = refl;
       unlimited = λ limit. isnt.1 cc;
       free = λ s esi events tag stands named takes.
-          let full = c.in-Err.ensures.free (has_none_typed s stands.paths c.args.self.now stands.machine stands.shows stands.standing.program (small_if s tag takes)) in
+          let full = c.in-Err.ensures.free (has_none_typed s stands.paths c.args.self.now (document s esi events) (longest s esi events) stands.standing (small_if s tag takes)) in
           let child : c.in-Err.error ≡ CounterFull = cc in
           c.from.ensures ∙ ap refused_child child;
       tried = λ s esi events tag stands named. none_tried s esi events tag c.new-self.result c.new-self.result refl c.new-self.ensures.names c.new-self.ensures.attributes;
@@ -63,7 +63,7 @@ returns-in-Err-try_start g c =
       refused = ap (λ (v : Vm _). v.failed) is;
       unlimited = λ limit. cc;
       free = λ s esi events tag stands named takes.
-          let ok = never_refused trial s esi events tag stands named (free_if s stands.paths c.args.self.now stands.machine stands.shows stands.standing.program esi tag takes) in
+          let ok = never_refused trial s esi events tag stands named (free_if s stands.paths c.args.self.now (document s esi events) (longest s esi events) stands.standing esi tag takes) in
           absurd (err_is_not_ok c.try_start.result c.in-Err-try_start.field-0 c.in-Err-try_start.is ok);
       tried = λ s esi events tag stands named. most_tried trial s esi events tag stands named;
     }

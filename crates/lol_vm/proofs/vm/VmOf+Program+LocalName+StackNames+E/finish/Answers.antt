@@ -1,5 +1,6 @@
-use Rattle.lol_vm.proofs.Common.{true, inr, refl, sym, ◌∙◌, subst, Bool, List, on_err_weaker, StartTag, tag_attributes, Selectors, ExecutionCtx, Event, has_content, AreRunnable, NeedNoMemory, AreExecuted, AreWithin, IsPointIn, ranges_left, ranges_to_run_in, sight_in, tried_at, IsPending, IsRestOf, IsTriedAtMost, content_at, document, element_of, context_of, ranges_of_machine, all_places}
+use Rattle.lol_vm.proofs.Common.{true, inr, refl, sym, ◌∙◌, subst, Bool, List, on_err_weaker, StartTag, tag_attributes, Selectors, ExecutionCtx, Event, has_content, AreRunnable, NeedNoMemory, AreExecuted, AreWithin, IsPointIn, ranges_left, ranges_to_run_in, sight_in, tried_at, IsPending, IsRestOf, IsTriedAtMost, content_at, document, element_of, context_of, all_places, ranges_to_try}
 use Rattle.std.specs.Result.{IfOk, IsOk}
+use Rattle.lol_program.specs.ProgramViews.{program_shown}
 use Rattle.lol_memory.specs.declared.limited_vec.PushError.TheVariants as pushes
 use Rattle.lol_vm.specs.TriedStarts.{left_at}
 use Rattle.lol_vm.proofs.FreeTags.{finished_closed, is_alone_free, is_closed_free, memory_instead, void_is_closed}
@@ -19,7 +20,7 @@ pub returns-in-Err-clause-free : goal.returns-in-Err-clause-free
 returns-in-Err-clause-free g c = λ s esi events tag pending takes.
     let vm = c.args.self.now in
     let closed = finished_closed c.args.point (has_content esi tag) c.args.ctx.with_content c.args.aux_info.self_closing pending.context tag.namespace pending.goes_on takes.1 (void_is_closed esi tag takes.1 takes.2) in
-    let free = is_closed_free s pending.stands.paths vm pending.stands.machine pending.stands.shows pending.stands.standing.program takes.0 c.content_at.result (c.content_at.ensures ∙ closed) in
+    let free = is_closed_free s pending.stands.paths vm _ _ pending.stands.standing takes.0 c.content_at.result (c.content_at.ensures ∙ closed) in
     absurd (err_is_not_ok c.complete.result c.in-Err.error c.in-Err.is (of_same (λ all ranges s. NeedNoMemory c.content_at.result all → IsOk c.complete.result) c.new-run.ensures.instructions c.new-run.ensures.ranges c.new-run.ensures.sight c.complete.ensures.free free))
 
 pub returns-in-Err-clause-tried : goal.returns-in-Err-clause-tried
@@ -32,7 +33,7 @@ returns-in-Err-clause-tried g c = λ s esi events tag pending.
 
 pub returns-in-Err-clause-due : goal.returns-in-Err-clause-due
 returns-in-Err-clause-due g c = λ error is due s esi events tag pending flat.
-    let free = is_alone_free s pending.stands.paths c.args.self.now pending.stands.machine pending.stands.shows pending.stands.standing.program flat.small flat.alone c.content_at.result in
+    let free = is_alone_free s pending.stands.paths c.args.self.now _ _ pending.stands.standing flat.small flat.alone c.content_at.result in
     absurd (err_is_not_ok c.complete.result c.in-Err.error c.in-Err.is (of_same (λ all ranges s. NeedNoMemory c.content_at.result all → IsOk c.complete.result) c.new-run.ensures.instructions c.new-run.ensures.ranges c.new-run.ensures.sight c.complete.ensures.free free))
 
 -- 2. It was reported
@@ -60,7 +61,7 @@ module _ (g : given.Over) (c : goal.After-answer g) (s : Selectors) (esi : Bool)
       subst (λ b. AreExecuted ids with_ids s_now all left (record c.args.ctx { with_content = b }) new_ctx vm.tries after (tag_attributes tag) (tried_at point)) c.content_at.ensures
       (subst (λ a. AreExecuted ids with_ids s_now all left ctx new_ctx vm.tries after a (tried_at point)) seen done)
 
-  told : IsRestOf c.args.aux_info tag → IsComplete g.E.ElementData.ids s esi events tag true c.complete.new.ctx (context_of pending.stands.machine.program true (element_of (document s esi events) tag) (all_places (ranges_of_machine pending.stands.machine))) c.complete.new.tries
+  told : IsRestOf c.args.aux_info tag → IsComplete g.E.ElementData.ids s esi events tag true c.complete.new.ctx (context_of (program_shown c.args.self.now.program) true (element_of (document s esi events) tag) (all_places (ranges_to_try c.args.self.now))) c.complete.new.tries
   told rest =
       complete g.E.ElementData.ids c.args.self.now s esi events tag (left_at c.args.ctx c.args.point) pending g.E.ElementData.with_ids g.met.E.ElementData.ids_of_changed c.args.aux_info.self_closing (sym rest.1) rest.2
       c.complete.new.ctx c.complete.new.tries (executed rest)
