@@ -2,7 +2,7 @@
 use Rattle.lol_vm.proofs.Common.{◌≡◌, ℕ, true, List, ◌↔◌, ap, Contains, ◌||◌, not, Range, Element, is_html, Selectors, Path, ascending_once, matching_ids, asks, ascending_is_determined, ascending_ascends, pairs_from_ascends, matching_ids_ascend, among_ascending, ascending_among, all_places, AreClosed, IsProgramOf, HoldOnce, LeftMatches, context_of, among_from_contains, contains_from_among, starts_open}
 use Rattle.lol_program.specs.Programs.{Program}
 use Rattle.lol_vm.proofs.Gathered.{runs_give_reports}
-use Rattle.lol_vm.proofs.Stops.{stopped_starts_are_whole, started_by_names}
+use Rattle.lol_vm.proofs.Stops.{left_by_names, stopped_starts_are_whole}
 
 -- a list with the members of a report, put in order, is the report
 pub in_order : (ids : List ℕ) (s : Selectors) (e : Element) (outer : List Element) → ((id : ℕ) → Contains ids id ↔ Contains (matching_ids s.pairs e outer) id) → ascending_once ids ≡ matching_ids s.pairs e outer
@@ -15,7 +15,7 @@ in_order ids s e outer same =
 
 -- what it asks and reports is what the definition says
 pub record AnswersStart (s : Selectors) (p : Program) (ranges : List (Range ℕ)) (e : Element) (outer : List Element) : Type 0 where
-  pub asked : (not (is_html e.tag.namespace) || starts_open p e (started_by_names p true e ranges).left) ≡ asks s e outer
+  pub asked : (not (is_html e.tag.namespace) || starts_open p e (left_by_names p e ranges)) ≡ asks s e outer
   pub matched : ascending_once (context_of p true e (all_places ranges)).ids ≡ matching_ids s.pairs e outer
 
 pub starts_answer : (s : Selectors) (paths : List Path) (p : Program) (ranges : List (Range ℕ)) (e : Element) (outer : List Element) → AreClosed s → IsProgramOf s paths p → HoldOnce paths ranges (LeftMatches outer)

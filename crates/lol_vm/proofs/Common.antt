@@ -31,11 +31,12 @@ pub use Rattle.lol_vm.specs.Documents.{Document, after_end, after_start, childre
 pub use Rattle.lol_vm.specs.EventRuns.{Goes, GoesByStart, IsRunOf, answer_taken, machine_of}
 pub use Rattle.lol_vm.specs.Events.{End, Event, Start, has_content, has_content_in}
 pub use Rattle.lol_vm.specs.Follows.{Follows, IsCharged, IsDropped, IsHandedOver, IsRefusedFor, IsRunWithoutMemory, IsTaken, StartedElement, Stops, opens, refusal_after}
-pub use Rattle.lol_vm.specs.InstructionRuns.{AreRunnable, HasTriesLeft, IsInsideOf, NeedNoMemory, all_at, first_open_from, gathered_by_names, gathered_with_attributes, holds_seen, instructions_at, is_true, open_among, tried_until, value_seen, with_branch_if}
+pub use Rattle.lol_vm.specs.InstructionRuns.{AreRunnable, HasTriesLeft, IsInsideOf, NeedNoMemory, all_at, first_open_from, gathered_by_names, gathered_with_attributes, give_branch, holds_seen, instructions_at, open_among, tried_until, value_seen}
 pub use Rattle.lol_vm.specs.MachineLaws.{IsRequest, ProgramsHaveEachNode, RangesHoldLeftMatches, starts_open}
 pub use Rattle.lol_vm.specs.Machines.{AreItems, HasRanges, HoldOnce, IsItem, IsReached, LeftMatches, Matches, OpenItem, active_of, children_shown, hereditary_jumps_of, item_shown, items_shown, jumps_of, last_jumps, ranges_of_active, ranges_to_run}
 pub use Rattle.lol_vm.specs.Matching.{left_matches, matches, parent_passes, some_ancestor_passes}
-pub use Rattle.lol_vm.specs.PlaceRuns.{Context, Gathers, branch, context_of, gathered_from_places, given_by, hereditary_jumps_list, ids_list, instruction_value, is_open_at, jumps_list, no_context, run, step_with_attributes, value_at}
+pub use Rattle.lol_vm.specs.Outcomes.{give_if, given_by_names, given_with_attributes, is_true}
+pub use Rattle.lol_vm.specs.PlaceRuns.{Context, Gathers, at_places, branch, context_of, gathered_from_places, give_if_there, given_by, hereditary_jumps_list, ids_list, instruction_holds, instruction_value, is_open_at, jumps_list, no_context, run, value_at}
 pub use Rattle.lol_vm.specs.Refusals.{Allowance, Cause, Counter, Limit, exceeds, greatest_count, longest, longest_from, or_later, refusal, refused, refused_from}
 pub use Rattle.lol_vm.specs.ReportLaws.{among_matching_ids, every_report, matching_ids_among, matching_ids_ascend}
 pub use Rattle.lol_vm.specs.Standing.{AreTyped, AreTypedIf, CountersArePlaces, Descend, DocumentsAreOrdered, HasCounted, IsOrdered, StandsFor, StandsOn, unfinished}

@@ -1,5 +1,5 @@
 -- Instructions that are run in parts.
-use Rattle.lol_vm.proofs.Common.{◌≡◌, ◌+◌, ◌-◌, ◌≤◌, ℕ, Bool, List, [], ◌∷◌, ◌++◌, length, take, drop, get_or, suc, Option, Some, None, true, false, cond, refl, sym, ap, ◌∙◌, arith, subst, Range, take-append-drop, length-drop, length-take, names_counted, attributes_counted, Tries, Ids, TagAttributes, Sight, is_open, value_seen, holds_seen, is_true, with_branch_if, open_among, first_open_from, gathered_by_names, gathered_with_attributes, instructions_at, all_at, AreRunnable, IsInsideOf, HasTriesLeft, IsStopIn, ExecutionCtx}
+use Rattle.lol_vm.proofs.Common.{◌≡◌, ◌+◌, ◌-◌, ◌≤◌, ℕ, List, [], ◌∷◌, ◌++◌, length, take, drop, get_or, suc, Option, Some, None, cond, refl, sym, ap, ◌∙◌, arith, subst, Range, take-append-drop, length-drop, length-take, names_counted, attributes_counted, Tries, Ids, TagAttributes, Sight, is_open, value_seen, holds_seen, open_among, first_open_from, gathered_by_names, gathered_with_attributes, instructions_at, all_at, AreRunnable, IsInsideOf, HasTriesLeft, IsStopIn, ExecutionCtx, give_branch, option_map, option_or}
 use Rattle.std.proofs.lemmas.List.{length-append}
 use Rattle.std.proofs.lemmas.Grind.{flat_map-append}
 use Rattle.std.proofs.lemmas.List.Sums.{sum_by-append, count_by-le-length}
@@ -8,80 +8,10 @@ use Rattle.lol_instructions.specs.declared.name_value.NameValue.{NameValue}
 use Rattle.lol_instructions.specs.declared.name_value.NameValue.TheVariants.{True, False, Open}
 use Rattle.lol_instructions.specs.declared.instruction.Instruction.{Instruction}
 use Rattle.lol_stack.specs.WithRange.{no_range}
+use Rattle.lol_vm.proofs.OutcomeLemmas.{attributes-append, from_first, names-on, names-until, position_from-append}
 use Rattle.lol_vm.specs.declared.tag_runs.Stop.{Stop}
 
--- 1. A choice that is none or some
-
-none_chosen : {A : Type 0} (b : Bool) (x : A) (y : Option A) → cond b (Some x) y ≡ None → (b ≡ false) × (y ≡ None)
-none_chosen true x y h = grind (arith, h)
-none_chosen false x y h = (refl, h)
-
-some_chosen : {A : Type 0} (b : Bool) (x k : A) (y z : Option A) → (y ≡ Some k → z ≡ Some k) → cond b (Some x) y ≡ Some k → cond b (Some x) z ≡ Some k
-some_chosen true x k y z on h = h
-some_chosen false x k y z on h = on h
-
--- 2. The first open one
-
-module _ (s : Sight) where
-  -- where the front stops, so does the whole
-  pub stops_before : (at k : ℕ) (front back : List Instruction) → first_open_from s at front ≡ Some k → first_open_from s at (front ++ back) ≡ Some k
-  stops_before at k [] back h = grind (arith, h)
-  stops_before at k (i ∷ front) back h =
-      some_chosen (is_open (value_seen s i)) at k (first_open_from s (at + 1) front) (first_open_from s (at + 1) (front ++ back)) (stops_before (at + 1) k front back) h
-
-  -- where the front doesn't stop, the back decides
-  pub stops_after : (at : ℕ) (front back : List Instruction) → first_open_from s at front ≡ None → first_open_from s at (front ++ back) ≡ first_open_from s (at + length front) back
-  stops_after at [] back h = ap (λ n. first_open_from s n back) (omega arith)
-  stops_after at (i ∷ front) back h =
-      let parts = none_chosen (is_open (value_seen s i)) at (first_open_from s (at + 1) front) h in
-      ap (λ b. cond b (Some at) (first_open_from s (at + 1) (front ++ back))) parts.0
-      ∙ (stops_after (at + 1) front back parts.1 ∙ ap (λ n. first_open_from s n back) (omega arith))
-
-  -- counted from a later place
-  pub none_later : (at j : ℕ) (instructions : List Instruction) → first_open_from s j instructions ≡ None → first_open_from s at instructions ≡ None
-  none_later at j [] h = refl
-  none_later at j (i ∷ instructions) h =
-      let parts = none_chosen (is_open (value_seen s i)) j (first_open_from s (j + 1) instructions) h in
-      ap (λ b. cond b (Some at) (first_open_from s (at + 1) instructions)) parts.0 ∙ none_later (at + 1) (j + 1) instructions parts.1
-
-  some_later : (b : Bool) (at j k : ℕ) (y z : Option ℕ) → (y ≡ Some k → z ≡ Some (at + k)) → cond b (Some j) y ≡ Some k → cond b (Some (at + j)) z ≡ Some (at + k)
-  some_later true at j k y z on h = grind (arith, h)
-  some_later false at j k y z on h = on h
-
-  pub stops_later : (at j k : ℕ) (instructions : List Instruction) → first_open_from s j instructions ≡ Some k → first_open_from s (at + j) instructions ≡ Some (at + k)
-  stops_later at j k [] h = grind (arith, h)
-  stops_later at j k (i ∷ instructions) h =
-      some_later (is_open (value_seen s i)) at j k (first_open_from s (j + 1) instructions) (first_open_from s (at + j + 1) instructions)
-      (λ later. ap (λ n. first_open_from s n instructions) (omega arith) ∙ stops_later at (j + 1) k instructions later) h
-
-  -- 3. What is gathered
-
-  module _ {E : Type 0} (ids : E → Ids) (with_ids : E → Ids → E) where
-    pub gathers_on : (at : ℕ) (ctx : ExecutionCtx E) (front back : List Instruction) → first_open_from s at front ≡ None → gathered_by_names ids with_ids s ctx (front ++ back) ≡ gathered_by_names ids with_ids s (gathered_by_names ids with_ids s ctx front) back
-    gathers_on at ctx [] back h = refl
-    gathers_on at ctx (i ∷ front) back h =
-        let parts = none_chosen (is_open (value_seen s i)) at (first_open_from s (at + 1) front) h in
-        let next = with_branch_if ids with_ids (is_true (value_seen s i)) ctx i in
-        ap (λ b. cond b ctx (gathered_by_names ids with_ids s next (front ++ back))) parts.0
-        ∙ (gathers_on (at + 1) next front back parts.1
-        ∙ ap (λ b. gathered_by_names ids with_ids s (cond b ctx (gathered_by_names ids with_ids s next front)) back) (sym parts.0))
-
-    same_stop : (b : Bool) (at k : ℕ) (y : Option ℕ) (ctx c d : ExecutionCtx E) → (y ≡ Some k → c ≡ d) → cond b (Some at) y ≡ Some k → cond b ctx c ≡ cond b ctx d
-    same_stop true at k y ctx c d on h = refl
-    same_stop false at k y ctx c d on h = on h
-
-    pub gathers_until : (at k : ℕ) (ctx : ExecutionCtx E) (front back : List Instruction) → first_open_from s at front ≡ Some k → gathered_by_names ids with_ids s ctx (front ++ back) ≡ gathered_by_names ids with_ids s ctx front
-    gathers_until at k ctx [] back h = grind (arith, h)
-    gathers_until at k ctx (i ∷ front) back h =
-        let next = with_branch_if ids with_ids (is_true (value_seen s i)) ctx i in
-        same_stop (is_open (value_seen s i)) at k (first_open_from s (at + 1) front) ctx (gathered_by_names ids with_ids s next (front ++ back)) (gathered_by_names ids with_ids s next front)
-        (gathers_until (at + 1) k next front back) h
-
-    pub gathers_all : (a : TagAttributes) (ctx : ExecutionCtx E) (front back : List Instruction) → gathered_with_attributes ids with_ids s a ctx (front ++ back) ≡ gathered_with_attributes ids with_ids s a (gathered_with_attributes ids with_ids s a ctx front) back
-    gathers_all a ctx [] back = refl
-    gathers_all a ctx (i ∷ front) back = gathers_all a (with_branch_if ids with_ids (holds_seen s a i) ctx i) front back
-
--- 4. Range by range
+-- 1. Range by range
 
 pub open_among-append : (s : Sight) (front back : List Instruction) → open_among s (front ++ back) ≡ open_among s front + open_among s back
 open_among-append s front back = sum_by-append (λ i. cond (is_open (value_seen s i)) 1 0) front back
@@ -107,7 +37,7 @@ length_parts instructions ranges n =
     sym (ap (λ rs. length (all_at instructions rs)) (sym (take-append-drop n ranges))
     ∙ (ap length (flat_map-append (instructions_at instructions) (take n ranges) (drop n ranges)) ∙ length-append (all_at instructions (take n ranges)) (all_at instructions (drop n ranges))))
 
--- 5. The first of some ranges
+-- 2. The first of some ranges
 
 module _ (instructions : List Instruction) {rs : List (Range ℕ)} {r : Range ℕ} {others : List (Range ℕ)} (first : rs ≡ r ∷ others) where
   abbrev here : List Instruction
@@ -155,37 +85,39 @@ module _ (instructions : List Instruction) {rs : List (Range ℕ)} {r : Range �
       pub opens_split : open_among s whole ≡ open_among t part + open_among s later
       opens_split = ap (open_among s) split ∙ (open_among-append s part later ∙ ap (λ z. open_among z part + open_among s later) (sym same))
 
-      none_here : first_open_from t 0 part ≡ None → first_open_from s 0 part ≡ None
-      none_here none = ap (λ z. first_open_from z 0 part) (sym same) ∙ none
+      here_too : (o : Option ℕ) → first_open_from t 0 part ≡ o → first_open_from s 0 part ≡ o
+      here_too o is_first = ap (λ z. first_open_from z 0 part) (sym same) ∙ is_first
 
-      some_here : (k : ℕ) → first_open_from t 0 part ≡ Some k → first_open_from s 0 part ≡ Some k
-      some_here k some = ap (λ z. first_open_from z 0 part) (sym same) ∙ some
+      -- the first open one
+      decided : (n : ℕ) (o : Option ℕ) → first_open_from t 0 part ≡ o → first_open_from s n whole ≡ option_or (option_map (λ k. n + k) o) (first_open_from s (n + length part) later)
+      decided n o is_first =
+          ap (first_open_from s n) split
+          ∙ (position_from-append (λ i. is_open (value_seen s i)) n part later
+          ∙ ap (λ x. option_or x (first_open_from s (n + length part) later)) (from_first (λ i. is_open (value_seen s i)) n part ∙ ap (option_map (λ k. n + k)) (here_too o is_first)))
 
       pub stop_next : (n : ℕ) → first_open_from t 0 part ≡ None → first_open_from s n whole ≡ first_open_from s (n + length part) later
-      stop_next n none = ap (first_open_from s n) split ∙ stops_after s n part later (none_later s n 0 part (none_here none))
+      stop_next n none = decided n None none
 
       pub stop_here : (n k : ℕ) → first_open_from t 0 part ≡ Some k → first_open_from s n whole ≡ Some (n + k)
-      stop_here n k some =
-          ap (first_open_from s n) split
-          ∙ stops_before s n (n + k) part later (ap (λ m. first_open_from s m part) (omega arith) ∙ stops_later s n 0 k part (some_here k some))
+      stop_here n k some = decided n (Some k) some
 
       module _ {E : Type 0} (ids : E → Ids) (with_ids : E → Ids → E) (ctx new : ExecutionCtx E) where
         pub names_next : first_open_from t 0 part ≡ None → new ≡ gathered_by_names ids with_ids t ctx part → gathered_by_names ids with_ids s ctx whole ≡ gathered_by_names ids with_ids s new later
         names_next none is_new =
             ap (gathered_by_names ids with_ids s ctx) split
-            ∙ (gathers_on s ids with_ids 0 ctx part later (none_here none)
+            ∙ (names-on (give_branch ids with_ids) (value_seen s) 0 ctx part later (here_too None none)
             ∙ ap (λ c. gathered_by_names ids with_ids s c later) (ap (λ z. gathered_by_names ids with_ids z ctx part) (sym same) ∙ sym is_new))
 
         pub names_here : (k : ℕ) → first_open_from t 0 part ≡ Some k → new ≡ gathered_by_names ids with_ids t ctx part → new ≡ gathered_by_names ids with_ids s ctx whole
         names_here k some is_new =
             is_new
             ∙ (ap (λ z. gathered_by_names ids with_ids z ctx part) same
-            ∙ sym (ap (gathered_by_names ids with_ids s ctx) split ∙ gathers_until s ids with_ids 0 k ctx part later (some_here k some)))
+            ∙ sym (ap (gathered_by_names ids with_ids s ctx) split ∙ names-until (give_branch ids with_ids) (value_seen s) 0 k ctx part later (here_too (Some k) some)))
 
         pub attributes_next : (a : TagAttributes) → new ≡ gathered_with_attributes ids with_ids t a ctx part → gathered_with_attributes ids with_ids s a ctx whole ≡ gathered_with_attributes ids with_ids s a new later
         attributes_next a is_new =
             ap (gathered_with_attributes ids with_ids s a ctx) split
-            ∙ (gathers_all s ids with_ids a ctx part later
+            ∙ (attributes-append (give_branch ids with_ids) (holds_seen s a) ctx part later
             ∙ ap (λ c. gathered_with_attributes ids with_ids s a c later) (ap (λ z. gathered_with_attributes ids with_ids z a ctx part) (sym same) ∙ sym is_new))
 
 -- an offset of a range is inside

@@ -23,6 +23,7 @@ pub mod Whole
 pub mod Children
 pub mod StackCounting
 pub mod GatheringLemmas
+pub mod OutcomeLemmas
 pub mod InstructionLists
 pub mod StackEnds
 pub mod InstructionPlaces

@@ -20,16 +20,22 @@ pub ends : {A : Type 0} (x : A) (xs : List A) → Ends (x ∷ xs)
 ends x [] = record { front = []; last = x; whole = refl }
 ends x (y ∷ xs) = let rest = ends y xs in record { front = x ∷ rest.front; last = rest.last; whole = ap (λ more. x ∷ more) rest.whole }
 
-pub last_at : {A : Type 0} (front : List A) (x : A) → slice_get (front ++ x ∷ []) (length front) ≡ Some x
-last_at [] x = refl
-last_at (y ∷ front) x = last_at front x
-
-pub last_set : {A : Type 0} (front : List A) (x y : A) → slice_set (front ++ x ∷ []) (length front) y ≡ front ++ y ∷ []
-last_set [] x y = refl
-last_set (z ∷ front) x y = ap (λ more. z ∷ more) (last_set front x y)
-
-pub last_place : {A : Type 0} (front : List A) (x : A) → length (front ++ x ∷ []) - 1 ≡ length front
+last_place : {A : Type 0} (front : List A) (x : A) → length (front ++ x ∷ []) - 1 ≡ length front
 last_place front x = ap (λ n. n - 1) (length-append front (x ∷ [])) ∙ omega arith
+
+pub last_at : {A : Type 0} (front : List A) (x : A) → slice_get (front ++ x ∷ []) (length (front ++ x ∷ []) - 1) ≡ Some x
+last_at {A = A} front x = ap (slice_get (front ++ x ∷ [])) (last_place front x) ∙ at_end front
+  where
+    at_end : (front : List A) → slice_get (front ++ x ∷ []) (length front) ≡ Some x
+    at_end [] = refl
+    at_end (y ∷ front) = at_end front
+
+pub last_set : {A : Type 0} (front : List A) (x y : A) → slice_set (front ++ x ∷ []) (length (front ++ x ∷ []) - 1) y ≡ front ++ y ∷ []
+last_set {A = A} front x y = ap (λ k. slice_set (front ++ x ∷ []) k y) (last_place front x) ∙ set_end front
+  where
+    set_end : (front : List A) → slice_set (front ++ x ∷ []) (length front) y ≡ front ++ y ∷ []
+    set_end [] = refl
+    set_end (z ∷ front) = ap (λ more. z ∷ more) (set_end front)
 
 -- lists of a stack, the last element first
 pub shown_push : {A B : Type 0} (f : A → B) (xs : List A) (x : A) → reverse (map f (xs ++ x ∷ [])) ≡ f x ∷ reverse (map f xs)
@@ -98,11 +104,9 @@ module _ {E : Type 0} where
     counting (x ∷ xs) some =
         let end = ends x xs in
         let whole : items_in s ≡ end.front ++ end.last ∷ [] = some ∙ end.whole in
-        let here : slice_get (items_in s) (length (items_in s) - 1) ≡ Some end.last =
-        ap (λ ys. slice_get ys (length ys - 1)) whole ∙ (ap (slice_get (end.front ++ end.last ∷ [])) (last_place end.front end.last) ∙ last_at end.front end.last) in
+        let here : slice_get (items_in s) (length (items_in s) - 1) ≡ Some end.last = ap (λ ys. slice_get ys (length ys - 1)) whole ∙ last_at end.front end.last in
         let set : slice_set (items_in s) (length (items_in s) - 1) (counted_item end.last) ≡ end.front ++ counted_item end.last ∷ [] =
-        ap (λ ys. slice_set ys (length ys - 1) (counted_item end.last)) whole
-        ∙ (ap (λ k. slice_set (end.front ++ end.last ∷ []) k (counted_item end.last)) (last_place end.front end.last) ∙ last_set end.front end.last (counted_item end.last)) in
+        ap (λ ys. slice_set ys (length ys - 1) (counted_item end.last)) whole ∙ last_set end.front end.last (counted_item end.last) in
         let children = children_end (items_in s) end.front end.last whole in
         subst (λ o. CountsChild s (counted_if typed_first o) name) (sym here)
         (by_last (Some end.last) (sym (ap (λ cs. counted_root cs (root_count s)) children))
@@ -121,8 +125,7 @@ module _ {E : Type 0} where
       let end = ends x xs in
       let whole : items_in s ≡ end.front ++ end.last ∷ [] = some ∙ end.whole in
       ap (λ ys. count_or s.root_child_counter (slice_get ys (length ys - 1))) whole
-      ∙ (ap (λ k. count_or s.root_child_counter (slice_get (end.front ++ end.last ∷ []) k)) (last_place end.front end.last)
-      ∙ (ap (count_or s.root_child_counter) (last_at end.front end.last) ∙ sym (ap (λ cs. or_root cs (root_count s)) (children_end (items_in s) end.front end.last whole))))
+      ∙ (ap (count_or s.root_child_counter) (last_at end.front end.last) ∙ sym (ap (λ cs. or_root cs (root_count s)) (children_end (items_in s) end.front end.last whole)))
 
   -- the last count is one more
   counts_one : (s : StackOf Name StackNames E) (name : Name) → last_count (counted_in s name) ≡ last_count s + 1

@@ -6,6 +6,7 @@ use Rattle.std.proofs.lemmas.Iterator.Adapters.{position_from-zero}
 use Rattle.std.proofs.lemmas.List.Quantifiers.{position-Some}
 use Rattle.lol_stack.specs.SoundStacks.{last_place_from, IsSound}
 use Rattle.lol_stack.specs.SoundLaws.{ends_at_last}
+use Rattle.lol_vm.proofs.OutcomeLemmas.{position_from-append}
 use Rattle.lol_vm.proofs.Runs.{cut_reverse}
 use Rattle.lol_vm.proofs.StackCounting.{shown_length}
 
@@ -19,22 +20,7 @@ shown_cut f xs n place sizes =
 pub found_within : (p : OpenItem → Bool) (xs : List OpenItem) (k : ℕ) → position p xs ≡ Some k → k < length xs
 found_within p xs k is = (position-Some p xs k (record { name = []; jumps = []; hereditary_jumps = [] }) is).0
 
--- 2. The first place at which a test passes, with one element more
-
-module _ {A : Type 0} (p : A → Bool) where
-  place_push : (i : ℕ) (ys : List A) (y : A) → position_from p i (ys ++ y ∷ []) ≡ option_or (position_from p i ys) (if p y then Some (i + length ys) else None)
-  place_push i [] y = let same : i ≡ i + 0 = omega arith in ap (λ k. if p y then Some k else None) same
-  place_push i (x ∷ ys) y = by_test (p x) (place_push (i + 1) ys y)
-    where
-      sizes : (i + 1) + length ys ≡ i + suc (length ys)
-      sizes = omega arith
-
-      by_test : (b : Bool) → position_from p (i + 1) (ys ++ y ∷ []) ≡ option_or (position_from p (i + 1) ys) (if p y then Some ((i + 1) + length ys) else None)
-          → (if b then Some i else position_from p (i + 1) (ys ++ y ∷ [])) ≡ option_or (if b then Some i else position_from p (i + 1) ys) (if p y then Some (i + suc (length ys)) else None)
-      by_test true later = refl
-      by_test false later = later ∙ ap (λ k. option_or (position_from p (i + 1) ys) (if p y then Some k else None)) sizes
-
--- 3. The last element of a name
+-- 2. The last element of a name
 
 abbrev from_last : ℕ → ℕ → ℕ → ℕ
 from_last place count k = place + (count - (k + 1))
@@ -53,7 +39,7 @@ module _ (name : List ℕ) where
       let turned : items_shown (x ∷ xs) ≡ items_shown xs ++ item_shown x ∷ [] = reverse-append (item_shown x ∷ []) (map item_shown xs) in
       let count = shown_length item_shown xs in
       ap (λ ys. option_map (from_last place (suc (length xs))) (position_from is_named 0 ys)) turned
-      ∙ (ap (option_map (from_last place (suc (length xs)))) (place_push is_named 0 (items_shown xs) (item_shown x))
+      ∙ (ap (option_map (from_last place (suc (length xs)))) (position_from-append is_named 0 (items_shown xs) (item_shown x ∷ []))
       ∙ by_place (position_from is_named 0 (items_shown xs)) (λ k h. omega (arith, found_within is_named (items_shown xs) k (position_from-zero is_named (items_shown xs) ∙ h), count)) (last_is (place + 1) xs) (is_named (item_shown x)) count)
     where
       by_place : (o : Option ℕ) → ((k : ℕ) → o ≡ Some k → k < length xs) → option_map (from_last (place + 1) (length xs)) o ≡ last_place_from (place + 1) xs (local_name name)

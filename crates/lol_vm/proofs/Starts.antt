@@ -1,15 +1,14 @@
--- What the machine of the code runs for a start tag, and what that gives.
-use Rattle.lol_vm.proofs.Common.{◌≡◌, ℕ, suc, zero, reverse, ◌+◌, ◌-◌, ◌<◌, ◌≤◌, ◌^◌, Bool, true, false, cond, List, [], ◌∷◌, ◌++◌, length, map, drop, take, get_or, All, Option, Some, None, refl, sym, ap, ◌∙◌, subst, arith, Contains, drop-cons, slice_get, if◌then◌else◌, count_by, length-map, length-drop, length-reverse, map-append, reverse-append, reverse-reverse, take-append-drop, option_map, range_with_len, Range, Name, Among, among_from_contains, Ids, TagAttributes, Sight, sight_of, is_open, Path, Selectors, AreClosed, places, all_places, Element, names_counted, attributes_counted, Tries, name_tries, attribute_tries, Gathers, Context, no_context, context_of, branch, is_open_at, value_at, run, step_with_attributes, AreRunnable, IsInsideOf, all_at, value_seen, is_true, holds_seen, first_open_from, with_branch_if, gathered_by_names, gathered_with_attributes, starts_open, HoldOnce, LeftMatches, active_of, last_jumps, ranges_of_active, ranges_to_run, item_shown, items_shown, items_in, active_in, AreTried, number_of, ranges_from, jumps_of_item, ranges_to_run_in, sight_in, content_of, ExecutionCtx, StackItemOf, StackOf, StackNames, StandsOn, Document}
+-- What the machine runs for a start tag, and what that gives.
+use Rattle.lol_vm.proofs.Common.{◌≡◌, ℕ, suc, zero, reverse, ◌+◌, ◌-◌, ◌<◌, ◌≤◌, ◌^◌, Bool, true, false, List, [], ◌∷◌, ◌++◌, length, map, drop, take, get_or, All, Option, Some, None, refl, sym, ap, ◌∙◌, subst, arith, Contains, drop-cons, slice_get, count_by, length-map, length-drop, length-reverse, map-append, reverse-append, reverse-reverse, take-append-drop, option_map, range_with_len, Range, Name, Among, among_from_contains, Ids, TagAttributes, Sight, sight_of, Path, Selectors, AreClosed, places, all_places, Element, names_counted, attributes_counted, Tries, name_tries, attribute_tries, Gathers, Context, no_context, context_of, branch, is_open_at, run, AreRunnable, IsInsideOf, all_at, value_seen, holds_seen, first_open_from, gathered_by_names, gathered_with_attributes, starts_open, HoldOnce, LeftMatches, active_of, last_jumps, ranges_of_active, ranges_to_run, item_shown, items_shown, items_in, active_in, AreTried, number_of, ranges_from, jumps_of_item, ranges_to_run_in, sight_in, content_of, ExecutionCtx, StackItemOf, StackOf, StackNames, StandsOn, Document, at_places, give_if_there, give_branch, instruction_holds, instruction_value, position_from}
 use Rattle.std.proofs.lemmas.List.Sums.{count_by-le-length}
 use Rattle.std.proofs.lemmas.List.FromFn.{length-range_with_len}
+use Rattle.std.proofs.lemmas.List.Quantifiers.{position-Some}
+use Rattle.std.proofs.lemmas.Iterator.Adapters.{position_from-zero}
 use Rattle.std.proofs.lemmas.List.Elements.{All-contains_itself, All-weaker, All-take}
 use Rattle.lol_program.specs.Programs as programs
 use Rattle.lol_program.specs.ProgramViews.{instruction_shown, program_shown}
 use Rattle.lol_instructions.specs.declared.instruction.Instruction.{Instruction}
-use Rattle.lol_instructions.specs.declared.name_value.NameValue.{NameValue}
-use Rattle.lol_instructions.specs.declared.name_value.NameValue.TheVariants.{True, False, Open}
 use Rattle.lol_program.specs.declared.program.Program.{Program}
-use Rattle.lol_stack.specs.Contexts.{with_branch}
 use Rattle.lol_stack.specs.WithRange.{no_range}
 use Rattle.lol_base.specs.ListLaws.{reverse-map}
 use Rattle.lol_stack.specs.Active.{activated, active_ranges_of}
@@ -20,9 +19,10 @@ use Rattle.lol_vm.specs.declared.tag_runs.Stop.{Stop}
 use Rattle.lol_vm.proofs.Counted.{places_count_tries}
 use Rattle.lol_vm.proofs.Held.{ranges_are_inside, ranges_hold_left_matches, programs_have_each_node}
 use Rattle.lol_vm.proofs.InstructionLists.{offset_inside}
-use Rattle.lol_vm.proofs.InstructionPlaces.{AreRangesOf, AreAsOpen, instructions_are_as_open, names_gather}
-use Rattle.lol_vm.proofs.StackCounting.{ends, last_at, last_place, shown_push}
-use Rattle.lol_vm.proofs.Stops.{stopped_starts_are_whole, stops_leave, numbers_are_offsets, WholeStart, started_by_names, from_number, first_open, run_by_names, step_by_names}
+use Rattle.lol_vm.proofs.InstructionPlaces.{names_gather, same_count, same_stop}
+use Rattle.lol_vm.proofs.OutcomeLemmas.{attributes_keep, names_keep}
+use Rattle.lol_vm.proofs.StackCounting.{ends, last_at, shown_push}
+use Rattle.lol_vm.proofs.Stops.{WholeStart, context_by_names, from_number, left_by_names, numbers_are_offsets, started_by_names, stopped_starts_are_whole, stops_leave}
 
 -- 1. Lists
 
@@ -41,7 +41,7 @@ last_shown (x ∷ xs) =
     ap (λ ys. last_jumps (items_shown ys)) end.whole
     ∙ (ap last_jumps (shown_push item_shown end.front end.last)
     ∙ sym (ap (λ ys. jumps_of_item (slice_get ys (length ys - 1))) end.whole
-    ∙ (ap (λ k. jumps_of_item (slice_get (end.front ++ end.last ∷ []) k)) (last_place end.front end.last) ∙ ap jumps_of_item (last_at end.front end.last))))
+    ∙ ap jumps_of_item (last_at end.front end.last)))
 
 -- active ranges from the innermost item on
 active_turned : {E : Type 0} (items : List (StackItemOf Name E)) → active_of (map item_shown items) ≡ active_ranges_of (hereditary_jumps_in (reverse items))
@@ -100,25 +100,19 @@ module _ {E : Type 0} (r : Running E) where
   as_many : length model.instructions ≡ length instructions
   as_many = length-map instructions (instruction_shown model.by_type)
 
-  inside : All (IsInsideOf instructions) ranges
+  pub inside : All (IsInsideOf instructions) ranges
   inside = All-weaker (Contains ranges) (IsInsideOf instructions) (λ q c.
       let among : Among (ranges_to_run model (items_shown (items_in stack))) q = subst (λ rs. Among rs q) shown (among_from_contains ranges q c) in
       let within = ranges_are_inside s paths model (items_shown (items_in stack)) outer closed standing.program standing.items q among in
       (within.0, omega (arith, within.1, as_many))) ranges (All-contains_itself ranges)
 
-  pub are_ranges : AreRangesOf model model.by_type instructions ranges
-  are_ranges = record { same_code = refl; inside = inside }
-
   module _ (e : Element) where
-    pub as_open : AreAsOpen model model.by_type e instructions ranges
-    as_open = instructions_are_as_open model model.by_type e instructions ranges are_ranges
-
     pub whole : (content : Bool) → WholeStart s model ranges e outer content
     whole content = stopped_starts_are_whole s paths model ranges e outer content closed standing.program held
 
     -- so many instructions are run
     pub counted : length (all_at instructions ranges) ≡ name_tries s.nodes outer
-    counted = as_open.count ∙ (places_count_tries s paths model ranges e outer closed standing.program held).names
+    counted = same_count prog e ranges inside ∙ (places_count_tries s paths model ranges e outer closed standing.program held).names
 
     pub within_bounds : name_tries s.nodes outer ≤ length instructions
     within_bounds =
@@ -133,45 +127,24 @@ module _ {E : Type 0} (r : Running E) where
 
 -- 4. Content
 
-branch_content : (content : Bool) (x : Context) (i : programs.Instruction) → branch content (content_of content x) i ≡ content_of content (branch true x i)
-branch_content true x i = refl
-branch_content false x i = refl
-
-stepped_by_names : (content : Bool) (x : Context) (v : NameValue) (o : Option programs.Instruction) → step_by_names content (content_of content x) v o ≡ content_of content (step_by_names true x v o)
-stepped_by_names content x True (Some i) = branch_content content x i
-stepped_by_names content x True None = refl
-stepped_by_names content x False o = refl
-stepped_by_names content x Open o = refl
-
-stepped : (content : Bool) (e : Element) (x : Context) (o : Option programs.Instruction) → step_with_attributes content e (content_of content x) o ≡ content_of content (step_with_attributes true e x o)
-stepped content e x None = refl
-stepped content e x (Some i) = by_test (i.holds e)
-  where
-    by_test : (b : Bool) → cond b (branch content (content_of content x) i) (content_of content x) ≡ content_of content (cond b (branch true x i) x)
-    by_test true = branch_content content x i
-    by_test false = refl
-
 -- a run for an element without content gathers the same ids
-pub run_content : (p : programs.Program) (content : Bool) (e : Element) (x : Context) (ps : List ℕ) → run p content e (content_of content x) ps ≡ content_of content (run p true e x ps)
-run_content p content e x [] = refl
-run_content p content e x (place ∷ ps) =
-    ap (λ c. run p content e c ps) (stepped content e x (slice_get p.instructions place)) ∙ run_content p content e (step_with_attributes true e x (slice_get p.instructions place)) ps
+module _ (p : programs.Program) (content : Bool) (e : Element) (x : Context) (ps : List ℕ) where
+  abbrev Same : Context → Context → Type 0
+  Same a b = a ≡ content_of content b
 
-pub by_names_content : (p : programs.Program) (content : Bool) (e : Element) (x : Context) (ps : List ℕ)
-    → (run_by_names p content e (content_of content x) ps).context ≡ content_of content (run_by_names p true e x ps).context
-by_names_content p content e x [] = refl
-by_names_content p content e x (place ∷ ps) =
-    by_test (is_open_at p e place)
-    (ap (λ c. (run_by_names p content e c ps).context) (stepped_by_names content x (value_at p e place) (slice_get p.instructions place))
-    ∙ by_names_content p content e (step_by_names true x (value_at p e place) (slice_get p.instructions place)) ps)
-  where
-    by_test : (b : Bool)
-        → (run_by_names p content e (step_by_names content (content_of content x) (value_at p e place) (slice_get p.instructions place)) ps).context
-        ≡ content_of content (run_by_names p true e (step_by_names true x (value_at p e place) (slice_get p.instructions place)) ps).context
-        → (cond b (record { context = content_of content x; left = place ∷ ps }) (run_by_names p content e (step_by_names content (content_of content x) (value_at p e place) (slice_get p.instructions place)) ps)).context
-        ≡ content_of content (cond b (record { context = x; left = place ∷ ps }) (run_by_names p true e (step_by_names true x (value_at p e place) (slice_get p.instructions place)) ps)).context
-    by_test true later = refl
-    by_test false later = later
+  keeps_content : (o : Option programs.Instruction) (a b : Context) → Same a b → Same (give_if_there content o a) (give_if_there true o b)
+  keeps_content None a b same = same
+  keeps_content (Some i) a b same = ap (λ c. branch content c i) same ∙ by_content content
+    where
+      by_content : (content : Bool) → branch content (content_of content b) i ≡ content_of content (branch true b i)
+      by_content true = refl
+      by_content false = refl
+
+  pub run_content : run p content e (content_of content x) ps ≡ content_of content (run p true e x ps)
+  run_content = attributes_keep (give_if_there content) (give_if_there true) Same keeps_content (instruction_holds e) (content_of content x) x (at_places p ps) refl
+
+  pub by_names_content : context_by_names p content e (content_of content x) ps ≡ content_of content (context_by_names p true e x ps)
+  by_names_content = names_keep (give_if_there content) (give_if_there true) Same keeps_content (instruction_value e) (content_of content x) x (at_places p ps) refl
 
 pub nothing_content : (content : Bool) → no_context ≡ content_of content no_context
 nothing_content true = refl
@@ -189,36 +162,25 @@ pub record StaysThe {E : Type 0} (old new : ExecutionCtx E) : Type 0 where
   pub content : new.with_content ≡ old.with_content
   pub namespace : new.ns ≡ old.ns
 
-module _ {E : Type 0} (ids : E → Ids) (with_ids : E → Ids → E) where
-  stays_trans : (a b c : ExecutionCtx E) → StaysThe a b → StaysThe b c → StaysThe a c
-  stays_trans a b c x y = record { name = y.name ∙ x.name; children = y.children ∙ x.children; content = y.content ∙ x.content; namespace = y.namespace ∙ x.namespace }
+module _ {E : Type 0} (ids : E → Ids) (with_ids : E → Ids → E) (ctx : ExecutionCtx E) where
+  abbrev Stay : ExecutionCtx E → ExecutionCtx E → Type 0
+  Stay new same = StaysThe ctx new
 
-  stays_same : (a : ExecutionCtx E) → StaysThe a a
-  stays_same a = record { name = refl; children = refl; content = refl; namespace = refl }
+  stay : StaysThe ctx ctx
+  stay = record { name = refl; children = refl; content = refl; namespace = refl }
 
-  branch_stays : (b : Bool) (ctx : ExecutionCtx E) (i : Instruction) → StaysThe ctx (with_branch_if ids with_ids b ctx i)
-  branch_stays false ctx i = stays_same ctx
-  branch_stays true ctx i = by_content ctx.with_content
+  branch_stays : (i : Instruction) (new same : ExecutionCtx E) → StaysThe ctx new → StaysThe ctx (give_branch ids with_ids i new)
+  branch_stays i new same h = by_content new.with_content h.content
     where
-      by_content : (c : Bool) → StaysThe (record ctx { with_content = c }) (with_branch ids with_ids (record ctx { with_content = c }) i.associated_branch)
-      by_content true = record { name = refl; children = refl; content = refl; namespace = refl }
-      by_content false = record { name = refl; children = refl; content = refl; namespace = refl }
+      by_content : (c : Bool) → c ≡ ctx.with_content → StaysThe ctx (give_branch ids with_ids i (record new { with_content = c }))
+      by_content true is = record { name = h.name; children = h.children; content = is; namespace = h.namespace }
+      by_content false is = record { name = h.name; children = h.children; content = is; namespace = h.namespace }
 
-  pub names_stay : (s : Sight) (ctx : ExecutionCtx E) (is : List Instruction) → StaysThe ctx (gathered_by_names ids with_ids s ctx is)
-  names_stay s ctx [] = stays_same ctx
-  names_stay s ctx (i ∷ is) =
-      let next = with_branch_if ids with_ids (is_true (value_seen s i)) ctx i in
-      by_test (is_open (value_seen s i)) (gathered_by_names ids with_ids s next is)
-      (stays_trans ctx next (gathered_by_names ids with_ids s next is) (branch_stays (is_true (value_seen s i)) ctx i) (names_stay s next is))
-    where
-      by_test : (b : Bool) (later : ExecutionCtx E) → StaysThe ctx later → StaysThe ctx (if b then ctx else later)
-      by_test true later h = stays_same ctx
-      by_test false later h = h
+  pub names_stay : (s : Sight) (is : List Instruction) → StaysThe ctx (gathered_by_names ids with_ids s ctx is)
+  names_stay s is = names_keep (give_branch ids with_ids) (λ i c. c) Stay branch_stays (value_seen s) ctx ctx is stay
 
-  pub attributes_stay : (s : Sight) (a : TagAttributes) (ctx : ExecutionCtx E) (is : List Instruction) → StaysThe ctx (gathered_with_attributes ids with_ids s a ctx is)
-  attributes_stay s a ctx [] = stays_same ctx
-  attributes_stay s a ctx (i ∷ is) =
-      stays_trans ctx (with_branch_if ids with_ids (holds_seen s a i) ctx i) (gathered_with_attributes ids with_ids s a (with_branch_if ids with_ids (holds_seen s a i) ctx i) is) (branch_stays (holds_seen s a i) ctx i) (attributes_stay s a (with_branch_if ids with_ids (holds_seen s a i) ctx i) is)
+  pub attributes_stay : (s : Sight) (a : TagAttributes) (is : List Instruction) → StaysThe ctx (gathered_with_attributes ids with_ids s a ctx is)
+  attributes_stay s a is = attributes_keep (give_branch ids with_ids) (λ i c. c) Stay branch_stays (holds_seen s a) ctx ctx is stay
 
 -- 6. Tries by names, and what is left of them
 
@@ -238,20 +200,11 @@ range_after start end offset inside =
         let at : (start + 1) + offset ≡ start + suc offset = omega arith in
         ap (λ k. drop (suc offset) (range_with_len start k)) more ∙ (dropped_range (start + 1) offset n ∙ ap (λ k. range_with_len k n) at)
 
-module _ (p : programs.Program) (e : Element) where
-  -- the first open place is within, and open
-  first_is : (ps : List ℕ) (n : ℕ) → first_open p e ps ≡ Some n → (n < length ps) × (starts_open p e (drop n ps) ≡ true)
-  first_is [] n found = cc
-  first_is (place ∷ ps) n found = by_test (is_open_at p e place) refl (first_open p e ps) (first_is ps) n found
-    where
-      by_test : (b : Bool) → is_open_at p e place ≡ b → (o : Option ℕ) → ((k : ℕ) → o ≡ Some k → (k < length ps) × (starts_open p e (drop k ps) ≡ true)) → (n : ℕ) → (if b then Some 0 else option_map suc o) ≡ Some n
-          → (n < suc (length ps)) × (starts_open p e (drop n (place ∷ ps)) ≡ true)
-      by_test true is o later n h = let first : 0 ≡ n = cc in (omega (arith, first), subst (λ k. starts_open p e (drop k (place ∷ ps)) ≡ true) first is)
-      by_test false is None later n h = cc
-      by_test false is (Some k) later n h =
-          let next : suc k ≡ n = cc in
-          let rest = later k refl in
-          (omega (arith, next, rest.0), subst (λ m. starts_open p e (drop m (place ∷ ps)) ≡ true) next rest.1)
+-- the first open place is within, and open
+first_is : (p : programs.Program) (e : Element) (ps : List ℕ) (n : ℕ) → position_from (is_open_at p e) 0 ps ≡ Some n → (n < length ps) × (starts_open p e (drop n ps) ≡ true)
+first_is p e ps n found =
+    let at = position-Some (is_open_at p e) ps n 0 (position_from-zero (is_open_at p e) ps ∙ found) in
+    (at.0, ap (starts_open p e) (drop-cons ps n 0 at.0) ∙ at.1)
 
 module _ {E : Type 0} (r : Running E) (ids : E → Ids) (with_ids : E → Ids → E) (lends : (w : E) (more : Ids) → ids (with_ids w more) ≡ more) (e : Element) (name : Name) (seen : sight_in r.stack name ≡ sight_of r.prog.enable_nth_of_type e) where
   open r use {s, stack}
@@ -267,32 +220,32 @@ module _ {E : Type 0} (r : Running E) (ids : E → Ids) (with_ids : E → Ids �
 
   module _ {old new : ExecutionCtx E} {before after : Tries} {stop : Option Stop} (tried : AreTried ids with_ids (sight_in stack name) all rs old new before after stop) where
     pub stays : StaysThe old new
-    stays = subst (StaysThe old) (sym tried.gathered) (names_stay ids with_ids (sight_in stack name) old (all_at all rs))
+    stays = subst (StaysThe old) (sym tried.gathered) (names_stay ids with_ids old (sight_in stack name) (all_at all rs))
 
-    pub stop_shown : option_map (number_of all rs) stop ≡ first_open p e (all_places rs)
+    pub stop_shown : option_map (number_of all rs) stop ≡ position_from (is_open_at p e) 0 (all_places rs)
     stop_shown =
         tried.stops
         ∙ (ap (λ z. first_open_from z 0 (all_at all rs)) seen
-        ∙ (as_open r e).stop)
+        ∙ same_stop (r.prog) e rs (inside r))
 
     -- what was gathered is what the run by names gathers
-    pub gathered : Gathers ids old.stack_item no_context → Gathers ids new.stack_item (content_of new.with_content (started_by_names p true e rs).context)
+    pub gathered : Gathers ids old.stack_item no_context → Gathers ids new.stack_item (content_of new.with_content (started_by_names p true e rs))
     gathered none =
-        let by_names = names_gather p p.by_type e all rs (are_ranges r) ids with_ids lends old no_context none in
+        let by_names = names_gather r.prog e rs (inside r) ids with_ids lends old.with_content old no_context (none, refl) in
         let is_new : gathered_by_names ids with_ids (sight_of p.by_type e) old (all_at all rs) ≡ new = sym (tried.gathered ∙ ap (λ z. gathered_by_names ids with_ids z old (all_at all rs)) seen) in
-        let context : (run_by_names p old.with_content e no_context (all_places rs)).context ≡ content_of old.with_content (started_by_names p true e rs).context =
-        ap (λ x. (run_by_names p old.with_content e x (all_places rs)).context) (nothing_content old.with_content) ∙ by_names_content p old.with_content e no_context (all_places rs) in
-        subst (λ c. Gathers ids new.stack_item (content_of c (started_by_names p true e rs).context)) (sym stays.content)
-        (subst (Gathers ids new.stack_item) context (subst (λ (x : ExecutionCtx E). Gathers ids x.stack_item (run_by_names p old.with_content e no_context (all_places rs)).context) is_new by_names))
+        let context : context_by_names p old.with_content e no_context (all_places rs) ≡ content_of old.with_content (started_by_names p true e rs) =
+        ap (λ x. context_by_names p old.with_content e x (all_places rs)) (nothing_content old.with_content) ∙ by_names_content p old.with_content e no_context (all_places rs) in
+        subst (λ c. Gathers ids new.stack_item (content_of c (started_by_names p true e rs))) (sym stays.content)
+        (subst (Gathers ids new.stack_item) context (subst (λ (x : ExecutionCtx E). Gathers ids x.stack_item (context_by_names p old.with_content e no_context (all_places rs))) is_new by_names))
 
   -- where no instruction needs attributes
   module _ {old new : ExecutionCtx E} {before after : Tries} (tried : AreTried ids with_ids (sight_in stack name) all rs old new before after None) where
-    pub none_left : (started_by_names p true e rs).left ≡ []
-    none_left = stops_leave p true e no_context (all_places rs) ∙ ap (λ o. from_number o (all_places rs)) (sym (stop_shown tried))
+    pub none_left : left_by_names p e rs ≡ []
+    none_left = stops_leave (is_open_at p e) (all_places rs) ∙ ap (λ o. from_number o (all_places rs)) (sym (stop_shown tried))
 
-    pub gathered_all : (started_by_names p true e rs).context ≡ context_of p true e (all_places rs)
+    pub gathered_all : started_by_names p true e rs ≡ context_of p true e (all_places rs)
     gathered_all =
-        ap (λ ps. run p true e (started_by_names p true e rs).context ps) (sym none_left) ∙ (whole r e true).whole
+        ap (λ ps. run p true e (started_by_names p true e rs) ps) (sym none_left) ∙ (whole r e true).whole
 
     pub names_all : names_counted before ≡ 0 → names_counted after ≡ name_tries s.nodes (outer r)
     names_all none = omega (arith, none, tried.names, counted r e)
@@ -300,7 +253,7 @@ module _ {E : Type 0} (r : Running E) (ids : E → Ids) (with_ids : E → Ids �
     pub no_attributes : 0 ≡ attribute_tries s.nodes e (outer r)
     no_attributes = ap (count_by (is_open_at p e)) (sym none_left) ∙ (whole r e true).attributes
 
-    pub no_need : starts_open p e (started_by_names p true e rs).left ≡ false
+    pub no_need : starts_open p e (left_by_names p e rs) ≡ false
     no_need = ap (starts_open p e) none_left
 
   -- where one does
@@ -311,30 +264,30 @@ module _ {E : Type 0} (r : Running E) (ids : E → Ids) (with_ids : E → Ids �
     abbrev stopped : Range ℕ
     stopped = get_or rs stop.range no_range
 
-    found : first_open p e (all_places rs) ≡ Some number
+    found : position_from (is_open_at p e) 0 (all_places rs) ≡ Some number
     found = sym (stop_shown tried)
 
-    pub needs : starts_open p e (started_by_names p true e rs).left ≡ true
-    needs = ap (starts_open p e) (stops_leave p true e no_context (all_places rs) ∙ ap (λ o. from_number o (all_places rs)) found) ∙ (first_is p e (all_places rs) number found).1
+    pub needs : starts_open p e (left_by_names p e rs) ≡ true
+    needs = ap (starts_open p e) (stops_leave (is_open_at p e) (all_places rs) ∙ ap (λ o. from_number o (all_places rs)) found) ∙ (first_is p e (all_places rs) number found).1
 
     -- what is left are the places of the ranges from the stop on
-    pub left_places : (started_by_names p true e rs).left ≡ all_places (ranges_from rs stop)
+    pub left_places : left_by_names p e rs ≡ all_places (ranges_from rs stop)
     left_places =
         let within = tried.within in
         let front = take stop.range rs in
         let back = drop (stop.range + 1) rs in
         let parts = around rs stop.range no_range within.0 in
-        let same_count = (instructions_are_as_open p p.by_type e all front (record { same_code = (are_ranges r).same_code; inside = All-take (IsInsideOf all) stop.range rs (are_ranges r).inside })).count in
-        let inside = offset_inside all rs stop within in
+        let count = same_count r.prog e front (All-take (IsInsideOf all) stop.range rs (inside r)) in
+        let fits = offset_inside all rs stop within in
         let sizes = length-range_with_len stopped.start (stopped.end - stopped.start) in
-        stops_leave p true e no_context (all_places rs)
+        stops_leave (is_open_at p e) (all_places rs)
         ∙ (ap (λ o. from_number o (all_places rs)) found
         ∙ (ap (λ qs. drop number (all_places qs)) parts
-        ∙ (ap (λ n. drop (n + stop.offset) (all_places (front ++ stopped ∷ back))) same_count
-        ∙ (numbers_are_offsets front stopped back stop.offset (omega (arith, inside, sizes))
-        ∙ ap (λ ps. ps ++ all_places back) (range_after stopped.start stopped.end stop.offset inside)))))
+        ∙ (ap (λ n. drop (n + stop.offset) (all_places (front ++ stopped ∷ back))) count
+        ∙ (numbers_are_offsets front stopped back stop.offset (omega (arith, fits, sizes))
+        ∙ ap (λ ps. ps ++ all_places back) (range_after stopped.start stopped.end stop.offset fits)))))
 
-    pub names_left : names_counted before ≡ 0 → names_counted after + length (started_by_names p true e rs).left ≡ length (all_places rs) + 1
+    pub names_left : names_counted before ≡ 0 → names_counted after + length (left_by_names p e rs) ≡ length (all_places rs) + 1
     names_left none =
-        let left = ap length (stops_leave p true e no_context (all_places rs) ∙ ap (λ o. from_number o (all_places rs)) found) ∙ length-drop number (all_places rs) in
+        let left = ap length (stops_leave (is_open_at p e) (all_places rs) ∙ ap (λ o. from_number o (all_places rs)) found) ∙ length-drop number (all_places rs) in
         omega (arith, none, tried.names, left, (first_is p e (all_places rs) number found).0)

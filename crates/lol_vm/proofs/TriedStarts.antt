@@ -19,7 +19,7 @@ use Rattle.lol_vm.proofs.Gathered.{runs_give_reports}
 use Rattle.lol_vm.proofs.Kept.{after_unfinished, counted_stands, for_on}
 use Rattle.lol_vm.proofs.StackCounting.{counters_are_places}
 use Rattle.lol_vm.proofs.Starts.{Running, held, content_ids, counted as run_count, gathered, gathered_all, left_places, names_all, names_left, needs, no_attributes, no_need, runnable, stays}
-use Rattle.lol_vm.proofs.Stops.{foreign_tags_ask, stops_are_requests, started_by_names}
+use Rattle.lol_vm.proofs.Stops.{foreign_tags_ask, left_by_names, started_by_names, stops_are_requests}
 use Rattle.lol_vm.proofs.VmStarts.{IsComplete, answered, counted_data, none_tried}
 use Rattle.std.specs.declared.alloc.AllocError.{AllocError}
 
@@ -178,7 +178,7 @@ module _ {E R : Type 0} {ids : E → Ids} {with_ids : E → Ids → E} {vm new :
     was_tried : (found : Option RecoveryPoint) → result ≡ Ok found → OfStop (Tried name) found
     was_tried found at = subst (λ own. OfStop (Tried own) found) item.name (subst (λ r. IfOk r (OfStop (Tried ctx.stack_item.local_name))) at (by_name.tried can_run))
 
-    has_gathered : {stop : Option Stop} → Tried name stop → Gathers ids next.stack_item (content_of next.with_content (started_by_names p true e ranges).context)
+    has_gathered : {stop : Option Stop} → Tried name stop → Gathers ids next.stack_item (content_of next.with_content (started_by_names p true e ranges))
     has_gathered tried = gathered running ids with_ids lends e name seen tried (new_elements_gather ids name ctx.stack_item item)
 
     pending_stop : (stop : Stop) → Tried name (Some stop) → IsPending ids s esi events tag ended (left_at next (At stop))
@@ -189,8 +189,8 @@ module _ {E R : Type 0} {ids : E → Ids} {with_ids : E → Ids → E} {vm new :
         record {
           stands = request_stands new.tries asked;
           asks = asked;
-          context = (started_by_names p true e ranges).context;
-          left = (started_by_names p true e ranges).left;
+          context = started_by_names p true e ranges;
+          left = left_by_names p e ranges;
           is_request = stops_are_requests s st.paths p true e ranges st.standing.program open_there;
           named = (same.name ∙ (item.name ∙ named.0), named.1 ∙ sym (same.namespace ∙ t.namespace));
           sight = ap (sight_in stack) (same.name ∙ item.name) ∙ seen;

@@ -8,7 +8,7 @@ use Rattle.lol_stack.specs.SoundLaws.{set_keeps, data_keep_sound}
 use Rattle.lol_stack.specs.StackLending.{with_current, with_data_at, with_data_if}
 use Rattle.lol_vm.specs.VmLending.{with_current_in}
 use Rattle.lol_vm.specs.VmLaws.{DataChangeNothing, DataKeepOpen, DataKeepRequests, LastDataAreLent, LastDataChange, PendingStands, SlotsAreOfDepth}
-use Rattle.lol_vm.proofs.StackCounting.{last_at, last_place, last_set}
+use Rattle.lol_vm.proofs.StackCounting.{last_at, last_set}
 
 module _ {E : Type 0} (w : E) where
   module _ (s : StackOf Name StackNames E) where
@@ -145,8 +145,8 @@ module _ {E : Type 0} where
 
   pub data_with : (vm : Vm E) (outer : List E) (last w : E) → data_in vm ≡ outer ++ last ∷ [] → data_in (with_current_in vm w) ≡ outer ++ w ∷ []
   data_with vm outer last w is =
-      last_data_change vm w ∙ (ap (λ ds. slice_set ds (length ds - 1) w) is ∙ (ap (λ k. slice_set (outer ++ last ∷ []) k w) (last_place outer last) ∙ last_set outer last w))
+      last_data_change vm w ∙ (ap (λ ds. slice_set ds (length ds - 1) w) is ∙ last_set outer last w)
 
   pub last_data : (vm : Vm E) (outer : List E) (last : E) → data_in vm ≡ outer ++ last ∷ [] → option_map (λ (item : StackItemOf Name E). item.element_data) (slice_get (items_in vm.stack) (length (items_in vm.stack) - 1)) ≡ Some last
   last_data vm outer last is =
-      last_data_are_lent vm ∙ (ap (λ ds. slice_get ds (length ds - 1)) is ∙ (ap (slice_get (outer ++ last ∷ [])) (last_place outer last) ∙ last_at outer last))
+      last_data_are_lent vm ∙ (ap (λ ds. slice_get ds (length ds - 1)) is ∙ last_at outer last)

@@ -1,4 +1,4 @@
--- Requests that are finished, and what the machine of the code answers to them.
+-- Requests that are finished, and what the machine answers to them.
 use Rattle.lol_vm.proofs.Common.{◌≡◌, ℕ, ◌+◌, ◌<◌, ◌≤◌, ◌^◌, Bool, true, false, not, List, [], ◌∷◌, length, drop, get_or, All, refl, sym, ap, ◌∙◌, subst, arith, ◌||◌, count_by, Range, contains_from_among, StartTag, Namespace, Html, Svg, MathML, Ids, ascending, tag_attributes, Selectors, all_places, Element, is_html, Tries, document, ascending_once, attribute_tries, Document, element_of, Event, Start, has_content, has_content_in, Gathers, Context, no_context, context_of, is_open_at, run, gathered_with_attributes, AreRunnable, IsInsideOf, all_at, open_among, starts_open, AreExecuted, AreWithin, IsPointIn, ranges_left, ranges_to_run_in, sight_in, tried_at, Vm, IsAnswered, IsTriedAtMost, IsEntered, IsPending, GoesOnAt, content_at, content_of, ExecutionCtx, StandsOn, after_start, max, longest, unfinished}
 use Rattle.std.proofs.lemmas.List.{length-append}
 use Rattle.std.proofs.lemmas.List.Elements.{All-cons, All-drop}
@@ -17,9 +17,9 @@ use Rattle.lol_program.specs.ProgramViews.{program_shown}
 use Rattle.lol_vm.proofs.Gathered.{GivesReport, runs_give_reports}
 use Rattle.lol_vm.proofs.GatheringLemmas.{gathered_ids_ascend}
 use Rattle.lol_vm.proofs.InstructionLists.{offset_inside}
-use Rattle.lol_vm.proofs.InstructionPlaces.{AreRangesOf, attributes_gather, instructions_are_as_open}
+use Rattle.lol_vm.proofs.InstructionPlaces.{attributes_gather, same_count, same_opens}
 use Rattle.lol_vm.proofs.Kept.{after_unfinished, on_for}
-use Rattle.lol_vm.proofs.Starts.{Running, StaysThe, held, are_ranges, within_bounds, attributes_stay, run_content, content_ids}
+use Rattle.lol_vm.proofs.Starts.{Running, StaysThe, held, inside, within_bounds, attributes_stay, run_content, content_ids}
 use Rattle.lol_vm.proofs.Stops.{left_counted, requests_finish}
 use Rattle.lol_vm.proofs.VmStarts.{IsComplete, answered}
 
@@ -74,17 +74,14 @@ module _ {E : Type 0} (ids : E → Ids) (vm : Vm E) (s : Selectors) (esi : Bool)
   given : GivesReport s pending.stands.paths p (context_of p true e (all_places rs)) e d.open_elements
   given = runs_give_reports s pending.stands.paths p rs e d.open_elements pending.stands.closed pending.stands.standing.program (held running)
 
-  are_left : AreRangesOf p p.by_type all left_code
-  are_left = record {
-    same_code = (are_ranges running).same_code;
-    inside = left_inside all (ranges_to_run_in vm.program vm.stack) (are_ranges running).inside request.point pending.stopped;
-  }
+  are_left : All (IsInsideOf all) left_code
+  are_left = left_inside all rs (inside running) request.point pending.stopped
 
   tries_all : TriesAreExact s p rs e d.open_elements
   tries_all = places_count_tries s pending.stands.paths p rs e d.open_elements pending.stands.closed pending.stands.standing.program (held running)
 
   left_count : length (all_at all left_code) ≡ length pending.left
-  left_count = (instructions_are_as_open p p.by_type e all left_code are_left).count ∙ ap length (sym pending.places_left)
+  left_count = same_count vm.program e left_code are_left ∙ ap length (sym pending.places_left)
 
   pub can_finish : length all < 2 ^ 63 → AreRunnable all left_code vm.tries
   can_finish size =
@@ -93,7 +90,7 @@ module _ {E : Type 0} (ids : E → Ids) (vm : Vm E) (s : Selectors) (esi : Bool)
       let tried = at_most_one request.point in
       let parts = ap length pending.is_request.parts ∙ length-append pending.is_request.before pending.left in
       record {
-        inside = are_left.inside;
+        inside = are_left;
         room = (omega (arith, names, tried, left_count, tries_all.names, bounds, size), omega (arith, pending.attributes, left_count, parts, tries_all.names, bounds, size));
       }
     where
@@ -105,7 +102,7 @@ module _ {E : Type 0} (ids : E → Ids) (vm : Vm E) (s : Selectors) (esi : Bool)
   opens_left : open_among (sight_in vm.stack request.ctx.stack_item.local_name) (all_at all left_code) ≡ attribute_tries s.nodes e d.open_elements
   opens_left =
       ap (λ z. open_among z (all_at all left_code)) pending.sight
-      ∙ ((instructions_are_as_open p p.by_type e all left_code are_left).opens
+      ∙ (same_opens vm.program e left_code are_left
       ∙ (ap (count_by (is_open_at p e)) (sym pending.places_left)
       ∙ (left_counted (is_open_at p e) pending.is_request.before pending.left (λ place a. pending.is_request.closed place (contains_from_among pending.is_request.before place a))
       ∙ (ap (count_by (is_open_at p e)) (sym pending.is_request.parts) ∙ tries_all.attributes))))
@@ -170,7 +167,7 @@ module _ {E : Type 0} (ids : E → Ids) (vm : Vm E) (s : Selectors) (esi : Bool)
 
       all_gathered : Gathers ids new_ctx.stack_item (content_of (has_content esi tag) x)
       all_gathered =
-          let gathers = attributes_gather p p.by_type e all left_code are_left ids with_ids lends ctx (content_of ctx.with_content pending.context) (gathered_before self_closing) in
+          let gathers = attributes_gather vm.program e left_code are_left ids with_ids lends ctx.with_content ctx (content_of ctx.with_content pending.context) (gathered_before self_closing, refl) in
           let new_is = executed.gathered ∙ ap (λ z. gathered_with_attributes ids with_ids z (tag_attributes tag) ctx (all_at all left_code)) pending.sight in
           let ran : run p ctx.with_content e (content_of ctx.with_content pending.context) (all_places left_code) ≡ content_of (has_content esi tag) x =
           ap (run p ctx.with_content e (content_of ctx.with_content pending.context)) (sym pending.places_left)
@@ -179,7 +176,7 @@ module _ {E : Type 0} (ids : E → Ids) (vm : Vm E) (s : Selectors) (esi : Bool)
 
       pub complete : IsComplete ids s esi events tag true new_ctx x after
       complete =
-          let same : StaysThe ctx new_ctx = subst (StaysThe ctx) (sym executed.gathered) (attributes_stay ids with_ids (sight_in vm.stack request.ctx.stack_item.local_name) (tag_attributes tag) ctx (all_at all left_code)) in
+          let same : StaysThe ctx new_ctx = subst (StaysThe ctx) (sym executed.gathered) (attributes_stay ids with_ids ctx (sight_in vm.stack request.ctx.stack_item.local_name) (tag_attributes tag) (all_at all left_code)) in
           record {
             asks = pending.asks;
             kept = ap not finish;

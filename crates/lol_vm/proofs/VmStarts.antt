@@ -1,4 +1,4 @@
--- Start tags that the machine of the code counted, and what it answers to them.
+-- Start tags that the machine counted, and what it answers to them.
 use Rattle.lol_vm.proofs.Common.{map-id, ◌≡◌, ℕ, suc, Result, Err, ◌-◌, Bool, true, false, not, List, [], ◌∷◌, ◌++◌, length, map, max, Option, Some, None, refl, sym, ap, ◌∙◌, subst, arith, ◌&&◌, and-true, if◌then◌else◌, slice_get, map-append, Name, map-map, StartTag, Ids, ascending, LimitedVec, Selectors, Path, Element, names_counted, attributes_counted, Tries, Match, Started, Dropped, asks, document, longest, matching_ids, name_tries, attribute_tries, report, Document, after_start, element_of, empty, Event, Start, has_content, Context, items_in, counted_in, counted_item, counted_if, with_typed, element_data_of, IsOrdered, StandsOn, IsRequested, Vm, IsAnswered, IsReported, IsTriedAtMost, IsPending, IsEntered, AreOpened, content_of, info_of, data_in, ExecutionCtx, StackItemOf, StackOf, StackNames, AreClosed}
 use Rattle.lol_memory.specs.declared.match_info.MatchInfo.{MatchInfo}
 use Rattle.lol_stack.specs.Calls.{IsCalledAtEach, reports}

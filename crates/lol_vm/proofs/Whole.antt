@@ -1,11 +1,11 @@
--- What the machine of the code is about to run, and how often nodes are tried.
+-- What a machine is about to run, and how often nodes are tried.
 use Rattle.lol_vm.proofs.Common.{by_names, is_open, last_compound, document, longest, needs_attributes, left_matches, and_parts}
 use Rattle.std.proofs.lemmas.List.Sums.{count_by-le-length}
 use Rattle.lol_vm.specs.VmLaws.{RangesHoldOnce, TriesAreFew}
 use Rattle.lol_vm.proofs.Starts.{held}
 use Rattle.lol_vm.proofs.StackCounting.{fewer}
 
--- what the code's machine is about to run
+-- what it is about to run
 pub ranges_hold_once : {E : Type 0} → RangesHoldOnce E
 ranges_hold_once s esi vm events h = record {
   paths = h.paths;

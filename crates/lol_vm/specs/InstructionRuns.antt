@@ -1,6 +1,6 @@
 -- What instructions give that are run one after the other.
-use Rattle.std.specs.Prelude.{ℕ, ◌+◌, Bool, true, false, if◌then◌else◌, ◌≤◌, List, [], ◌∷◌, length, All, flat_map, ◌<◌, ◌^◌, count_by, Option, Some, None}
-use Rattle.std.specs.List.{slice_range}
+use Rattle.std.specs.Prelude.{ℕ, ◌+◌, Bool, ◌≤◌, List, length, All, flat_map, ◌<◌, ◌^◌, count_by, Option, Some, None}
+use Rattle.std.specs.List.{position_from, slice_range}
 use Rattle.std.specs.declared.ops.Range.{Range}
 use Rattle.lol_memory.specs.Ids.{Ids}
 use Rattle.lol_instructions.specs.Attributes.{TagAttributes}
@@ -10,18 +10,13 @@ use Rattle.lol_instructions.specs.Tries.{names_counted, attributes_counted}
 use Rattle.lol_instructions.specs.declared.tries.Tries.{Tries}
 use Rattle.lol_instructions.specs.declared.instruction.Instruction.{Instruction}
 use Rattle.lol_instructions.specs.declared.name_value.NameValue.{NameValue}
-use Rattle.lol_instructions.specs.declared.name_value.NameValue.TheVariants.{True, False, Open}
 use Rattle.lol_stack.specs.Contexts.{with_branch, NeedsNoMemory}
+use Rattle.lol_vm.specs.Outcomes.{given_by_names, given_with_attributes}
 use Rattle.lol_stack.specs.declared.execution_ctx.ExecutionCtx.{ExecutionCtx}
 
 -- the value by names of an instruction
 abbrev pub value_seen : Sight → Instruction → NameValue
 value_seen s i = predicate_value i.predicate s
-
-abbrev pub is_true : NameValue → Bool
-is_true True = true
-is_true False = false
-is_true Open = false
 
 abbrev pub holds_seen : Sight → TagAttributes → Instruction → Bool
 holds_seen s a i = predicate_holds i.predicate s a
@@ -32,8 +27,7 @@ open_among s instructions = count_by (λ i. is_open (value_seen s i)) instructio
 
 -- the place of the first open one, where the first has the place `at`
 abbrev pub first_open_from : Sight → ℕ → List Instruction → Option ℕ
-first_open_from s at [] = None
-first_open_from s at (i ∷ instructions) = if is_open (value_seen s i) then Some at else first_open_from s (at + 1) instructions
+first_open_from s at instructions = position_from (λ i. is_open (value_seen s i)) at instructions
 
 -- how many are tried by names: those up to a stop, or all of so many
 abbrev pub tried_until : Option ℕ → ℕ → ℕ
@@ -65,17 +59,13 @@ abbrev pub NeedNoMemory : Bool → List Instruction → Type 0
 NeedNoMemory content instructions = All (λ i. NeedsNoMemory content i.associated_branch) instructions
 
 module _ {E : Type 0} (ids : E → Ids) (with_ids : E → Ids → E) where
-  abbrev pub with_branch_if : Bool → ExecutionCtx E → Instruction → ExecutionCtx E
-  with_branch_if true ctx i = with_branch ids with_ids ctx i.associated_branch
-  with_branch_if false ctx i = ctx
+  abbrev pub give_branch : Instruction → ExecutionCtx E → ExecutionCtx E
+  give_branch i ctx = with_branch ids with_ids ctx i.associated_branch
 
   -- What is gathered by names, up to the first open one.
   abbrev pub gathered_by_names : Sight → ExecutionCtx E → List Instruction → ExecutionCtx E
-  gathered_by_names s ctx [] = ctx
-  gathered_by_names s ctx (i ∷ instructions) =
-      if is_open (value_seen s i) then ctx else gathered_by_names s (with_branch_if (is_true (value_seen s i)) ctx i) instructions
+  gathered_by_names s ctx instructions = given_by_names give_branch (value_seen s) ctx instructions
 
   -- What is gathered with attributes.
   abbrev pub gathered_with_attributes : Sight → TagAttributes → ExecutionCtx E → List Instruction → ExecutionCtx E
-  gathered_with_attributes s a ctx [] = ctx
-  gathered_with_attributes s a ctx (i ∷ instructions) = gathered_with_attributes s a (with_branch_if (holds_seen s a i) ctx i) instructions
+  gathered_with_attributes s a ctx instructions = given_with_attributes give_branch (holds_seen s a) ctx instructions

@@ -17,6 +17,7 @@ pub mod Handlers
 pub mod FreeTags
 pub mod Due
 pub mod VmLaws
+pub mod Outcomes
 pub mod InstructionRuns
 pub mod Laws
 pub mod ReportLaws

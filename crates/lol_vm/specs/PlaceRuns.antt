@@ -1,5 +1,5 @@
 -- What the places of a program give, run for a start tag.
-use Rattle.std.specs.Prelude.{ℕ, Bool, if◌then◌else◌, List, [], ◌∷◌, ◌++◌, flat_map, slice_get, Option, Some, None, option_to_list, ◌≡◌, ◌↔◌, true, Contains}
+use Rattle.std.specs.Prelude.{ℕ, Bool, false, if◌then◌else◌, List, [], ◌++◌, map, flat_map, slice_get, Option, Some, None, option_to_list, ◌≡◌, ◌↔◌, true, Contains}
 use Rattle.std.specs.declared.ops.Range.{Range}
 use Rattle.lol_instructions.specs.Tests.{Element}
 use Rattle.lol_instructions.specs.Compounds.{is_open}
@@ -8,6 +8,7 @@ use Rattle.lol_instructions.specs.declared.name_value.NameValue.{NameValue}
 use Rattle.lol_instructions.specs.declared.name_value.NameValue.TheVariants.{False}
 use Rattle.lol_memory.specs.Ids.{Ids, has}
 use Rattle.lol_stack.specs.declared.stack_item.StackItemOf.{StackItemOf}
+use Rattle.lol_vm.specs.Outcomes.{given_with_attributes}
 
 -- 1. What all places give
 
@@ -56,14 +57,21 @@ branch content context i =
       hereditary_jumps = if content then context.hereditary_jumps ++ option_to_list i.hereditary_jumps else context.hereditary_jumps;
     }
 
-abbrev pub step_with_attributes : Bool → Element → Context → Option Instruction → Context
-step_with_attributes content e context None = context
-step_with_attributes content e context (Some i) = if i.holds e then branch content context i else context
+abbrev pub give_if_there : Bool → Option Instruction → Context → Context
+give_if_there content None context = context
+give_if_there content (Some i) context = branch content context i
+
+abbrev pub instruction_holds : Element → Option Instruction → Bool
+instruction_holds e None = false
+instruction_holds e (Some i) = i.holds e
+
+-- the instructions at places
+abbrev pub at_places : Program → List ℕ → List (Option Instruction)
+at_places p ps = map (slice_get p.instructions) ps
 
 -- Runs places with attributes.
 abbrev pub run : Program → Bool → Element → Context → List ℕ → Context
-run p content e context [] = context
-run p content e context (place ∷ ps) = run p content e (step_with_attributes content e context (slice_get p.instructions place)) ps
+run p content e context ps = given_with_attributes (give_if_there content) (instruction_holds e) context (at_places p ps)
 
 abbrev pub instruction_value : Element → Option Instruction → NameValue
 instruction_value e None = False
