@@ -10,7 +10,7 @@ use std::process::Abort;
 use std::test::Fail;
 
 /// The text of each cause.
-const CAUSES: [(SelectorError, &str); 14] = [
+const CAUSES: [(SelectorError, &str); 15] = [
     (
         SelectorError::UnexpectedToken,
         "Unexpected token in selector.",
@@ -49,6 +49,10 @@ const CAUSES: [(SelectorError, &str); 14] = [
     (
         SelectorError::UnsupportedCombinator('+'),
         "Unsupported combinator `+` in selector.",
+    ),
+    (
+        SelectorError::UnsupportedCombinator('~'),
+        "Unsupported combinator `~` in selector.",
     ),
     (
         SelectorError::UnsupportedSyntax,

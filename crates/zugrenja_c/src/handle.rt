@@ -135,16 +135,3 @@ impl Handle {
         slot.forget();
     }
 }
-
-#[cfg(test)]
-impl Handle {
-    /// Drops the session that is left.
-    pub fn close(self) {
-        let Handle { slot, live } = self;
-        if live {
-            drop(slot.into_box());
-        } else {
-            slot.forget();
-        }
-    }
-}

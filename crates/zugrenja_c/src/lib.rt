@@ -3,12 +3,8 @@
 
 mod closing;
 mod explaining;
-#[cfg(test)]
-mod explaining_tests;
 mod explanations;
 mod handle;
-#[cfg(test)]
-mod handle_tests;
 mod making;
 mod matching;
 mod raw_box;
@@ -17,8 +13,6 @@ mod reports;
 mod session;
 mod status;
 mod tags;
-#[cfg(test)]
-mod tests;
 mod texts;
 
 ghost use Rattle.std.specs.Prelude.{◌≡◌, ◌≢◌, length};
