@@ -2,8 +2,9 @@
 
 use crate::drawn::Drawn;
 use crate::pages::Selectors;
+use crate::told::{tell, tell_plainly};
 use lol_base::Attributes;
-use lol_explaining_matcher::{ExplainingMatcher, Started};
+use lol_explaining_matcher::ExplainingMatcher;
 use lol_matcher::Matcher;
 use std::alloc::Global;
 use std::process::Abort;
@@ -20,45 +21,43 @@ struct Both {
     plain: Matcher,
 }
 
+fn explaining(
+    alloc: Global,
+    texts: Selectors<'_>,
+    max_memory: usize,
+) -> Result<ExplainingMatcher, Fail> {
+    let mut builder = ExplainingMatcher::builder(alloc);
+    builder.max_memory(max_memory);
+    for (text, id) in texts {
+        builder.add(*id, text)?;
+    }
+    match builder.build() {
+        Ok(matcher) => Ok(matcher),
+        Err(_) => Err(Fail::from("no matcher was built")),
+    }
+}
+
+fn plain(alloc: Global, texts: Selectors<'_>, max_memory: usize) -> Result<Matcher, Fail> {
+    let mut builder = Matcher::builder(alloc);
+    builder.max_memory(max_memory);
+    for (text, id) in texts {
+        builder.add(*id, text)?;
+    }
+    Ok(builder.build()?)
+}
+
 impl Both {
     fn of(alloc: Global, texts: Selectors<'_>, max_memory: usize) -> Result<Self, Fail> {
-        let mut explaining = ExplainingMatcher::builder(alloc);
-        let mut plain = Matcher::builder(alloc);
-        explaining.max_memory(max_memory);
-        plain.max_memory(max_memory);
-        for (text, id) in texts {
-            explaining.add(*id, text)?;
-            plain.add(*id, text)?;
-        }
-        let Ok(explaining) = explaining.build() else {
-            return Err(Fail::from("no matcher was built"));
-        };
         Ok(Both {
-            explaining,
-            plain: plain.build()?,
+            explaining: explaining(alloc, texts, max_memory)?,
+            plain: plain(alloc, texts, max_memory)?,
         })
     }
 
-    /// Tells both of a tag, and answers whether each call gives the same.
+    /// Tells both of a tag, and answers whether both answer the same.
     fn answer_alike(&mut self, tag: &TagWord<'_>, attributes: &Attributes, at_hand: bool) -> bool {
-        let name = tag.name.as_bytes();
-        let aux_info = attributes.aux_info(tag.self_closing);
-        if tag.ends {
-            self.explaining.end(name);
-            self.plain.end(name);
-            return true;
-        }
-        if at_hand && tag.finish {
-            let answered = self.explaining.start_with(name, tag.ns, aux_info);
-            return answered == self.plain.start_with(name, tag.ns, aux_info);
-        }
-        let started = self.explaining.start(name, tag.ns);
-        let alike = started == self.plain.start(name, tag.ns);
-        if started != Ok(Started::NeedsAttributes) || !tag.finish {
-            return alike;
-        }
-        let finished = self.explaining.finish(aux_info);
-        alike && finished == self.plain.finish(aux_info)
+        let explained = tell(&mut self.explaining, tag, attributes, at_hand);
+        explained == tell_plainly(&mut self.plain, tag, attributes, at_hand)
     }
 
     /// Whether both show the same of the last tag.
@@ -85,19 +84,29 @@ fn compare(
     Ok(both.plain.has_failed())
 }
 
+/// Draws a page of a seed, and compares. Answers whether a tag was refused.
+fn compare_page(
+    rt: &impl Abort,
+    alloc: Global,
+    seed: u64,
+    max_memory: usize,
+) -> Result<bool, Fail> {
+    let mut drawn = Drawn {
+        random: Random::new(seed),
+    };
+    let texts = drawn.selectors(alloc)?;
+    let tags = drawn.tags(alloc)?;
+    let mut both = Both::of(alloc, &texts, max_memory)?;
+    compare(rt, alloc, &mut both, seed % 4 < 2, &tags)
+}
+
 #[test]
 fn agrees_with_a_matcher(rt: HostRuntime) -> Result<(), Fail> {
     let mut refused = 0usize;
     for seed in 0..PAGES {
-        let mut drawn = Drawn {
-            random: Random::new(seed),
-        };
-        let texts = drawn.selectors(rt.alloc())?;
-        let tags = drawn.tags(rt.alloc())?;
         let bounded = seed % 2 == 1;
         let max_memory = if bounded { 512 } else { usize::MAX };
-        let mut both = Both::of(rt.alloc(), &texts, max_memory)?;
-        let failed = compare(&rt, rt.alloc(), &mut both, seed % 4 < 2, &tags)?;
+        let failed = compare_page(&rt, rt.alloc(), seed, max_memory)?;
         refused = refused.saturating_add(failed as usize);
         assert!(rt; bounded || !failed);
     }

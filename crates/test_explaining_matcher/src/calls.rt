@@ -1,11 +1,14 @@
 //! An explaining matcher, call by call.
 
 use crate::pages::{is_reason, matcher_of};
+use crate::told::{end, explain, finish, start, start_with};
 use lol_base::Attributes;
 use lol_explaining_matcher::{
     ElementValue, ExplainingMatcher, MatcherError, Namespace, Reason, Started,
 };
+use std::alloc::Global;
 use std::test::Fail;
+use test_kit::written_attributes;
 
 fn is_one(reasons: &[Reason], id: u32, witness: &[usize]) -> bool {
     match reasons {
@@ -14,80 +17,169 @@ fn is_one(reasons: &[Reason], id: u32, witness: &[usize]) -> bool {
     }
 }
 
+/// Whether this is the one reason of the last tag.
+fn is_explained(matcher: &ExplainingMatcher, id: u32, witness: &[usize]) -> bool {
+    match explain(matcher) {
+        Ok(reasons) => is_one(&reasons, id, witness),
+        Err(_) => false,
+    }
+}
+
+/// Whether the last tag has no reasons.
+fn is_unexplained(matcher: &ExplainingMatcher) -> bool {
+    match explain(matcher) {
+        Ok(reasons) => reasons.is_empty(),
+        Err(_) => false,
+    }
+}
+
+/// Tells of a start tag of HTML, and answers whether it is answered.
+fn starts(matcher: &mut ExplainingMatcher, name: &str) -> bool {
+    start(matcher, name, Namespace::Html).is_ok()
+}
+
+/// Tells of a start tag of HTML, and answers whether its attributes are asked for.
+fn asks(matcher: &mut ExplainingMatcher, name: &str) -> bool {
+    start(matcher, name, Namespace::Html) == Ok(Started::NeedsAttributes)
+}
+
+/// Tells of a start tag of HTML, and answers whether it is refused for this.
+fn refuses(matcher: &mut ExplainingMatcher, name: &str, error: MatcherError) -> bool {
+    start(matcher, name, Namespace::Html) == Err(error)
+}
+
+/// Whether `a` inside `main` is asked for its attributes, and nothing has reasons before they come.
+fn asks_inside_main(matcher: &mut ExplainingMatcher) -> bool {
+    is_unexplained(matcher)
+        && starts(matcher, "main")
+        && is_unexplained(matcher)
+        && matcher.has_opened()
+        && asks(matcher, "a")
+        && is_unexplained(matcher)
+        && !matcher.has_opened()
+}
+
+/// Whether the tag that waits is finished once, and has its reason then and afterwards.
+fn is_finished_once(matcher: &mut ExplainingMatcher, attributes: &Attributes) -> bool {
+    finish(matcher, attributes, false).is_ok()
+        && is_explained(matcher, 7, &[1, 0])
+        && finish(matcher, attributes, false) == Err(MatcherError::NotAsked)
+        && is_explained(matcher, 7, &[1, 0])
+        && matcher.tries().names() == 2
+}
+
+/// Whether `a` has no reasons once it is closed, and has them when it comes again.
+fn is_told_again(matcher: &mut ExplainingMatcher, attributes: &Attributes) -> bool {
+    end(matcher, "a");
+    is_unexplained(matcher)
+        && matcher.matches().is_empty()
+        && start_with(matcher, "a", Namespace::Html, attributes, false).is_ok()
+        && is_explained(matcher, 7, &[3, 0])
+}
+
 #[test]
 fn goes_tag_by_tag(rt: HostRuntime) -> Result<(), Fail> {
-    let alloc = rt.alloc();
-    let mut matcher = matcher_of(alloc, &[("main a[href]", 7)])?;
-    assert!(rt; matcher.explain()?.is_empty());
-    matcher.start(b"main", Namespace::Html)?;
-    assert!(rt; matcher.explain()?.is_empty() && matcher.has_opened());
-    assert!(rt; matcher.start(b"a", Namespace::Html)? == Started::NeedsAttributes);
-    assert!(rt; matcher.explain()?.is_empty() && !matcher.has_opened());
-    let mut attributes = Attributes::new(alloc);
-    attributes.push(b"href", None)?;
-    matcher.finish(attributes.aux_info(false))?;
-    assert!(rt; is_one(&matcher.explain()?, 7, &[1, 0]));
-    assert!(rt; matcher.finish(attributes.aux_info(false)) == Err(MatcherError::NotAsked));
-    assert!(rt; is_one(&matcher.explain()?, 7, &[1, 0]));
-    assert!(rt; matcher.tries().names() == 2);
-    matcher.end(b"a");
-    assert!(rt; matcher.explain()?.is_empty() && matcher.matches().is_empty());
-    matcher.start_with(b"a", Namespace::Html, attributes.aux_info(false))?;
-    assert!(rt; is_one(&matcher.explain()?, 7, &[3, 0]));
+    let attributes = written_attributes(rt.alloc(), &[("href", None)])?;
+    let mut matcher = matcher_of(rt.alloc(), &[("main a[href]", 7)])?;
+    assert!(rt; asks_inside_main(&mut matcher));
+    assert!(rt; is_finished_once(&mut matcher, &attributes));
+    assert!(rt; is_told_again(&mut matcher, &attributes));
     Ok(())
+}
+
+/// Whether `p` is explained after a tag that was dropped.
+fn counts_a_dropped_tag(matcher: &mut ExplainingMatcher) -> bool {
+    starts(matcher, "div")
+        && asks(matcher, "i")
+        && starts(matcher, "p")
+        && is_explained(matcher, 1, &[2, 0])
 }
 
 /// A dropped tag counts as an event.
 #[test]
 fn counts_dropped_tags(rt: HostRuntime) -> Result<(), Fail> {
-    let alloc = rt.alloc();
-    let mut matcher = matcher_of(alloc, &[("div p", 1), ("i[a]", 2)])?;
-    matcher.start(b"div", Namespace::Html)?;
-    assert!(rt; matcher.start(b"i", Namespace::Html)? == Started::NeedsAttributes);
-    matcher.start(b"p", Namespace::Html)?;
-    assert!(rt; is_one(&matcher.explain()?, 1, &[2, 0]));
+    let mut matcher = matcher_of(rt.alloc(), &[("div p", 1), ("i[a]", 2)])?;
+    assert!(rt; counts_a_dropped_tag(&mut matcher));
     Ok(())
 }
 
-#[test]
-fn has_no_reasons_after_a_refusal(rt: HostRuntime) -> Result<(), Fail> {
-    let alloc = rt.alloc();
+/// A matcher that knows the names of ESI, and has no room for an element.
+fn without_room(alloc: Global) -> Result<ExplainingMatcher, Fail> {
     let mut builder = ExplainingMatcher::builder(alloc);
     builder.max_memory(16);
     builder.element_bytes(16);
     builder.enable_esi_tags(true);
     builder.add(3, "esi\\:include, div")?;
-    let mut matcher = builder.build()?;
-    matcher.start(b"esi:include", Namespace::Html)?;
-    assert!(rt; is_one(&matcher.explain()?, 3, &[0]) && !matcher.has_opened());
-    let refused = matcher.start(b"div", Namespace::Html);
-    assert!(rt; refused == Err(MatcherError::MemoryLimitExceeded) && matcher.has_failed());
-    assert!(rt; matcher.explain()?.is_empty() && matcher.matches().is_empty());
-    assert!(rt; matcher.start(b"br", Namespace::Html) == Err(MatcherError::Failed));
-    matcher.end(b"div");
-    assert!(rt; matcher.explain()?.is_empty());
-    Ok(())
+    match builder.build() {
+        Ok(matcher) => Ok(matcher),
+        Err(_) => Err(Fail::from("no matcher was built")),
+    }
+}
+
+/// Whether `div` is refused, and nothing has reasons or is reported from then on.
+fn is_refused(matcher: &mut ExplainingMatcher) -> bool {
+    refuses(matcher, "div", MatcherError::MemoryLimitExceeded)
+        && matcher.has_failed()
+        && is_unexplained(matcher)
+        && matcher.matches().is_empty()
+        && refuses(matcher, "br", MatcherError::Failed)
 }
 
 #[test]
-fn keeps_values(rt: HostRuntime) -> Result<(), Fail> {
-    let alloc = rt.alloc();
+fn has_no_reasons_after_a_refusal(rt: HostRuntime) -> Result<(), Fail> {
+    let mut matcher = without_room(rt.alloc())?;
+    assert!(rt; starts(&mut matcher, "esi:include"));
+    assert!(rt; is_explained(&matcher, 3, &[0]) && !matcher.has_opened());
+    assert!(rt; is_refused(&mut matcher));
+    end(&mut matcher, "div");
+    assert!(rt; is_unexplained(&matcher));
+    Ok(())
+}
+
+/// A matcher whose open elements have numbers.
+fn with_values(alloc: Global) -> Result<ExplainingMatcher<u64>, Fail> {
     let mut builder = ExplainingMatcher::builder(alloc);
     builder.add(0, "div p")?;
-    let mut matcher = builder.build_with_values::<u64>()?;
-    for value in 5..7 {
-        matcher.start(b"div", Namespace::Html)?;
-        assert!(rt; matcher.has_opened() && matcher.replace_value(Some(value)) == None);
+    match builder.build_with_values::<u64>() {
+        Ok(matcher) => Ok(matcher),
+        Err(_) => Err(Fail::from("no matcher was built")),
     }
+}
+
+/// Opens an element, and answers whether it has had no value before this one.
+fn gives_value(matcher: &mut ExplainingMatcher<u64>, value: u64) -> bool {
+    opens(matcher, b"div") && matcher.replace_value(Some(value)) == None
+}
+
+fn opens(matcher: &mut ExplainingMatcher<u64>, name: &[u8]) -> bool {
+    matcher.start(name, Namespace::Html).is_ok() && matcher.has_opened()
+}
+
+/// Closes elements, and answers the sum of their values, with 100 for one without a value.
+fn close(matcher: &mut ExplainingMatcher<u64>, name: &[u8]) -> u64 {
     let mut sum = 0u64;
     matcher.end_with(
-        b"div",
+        name,
         &mut |element: ElementValue<Option<u64>>| {
             sum = sum.saturating_add(element.value.unwrap_or(100));
         },
     );
-    assert!(rt; sum == 6);
-    matcher.start(b"p", Namespace::Html)?;
-    assert!(rt; is_one(&matcher.explain()?, 0, &[3, 0]));
+    sum
+}
+
+/// Whether this is the one reason of the last tag.
+fn has_reason(matcher: &ExplainingMatcher<u64>, id: u32, witness: &[usize]) -> bool {
+    match matcher.explain() {
+        Ok(reasons) => is_one(&reasons, id, witness),
+        Err(_) => false,
+    }
+}
+
+#[test]
+fn keeps_values(rt: HostRuntime) -> Result<(), Fail> {
+    let mut matcher = with_values(rt.alloc())?;
+    assert!(rt; gives_value(&mut matcher, 5) && gives_value(&mut matcher, 6));
+    assert!(rt; close(&mut matcher, b"div") == 6);
+    assert!(rt; opens(&mut matcher, b"p") && has_reason(&matcher, 0, &[3, 0]));
     Ok(())
 }

@@ -1,11 +1,10 @@
 //! Pages that are drawn, beside the definitions.
 
-ghost use Rattle.std.specs.Prelude.{All};
-ghost use Rattle.lol_vm.specs.Views.{HasRangesInside};
-
-use crate::pages::{Selectors, is_reason, matcher_of, reports_ids_of, tell};
-use lol_explaining_matcher::Reason;
-use lol_vm::{Selector, TagEvent};
+use crate::pages::{Selectors, is_reason, matcher_of, reports_ids_of};
+use crate::told::{explain, is_told};
+use lol_base::Attributes;
+use lol_explaining_matcher::{ExplainingMatcher, Reason};
+use lol_vm::{Selector, SelectorError};
 use plain_matcher::{PlainReason, PlainText, events_of, plain_reasons};
 use std::alloc::{AllocError, Global};
 use std::process::Abort;
@@ -58,24 +57,38 @@ impl Drawn {
     }
 }
 
-/// The reasons by the definitions.
-fn plainly(
-    alloc: Global,
-    texts: Selectors<'_>,
-    events: &[TagEvent<'_>],
-) -> Result<Vec<Vec<PlainReason>>, Fail>
-    requires { All HasRangesInside events.now }
-{
+fn parsed(alloc: Global, texts: Selectors<'_>) -> Result<Vec<Selector>, SelectorError> {
     let mut parsed = Vec::new(alloc);
     for (text, _) in texts {
         parsed.push(Selector::from_str(alloc, text)?)?;
     }
+    Ok(parsed)
+}
+
+/// These selectors, each as a text under its id.
+fn plain_texts<'p>(
+    alloc: Global,
+    parsed: &'p [Selector],
+    texts: Selectors<'_>,
+) -> Result<Vec<PlainText<'p>>, AllocError> {
     let mut plain_texts = Vec::new(alloc);
     for (selector, (_, id)) in parsed.iter().zip(texts) {
         plain_texts.push(PlainText { id: *id, selector })?;
     }
+    Ok(plain_texts)
+}
+
+/// The reasons by the definitions.
+fn plainly(
+    alloc: Global,
+    texts: Selectors<'_>,
+    plain_texts: &[PlainText<'_>],
+    tags: &[TagWord<'_>],
+    attributes: &[Attributes],
+) -> Result<Vec<Vec<PlainReason>>, Fail> {
     let ast = selectors(alloc, texts)?;
-    Ok(plain_reasons(alloc, &ast, false, &plain_texts, events)?)
+    let events = events_of(alloc, tags, attributes)?;
+    Ok(plain_reasons(alloc, &ast, false, plain_texts, &events)?)
 }
 
 fn is_plain(reason: &Reason, plain: &PlainReason) -> bool {
@@ -90,6 +103,36 @@ fn are_plain(told: &[Reason], plain: &[PlainReason]) -> bool {
             .all(|(one, other)| is_plain(one, other))
 }
 
+/// Expects of the last tag these reasons, and the report of their ids. Answers how many there are.
+fn expect_plain(
+    rt: &impl Abort,
+    alloc: Global,
+    matcher: &ExplainingMatcher,
+    plain: &[PlainReason],
+) -> Result<usize, Fail> {
+    let reasons = explain(matcher)?;
+    assert!(rt; are_plain(&reasons, plain) && reports_ids_of(alloc, matcher, &reasons)?);
+    Ok(reasons.len())
+}
+
+/// Expects these reasons after each tag. Answers how many there are.
+fn compare_tags(
+    rt: &impl Abort,
+    alloc: Global,
+    matcher: &mut ExplainingMatcher,
+    at_hand: bool,
+    told: (&[TagWord<'_>], &[Attributes]),
+    plain: &[Vec<PlainReason>],
+) -> Result<usize, Fail> {
+    let (tags, attributes) = told;
+    let mut count = 0usize;
+    for ((tag, attributes), plain) in tags.iter().zip(attributes).zip(plain) {
+        assert!(rt; is_told(matcher, tag, attributes, at_hand));
+        count = count.saturating_add(expect_plain(rt, alloc, matcher, plain)?);
+    }
+    Ok(count)
+}
+
 /// Expects the reasons that the definitions have, after each tag. Answers how many there are.
 fn compare(
     rt: &impl Abort,
@@ -99,29 +142,35 @@ fn compare(
     tags: &[TagWord<'_>],
 ) -> Result<usize, Fail> {
     let attributes = attributes_of(alloc, tags)?;
-    let events = events_of(alloc, tags, &attributes)?;
-    let plain = plainly(alloc, texts, &events)?;
+    let parsed = parsed(alloc, texts)?;
+    let plain_texts = plain_texts(alloc, &parsed, texts)?;
+    let plain = plainly(alloc, texts, &plain_texts, tags, &attributes)?;
     let mut matcher = matcher_of(alloc, texts)?;
-    let mut count = 0usize;
-    for ((tag, attributes), plain) in tags.iter().zip(&attributes).zip(&plain) {
-        tell(&mut matcher, tag, attributes, at_hand)?;
-        let reasons = matcher.explain()?;
-        assert!(rt; are_plain(&reasons, plain) && reports_ids_of(alloc, &matcher, &reasons)?);
-        count = count.saturating_add(reasons.len());
-    }
-    Ok(count)
+    compare_tags(
+        rt,
+        alloc,
+        &mut matcher,
+        at_hand,
+        (tags, &attributes),
+        &plain,
+    )
+}
+
+/// Draws a page of a seed, and compares.
+fn compare_page(rt: &impl Abort, alloc: Global, seed: u64) -> Result<usize, Fail> {
+    let mut drawn = Drawn {
+        random: Random::new(seed),
+    };
+    let texts = drawn.selectors(alloc)?;
+    let tags = drawn.tags(alloc)?;
+    compare(rt, alloc, &texts, seed % 2 == 0, &tags)
 }
 
 #[test]
 fn agree_with_the_definitions(rt: HostRuntime) -> Result<(), Fail> {
     let mut count = 0usize;
     for seed in 0..PAGES {
-        let mut drawn = Drawn {
-            random: Random::new(seed),
-        };
-        let texts = drawn.selectors(rt.alloc())?;
-        let tags = drawn.tags(rt.alloc())?;
-        count = count.saturating_add(compare(&rt, rt.alloc(), &texts, seed % 2 == 0, &tags)?);
+        count = count.saturating_add(compare_page(&rt, rt.alloc(), seed)?);
     }
     assert!(rt; count > 3_000, "{count} reasons");
     Ok(())

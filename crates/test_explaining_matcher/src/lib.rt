@@ -12,3 +12,5 @@ mod drawn;
 mod pages;
 #[cfg(test)]
 mod rows;
+#[cfg(test)]
+mod told;

@@ -1,10 +1,8 @@
-//! Pages of tags as words, told to an explaining matcher.
+//! Explaining matchers, and their reasons.
 
-use lol_base::Attributes;
-use lol_explaining_matcher::{ExplainingMatcher, Reason, Started};
+use lol_explaining_matcher::{ExplainingMatcher, Reason};
 use std::alloc::Global;
 use std::test::Fail;
-use test_kit::TagWord;
 
 /// Selectors with their ids.
 pub(crate) type Selectors<'t> = &'t [(&'t str, u32)];
@@ -21,25 +19,6 @@ pub(crate) fn matcher_of(
         Ok(matcher) => Ok(matcher),
         Err(_) => Err(Fail::from("no matcher was built")),
     }
-}
-
-/// Tells of a tag, with its attributes at hand, or only if they are asked for.
-pub(crate) fn tell(
-    matcher: &mut ExplainingMatcher,
-    tag: &TagWord<'_>,
-    attributes: &Attributes,
-    at_hand: bool,
-) -> Result<(), Fail> {
-    let name = tag.name.as_bytes();
-    let aux_info = attributes.aux_info(tag.self_closing);
-    if tag.ends {
-        matcher.end(name);
-    } else if at_hand && tag.finish {
-        matcher.start_with(name, tag.ns, aux_info)?;
-    } else if matcher.start(name, tag.ns)? == Started::NeedsAttributes && tag.finish {
-        matcher.finish(aux_info)?;
-    }
-    Ok(())
 }
 
 pub(crate) fn is_reason(

@@ -1,8 +1,10 @@
 //! Rows: selectors and tags, and the reasons for the last tag.
 
-use crate::pages::{Selectors, is_reason, matcher_of, reports_ids_of, tell};
-use lol_explaining_matcher::Reason;
-use std::alloc::Global;
+use crate::pages::{Selectors, is_reason, matcher_of, reports_ids_of};
+use crate::told::{explain, is_told};
+use lol_explaining_matcher::{ExplainingMatcher, Reason};
+use std::alloc::{AllocError, Global};
+use std::process::Abort;
 use std::test::Fail;
 use test_kit::{attributes_of, words_of};
 
@@ -78,23 +80,47 @@ fn are_expected(reasons: &[Reason], expected: &[Expected]) -> bool {
         })
 }
 
+/// Tells of all the tags, and answers whether each was answered.
+fn are_told(
+    alloc: Global,
+    matcher: &mut ExplainingMatcher,
+    at_hand: bool,
+    tags: &str,
+) -> Result<bool, AllocError> {
+    let words = words_of(alloc, tags)?;
+    let attributes = attributes_of(alloc, &words)?;
+    let mut told = true;
+    for (tag, attributes) in words.iter().zip(&attributes) {
+        told &= is_told(matcher, tag, attributes, at_hand);
+    }
+    Ok(told)
+}
+
+/// Whether the last tag has these reasons, and is reported under their ids.
+fn is_expected(
+    alloc: Global,
+    matcher: &ExplainingMatcher,
+    expected: &[Expected],
+) -> Result<bool, Fail> {
+    let reasons = explain(matcher)?;
+    Ok(are_expected(&reasons, expected) && reports_ids_of(alloc, matcher, &reasons)?)
+}
+
 fn last_has(alloc: Global, at_hand: bool, row: &Row) -> Result<bool, Fail> {
     let (selectors, tags, expected) = *row;
     let mut matcher = matcher_of(alloc, selectors)?;
-    let words = words_of(alloc, tags)?;
-    let attributes = attributes_of(alloc, &words)?;
-    for (tag, attributes) in words.iter().zip(&attributes) {
-        tell(&mut matcher, tag, attributes, at_hand)?;
+    Ok(are_told(alloc, &mut matcher, at_hand, tags)? && is_expected(alloc, &matcher, expected)?)
+}
+
+fn check(rt: &impl Abort, alloc: Global, rows: &[Row]) -> Result<(), Fail> {
+    for (number, row) in rows.iter().enumerate() {
+        assert!(rt; last_has(alloc, false, row)?, "row {number}");
+        assert!(rt; last_has(alloc, true, row)?, "row {number}");
     }
-    let reasons = matcher.explain()?;
-    Ok(are_expected(&reasons, expected) && reports_ids_of(alloc, &matcher, &reasons)?)
+    Ok(())
 }
 
 #[test]
 fn of_rows(rt: HostRuntime) -> Result<(), Fail> {
-    for (number, row) in ROWS.iter().enumerate() {
-        assert!(rt; last_has(rt.alloc(), false, row)?, "row {number}");
-        assert!(rt; last_has(rt.alloc(), true, row)?, "row {number}");
-    }
-    Ok(())
+    check(&rt, rt.alloc(), &ROWS)
 }
