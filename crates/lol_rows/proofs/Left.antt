@@ -86,10 +86,10 @@ left_found p hash instructions hashes range found up are wanted =
 
 -- 3. Hashes of names
 
-abbrev unnamed_or : Option (List ℕ) → List ℕ → Type 0
+abbrev pub unnamed_or : Option (List ℕ) → List ℕ → Type 0
 unnamed_or key name = (key ≡ None) ⊎ (key ≡ Some name)
 
-key_is : (key : Option (List ℕ)) (name : List ℕ) → not (is_another_name key name) ≡ true → unnamed_or key name
+pub key_is : (key : Option (List ℕ)) (name : List ℕ) → not (is_another_name key name) ≡ true → unnamed_or key name
 key_is None name h = inl refl
 key_is (Some own) name h = inr (ap Some (sym ((bytes_eq-Decides name own).0 (twice (bytes_eq name own) h))))
   where

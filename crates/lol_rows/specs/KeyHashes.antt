@@ -31,5 +31,9 @@ after_key hasher (Some (ByAttribute name)) = sip.write (byte_hashed hasher 3) na
 abbrev pub hash_of_name : Option (List ℕ) → Bool → ℕ
 hash_of_name name opens = sip.finish (byte_hashed (after_name name) (byte_of_bool opens)) % 2 ^ 32
 
+-- the hash of a key after a name
+abbrev pub hash_after : DefaultHasher → Option AttributeKey → ℕ
+hash_after hasher key = sip.finish (after_key hasher key) % 2 ^ 32
+
 abbrev pub hash_of_pair : Option (List ℕ) → Option AttributeKey → ℕ
-hash_of_pair name key = sip.finish (after_key (after_name name) key) % 2 ^ 32
+hash_of_pair name key = hash_after (after_name name) key

@@ -1,2 +1,3 @@
 pub mod KeyHashes
+pub mod TagHashes
 pub mod Rows

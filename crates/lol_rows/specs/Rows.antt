@@ -3,7 +3,8 @@ use Rattle.std.specs.Prelude.{ℕ, ◌≡◌, ◌≤◌, ◌<◌, ◌-◌, Bool,
 use Rattle.std.specs.List.{range_with_len, list_any}
 use Rattle.std.specs.declared.ops.Range.{Range}
 use Rattle.lol_instructions.specs.Keys.{Keys, is_another_name}
-use Rattle.lol_instructions.specs.CompiledKeys.{keys_in}
+use Rattle.lol_instructions.specs.CompiledKeys.{keys_in, lacks_key}
+use Rattle.lol_instructions.specs.Attributes.{TagAttributes}
 use Rattle.lol_instructions.specs.declared.instruction.Instruction.{Instruction}
 use Rattle.lol_key_table.specs.KeyTables.{IsTableOf}
 use Rattle.lol_rows.specs.KeyHashes.{hash_of_name, hash_of_pair}
@@ -34,6 +35,10 @@ is_left_by_name name i = not (is_another_name (keys_of i).name name)
 -- and of which it is known that it needs attributes
 abbrev pub is_left_open : List ℕ → Instruction → Bool
 is_left_open name i = is_left_by_name name i && (keys_of i).opens
+
+-- one that tests no other name, and no id, class or attribute that a tag lacks
+abbrev pub is_left_by_keys : List ℕ → TagAttributes → Instruction → Bool
+is_left_by_keys name seen i = is_left_by_name name i && not (lacks_key (keys_of i).attribute seen)
 
 -- whether there is an instruction, and it passes
 abbrev pub passes : (Instruction → Bool) → Option Instruction → Bool

@@ -1,9 +1,11 @@
 //! Hashes of keys.
 
-ghost use Rattle.std.specs.Prelude.{◌≡◌};
+ghost use Rattle.std.specs.Prelude.{◌≡◌, Some};
 ghost use Rattle.std.specs.Option.{option_copied, option_map};
+ghost use Rattle.lol_base.specs.Names.{lowercased};
+ghost use Rattle.lol_instructions.specs.Keys.{ByAttribute};
 ghost use Rattle.lol_instructions.specs.CompiledKeys.{key_shown};
-ghost use Rattle.lol_rows.specs.KeyHashes.{after_name, name_shown, hash_of_name, hash_of_pair};
+ghost use Rattle.lol_rows.specs.KeyHashes.{after_name, name_shown, hash_of_name, hash_after};
 
 use lol_base::LocalName;
 use lol_instructions::KeyBytes;
@@ -11,6 +13,21 @@ use std::hash::{DefaultHasher, Hash, Hasher};
 
 /// How many hashes there are.
 const HASHES: u64 = 1 << 32;
+
+/// A hasher that was given the key of a name, or that there is none.
+pub(crate) fn after_name(name: Option<&LocalName<'_>>) -> DefaultHasher
+    ensures { result ≡ after_name (name_shown (option_copied name.entry)) }
+{
+    let mut hasher = DefaultHasher::new();
+    match name {
+        None => hasher.write_u8(0),
+        Some(name) => {
+            hasher.write_u8(1);
+            name.hash(&mut hasher);
+        }
+    }
+    hasher
+}
 
 /// The hash of the key of a name, if there is one, and of whether its nodes are known to need attributes.
 pub(crate) fn name_hash(name: Option<&LocalName<'_>>, opens: bool) -> u32
@@ -21,12 +38,10 @@ pub(crate) fn name_hash(name: Option<&LocalName<'_>>, opens: bool) -> u32
     (hasher.finish() % HASHES) as u32
 }
 
-/// The hash of the two keys of a node: its name and its id, class or attribute, each if there is one.
-pub(crate) fn pair_hash(name: Option<&LocalName<'_>>, key: Option<KeyBytes<'_>>) -> u32
-    ensures { result
-        ≡ hash_of_pair (name_shown (option_copied name.entry)) (option_map key_shown key.entry) }
+/// The hash of the pair of the key of a name that a hasher was given, and of an id, a class or an attribute, if there is one.
+pub(crate) fn pair_hash(mut hasher: DefaultHasher, key: Option<KeyBytes<'_>>) -> u32
+    ensures { result ≡ hash_after hasher (option_map key_shown key.entry) }
 {
-    let mut hasher = after_name(name);
     match key {
         None => hasher.write_u8(0),
         Some(KeyBytes::Id(id)) => {
@@ -45,16 +60,13 @@ pub(crate) fn pair_hash(name: Option<&LocalName<'_>>, key: Option<KeyBytes<'_>>)
     (hasher.finish() % HASHES) as u32
 }
 
-fn after_name(name: Option<&LocalName<'_>>) -> DefaultHasher
-    ensures { result ≡ after_name (name_shown (option_copied name.entry)) }
+/// The same of the name of an attribute as it is written, whose case doesn't count.
+pub(crate) fn attribute_hash(mut hasher: DefaultHasher, name: &[u8]) -> u32
+    ensures { result ≡ hash_after hasher (Some (ByAttribute (lowercased name.now))) }
 {
-    let mut hasher = DefaultHasher::new();
-    match name {
-        None => hasher.write_u8(0),
-        Some(name) => {
-            hasher.write_u8(1);
-            name.hash(&mut hasher);
-        }
+    hasher.write_u8(3);
+    for byte in name {
+        hasher.write_u8(byte.to_ascii_lowercase());
     }
-    hasher
+    (hasher.finish() % HASHES) as u32
 }

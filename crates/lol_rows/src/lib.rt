@@ -3,5 +3,7 @@
 
 mod key_hashes;
 mod rows;
+mod tag_hashes;
 
 pub use rows::Rows;
+pub use tag_hashes::{TagKeys, add_pair_hashes};

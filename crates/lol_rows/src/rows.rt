@@ -2,9 +2,11 @@
 
 ghost use Rattle.std.specs.Prelude.{◌≡◌, ◌++◌, IfOk, OnOk};
 ghost use Rattle.std.specs.Bool.{OnTrue, OnFalse};
-ghost use Rattle.lol_rows.specs.Rows.{AreRowsOf, is_left_open, is_left_by_name, passes_at, some_pass, passing, HasPassing, NonePasses};
+ghost use Rattle.lol_rows.specs.TagHashes.{HasItsHashes};
+ghost use Rattle.lol_rows.specs.Rows.{AreRowsOf, is_left_open, is_left_by_name, is_left_by_keys, passes_at, some_pass, passing, HasPassing, NonePasses};
 
-use crate::key_hashes::{name_hash, pair_hash};
+use crate::key_hashes::{after_name, name_hash, pair_hash};
+use crate::tag_hashes::TagKeys;
 use lol_base::LocalName;
 use lol_instructions::{AddressRange, Instruction};
 use lol_key_table::KeyTable;
@@ -33,7 +35,7 @@ impl Rows {
             let predicate = &instruction.predicate;
             let name = predicate.name_key();
             names.push_reserved(name_hash(name, predicate.opens_where_named()));
-            pairs.push_reserved(pair_hash(name, predicate.attribute_key()));
+            pairs.push_reserved(pair_hash(after_name(name), predicate.attribute_key()));
         }
         Ok(Rows {
             names: KeyTable::of(alloc, &names)?,
@@ -110,6 +112,46 @@ impl Rows {
             }
         }
         Ok(())
+    }
+
+    /// Adds the addresses of those instructions of a range that test no other name, and no id, class or attribute that the tag lacks,
+    /// ascending. `found` is room for what is looked up.
+    ///
+    /// # Errors
+    /// Out of memory.
+    pub fn add_left_by_keys(
+        &self,
+        instructions: &[Instruction],
+        range: &AddressRange,
+        tag: &TagKeys<'_, '_>,
+        found: &mut Vec<usize>,
+        left: &mut Vec<usize>,
+    ) -> Result<(), AllocError>
+        ensures { OnOk result (AreRowsOf instructions.now self.now → HasItsHashes tag.now → left.new.items
+            ≡ left.old.items ++ passing (is_left_by_keys tag.now.local_name.now.lowercased tag.now.matcher.now)
+            instructions.now range.now) }
+    {
+        self.pairs.find(tag.hashes, range.start..range.end, found)?;
+        for address in found.iter() {
+            if is_left_by_keys(instructions, *address, tag) {
+                left.push(*address)?;
+            }
+        }
+        Ok(())
+    }
+}
+
+/// Whether the instruction at an address tests no other name, and no id, class or attribute that the tag lacks.
+fn is_left_by_keys(instructions: &[Instruction], address: usize, tag: &TagKeys<'_, '_>) -> bool
+    ensures { result ≡ passes_at
+        (is_left_by_keys tag.now.local_name.now.lowercased tag.now.matcher.now) instructions.now address }
+{
+    match instructions.get(address) {
+        Some(instruction) => {
+            let predicate = &instruction.predicate;
+            !predicate.has_other_name(tag.local_name) && !predicate.lacks_key(tag.matcher)
+        }
+        None => false,
     }
 }
 

@@ -1,0 +1,207 @@
+-- The hashes of a tag's keys, part by part.
+use Rattle.std.proofs.Common.{◌≡◌, ℕ, zero, suc, ◌+◌, ◌<◌, ◌≤◌, arith, Bool, true, false, cond, not, List, [], ◌∷◌, ◌++◌, length, map, take, get_or, Option, Some, None, Contains, inl, inr, refl, sym, ap, ◌∙◌, subst, append_assoc, append-nil}
+use Rattle.std.specs.Prelude.{flat_map, fold, codes, option_to_list, unwrap_or, slice_get}
+use Rattle.std.specs.Str.{bytes_eq}
+use Rattle.std.specs.List.{list_any}
+use Rattle.std.specs.Option.{option_map}
+use Rattle.std.specs.declared.hash.DefaultHasher.{DefaultHasher}
+use Rattle.std.proofs.lemmas.List.{take_more, map-append}
+use Rattle.std.proofs.lemmas.Slice.Eq.{bytes_eq-Decides}
+use Rattle.lol_base.specs.Names.{lowercased}
+use Rattle.lol_base.specs.StartTags.{Attribute}
+use Rattle.lol_base.specs.BoolLaws.{and_parts}
+use Rattle.lol_base.specs.PlaceLaws.{some_is}
+use Rattle.lol_base.specs.MemberLaws.{Among, contains_from_among, among_front, among_back, map_among, flat_map_among, among_any}
+use Rattle.lol_instructions.specs.Tests.{find_attribute, has_value, words}
+use Rattle.lol_instructions.specs.Attributes.{TagAttributes, value_in, value_among}
+use Rattle.lol_instructions.specs.Keys.{AttributeKey, ById, ByClass, ByAttribute, words_of}
+use Rattle.lol_instructions.specs.CompiledKeys.{is_key_there, lacks_key}
+use Rattle.lol_instructions.specs.declared.instruction.Instruction.{Instruction}
+use Rattle.std.specs.Hash.DefaultHasher as sip
+use Rattle.lol_rows.specs.KeyHashes.{byte_hashed, after_name, hash_after, hash_of_pair}
+use Rattle.lol_rows.specs.TagHashes.{both_hashes, keys_seen, pair_hashes}
+use Rattle.lol_rows.specs.Rows.{keys_of, pair_hash_of, is_left_by_name, is_left_by_keys}
+use Rattle.lol_rows.proofs.Left.{unnamed_or, key_is}
+
+-- 1. Lists
+
+module _ {A B : Type 0} (f : A → List B) where
+  pub flat_append : (xs ys : List A) → flat_map f (xs ++ ys) ≡ flat_map f xs ++ flat_map f ys
+  flat_append [] ys = refl
+  flat_append (x ∷ xs) ys = ap (λ l. f x ++ l) (flat_append xs ys) ∙ sym (append_assoc (f x) (flat_map f xs) (flat_map f ys))
+
+  pub flat_mapped : {C : Type 0} (g : C → A) (xs : List C) → flat_map f (map g xs) ≡ flat_map (λ x. f (g x)) xs
+  flat_mapped g [] = refl
+  flat_mapped g (x ∷ xs) = ap (λ l. f (g x) ++ l) (flat_mapped g xs)
+
+  pub flat_one : (x : A) → flat_map f (x ∷ []) ≡ f x
+  flat_one x = append-nil (f x)
+
+  -- what the next one gives is added
+  pub flat_more : (xs : List A) (i : ℕ) (x : A) (old before : List B) → i < length xs → x ≡ get_or xs i x → before ≡ old ++ flat_map f (take i xs) → before ++ f x ≡ old ++ flat_map f (take (i + 1) xs)
+  flat_more xs i x old before within is so =
+      ap (λ l. l ++ f x) so
+      ∙ (append_assoc old (flat_map f (take i xs)) (f x)
+      ∙ ap (λ l. old ++ l) (sym (ap (flat_map f) (take_more xs i x within ∙ ap (λ y. take i xs ++ y ∷ []) (sym is)) ∙ (flat_append (take i xs) (x ∷ []) ∙ ap (λ l. flat_map f (take i xs) ++ l) (flat_one x)))))
+
+-- 2. The hashes
+
+module _ (both : Option AttributeKey → List ℕ) (seen : TagAttributes) where
+  abbrev ids : List (List ℕ)
+  ids = option_to_list (value_in (codes "id") seen)
+
+  abbrev classes : List (List ℕ)
+  classes = words_of (value_in (codes "class") seen)
+
+  abbrev name_of : Attribute → AttributeKey
+  name_of a = ByAttribute (lowercased a.name)
+
+  -- those of no key, of the id, of the classes, and of the names of attributes
+  pub pairs_are : (old : List ℕ)
+      → (((old ++ both None) ++ flat_map (λ id. both (Some (ById id))) ids) ++ flat_map (λ name. both (Some (ByClass name))) classes) ++ flat_map (λ a. both (Some (name_of a))) seen.attributes
+      ≡ old ++ flat_map both (None ∷ map Some (keys_seen seen))
+  pairs_are old =
+      append_assoc ((old ++ both None) ++ flat_map (λ id. both (Some (ById id))) ids) (flat_map (λ name. both (Some (ByClass name))) classes) (flat_map (λ a. both (Some (name_of a))) seen.attributes)
+      ∙ (append_assoc (old ++ both None) (flat_map (λ id. both (Some (ById id))) ids) (flat_map (λ name. both (Some (ByClass name))) classes ++ flat_map (λ a. both (Some (name_of a))) seen.attributes)
+      ∙ append_assoc old (both None) (flat_map (λ id. both (Some (ById id))) ids ++ (flat_map (λ name. both (Some (ByClass name))) classes ++ flat_map (λ a. both (Some (name_of a))) seen.attributes))
+      ∙ ap (λ l. old ++ (both None ++ l)) (sym parts))
+    where
+      part : {C : Type 0} (g : C → AttributeKey) (xs : List C) → flat_map both (map Some (map g xs)) ≡ flat_map (λ x. both (Some (g x))) xs
+      part g xs = flat_mapped both Some (map g xs) ∙ flat_mapped (λ k. both (Some k)) g xs
+
+      joined : (xs ys : List AttributeKey) → flat_map both (map Some (xs ++ ys)) ≡ flat_map both (map Some xs) ++ flat_map both (map Some ys)
+      joined xs ys = ap (flat_map both) (map-append Some xs ys) ∙ flat_append both (map Some xs) (map Some ys)
+
+      parts : flat_map both (map Some (keys_seen seen)) ≡ flat_map (λ id. both (Some (ById id))) ids ++ (flat_map (λ name. both (Some (ByClass name))) classes ++ flat_map (λ a. both (Some (name_of a))) seen.attributes)
+      parts =
+          joined (map ById ids) (map ByClass classes ++ map name_of seen.attributes)
+          ∙ λ i. part ById ids i ++ (joined (map ByClass classes) (map name_of seen.attributes) ∙ λ j. part ByClass classes j ++ part name_of seen.attributes j) i
+
+-- 3. A key that is there is among those that are seen
+
+same_bytes : (a b : List ℕ) → bytes_eq a b ≡ true → a ≡ b
+same_bytes a b h = (bytes_eq-Decides a b).0 h
+
+id_among : (o : Option (List ℕ)) (id : List ℕ) → has_value o (λ value. bytes_eq value id) ≡ true → Among (option_to_list o) id
+id_among None id h = cc
+id_among (Some value) id h = inl (same_bytes value id h)
+
+class_among : (o : Option (List ℕ)) (name : List ℕ) → has_value o (λ value. list_any (λ word. bytes_eq word name) (words value)) ≡ true → Among (words_of o) name
+class_among None name h = cc
+class_among (Some value) name h =
+    let there = among_any (λ word. bytes_eq word name) (words value) h in
+    subst (Among (words value)) (same_bytes there.0 name there.2) there.1
+
+name_among : (attributes : List Attribute) (name : List ℕ) → has_value (value_among name attributes) (λ value. true) ≡ true → Among (map (λ (a : Attribute). ByAttribute (lowercased a.name)) attributes) (ByAttribute name)
+name_among [] name h = cc
+name_among (a ∷ more) name h = by_first (bytes_eq (lowercased a.name) name) refl h (name_among more name)
+  where
+    by_first : (b : Bool) → bytes_eq (lowercased a.name) name ≡ b
+        → has_value (option_map (λ (x : Attribute). unwrap_or x.value []) (cond b (Some a) (find_attribute name more))) (λ value. true) ≡ true
+        → (has_value (value_among name more) (λ value. true) ≡ true → Among (map (λ (x : Attribute). ByAttribute (lowercased x.name)) more) (ByAttribute name))
+        → Among (map (λ (x : Attribute). ByAttribute (lowercased x.name)) (a ∷ more)) (ByAttribute name)
+    by_first true is found later = inl (ap ByAttribute (same_bytes (lowercased a.name) name is))
+    by_first false is found later = inr (later found)
+
+abbrev ids_seen : TagAttributes → List AttributeKey
+ids_seen seen = map ById (option_to_list (value_in (codes "id") seen))
+
+abbrev classes_seen : TagAttributes → List AttributeKey
+classes_seen seen = map ByClass (words_of (value_in (codes "class") seen))
+
+abbrev names_seen : TagAttributes → List AttributeKey
+names_seen seen = map (λ (a : Attribute). ByAttribute (lowercased a.name)) seen.attributes
+
+key_among : (key : AttributeKey) (seen : TagAttributes) → is_key_there key seen ≡ true → Among (keys_seen seen) key
+key_among (ById id) seen h = among_front (ids_seen seen) (classes_seen seen ++ names_seen seen) (ById id) (map_among ById (option_to_list (value_in (codes "id") seen)) id (id_among (value_in (codes "id") seen) id h))
+key_among (ByClass name) seen h =
+    among_back (ids_seen seen) (classes_seen seen ++ names_seen seen) (ByClass name)
+    (among_front (classes_seen seen) (names_seen seen) (ByClass name) (map_among ByClass (words_of (value_in (codes "class") seen)) name (class_among (value_in (codes "class") seen) name h)))
+key_among (ByAttribute name) seen h =
+    among_back (ids_seen seen) (classes_seen seen ++ names_seen seen) (ByAttribute name) (among_back (classes_seen seen) (names_seen seen) (ByAttribute name) (name_among seen.attributes name h))
+
+-- an optional key that isn't lacking
+optional_among : (key : Option AttributeKey) (seen : TagAttributes) → lacks_key key seen ≡ false → Among (None ∷ map Some (keys_seen seen)) key
+optional_among None seen h = inl refl
+optional_among (Some key) seen h = inr (map_among Some (keys_seen seen) key (key_among key seen (there (is_key_there key seen) h)))
+  where
+    there : (b : Bool) → not b ≡ false → b ≡ true
+    there true h = refl
+    there false h = sym h
+
+-- 4. What is left by keys has one of the hashes
+
+pub pair_among : (name : List ℕ) (seen : TagAttributes) (i : Instruction) → is_left_by_keys name seen i ≡ true → Contains (pair_hashes name seen) (pair_hash_of i)
+pair_among name seen i h =
+    let parts = and_parts (is_left_by_name name i) (not (lacks_key (keys_of i).attribute seen)) h in
+    let key = optional_among (keys_of i).attribute seen (negated (lacks_key (keys_of i).attribute seen) parts.1) in
+    contains_from_among (pair_hashes name seen) (pair_hash_of i)
+    (flat_map_among (both_hashes (after_name None) (after_name (Some name))) (None ∷ map Some (keys_seen seen)) (keys_of i).attribute (pair_hash_of i) key (by_key (key_is (keys_of i).name name parts.0)))
+  where
+    negated : (b : Bool) → not b ≡ true → b ≡ false
+    negated true h = sym h
+    negated false h = refl
+
+    by_key : unnamed_or (keys_of i).name name → Among (both_hashes (after_name None) (after_name (Some name)) (keys_of i).attribute) (pair_hash_of i)
+    by_key (inl is) = inl (sym (ap (λ o. hash_of_pair o (keys_of i).attribute) is))
+    by_key (inr is) = inr (inl (sym (ap (λ o. hash_of_pair o (keys_of i).attribute) is)))
+
+-- 5. Bytes that are given one by one
+
+pub bytes_hashed : (hasher : DefaultHasher) (bytes : List ℕ) → fold byte_hashed hasher bytes ≡ sip.write hasher bytes
+unfolding sip.write
+bytes_hashed hasher [] = refl
+bytes_hashed hasher (byte ∷ bytes) = bytes_hashed (byte_hashed hasher byte) bytes
+
+pub byte_more : (hasher : DefaultHasher) (bytes : List ℕ) (byte : ℕ) → fold byte_hashed hasher (bytes ++ byte ∷ []) ≡ byte_hashed (fold byte_hashed hasher bytes) byte
+byte_more hasher [] byte = refl
+byte_more hasher (first ∷ bytes) byte = byte_more (byte_hashed hasher first) bytes byte
+
+-- 6. Attributes by their places
+
+abbrev pub name_there : List Attribute → ℕ → Option (List ℕ)
+name_there attributes place = option_map (λ (a : Attribute). a.name) (slice_get attributes place)
+
+pub attribute_at : (attributes : List Attribute) (place : ℕ) (name : List ℕ) → name_there attributes place ≡ Some name → (a : Attribute) × (place < length attributes) × (a ≡ get_or attributes place a) × (a.name ≡ name)
+attribute_at [] place name h = cc
+attribute_at (a ∷ more) zero name h = (a, omega arith, refl, some_is h)
+attribute_at (a ∷ more) (suc k) name h = let r = attribute_at more k name h in (r.0, omega (arith, r.1), r.2, r.3)
+
+pub none_there : (attributes : List Attribute) (place : ℕ) → name_there attributes place ≡ None → length attributes ≤ place
+none_there [] place h = omega arith
+none_there (a ∷ more) zero h = cc
+none_there (a ∷ more) (suc k) h = let r = none_there more k h in omega (arith, r)
+
+-- both hashes of a name are added
+pub name_added : (unnamed named : DefaultHasher) (attributes : List Attribute) (place : ℕ) (name : List ℕ) (one other : ℕ) (old before first second : List ℕ) → name_there attributes place ≡ Some name
+    → before ≡ old ++ flat_map (λ (a : Attribute). both_hashes unnamed named (Some (ByAttribute (lowercased a.name)))) (take place attributes)
+    → one ≡ hash_after unnamed (Some (ByAttribute (lowercased name))) → other ≡ hash_after named (Some (ByAttribute (lowercased name)))
+    → first ≡ before ++ one ∷ [] → second ≡ first ++ other ∷ []
+    → second ≡ old ++ flat_map (λ (a : Attribute). both_hashes unnamed named (Some (ByAttribute (lowercased a.name)))) (take (place + 1) attributes)
+name_added unnamed named attributes place name one other old before first second there so is_one is_other one_more other_more =
+    let at = attribute_at attributes place name there in
+    let f : Attribute → List ℕ = λ a. both_hashes unnamed named (Some (ByAttribute (lowercased a.name))) in
+    other_more ∙ ap (λ l. l ++ other ∷ []) one_more ∙ append_assoc before (one ∷ []) (other ∷ [])
+    ∙ (λ i. before ++ is_one i ∷ is_other i ∷ [])
+    ∙ ap (λ n. before ++ both_hashes unnamed named (Some (ByAttribute (lowercased n)))) (sym at.3)
+    ∙ flat_more f attributes place at.0 old before at.1 at.2 so
+
+-- 7. All hashes of a tag, added part by part
+
+pub pairs_added : (unnamed named : DefaultHasher) (name : List ℕ) (seen : TagAttributes) (id class : Option (List ℕ)) (old first second third last : List ℕ)
+    → unnamed ≡ after_name None → named ≡ after_name (Some name) → id ≡ value_in (codes "id") seen → class ≡ value_in (codes "class") seen
+    → first ≡ old ++ both_hashes unnamed named None
+    → second ≡ first ++ flat_map (λ value. both_hashes unnamed named (Some (ById value))) (option_to_list id)
+    → third ≡ second ++ flat_map (λ word. both_hashes unnamed named (Some (ByClass word))) (words_of class)
+    → last ≡ third ++ flat_map (λ (a : Attribute). both_hashes unnamed named (Some (ByAttribute (lowercased a.name)))) seen.attributes
+    → last ≡ old ++ pair_hashes name seen
+pairs_added unnamed named name seen id class old first second third last is_unnamed is_named is_id is_class none ids classes names =
+    names
+    ∙ ap (λ l. l ++ flat_map (λ (a : Attribute). both_hashes unnamed named (Some (ByAttribute (lowercased a.name)))) seen.attributes)
+    (classes
+    ∙ ap (λ l. l ++ flat_map (λ word. both_hashes unnamed named (Some (ByClass word))) (words_of class))
+    (ids ∙ ap (λ l. l ++ flat_map (λ value. both_hashes unnamed named (Some (ById value))) (option_to_list id)) none))
+    ∙ (λ i. (((old ++ both_hashes (is_unnamed i) (is_named i) None) ++ flat_map (λ value. both_hashes (is_unnamed i) (is_named i) (Some (ById value))) (option_to_list (is_id i)))
+    ++ flat_map (λ word. both_hashes (is_unnamed i) (is_named i) (Some (ByClass word))) (words_of (is_class i)))
+    ++ flat_map (λ (a : Attribute). both_hashes (is_unnamed i) (is_named i) (Some (ByAttribute (lowercased a.name)))) seen.attributes)
+    ∙ pairs_are (both_hashes (after_name None) (after_name (Some name))) seen old
