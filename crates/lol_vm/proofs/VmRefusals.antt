@@ -164,13 +164,12 @@ on_err (Err e) p = p
 pub record KeepsRest {E : Type 0} (old new : Vm E) : Type 0 where
   pub stack : new.stack ≡ old.stack
   pub program : new.program ≡ old.program
-  pub switch : new.enable_esi_tags ≡ old.enable_esi_tags
 
 pub requested_keeps : {E : Type 0} (ctx : ExecutionCtx E) (point : RecoveryPoint) (old new : Vm E) (result : Result (Unit {0}) (VmError E)) → IsRequested ctx point old new result → KeepsRest old new
 requested_keeps ctx point old new (Ok done) h = absurd h
-requested_keeps ctx point old new (Err (InfoRequest request)) h = record { stack = ap (λ (v : Vm _). v.stack) h.1; program = ap (λ (v : Vm _). v.program) h.1; switch = ap (λ (v : Vm _). v.enable_esi_tags) h.1 }
+requested_keeps ctx point old new (Err (InfoRequest request)) h = record { stack = ap (λ (v : Vm _). v.stack) h.1; program = ap (λ (v : Vm _). v.program) h.1 }
 requested_keeps ctx point old new (Err (MemoryLimitExceeded error)) h = absurd h
-requested_keeps ctx point old new (Err (Memory error)) h = record { stack = ap (λ (v : Vm _). v.stack) h; program = ap (λ (v : Vm _). v.program) h; switch = ap (λ (v : Vm _). v.enable_esi_tags) h }
+requested_keeps ctx point old new (Err (Memory error)) h = record { stack = ap (λ (v : Vm _). v.stack) h; program = ap (λ (v : Vm _). v.program) h }
 requested_keeps ctx point old new (Err CounterFull) h = absurd h
 requested_keeps ctx point old new (Err Failed) h = absurd h
 
@@ -273,8 +272,8 @@ refused_push_isnt (pushes.Memory e) r is = (λ failed. cc, λ full. cc)
 
 module _ {E : Type 0} where
   -- the stack is alike, as where an element couldn't be opened
-  pub alike_opens_nothing : {name : Option Name} (vm new : Vm E) {before now : Limiter} → IsSame vm.stack new.stack → new.program ≡ vm.program → new.enable_esi_tags ≡ vm.enable_esi_tags → now ≡ before → OpensNothing name vm new before now
-  alike_opens_nothing vm new alike program switch uncharged = record {
+  pub alike_opens_nothing : {name : Option Name} (vm new : Vm E) {before now : Limiter} → IsSame vm.stack new.stack → new.program ≡ vm.program → now ≡ before → OpensNothing name vm new before now
+  alike_opens_nothing vm new alike program uncharged = record {
     uncharged = uncharged;
     slots = ap (λ (v : LimitedVec (StackItemOf Name E)). v.slots) alike.items;
     unchanged = ap (λ (v : LimitedVec (StackItemOf Name E)). element_data_of v.items) alike.items;
@@ -282,13 +281,13 @@ module _ {E : Type 0} where
   }
 
   -- it is the same
-  pub same_opens_nothing : {name : Option Name} (vm new : Vm E) (limiter : Limiter) → new.stack ≡ vm.stack → new.program ≡ vm.program → new.enable_esi_tags ≡ vm.enable_esi_tags → OpensNothing name vm new limiter limiter
-  same_opens_nothing vm new limiter stack program switch = alike_opens_nothing vm new (subst (IsSame vm.stack) (sym stack) (same_stack vm.stack)) program switch refl
+  pub same_opens_nothing : {name : Option Name} (vm new : Vm E) (limiter : Limiter) → new.stack ≡ vm.stack → new.program ≡ vm.program → OpensNothing name vm new limiter limiter
+  same_opens_nothing vm new limiter stack program = alike_opens_nothing vm new (subst (IsSame vm.stack) (sym stack) (same_stack vm.stack)) program refl
 
   -- a start tag was counted
   pub counted_opens_nothing : (vm : Vm E) (name : Name) (stack : StackOf Name StackNames E) → stack ≡ counted_in vm.stack name → last_count vm.stack < full_count → slots_in stack ≡ slots_in vm.stack
-      → (new : Vm E) → new.stack ≡ stack → new.program ≡ vm.program → new.enable_esi_tags ≡ vm.enable_esi_tags → (limiter : Limiter) → OpensNothing (Some name) vm new limiter limiter
-  counted_opens_nothing vm name stack ok room slots new is program switch limiter = record {
+      → (new : Vm E) → new.stack ≡ stack → new.program ≡ vm.program → (limiter : Limiter) → OpensNothing (Some name) vm new limiter limiter
+  counted_opens_nothing vm name stack ok room slots new is program limiter = record {
     uncharged = refl;
     slots = ap slots_in is ∙ slots;
     unchanged = ap (λ (s : StackOf Name StackNames E). element_data_of (items_in s)) (is ∙ ok) ∙ counted_data vm.stack name;

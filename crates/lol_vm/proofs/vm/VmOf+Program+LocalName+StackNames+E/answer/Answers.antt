@@ -23,4 +23,4 @@ returns-clause-charges g c =
 pub returns-clause-left : goal.returns-clause-left
 returns-clause-left g c =
     let told = c.open_element-pushed.ensures in
-    on_err_both c.open_element-pushed.result (λ alike uncharged. alike_opens_nothing c.args.self.now _ alike refl refl uncharged) told.err told.err_limiter
+    on_err_both c.open_element-pushed.result (λ alike uncharged. alike_opens_nothing c.args.self.now _ alike refl uncharged) told.err told.err_limiter

@@ -12,7 +12,7 @@ pub returns-then-self : goal.returns-then-self
 returns-then-self g c = record {
   begun = tt;
   name = refl;
-  left = λ limiter. same_opens_nothing c.args.self.now _ limiter refl refl refl;
+  left = λ limiter. same_opens_nothing c.args.self.now _ limiter refl refl;
   bytes = refl;
   failed = record { exactly = (λ is. cc, λ failed. refl); stuck = λ failed. refl };
   full = (λ is. cc, λ full. cc);
@@ -29,7 +29,7 @@ returns-in-Err g c =
     record {
       begun = tt;
       name = refl;
-      left = λ limiter. same_opens_nothing c.args.self.now _ limiter c.in-Err.ensures.err refl refl;
+      left = λ limiter. same_opens_nothing c.args.self.now _ limiter c.in-Err.ensures.err refl;
       bytes = c.add_child.ensures.slots.1;
       failed = stays_unfailed (λ is. isnt.0 cc) (λ failed. cc);
       full = (
@@ -56,7 +56,7 @@ returns-in-Err-try_start g c =
       begun = tt;
       name = c.try_start.ensures.name;
       left = counted_opens_nothing c.args.self.now c.args.ctx.now.stack_item.local_name c.add_child.new.self counted.ok counted.room c.add_child.ensures.slots.0 c.try_start.new.self
-          (ap (λ (v : Vm _). v.stack) is) (ap (λ (v : Vm _). v.program) is) (ap (λ (v : Vm _). v.enable_esi_tags) is);
+          (ap (λ (v : Vm _). v.stack) is) (ap (λ (v : Vm _). v.program) is);
       bytes = ap (λ (v : Vm _). slot_bytes v) is ∙ c.add_child.ensures.slots.1;
       failed = stays_unfailed (λ is. cc) (λ failed. cc);
       full = (λ is. cc, λ full. absurd (omega (arith, counted.room, full.1)));
@@ -89,7 +89,7 @@ returns-in-Ok g c =
       };
       name = c.try_start.ensures.name;
       left = counted_opens_nothing c.args.self.now c.args.ctx.now.stack_item.local_name c.add_child.new.self counted.ok counted.room c.add_child.ensures.slots.0 c.try_start.new.self
-          (ap (λ (v : Vm _). v.stack) is) (ap (λ (v : Vm _). v.program) is) (ap (λ (v : Vm _). v.enable_esi_tags) is);
+          (ap (λ (v : Vm _). v.stack) is) (ap (λ (v : Vm _). v.program) is);
       bytes = ap (λ (v : Vm _). slot_bytes v) is ∙ c.add_child.ensures.slots.1;
       failed = stays_unfailed (λ is. cc) (λ failed. cc);
       full = (λ is. cc, λ full. absurd (omega (arith, counted.room, full.1)));

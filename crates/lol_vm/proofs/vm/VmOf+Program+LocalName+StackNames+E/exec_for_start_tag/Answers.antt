@@ -53,7 +53,7 @@ returns-in-Some g c =
     let result = c.request.result in
     let requested = c.request.ensures.requested in
     let rest = requested_keeps _ _ _ c.request.new.self result requested in
-    let kept = same_opens_nothing {name = None} c.begin.new.self c.request.new.self c.args.limiter.now rest.stack rest.program rest.switch in
+    let kept = same_opens_nothing {name = None} c.begin.new.self c.request.new.self c.args.limiter.now rest.stack rest.program in
     record {
       again = c.requires;
       answered = requested_ok _ _ _ c.request.new.self _ result requested;

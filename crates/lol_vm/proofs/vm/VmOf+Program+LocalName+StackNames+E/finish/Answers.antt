@@ -14,7 +14,7 @@ use Rattle.lol_vm.proofs.vm.VmOf+Program+LocalName+StackNames+E.finish.Goals as 
 -- 1. It was refused before it was reported
 
 pub returns-in-Err-clause-left : goal.returns-in-Err-clause-left
-returns-in-Err-clause-left g c = same_opens_nothing c.args.self.now _ c.args.limiter.now refl refl refl
+returns-in-Err-clause-left g c = same_opens_nothing c.args.self.now _ c.args.limiter.now refl refl
 
 pub returns-in-Err-clause-free : goal.returns-in-Err-clause-free
 returns-in-Err-clause-free g c = λ s esi events tag pending takes.
@@ -78,7 +78,7 @@ returns-clause-answered g c =
 
 pub returns-clause-left : goal.returns-clause-left
 returns-clause-left g c =
-    on_err_weaker c.answer.result (opens_nothing_both (same_opens_nothing c.args.self.now (record c.args.self.now { tries = c.complete.new.tries }) c.args.limiter.now refl refl refl)) c.answer.ensures.left
+    on_err_weaker c.answer.result (opens_nothing_both (same_opens_nothing c.args.self.now (record c.args.self.now { tries = c.complete.new.tries }) c.args.limiter.now refl refl)) c.answer.ensures.left
 
 pub returns-clause-limited : goal.returns-clause-limited
 returns-clause-limited g c = λ limit.
