@@ -6,8 +6,8 @@ ghost use Rattle.lol_vm.specs.Views.{HasRangesInside};
 
 use lol_reasons::{Explainer, Reason, Texts};
 use lol_vm::{
-    AuxStartTagInfo, LocalName, MatchInfo, Namespace, Selector, SelectorMatchingVm,
-    SharedMemoryLimiter, TagEvent,
+    Ast, AuxStartTagInfo, LocalName, MatchId, MatchInfo, Namespace, Selector, SelectorError,
+    SelectorMatchingVm, SharedMemoryLimiter, TagEvent,
 };
 use plain_matcher::{PlainReason, PlainText, events_of, plain_reasons};
 use std::alloc::{AllocError, Global};
@@ -117,11 +117,15 @@ impl Explained<'_> {
                 ..
             } => self.start(number, LocalName::new(name), *ns, *aux_info),
             TagEvent::End { name } => {
-                let mut handler = |element: Numbered| drop(element);
-                self.vm.exec_for_end_tag(LocalName::new(name), &mut handler);
+                self.end(name);
                 Ok(Vec::new(self.alloc))
             }
         }
+    }
+
+    fn end(&mut self, name: &[u8]) {
+        let mut handler = |element: Numbered| drop(element);
+        self.vm.exec_for_end_tag(LocalName::new(name), &mut handler);
     }
 
     fn start(
@@ -133,10 +137,32 @@ impl Explained<'_> {
     ) -> Result<Vec<Reason>, Fail>
         requires { RangesAreInside aux_info }
     {
+        let numbers = self.open_numbers()?;
+        let matched = self.report(name, ns, aux_info)?;
+        if self.vm.open_elements() > numbers.len() {
+            self.number_last(number);
+        }
+        Ok(self.explain(&matched, number, &numbers)?)
+    }
+
+    /// The numbers of the open elements.
+    fn open_numbers(&self) -> Result<Vec<usize>, AllocError> {
         let mut numbers = Vec::new(self.alloc);
         for item in self.vm.open_items() {
             numbers.push(item.element_data.value)?;
         }
+        Ok(numbers)
+    }
+
+    /// What the machine reports a start tag under.
+    fn report(
+        &mut self,
+        name: LocalName<'_>,
+        ns: Namespace,
+        aux_info: AuxStartTagInfo<'_>,
+    ) -> Result<Vec<MatchId>, Fail>
+        requires { RangesAreInside aux_info }
+    {
         let mut matched = Vec::new(self.alloc);
         let mut handler = |info: MatchInfo| {
             let _ = matched.push(info.match_id);
@@ -144,13 +170,19 @@ impl Explained<'_> {
         let told = self
             .vm
             .exec_for_whole_start_tag(name, ns, aux_info, self.limiter, &mut handler);
-        if told.is_err() {
-            return Err(Fail::from("a tag was refused"));
+        match told {
+            Ok(_) => Ok(matched),
+            Err(_) => Err(Fail::from("a tag was refused")),
         }
-        if self.vm.open_elements() > numbers.len() {
-            self.number_last(number);
-        }
-        Ok(self.explainer.reasons(self.vm, &matched, number, &numbers)?)
+    }
+
+    fn explain(
+        &self,
+        matched: &[MatchId],
+        number: usize,
+        numbers: &[usize],
+    ) -> Result<Vec<Reason>, AllocError> {
+        self.explainer.reasons(self.vm, matched, number, numbers)
     }
 
     fn number_last(&mut self, number: usize) {
@@ -180,21 +212,27 @@ fn reasons_of(
     let Ok(mut numbering) = texts_of(alloc, texts)?.number_items() else {
         return Err(Fail::from("the items were not numbered"));
     };
-    let mut limiter = SharedMemoryLimiter::new(1_000_000);
-    let mut vm: SelectorMatchingVm<Numbered> = SelectorMatchingVm::new(
+    tell_machine(
         alloc,
         numbering.ast,
-        64,
-        false,
-    )?;
-    let told = tell_all(
-        alloc,
-        &mut vm,
-        &mut limiter,
         &mut numbering.explainer,
         indexed,
         events,
-    );
+    )
+}
+
+fn tell_machine(
+    alloc: Global,
+    ast: Ast,
+    explainer: &mut Explainer,
+    indexed: bool,
+    events: &[TagEvent<'_>],
+) -> Result<Vec<Vec<Reason>>, Fail>
+    requires { All HasRangesInside events.now }
+{
+    let mut limiter = SharedMemoryLimiter::new(1_000_000);
+    let mut vm: SelectorMatchingVm<Numbered> = SelectorMatchingVm::new(alloc, ast, 64, false)?;
+    let told = tell_all(alloc, &mut vm, &mut limiter, explainer, indexed, events);
     vm.discard();
     told
 }
@@ -253,12 +291,22 @@ fn are_expected(reasons: &[Reason], expected: &[Expected]) -> bool {
     same
 }
 
+/// The reasons for each tag.
+fn reasons_of_tags(
+    alloc: Global,
+    texts: &[(&str, u32)],
+    indexed: bool,
+    tags: &[TagWord<'_>],
+) -> Result<Vec<Vec<Reason>>, Fail> {
+    let attributes = attributes_of(alloc, tags)?;
+    let events = events_of(alloc, tags, &attributes)?;
+    reasons_of(alloc, texts, indexed, &events)
+}
+
 fn last_has(alloc: Global, indexed: bool, row: &Row) -> Result<bool, Fail> {
     let ((texts, tags), expected) = *row;
     let words = words_of(alloc, tags)?;
-    let attributes = attributes_of(alloc, &words)?;
-    let events = events_of(alloc, &words, &attributes)?;
-    let told = reasons_of(alloc, texts, indexed, &events)?;
+    let told = reasons_of_tags(alloc, texts, indexed, &words)?;
     Ok(match told.last() {
         Some(reasons) => are_expected(reasons, expected),
         None => false,
@@ -304,14 +352,18 @@ impl Drawn {
     fn push_item(&mut self, text: &mut String) -> Result<(), AllocError> {
         text.push_str(self.word(COMPOUNDS))?;
         for _step in 0..self.random.below(4) {
-            text.push_str(if self.random.below(2) == 0 {
-                " "
-            } else {
-                " > "
-            })?;
+            text.push_str(self.step())?;
             text.push_str(self.word(COMPOUNDS))?;
         }
         Ok(())
+    }
+
+    fn step(&mut self) -> &'static str {
+        if self.random.below(2) == 0 {
+            " "
+        } else {
+            " > "
+        }
     }
 
     /// A list of one to three of them.
@@ -343,24 +395,38 @@ impl Drawn {
     }
 }
 
-/// The reasons by the definitions.
-fn plainly(
-    alloc: Global,
-    texts: &[(&str, u32)],
-    events: &[TagEvent<'_>],
-) -> Result<Vec<Vec<PlainReason>>, Fail>
-    requires { All HasRangesInside events.now }
-{
+fn parsed(alloc: Global, texts: &[(&str, u32)]) -> Result<Vec<Selector>, SelectorError> {
     let mut parsed = Vec::new(alloc);
     for (text, _) in texts {
         parsed.push(Selector::from_str(alloc, text)?)?;
     }
+    Ok(parsed)
+}
+
+/// These selectors, each as a text under its id.
+fn plain_texts<'p>(
+    alloc: Global,
+    parsed: &'p [Selector],
+    texts: &[(&str, u32)],
+) -> Result<Vec<PlainText<'p>>, AllocError> {
     let mut plain_texts = Vec::new(alloc);
     for (selector, (_, id)) in parsed.iter().zip(texts) {
         plain_texts.push(PlainText { id: *id, selector })?;
     }
+    Ok(plain_texts)
+}
+
+/// The reasons by the definitions.
+fn plainly(
+    alloc: Global,
+    texts: &[(&str, u32)],
+    plain_texts: &[PlainText<'_>],
+    tags: &[TagWord<'_>],
+) -> Result<Vec<Vec<PlainReason>>, Fail> {
     let ast = selectors(alloc, texts)?;
-    Ok(plain_reasons(alloc, &ast, false, &plain_texts, events)?)
+    let attributes = attributes_of(alloc, tags)?;
+    let events = events_of(alloc, tags, &attributes)?;
+    Ok(plain_reasons(alloc, &ast, false, plain_texts, &events)?)
 }
 
 fn are_plain(told: &[Reason], plain: &[PlainReason]) -> bool {
@@ -371,6 +437,17 @@ fn are_plain(told: &[Reason], plain: &[PlainReason]) -> bool {
             .all(|(one, other)| is_plain(one, other))
 }
 
+/// Expects these reasons of each tag. Answers how many there are.
+fn expect_plain(rt: &impl Abort, told: &[Vec<Reason>], plain: &[Vec<PlainReason>]) -> usize {
+    assert!(rt; told.len() == plain.len());
+    let mut count = 0usize;
+    for (place, (told, plain)) in told.iter().zip(plain).enumerate() {
+        assert!(rt; are_plain(told, plain), "tag {place}");
+        count = count.saturating_add(told.len());
+    }
+    count
+}
+
 /// Expects the reasons that the definitions have. Answers how many there are.
 fn compare(
     rt: &impl Abort,
@@ -379,17 +456,19 @@ fn compare(
     indexed: bool,
     tags: &[TagWord<'_>],
 ) -> Result<usize, Fail> {
-    let attributes = attributes_of(alloc, tags)?;
-    let events = events_of(alloc, tags, &attributes)?;
-    let told = reasons_of(alloc, texts, indexed, &events)?;
-    let plain = plainly(alloc, texts, &events)?;
-    assert!(rt; told.len() == plain.len());
-    let mut count = 0usize;
-    for (place, (told, plain)) in told.iter().zip(&plain).enumerate() {
-        assert!(rt; are_plain(told, plain), "tag {place}");
-        count = count.saturating_add(told.len());
+    let told = reasons_of_tags(alloc, texts, indexed, tags)?;
+    let parsed = parsed(alloc, texts)?;
+    let plain_texts = plain_texts(alloc, &parsed, texts)?;
+    let plain = plainly(alloc, texts, &plain_texts, tags)?;
+    Ok(expect_plain(rt, &told, &plain))
+}
+
+fn pairs_of(alloc: Global, lists: &[(String, u32)]) -> Result<Vec<(&str, u32)>, AllocError> {
+    let mut texts = Vec::new(alloc);
+    for (text, id) in lists {
+        texts.push((text.as_str(), *id))?;
     }
-    Ok(count)
+    Ok(texts)
 }
 
 fn compare_drawn(rt: &impl Abort, alloc: Global, seed: u64, size: Size) -> Result<usize, Fail> {
@@ -397,10 +476,7 @@ fn compare_drawn(rt: &impl Abort, alloc: Global, seed: u64, size: Size) -> Resul
         random: Random::new(seed),
     };
     let lists = drawn.lists(alloc, size.selectors)?;
-    let mut texts = Vec::new(alloc);
-    for (text, id) in &lists {
-        texts.push((text.as_str(), *id))?;
-    }
+    let texts = pairs_of(alloc, &lists)?;
     let tags = drawn.tags(alloc, size.tags)?;
     compare(rt, alloc, &texts, seed % 2 == 0, &tags)
 }
@@ -428,11 +504,15 @@ fn agree_on_short_documents(rt: HostRuntime) -> Result<(), Fail> {
     Ok(())
 }
 
-#[test]
-fn of_rows(rt: HostRuntime) -> Result<(), Fail> {
-    for (number, row) in ROWS.iter().enumerate() {
-        assert!(rt; last_has(rt.alloc(), false, row)?, "row {number}");
-        assert!(rt; last_has(rt.alloc(), true, row)?, "row {number}");
+fn check_rows(rt: &impl Abort, alloc: Global, rows: &[Row]) -> Result<(), Fail> {
+    for (number, row) in rows.iter().enumerate() {
+        assert!(rt; last_has(alloc, false, row)?, "row {number}");
+        assert!(rt; last_has(alloc, true, row)?, "row {number}");
     }
     Ok(())
+}
+
+#[test]
+fn of_rows(rt: HostRuntime) -> Result<(), Fail> {
+    check_rows(&rt, rt.alloc(), &ROWS)
 }

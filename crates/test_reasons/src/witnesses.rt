@@ -72,24 +72,60 @@ fn opened(
     Ok(item)
 }
 
-fn has_witness(alloc: Global, row: &Row) -> Result<bool, Fail> {
-    let (texts, matched, id, expected) = row;
-    let program = Compiler::new(alloc).compile(selectors(alloc, texts)?)?;
+fn program_of(alloc: Global, texts: &[(&str, u32)]) -> Result<Program, Fail> {
+    let ast = selectors(alloc, texts)?;
+    Ok(Compiler::new(alloc).compile(ast)?)
+}
+
+/// Open elements, each of which these nodes matched.
+fn all_opened(
+    alloc: Global,
+    program: &Program,
+    matched: &[&[usize]],
+) -> Result<Vec<StackItem<'static, Numbered>>, AllocError> {
     let mut open_elements = Vec::new(alloc);
+    for nodes in matched {
+        open_elements.push(opened(alloc, program, nodes)?)?;
+    }
+    Ok(open_elements)
+}
+
+/// The numbers from 0, as many as this.
+fn numbers_up_to(alloc: Global, count: usize) -> Result<Vec<usize>, AllocError> {
     let mut numbers = Vec::new(alloc);
-    for (number, nodes) in matched.iter().enumerate() {
-        open_elements.push(opened(alloc, &program, nodes)?)?;
+    for number in 0..count {
         numbers.push(number)?;
     }
+    Ok(numbers)
+}
+
+/// Whether this is the witness of the tag that comes after those of these elements.
+fn is_witness(
+    alloc: Global,
+    program: &Program,
+    id: u32,
+    open_elements: &[StackItem<'static, Numbered>],
+    numbers: &[usize],
+    expected: &[usize],
+) -> Result<bool, AllocError> {
     let number = numbers.len();
     if open_elements.len() != number {
         return Ok(false);
     }
-    let found = witness_under(alloc, &program, *id, number, &open_elements, &numbers)?;
-    Ok(match found {
-        Some(witness) => witness.as_slice() == *expected,
-        None => false,
-    })
+    Ok(
+        match witness_under(alloc, program, id, number, open_elements, numbers)? {
+            Some(witness) => witness.as_slice() == expected,
+            None => false,
+        },
+    )
+}
+
+fn has_witness(alloc: Global, row: &Row) -> Result<bool, Fail> {
+    let (texts, matched, id, expected) = *row;
+    let program = program_of(alloc, texts)?;
+    let open_elements = all_opened(alloc, &program, matched)?;
+    let numbers = numbers_up_to(alloc, matched.len())?;
+    Ok(is_witness(alloc, &program, id, &open_elements, &numbers, expected)?)
 }
 
 #[test]
@@ -100,13 +136,22 @@ fn are_found_by_ranges(rt: HostRuntime) -> Result<(), Fail> {
     Ok(())
 }
 
+/// Whether no selector has this id, and so no witness.
+fn has_none(alloc: Global, program: &Program, id: u32) -> Result<bool, AllocError> {
+    let none: [StackItem<'static, Numbered>; 0] = [];
+    Ok(witness_under(alloc, program, id, 0, &none, &[])?.is_none())
+}
+
+/// Whether the witness of a tag, without open elements, is its own number.
+fn is_alone(alloc: Global, program: &Program, numbers: &[usize]) -> Result<bool, AllocError> {
+    let none: [StackItem<'static, Numbered>; 0] = [];
+    Ok(witness_of(alloc, program, 0, 3, &none, numbers)?.as_slice() == [3].as_slice())
+}
+
 #[test]
 fn of_no_node(rt: HostRuntime) -> Result<(), Fail> {
-    let alloc = rt.alloc();
-    let program = Compiler::new(alloc).compile(selectors(alloc, &[("p", 0)])?)?;
-    let none: Vec<StackItem<'static, Numbered>> = Vec::new(alloc);
-    assert!(rt; witness_under(alloc, &program, 1, 0, &none, &[])?.is_none());
-    assert!(rt; witness_of(alloc, &program, 0, 3, &none, &[])?.as_slice() == [3].as_slice());
-    assert!(rt; witness_of(alloc, &program, 0, 3, &none, &[2])?.as_slice() == [3].as_slice());
+    let program = program_of(rt.alloc(), &[("p", 0)])?;
+    assert!(rt; has_none(rt.alloc(), &program, 1)?);
+    assert!(rt; is_alone(rt.alloc(), &program, &[])? && is_alone(rt.alloc(), &program, &[2])?);
     Ok(())
 }
