@@ -3,7 +3,8 @@
 ghost use Rattle.std.specs.Prelude.{All};
 ghost use Rattle.lol_vm.specs.Views.{HasRangesInside};
 
-use lol_vm::{Ast, Namespace, Selector, SharedMemoryLimiter, TagEvent, TagReport, match_events};
+use crate::told::reports_of_events;
+use lol_vm::{Ast, Namespace, Selector, SelectorError, TagEvent, TagReport};
 use plain_matcher::{PlainAnswer, events_of, plain_answers};
 use std::alloc::{AllocError, Global};
 use std::process::Abort;
@@ -28,6 +29,11 @@ const FIRST_PARTS: &str = "* a b p br |a a b";
 const SECOND_PARTS: &str =
     "- - - .x .y #i [h] [h=v] [h~='w'i] [h^=v] [h$='W'i] [h*='-'] [h|=v] :first-child :nth-child(2n+1) :nth-child(-n+3) \
     :nth-of-type(2) :first-of-type :not(a) :not(.x,p) :not(:nth-of-type(2n)) :is(a,.x) :where(b,[h=v]) :is(:not(.x),p)";
+
+fn add(alloc: Global, ast: &mut Ast, text: &str, match_id: u32) -> Result<(), SelectorError> {
+    let selector = Selector::from_str(alloc, text)?;
+    Ok(ast.add_selector(&selector, match_id)?)
+}
 
 /// Selectors and tags that are drawn.
 #[derive(Drop)]
@@ -71,8 +77,7 @@ impl Drawn {
         let mut ast = Ast::new(alloc);
         for _selector in 0..SELECTORS {
             let text = self.selector(alloc)?;
-            let selector = Selector::from_str(alloc, &text)?;
-            ast.add_selector(&selector, self.below(40))?;
+            add(alloc, &mut ast, &text, self.below(40))?;
         }
         Ok(ast)
     }
@@ -144,6 +149,17 @@ fn expect_agreement(rt: &impl Abort, seed: u64, reports: &[TagReport], told: &[P
     }
 }
 
+fn answered(
+    alloc: Global,
+    ast: &Ast,
+    enable_esi_tags: bool,
+    events: &[TagEvent<'_>],
+) -> Result<Vec<PlainAnswer>, AllocError>
+    requires { All HasRangesInside events.now }
+{
+    plain_answers(alloc, ast, enable_esi_tags, events)
+}
+
 fn compare_events(
     rt: &impl Abort,
     alloc: Global,
@@ -153,12 +169,8 @@ fn compare_events(
 ) -> Result<(), Fail>
     requires { All HasRangesInside events.now }
 {
-    let told = plain_answers(alloc, &ast, has_esi(seed), events)?;
-    let mut limiter = SharedMemoryLimiter::new(1_000_000);
-    let Ok(reports) = match_events(alloc, ast, 64, has_esi(seed), events, &mut limiter) else {
-        return Err(Fail::from("the run was refused"));
-    };
-    assert!(rt; limiter.current_usage() == 0);
+    let told = answered(alloc, &ast, has_esi(seed), events)?;
+    let reports = reports_of_events(alloc, ast, has_esi(seed), events)?;
     expect_agreement(rt, seed, &reports, &told);
     Ok(())
 }

@@ -5,7 +5,7 @@ use plain_matcher::{PlainAnswer, events_of, plain_answers};
 use std::alloc::{AllocError, Global};
 use std::process::Abort;
 use std::test::Fail;
-use test_kit::{attributes_of, selectors, words_of};
+use test_kit::{TagWord, attributes_of, selectors, words_of};
 
 const DIGITS: [char; 10] = ['0', '1', '2', '3', '4', '5', '6', '7', '8', '9'];
 
@@ -67,6 +67,17 @@ fn write_answer(text: &mut String, answer: &PlainAnswer) -> Result<(), AllocErro
     text.push(' ')
 }
 
+fn plainly(
+    alloc: Global,
+    ast: &Ast,
+    enable_esi_tags: bool,
+    tags: &[TagWord<'_>],
+) -> Result<Vec<PlainAnswer>, AllocError> {
+    let attributes = attributes_of(alloc, tags)?;
+    let events = events_of(alloc, tags, &attributes)?;
+    plain_answers(alloc, ast, enable_esi_tags, &events)
+}
+
 /// The answers to tags, written one after the other.
 fn answers(
     alloc: Global,
@@ -75,10 +86,8 @@ fn answers(
     tags: &str,
 ) -> Result<String, AllocError> {
     let words = words_of(alloc, tags)?;
-    let attributes = attributes_of(alloc, &words)?;
-    let events = events_of(alloc, &words, &attributes)?;
     let mut text = String::new(alloc);
-    for answer in &plain_answers(alloc, ast, enable_esi_tags, &events)? {
+    for answer in &plainly(alloc, ast, enable_esi_tags, &words)? {
         write_answer(&mut text, answer)?;
     }
     Ok(text)
@@ -100,6 +109,13 @@ fn check(
 
 /// Selectors under ids, tags, and the answers to them.
 type Row = (&'static [(&'static str, u32)], &'static str, &'static str);
+
+fn check_all(rt: &impl Abort, alloc: Global, rows: &[Row]) -> Result<(), Fail> {
+    for (texts, tags, wanted) in rows {
+        check(rt, alloc, texts, false, tags, wanted)?;
+    }
+    Ok(())
+}
 
 /// Selectors by names.
 const NAMES: [Row; 4] = [
@@ -127,11 +143,7 @@ const NAMES: [Row; 4] = [
 
 #[test]
 fn answers_names(rt: HostRuntime) -> Result<(), Fail> {
-    let alloc = rt.alloc();
-    for (texts, tags, wanted) in &NAMES {
-        check(&rt, alloc, texts, false, tags, wanted)?;
-    }
-    Ok(())
+    check_all(&rt, rt.alloc(), &NAMES)
 }
 
 /// Selectors by attributes.
@@ -161,11 +173,7 @@ const ATTRIBUTES: [Row; 5] = [
 
 #[test]
 fn answers_attributes(rt: HostRuntime) -> Result<(), Fail> {
-    let alloc = rt.alloc();
-    for (texts, tags, wanted) in &ATTRIBUTES {
-        check(&rt, alloc, texts, false, tags, wanted)?;
-    }
-    Ok(())
+    check_all(&rt, rt.alloc(), &ATTRIBUTES)
 }
 
 /// Selectors by places, and of foreign elements.
@@ -191,13 +199,10 @@ const PLACES_AND_NAMESPACES: [Row; 5] = [
 
 #[test]
 fn answers_places_and_namespaces(rt: HostRuntime) -> Result<(), Fail> {
-    let alloc = rt.alloc();
-    for (texts, tags, wanted) in &PLACES_AND_NAMESPACES {
-        check(&rt, alloc, texts, false, tags, wanted)?;
-    }
+    check_all(&rt, rt.alloc(), &PLACES_AND_NAMESPACES)?;
     check(
         &rt,
-        alloc,
+        rt.alloc(),
         &[("*", 0)],
         true,
         "esi:include ESI:INCLUDE /esi:include",

@@ -1,8 +1,14 @@
 //! What the machine answers to tags as words.
 
-use lol_vm::{RunStop, SharedMemoryLimiter, TagReport, match_each_event, match_events};
+ghost use Rattle.std.specs.Prelude.{All};
+ghost use Rattle.lol_vm.specs.Views.{HasRangesInside};
+
+use lol_base::Attributes;
+use lol_vm::{
+    Ast, RunStop, SharedMemoryLimiter, TagEvent, TagReport, match_each_event, match_events,
+};
 use plain_matcher::events_of;
-use std::alloc::Global;
+use std::alloc::{AllocError, Global};
 use std::process::Abort;
 use std::test::Fail;
 use test_kit::{TagWord, attributes_of, selectors, words_of};
@@ -26,11 +32,24 @@ pub(crate) fn reports_of_tags(
     tags: &[TagWord<'_>],
 ) -> Result<Vec<TagReport>, Fail> {
     let attributes = attributes_of(alloc, tags)?;
-    let events = events_of(alloc, tags, &attributes)?;
     let ast = selectors(alloc, texts)?;
+    let events = events_of(alloc, tags, &attributes)?;
+    reports_of_events(alloc, ast, enable_esi_tags, &events)
+}
+
+/// The same for events.
+pub(crate) fn reports_of_events(
+    alloc: Global,
+    ast: Ast,
+    enable_esi_tags: bool,
+    events: &[TagEvent<'_>],
+) -> Result<Vec<TagReport>, Fail>
+    requires { All HasRangesInside events.now }
+{
     let mut limiter = SharedMemoryLimiter::new(1_000_000);
-    match match_events(alloc, ast, 64, enable_esi_tags, &events, &mut limiter) {
-        Ok(reports) => Ok(reports),
+    match match_events(alloc, ast, 64, enable_esi_tags, events, &mut limiter) {
+        Ok(reports) if limiter.current_usage() == 0 => Ok(reports),
+        Ok(_) => Err(Fail::from("some bytes are still in use")),
         Err(_) => Err(Fail::from("the run was refused")),
     }
 }
@@ -45,14 +64,46 @@ pub(crate) fn stop_of(
 ) -> Result<Option<RunStop>, Fail> {
     let words = vec![in alloc; TagWord::of("d"); depth]?;
     let attributes = attributes_of(alloc, &words)?;
-    let events = events_of(alloc, &words, &attributes)?;
-    let ast = selectors(alloc, &[("*", 0)])?;
     let mut limiter = SharedMemoryLimiter::new(maximum);
     assert!(rt; limiter.increase_usage(usage).is_ok());
-    let mut handler = |report: TagReport| drop(report);
-    let answered = match_each_event(alloc, ast, 64, false, &events, &mut limiter, &mut handler);
+    let stop = stop_of_tags(alloc, &words, &attributes, &mut limiter)?;
     assert!(rt; limiter.current_usage() == usage);
-    Ok(answered.err())
+    Ok(stop)
+}
+
+fn stop_of_tags(
+    alloc: Global,
+    tags: &[TagWord<'_>],
+    attributes: &[Attributes],
+    limiter: &mut SharedMemoryLimiter,
+) -> Result<Option<RunStop>, Fail> {
+    let ast = selectors(alloc, &[("*", 0)])?;
+    let events = events_of(alloc, tags, attributes)?;
+    Ok(stop_of_events(alloc, ast, &events, limiter))
+}
+
+fn stop_of_events(
+    alloc: Global,
+    ast: Ast,
+    events: &[TagEvent<'_>],
+    limiter: &mut SharedMemoryLimiter,
+) -> Option<RunStop>
+    requires { All HasRangesInside events.now }
+{
+    let mut handler = |report: TagReport| drop(report);
+    match_each_event(alloc, ast, 64, false, events, limiter, &mut handler).err()
+}
+
+/// These texts under the ids from 0.
+pub(crate) fn numbered<'t>(
+    alloc: Global,
+    texts: &'t [String],
+) -> Result<Vec<(&'t str, u32)>, AllocError> {
+    let mut numbered = Vec::new(alloc);
+    for (text, id) in texts.iter().zip(0..) {
+        numbered.push((text.as_str(), id))?;
+    }
+    Ok(numbered)
 }
 
 /// Whether a report is of a start tag under these ids, with content or without, or of an end tag that closes these elements.

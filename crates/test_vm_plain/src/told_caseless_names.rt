@@ -1,7 +1,8 @@
 //! Attributes whose values compare without case in HTML, told to the machine.
 
-use crate::told::{reports, tells};
-use std::alloc::Global;
+use crate::told::{numbered, reports, tells};
+use lol_vm::TagReport;
+use std::alloc::{AllocError, Global};
 use std::process::Abort;
 use std::test::Fail;
 
@@ -19,8 +20,47 @@ const EXACT: &str =
         content summary size tabindex check selecte bg colors \
     rels re tex background cite span";
 
-/// Expects under which ids elements of HTML, and of SVG and MathML, are reported that have these attributes with the value `text`: it is compared
-/// with `TEXT`, without a flag, under 0, with the flag `s` under 1, and with the flag `i` under 2, and with `text` under 3.
+/// What the value `text` is compared with: `TEXT` without a flag, with the flag `s` and with the flag `i`, and `text`.
+const COMPARED: [&str; 4] = ["TEXT", "TEXT s", "TEXT i", "text"];
+
+fn text_of(alloc: Global, name: &str, compared: &str) -> Result<String, AllocError> {
+    format!(in alloc; "[{name}={compared}]")
+}
+
+/// A text for each comparison.
+fn texts_of(alloc: Global, name: &str) -> Result<Vec<String>, AllocError> {
+    let mut texts = Vec::new(alloc);
+    for compared in &COMPARED {
+        texts.push(text_of(alloc, name, compared)?)?;
+    }
+    Ok(texts)
+}
+
+fn tags_of(alloc: Global, name: &str) -> Result<String, AllocError> {
+    format!(in alloc; "a@{name}=text svg:a@{name}=text math:a@{name}=text")
+}
+
+/// What the machine answers to an element of HTML, of SVG and of MathML whose attribute of this name has the value `text`.
+fn reports_of_name(alloc: Global, name: &str) -> Result<Vec<TagReport>, Fail> {
+    let texts = texts_of(alloc, name)?;
+    let texts = numbered(alloc, &texts)?;
+    let tags = tags_of(alloc, name)?;
+    reports(alloc, &texts, false, &tags)
+}
+
+/// Whether these are reports of three elements, the first under ids of its own.
+fn are_told(told: &[TagReport], in_html: &[usize], elsewhere: &[usize]) -> bool {
+    match told {
+        [html, svg, mathml] => {
+            tells(html, in_html, true)
+                && tells(svg, elsewhere, true)
+                && tells(mathml, elsewhere, true)
+        }
+        _ => false,
+    }
+}
+
+/// Expects under which of the comparisons elements of HTML, and of SVG and MathML, are reported that have these attributes.
 fn expect_ids(
     rt: &impl Abort,
     alloc: Global,
@@ -29,24 +69,8 @@ fn expect_ids(
     elsewhere: &[usize],
 ) -> Result<(), Fail> {
     for name in names.split_whitespace() {
-        let plain = format!(in alloc; "[{name}=TEXT]")?;
-        let exact = format!(in alloc; "[{name}=TEXT s]")?;
-        let caseless = format!(in alloc; "[{name}=TEXT i]")?;
-        let same = format!(in alloc; "[{name}=text]")?;
-        let texts = [
-            (plain.as_str(), 0),
-            (exact.as_str(), 1),
-            (caseless.as_str(), 2),
-            (same.as_str(), 3),
-        ];
-        let tags = format!(in alloc; "a@{name}=text svg:a@{name}=text math:a@{name}=text")?;
-        let told = reports(alloc, &texts, false, &tags)?;
-        assert!(rt; told.len() == 3, "{name}");
-        assert!(rt; tells(&told[0], in_html, true), "{name}");
-        assert!(rt;
-            tells(&told[1], elsewhere, true) && tells(&told[2], elsewhere, true),
-            "{name}"
-        );
+        let told = reports_of_name(alloc, name)?;
+        assert!(rt; are_told(&told, in_html, elsewhere), "{name}");
     }
     Ok(())
 }

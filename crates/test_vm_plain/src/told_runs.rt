@@ -2,6 +2,7 @@
 
 use crate::told::{reports, stop_of, tells};
 use lol_vm::{RunCause, RunStop, TagReport};
+use std::alloc::Global;
 use std::process::Abort;
 use std::test::Fail;
 
@@ -130,28 +131,37 @@ fn expect_told(rt: &impl Abort, told: &[TagReport], tags: &str, wanted: &[&[usiz
     }
 }
 
-#[test]
-fn report_what_matches(rt: HostRuntime) -> Result<(), Fail> {
-    for (texts, tags, wanted) in ROWS {
-        let told = reports(rt.alloc(), texts, false, tags)?;
-        expect_told(&rt, &told, tags, wanted);
+fn check(rt: &impl Abort, alloc: Global, rows: &[Row]) -> Result<(), Fail> {
+    for (texts, tags, wanted) in rows {
+        let told = reports(alloc, texts, false, tags)?;
+        expect_told(rt, &told, tags, wanted);
     }
     Ok(())
+}
+
+#[test]
+fn report_what_matches(rt: HostRuntime) -> Result<(), Fail> {
+    check(&rt, rt.alloc(), &ROWS)
 }
 
 fn was_asked(report: &TagReport) -> bool {
     matches!(report, TagReport::Started { asked: true, .. })
 }
 
+/// Whether the attributes of each tag were asked for or not, as it is said.
+fn were_asked(told: &[TagReport], wanted: &[bool]) -> bool {
+    told.iter()
+        .map(|report| was_asked(report))
+        .eq(wanted.iter().copied())
+}
+
 /// Attributes are asked for where a node needs them whose left part matches, and a tag whose attributes aren't asked for isn't dropped.
 #[test]
 fn ask_where_a_node_needs_it(rt: HostRuntime) -> Result<(), Fail> {
-    let texts = [("div .b", 0), ("p", 1)];
     let tags = "p! /p div p p!";
-    let told = reports(rt.alloc(), &texts, false, tags)?;
+    let told = reports(rt.alloc(), &[("div .b", 0), ("p", 1)], false, tags)?;
     expect_told(&rt, &told, tags, &[&[1], &[0], &[], &[1], &[]]);
-    let asked = told.iter().map(|report| was_asked(report));
-    assert!(rt; asked.eq([false, false, false, true, false].iter().copied()));
+    assert!(rt; were_asked(&told, &[false, false, false, true, false]));
     Ok(())
 }
 
@@ -164,15 +174,26 @@ const LIMITS: [(usize, usize, Option<usize>); 5] = [
     (1124, 17, Some(16)),
 ];
 
+/// Whether a run of this depth, with 100 bytes in use, is refused at this tag, or at none.
+fn stops_at(
+    rt: &impl Abort,
+    alloc: Global,
+    maximum: usize,
+    depth: usize,
+    refused: Option<usize>,
+) -> Result<bool, Fail> {
+    let stop = refused.map(|event| RunStop {
+        event,
+        cause: RunCause::MemoryLimitExceeded,
+    });
+    Ok(stop_of(rt, alloc, maximum, 100, depth)? == stop)
+}
+
 #[test]
 fn stop_where_a_limit_is_passed(rt: HostRuntime) -> Result<(), Fail> {
-    for (maximum, depth, refused) in LIMITS {
-        let stop = refused.map(|event| RunStop {
-            event,
-            cause: RunCause::MemoryLimitExceeded,
-        });
+    for (maximum, depth, refused) in &LIMITS {
         assert!(rt;
-            stop_of(&rt, rt.alloc(), maximum, 100, depth)? == stop,
+            stops_at(&rt, rt.alloc(), *maximum, *depth, *refused)?,
             "{maximum}"
         );
     }

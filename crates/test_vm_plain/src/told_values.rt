@@ -1,7 +1,8 @@
 //! Values of attributes, told to the machine.
 
-use crate::told::{reports_of_tags, tells};
-use std::alloc::Global;
+use crate::told::{numbered, reports_of_tags, tells};
+use lol_vm::TagReport;
+use std::alloc::{AllocError, Global};
 use std::process::Abort;
 use std::test::Fail;
 use test_kit::TagWord;
@@ -31,6 +32,14 @@ const WORDS: [(&str, &[usize]); 9] = [
     ("a\u{a0}b", &[]),
 ];
 
+/// Whether these are the reports of one tag, under these ids.
+fn is_one(told: &[TagReport], wanted: &[usize]) -> bool {
+    match told {
+        [report] => tells(report, wanted, true),
+        _ => false,
+    }
+}
+
 /// Expects the ids under which an `a` with an attribute is reported.
 fn expect_ids(
     rt: &impl Abort,
@@ -45,40 +54,50 @@ fn expect_ids(
         ..TagWord::of("a")
     };
     let told = reports_of_tags(alloc, texts, false, &[tag])?;
-    assert!(rt;
-        told.len() == 1 && tells(&told[0], wanted, true),
-        "{value:?}"
-    );
+    assert!(rt; is_one(&told, wanted), "{value:?}");
     Ok(())
+}
+
+/// The operators of `OPERATORS`.
+const SIGNS: [&str; 6] = ["=", "~=", "|=", "^=", "$=", "*="];
+
+fn text_of(alloc: Global, sign: &str, operand: &str) -> Result<String, AllocError> {
+    format!(in alloc; "[t{sign}{operand}]")
+}
+
+/// A text for each operator.
+fn texts_of(alloc: Global, operand: &str) -> Result<Vec<String>, AllocError> {
+    let mut texts = Vec::new(alloc);
+    for sign in &SIGNS {
+        texts.push(text_of(alloc, sign, operand)?)?;
+    }
+    Ok(texts)
+}
+
+fn check_operand(
+    rt: &impl Abort,
+    alloc: Global,
+    value: &str,
+    operand: &str,
+    wanted: &[usize],
+) -> Result<(), Fail> {
+    let texts = texts_of(alloc, operand)?;
+    let texts = numbered(alloc, &texts)?;
+    expect_ids(rt, alloc, &texts, "t", value, wanted)
 }
 
 #[test]
 fn stand_to_operands(rt: HostRuntime) -> Result<(), Fail> {
-    let alloc = rt.alloc();
-    for (value, operand, wanted) in OPERATORS {
-        let whole = format!(in alloc; "[t={operand}]")?;
-        let word = format!(in alloc; "[t~={operand}]")?;
-        let dash = format!(in alloc; "[t|={operand}]")?;
-        let prefix = format!(in alloc; "[t^={operand}]")?;
-        let suffix = format!(in alloc; "[t$={operand}]")?;
-        let part = format!(in alloc; "[t*={operand}]")?;
-        let texts = [
-            (whole.as_str(), 0),
-            (word.as_str(), 1),
-            (dash.as_str(), 2),
-            (prefix.as_str(), 3),
-            (suffix.as_str(), 4),
-            (part.as_str(), 5),
-        ];
-        expect_ids(&rt, alloc, &texts, "t", value, wanted)?;
+    for (value, operand, wanted) in &OPERATORS {
+        check_operand(&rt, rt.alloc(), value, operand, wanted)?;
     }
     Ok(())
 }
 
 #[test]
 fn are_parted_by_white_space(rt: HostRuntime) -> Result<(), Fail> {
-    for (value, wanted) in WORDS {
-        let texts = [(".b", 0), ("[class~=b]", 1)];
+    let texts = [(".b", 0), ("[class~=b]", 1)];
+    for (value, wanted) in &WORDS {
         expect_ids(&rt, rt.alloc(), &texts, "class", value, wanted)?;
     }
     Ok(())
