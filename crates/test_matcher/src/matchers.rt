@@ -2,20 +2,69 @@
 
 use lol_matcher::{
     AddError, AttributeBuffer, AttributeOutline, Attributes, AuxStartTagInfo, Bytes, ElementValue,
-    ErrorLocation, Matcher, MatcherError, Namespace, Range, SelectorError, Started,
+    ErrorLocation, Matcher, MatcherBuilder, MatcherError, Namespace, Range, SelectorError, Started,
 };
-use std::alloc::Global;
+use std::alloc::{AllocError, Global};
 use std::process::Abort;
 use std::test::Fail;
 
-/// A matcher for selectors under the ids from 0, with at most so many bytes.
-fn matcher(alloc: Global, texts: &[&str], max_memory: usize) -> Result<Matcher, Fail> {
+/// Adds a text under an id.
+fn add(builder: &mut MatcherBuilder, id: u32, text: &str) -> Result<(), AddError> {
+    builder.add(id, text)
+}
+
+/// Selectors under ids.
+fn builder_of(alloc: Global, texts: &[(&str, u32)]) -> Result<MatcherBuilder, AddError> {
     let mut builder = Matcher::builder(alloc);
-    builder.max_memory(max_memory);
-    for (text, id) in texts.iter().zip(0..) {
-        builder.add(id, text)?;
+    for (text, id) in texts {
+        add(&mut builder, *id, text)?;
     }
-    Ok(builder.build()?)
+    Ok(builder)
+}
+
+/// The same, with at most so many bytes, and so many for each element.
+fn limited_builder(
+    alloc: Global,
+    texts: &[(&str, u32)],
+    max_memory: usize,
+    element_bytes: usize,
+) -> Result<MatcherBuilder, AddError> {
+    let mut builder = builder_of(alloc, texts)?;
+    builder.max_memory(max_memory);
+    builder.element_bytes(element_bytes);
+    Ok(builder)
+}
+
+/// A matcher with at most so many bytes, and so many for each element.
+fn matcher(
+    alloc: Global,
+    texts: &[(&str, u32)],
+    max_memory: usize,
+    element_bytes: usize,
+) -> Result<Matcher, Fail> {
+    Ok(limited_builder(alloc, texts, max_memory, element_bytes)?.build()?)
+}
+
+// The calls with the longest contracts stand in functions that promise nothing, so that no test carries along what they say.
+
+fn start(matcher: &mut Matcher, name: &str, ns: Namespace) -> Result<Started, MatcherError> {
+    matcher.start(name.as_bytes(), ns)
+}
+
+fn finish_with(matcher: &mut Matcher, aux_info: AuxStartTagInfo<'_>) -> Result<(), MatcherError> {
+    matcher.finish(aux_info)
+}
+
+fn finish(
+    matcher: &mut Matcher,
+    attributes: &Attributes,
+    self_closing: bool,
+) -> Result<(), MatcherError> {
+    finish_with(matcher, attributes.aux_info(self_closing))
+}
+
+fn end(matcher: &mut Matcher, name: &str) {
+    matcher.end(name.as_bytes());
 }
 
 /// Whether a matcher's last report has exactly these ids.
@@ -28,63 +77,102 @@ fn has_ids(matcher: &Matcher, ids: &[u32]) -> bool {
 }
 
 /// Tells of a start tag of HTML whose attributes aren't asked for: whether it is reported under these ids.
-fn reports(matcher: &mut Matcher, name: &[u8], ids: &[u32]) -> bool {
-    matcher.start(name, Namespace::Html) == Ok(Started::Reported) && has_ids(matcher, ids)
+fn reports(matcher: &mut Matcher, name: &str, ids: &[u32]) -> bool {
+    start(matcher, name, Namespace::Html) == Ok(Started::Reported) && has_ids(matcher, ids)
 }
 
 /// Tells of a start tag whose attributes are asked for: whether nothing is reported before they come.
-fn waits(matcher: &mut Matcher, name: &[u8], ns: Namespace) -> bool {
-    matcher.start(name, ns) == Ok(Started::NeedsAttributes) && has_ids(matcher, &[])
+fn waits(matcher: &mut Matcher, name: &str, ns: Namespace) -> bool {
+    start(matcher, name, ns) == Ok(Started::NeedsAttributes) && has_ids(matcher, &[])
+}
+
+/// Tells of a start tag of HTML: whether it is refused for this.
+fn refuses(matcher: &mut Matcher, name: &str, error: MatcherError) -> bool {
+    start(matcher, name, Namespace::Html) == Err(error)
+}
+
+/// Tells of a start tag and then of its attributes, which are asked for: whether it is reported under these ids.
+fn reports_asked(
+    matcher: &mut Matcher,
+    (name, ns): (&str, Namespace),
+    attributes: &Attributes,
+    self_closing: bool,
+    ids: &[u32],
+) -> bool {
+    waits(matcher, name, ns)
+        && finish(matcher, attributes, self_closing).is_ok()
+        && has_ids(matcher, ids)
+}
+
+/// Whether no tag waits for attributes.
+fn waits_for_none(matcher: &mut Matcher, attributes: &Attributes) -> bool {
+    finish(matcher, attributes, false) == Err(MatcherError::NotAsked)
+}
+
+/// Whether nothing is reported of an end tag.
+fn reports_no_end(matcher: &mut Matcher, name: &str) -> bool {
+    end(matcher, name);
+    has_ids(matcher, &[])
+}
+
+/// Whether `div`, its link and what comes behind it are reported, one tag after the other.
+fn goes_on(matcher: &mut Matcher, attributes: &Attributes) -> bool {
+    reports(matcher, "div", &[])
+        && reports_asked(matcher, ("a", Namespace::Html), attributes, false, &[0, 1])
+        && matcher.tries().names() == 4
+        && waits_for_none(matcher, attributes)
+        && reports_no_end(matcher, "div")
+        && reports(matcher, "p", &[])
+        && !matcher.has_failed()
 }
 
 #[test]
 fn goes_tag_by_tag(rt: HostRuntime) -> Result<(), Fail> {
-    let alloc = rt.alloc();
-    let mut matcher = matcher(alloc, &["div > p, div a", "a[href]"], 100_000)?;
-    let mut attributes = Attributes::new(alloc);
-    attributes.push(b"href", None)?;
-    assert!(rt; reports(&mut matcher, b"div", &[]));
-    assert!(rt; waits(&mut matcher, b"a", Namespace::Html));
-    matcher.finish(attributes.aux_info(false))?;
-    assert!(rt; has_ids(&matcher, &[0, 1]));
-    assert!(rt; matcher.tries().names() == 4);
-    assert!(rt; matcher.finish(attributes.aux_info(false)) == Err(MatcherError::NotAsked));
-    matcher.end(b"div");
-    assert!(rt; has_ids(&matcher, &[]));
-    assert!(rt; reports(&mut matcher, b"p", &[]));
-    assert!(rt; !matcher.has_failed());
+    let attributes = written(rt.alloc(), b"href", None)?;
+    let mut matcher = matcher(
+        rt.alloc(),
+        &[("div > p, div a", 0), ("a[href]", 1)],
+        100_000,
+        64,
+    )?;
+    assert!(rt; goes_on(&mut matcher, &attributes));
     Ok(())
+}
+
+/// One attribute.
+fn written(alloc: Global, name: &[u8], value: Option<&[u8]>) -> Result<Attributes, AllocError> {
+    let mut attributes = Attributes::new(alloc);
+    attributes.push(name, value)?;
+    Ok(attributes)
+}
+
+/// Whether `div`, whose attributes are asked for, is refused for want of room, and nothing is answered from then on.
+fn is_refused(matcher: &mut Matcher, none: &Attributes) -> bool {
+    waits(matcher, "div", Namespace::Html)
+        && finish(matcher, none, false) == Err(MatcherError::MemoryLimitExceeded)
+        && has_ids(matcher, &[])
+        && matcher.has_failed()
+        && refuses(matcher, "br", MatcherError::Failed)
+        && finish(matcher, none, false) == Err(MatcherError::Failed)
 }
 
 #[test]
 fn refuses_past_the_limit(rt: HostRuntime) -> Result<(), Fail> {
-    let alloc = rt.alloc();
-    let mut matcher = matcher(alloc, &["div", ".a"], 512)?;
-    let none = Attributes::new(alloc);
+    let none = Attributes::new(rt.alloc());
+    let mut matcher = matcher(rt.alloc(), &[("div", 0), (".a", 1)], 512, 64)?;
     for _ in 0..8 {
-        assert!(rt; waits(&mut matcher, b"div", Namespace::Html));
-        matcher.finish(none.aux_info(false))?;
-        assert!(rt; has_ids(&matcher, &[0]));
+        assert!(rt; reports_asked(&mut matcher, ("div", Namespace::Html), &none, false, &[0]));
     }
-    assert!(rt; waits(&mut matcher, b"div", Namespace::Html));
-    let refused = matcher.finish(none.aux_info(false));
-    assert!(rt; refused == Err(MatcherError::MemoryLimitExceeded) && has_ids(&matcher, &[]));
-    assert!(rt; matcher.has_failed());
-    assert!(rt; matcher.start(b"br", Namespace::Html) == Err(MatcherError::Failed));
-    assert!(rt; matcher.finish(none.aux_info(false)) == Err(MatcherError::Failed));
-    matcher.end(b"div");
+    assert!(rt; is_refused(&mut matcher, &none));
+    end(&mut matcher, "div");
     assert!(rt; matcher.has_failed());
     Ok(())
 }
 
 #[test]
 fn refuses_where_no_attributes_are_asked_for(rt: HostRuntime) -> Result<(), Fail> {
-    let mut builder = Matcher::builder(rt.alloc());
-    builder.add(7, "p")?;
-    builder.max_memory(7_999);
-    builder.element_bytes(1_000);
-    let mut matcher = builder.build()?;
-    assert!(rt; matcher.start(b"p", Namespace::Html) == Err(MatcherError::MemoryLimitExceeded));
+    let mut matcher = matcher(rt.alloc(), &[("p", 7)], 7_999, 1_000)?;
+    assert!(rt; refuses(&mut matcher, "p", MatcherError::MemoryLimitExceeded));
     assert!(rt; matcher.has_failed() && has_ids(&matcher, &[]));
     Ok(())
 }
@@ -99,58 +187,71 @@ fn past_the_end(alloc: Global) -> Result<AttributeBuffer, Fail> {
     Ok(vec![in alloc; outline]?)
 }
 
-#[test]
-fn keeps_a_tag_whose_ranges_lie_outside(rt: HostRuntime) -> Result<(), Fail> {
-    let alloc = rt.alloc();
-    let mut matcher = matcher(alloc, &["[a=b]"], 100_000)?;
-    let attributes = past_the_end(alloc)?;
+/// Whether attributes outside the input `a=b` are refused.
+fn refuses_outside(matcher: &mut Matcher, attributes: &AttributeBuffer) -> bool {
     let outside = AuxStartTagInfo {
         input: Bytes::new(b"a=b"),
-        attr_buffer: &attributes,
+        attr_buffer: attributes,
         self_closing: false,
     };
-    assert!(rt; matcher.finish(outside) == Err(MatcherError::OutsideInput));
-    assert!(rt; waits(&mut matcher, b"p", Namespace::Html));
-    assert!(rt; matcher.finish(outside) == Err(MatcherError::OutsideInput));
-    let mut inside = Attributes::new(alloc);
-    inside.push(b"a", Some(b"b"))?;
-    matcher.finish(inside.aux_info(false))?;
+    finish_with(matcher, outside) == Err(MatcherError::OutsideInput)
+}
+
+#[test]
+fn keeps_a_tag_whose_ranges_lie_outside(rt: HostRuntime) -> Result<(), Fail> {
+    let outside = past_the_end(rt.alloc())?;
+    let inside = written(rt.alloc(), b"a", Some(b"b"))?;
+    let mut matcher = matcher(rt.alloc(), &[("[a=b]", 0)], 100_000, 64)?;
+    assert!(rt; refuses_outside(&mut matcher, &outside));
+    assert!(rt; waits(&mut matcher, "p", Namespace::Html));
+    assert!(rt; refuses_outside(&mut matcher, &outside));
+    assert!(rt; finish(&mut matcher, &inside, false).is_ok());
     assert!(rt; has_ids(&matcher, &[0]) && !matcher.has_failed());
     Ok(())
 }
 
+/// Whether a tag that waits is dropped by the next tag, and by an end tag.
+fn drops(matcher: &mut Matcher, none: &Attributes) -> bool {
+    reports(matcher, "div", &[])
+        && waits(matcher, "i", Namespace::Html)
+        && reports(matcher, "b", &[0])
+        && waits_for_none(matcher, none)
+        && reports_no_end(matcher, "div")
+        && waits(matcher, "i", Namespace::Html)
+        && reports_no_end(matcher, "i")
+        && waits_for_none(matcher, none)
+}
+
 #[test]
 fn drops_a_tag_that_waits(rt: HostRuntime) -> Result<(), Fail> {
-    let alloc = rt.alloc();
-    let mut matcher = matcher(alloc, &["b:nth-child(2)", "i.a", "i b"], 100_000)?;
-    let none = Attributes::new(alloc);
-    assert!(rt; reports(&mut matcher, b"div", &[]));
-    assert!(rt; waits(&mut matcher, b"i", Namespace::Html));
-    assert!(rt; reports(&mut matcher, b"b", &[0]));
-    assert!(rt; matcher.finish(none.aux_info(false)) == Err(MatcherError::NotAsked));
-    matcher.end(b"div");
-    assert!(rt; waits(&mut matcher, b"i", Namespace::Html));
-    matcher.end(b"i");
-    assert!(rt; matcher.finish(none.aux_info(false)) == Err(MatcherError::NotAsked));
+    let none = Attributes::new(rt.alloc());
+    let texts = [("b:nth-child(2)", 0), ("i.a", 1), ("i b", 2)];
+    let mut matcher = matcher(rt.alloc(), &texts, 100_000, 64)?;
+    assert!(rt; drops(&mut matcher, &none));
     Ok(())
+}
+
+/// A matcher that knows the names of ESI.
+fn with_esi(alloc: Global, texts: &[(&str, u32)]) -> Result<Matcher, Fail> {
+    let mut builder = builder_of(alloc, texts)?;
+    builder.enable_esi_tags(true);
+    Ok(builder.build()?)
+}
+
+/// Whether an element of this name has no content: `b` isn't inside it.
+fn is_void(matcher: &mut Matcher, name: &str) -> bool {
+    reports(matcher, name, &[]) && reports(matcher, "b", &[])
 }
 
 #[test]
 fn knows_namespaces_and_void_names(rt: HostRuntime) -> Result<(), Fail> {
-    let alloc = rt.alloc();
-    let mut builder = Matcher::builder(alloc);
-    builder.add(0, "br b, rect b, esi\\:include b")?;
-    builder.add(1, "svg > rect")?;
-    builder.enable_esi_tags(true);
-    let mut matcher = builder.build()?;
-    let none = Attributes::new(alloc);
-    assert!(rt; reports(&mut matcher, b"BR", &[]) && reports(&mut matcher, b"b", &[]));
-    assert!(rt; reports(&mut matcher, b"esi:include", &[]) && reports(&mut matcher, b"b", &[]));
-    assert!(rt; waits(&mut matcher, b"svg", Namespace::Svg));
-    matcher.finish(none.aux_info(false))?;
-    assert!(rt; waits(&mut matcher, b"rect", Namespace::Svg));
-    matcher.finish(none.aux_info(true))?;
-    assert!(rt; has_ids(&matcher, &[1]) && reports(&mut matcher, b"b", &[]));
+    let none = Attributes::new(rt.alloc());
+    let texts = [("br b, rect b, esi\\:include b", 0), ("svg > rect", 1)];
+    let mut matcher = with_esi(rt.alloc(), &texts)?;
+    assert!(rt; is_void(&mut matcher, "BR") && is_void(&mut matcher, "esi:include"));
+    assert!(rt; reports_asked(&mut matcher, ("svg", Namespace::Svg), &none, false, &[]));
+    assert!(rt; reports_asked(&mut matcher, ("rect", Namespace::Svg), &none, true, &[1]));
+    assert!(rt; reports(&mut matcher, "b", &[]));
     Ok(())
 }
 
@@ -176,68 +277,107 @@ impl HandedOut {
             let _ = self.ids.push(id);
         }
     }
+
+    fn has_values(&self, values: &[Option<u64>]) -> bool {
+        self.values.as_slice() == values
+    }
+}
+
+/// Tells of a start tag of HTML: whether it is reported, and its element opened or not, as it is said.
+fn opens(matcher: &mut Matcher<u64>, name: &str, opened: bool) -> bool {
+    matcher.start(name.as_bytes(), Namespace::Html) == Ok(Started::Reported)
+        && matcher.has_opened() == opened
+}
+
+/// Gives the last element a value: whether it had this one.
+fn replaces(matcher: &mut Matcher<u64>, value: Option<u64>, before: Option<u64>) -> bool {
+    matcher.replace_value(value) == before
+}
+
+/// Tells of an end tag, and keeps what is handed out.
+fn close(matcher: &mut Matcher<u64>, name: &str, handed_out: &mut HandedOut) {
+    matcher.end_with(name.as_bytes(), &mut |element| handed_out.keep(element));
+}
+
+/// A matcher whose open elements have numbers.
+fn numbering(builder: MatcherBuilder) -> Result<Matcher<u64>, Fail> {
+    Ok(builder.build_with_values::<u64>()?)
+}
+
+/// Whether four elements take values where they are opened, and have had none before.
+fn takes_values(matcher: &mut Matcher<u64>) -> bool {
+    opens(matcher, "div", true)
+        && replaces(matcher, Some(7), None)
+        && opens(matcher, "br", false)
+        && matcher.matches().len() == 1
+        && opens(matcher, "p", true)
+        && replaces(matcher, None, None)
+        && opens(matcher, "i", true)
+        && replaces(matcher, Some(8), None)
+        && replaces(matcher, Some(9), Some(8))
 }
 
 #[test]
 fn hands_out_values_of_closed_elements(rt: HostRuntime) -> Result<(), Fail> {
-    let alloc = rt.alloc();
-    let mut builder = Matcher::builder(alloc);
-    builder.add(3, "div")?;
-    builder.add(4, "div p, br")?;
-    let mut matcher = builder.build_with_values::<u64>()?;
-    assert!(rt; !matcher.has_opened() && matcher.replace_value(Some(1)) == Some(1));
-    assert!(rt; matcher.start(b"div", Namespace::Html) == Ok(Started::Reported));
-    assert!(rt; matcher.has_opened() && matcher.replace_value(Some(7)) == None);
-    assert!(rt; matcher.start(b"br", Namespace::Html) == Ok(Started::Reported));
-    assert!(rt; !matcher.has_opened() && matcher.matches().len() == 1);
-    assert!(rt; matcher.start(b"p", Namespace::Html) == Ok(Started::Reported));
-    assert!(rt; matcher.has_opened() && matcher.replace_value(None) == None);
-    assert!(rt; matcher.start(b"i", Namespace::Html) == Ok(Started::Reported));
-    assert!(rt;
-        matcher.replace_value(Some(8)) == None && matcher.replace_value(Some(9)) == Some(8)
-    );
-    let mut handed_out = HandedOut::new(alloc);
-    matcher.end_with(b"b", &mut |element| handed_out.keep(element));
+    let builder = builder_of(rt.alloc(), &[("div", 3), ("div p, br", 4)])?;
+    let mut matcher = numbering(builder)?;
+    assert!(rt; !matcher.has_opened() && replaces(&mut matcher, Some(1), Some(1)));
+    assert!(rt; takes_values(&mut matcher));
+    let mut handed_out = HandedOut::new(rt.alloc());
+    close(&mut matcher, "b", &mut handed_out);
     assert!(rt; handed_out.values.len() == 0 && !matcher.has_opened());
-    matcher.end_with(b"div", &mut |element| handed_out.keep(element));
-    assert!(rt; handed_out.values.as_slice() == [Some(7), None, Some(9)].as_slice());
+    close(&mut matcher, "div", &mut handed_out);
+    assert!(rt; handed_out.has_values(&[Some(7), None, Some(9)]));
     assert!(rt; handed_out.ids.as_slice() == [3, 4].as_slice());
     Ok(())
 }
 
+/// Whether `p` is refused for want of room, and not opened.
+fn has_no_room(matcher: &mut Matcher<u64>) -> bool {
+    matcher.start(b"p", Namespace::Html) == Err(MatcherError::MemoryLimitExceeded)
+        && matcher.has_failed()
+        && !matcher.has_opened()
+}
+
 #[test]
 fn hands_out_values_after_a_refusal(rt: HostRuntime) -> Result<(), Fail> {
-    let alloc = rt.alloc();
-    let mut builder = Matcher::builder(alloc);
-    builder.add(0, "p")?;
-    builder.max_memory(128);
-    builder.element_bytes(16);
-    let mut matcher = builder.build_with_values::<u64>()?;
+    let builder = limited_builder(rt.alloc(), &[("p", 0)], 128, 16)?;
+    let mut matcher = numbering(builder)?;
     for value in 0..8 {
-        assert!(rt; matcher.start(b"p", Namespace::Html) == Ok(Started::Reported));
-        assert!(rt; matcher.replace_value(Some(value)) == None);
+        assert!(rt; opens(&mut matcher, "p", true) && replaces(&mut matcher, Some(value), None));
     }
-    assert!(rt; matcher.start(b"p", Namespace::Html) == Err(MatcherError::MemoryLimitExceeded));
-    assert!(rt; matcher.has_failed() && !matcher.has_opened());
-    let mut handed_out = HandedOut::new(alloc);
-    matcher.end_with(b"p", &mut |element| handed_out.keep(element));
-    matcher.end_with(b"p", &mut |element| handed_out.keep(element));
-    assert!(rt; handed_out.values.as_slice() == [Some(7), Some(6)].as_slice());
+    assert!(rt; has_no_room(&mut matcher));
+    let mut handed_out = HandedOut::new(rt.alloc());
+    close(&mut matcher, "p", &mut handed_out);
+    close(&mut matcher, "p", &mut handed_out);
+    assert!(rt; handed_out.has_values(&[Some(7), Some(6)]));
     Ok(())
+}
+
+/// Whether a text with a dangling combinator in its second item is refused, with its place.
+fn refuses_text(builder: &mut MatcherBuilder) -> bool {
+    add(builder, 0, "div, p >") == Err(DANGLING)
+}
+
+const DANGLING: AddError = AddError::Refused {
+    cause: SelectorError::DanglingCombinator,
+    location: ErrorLocation { item: 1, offset: 8 },
+};
+
+/// A matcher to which a text was added that is refused, and then `p` under 1.
+fn without_refused(rt: &impl Abort, alloc: Global) -> Result<Matcher, Fail> {
+    let mut builder = Matcher::builder(alloc);
+    assert!(rt; refuses_text(&mut builder));
+    add(&mut builder, 1, "p")?;
+    Ok(builder.build()?)
 }
 
 #[test]
 fn leaves_out_a_text_that_is_refused(rt: HostRuntime) -> Result<(), Fail> {
-    let mut builder = Matcher::builder(rt.alloc());
-    let location = ErrorLocation { item: 1, offset: 8 };
-    let cause = SelectorError::DanglingCombinator;
-    let refused = AddError::Refused { cause, location };
-    assert!(rt; builder.add(0, "div, p >") == Err(refused));
-    let text = format!(in rt.alloc(); "{refused}")?;
+    let text = format!(in rt.alloc(); "{DANGLING}")?;
     assert!(rt; text.as_str() == "Dangling combinator in selector. (item 1, byte 8)");
-    builder.add(1, "p")?;
-    let mut matcher = builder.build()?;
-    assert!(rt; reports(&mut matcher, b"div", &[]) && reports(&mut matcher, b"p", &[1]));
+    let mut matcher = without_refused(&rt, rt.alloc())?;
+    assert!(rt; reports(&mut matcher, "div", &[]) && reports(&mut matcher, "p", &[1]));
     Ok(())
 }
 

@@ -5,6 +5,7 @@ ghost use Rattle.lol_matcher.specs.Answering.{reported_in};
 ghost use Rattle.lol_matcher.specs.Noted.{handed};
 
 use lol_matcher::{Attributes, AuxStartTagInfo, Matcher, MatcherError, Namespace};
+use std::alloc::Global;
 use std::test::Fail;
 
 /// Whether a start tag is reported under some id.
@@ -21,37 +22,33 @@ pub fn is_reported(
     Ok(!matcher.matches().is_empty())
 }
 
-#[test]
-fn tells_whether_a_tag_is_reported(rt: HostRuntime) -> Result<(), Fail> {
-    let alloc = rt.alloc();
+/// Whether a start tag of HTML with these attributes is reported under some id.
+fn reports(
+    matcher: &mut Matcher,
+    name: &str,
+    attributes: &Attributes,
+) -> Result<bool, MatcherError> {
+    is_reported(
+        matcher,
+        name.as_bytes(),
+        Namespace::Html,
+        attributes.aux_info(false),
+    )
+}
+
+fn for_links(alloc: Global) -> Result<Matcher, Fail> {
     let mut builder = Matcher::builder(alloc);
     builder.add(5, "a[href]")?;
-    let mut matcher = builder.build()?;
-    let mut attributes = Attributes::new(alloc);
-    assert!(rt;
-        !is_reported(
-            &mut matcher,
-            b"a",
-            Namespace::Html,
-            attributes.aux_info(false)
-        )?
-    );
+    Ok(builder.build()?)
+}
+
+#[test]
+fn tells_whether_a_tag_is_reported(rt: HostRuntime) -> Result<(), Fail> {
+    let mut attributes = Attributes::new(rt.alloc());
+    let mut matcher = for_links(rt.alloc())?;
+    assert!(rt; reports(&mut matcher, "a", &attributes) == Ok(false));
     attributes.push(b"href", None)?;
-    assert!(rt;
-        is_reported(
-            &mut matcher,
-            b"a",
-            Namespace::Html,
-            attributes.aux_info(false)
-        )?
-    );
-    assert!(rt;
-        !is_reported(
-            &mut matcher,
-            b"p",
-            Namespace::Html,
-            attributes.aux_info(false)
-        )?
-    );
+    assert!(rt; reports(&mut matcher, "a", &attributes) == Ok(true));
+    assert!(rt; reports(&mut matcher, "p", &attributes) == Ok(false));
     Ok(())
 }
