@@ -57,11 +57,7 @@ struct BothNames {
 }
 
 impl BothNames {
-    fn add_key(
-        &self,
-        key: Option<KeyBytes<'_>>,
-        hashes: &mut Vec<u32>,
-    ) -> Result<(), AllocError>
+    fn add_key(&self, key: Option<KeyBytes<'_>>, hashes: &mut Vec<u32>) -> Result<(), AllocError>
         ensures { OnOk result (hashes.new.items ≡ hashes.old.items
             ++ both_hashes self.now.unnamed self.now.named (option_map key_shown key.entry)) }
     {

@@ -9,6 +9,8 @@ mod calls;
 #[cfg(test)]
 mod drawn;
 #[cfg(test)]
+mod page;
+#[cfg(test)]
 mod pages;
 #[cfg(test)]
 mod rows;

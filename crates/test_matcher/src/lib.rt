@@ -4,6 +4,8 @@
 #[cfg(test)]
 mod matchers;
 #[cfg(test)]
+mod page;
+#[cfg(test)]
 mod readme;
 #[cfg(test)]
 mod uses;
