@@ -10,7 +10,7 @@ use lol_vm::{MatchInfo, Namespace, TagEvent};
 use std::alloc::{AllocError, Global};
 use std::process::Abort;
 use std::test::Fail;
-use test_kit::{is_tried, name_of, written_attributes};
+use test_kit::{is_tried, name_of};
 
 /// A document without an end.
 #[derive(Debug, Clone, Copy, PartialEq, Eq)]
@@ -133,15 +133,10 @@ pub(crate) struct Words {
 
 impl Words {
     pub(crate) fn new(alloc: Global) -> Result<Self, Fail> {
-        let mut names = Vec::new(alloc);
-        for number in 0..NAMES {
-            names.push(name_of(alloc, u32::try_from(number).unwrap_or(0))?)?;
-        }
-        let mut attributes = Vec::new(alloc);
-        for count in 0..ATTRIBUTES + 1 {
-            attributes.push(numbered(alloc, count)?)?;
-        }
-        Ok(Words { names, attributes })
+        Ok(Words {
+            names: names_of_all(alloc)?,
+            attributes: attributes_of_all(alloc)?,
+        })
     }
 
     /// The name of a start tag, and how many attributes it has.
@@ -183,17 +178,48 @@ impl Words {
     }
 }
 
-/// So many attributes, `a0` and so on, each without a value.
-fn numbered(alloc: Global, count: usize) -> Result<Attributes, Fail> {
+fn names_of_all(alloc: Global) -> Result<Vec<String>, AllocError> {
+    let mut names = Vec::new(alloc);
+    for number in 0..NAMES {
+        names.push(name_of(alloc, u32::try_from(number).unwrap_or(0))?)?;
+    }
+    Ok(names)
+}
+
+/// The attributes of a tag that has none, of one that has one, and so on.
+fn attributes_of_all(alloc: Global) -> Result<Vec<Attributes>, AllocError> {
+    let mut attributes = Vec::new(alloc);
+    for count in 0..ATTRIBUTES + 1 {
+        attributes.push(numbered(alloc, count)?)?;
+    }
+    Ok(attributes)
+}
+
+fn attribute_name(alloc: Global, number: usize) -> Result<String, AllocError> {
+    format!(in alloc; "a{number}")
+}
+
+fn attribute_names(alloc: Global, count: usize) -> Result<Vec<String>, AllocError> {
     let mut names = Vec::new(alloc);
     for number in 0..count {
-        names.push(format!(in alloc; "a{number}")?)?;
+        names.push(attribute_name(alloc, number)?)?;
     }
-    let mut written: Vec<(&str, Option<&str>)> = Vec::new(alloc);
-    for name in &names {
-        written.push((name.as_str(), None))?;
+    Ok(names)
+}
+
+/// Attributes of these names, each without a value.
+fn without_values(alloc: Global, names: &[String]) -> Result<Attributes, AllocError> {
+    let mut attributes = Attributes::new(alloc);
+    for name in names {
+        attributes.push(name.as_bytes(), None)?;
     }
-    Ok(written_attributes(alloc, &written)?)
+    Ok(attributes)
+}
+
+/// So many attributes, `a0` and so on, each without a value.
+fn numbered(alloc: Global, count: usize) -> Result<Attributes, AllocError> {
+    let names = attribute_names(alloc, count)?;
+    without_values(alloc, &names)
 }
 
 /// The tag of a page for an event.

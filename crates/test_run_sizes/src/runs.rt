@@ -6,7 +6,9 @@ ghost use Rattle.lol_vm.specs.Views.{HasRangesInside};
 
 use crate::documents::{Document, Wanted, Words, is_run, page_tag};
 use lol_examples::{PageTag, ids_of_run, ids_on_page};
-use lol_vm::{SharedMemoryLimiter, TagEvent, TagReport, match_each_event, match_events};
+use lol_vm::{
+    Ast, SelectorError, SharedMemoryLimiter, TagEvent, TagReport, match_each_event, match_events,
+};
 use plain_matcher::{PlainAnswer, plain_answers};
 use std::alloc::{AllocError, Global};
 use std::process::Abort;
@@ -66,35 +68,23 @@ fn are_ids(ids: &[u32], document: Document, count: usize) -> bool {
     at == ids.len()
 }
 
-fn is_matched(alloc: Global, document: Document, events: &[TagEvent<'_>]) -> Result<bool, Fail>
+// Each call stands in a function that promises nothing, so that what compares its answers carries nothing along.
+
+fn matched(alloc: Global, ast: Ast, events: &[TagEvent<'_>]) -> Option<Vec<TagReport>>
     requires { All HasRangesInside events.now }
 {
-    let ast = selectors(alloc, document.selectors())?;
     let mut limiter = SharedMemoryLimiter::new(MOST);
-    let Ok(reports) = match_events(alloc, ast, ITEM_BYTES, false, events, &mut limiter) else {
-        return Ok(false);
-    };
-    let mut all = reports.iter().enumerate();
-    Ok(
-        reports.len() == events.len()
-            && all.all(|(place, report)| is_reported(report, document.wanted(place))),
-    )
+    match_events(alloc, ast, ITEM_BYTES, false, events, &mut limiter).ok()
 }
 
-fn is_handed_out(alloc: Global, document: Document, events: &[TagEvent<'_>]) -> Result<bool, Fail>
+fn handed_out(alloc: Global, ast: Ast, events: &[TagEvent<'_>], reported: &mut Reported) -> bool
     requires { All HasRangesInside events.now }
 {
-    let ast = selectors(alloc, document.selectors())?;
     let mut limiter = SharedMemoryLimiter::new(MOST);
-    let mut reported = Reported {
-        document,
-        count: 0,
-        are_wanted: true,
-    };
     let mut handler = |report: TagReport| {
         reported.take(report);
     };
-    let answered = match_each_event(
+    match_each_event(
         alloc,
         ast,
         ITEM_BYTES,
@@ -102,39 +92,89 @@ fn is_handed_out(alloc: Global, document: Document, events: &[TagEvent<'_>]) -> 
         events,
         &mut limiter,
         &mut handler,
-    );
-    Ok(answered.is_ok() && reported.are_wanted && reported.count == events.len())
+    )
+    .is_ok()
+}
+
+fn told(alloc: Global, ast: &Ast, events: &[TagEvent<'_>]) -> Result<Vec<PlainAnswer>, AllocError>
+    requires { All HasRangesInside events.now }
+{
+    plain_answers(alloc, ast, false, events)
+}
+
+fn ids(alloc: Global, ast: Ast, events: &[TagEvent<'_>]) -> Option<Vec<u32>>
+    requires { All HasRangesInside events.now }
+{
+    let mut limiter = SharedMemoryLimiter::new(MOST);
+    ids_of_run(alloc, ast, events, &mut limiter).ok()
+}
+
+fn page_ids(alloc: Global, ast: Ast, page: &[PageTag<'_>]) -> Option<Vec<u32>>
+    requires { All HasAttributesInside page.now }
+{
+    let mut limiter = SharedMemoryLimiter::new(MOST);
+    ids_on_page(alloc, ast, page, &mut limiter).ok()
+}
+
+fn are_reported(reports: &[TagReport], document: Document) -> bool {
+    reports.iter().enumerate().all(|(place, report)| is_reported(report, document.wanted(place)))
+}
+
+fn are_told(told: &[PlainAnswer], document: Document) -> bool {
+    told.iter()
+        .enumerate()
+        .all(|(place, told)| is_told(told, document.wanted(place)))
+}
+
+fn ast_of(alloc: Global, document: Document) -> Result<Ast, SelectorError> {
+    selectors(alloc, document.selectors())
+}
+
+fn is_matched(alloc: Global, document: Document, events: &[TagEvent<'_>]) -> Result<bool, Fail>
+    requires { All HasRangesInside events.now }
+{
+    Ok(match matched(alloc, ast_of(alloc, document)?, events) {
+        Some(reports) => reports.len() == events.len() && are_reported(&reports, document),
+        None => false,
+    })
+}
+
+fn is_handed_out(alloc: Global, document: Document, events: &[TagEvent<'_>]) -> Result<bool, Fail>
+    requires { All HasRangesInside events.now }
+{
+    let mut reported = Reported {
+        document,
+        count: 0,
+        are_wanted: true,
+    };
+    let answered = handed_out(alloc, ast_of(alloc, document)?, events, &mut reported);
+    Ok(answered && reported.are_wanted && reported.count == events.len())
 }
 
 fn is_plain(alloc: Global, document: Document, events: &[TagEvent<'_>]) -> Result<bool, Fail>
     requires { All HasRangesInside events.now }
 {
-    let ast = selectors(alloc, document.selectors())?;
-    let told = plain_answers(alloc, &ast, false, events)?;
-    let mut all = told.iter().enumerate();
-    Ok(told.len() == events.len() && all.all(|(place, told)| is_told(told, document.wanted(place))))
+    let ast = ast_of(alloc, document)?;
+    let told = told(alloc, &ast, events)?;
+    Ok(told.len() == events.len() && are_told(&told, document))
 }
 
 fn has_ids(alloc: Global, document: Document, events: &[TagEvent<'_>]) -> Result<bool, Fail>
     requires { All HasRangesInside events.now }
 {
-    let ast = selectors(alloc, document.selectors())?;
-    let mut limiter = SharedMemoryLimiter::new(MOST);
-    match ids_of_run(alloc, ast, events, &mut limiter) {
-        Ok(ids) => Ok(are_ids(&ids, document, events.len())),
-        Err(_) => Ok(false),
-    }
+    Ok(match ids(alloc, ast_of(alloc, document)?, events) {
+        Some(ids) => are_ids(&ids, document, events.len()),
+        None => false,
+    })
 }
 
 fn is_page(alloc: Global, document: Document, page: &[PageTag<'_>]) -> Result<bool, Fail>
     requires { All HasAttributesInside page.now }
 {
-    let ast = selectors(alloc, document.selectors())?;
-    let mut limiter = SharedMemoryLimiter::new(MOST);
-    match ids_on_page(alloc, ast, page, &mut limiter) {
-        Ok(ids) => Ok(are_ids(&ids, document, page.len())),
-        Err(_) => Ok(false),
-    }
+    Ok(match page_ids(alloc, ast_of(alloc, document)?, page) {
+        Some(ids) => are_ids(&ids, document, page.len()),
+        None => false,
+    })
 }
 
 /// A call that answers events.
