@@ -5,9 +5,10 @@ use lol_css::{CssString, Selector, SimpleSelector};
 use lol_program::{
     Ast, AttributeComparisonExpr, AttributeExprTest, Compilable, CompiledAttributeExpr,
     CompiledLocalNameExpr, CompiledPredicate, CompiledTest, Compiler, Condition, LocalNameExprTest,
-    OnAttributesExpr, OnTagNameExpr, Test,
+    OnAttributesExpr, OnTagNameExpr, Program, Test,
 };
 use std::alloc::{AllocError, Global};
+use std::process::Abort;
 use std::test::Fail;
 use test_kit::{Random, is_tried, name_of};
 
@@ -89,13 +90,28 @@ fn compiled(alloc: Global, condition: Condition) -> Result<(CompiledTest, bool),
     Ok((compiled, by_type))
 }
 
-/// Whether the test of a part is made and compiled.
-fn is_tested(alloc: Global, kind: Kind, word: &str) -> Result<bool, AllocError> {
+/// Whether the condition of a part is made.
+fn is_made(alloc: Global, kind: Kind, word: &str) -> Result<bool, AllocError> {
     let part = part_of(alloc, kind, word)?;
     let condition = condition_of(alloc, kind, word)?;
-    let made = Condition::from_simple(alloc, &part)? == Some(condition);
+    Ok(Condition::from_simple(alloc, &part)? == Some(condition))
+}
+
+/// Whether the test of a part is compiled.
+fn is_compiled(alloc: Global, kind: Kind, word: &str) -> Result<bool, AllocError> {
     let (compiled, by_type) = compiled(alloc, condition_of(alloc, kind, word)?)?;
-    Ok(made && !by_type && word_of(&compiled) == Some((kind, word.as_bytes())))
+    Ok(!by_type && word_of(&compiled) == Some((kind, word.as_bytes())))
+}
+
+/// Whether the test of a part is made and compiled.
+fn is_tested(alloc: Global, kind: Kind, word: &str) -> bool {
+    is_made(alloc, kind, word) == Ok(true) && is_compiled(alloc, kind, word) == Ok(true)
+}
+
+fn expect_tested(rt: &impl Abort, alloc: Global, word: &str) {
+    for kind in &KINDS {
+        assert!(rt; is_tested(alloc, *kind, word), "{kind:?}: {word}");
+    }
 }
 
 /// Words of 1 to 2,200 letters, in tests of each kind.
@@ -103,11 +119,8 @@ fn is_tested(alloc: Global, kind: Kind, word: &str) -> Result<bool, AllocError> 
 fn words_of_every_length_are_tested(rt: HostRuntime) -> Result<(), Fail> {
     let mut random = Random::new(10);
     let mut word = String::from_str(rt.alloc(), "_")?;
-    for letters in 0..2_200u32 {
-        for kind in KINDS {
-            let tested = is_tested(rt.alloc(), kind, word.as_str());
-            assert!(rt; tested == Ok(true), "{kind:?}: {letters}");
-        }
+    for _letters in 0..2_200u32 {
+        expect_tested(&rt, rt.alloc(), word.as_str());
         word.push(random.letter())?;
     }
     Ok(())
@@ -135,14 +148,18 @@ fn is_progression(alloc: Global, nth: NthChild, of_type: bool) -> Result<bool, A
     Ok(progression_of(&compiled) == Some((nth, of_type)) && by_type == of_type)
 }
 
+fn progression(random: &mut Random, place: u32) -> NthChild {
+    let step = i32::try_from(random.below(1 << (place % 31))).unwrap_or(0);
+    let offset = i32::try_from(random.below(1 << (place % 29))).unwrap_or(0);
+    NthChild::new(step, offset)
+}
+
 /// 3,000 progressions of numbers that are drawn up to 2^30.
 #[test]
 fn progressions_are_tested(rt: HostRuntime) -> Result<(), Fail> {
     let mut random = Random::new(11);
     for place in 0..3_000u32 {
-        let step = i32::try_from(random.below(1 << (place % 31))).unwrap_or(0);
-        let offset = i32::try_from(random.below(1 << (place % 29))).unwrap_or(0);
-        let nth = NthChild::new(step, offset);
+        let nth = progression(&mut random, place);
         assert!(rt;
             is_progression(rt.alloc(), nth, place % 2 == 0) == Ok(true),
             "{place}"
@@ -177,34 +194,54 @@ fn is_not_of(test: &CompiledTest, count: usize) -> bool {
     }
 }
 
-/// Whether a text with an end compiles to one instruction of so many tests, or of compounds where there is an end, with its id.
-fn is_one_node(alloc: Global, text: &str, end: &str, count: usize) -> Result<bool, Fail> {
-    let whole = format!(in alloc; "{text}{end}")?;
-    let ast = tree(alloc, whole.as_str())?;
-    let counted = ast.cumulative_node_count() == 1;
-    let program = Compiler::new(alloc).compile(ast)?;
-    Ok(match program.instructions.as_slice() {
+/// Whether a program has one instruction, of so many tests or of one `:not`, with its id.
+fn is_one_instruction(program: &Program, count: usize, in_not: bool) -> bool {
+    match program.instructions.as_slice() {
         [only] => {
             let has_id = only.associated_branch.matched_ids.iter().eq([7]);
-            counted && has_id && has_tests(&only.predicate, count, end != "")
+            has_id && has_tests(&only.predicate, count, in_not)
         }
         _ => false,
-    })
+    }
+}
+
+fn whole_of(alloc: Global, text: &str, end: &str) -> Result<String, AllocError> {
+    format!(in alloc; "{text}{end}")
+}
+
+fn compile(alloc: Global, ast: Ast) -> Result<Program, AllocError> {
+    Compiler::new(alloc).compile(ast)
+}
+
+/// Whether a text with an end compiles to one instruction of so many tests, or of compounds where there is an end, with its id.
+fn is_one_node(alloc: Global, text: &str, end: &str, count: usize) -> Result<bool, Fail> {
+    let whole = whole_of(alloc, text, end)?;
+    let ast = tree(alloc, whole.as_str())?;
+    let counted = ast.cumulative_node_count() == 1;
+    let program = compile(alloc, ast)?;
+    Ok(counted && is_one_instruction(&program, count, end != ""))
+}
+
+/// Compounds that begin and go on so, of up to 2,050 tests or compounds.
+fn expect_one_node(
+    rt: &impl Abort,
+    alloc: Global,
+    (first, next, end): (&str, &str, &str),
+) -> Result<(), Fail> {
+    let mut text = String::from_str(alloc, first)?;
+    for count in 1..2_051 {
+        let is_one = !is_tried(count, 500) || is_one_node(alloc, text.as_str(), end, count)?;
+        assert!(rt; is_one, "{first}: {count}");
+        text.push_str(next)?;
+    }
+    Ok(())
 }
 
 /// Compounds of up to 2,050 tests, and `:not` of up to 2,050 compounds.
 #[test]
 fn compounds_are_of_every_number(rt: HostRuntime) -> Result<(), Fail> {
-    for (first, next, end) in [(".a", ".a", ""), (":not(a", ", a", ")")] {
-        let mut text = String::from_str(rt.alloc(), first)?;
-        for count in 1..2_051 {
-            let is_one = !is_tried(count, 500)
-                || is_one_node(rt.alloc(), text.as_str(), end, count)?;
-            assert!(rt; is_one, "{first}: {count}");
-            text.push_str(next)?;
-        }
-    }
-    Ok(())
+    expect_one_node(&rt, rt.alloc(), (".a", ".a", ""))?;
+    expect_one_node(&rt, rt.alloc(), (":not(a", ", a", ")"))
 }
 
 /// Whether the tree of a text has so many nodes.

@@ -5,6 +5,7 @@ use lol_css::{
     SelectorsParser, SimpleSelector,
 };
 use std::alloc::{AllocError, Global};
+use std::process::Abort;
 use std::test::Fail;
 use test_kit::{Random, is_tried, name_of};
 
@@ -27,10 +28,14 @@ fn strings_of_every_length_are_copied(rt: HostRuntime) -> Result<(), Fail> {
     Ok(())
 }
 
-/// What a text is read as: by the parser, and as a selector.
-fn read(alloc: Global, text: &str) -> Result<(SelectorList, Selector), SelectorError> {
-    let list = SelectorsParser::parse(alloc, text)?;
-    Ok((list, Selector::from_str(alloc, text)?))
+/// What the parser reads.
+fn parsed(alloc: Global, text: &str) -> Result<SelectorList, SelectorError> {
+    SelectorsParser::parse(alloc, text)
+}
+
+/// Whether a text is read as a selector of this list.
+fn is_selector_of(alloc: Global, text: &str, list: &SelectorList) -> Result<bool, SelectorError> {
+    Ok(*Selector::from_str(alloc, text)?.list() == *list)
 }
 
 /// The only part of a list of one compound.
@@ -64,16 +69,46 @@ fn word_of(part: &SimpleSelector) -> Option<(usize, &str)> {
     }
 }
 
-/// Whether a word between two texts is read as the part of this place.
-fn is_read(alloc: Global, place: usize, word: &str) -> Result<bool, Fail> {
+/// A word as the text of the part of this place.
+fn text_of(alloc: Global, place: usize, word: &str) -> Result<String, AllocError> {
     let (before, after) = PARTS.get(place).copied().unwrap_or(("", ""));
-    let text = format!(in alloc; "{before}{word}{after}")?;
-    let (list, selector) = read(alloc, text.as_str())?;
+    format!(in alloc; "{before}{word}{after}")
+}
+
+fn lowered(alloc: Global, word: &str) -> Result<String, AllocError> {
     let mut lower = String::from_str(alloc, word)?;
     lower.make_ascii_lowercase();
+    Ok(lower)
+}
+
+/// Whether a list is the part of this place with this word, in lower case if it is an attribute's name.
+fn is_part(
+    alloc: Global,
+    list: &SelectorList,
+    place: usize,
+    word: &str,
+) -> Result<bool, AllocError> {
+    let lower = lowered(alloc, word)?;
     let wanted = Some((place, if place == 3 { lower.as_str() } else { word }));
-    let read = only_part(&list).and_then(|part| word_of(part));
-    Ok(read == wanted && *selector.list() == list)
+    let read = match only_part(list) {
+        Some(part) => word_of(part),
+        None => None,
+    };
+    Ok(read == wanted)
+}
+
+/// Whether a word between two texts is read as the part of this place.
+fn is_read(alloc: Global, place: usize, word: &str) -> Result<bool, Fail> {
+    let text = text_of(alloc, place, word)?;
+    let list = parsed(alloc, text.as_str())?;
+    Ok(is_part(alloc, &list, place, word)? && is_selector_of(alloc, text.as_str(), &list)?)
+}
+
+fn expect_read(rt: &impl Abort, alloc: Global, word: &str) -> Result<(), Fail> {
+    for place in 0..5 {
+        assert!(rt; is_read(alloc, place, word)?, "{place}: {word}");
+    }
+    Ok(())
 }
 
 /// Words of 1 to 500 letters, in parts of each kind.
@@ -81,14 +116,9 @@ fn is_read(alloc: Global, place: usize, word: &str) -> Result<bool, Fail> {
 fn words_of_every_length_are_read(rt: HostRuntime) -> Result<(), Fail> {
     let mut random = Random::new(6);
     let mut word = String::new(rt.alloc());
-    for letters in 0..500u32 {
+    for _letters in 0..500u32 {
         word.push(random.letter())?;
-        for place in 0..5 {
-            assert!(rt;
-                is_read(rt.alloc(), place, word.as_str())?,
-                "{place}: {word}"
-            );
-        }
+        expect_read(&rt, rt.alloc(), word.as_str())?;
     }
     Ok(())
 }
@@ -102,8 +132,11 @@ enum Joined {
     InNot,
 }
 
+/// A row of `JOINED`.
+type Join = (&'static str, &'static str, &'static str, Joined, usize);
+
 /// What a text is begun and gone on with, and ended with, and how many there may be of it at most: an item has up to 1,024 compounds.
-const JOINED: [(&str, &str, &str, Joined, usize); 4] = [
+const JOINED: [Join; 4] = [
     ("a", ",a", "", Joined::AsItems, 2_050),
     (".a", ".a", "", Joined::AsParts, 2_050),
     ("a", " > a", "", Joined::AsSteps, 1_024),
@@ -154,6 +187,10 @@ fn has(list: &SelectorList, joined: Joined, count: usize) -> bool {
     }
 }
 
+fn whole_of(alloc: Global, text: &str, end: &str) -> Result<String, AllocError> {
+    format!(in alloc; "{text}{end}")
+}
+
 /// Whether a text with an end is read as so many compounds or parts.
 fn are_read(
     alloc: Global,
@@ -162,37 +199,52 @@ fn are_read(
     joined: Joined,
     count: usize,
 ) -> Result<bool, Fail> {
-    let whole = format!(in alloc; "{text}{end}")?;
-    let (list, selector) = read(alloc, whole.as_str())?;
-    Ok(has(&list, joined, count) && *selector.list() == list)
+    let whole = whole_of(alloc, text, end)?;
+    let list = parsed(alloc, whole.as_str())?;
+    Ok(has(&list, joined, count) && is_selector_of(alloc, whole.as_str(), &list)?)
+}
+
+fn expect_joined(rt: &impl Abort, alloc: Global, join: &Join) -> Result<(), Fail> {
+    let (first, next, end, joined, most) = *join;
+    let mut text = String::from_str(alloc, first)?;
+    for place in 0..most {
+        let count = place.saturating_add(1);
+        let read = !is_tried(count, 500) || are_read(alloc, text.as_str(), end, joined, count)?;
+        assert!(rt; read, "{first}: {count}");
+        text.push_str(next)?;
+    }
+    Ok(())
 }
 
 /// Up to 2,050 items, parts, and compounds inside `:not`, and up to 1,024 steps.
 #[test]
 fn texts_of_every_number_are_read(rt: HostRuntime) -> Result<(), Fail> {
-    for (first, next, end, joined, most) in JOINED {
-        let mut text = String::from_str(rt.alloc(), first)?;
-        for place in 0..most {
-            let count = place.saturating_add(1);
-            let read = !is_tried(count, 500)
-                || are_read(rt.alloc(), text.as_str(), end, joined, count)?;
-            assert!(rt; read, "{first}: {count}");
-            text.push_str(next)?;
-        }
+    for join in &JOINED {
+        expect_joined(&rt, rt.alloc(), join)?;
     }
     Ok(())
 }
 
+fn progression_text(
+    alloc: Global,
+    step: i32,
+    offset: i32,
+    of_type: bool,
+) -> Result<String, AllocError> {
+    let kind = if of_type { "of-type" } else { "child" };
+    format!(in alloc; ":nth-{kind}({step}n{offset:+})")
+}
+
+fn is_nth(list: &SelectorList, of_type: bool, nth: NthChild) -> bool {
+    only_part(list) == Some(&SimpleSelector::Nth { of_type, nth })
+}
+
 /// Whether the progression of two numbers is read.
 fn is_progression(alloc: Global, step: i32, offset: i32, of_type: bool) -> Result<bool, Fail> {
-    let kind = if of_type { "of-type" } else { "child" };
-    let text = format!(in alloc; ":nth-{kind}({step}n{offset:+})")?;
-    let (list, selector) = read(alloc, text.as_str())?;
-    let wanted = SimpleSelector::Nth {
-        of_type,
-        nth: NthChild::new(step, offset),
-    };
-    Ok(only_part(&list) == Some(&wanted) && *selector.list() == list)
+    let text = progression_text(alloc, step, offset, of_type)?;
+    let list = parsed(alloc, text.as_str())?;
+    let is_read = is_nth(&list, of_type, NthChild::new(step, offset));
+    Ok(is_read && is_selector_of(alloc, text.as_str(), &list)?)
 }
 
 fn number(random: &mut Random) -> i32 {
