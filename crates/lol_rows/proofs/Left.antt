@@ -1,12 +1,15 @@
 -- What is left of a range is found by its hashes.
 use Rattle.std.proofs.Common.{◌≡◌, ℕ, zero, suc, ◌+◌, ◌-◌, ◌<◌, ◌≤◌, Bool, true, false, cond, not, List, [], ◌∷◌, ◌++◌, length, map, filter, take, get_or, Option, Some, None, Contains, ◌⊎◌, inl, inr, refl, sym, ap, ◌∙◌, arith, append_assoc, true≢false}
-use Rattle.std.specs.Prelude.{slice_get}
+use Rattle.std.specs.Prelude.{slice_get, OnOk, Result, Ok, Err}
+use Rattle.std.specs.Global.{Vec}
+use Rattle.std.specs.Vec.{vec_capacity}
 use Rattle.std.specs.Str.{bytes_eq}
 use Rattle.std.specs.Option.{option_map}
 use Rattle.std.specs.List.{range_with_len}
 use Rattle.std.specs.declared.ops.Range.{Range}
 use Rattle.std.proofs.lemmas.Bool.{cases_lt}
-use Rattle.std.proofs.lemmas.List.Elements.{filter_more}
+use Rattle.std.proofs.lemmas.List.Elements.{filter_more, filter-append}
+use Rattle.std.proofs.lemmas.List.FromFn.{length-range_with_len}
 use Rattle.std.proofs.lemmas.Option.{slice_get-map}
 use Rattle.std.proofs.lemmas.Slice.Eq.{bytes_eq-Decides}
 use Rattle.lol_base.specs.Ascending.{IsStrictlyAscending}
@@ -19,7 +22,7 @@ use Rattle.lol_instructions.specs.declared.instruction.Instruction.{Instruction}
 use Rattle.lol_key_table.specs.KeyTables.{AreFound, IsEntryWithin}
 use Rattle.lol_key_table.specs.declared.key_table.Entry.{Entry}
 use Rattle.lol_rows.specs.KeyHashes.{hash_of_name}
-use Rattle.lol_rows.specs.Rows.{keys_of, name_hash_of, is_left_by_name, is_left_open, passes, passes_at, addresses, some_pass, passing, HasPassing, NonePasses}
+use Rattle.lol_rows.specs.Rows.{keys_of, name_hash_of, is_left_by_name, is_left_open, passes, passes_at, addresses, some_pass, passing, HasPassing, NonePasses, HasRoomFor}
 
 -- 1. Addresses of a range
 
@@ -178,3 +181,82 @@ next_added q found i address b old before after within is so passes added =
     added ∙ ap (λ l. l ++ cond b (address ∷ []) []) so
     ∙ (append_assoc old (filter q (take i found)) (cond b (address ∷ []) [])
     ∙ ap (λ l. old ++ l) (sym (filter_more q found i address within ∙ ap (λ l. filter q (take i found) ++ l) (λ j. cond ((ap q (sym is) ∙ passes) j) (sym is j ∷ []) []))))
+
+-- 6. How many pass
+
+pub filter_most : (q : ℕ → Bool) (xs : List ℕ) → length (filter q xs) ≤ length xs
+filter_most q [] = omega arith
+filter_most q (x ∷ xs) = by_test (q x) (filter_most q xs)
+  where
+    by_test : (b : Bool) → length (filter q xs) ≤ length xs → length (cond b (x ∷ filter q xs) (filter q xs)) ≤ suc (length xs)
+    by_test true later = omega (arith, later)
+    by_test false later = omega (arith, later)
+
+-- fewer pass before one that passes
+pub filter_before : (q : ℕ → Bool) (xs : List ℕ) (i x : ℕ) → i < length xs → x ≡ get_or xs i x → q x ≡ true → length (filter q (take i xs)) < length (filter q xs)
+filter_before q [] i x within at here = absurd (omega (arith, within))
+filter_before q (y ∷ ys) zero x within at here = by_test (q y) (ap q (sym at) ∙ here)
+  where
+    by_test : (b : Bool) → b ≡ true → 0 < length (cond b (y ∷ filter q ys) (filter q ys))
+    by_test true is = omega arith
+    by_test false is = cc
+filter_before q (y ∷ ys) (suc k) x within at here = by_test (q y) (filter_before q ys k x (omega (arith, within)) at here)
+  where
+    by_test : (b : Bool) → length (filter q (take k ys)) < length (filter q ys) → length (cond b (y ∷ filter q (take k ys)) (filter q (take k ys))) < length (cond b (y ∷ filter q ys) (filter q ys))
+    by_test true later = omega (arith, later)
+    by_test false later = later
+
+pub range_next : (a k : ℕ) → range_with_len a (k + 1) ≡ range_with_len a k ++ (a + k) ∷ []
+range_next a zero = let same : a ≡ a + 0 = omega arith in ap (λ n. n ∷ []) same
+range_next a (suc k) =
+    let count : suc k + 1 ≡ suc (k + 1) = omega arith in
+    let same : a + 1 + k ≡ a + suc k = omega arith in
+    ap (range_with_len a) count ∙ (ap (λ l. a ∷ l) (range_next (a + 1) k) ∙ ap (λ n. a ∷ (range_with_len (a + 1) k ++ n ∷ [])) same)
+
+pub range_before : (q : ℕ → Bool) (a i n : ℕ) → i < n → q (a + i) ≡ true → length (filter q (range_with_len a i)) < length (filter q (range_with_len a n))
+range_before q a i zero within here = absurd (omega (arith, within))
+range_before q a zero (suc n) within here = by_test (q a) (let same : a ≡ a + 0 = omega arith in ap q same ∙ here)
+  where
+    by_test : (b : Bool) → b ≡ true → 0 < length (cond b (a ∷ filter q (range_with_len (a + 1) n)) (filter q (range_with_len (a + 1) n)))
+    by_test true is = omega arith
+    by_test false is = cc
+range_before q a (suc i) (suc n) within here =
+    by_test (q a) (range_before q (a + 1) i n (omega (arith, within)) (let same : a + 1 + i ≡ a + suc i = omega arith in ap q same ∙ here))
+  where
+    by_test : (b : Bool) → length (filter q (range_with_len (a + 1) i)) < length (filter q (range_with_len (a + 1) n))
+        → length (cond b (a ∷ filter q (range_with_len (a + 1) i)) (filter q (range_with_len (a + 1) i))) < length (cond b (a ∷ filter q (range_with_len (a + 1) n)) (filter q (range_with_len (a + 1) n)))
+    by_test true later = omega (arith, later)
+    by_test false later = later
+
+pub passing_most : (p : Instruction → Bool) (instructions : List Instruction) (r : Range ℕ) → length (passing p instructions r) ≤ r.end - r.start
+passing_most p instructions r = omega (arith, filter_most (passes_at p instructions) (addresses r), length-range_with_len r.start (r.end - r.start))
+
+pub each_added : (q : ℕ → Bool) (start address : ℕ) (b : Bool) (old before after : List ℕ) → start ≤ address → before ≡ old ++ filter q (range_with_len start (address - start))
+    → q address ≡ b → after ≡ before ++ cond b (address ∷ []) [] → after ≡ old ++ filter q (range_with_len start (address + 1 - start))
+each_added q start address b old before after low so tested added =
+    let count : (address - start) + 1 ≡ address + 1 - start = omega (arith, low) in
+    let here : start + (address - start) ≡ address = omega (arith, low) in
+    added ∙ ap (λ l. l ++ cond b (address ∷ []) []) so
+    ∙ (append_assoc old (filter q (range_with_len start (address - start))) (cond b (address ∷ []) [])
+    ∙ ap (λ l. old ++ l)
+    (sym (ap (λ n. filter q (range_with_len start n)) (sym count)
+    ∙ ap (filter q) (range_next start (address - start))
+    ∙ filter-append q (range_with_len start (address - start)) ((start + (address - start)) ∷ [])
+    ∙ ap (λ l. filter q (range_with_len start (address - start)) ++ l) (λ j. cond ((ap q here ∙ tested) j) (here j ∷ []) []))))
+
+-- 7. What is left is added where it was found
+
+pub on_ok : {T E : Type 0} (r : Result T E) (P Q : Type 0) → (P → Q) → OnOk r P → OnOk r Q
+on_ok (Ok v) P Q to h = to h
+on_ok (Err e) P Q to h = h
+
+module _ (p : Instruction → Bool) (hash : Instruction → ℕ) (instructions : List Instruction) (hashes : List ℕ) (range : Range ℕ) (looked found : List ℕ)
+    (same : looked ≡ found) (up : IsStrictlyAscending found) (are : AreFound (map hash instructions) hashes range found) (wanted : (i : Instruction) → p i ≡ true → Contains hashes (hash i)) where
+  pub looked_passing : filter (passes_at p instructions) looked ≡ passing p instructions range
+  looked_passing = ap (filter (passes_at p instructions)) same ∙ left_found p hash instructions hashes range found up are wanted
+
+  pub looked_room : (left : Vec ℕ) → HasRoomFor left range → length left.items + length (filter (passes_at p instructions) looked) ≤ vec_capacity left
+  looked_room left room = omega (arith, room, ap length looked_passing, passing_most p instructions range)
+
+pub each_room : (p : Instruction → Bool) (instructions : List Instruction) (range : Range ℕ) (left : Vec ℕ) → HasRoomFor left range → length left.items + length (passing p instructions range) ≤ vec_capacity left
+each_room p instructions range left room = omega (arith, room, passing_most p instructions range)

@@ -1,6 +1,9 @@
 -- Rows of instructions, and what is left of them by their keys.
-use Rattle.std.specs.Prelude.{ℕ, ◌≡◌, ◌≤◌, ◌<◌, ◌-◌, Bool, true, false, not, ◌&&◌, List, map, filter, slice_get, Option, Some, None}
+use Rattle.std.specs.Prelude.{ℕ, ◌≡◌, ◌≤◌, ◌<◌, ◌+◌, ◌-◌, length, Bool, true, false, not, ◌&&◌, List, map, filter, slice_get, Option, Some, None}
 use Rattle.std.specs.List.{range_with_len, list_any}
+use Rattle.std.specs.Global.{Vec}
+use Rattle.std.specs.Vec.{vec_capacity}
+use Rattle.std.specs.Option.{option_copied}
 use Rattle.std.specs.declared.ops.Range.{Range}
 use Rattle.lol_instructions.specs.Keys.{Keys, is_another_name}
 use Rattle.lol_instructions.specs.CompiledKeys.{keys_in, lacks_key}
@@ -9,6 +12,7 @@ use Rattle.lol_instructions.specs.declared.instruction.Instruction.{Instruction}
 use Rattle.lol_key_table.specs.KeyTables.{IsTableOf}
 use Rattle.lol_rows.specs.KeyHashes.{hash_of_name, hash_of_pair}
 use Rattle.lol_rows.specs.declared.rows.Rows.{Rows}
+use Rattle.lol_rows.specs.declared.rows.Tag.{Tag}
 
 -- 1. Rows
 
@@ -40,6 +44,14 @@ is_left_open name i = is_left_by_name name i && (keys_of i).opens
 abbrev pub is_left_by_keys : List ℕ → TagAttributes → Instruction → Bool
 is_left_by_keys name seen i = is_left_by_name name i && not (lacks_key (keys_of i).attribute seen)
 
+-- one that a tag leaves, whose attributes may not be known
+abbrev pub leaves_seen : List ℕ → Option TagAttributes → Instruction → Bool
+leaves_seen name None i = is_left_by_name name i
+leaves_seen name (Some seen) i = is_left_by_keys name seen i
+
+abbrev pub leaves : Tag → Instruction → Bool
+leaves tag i = leaves_seen tag.local_name.now.lowercased (option_copied tag.matcher) i
+
 -- whether there is an instruction, and it passes
 abbrev pub passes : (Instruction → Bool) → Option Instruction → Bool
 passes p None = false
@@ -70,3 +82,9 @@ pub record HasPassing (p : Instruction → Bool) (instructions : List Instructio
 abbrev pub NonePasses : (Instruction → Bool) → List Instruction → Range ℕ → ℕ → Type 0
 NonePasses p instructions r hash =
     (address : ℕ) (i : Instruction) → r.start ≤ address → address < r.end → slice_get instructions address ≡ Some i → name_hash_of i ≡ hash → p i ≡ false
+
+-- 3. Room
+
+-- a list has room for as many addresses as a range has
+abbrev pub HasRoomFor : Vec ℕ → Range ℕ → Type 0
+HasRoomFor left r = length left.items + (r.end - r.start) ≤ vec_capacity left

@@ -1,14 +1,15 @@
 //! Rows: the instructions of a program by the hashes of their keys.
 
-ghost use Rattle.std.specs.Prelude.{◌≡◌, ◌++◌, IfOk, OnOk};
+ghost use Rattle.std.specs.Prelude.{◌≡◌, ◌++◌, ◌+◌, ◌≤◌, IfOk, IsOk, OnOk, filter, length};
+ghost use Rattle.std.specs.Vec.{vec_capacity};
 ghost use Rattle.std.specs.Bool.{OnTrue, OnFalse};
 ghost use Rattle.lol_rows.specs.TagHashes.{HasItsHashes};
-ghost use Rattle.lol_rows.specs.Rows.{AreRowsOf, is_left_open, is_left_by_name, is_left_by_keys, passes_at, some_pass, passing, HasPassing, NonePasses};
+ghost use Rattle.lol_rows.specs.Rows.{AreRowsOf, is_left_open, is_left_by_name, is_left_by_keys, leaves, HasRoomFor, passes_at, some_pass, passing, HasPassing, NonePasses};
 
 use crate::key_hashes::{after_name, name_hash, pair_hash};
 use crate::tag_hashes::TagKeys;
 use lol_base::LocalName;
-use lol_instructions::{AddressRange, Instruction};
+use lol_instructions::{AddressRange, AttributeMatcher, Instruction};
 use lol_key_table::KeyTable;
 use std::alloc::{AllocError, Global};
 
@@ -84,10 +85,11 @@ impl Rows {
         false
     }
 
-    /// Adds the addresses of those instructions of a range that test no other name, ascending. `found` is room for what is looked up.
+    /// Adds the addresses of those instructions of a range that test no other name, ascending. `found` is room for what is looked up; where
+    /// memory for that is refused, each instruction of the range is looked at.
     ///
     /// # Errors
-    /// Out of memory.
+    /// Out of memory, but not where `left` has room for the whole range.
     pub fn add_left_by_name(
         &self,
         instructions: &[Instruction],
@@ -96,8 +98,10 @@ impl Rows {
         found: &mut Vec<usize>,
         left: &mut Vec<usize>,
     ) -> Result<(), AllocError>
-        ensures { OnOk result (AreRowsOf instructions.now self.now → left.new.items
+        ensures left { OnOk result (AreRowsOf instructions.now self.now → left.new.items
             ≡ left.old.items ++ passing (is_left_by_name local_name.now.lowercased) instructions.now range.now) }
+        ensures free { AreRowsOf instructions.now self.now → HasRoomFor left.old range.now → IsOk result }
+        ensures capacity { vec_capacity left.old ≤ vec_capacity left.new }
     {
         let hashes = [
             name_hash(None, false),
@@ -105,20 +109,21 @@ impl Rows {
             name_hash(Some(local_name), false),
             name_hash(Some(local_name), true),
         ];
-        self.names.find(&hashes, range.start..range.end, found)?;
-        for address in found.iter() {
-            if is_left_by_name(instructions, *address, local_name) {
-                left.push(*address)?;
-            }
+        let tag = Tag {
+            local_name,
+            matcher: None,
+        };
+        match self.names.find(&hashes, range.start..range.end, found) {
+            Ok(()) => add_found(instructions, found, tag, left),
+            Err(_) => add_each(instructions, range, tag, left),
         }
-        Ok(())
     }
 
     /// Adds the addresses of those instructions of a range that test no other name, and no id, class or attribute that the tag lacks,
-    /// ascending. `found` is room for what is looked up.
+    /// ascending. `found` is as for `add_left_by_name`.
     ///
     /// # Errors
-    /// Out of memory.
+    /// Out of memory, but not where `left` has room for the whole range.
     pub fn add_left_by_keys(
         &self,
         instructions: &[Instruction],
@@ -127,41 +132,86 @@ impl Rows {
         found: &mut Vec<usize>,
         left: &mut Vec<usize>,
     ) -> Result<(), AllocError>
-        ensures { OnOk result (AreRowsOf instructions.now self.now → HasItsHashes tag.now → left.new.items
+        ensures left { OnOk result (AreRowsOf instructions.now self.now → HasItsHashes tag.now → left.new.items
             ≡ left.old.items ++ passing (is_left_by_keys tag.now.local_name.now.lowercased tag.now.matcher.now)
             instructions.now range.now) }
+        ensures free { AreRowsOf instructions.now self.now → HasItsHashes tag.now
+            → HasRoomFor left.old range.now → IsOk result }
+        ensures capacity { vec_capacity left.old ≤ vec_capacity left.new }
     {
-        self.pairs.find(tag.hashes, range.start..range.end, found)?;
-        for address in found.iter() {
-            if is_left_by_keys(instructions, *address, tag) {
-                left.push(*address)?;
-            }
+        let named = Tag {
+            local_name: tag.local_name,
+            matcher: Some(tag.matcher),
+        };
+        match self.pairs.find(tag.hashes, range.start..range.end, found) {
+            Ok(()) => add_found(instructions, found, named, left),
+            Err(_) => add_each(instructions, range, named, left),
         }
-        Ok(())
     }
 }
 
-/// Whether the instruction at an address tests no other name, and no id, class or attribute that the tag lacks.
-fn is_left_by_keys(instructions: &[Instruction], address: usize, tag: &TagKeys<'_, '_>) -> bool
-    ensures { result ≡ passes_at
-        (is_left_by_keys tag.now.local_name.now.lowercased tag.now.matcher.now) instructions.now address }
-{
-    match instructions.get(address) {
-        Some(instruction) => {
-            let predicate = &instruction.predicate;
-            !predicate.has_other_name(tag.local_name) && !predicate.lacks_key(tag.matcher)
-        }
-        None => false,
-    }
+/// A start tag: its name, and its attributes if they are known.
+#[derive(Clone, Copy)]
+struct Tag<'t, 'i> {
+    local_name: &'t LocalName<'i>,
+    matcher: Option<&'t AttributeMatcher<'i>>,
 }
 
-/// Whether the instruction at an address tests no other name.
-fn is_left_by_name(instructions: &[Instruction], address: usize, local_name: &LocalName<'_>) -> bool
-    ensures { result ≡ passes_at (is_left_by_name local_name.now.lowercased) instructions.now address }
+/// Adds those of some addresses whose instructions a tag leaves.
+fn add_found(
+    instructions: &[Instruction],
+    found: &[usize],
+    tag: Tag<'_, '_>,
+    left: &mut Vec<usize>,
+) -> Result<(), AllocError>
+    ensures left { OnOk result
+        (left.new.items ≡ left.old.items ++ filter (passes_at (leaves tag.entry) instructions.now) found.now) }
+    ensures free { length left.old.items + length (filter (passes_at (leaves tag.entry) instructions.now) found.now)
+        ≤ vec_capacity left.old → IsOk result }
+    ensures capacity { vec_capacity left.old ≤ vec_capacity left.new }
 {
-    match instructions.get(address) {
-        Some(instruction) => !instruction.predicate.has_other_name(local_name),
-        None => false,
+    for address in found {
+        if is_left(instructions, *address, tag) {
+            left.push(*address)?;
+        }
+    }
+    Ok(())
+}
+
+/// Adds the addresses of a range whose instructions a tag leaves.
+fn add_each(
+    instructions: &[Instruction],
+    range: &AddressRange,
+    tag: Tag<'_, '_>,
+    left: &mut Vec<usize>,
+) -> Result<(), AllocError>
+    ensures left { OnOk result
+        (left.new.items ≡ left.old.items ++ passing (leaves tag.entry) instructions.now range.now) }
+    ensures free { length left.old.items + length (passing (leaves tag.entry) instructions.now range.now)
+        ≤ vec_capacity left.old → IsOk result }
+    ensures capacity { vec_capacity left.old ≤ vec_capacity left.new }
+{
+    for address in range.start..range.end {
+        if is_left(instructions, address, tag) {
+            left.push(address)?;
+        }
+    }
+    Ok(())
+}
+
+/// Whether the instruction at an address tests no other name, and no id, class or attribute that the tag is known to lack.
+fn is_left(instructions: &[Instruction], address: usize, tag: Tag<'_, '_>) -> bool
+    ensures { result ≡ passes_at (leaves tag.entry) instructions.now address }
+{
+    let Some(instruction) = instructions.get(address) else {
+        return false;
+    };
+    if instruction.predicate.has_other_name(tag.local_name) {
+        return false;
+    }
+    match tag.matcher {
+        Some(matcher) => !instruction.predicate.lacks_key(matcher),
+        None => true,
     }
 }
 
