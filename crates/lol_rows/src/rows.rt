@@ -215,7 +215,7 @@ fn is_left(instructions: &[Instruction], address: usize, tag: Tag<'_, '_>) -> bo
     }
 }
 
-/// Whether it is also known to need attributes.
+/// Whether the instruction at an address tests no other name, and is known to need attributes.
 fn is_left_open(instructions: &[Instruction], address: usize, local_name: &LocalName<'_>) -> bool
     ensures { result ≡ passes_at (is_left_open local_name.now.lowercased) instructions.now address }
 {
