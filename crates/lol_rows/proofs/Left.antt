@@ -1,28 +1,26 @@
 -- What is left of a range is found by its hashes.
-use Rattle.std.proofs.Common.{◌≡◌, ℕ, zero, suc, ◌+◌, ◌-◌, ◌<◌, ◌≤◌, Bool, true, false, cond, not, List, [], ◌∷◌, ◌++◌, length, map, filter, take, get_or, Option, Some, None, Contains, ◌⊎◌, inl, inr, refl, sym, ap, ◌∙◌, arith, append_assoc, true≢false}
-use Rattle.std.specs.Prelude.{slice_get, OnOk, Result, Ok, Err}
-use Rattle.std.specs.Global.{Vec}
-use Rattle.std.specs.Vec.{vec_capacity}
+use Rattle.std.specs.Prelude.{slice_get}
 use Rattle.std.specs.Str.{bytes_eq}
 use Rattle.std.specs.Option.{option_map}
-use Rattle.std.specs.List.{range_with_len}
+use Rattle.std.specs.List.{range_with_len, list_any}
 use Rattle.std.specs.declared.ops.Range.{Range}
+use Rattle.std.proofs.Common.{◌≡◌, ℕ, zero, suc, ◌+◌, ◌-◌, ◌<◌, ◌≤◌, Bool, true, false, cond, not, List, [], ◌∷◌, length, map, filter, get_or, Option, Some, None, Contains, ◌⊎◌, inl, inr, refl, sym, ap, ◌∙◌, arith, true≢false}
 use Rattle.std.proofs.lemmas.Bool.{cases_lt}
-use Rattle.std.proofs.lemmas.List.Elements.{filter_more, filter-append}
-use Rattle.std.proofs.lemmas.List.FromFn.{length-range_with_len}
 use Rattle.std.proofs.lemmas.Option.{slice_get-map}
 use Rattle.std.proofs.lemmas.Slice.Eq.{bytes_eq-Decides}
 use Rattle.lol_base.specs.Ascending.{IsStrictlyAscending}
-use Rattle.lol_base.specs.AscendingLaws.{Ascends, ascends_from_pairs, determined}
+use Rattle.lol_base.specs.AscendingLaws.{Ascends, ascends_from_pairs, pairs_from_ascends, determined}
 use Rattle.lol_base.specs.MemberLaws.{Among, among_from_contains, contains_from_among, among_filter, filter_among, any_among, among_any}
 use Rattle.lol_base.specs.ListLaws.{get_or-any}
 use Rattle.lol_base.specs.BoolLaws.{and_parts, not_true}
+use Rattle.lol_base.specs.PlaceLaws.{at_among}
 use Rattle.lol_instructions.specs.Keys.{is_another_name}
 use Rattle.lol_instructions.specs.declared.instruction.Instruction.{Instruction}
 use Rattle.lol_key_table.specs.KeyTables.{AreFound, IsEntryWithin}
 use Rattle.lol_key_table.specs.declared.key_table.Entry.{Entry}
-use Rattle.lol_rows.specs.KeyHashes.{hash_of_name}
-use Rattle.lol_rows.specs.Rows.{keys_of, name_hash_of, is_left_by_name, is_left_open, passes, passes_at, addresses, some_pass, passing, HasPassing, NonePasses, HasRoomFor}
+use Rattle.lol_rows.specs.KeyHashes.{hash_of_name, name_hashes}
+use Rattle.lol_rows.specs.Rows.{keys_of, name_hash_of, is_left_by_name, is_left_open, passes, passes_at, addresses, some_pass, passing, HasPassing, NonePasses, HaveWanted, AreWithin, candidate_addresses}
+use Rattle.lol_rows.specs.declared.candidates.Candidates.{Candidates}
 
 -- 1. Addresses of a range
 
@@ -62,10 +60,10 @@ hashed_at hash instructions address i at = slice_get-map hash instructions addre
 
 -- What has one of the hashes is found, so what passes of it is all that passes.
 pub left_found : (p : Instruction → Bool) (hash : Instruction → ℕ) (instructions : List Instruction) (hashes : List ℕ) (range : Range ℕ) (found : List ℕ)
-    → IsStrictlyAscending found → AreFound (map hash instructions) hashes range found → ((i : Instruction) → p i ≡ true → Contains hashes (hash i))
+    → HaveWanted (map hash instructions) hashes range found → ((i : Instruction) → p i ≡ true → Contains hashes (hash i))
     → filter (passes_at p instructions) found ≡ passing p instructions range
-left_found p hash instructions hashes range found up are wanted =
-    determined (filter q found) (filter q all) (ascends_filter q found (ascends_from_pairs found up)) (ascends_filter q all (ascends_range range.start (range.end - range.start))) to from
+left_found p hash instructions hashes range found have wanted =
+    determined (filter q found) (filter q all) (ascends_filter q found (ascends_from_pairs found have.ascending)) (ascends_filter q all (ascends_range range.start (range.end - range.start))) to from
   where
     q : ℕ → Bool
     q = passes_at p instructions
@@ -76,16 +74,35 @@ left_found p hash instructions hashes range found up are wanted =
     to : (n : ℕ) → Among (filter q found) n → Among (filter q all) n
     to n a =
         let parts = among_filter q found n a in
-        let w = (are n).0 (contains_from_among found n parts.0) in
-        filter_among q all n (range_among range.start (range.end - range.start) n w.low (omega (arith, w.low, w.high))) parts.1
+        let place = have.within n (contains_from_among found n parts.0) in
+        filter_among q all n (range_among range.start (range.end - range.start) n place.0 (omega (arith, place.0, place.1))) parts.1
 
     from : (n : ℕ) → Among (filter q all) n → Among (filter q found) n
     from n a =
         let parts = among_filter q all n a in
         let place = among_range range.start (range.end - range.start) n parts.0 in
         let at = instruction_at p (slice_get instructions n) parts.1 in
-        let found_at = (are n).1 (record { hash = hash at.0; wanted = wanted at.0 at.2; hashed = hashed_at hash instructions n at.0 at.1; low = place.0; high = omega (arith, place.0, place.1) }) in
+        let found_at = have.wanted n (record { hash = hash at.0; wanted = wanted at.0 at.2; hashed = hashed_at hash instructions n at.0 at.1; low = place.0; high = omega (arith, place.0, place.1) }) in
         filter_among q found n (among_from_contains found n found_at) parts.1
+
+-- each of a range has those that are wanted
+pub each_wanted : (all hashes : List ℕ) (range : Range ℕ) → HaveWanted all hashes range (addresses range)
+each_wanted all hashes range = record {
+  ascending = pairs_from_ascends (addresses range) (ascends_range range.start (range.end - range.start));
+  within = λ address h. let place = among_range range.start (range.end - range.start) address (among_from_contains (addresses range) address h) in (place.0, omega (arith, place.0, place.1));
+  wanted = λ address w. contains_from_among (addresses range) address (range_among range.start (range.end - range.start) address w.low (omega (arith, w.low, w.high)));
+}
+
+pub found_wanted : (all hashes : List ℕ) (range : Range ℕ) (found : List ℕ) → IsStrictlyAscending found → AreFound all hashes range found → HaveWanted all hashes range found
+found_wanted all hashes range found up are = record {
+  ascending = up;
+  within = λ address h. let w = (are address).0 h in (w.low, w.high);
+  wanted = λ address. (are address).1;
+}
+
+pub are_within : (all hashes : List ℕ) (range : Range ℕ) (candidates : Candidates) → HaveWanted all hashes range (candidate_addresses candidates) → AreWithin range candidates
+are_within all hashes range candidates have index address at =
+    have.within address (contains_from_among (candidate_addresses candidates) address (at_among (candidate_addresses candidates) index address at))
 
 -- 3. Hashes of names
 
@@ -109,15 +126,14 @@ hash_is name i h = by_key (key_is (keys_of i).name name h)
     by_key (inr is) = inr (ap (λ o. hash_of_name o (keys_of i).opens) is)
 
 -- it is one of four
-pub hash_among : (name : List ℕ) (a b c d : ℕ) → a ≡ hash_of_name None false → b ≡ hash_of_name None true → c ≡ hash_of_name (Some name) false → d ≡ hash_of_name (Some name) true
-    → (i : Instruction) → is_left_by_name name i ≡ true → Contains (a ∷ b ∷ c ∷ d ∷ []) (name_hash_of i)
-hash_among name a b c d is_a is_b is_c is_d i h = contains_from_among (a ∷ b ∷ c ∷ d ∷ []) (name_hash_of i) (by_opens (keys_of i).opens (hash_is name i h))
+pub hash_among : (name : List ℕ) (i : Instruction) → is_left_by_name name i ≡ true → Contains (name_hashes name) (name_hash_of i)
+hash_among name i h = contains_from_among (name_hashes name) (name_hash_of i) (by_opens (keys_of i).opens (hash_is name i h))
   where
-    by_opens : (opens : Bool) → (name_hash_of i ≡ hash_of_name None opens) ⊎ (name_hash_of i ≡ hash_of_name (Some name) opens) → Among (a ∷ b ∷ c ∷ d ∷ []) (name_hash_of i)
-    by_opens false (inl is) = inl (is_a ∙ sym is)
-    by_opens true (inl is) = inr (inl (is_b ∙ sym is))
-    by_opens false (inr is) = inr (inr (inl (is_c ∙ sym is)))
-    by_opens true (inr is) = inr (inr (inr (inl (is_d ∙ sym is))))
+    by_opens : (opens : Bool) → (name_hash_of i ≡ hash_of_name None opens) ⊎ (name_hash_of i ≡ hash_of_name (Some name) opens) → Among (name_hashes name) (name_hash_of i)
+    by_opens false (inl is) = inl (sym is)
+    by_opens true (inl is) = inr (inl (sym is))
+    by_opens false (inr is) = inr (inr (inl (sym is)))
+    by_opens true (inr is) = inr (inr (inr (inl (sym is))))
 
 -- 4. Whether one is left that is open
 
@@ -173,90 +189,32 @@ module _ (name : List ℕ) (instructions : List Instruction) (range : Range ℕ)
       let fails = none there.0 entry (omega (arith, there.1, all)) there.1 in
       sym (ap (passes (is_left_open name)) at) ∙ (ap (λ (e : Entry). passes_at (is_left_open name) instructions e.address) (sym there.2) ∙ fails)
 
--- 5. Adding what passes, address by address
+-- 5. The same by a look at each
 
-pub next_added : (q : ℕ → Bool) (found : List ℕ) (i address : ℕ) (b : Bool) (old before after : List ℕ) → i < length found → address ≡ get_or found i address
-    → before ≡ old ++ filter q (take i found) → q address ≡ b → after ≡ before ++ cond b (address ∷ []) [] → after ≡ old ++ filter q (take (i + 1) found)
-next_added q found i address b old before after within is so passes added =
-    added ∙ ap (λ l. l ++ cond b (address ∷ []) []) so
-    ∙ (append_assoc old (filter q (take i found)) (cond b (address ∷ []) [])
-    ∙ ap (λ l. old ++ l) (sym (filter_more q found i address within ∙ ap (λ l. filter q (take i found) ++ l) (λ j. cond ((ap q (sym is) ∙ passes) j) (sym is j ∷ []) []))))
+module _ (q : ℕ → Bool) (range : Range ℕ) where
+  -- none before an address passes
+  abbrev pub NoneBefore : ℕ → Type 0
+  NoneBefore address = (k : ℕ) → range.start ≤ k → k < address → q k ≡ false
 
--- 6. How many pass
+  pub none_next : (address : ℕ) → NoneBefore address → q address ≡ false → NoneBefore (address + 1)
+  none_next address before fails k low less = by_place (cases_lt k address)
+    where
+      by_place : (k < address) ⊎ (address ≤ k) → q k ≡ false
+      by_place (inl early) = before k low early
+      by_place (inr late) = let here : k ≡ address = omega (arith, late, less) in ap q here ∙ fails
 
-pub filter_most : (q : ℕ → Bool) (xs : List ℕ) → length (filter q xs) ≤ length xs
-filter_most q [] = omega arith
-filter_most q (x ∷ xs) = by_test (q x) (filter_most q xs)
-  where
-    by_test : (b : Bool) → length (filter q xs) ≤ length xs → length (cond b (x ∷ filter q xs) (filter q xs)) ≤ suc (length xs)
-    by_test true later = omega (arith, later)
-    by_test false later = omega (arith, later)
+  pub some_at : (address : ℕ) → range.start ≤ address → address < range.end → q address ≡ true → true ≡ list_any q (addresses range)
+  some_at address low high passes = sym (any_among q (addresses range) address (range_among range.start (range.end - range.start) address low (omega (arith, low, high))) passes)
 
--- fewer pass before one that passes
-pub filter_before : (q : ℕ → Bool) (xs : List ℕ) (i x : ℕ) → i < length xs → x ≡ get_or xs i x → q x ≡ true → length (filter q (take i xs)) < length (filter q xs)
-filter_before q [] i x within at here = absurd (omega (arith, within))
-filter_before q (y ∷ ys) zero x within at here = by_test (q y) (ap q (sym at) ∙ here)
-  where
-    by_test : (b : Bool) → b ≡ true → 0 < length (cond b (y ∷ filter q ys) (filter q ys))
-    by_test true is = omega arith
-    by_test false is = cc
-filter_before q (y ∷ ys) (suc k) x within at here = by_test (q y) (filter_before q ys k x (omega (arith, within)) at here)
-  where
-    by_test : (b : Bool) → length (filter q (take k ys)) < length (filter q ys) → length (cond b (y ∷ filter q (take k ys)) (filter q (take k ys))) < length (cond b (y ∷ filter q ys) (filter q ys))
-    by_test true later = omega (arith, later)
-    by_test false later = later
+  pub none_at : (address : ℕ) → NoneBefore address → range.end ≤ address → false ≡ list_any q (addresses range)
+  none_at address before most = sym (not_true (list_any q (addresses range)) (λ some.
+      let there = among_any q (addresses range) some in
+      let place = among_range range.start (range.end - range.start) there.0 there.1 in
+      true≢false (sym there.2 ∙ before there.0 place.0 (omega (arith, place.0, place.1, most)))))
 
-pub range_next : (a k : ℕ) → range_with_len a (k + 1) ≡ range_with_len a k ++ (a + k) ∷ []
-range_next a zero = let same : a ≡ a + 0 = omega arith in ap (λ n. n ∷ []) same
-range_next a (suc k) =
-    let count : suc k + 1 ≡ suc (k + 1) = omega arith in
-    let same : a + 1 + k ≡ a + suc k = omega arith in
-    ap (range_with_len a) count ∙ (ap (λ l. a ∷ l) (range_next (a + 1) k) ∙ ap (λ n. a ∷ (range_with_len (a + 1) k ++ n ∷ [])) same)
+-- 6. Candidates by their places
 
-pub range_before : (q : ℕ → Bool) (a i n : ℕ) → i < n → q (a + i) ≡ true → length (filter q (range_with_len a i)) < length (filter q (range_with_len a n))
-range_before q a i zero within here = absurd (omega (arith, within))
-range_before q a zero (suc n) within here = by_test (q a) (let same : a ≡ a + 0 = omega arith in ap q same ∙ here)
-  where
-    by_test : (b : Bool) → b ≡ true → 0 < length (cond b (a ∷ filter q (range_with_len (a + 1) n)) (filter q (range_with_len (a + 1) n)))
-    by_test true is = omega arith
-    by_test false is = cc
-range_before q a (suc i) (suc n) within here =
-    by_test (q a) (range_before q (a + 1) i n (omega (arith, within)) (let same : a + 1 + i ≡ a + suc i = omega arith in ap q same ∙ here))
-  where
-    by_test : (b : Bool) → length (filter q (range_with_len (a + 1) i)) < length (filter q (range_with_len (a + 1) n))
-        → length (cond b (a ∷ filter q (range_with_len (a + 1) i)) (filter q (range_with_len (a + 1) i))) < length (cond b (a ∷ filter q (range_with_len (a + 1) n)) (filter q (range_with_len (a + 1) n)))
-    by_test true later = omega (arith, later)
-    by_test false later = later
-
-pub passing_most : (p : Instruction → Bool) (instructions : List Instruction) (r : Range ℕ) → length (passing p instructions r) ≤ r.end - r.start
-passing_most p instructions r = omega (arith, filter_most (passes_at p instructions) (addresses r), length-range_with_len r.start (r.end - r.start))
-
-pub each_added : (q : ℕ → Bool) (start address : ℕ) (b : Bool) (old before after : List ℕ) → start ≤ address → before ≡ old ++ filter q (range_with_len start (address - start))
-    → q address ≡ b → after ≡ before ++ cond b (address ∷ []) [] → after ≡ old ++ filter q (range_with_len start (address + 1 - start))
-each_added q start address b old before after low so tested added =
-    let count : (address - start) + 1 ≡ address + 1 - start = omega (arith, low) in
-    let here : start + (address - start) ≡ address = omega (arith, low) in
-    added ∙ ap (λ l. l ++ cond b (address ∷ []) []) so
-    ∙ (append_assoc old (filter q (range_with_len start (address - start))) (cond b (address ∷ []) [])
-    ∙ ap (λ l. old ++ l)
-    (sym (ap (λ n. filter q (range_with_len start n)) (sym count)
-    ∙ ap (filter q) (range_next start (address - start))
-    ∙ filter-append q (range_with_len start (address - start)) ((start + (address - start)) ∷ [])
-    ∙ ap (λ l. filter q (range_with_len start (address - start)) ++ l) (λ j. cond ((ap q here ∙ tested) j) (here j ∷ []) []))))
-
--- 7. What is left is added where it was found
-
-pub on_ok : {T E : Type 0} (r : Result T E) (P Q : Type 0) → (P → Q) → OnOk r P → OnOk r Q
-on_ok (Ok v) P Q to h = to h
-on_ok (Err e) P Q to h = h
-
-module _ (p : Instruction → Bool) (hash : Instruction → ℕ) (instructions : List Instruction) (hashes : List ℕ) (range : Range ℕ) (looked found : List ℕ)
-    (same : looked ≡ found) (up : IsStrictlyAscending found) (are : AreFound (map hash instructions) hashes range found) (wanted : (i : Instruction) → p i ≡ true → Contains hashes (hash i)) where
-  pub looked_passing : filter (passes_at p instructions) looked ≡ passing p instructions range
-  looked_passing = ap (filter (passes_at p instructions)) same ∙ left_found p hash instructions hashes range found up are wanted
-
-  pub looked_room : (left : Vec ℕ) → HasRoomFor left range → length left.items + length (filter (passes_at p instructions) looked) ≤ vec_capacity left
-  looked_room left room = omega (arith, room, ap length looked_passing, passing_most p instructions range)
-
-pub each_room : (p : Instruction → Bool) (instructions : List Instruction) (range : Range ℕ) (left : Vec ℕ) → HasRoomFor left range → length left.items + length (passing p instructions range) ≤ vec_capacity left
-each_room p instructions range left room = omega (arith, room, passing_most p instructions range)
+pub range_at : (start n index : ℕ) → index < n → slice_get (range_with_len start n) index ≡ Some (start + index)
+range_at start zero index within = absurd (omega (arith, within))
+range_at start (suc n) zero within = let same : start ≡ start + 0 = omega arith in ap Some same
+range_at start (suc n) (suc k) within = let same : start + 1 + k ≡ start + suc k = omega arith in range_at (start + 1) n k (omega (arith, within)) ∙ ap Some same

@@ -31,6 +31,10 @@ after_key hasher (Some (ByAttribute name)) = sip.write (byte_hashed hasher 3) na
 abbrev pub hash_of_name : Option (List ℕ) → Bool → ℕ
 hash_of_name name opens = sip.finish (byte_hashed (after_name name) (byte_of_bool opens)) % 2 ^ 32
 
+-- Of no name and of a name: of nodes that aren't known to need attributes, and of those that are.
+abbrev pub name_hashes : List ℕ → List ℕ
+name_hashes name = hash_of_name None false ∷ hash_of_name None true ∷ hash_of_name (Some name) false ∷ hash_of_name (Some name) true ∷ []
+
 -- the hash of a key after a name
 abbrev pub hash_after : DefaultHasher → Option AttributeKey → ℕ
 hash_after hasher key = sip.finish (after_key hasher key) % 2 ^ 32

@@ -1,18 +1,17 @@
 -- Rows of instructions, and what is left of them by their keys.
-use Rattle.std.specs.Prelude.{ℕ, ◌≡◌, ◌≤◌, ◌<◌, ◌+◌, ◌-◌, length, Bool, true, false, not, ◌&&◌, List, map, filter, slice_get, Option, Some, None}
+use Rattle.std.specs.Prelude.{ℕ, ◌≡◌, ◌≤◌, ◌<◌, ◌-◌, Bool, true, false, not, ◌&&◌, List, map, filter, slice_get, Option, Some, None, Contains}
 use Rattle.std.specs.List.{range_with_len, list_any}
-use Rattle.std.specs.Global.{Vec}
-use Rattle.std.specs.Vec.{vec_capacity}
-use Rattle.std.specs.Option.{option_copied}
 use Rattle.std.specs.declared.ops.Range.{Range}
+use Rattle.lol_base.specs.Ascending.{IsStrictlyAscending}
 use Rattle.lol_instructions.specs.Keys.{Keys, is_another_name}
 use Rattle.lol_instructions.specs.CompiledKeys.{keys_in, lacks_key}
 use Rattle.lol_instructions.specs.Attributes.{TagAttributes}
 use Rattle.lol_instructions.specs.declared.instruction.Instruction.{Instruction}
-use Rattle.lol_key_table.specs.KeyTables.{IsTableOf}
+use Rattle.lol_key_table.specs.KeyTables.{IsTableOf, IsWanted}
 use Rattle.lol_rows.specs.KeyHashes.{hash_of_name, hash_of_pair}
+use Rattle.lol_rows.specs.declared.candidates.Candidates.{Candidates}
+use Rattle.lol_rows.specs.declared.candidates.Candidates.TheVariants.{Each, Found}
 use Rattle.lol_rows.specs.declared.rows.Rows.{Rows}
-use Rattle.lol_rows.specs.declared.rows.Tag.{Tag}
 
 -- 1. Rows
 
@@ -49,9 +48,6 @@ abbrev pub leaves_seen : List ℕ → Option TagAttributes → Instruction → B
 leaves_seen name None i = is_left_by_name name i
 leaves_seen name (Some seen) i = is_left_by_keys name seen i
 
-abbrev pub leaves : Tag → Instruction → Bool
-leaves tag i = leaves_seen tag.local_name.now.lowercased (option_copied tag.matcher) i
-
 -- whether there is an instruction, and it passes
 abbrev pub passes : (Instruction → Bool) → Option Instruction → Bool
 passes p None = false
@@ -83,8 +79,22 @@ abbrev pub NonePasses : (Instruction → Bool) → List Instruction → Range �
 NonePasses p instructions r hash =
     (address : ℕ) (i : Instruction) → r.start ≤ address → address < r.end → slice_get instructions address ≡ Some i → name_hash_of i ≡ hash → p i ≡ false
 
--- 3. Room
+-- 3. Candidates: addresses of a range, ascending
 
--- a list has room for as many addresses as a range has
-abbrev pub HasRoomFor : Vec ℕ → Range ℕ → Type 0
-HasRoomFor left r = length left.items + (r.end - r.start) ≤ vec_capacity left
+abbrev pub candidate_addresses : Candidates → List ℕ
+candidate_addresses (Each range) = addresses range
+candidate_addresses (Found found) = found.now
+
+-- Of the candidates exactly those pass that do of the whole range.
+abbrev pub AreCandidates : (Instruction → Bool) → List Instruction → Range ℕ → Candidates → Type 0
+AreCandidates p instructions r candidates = filter (passes_at p instructions) (candidate_addresses candidates) ≡ passing p instructions r
+
+-- Each lies in the range.
+abbrev pub AreWithin : Range ℕ → Candidates → Type 0
+AreWithin r candidates = (index address : ℕ) → slice_get (candidate_addresses candidates) index ≡ Some address → (r.start ≤ address) × (address < r.end)
+
+-- Addresses of a range, ascending, with all that have one of these hashes.
+pub record HaveWanted (all hashes : List ℕ) (r : Range ℕ) (found : List ℕ) : Type 0 where
+  pub ascending : IsStrictlyAscending found
+  pub within : (address : ℕ) → Contains found address → (r.start ≤ address) × (address < r.end)
+  pub wanted : (address : ℕ) → IsWanted all hashes r address → Contains found address

@@ -1,11 +1,10 @@
 -- The hashes of the pairs of keys that a start tag has.
-use Rattle.std.specs.Prelude.{ℕ, ◌≡◌, List, [], ◌∷◌, ◌++◌, map, flat_map, Option, Some, None, codes, option_to_list}
+use Rattle.std.specs.Prelude.{ℕ, List, [], ◌∷◌, ◌++◌, map, flat_map, Option, Some, None, codes, option_to_list}
 use Rattle.std.specs.declared.hash.DefaultHasher.{DefaultHasher}
 use Rattle.lol_base.specs.Names.{lowercased}
 use Rattle.lol_instructions.specs.Attributes.{TagAttributes, value_in}
 use Rattle.lol_instructions.specs.Keys.{AttributeKey, ById, ByClass, ByAttribute, words_of}
 use Rattle.lol_rows.specs.KeyHashes.{after_name, hash_after}
-use Rattle.lol_rows.specs.declared.tag_hashes.TagKeys.{TagKeys}
 
 -- a key after no name, and after a name
 abbrev pub both_hashes : DefaultHasher → DefaultHasher → Option AttributeKey → List ℕ
@@ -20,6 +19,3 @@ keys_seen seen =
 -- The pairs of no name, or the tag's, and of no key, or one of the tag's.
 abbrev pub pair_hashes : List ℕ → TagAttributes → List ℕ
 pair_hashes name seen = flat_map (both_hashes (after_name None) (after_name (Some name))) (None ∷ map Some (keys_seen seen))
-
-abbrev pub HasItsHashes : TagKeys → Type 0
-HasItsHashes tag = tag.hashes.now ≡ pair_hashes tag.local_name.now.lowercased tag.matcher.now

@@ -5,7 +5,7 @@ ghost use Rattle.std.specs.Option.{option_copied, option_map};
 ghost use Rattle.lol_base.specs.Names.{lowercased};
 ghost use Rattle.lol_instructions.specs.Keys.{ByAttribute};
 ghost use Rattle.lol_instructions.specs.CompiledKeys.{key_shown};
-ghost use Rattle.lol_rows.specs.KeyHashes.{after_name, name_shown, hash_of_name, hash_after};
+ghost use Rattle.lol_rows.specs.KeyHashes.{after_name, name_shown, hash_of_name, hash_after, name_hashes};
 
 use lol_base::LocalName;
 use lol_instructions::KeyBytes;
@@ -36,6 +36,19 @@ pub(crate) fn name_hash(name: Option<&LocalName<'_>>, opens: bool) -> u32
     let mut hasher = after_name(name);
     hasher.write_u8(if opens { 1 } else { 0 });
     (hasher.finish() % HASHES) as u32
+}
+
+/// The hashes of the keys that an instruction may have which a start tag of this name leaves by its name: of no name and of its own, each
+/// where the instruction isn't known to need attributes, and where it is.
+pub fn name_hashes(local_name: &LocalName<'_>) -> [u32; 4]
+    ensures { result ≡ name_hashes local_name.now.lowercased }
+{
+    [
+        name_hash(None, false),
+        name_hash(None, true),
+        name_hash(Some(local_name), false),
+        name_hash(Some(local_name), true),
+    ]
 }
 
 /// The hash of the pair of the key of a name that a hasher was given, and of an id, a class or an attribute, if there is one.

@@ -1,13 +1,17 @@
 //! Rows: the instructions of a program by the hashes of their keys.
 
-ghost use Rattle.std.specs.Prelude.{◌≡◌, ◌++◌, ◌+◌, ◌≤◌, IfOk, IsOk, OnOk, filter, length};
-ghost use Rattle.std.specs.Vec.{vec_capacity};
+ghost use Rattle.std.specs.Prelude.{◌≡◌, List, ℕ, IfOk};
 ghost use Rattle.std.specs.Bool.{OnTrue, OnFalse};
-ghost use Rattle.lol_rows.specs.TagHashes.{HasItsHashes};
-ghost use Rattle.lol_rows.specs.Rows.{AreRowsOf, is_left_open, is_left_by_name, is_left_by_keys, leaves, HasRoomFor, passes_at, some_pass, passing, HasPassing, NonePasses};
+ghost use Rattle.std.specs.Option.{option_copied};
+ghost use Rattle.lol_instructions.specs.Attributes.{TagAttributes};
+ghost use Rattle.lol_instructions.specs.declared.instruction.Instruction.{Instruction};
+ghost use Rattle.lol_key_table.specs.KeyTables.{IsTableOf};
+ghost use Rattle.lol_rows.specs.KeyHashes.{name_hashes};
+ghost use Rattle.lol_rows.specs.TagHashes.{pair_hashes};
+ghost use Rattle.lol_rows.specs.Rows.{AreRowsOf, is_left_open, is_left_by_name, is_left_by_keys, leaves_seen, passes_at, some_pass, HasPassing, NonePasses, candidate_addresses, AreCandidates, AreWithin, HaveWanted};
 
+use crate::candidates::Candidates;
 use crate::key_hashes::{after_name, name_hash, pair_hash};
-use crate::tag_hashes::TagKeys;
 use lol_base::LocalName;
 use lol_instructions::{AddressRange, AttributeMatcher, Instruction};
 use lol_key_table::KeyTable;
@@ -44,24 +48,24 @@ impl Rows {
         })
     }
 
-    /// Whether a range of these instructions has one that tests no other name and is known to need attributes. For `n` instructions it takes
-    /// a logarithm of `n`, and a step for each other one that has a hash of those. It takes no memory.
+    /// Whether a range of these instructions has one that tests no other name and is known to need attributes. `hashes` are the
+    /// `name_hashes` of the name. For `n` instructions it takes a logarithm of `n`, and a step for each other one that has a hash of those;
+    /// where the range is short, a step for each of it. It takes no memory.
     pub fn has_open(
         &self,
         instructions: &[Instruction],
         range: &AddressRange,
         local_name: &LocalName<'_>,
+        hashes: &[u32; 4],
     ) -> bool
-        ensures { AreRowsOf instructions.now self.now
+        ensures { AreRowsOf instructions.now self.now → hashes.now ≡ name_hashes local_name.now.lowercased
             → result ≡ some_pass (is_left_open local_name.now.lowercased) instructions.now range.now }
     {
-        self.has_open_hashed(instructions, range, local_name, name_hash(None, true))
-            || self.has_open_hashed(
-                instructions,
-                range,
-                local_name,
-                name_hash(Some(local_name), true),
-            )
+        if is_short(range) {
+            return some_open(instructions, range, local_name);
+        }
+        self.has_open_hashed(instructions, range, local_name, hashes[1])
+            || self.has_open_hashed(instructions, range, local_name, hashes[3])
     }
 
     /// The same of the nodes with this hash, and perhaps of others.
@@ -85,134 +89,95 @@ impl Rows {
         false
     }
 
-    /// Adds the addresses of those instructions of a range that test no other name, ascending. `found` is room for what is looked up; where
-    /// memory for that is refused, each instruction of the range is looked at.
-    ///
-    /// # Errors
-    /// Out of memory, but not where `left` has room for the whole range.
-    pub fn add_left_by_name(
+    /// The addresses of a range among which are all whose instructions test no other name. `hashes` are the `name_hashes` of the name, and
+    /// `found` is room for what is looked up; each address of the range is given where the range is short, or memory for `found` is refused.
+    /// For `n` instructions it takes a logarithm of `n` for each hash, and `m log m` steps for `m` addresses that are found.
+    pub fn candidates_by_name<'f>(
         &self,
-        instructions: &[Instruction],
         range: &AddressRange,
-        local_name: &LocalName<'_>,
-        found: &mut Vec<usize>,
-        left: &mut Vec<usize>,
-    ) -> Result<(), AllocError>
-        ensures left { OnOk result (AreRowsOf instructions.now self.now → left.new.items
-            ≡ left.old.items ++ passing (is_left_by_name local_name.now.lowercased) instructions.now range.now) }
-        ensures free { AreRowsOf instructions.now self.now → HasRoomFor left.old range.now → IsOk result }
-        ensures capacity { vec_capacity left.old ≤ vec_capacity left.new }
+        hashes: &[u32],
+        found: &'f mut Vec<usize>,
+    ) -> Candidates<'f>
+        ensures left { (instructions : List Instruction) → AreRowsOf instructions self.now
+            → (name : List ℕ) → hashes.now ≡ name_hashes name
+            → AreCandidates (is_left_by_name name) instructions range.now result }
+        ensures within { (instructions : List Instruction) → AreRowsOf instructions self.now
+            → AreWithin range.now result }
     {
-        let hashes = [
-            name_hash(None, false),
-            name_hash(None, true),
-            name_hash(Some(local_name), false),
-            name_hash(Some(local_name), true),
-        ];
-        let tag = Tag {
-            local_name,
-            matcher: None,
-        };
-        match self.names.find(&hashes, range.start..range.end, found) {
-            Ok(()) => add_found(instructions, found, tag, left),
-            Err(_) => add_each(instructions, range, tag, left),
-        }
+        look_up(&self.names, range, hashes, found)
     }
 
-    /// Adds the addresses of those instructions of a range that test no other name, and no id, class or attribute that the tag lacks,
-    /// ascending. `found` is as for `add_left_by_name`.
-    ///
-    /// # Errors
-    /// Out of memory, but not where `left` has room for the whole range.
-    pub fn add_left_by_keys(
+    /// The same of those whose instructions test no other name, and no id, class or attribute that the tag lacks. `hashes` are what
+    /// `add_pair_hashes` adds of the tag.
+    pub fn candidates_by_keys<'f>(
         &self,
-        instructions: &[Instruction],
         range: &AddressRange,
-        tag: &TagKeys<'_, '_>,
-        found: &mut Vec<usize>,
-        left: &mut Vec<usize>,
-    ) -> Result<(), AllocError>
-        ensures left { OnOk result (AreRowsOf instructions.now self.now → HasItsHashes tag.now → left.new.items
-            ≡ left.old.items ++ passing (is_left_by_keys tag.now.local_name.now.lowercased tag.now.matcher.now)
-            instructions.now range.now) }
-        ensures free { AreRowsOf instructions.now self.now → HasItsHashes tag.now
-            → HasRoomFor left.old range.now → IsOk result }
-        ensures capacity { vec_capacity left.old ≤ vec_capacity left.new }
+        hashes: &[u32],
+        found: &'f mut Vec<usize>,
+    ) -> Candidates<'f>
+        ensures left { (instructions : List Instruction) → AreRowsOf instructions self.now
+            → (name : List ℕ) (seen : TagAttributes) → hashes.now ≡ pair_hashes name seen
+            → AreCandidates (is_left_by_keys name seen) instructions range.now result }
+        ensures within { (instructions : List Instruction) → AreRowsOf instructions self.now
+            → AreWithin range.now result }
     {
-        let named = Tag {
-            local_name: tag.local_name,
-            matcher: Some(tag.matcher),
-        };
-        match self.pairs.find(tag.hashes, range.start..range.end, found) {
-            Ok(()) => add_found(instructions, found, named, left),
-            Err(_) => add_each(instructions, range, named, left),
-        }
+        look_up(&self.pairs, range, hashes, found)
     }
 }
 
-/// A start tag: its name, and its attributes if they are known.
-#[derive(Clone, Copy)]
-struct Tag<'t, 'i> {
-    local_name: &'t LocalName<'i>,
-    matcher: Option<&'t AttributeMatcher<'i>>,
-}
-
-/// Adds those of some addresses whose instructions a tag leaves.
-fn add_found(
-    instructions: &[Instruction],
-    found: &[usize],
-    tag: Tag<'_, '_>,
-    left: &mut Vec<usize>,
-) -> Result<(), AllocError>
-    ensures left { OnOk result
-        (left.new.items ≡ left.old.items ++ filter (passes_at (leaves tag.entry) instructions.now) found.now) }
-    ensures free { length left.old.items + length (filter (passes_at (leaves tag.entry) instructions.now) found.now)
-        ≤ vec_capacity left.old → IsOk result }
-    ensures capacity { vec_capacity left.old ≤ vec_capacity left.new }
-{
-    for address in found {
-        if is_left(instructions, *address, tag) {
-            left.push(*address)?;
-        }
-    }
-    Ok(())
-}
-
-/// Adds the addresses of a range whose instructions a tag leaves.
-fn add_each(
-    instructions: &[Instruction],
+/// The addresses of a range that have one of these hashes in a table, or each of the range.
+fn look_up<'f>(
+    table: &KeyTable,
     range: &AddressRange,
-    tag: Tag<'_, '_>,
-    left: &mut Vec<usize>,
-) -> Result<(), AllocError>
-    ensures left { OnOk result
-        (left.new.items ≡ left.old.items ++ passing (leaves tag.entry) instructions.now range.now) }
-    ensures free { length left.old.items + length (passing (leaves tag.entry) instructions.now range.now)
-        ≤ vec_capacity left.old → IsOk result }
-    ensures capacity { vec_capacity left.old ≤ vec_capacity left.new }
+    hashes: &[u32],
+    found: &'f mut Vec<usize>,
+) -> Candidates<'f>
+    ensures { (all : List ℕ) → IsTableOf all table.now
+        → HaveWanted all hashes.now range.now (candidate_addresses result) }
 {
-    for address in range.start..range.end {
-        if is_left(instructions, address, tag) {
-            left.push(address)?;
-        }
+    if is_short(range) {
+        return Candidates::Each(range.start..range.end);
     }
-    Ok(())
+    match table.find(hashes, range.start..range.end, found) {
+        Ok(()) => Candidates::Found(found.as_slice()),
+        Err(_) => Candidates::Each(range.start..range.end),
+    }
 }
 
-/// Whether the instruction at an address tests no other name, and no id, class or attribute that the tag is known to lack.
-fn is_left(instructions: &[Instruction], address: usize, tag: Tag<'_, '_>) -> bool
-    ensures { result ≡ passes_at (leaves tag.entry) instructions.now address }
+// To look addresses up takes about as long as to run through so many.
+const FEWEST_LOOKED_UP: usize = 48;
+
+fn is_short(range: &AddressRange) -> bool {
+    range.end.saturating_sub(range.start) < FEWEST_LOOKED_UP
+}
+
+/// Whether an instruction tests no other name, and, where attributes are given, no id, class or attribute that they lack.
+pub fn is_left(
+    instruction: &Instruction,
+    local_name: &LocalName<'_>,
+    attributes: Option<&AttributeMatcher<'_>>,
+) -> bool
+    ensures { result ≡ leaves_seen local_name.now.lowercased (option_copied attributes.entry) instruction.now }
 {
-    let Some(instruction) = instructions.get(address) else {
-        return false;
-    };
-    if instruction.predicate.has_other_name(tag.local_name) {
+    if instruction.predicate.has_other_name(local_name) {
         return false;
     }
-    match tag.matcher {
+    match attributes {
         Some(matcher) => !instruction.predicate.lacks_key(matcher),
         None => true,
     }
+}
+
+/// Whether a range has an instruction that tests no other name and is known to need attributes, by a look at each.
+fn some_open(instructions: &[Instruction], range: &AddressRange, local_name: &LocalName<'_>) -> bool
+    ensures { result ≡ some_pass (is_left_open local_name.now.lowercased) instructions.now range.now }
+{
+    for address in range.start..range.end {
+        if is_left_open(instructions, address, local_name) {
+            return true;
+        }
+    }
+    false
 }
 
 /// Whether the instruction at an address tests no other name, and is known to need attributes.

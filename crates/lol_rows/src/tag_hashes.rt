@@ -38,17 +38,6 @@ pub fn add_pair_hashes(
     Ok(())
 }
 
-/// A start tag: its name, its attributes, and the hashes that `add_pair_hashes` adds of these.
-#[derive(Clone, Copy)]
-pub struct TagKeys<'t, 'i> {
-    /// The tag's name.
-    pub local_name: &'t LocalName<'i>,
-    /// Its attributes.
-    pub matcher: &'t AttributeMatcher<'i>,
-    /// The hashes of the pairs of keys that it has.
-    pub hashes: &'t [u32],
-}
-
 /// Hashers that were given that there is no name, and a name.
 #[derive(Clone, Copy)]
 struct BothNames {

@@ -3,7 +3,7 @@
 use lol_base::{Attributes, LocalName, Namespace};
 use lol_css::Selector;
 use lol_program::{Ast, AttributeMatcher, Compiler, Instruction, Program};
-use lol_rows::{Rows, TagKeys, add_pair_hashes};
+use lol_rows::{Candidates, Rows, add_pair_hashes, is_left, name_hashes};
 use std::alloc::{AllocError, Global};
 use std::process::Abort;
 use std::test::Fail;
@@ -22,6 +22,46 @@ const SELECTORS: &[&str] = &[
     "*.A#i",
     "[href^='']",
     "a:not(p)",
+];
+
+/// Selectors of other names than the tags have. With those above they are 49.
+const OTHERS: &[&str] = &[
+    "h1",
+    "h1.a",
+    "h1#i",
+    "h1[href]",
+    "h1:not(.a)",
+    "h1:nth-child(2).b",
+    "h2",
+    "h2.a",
+    "h2#i",
+    "h2[href]",
+    "h2:not(.a)",
+    "h2:nth-child(2).b",
+    "h3",
+    "h3.a",
+    "h3#i",
+    "h3[href]",
+    "h3:not(.a)",
+    "h3:nth-child(2).b",
+    "h4",
+    "h4.a",
+    "h4#i",
+    "h4[href]",
+    "h4:not(.a)",
+    "h4:nth-child(2).b",
+    "h5",
+    "h5.a",
+    "h5#i",
+    "h5[href]",
+    "h5:not(.a)",
+    "h5:nth-child(2).b",
+    "h6",
+    "h6.a",
+    "h6#i",
+    "h6[href]",
+    "h6:not(.a)",
+    "h6:nth-child(2).b",
 ];
 
 /// A tag: its name, and its attributes.
@@ -83,9 +123,10 @@ const ROWS: [Row; 8] = [
     ),
 ];
 
-fn program(alloc: Global, texts: &[&str]) -> Result<Program, Fail> {
+/// The program of some selectors, and of others after them.
+fn program(alloc: Global, texts: &[&str], others: &[&str]) -> Result<Program, Fail> {
     let mut ast = Ast::new(alloc);
-    for text in texts {
+    for text in texts.iter().chain(others) {
         ast.add_selector(&Selector::from_str(alloc, text)?, 0)?;
     }
     Ok(Compiler::new(alloc).compile(ast)?)
@@ -104,6 +145,26 @@ fn matcher(attributes: &Attributes) -> AttributeMatcher<'_> {
     AttributeMatcher::new(tag.input, tag.attr_buffer, Namespace::Html)
 }
 
+/// Those of some addresses whose instructions a tag leaves.
+fn left_of(
+    alloc: Global,
+    instructions: &[Instruction],
+    candidates: &Candidates<'_>,
+    name: &LocalName<'_>,
+    matcher: Option<&AttributeMatcher<'_>>,
+) -> Result<Vec<usize>, AllocError> {
+    let mut left = Vec::new(alloc);
+    for index in 0..candidates.len() {
+        let address = candidates.address(index);
+        if let Some(instruction) = instructions.get(address) {
+            if is_left(instruction, name, matcher) {
+                left.push(address)?;
+            }
+        }
+    }
+    Ok(left)
+}
+
 /// The addresses of a range that a name leaves, by rows.
 fn by_name(
     alloc: Global,
@@ -113,15 +174,8 @@ fn by_name(
     name: &LocalName<'_>,
 ) -> Result<Vec<usize>, AllocError> {
     let mut found = Vec::new(alloc);
-    let mut left = Vec::new(alloc);
-    rows.add_left_by_name(
-        &program.instructions,
-        &(start..end),
-        name,
-        &mut found,
-        &mut left,
-    )?;
-    Ok(left)
+    let candidates = rows.candidates_by_name(&(start..end), &name_hashes(name), &mut found);
+    left_of(alloc, &program.instructions, &candidates, name, None)
 }
 
 /// The addresses of a range that a tag leaves, by rows.
@@ -135,21 +189,15 @@ fn by_keys(
 ) -> Result<Vec<usize>, AllocError> {
     let mut hashes = Vec::new(alloc);
     add_pair_hashes(name, matcher, &mut hashes)?;
-    let tag = TagKeys {
-        local_name: name,
-        matcher,
-        hashes: &hashes,
-    };
     let mut found = Vec::new(alloc);
-    let mut left = Vec::new(alloc);
-    rows.add_left_by_keys(
+    let candidates = rows.candidates_by_keys(&(start..end), &hashes, &mut found);
+    left_of(
+        alloc,
         &program.instructions,
-        &(start..end),
-        &tag,
-        &mut found,
-        &mut left,
-    )?;
-    Ok(left)
+        &candidates,
+        name,
+        Some(matcher),
+    )
 }
 
 fn is_row(alloc: Global, program: &Program, rows: &Rows, row: &Row) -> Result<bool, Fail> {
@@ -164,6 +212,7 @@ fn is_row(alloc: Global, program: &Program, rows: &Rows, row: &Row) -> Result<bo
                 &program.instructions,
                 &(0..program.instructions.len()),
                 &name,
+                &name_hashes(&name),
             ) == *opens
             && by_keys(alloc, program, rows, all, &name, &matcher)?.as_slice() == *keyed,
     )
@@ -171,11 +220,46 @@ fn is_row(alloc: Global, program: &Program, rows: &Rows, row: &Row) -> Result<bo
 
 #[test]
 fn leave_what_is_counted_by_hand(rt: HostRuntime) -> Result<(), Fail> {
-    let program = program(rt.alloc(), SELECTORS)?;
+    let program = program(rt.alloc(), SELECTORS, &[])?;
     let rows = Rows::of(rt.alloc(), &program.instructions)?;
     for row in &ROWS {
         assert!(rt; is_row(rt.alloc(), &program, &rows, row)?);
     }
+    Ok(())
+}
+
+/// The same in a range that is long enough to be looked up.
+#[test]
+fn leave_the_same_of_a_long_range(rt: HostRuntime) -> Result<(), Fail> {
+    let program = program(rt.alloc(), SELECTORS, OTHERS)?;
+    let rows = Rows::of(rt.alloc(), &program.instructions)?;
+    for row in &ROWS {
+        assert!(rt; is_row(rt.alloc(), &program, &rows, row)?);
+    }
+    Ok(())
+}
+
+/// How many of a range a name may leave, and whether they were looked up.
+fn met(
+    alloc: Global,
+    rows: &Rows,
+    (start, end): (usize, usize),
+    name: &LocalName<'_>,
+) -> (usize, bool) {
+    let mut found = Vec::new(alloc);
+    let candidates = rows.candidates_by_name(&(start..end), &name_hashes(name), &mut found);
+    (candidates.len(), matches!(candidates, Candidates::Found(_)))
+}
+
+#[test]
+fn look_up_only_long_ranges(rt: HostRuntime) -> Result<(), Fail> {
+    let program = program(rt.alloc(), SELECTORS, OTHERS)?;
+    let rows = Rows::of(rt.alloc(), &program.instructions)?;
+    let name = LocalName::new(b"p");
+    assert!(rt; met(rt.alloc(), &rows, (0, 49), &name) == (11, true));
+    assert!(rt; met(rt.alloc(), &rows, (1, 49), &name) == (11, true));
+    assert!(rt; met(rt.alloc(), &rows, (2, 49), &name) == (47, false));
+    assert!(rt; met(rt.alloc(), &rows, (49, 2), &name) == (0, false));
     Ok(())
 }
 
@@ -189,14 +273,14 @@ fn each_left(
 ) -> Result<Vec<usize>, AllocError> {
     let mut left = Vec::new(alloc);
     for (address, instruction) in instructions.iter().enumerate() {
-        if start <= address && address < end && is_left(instruction, name, matcher) {
+        if start <= address && address < end && leaves(instruction, name, matcher) {
             left.push(address)?;
         }
     }
     Ok(left)
 }
 
-fn is_left(
+fn leaves(
     instruction: &Instruction,
     name: &LocalName<'_>,
     matcher: Option<&AttributeMatcher<'_>>,
@@ -243,8 +327,12 @@ fn are_alike(
             == each_left(alloc, instructions, range, &name, None)?
             && by_keys(alloc, program, rows, range, &name, &matcher)?
                 == each_left(alloc, instructions, range, &name, Some(&matcher))?
-            && rows.has_open(instructions, &(range.0..range.1), &name)
-                == some_open(instructions, range, &name),
+            && rows.has_open(
+                instructions,
+                &(range.0..range.1),
+                &name,
+                &name_hashes(&name),
+            ) == some_open(instructions, range, &name),
     )
 }
 
@@ -259,7 +347,7 @@ const TAGS: &[Tag] = &[
 #[test]
 fn leave_what_a_look_at_each_leaves(rt: HostRuntime) -> Result<(), Fail> {
     let alloc = rt.alloc();
-    let program = program(alloc, SELECTORS)?;
+    let program = program(alloc, SELECTORS, &[])?;
     let rows = Rows::of(alloc, &program.instructions)?;
     for tag in TAGS {
         for start in 0..=14 {
@@ -271,15 +359,104 @@ fn leave_what_a_look_at_each_leaves(rt: HostRuntime) -> Result<(), Fail> {
     Ok(())
 }
 
+/// Ranges of 45 addresses and more, also past the last instruction.
+#[test]
+fn leave_of_long_ranges_what_a_look_at_each_leaves(rt: HostRuntime) -> Result<(), Fail> {
+    let alloc = rt.alloc();
+    let program = program(alloc, SELECTORS, OTHERS)?;
+    let rows = Rows::of(alloc, &program.instructions)?;
+    for tag in TAGS {
+        for start in 0..=5 {
+            for end in 50..=60 {
+                assert!(rt; are_alike(alloc, &program, &rows, (start, end), tag)?);
+            }
+        }
+    }
+    Ok(())
+}
+
+fn opens(program: &Program, rows: &Rows, (start, end): (usize, usize), name: &str) -> bool {
+    let name = LocalName::new(name.as_bytes());
+    rows.has_open(
+        &program.instructions,
+        &(start..end),
+        &name,
+        &name_hashes(&name),
+    )
+}
+
+const FEW: &[&str] = &["p", ":not(.a)", "div.a", "p:nth-child(2).b"];
+
+/// 48 selectors with no test of attributes.
+const PLAIN: &[&str] = &[
+    "h1:nth-child(1)",
+    "h1:nth-child(2)",
+    "h1:nth-child(3)",
+    "h1:nth-child(4)",
+    "h1:nth-child(5)",
+    "h1:nth-child(6)",
+    "h1:nth-child(7)",
+    "h1:nth-child(8)",
+    "h2:nth-child(1)",
+    "h2:nth-child(2)",
+    "h2:nth-child(3)",
+    "h2:nth-child(4)",
+    "h2:nth-child(5)",
+    "h2:nth-child(6)",
+    "h2:nth-child(7)",
+    "h2:nth-child(8)",
+    "h3:nth-child(1)",
+    "h3:nth-child(2)",
+    "h3:nth-child(3)",
+    "h3:nth-child(4)",
+    "h3:nth-child(5)",
+    "h3:nth-child(6)",
+    "h3:nth-child(7)",
+    "h3:nth-child(8)",
+    "h4:nth-child(1)",
+    "h4:nth-child(2)",
+    "h4:nth-child(3)",
+    "h4:nth-child(4)",
+    "h4:nth-child(5)",
+    "h4:nth-child(6)",
+    "h4:nth-child(7)",
+    "h4:nth-child(8)",
+    "h5:nth-child(1)",
+    "h5:nth-child(2)",
+    "h5:nth-child(3)",
+    "h5:nth-child(4)",
+    "h5:nth-child(5)",
+    "h5:nth-child(6)",
+    "h5:nth-child(7)",
+    "h5:nth-child(8)",
+    "h6:nth-child(1)",
+    "h6:nth-child(2)",
+    "h6:nth-child(3)",
+    "h6:nth-child(4)",
+    "h6:nth-child(5)",
+    "h6:nth-child(6)",
+    "h6:nth-child(7)",
+    "h6:nth-child(8)",
+];
+
 /// Selectors of a name, of which none is known to need attributes.
 #[test]
 fn know_what_needs_attributes(rt: HostRuntime) -> Result<(), Fail> {
-    let alloc = rt.alloc();
-    let program = program(alloc, &["p", ":not(.a)", "div.a", "p:nth-child(2).b"])?;
-    let rows = Rows::of(alloc, &program.instructions)?;
-    let all = 0..program.instructions.len();
-    assert!(rt; !rows.has_open(&program.instructions, &all, &LocalName::new(b"p")));
-    assert!(rt; rows.has_open(&program.instructions, &all, &LocalName::new(b"DIV")));
-    assert!(rt; !rows.has_open(&program.instructions, &(0..2), &LocalName::new(b"div")));
+    let program = program(rt.alloc(), FEW, &[])?;
+    let rows = Rows::of(rt.alloc(), &program.instructions)?;
+    assert!(rt; !opens(&program, &rows, (0, 4), "p"));
+    assert!(rt; opens(&program, &rows, (0, 4), "DIV"));
+    assert!(rt; !opens(&program, &rows, (0, 2), "div"));
+    Ok(())
+}
+
+/// The same, looked up.
+#[test]
+fn know_what_needs_attributes_in_a_long_range(rt: HostRuntime) -> Result<(), Fail> {
+    let program = program(rt.alloc(), FEW, PLAIN)?;
+    let rows = Rows::of(rt.alloc(), &program.instructions)?;
+    assert!(rt; !opens(&program, &rows, (0, 52), "p"));
+    assert!(rt; opens(&program, &rows, (0, 52), "DIV"));
+    assert!(rt; !opens(&program, &rows, (3, 52), "div"));
     Ok(())
 }
