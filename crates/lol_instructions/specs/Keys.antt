@@ -4,7 +4,8 @@ use Rattle.std.specs.Str.{bytes_eq}
 use Rattle.std.specs.List.{list_all}
 use Rattle.lol_base.specs.StartTags.{StartTag}
 use Rattle.lol_base.specs.Names.{lowercased}
-use Rattle.lol_instructions.specs.Tests.{Element, NameTest, AnyName, HasName, AttributeTest, HasId, HasClass, HasAttribute, Compares, attribute_holds, attribute_value, words, needs_operand, is_empty_text}
+use Rattle.lol_instructions.specs.Tests.{Element, NameTest, AnyName, HasName, AttributeTest, HasId, HasClass, HasAttribute, Compares, attribute_holds, words, needs_operand, is_empty_text}
+use Rattle.lol_instructions.specs.Attributes.{TagAttributes, tag_attributes, value_in}
 use Rattle.lol_instructions.specs.Compounds.{Test, OfName, OfAttributes, NoneOf, SomeOf, Compound, NoTests, AndTest, all_hold, by_names}
 use Rattle.lol_instructions.specs.declared.name_value.NameValue.TheVariants.{False, Open}
 
@@ -180,8 +181,11 @@ abbrev pub words_of : Option (List ℕ) → List (List ℕ)
 words_of None = []
 words_of (Some value) = words value
 
--- Its id, its classes, and the names of its attributes in lower case.
+-- The id, the classes, and the names of the attributes in lower case.
+abbrev pub keys_seen : TagAttributes → List AttributeKey
+keys_seen seen =
+    map ById (option_to_list (value_in (codes "id") seen))
+    ++ (map ByClass (words_of (value_in (codes "class") seen)) ++ map (λ a. ByAttribute (lowercased a.name)) seen.attributes)
+
 abbrev pub keys_of_tag : StartTag → List AttributeKey
-keys_of_tag tag =
-    map ById (option_to_list (attribute_value (codes "id") tag))
-    ++ (map ByClass (words_of (attribute_value (codes "class") tag)) ++ map (λ a. ByAttribute (lowercased a.name)) tag.attributes)
+keys_of_tag tag = keys_seen (tag_attributes tag)

@@ -1,3 +1,2 @@
-pub mod RightKeys
 pub mod Counting
 pub mod TriedNodes

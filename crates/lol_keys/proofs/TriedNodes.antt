@@ -18,12 +18,8 @@ use Rattle.lol_vm.specs.Documents.{Document, element_of}
 use Rattle.lol_vm.specs.Answers.{Started, Dropped, report, is_dropped, answer, after, answers_from, name_tries, attribute_tries, needs_attributes, asks}
 use Rattle.lol_instructions.specs.Keys.{Keys, is_ruled_out_by_name, is_ruled_out_by_attributes, no_keys}
 use Rattle.lol_keys.specs.KeyTries.{AreRight, is_left_by_name, is_left_open, asks_at_once, is_left, is_tried, name_tries_by_keys, tries_attributes, attribute_tries_by_keys, Without, Completing, With, one_if, name_counted, attribute_counted, calls_by_names, calls_in, needs_them, answer_by_keys, answers_by_keys_from}
-use Rattle.lol_keys.specs.KeyLaws.{KeysAreRight, MatchingNodesAreTried, TriedPairsGiveIds, NamesKeepAsks, AsksByTries, FirstStepSeesNoRest, TriesAreAtMost, TriesAndSparedAreAll, CallsAreCounted, CallsAskWhereAsked, OrderChangesNoTries, NoKeysAreExact, Spares, AllSpare, AnswersAreSparing}
-use Rattle.lol_keys.proofs.RightKeys.{one_key_is_right, both_keys_are_right, no_keys_are_right}
+use Rattle.lol_keys.specs.KeyLaws.{MatchingNodesAreTried, TriedPairsGiveIds, NamesKeepAsks, AsksByTries, FirstStepSeesNoRest, TriesAreAtMost, TriesAndSparedAreAll, CallsAreCounted, CallsAskWhereAsked, OrderChangesNoTries, NoKeysAreExact, Spares, AllSpare, AnswersAreSparing}
 use Rattle.lol_keys.proofs.Counting.{filter_within, any_within, any_both, any_weaker, any_same, count_sum, count_both}
-
-pub keys_are_right : KeysAreRight
-keys_are_right c = (one_key_is_right c, both_keys_are_right c, no_keys_are_right c)
 
 -- 1. What is ruled out neither matches nor is open
 

@@ -2,20 +2,16 @@
 use Rattle.std.specs.Prelude.{ℕ, [], ◌∷◌, ◌≡◌, ◌≢◌, ◌≤◌, ◌+◌, Bool, true, not, ◌&&◌, ◌||◌, List, filter, count_by, sum_by, AllPairs}
 use Rattle.std.specs.List.{list_any}
 use Rattle.lol_base.specs.StartTags.{Attribute}
-use Rattle.lol_instructions.specs.Tests.{Element, is_html, attribute_holds}
-use Rattle.lol_instructions.specs.Compounds.{Compound, with_rest}
+use Rattle.lol_instructions.specs.Tests.{Element, is_html}
+use Rattle.lol_instructions.specs.Compounds.{with_rest}
 use Rattle.lol_program.specs.Paths.{Path, Selectors}
 use Rattle.lol_program.specs.Sets.{SameMembers}
 use Rattle.lol_vm.specs.Matching.{matches, left_matches}
 use Rattle.lol_vm.specs.Events.{Event}
 use Rattle.lol_vm.specs.Documents.{Document}
 use Rattle.lol_vm.specs.Answers.{Answer, Started, Dropped, Ended, answers_from, matching_ids, name_tries, attribute_tries, needs_attributes, asks}
-use Rattle.lol_instructions.specs.Keys.{Keys, AreKeysOf, one_key, both_keys, AttributeKey, test_of_key, same_key, keys_of_tag, no_keys}
+use Rattle.lol_instructions.specs.Keys.{Keys, no_keys}
 use Rattle.lol_keys.specs.KeyTries.{AreRight, is_left_by_name, asks_at_once, is_tried, name_tries_by_keys, tries_attributes, attribute_tries_by_keys, name_counted, attribute_counted, needs_them, calls, answers_by_keys_from}
-
--- The keys of a compound are right: one, both, and none.
-abbrev pub KeysAreRight : Type 0
-KeysAreRight = (c : Compound) → AreKeysOf (one_key c) c × AreKeysOf (both_keys c) c × AreKeysOf no_keys c
 
 -- A node that matches is tried, with whatever right keys. So nothing that is reported or opened is lost.
 abbrev pub MatchingNodesAreTried : Type 0
@@ -83,10 +79,6 @@ OrderChangesNoTries =
     → (e : Element) (outer : List Element)
     → (name_tries_by_keys keys xs e outer ≡ name_tries_by_keys keys ys e outer)
     × (attribute_tries_by_keys keys xs e outer ≡ attribute_tries_by_keys keys ys e outer)
-
--- An element passes a key's test exactly if its tag has the key: by its id, its classes and its attributes' names.
-abbrev pub KeysAreOfTags : Type 0
-KeysAreOfTags = (key : AttributeKey) (e : Element) → attribute_holds (test_of_key key) e ≡ list_any (same_key key) (keys_of_tag e.tag)
 
 -- Without keys the counts are the exact machine's.
 abbrev pub NoKeysAreExact : Type 0

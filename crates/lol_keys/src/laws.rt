@@ -1,13 +1,6 @@
 //! Laws of keys, and of what is tried by them.
 
-ghost use Rattle.lol_keys.specs.KeyLaws.{KeysAreRight, KeysAreOfTags, MatchingNodesAreTried, TriedPairsGiveIds, NamesKeepAsks, AsksByTries, FirstStepSeesNoRest, TriesAreAtMost, TriesAndSparedAreAll, NoKeysAreExact, CallsAreCounted, CallsAskWhereAsked, OrderChangesNoTries, AnswersAreSparing};
-
-/// What a key rules out by name is false by names, and what it rules out by attributes doesn't hold; a tag has the keys of its id, its
-/// classes and its attributes' names.
-pub fn keys_rule_out_what_fails()
-    ensures right { KeysAreRight }
-    ensures tags { KeysAreOfTags }
-{}
+ghost use Rattle.lol_keys.specs.KeyLaws.{MatchingNodesAreTried, TriedPairsGiveIds, NamesKeepAsks, AsksByTries, FirstStepSeesNoRest, TriesAreAtMost, TriesAndSparedAreAll, NoKeysAreExact, CallsAreCounted, CallsAskWhereAsked, OrderChangesNoTries, AnswersAreSparing};
 
 /// What matches is tried, and what is tried gives the same ids.
 pub fn matching_nodes_are_tried()

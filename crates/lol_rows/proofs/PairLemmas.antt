@@ -1,27 +1,24 @@
 -- The hashes of a tag's keys, part by part.
-use Rattle.std.proofs.Common.{◌≡◌, ℕ, zero, suc, ◌+◌, ◌<◌, ◌≤◌, arith, Bool, true, false, cond, not, List, [], ◌∷◌, ◌++◌, length, map, take, get_or, Option, Some, None, Contains, inl, inr, refl, sym, ap, ◌∙◌, subst, append_assoc, append-nil}
-use Rattle.std.specs.Prelude.{flat_map, fold, codes, option_to_list, unwrap_or, slice_get}
-use Rattle.std.specs.Str.{bytes_eq}
-use Rattle.std.specs.List.{list_any}
+use Rattle.std.proofs.Common.{◌≡◌, ℕ, zero, suc, ◌+◌, ◌<◌, ◌≤◌, arith, Bool, true, false, not, List, [], ◌∷◌, ◌++◌, length, map, take, get_or, Option, Some, None, Contains, inl, inr, refl, sym, ap, ◌∙◌, append_assoc, append-nil}
+use Rattle.std.specs.Prelude.{flat_map, fold, codes, option_to_list, slice_get}
 use Rattle.std.specs.Option.{option_map}
 use Rattle.std.specs.declared.hash.DefaultHasher.{DefaultHasher}
 use Rattle.std.proofs.lemmas.List.{take_more, map-append}
-use Rattle.std.proofs.lemmas.Slice.Eq.{bytes_eq-Decides}
 use Rattle.lol_base.specs.Names.{lowercased}
 use Rattle.lol_base.specs.StartTags.{Attribute}
 use Rattle.lol_base.specs.BoolLaws.{and_parts}
 use Rattle.lol_base.specs.PlaceLaws.{some_is}
-use Rattle.lol_base.specs.MemberLaws.{Among, contains_from_among, among_front, among_back, map_among, flat_map_among, among_any}
-use Rattle.lol_instructions.specs.Tests.{find_attribute, has_value, words}
-use Rattle.lol_instructions.specs.Attributes.{TagAttributes, value_in, value_among}
-use Rattle.lol_instructions.specs.Keys.{AttributeKey, ById, ByClass, ByAttribute, words_of}
+use Rattle.lol_base.specs.MemberLaws.{Among, contains_from_among, map_among, flat_map_among}
+use Rattle.lol_instructions.specs.Attributes.{TagAttributes, value_in}
+use Rattle.lol_instructions.specs.Keys.{AttributeKey, ById, ByClass, ByAttribute, words_of, keys_seen}
 use Rattle.lol_instructions.specs.CompiledKeys.{is_key_there, lacks_key}
 use Rattle.lol_instructions.specs.declared.instruction.Instruction.{Instruction}
 use Rattle.std.specs.Hash.DefaultHasher as sip
 use Rattle.lol_rows.specs.KeyHashes.{byte_hashed, after_name, hash_after, hash_of_pair}
-use Rattle.lol_rows.specs.TagHashes.{both_hashes, keys_seen, pair_hashes}
+use Rattle.lol_rows.specs.TagHashes.{both_hashes, pair_hashes}
 use Rattle.lol_rows.specs.Rows.{keys_of, pair_hash_of, is_left_by_name, is_left_by_keys}
 use Rattle.lol_rows.proofs.Left.{unnamed_or, key_is}
+use Rattle.lol_rows.specs.KeyLaws.{key_among}
 
 -- 1. Lists
 
@@ -77,50 +74,8 @@ module _ (both : Option AttributeKey → List ℕ) (seen : TagAttributes) where
           joined (map ById ids) (map ByClass classes ++ map name_of seen.attributes)
           ∙ λ i. part ById ids i ++ (joined (map ByClass classes) (map name_of seen.attributes) ∙ λ j. part ByClass classes j ++ part name_of seen.attributes j) i
 
--- 3. A key that is there is among those that are seen
+-- 3. A key that isn't lacking is among those that are seen
 
-same_bytes : (a b : List ℕ) → bytes_eq a b ≡ true → a ≡ b
-same_bytes a b h = (bytes_eq-Decides a b).0 h
-
-id_among : (o : Option (List ℕ)) (id : List ℕ) → has_value o (λ value. bytes_eq value id) ≡ true → Among (option_to_list o) id
-id_among None id h = cc
-id_among (Some value) id h = inl (same_bytes value id h)
-
-class_among : (o : Option (List ℕ)) (name : List ℕ) → has_value o (λ value. list_any (λ word. bytes_eq word name) (words value)) ≡ true → Among (words_of o) name
-class_among None name h = cc
-class_among (Some value) name h =
-    let there = among_any (λ word. bytes_eq word name) (words value) h in
-    subst (Among (words value)) (same_bytes there.0 name there.2) there.1
-
-name_among : (attributes : List Attribute) (name : List ℕ) → has_value (value_among name attributes) (λ value. true) ≡ true → Among (map (λ (a : Attribute). ByAttribute (lowercased a.name)) attributes) (ByAttribute name)
-name_among [] name h = cc
-name_among (a ∷ more) name h = by_first (bytes_eq (lowercased a.name) name) refl h (name_among more name)
-  where
-    by_first : (b : Bool) → bytes_eq (lowercased a.name) name ≡ b
-        → has_value (option_map (λ (x : Attribute). unwrap_or x.value []) (cond b (Some a) (find_attribute name more))) (λ value. true) ≡ true
-        → (has_value (value_among name more) (λ value. true) ≡ true → Among (map (λ (x : Attribute). ByAttribute (lowercased x.name)) more) (ByAttribute name))
-        → Among (map (λ (x : Attribute). ByAttribute (lowercased x.name)) (a ∷ more)) (ByAttribute name)
-    by_first true is found later = inl (ap ByAttribute (same_bytes (lowercased a.name) name is))
-    by_first false is found later = inr (later found)
-
-abbrev ids_seen : TagAttributes → List AttributeKey
-ids_seen seen = map ById (option_to_list (value_in (codes "id") seen))
-
-abbrev classes_seen : TagAttributes → List AttributeKey
-classes_seen seen = map ByClass (words_of (value_in (codes "class") seen))
-
-abbrev names_seen : TagAttributes → List AttributeKey
-names_seen seen = map (λ (a : Attribute). ByAttribute (lowercased a.name)) seen.attributes
-
-key_among : (key : AttributeKey) (seen : TagAttributes) → is_key_there key seen ≡ true → Among (keys_seen seen) key
-key_among (ById id) seen h = among_front (ids_seen seen) (classes_seen seen ++ names_seen seen) (ById id) (map_among ById (option_to_list (value_in (codes "id") seen)) id (id_among (value_in (codes "id") seen) id h))
-key_among (ByClass name) seen h =
-    among_back (ids_seen seen) (classes_seen seen ++ names_seen seen) (ByClass name)
-    (among_front (classes_seen seen) (names_seen seen) (ByClass name) (map_among ByClass (words_of (value_in (codes "class") seen)) name (class_among (value_in (codes "class") seen) name h)))
-key_among (ByAttribute name) seen h =
-    among_back (ids_seen seen) (classes_seen seen ++ names_seen seen) (ByAttribute name) (among_back (classes_seen seen) (names_seen seen) (ByAttribute name) (name_among seen.attributes name h))
-
--- an optional key that isn't lacking
 optional_among : (key : Option AttributeKey) (seen : TagAttributes) → lacks_key key seen ≡ false → Among (None ∷ map Some (keys_seen seen)) key
 optional_among None seen h = inl refl
 optional_among (Some key) seen h = inr (map_among Some (keys_seen seen) key (key_among key seen (there (is_key_there key seen) h)))

@@ -1,3 +1,4 @@
 pub mod KeyHashes
 pub mod TagHashes
 pub mod Rows
+pub mod KeyLaws

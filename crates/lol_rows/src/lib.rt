@@ -3,6 +3,7 @@
 
 mod candidates;
 mod key_hashes;
+pub mod laws;
 mod rows;
 mod tag_hashes;
 

@@ -1,26 +1,30 @@
--- The keys of a compound are right.
+-- Laws of keys: they are right, and a tag's attributes have a key exactly if it is among theirs.
 use Rattle.std.proofs.Common.{◌≡◌, ℕ, Bool, true, false, cond, not, ◌||◌, ◌&&◌, filter, List, [], ◌∷◌, ◌++◌, map, Option, Some, None, ◌⊎◌, inl, inr, refl, sym, ap, ◌∙◌, subst}
-use Rattle.lol_base.specs.Names.{same_name, lowercased}
-use Rattle.lol_base.specs.BoolLaws.{and_parts, not_true}
-use Rattle.lol_instructions.specs.Tests.{Element, AnyName, NoName, HasName, IsNthChild, IsNthOfType, AttributeTest, HasId, HasClass, HasAttribute, Compares, attribute_holds, attribute_value, find_attribute, words, has_value, needs_operand, is_empty_text, compares, compared, ignores_case}
-use Rattle.lol_instructions.specs.Compounds.{Test, OfName, OfAttributes, NoneOf, SomeOf, Compound, NoTests, AndTest, holds, all_hold, value_of_bool, both, test_by_names, by_names}
-use Rattle.lol_instructions.specs.declared.name_value.NameValue.{NameValue}
-use Rattle.lol_instructions.specs.declared.name_value.NameValue.TheVariants.{True, False, Open}
-use Rattle.lol_instructions.specs.Keys.{AttributeKey, ById, ByClass, ByAttribute, KeyTest, HasKey, IsOfAttributes, attribute_key_test, key_test, key_tests, first_of, first_read, read_name, read_id, read_class, read_attribute, name_key, attribute_key, is_of_attributes, is_of_any, are_of_attributes, without_name, opens_where_named, unless_named, one_key, both_keys, is_another_name, test_of_key, lacks, AreKeysOf, no_keys, same_key, words_of}
-use Rattle.lol_keys.specs.KeyLaws.{KeysAreOfTags}
 use Rattle.std.specs.Prelude.{codes, option_to_list, unwrap_or}
 use Rattle.std.specs.Option.{option_map}
 use Rattle.std.specs.Str.{bytes_eq}
 use Rattle.std.specs.List.{list_any, list_all}
-use Rattle.lol_base.specs.BoolLaws.{or-false}
+use Rattle.std.proofs.lemmas.Slice.Eq.{bytes_eq-Decides}
+use Rattle.lol_base.specs.Names.{same_name, lowercased}
+use Rattle.lol_base.specs.BoolLaws.{and_parts, not_true, or-false}
+use Rattle.lol_base.specs.MemberLaws.{Among, among_any}
+use Rattle.lol_base.specs.PlaceLaws.{some_is}
 use Rattle.lol_base.specs.StartTags.{Attribute}
+use Rattle.lol_instructions.specs.Tests.{Element, AnyName, NoName, HasName, IsNthChild, IsNthOfType, AttributeTest, HasId, HasClass, HasAttribute, Compares, attribute_holds, attribute_value, find_attribute, words, has_value, needs_operand, is_empty_text, compares, compared, ignores_case}
+use Rattle.lol_instructions.specs.Compounds.{Test, OfName, OfAttributes, NoneOf, SomeOf, Compound, NoTests, AndTest, holds, all_hold, value_of_bool, both, test_by_names, by_names}
+use Rattle.lol_instructions.specs.Attributes.{TagAttributes, tag_attributes, value_in}
+use Rattle.lol_instructions.specs.declared.name_value.NameValue.{NameValue}
+use Rattle.lol_instructions.specs.declared.name_value.NameValue.TheVariants.{True, False, Open}
+use Rattle.lol_instructions.specs.Keys.{AttributeKey, ById, ByClass, ByAttribute, KeyTest, HasKey, IsOfAttributes, attribute_key_test, key_test, key_tests, first_of, first_read, read_name, read_id, read_class, read_attribute, name_key, attribute_key, is_of_attributes, is_of_any, are_of_attributes, without_name, opens_where_named, unless_named, one_key, both_keys, is_another_name, test_of_key, lacks, AreKeysOf, no_keys, same_key, words_of, keys_seen, keys_of_tag}
+use Rattle.lol_instructions.specs.CompiledKeys.{is_key_there}
 
-some_injective : {T : Type 0} (x y : T) → Some x ≡ Some y → x ≡ y
-some_injective x y h = ap (of_some x) h
-  where
-    of_some : {T : Type 0} → T → Option T → T
-    of_some d None = d
-    of_some d (Some z) = z
+-- The keys of a compound are right: one, both, and none.
+abbrev pub KeysAreRight : Type 0
+KeysAreRight = (c : Compound) → AreKeysOf (one_key c) c × AreKeysOf (both_keys c) c × AreKeysOf no_keys c
+
+-- An element passes a key's test exactly if its tag has the key: by its id, its classes and its attributes' names.
+abbrev pub KeysAreOfTags : Type 0
+KeysAreOfTags = (key : AttributeKey) (e : Element) → attribute_holds (test_of_key key) e ≡ list_any (same_key key) (keys_of_tag e.tag)
 
 -- 1. A key that was read comes from a test that must hold
 
@@ -44,7 +48,7 @@ id_right e (OfName NoName) key h = cc
 id_right e (OfName (HasName name)) key h = cc
 id_right e (OfName (IsNthChild nth)) key h = cc
 id_right e (OfName (IsNthOfType nth)) key h = cc
-id_right e (OfAttributes (HasId id)) key h = λ all. subst (λ k. attribute_holds (test_of_key k) e ≡ true) (some_injective (ById id) key h) all
+id_right e (OfAttributes (HasId id)) key h = λ all. subst (λ k. attribute_holds (test_of_key k) e ≡ true) (some_is h) all
 id_right e (OfAttributes (HasClass name)) key h = cc
 id_right e (OfAttributes (HasAttribute name)) key h = cc
 id_right e (OfAttributes (Compares name operator operand case)) key h = by_operand (needs_operand operator && is_empty_text operand) h
@@ -62,7 +66,7 @@ class_right e (OfName (HasName name)) key h = cc
 class_right e (OfName (IsNthChild nth)) key h = cc
 class_right e (OfName (IsNthOfType nth)) key h = cc
 class_right e (OfAttributes (HasId id)) key h = cc
-class_right e (OfAttributes (HasClass name)) key h = λ all. subst (λ k. attribute_holds (test_of_key k) e ≡ true) (some_injective (ByClass name) key h) all
+class_right e (OfAttributes (HasClass name)) key h = λ all. subst (λ k. attribute_holds (test_of_key k) e ≡ true) (some_is h) all
 class_right e (OfAttributes (HasAttribute name)) key h = cc
 class_right e (OfAttributes (Compares name operator operand case)) key h = by_operand (needs_operand operator && is_empty_text operand) h
   where
@@ -80,13 +84,13 @@ attribute_right e (OfName (IsNthChild nth)) key h = cc
 attribute_right e (OfName (IsNthOfType nth)) key h = cc
 attribute_right e (OfAttributes (HasId id)) key h = cc
 attribute_right e (OfAttributes (HasClass name)) key h = cc
-attribute_right e (OfAttributes (HasAttribute name)) key h = λ all. subst (λ k. attribute_holds (test_of_key k) e ≡ true) (some_injective (ByAttribute name) key h) all
+attribute_right e (OfAttributes (HasAttribute name)) key h = λ all. subst (λ k. attribute_holds (test_of_key k) e ≡ true) (some_is h) all
 attribute_right e (OfAttributes (Compares name operator operand case)) key h = by_operand (needs_operand operator && is_empty_text operand) h
   where
     by_operand : (b : Bool) → read_attribute (cond b IsOfAttributes (HasKey (ByAttribute (lowercased name)))) ≡ Some key → holds (OfAttributes (Compares name operator operand case)) e ≡ true → attribute_holds (test_of_key key) e ≡ true
     by_operand true found all = cc
     by_operand false found all =
-        subst (λ k. attribute_holds (test_of_key k) e ≡ true) (some_injective (ByAttribute (lowercased name)) key found)
+        subst (λ k. attribute_holds (test_of_key k) e ≡ true) (some_is found)
         (there_if_compared (attribute_value (lowercased name) e.tag) (λ value. compares operator (compared (ignores_case case e.tag.namespace) value) (compared (ignores_case case e.tag.namespace) operand)) all)
 attribute_right e (NoneOf _) key h = cc
 attribute_right e (SomeOf _) key h = cc
@@ -124,7 +128,7 @@ name_false : (e : Element) (test : Test) (name : List ℕ) → read_name (key_te
 name_false e (OfName AnyName) name h = cc
 name_false e (OfName NoName) name h = cc
 name_false e (OfName (HasName own)) name h = λ other.
-    ap value_of_bool (ap (bytes_eq (lowercased e.tag.name)) (some_injective (lowercased own) name h) ∙ negated (bytes_eq (lowercased e.tag.name) name) other)
+    ap value_of_bool (ap (bytes_eq (lowercased e.tag.name)) (some_is h) ∙ negated (bytes_eq (lowercased e.tag.name) name) other)
 name_false e (OfName (IsNthChild nth)) name h = cc
 name_false e (OfName (IsNthOfType nth)) name h = cc
 name_false e (OfAttributes (HasId id)) name h = cc
@@ -266,6 +270,9 @@ one_key_is_right c = record {
 pub no_keys_are_right : (c : Compound) → AreKeysOf no_keys c
 no_keys_are_right c = record { by_name = λ e h. cc; by_attributes = λ e h. cc; opens = λ e h named. cc }
 
+pub keys_are_right : KeysAreRight
+keys_are_right c = (one_key_is_right c, both_keys_are_right c, no_keys_are_right c)
+
 -- 5. The keys of a tag
 
 any_append : {T : Type 0} (p : T → Bool) (xs ys : List T) → list_any p (xs ++ ys) ≡ (list_any p xs || list_any p ys)
@@ -310,24 +317,51 @@ module _ (ids classes : List (List ℕ)) (attributes : List Attribute) where
       ∙ (λ i. any_map (same_key key) ById ids i || (any_append (same_key key) (map ByClass classes) (map (λ (a : Attribute). ByAttribute (lowercased a.name)) attributes)
       ∙ (λ j. any_map (same_key key) ByClass classes j || any_map (same_key key) (λ (a : Attribute). ByAttribute (lowercased a.name)) attributes j)) i)
 
-pub keys_are_of_tags : KeysAreOfTags
-keys_are_of_tags (ById id) e =
-    let ids = option_to_list (attribute_value (codes "id") e.tag) in
-    let classes = words_of (attribute_value (codes "class") e.tag) in
-    value_passes (attribute_value (codes "id") e.tag) (λ value. bytes_eq value id)
+-- The attributes of a tag have a key exactly if it is among their keys.
+pub keys_are_there : (key : AttributeKey) (seen : TagAttributes) → is_key_there key seen ≡ list_any (same_key key) (keys_seen seen)
+keys_are_there (ById id) seen =
+    let ids = option_to_list (value_in (codes "id") seen) in
+    let classes = words_of (value_in (codes "class") seen) in
+    value_passes (value_in (codes "id") seen) (λ value. bytes_eq value id)
     ∙ sym (or-false (list_any (λ value. bytes_eq value id) ids))
-    ∙ (λ i. list_any (λ value. bytes_eq value id) ids || (sym (any_never classes) i || sym (any_never e.tag.attributes) i))
-    ∙ sym (in_parts ids classes e.tag.attributes (ById id))
-keys_are_of_tags (ByClass name) e =
-    let ids = option_to_list (attribute_value (codes "id") e.tag) in
-    let classes = words_of (attribute_value (codes "class") e.tag) in
-    words_pass (attribute_value (codes "class") e.tag) (λ word. bytes_eq word name)
+    ∙ (λ i. list_any (λ value. bytes_eq value id) ids || (sym (any_never classes) i || sym (any_never seen.attributes) i))
+    ∙ sym (in_parts ids classes seen.attributes (ById id))
+keys_are_there (ByClass name) seen =
+    let ids = option_to_list (value_in (codes "id") seen) in
+    let classes = words_of (value_in (codes "class") seen) in
+    words_pass (value_in (codes "class") seen) (λ word. bytes_eq word name)
     ∙ sym (or-false (list_any (λ word. bytes_eq word name) classes))
-    ∙ (λ i. sym (any_never ids) i || (list_any (λ word. bytes_eq word name) classes || sym (any_never e.tag.attributes) i))
-    ∙ sym (in_parts ids classes e.tag.attributes (ByClass name))
-keys_are_of_tags (ByAttribute name) e =
-    let ids = option_to_list (attribute_value (codes "id") e.tag) in
-    let classes = words_of (attribute_value (codes "class") e.tag) in
-    names_pass name e.tag.attributes
-    ∙ (λ i. sym (any_never ids) i || (sym (any_never classes) i || list_any (λ (a : Attribute). bytes_eq (lowercased a.name) name) e.tag.attributes))
-    ∙ sym (in_parts ids classes e.tag.attributes (ByAttribute name))
+    ∙ (λ i. sym (any_never ids) i || (list_any (λ word. bytes_eq word name) classes || sym (any_never seen.attributes) i))
+    ∙ sym (in_parts ids classes seen.attributes (ByClass name))
+keys_are_there (ByAttribute name) seen =
+    let ids = option_to_list (value_in (codes "id") seen) in
+    let classes = words_of (value_in (codes "class") seen) in
+    names_pass name seen.attributes
+    ∙ (λ i. sym (any_never ids) i || (sym (any_never classes) i || list_any (λ (a : Attribute). bytes_eq (lowercased a.name) name) seen.attributes))
+    ∙ sym (in_parts ids classes seen.attributes (ByAttribute name))
+
+-- a key's test says of an element what its attributes have
+test_is_there : (key : AttributeKey) (e : Element) → attribute_holds (test_of_key key) e ≡ is_key_there key (tag_attributes e.tag)
+test_is_there (ById id) e = refl
+test_is_there (ByClass name) e = refl
+test_is_there (ByAttribute name) e = refl
+
+pub keys_are_of_tags : KeysAreOfTags
+keys_are_of_tags key e = test_is_there key e ∙ keys_are_there key (tag_attributes e.tag)
+
+same_is : (a b : AttributeKey) → same_key a b ≡ true → a ≡ b
+same_is (ById a) (ById b) h = ap ById (sym ((bytes_eq-Decides b a).0 h))
+same_is (ById a) (ByClass b) h = cc
+same_is (ById a) (ByAttribute b) h = cc
+same_is (ByClass a) (ById b) h = cc
+same_is (ByClass a) (ByClass b) h = ap ByClass (sym ((bytes_eq-Decides b a).0 h))
+same_is (ByClass a) (ByAttribute b) h = cc
+same_is (ByAttribute a) (ById b) h = cc
+same_is (ByAttribute a) (ByClass b) h = cc
+same_is (ByAttribute a) (ByAttribute b) h = ap ByAttribute (sym ((bytes_eq-Decides b a).0 h))
+
+-- A key that is there is among those that are seen.
+pub key_among : (key : AttributeKey) (seen : TagAttributes) → is_key_there key seen ≡ true → Among (keys_seen seen) key
+key_among key seen h =
+    let there = among_any (same_key key) (keys_seen seen) (sym (keys_are_there key seen) ∙ h) in
+    subst (Among (keys_seen seen)) (sym (same_is key there.0 there.2)) there.1
