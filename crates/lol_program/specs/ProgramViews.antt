@@ -1,10 +1,12 @@
 -- What the code's programs stand for.
-use Rattle.std.specs.Prelude.{Bool, List, map}
+use Rattle.std.specs.Prelude.{Bool, List, map, Option, Some, None, is_some}
 use Rattle.std.specs.Global.{Global}
 use Rattle.lol_memory.specs.Ids.{ascending}
 use Rattle.lol_instructions.specs.Attributes.{tag_attributes}
 use Rattle.lol_instructions.specs.Compiled.{sight_of, predicate_value, predicate_holds}
 use Rattle.lol_instructions.specs.CompiledKeys.{keys_in}
+use Rattle.lol_rows.specs.Rows.{AreRowsOf}
+use Rattle.lol_rows.specs.declared.rows.Rows.{Rows}
 use Rattle.lol_program.specs.Programs.{Instruction, Program}
 use Rattle.lol_program.specs.declared.compiler.Compiler.{Compiler}
 use Rattle.lol_instructions.specs.declared.instruction.Instruction as code
@@ -34,6 +36,22 @@ program_shown p =
       by_type = p.enable_nth_of_type;
     }
 
+-- rows of these instructions, or none
+abbrev pub AreItsRows : List code.Instruction → Option Rows → Type 0
+AreItsRows instructions None = Unit {0}
+AreItsRows instructions (Some rows) = AreRowsOf instructions rows
+
+-- Where a program has rows, they are of its instructions.
+abbrev pub HasItsRows : program.Program → Type 0
+HasItsRows p = AreItsRows p.instructions.items p.rows
+
+abbrev pub has_rows : program.Program → Bool
+has_rows p = is_some p.rows
+
 -- where a compiler takes memory
 abbrev pub allocator_of : Compiler → Global
 allocator_of compiler = compiler.alloc
+
+-- whether it makes each program with rows
+abbrev pub makes_rows : Compiler → Bool
+makes_rows compiler = compiler.with_rows

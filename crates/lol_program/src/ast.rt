@@ -20,31 +20,52 @@ pub struct Ast {
     alloc: Global,
     root: Vec<AstNode>,
     index: NodeIndex,
+    with_rows: bool,
     ghost counted: { index.node_count ≡ size (forest_of root.items) },
     ghost siblings: { SiblingsDiffer (forest_of root.items) } by { SiblingsDiffer-prop (forest_of root.items) },
     ghost indexed: { IsIndexOf index (forest_of root.items) } by { IsIndexOf-prop index (forest_of root.items) },
 }
 
 impl Ast {
-    ghost use Rattle.std.specs.Prelude.{◌≢◌, ℕ, List, [], ◌∷◌, Some, IfOk, OnOk, OnErr, IsOk, Contains, length, map, flat_map, AllPairs};
+    ghost use Rattle.std.specs.Prelude.{◌≢◌, ℕ, List, [], ◌∷◌, true, false, Some, IfOk, OnOk, OnErr, IsOk, Contains, length, map, flat_map, AllPairs};
     ghost use Rattle.lol_css.specs.TreeViews.{item_of, list_of};
     ghost use Rattle.lol_program.specs.Paths.{Path, beginnings, all_beginnings};
     ghost use Rattle.lol_program.specs.Conditions.{pairs_under, path_of};
     ghost use Rattle.lol_program.specs.IdsForNodes.{id_in, pairs_with, Fits, IsReserved};
     ghost use Rattle.lol_program.specs.AstPaths.{path_shown, IsIn, IsInWith, AllIn, AllFit};
     ghost use Rattle.lol_program.specs.Sets.{Joins, SameMembers, IsBetween};
-    ghost use Rattle.lol_program.specs.Asts.{trees_of, nodes_of, pairs_of};
+    ghost use Rattle.lol_program.specs.Asts.{trees_of, nodes_of, pairs_of, is_with_rows};
 
     /// No selectors. It takes no memory.
     pub fn new(alloc: Global) -> Self
         ensures nodes { nodes_of result ≡ [] }
         ensures pairs { pairs_of result ≡ [] }
+        ensures rows { is_with_rows result ≡ false }
     {
         Ast {
             alloc,
             root: Vec::new(alloc),
             index: NodeIndex::new(alloc),
+            with_rows: false,
         }
+    }
+
+    /// The same tree, whose program is made with rows.
+    pub fn with_rows(self) -> Ast
+        ensures nodes { nodes_of result ≡ nodes_of self }
+        ensures pairs { pairs_of result ≡ pairs_of self }
+        ensures rows { is_with_rows result ≡ true }
+    {
+        let mut ast = self;
+        ast.with_rows = true;
+        ast
+    }
+
+    /// Whether its program is made with rows.
+    pub fn has_rows(&self) -> bool
+        ensures { result ≡ is_with_rows self.now }
+    {
+        self.with_rows
     }
 
     /// The nodes that no other stands above.
@@ -82,6 +103,7 @@ impl Ast {
         ensures refused_pairs { OnErr result (SameMembers (pairs_of self.old) (pairs_of self.new)) }
         ensures refused_nodes { OnErr result (IsBetween (nodes_of self.old) (nodes_of self.new)
             (all_beginnings (pairs_under match_id (list_of selector.now)))) }
+        ensures rows { is_with_rows self.new ≡ is_with_rows self.old }
     {
         self.add_list(selector.list(), match_id)
     }
@@ -99,6 +121,7 @@ impl Ast {
         ensures refused_pairs { OnErr result (SameMembers (pairs_of self.old) (pairs_of self.new)) }
         ensures refused_nodes { OnErr result
             (IsBetween (nodes_of self.old) (nodes_of self.new) (beginnings (path_of (item_of item.now)))) }
+        ensures rows { is_with_rows self.new ≡ is_with_rows self.old }
     {
         self.add_path(item, IdForNode::Id(match_id))
     }
@@ -111,6 +134,7 @@ impl Ast {
         ensures refused_pairs { OnErr result (SameMembers (pairs_of self.old) (pairs_of self.new)) }
         ensures refused_nodes { OnErr result (IsBetween (nodes_of self.old) (nodes_of self.new)
             (all_beginnings (pairs_under match_id (list_of list.now)))) }
+        ensures rows { is_with_rows self.new ≡ is_with_rows self.old }
     {
         match list.items.as_slice() {
             [item] => self.add_path(item, IdForNode::Id(match_id)),
@@ -136,6 +160,7 @@ impl Ast {
             → id_in id ≡ Some match_id → AllFit match_id (trees_of self.old) items ids
             → AllFit match_id (trees_of self.new) items ids }
         ensures free { IsInWith (Fits id) (trees_of self.old) item.now → IsOk result }
+        ensures rows { is_with_rows self.new ≡ is_with_rows self.old }
     {
         ast_node::add_path(
             &mut self.index,
@@ -155,6 +180,7 @@ impl Ast {
         ensures stands { OnOk result (AllIn (trees_of self.new) items.now) }
         ensures refused_nodes { OnErr result
             (IsBetween (nodes_of self.old) (nodes_of self.new) (flat_map beginnings (map path_shown items.now))) }
+        ensures rows { is_with_rows self.new ≡ is_with_rows self.old }
     {
         for item in items {
             self.add_path(item, IdForNode::Nothing)?;
@@ -172,6 +198,7 @@ impl Ast {
         ensures refused_pairs { OnErr result (SameMembers (pairs_of self.old) (pairs_of self.new)) }
         ensures refused_nodes { OnErr result
             (IsBetween (nodes_of self.old) (nodes_of self.new) (flat_map beginnings (map path_shown items.now))) }
+        ensures rows { is_with_rows self.new ≡ is_with_rows self.old }
     {
         let ids = self.reserve_ids(items, match_id)?;
         for (item, id) in items.iter().zip(ids) {

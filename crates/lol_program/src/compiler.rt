@@ -1,7 +1,7 @@
 //! From a tree of selectors to their program.
 
-ghost use Rattle.std.specs.Prelude.{◌≡◌, ◌+◌, ◌<◌, ◌≤◌, ◌||◌, IfOk, OnOk, length, map};
-ghost use Rattle.lol_program.specs.Asts.{trees_of, nodes_of};
+ghost use Rattle.std.specs.Prelude.{◌≡◌, ◌+◌, ◌<◌, ◌≤◌, ◌||◌, IfOk, OnOk, is_some, true, false, length, map};
+ghost use Rattle.lol_program.specs.Asts.{trees_of, nodes_of, is_with_rows};
 ghost use Rattle.lol_program.specs.Views.{node_of, forest_of};
 ghost use Rattle.lol_program.specs.Forest.{none, link, size};
 ghost use Rattle.lol_instructions.specs.Compounds.{has_test_by_type};
@@ -12,7 +12,7 @@ ghost use Rattle.lol_instructions.specs.CompiledKeys.{compiled_key_test};
 ghost use Rattle.lol_instructions.specs.Keys.{key_tests};
 ghost use Rattle.lol_program.specs.Programs.{IsProgramOf};
 ghost use Rattle.lol_program.specs.Layouts.{width, range_of, any_by_type, selectors_in};
-ghost use Rattle.lol_program.specs.ProgramViews.{program_shown, allocator_of};
+ghost use Rattle.lol_program.specs.ProgramViews.{program_shown, allocator_of, makes_rows, has_rows, HasItsRows, AreItsRows};
 ghost use Rattle.lol_program.specs.Laying.{AreLaid, HasJumps, IsPlaced, SameOutside, SameElsewhere};
 
 use crate::ast::Ast;
@@ -22,6 +22,7 @@ use crate::predicate::Predicate;
 use crate::program::Program;
 use lol_instructions::{AddressRange, CompiledPredicate, ExecutionBranch, Instruction};
 use lol_memory::DenseHashSet;
+use lol_rows::Rows;
 use std::alloc::{AllocError, Global};
 use std::mem;
 
@@ -29,23 +30,42 @@ use std::mem;
 #[derive(Drop)]
 pub struct Compiler {
     alloc: Global,
+    with_rows: bool,
 }
 
 impl Compiler {
     /// A compiler that takes memory here. This call takes none.
     pub fn new(alloc: Global) -> Self
-        ensures { allocator_of result ≡ alloc }
+        ensures alloc { allocator_of result ≡ alloc }
+        ensures rows { makes_rows result ≡ false }
     {
-        Compiler { alloc }
+        Compiler {
+            alloc,
+            with_rows: false,
+        }
+    }
+
+    /// The same compiler, which makes each program with rows.
+    pub fn with_rows(self) -> Self
+        ensures alloc { allocator_of result ≡ allocator_of self }
+        ensures rows { makes_rows result ≡ true }
+    {
+        Compiler {
+            alloc: self.alloc,
+            with_rows: true,
+        }
     }
 
     /// The program of a tree. A list of siblings takes the next free places in one range, and after it, node by node, its children's list
     /// and its descendants' list are laid out the same way. Names, operands and sets of ids move out of the tree, and nothing is cloned.
-    /// It is refused where memory is.
+    /// The program has rows if the compiler or the tree is with rows. It is refused where memory is.
     pub fn compile(self, ast: Ast) -> Result<Program, AllocError>
-        ensures { IfOk result (λ program.
+        ensures program { IfOk result (λ program.
             IsProgramOf (selectors_in (trees_of ast)) (nodes_of ast) (program_shown program)) }
+        ensures rows { IfOk result HasItsRows }
+        ensures mode { IfOk result (λ program. has_rows program ≡ (makes_rows self || is_with_rows ast)) }
     {
+        let with_rows = self.with_rows || ast.has_rows();
         let mut layout = Layout {
             alloc: self.alloc,
             instructions: noops(self.alloc, ast.cumulative_node_count())?,
@@ -55,11 +75,29 @@ impl Compiler {
         let mut root = ast.into_root();
         let entry_points = 0..root.len();
         layout.compile_nodes(&mut root)?;
+        let rows = rows_if(self.alloc, with_rows, &layout.instructions)?;
         Ok(Program {
             instructions: layout.instructions,
             entry_points,
             enable_nth_of_type: layout.enable_nth_of_type,
+            rows,
         })
+    }
+}
+
+/// The rows of some instructions, if they are wanted.
+fn rows_if(
+    alloc: Global,
+    are_wanted: bool,
+    instructions: &[Instruction],
+) -> Result<Option<Rows>, AllocError>
+    ensures rows { IfOk result (AreItsRows instructions.now) }
+    ensures mode { IfOk result (λ rows. is_some rows ≡ are_wanted) }
+{
+    if are_wanted {
+        Ok(Some(Rows::of(alloc, instructions)?))
+    } else {
+        Ok(None)
     }
 }
 

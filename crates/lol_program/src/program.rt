@@ -1,6 +1,7 @@
 //! Programs of selectors.
 
 use lol_instructions::{AddressRange, Instruction};
+use lol_rows::Rows;
 
 /// The instructions of the selectors that are looked for, one for each node (lol_html's `Program`).
 #[derive(Drop)]
@@ -11,4 +12,6 @@ pub struct Program {
     pub entry_points: AddressRange,
     /// Whether there is a test by type, so that children have to be counted by type.
     pub enable_nth_of_type: bool,
+    /// Its instructions by their keys, if it was made with rows.
+    pub rows: Option<Rows>,
 }

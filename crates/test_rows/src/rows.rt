@@ -239,6 +239,42 @@ fn leave_the_same_of_a_long_range(rt: HostRuntime) -> Result<(), Fail> {
     Ok(())
 }
 
+/// The program of `SELECTORS`, by a compiler with rows or without, and of a tree with rows or without.
+fn made(alloc: Global, by_compiler: bool, by_tree: bool) -> Result<Program, Fail> {
+    let mut ast = Ast::new(alloc);
+    if by_tree {
+        ast = ast.with_rows();
+    }
+    for text in SELECTORS {
+        ast.add_selector(&Selector::from_str(alloc, text)?, 0)?;
+    }
+    let mut compiler = Compiler::new(alloc);
+    if by_compiler {
+        compiler = compiler.with_rows();
+    }
+    Ok(compiler.compile(ast)?)
+}
+
+/// Whether a program has rows, which leave what is counted by hand.
+fn has_its_rows(alloc: Global, program: &Program) -> Result<bool, Fail> {
+    let Some(rows) = &program.rows else {
+        return Ok(false);
+    };
+    is_row(alloc, program, rows, &ROWS[1])
+}
+
+#[test]
+fn are_made_where_they_are_asked_for(rt: HostRuntime) -> Result<(), Fail> {
+    let alloc = rt.alloc();
+    for by_tree in [false, true] {
+        for by_compiler in [false, true] {
+            let program = made(alloc, by_compiler, by_tree)?;
+            assert!(rt; has_its_rows(alloc, &program)? == (by_compiler || by_tree));
+        }
+    }
+    Ok(())
+}
+
 /// How many of a range a name may leave, and whether they were looked up.
 fn met(
     alloc: Global,

@@ -1,4 +1,4 @@
-use Rattle.std.proofs.Common.{◌++◌, List, [], ◌∷◌, length, map, inl, inr, ⊎_elim, arith, sym, ap, subst, ◌∙◌, append_assoc, append-nil, true≢false, IsOk}
+use Rattle.std.proofs.Common.{◌++◌, List, [], ◌∷◌, length, map, inl, inr, ⊎_elim, arith, refl, sym, ap, subst, ◌∙◌, append_assoc, append-nil, true≢false, IsOk}
 use Rattle.std.proofs.lemmas.List.{map-append}
 use Rattle.lol_css.specs.declared.selector.ComplexSelector.{ComplexSelector}
 use Rattle.lol_program.specs.Paths.{Path}
@@ -25,6 +25,7 @@ loop-item-init c =
       pairs = Joins-none (pairs_of c.args.self.now) (pairs_of c.args.self.now) (λ x. (λ h. h, λ h. h));
       nodes = Joins-none (nodes_of c.args.self.now) (nodes_of c.args.self.now) (λ x. (λ h. h, λ h. h));
       fit = subst (λ l. AllFit c.args.match_id trees l c.into_iter-item-iterator.result.b.rest.items) (sym paths) (subst (AllFit c.args.match_id trees c.args.items.now) (sym ids) c.in_ok-ids.ensures);
+      rows = refl;
     }
 
 pub add_path-requires : goal.add_path-requires
@@ -55,6 +56,7 @@ loop-item-preserved c =
       pairs = subst (Joins (pairs_of old) (pairs_of new)) (sym (ap (pairs_for id) more ∙ map-append (λ (path : ComplexSelector). (path_shown path, id)) done (x ∷ []))) (Joins-both (pairs_of old) (pairs_of mid) (pairs_of new) _ _ c.loop-item.invariant.pairs pairs);
       nodes = subst (Joins (nodes_of old) (nodes_of new)) (sym (ap all_of more ∙ all_of-append done (x ∷ []) ∙ ap (λ (l : List Path). all_of done ++ l) (all_of-one x))) (Joins-both (nodes_of old) (nodes_of mid) (nodes_of new) _ _ c.loop-item.invariant.nodes c.in-Ok.ensures.nodes);
       fit = c.add_path.ensures.keeps_fit id left c.next.new.self.b.rest.items fits.0.0 fits.1;
+      rows = c.add_path.ensures.rows ∙ c.loop-item.invariant.rows;
     }
 
 pub returns-clause-pairs : goal.returns-clause-pairs

@@ -1,4 +1,4 @@
-use Rattle.std.proofs.Common.{◌+◌, take, List, arith, subst, sym}
+use Rattle.std.proofs.Common.{◌+◌, take, List, arith, subst, sym, ◌∙◌}
 use Rattle.std.specs.Prelude.{Contains}
 use Rattle.lol_program.specs.Paths.{Path, beginnings}
 use Rattle.lol_program.specs.AstPaths.{path_shown, AllIn}
@@ -38,6 +38,7 @@ loop-item-preserved c =
       pairs = SameMembers-both (pairs_of c.args.self.now) (pairs_of c.loop-item.self) (pairs_of c.add_path.new.self) c.loop-item.invariant.pairs (SameMembers-from (pairs_of c.loop-item.self) (pairs_of c.add_path.new.self) c.in_ok-add_path.ensures.pairs);
       nodes = subst (Joins (nodes_of c.args.self.now) (nodes_of c.add_path.new.self)) (sym all) (Joins-both (nodes_of c.args.self.now) (nodes_of c.loop-item.self) (nodes_of c.add_path.new.self) _ _ c.loop-item.invariant.nodes c.in_ok-add_path.ensures.nodes);
       stand = AllIn-more (trees_of c.add_path.new.self) paths i x c.loop-item-test.true c.item-item.is (c.add_path.ensures.keeps _ c.loop-item.invariant.stand) c.in_ok-add_path.ensures.stands;
+      rows = c.add_path.ensures.rows ∙ c.loop-item.invariant.rows;
     }
 
 pub returns-clause-nodes : goal.returns-clause-nodes

@@ -1,25 +1,27 @@
-use Rattle.std.proofs.Common.{arith, ◌≡◌, ◌+◌, List, length, sym, ap, subst, ◌∙◌}
+use Rattle.std.proofs.Common.{arith, ◌≡◌, ◌+◌, ◌||◌, List, length, sym, ap, subst, ◌∙◌}
 use Rattle.std.proofs.lemmas.List.{length-map}
-use Rattle.lol_program.specs.Asts.{trees_of}
+use Rattle.lol_program.specs.Asts.{trees_of, is_with_rows}
 use Rattle.lol_program.specs.Paths.{First}
 use Rattle.lol_program.specs.Forest.{Forest, size, nodes_in}
 use Rattle.lol_program.specs.Views.{forest_of}
 use Rattle.lol_program.specs.declared.ast_node.AstNode.{AstNode}
 use Rattle.lol_program.specs.Programs.{IsProgramOf}
 use Rattle.lol_program.specs.Layouts.{width, any_by_type, selectors_in, program_of}
-use Rattle.lol_program.specs.ProgramViews.{instruction_shown, code_of, program_shown}
+use Rattle.lol_program.specs.ProgramViews.{instruction_shown, code_of, program_shown, AreItsRows}
 use Rattle.lol_program.specs.Laying.{AreLaid}
 use Rattle.lol_program.specs.NodeListLaws.{size-nodes}
 use Rattle.lol_program.proofs.Laid.{layouts_are_programs}
 use Rattle.lol_program.proofs.Laying.{width_is}
 use Rattle.lol_program.proofs.Filled.{filled}
+use Rattle.lol_instructions.specs.declared.instruction.Instruction.{Instruction}
 use Rattle.lol_program.proofs.compiler.Compiler.compile.Goals as goal
+use Rattle.lol_program.proofs.compiler.Compiler.compile.Goals.{then-self, else-self}
 
 pub compile_nodes-requires : goal.compile_nodes-requires
 compile_nodes-requires c = omega (arith, ap (λ (nodes : List AstNode). size (forest_of nodes)) c.deref_mut.ensures.value, ap size c.into_root-root.ensures, c.in_ok-noops.ensures, c.cumulative_node_count.ensures.count, size-nodes First (trees_of c.args.ast))
 
-pub returns : goal.returns
-returns c =
+pub returns-clause-program : goal.returns-clause-program
+returns-clause-program c =
     let f = trees_of c.args.ast in
     let instructions = c.compile_nodes.new.self.instructions.items in
     let flag = c.compile_nodes.new.self.enable_nth_of_type in
@@ -30,6 +32,16 @@ returns c =
     let laid : AreLaid instructions 0 (0 + width f) f = subst (λ (g : Forest). AreLaid instructions 0 (0 + width g) g) same done.laid in
     let shown : code_of flag instructions ≡ (program_of f).instructions = filled f (code_of flag instructions) (length-map instructions (instruction_shown flag) ∙ count) (laid flag (λ needed. by_type ∙ needed)) in
     let end : c.len.result ≡ width f = omega (arith, c.len.ensures, width_is c.into_root-root.result.items, ap width c.into_root-root.ensures) in
-    let program : program_shown (record { instructions = c.compile_nodes.new.self.instructions; entry_points = record { start = 0; end = c.len.result }; enable_nth_of_type = flag }) ≡ program_of f =
+    let program : program_shown (record { instructions = c.compile_nodes.new.self.instructions; entry_points = record { start = 0; end = c.len.result }; enable_nth_of_type = flag; rows = c.in_ok-rows.rows }) ≡ program_of f =
     λ i. record { entry = record { start = 0; end = end i }; instructions = shown i; by_type = by_type i } in
     subst (IsProgramOf (selectors_in f) (nodes_in First f)) (sym program) (layouts_are_programs f c.args.ast.siblings)
+
+pub returns-clause-rows : goal.returns-clause-rows
+returns-clause-rows c = subst (λ (l : List Instruction). AreItsRows l c.in_ok-rows.rows) c.deref.ensures.value c.in_ok-rows.ensures.rows
+
+pub returns-clause-mode : goal.returns-clause-mode
+returns-clause-mode c =
+    elim c.if-self.branch [
+      | then-self w ↦ c.in_ok-rows.ensures.mode ∙ (w.with_rows-is ∙ (w.if-self.true ∙ sym (ap (λ b. b || is_with_rows c.args.ast) w.if-self.true)))
+      | else-self w ↦ c.in_ok-rows.ensures.mode ∙ (w.with_rows-is ∙ (w.has_rows-with_rows.ensures ∙ sym (ap (λ b. b || is_with_rows c.args.ast) w.if-self.false)))
+    ]
