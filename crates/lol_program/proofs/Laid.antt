@@ -1,5 +1,5 @@
 -- The layout of a tree is a program of its selectors.
-use Rattle.std.proofs.Common.{◌≡◌, ℕ, zero, suc, ◌+◌, ◌<◌, ◌≤◌, List, [], ◌∷◌, ◌++◌, length, map, Option, Some, None, ◌⊎◌, inl, inr, refl, sym, ap, ◌∙◌, subst, arith, Contains}
+use Rattle.std.proofs.Common.{Bool, ◌≡◌, ℕ, zero, suc, ◌+◌, ◌<◌, ◌≤◌, List, [], ◌∷◌, ◌++◌, length, map, Option, Some, None, ◌⊎◌, inl, inr, refl, sym, ap, ◌∙◌, subst, arith, Contains}
 use Rattle.std.specs.List.{list_any}
 use Rattle.std.specs.declared.ops.Range.{Range}
 use Rattle.std.proofs.lemmas.List.{map-append, length-append, length-map}
@@ -401,8 +401,8 @@ module _ (f : Forest) (differ : SiblingsDiffer f) where
     omega arith,
   )
 
-  instruction_right : (t : Entry) → Among entries t → IsInstruction (selectors_in f) paths t.path t.instruction
-  instruction_right t a =
+  instruction_right : (by_keys : Bool) (t : Entry) → Among entries t → IsInstruction (selectors_in by_keys f) paths t.path t.instruction
+  instruction_right by_keys t a =
       let node = node_entry t a in
       record {
         means = λ e. (ap (λ (i : Instruction). i.value e) node.is, ap (λ (i : Instruction). i.holds e) node.is);
@@ -447,8 +447,8 @@ module _ (f : Forest) (differ : SiblingsDiffer f) where
       some_none : {A : Type 0} {x : A} → Some x ≡ None → ⊥
       some_none e = cc
 
-  whole : IsProgramOf (selectors_in f) paths (program_of f)
-  whole = record {
+  whole : (by_keys : Bool) → IsProgramOf (selectors_in by_keys f) paths (program_of f)
+  whole by_keys = record {
     same = λ path. (λ h. subst (λ ps. Contains ps path) paths_are h, λ h. subst (λ ps. Contains ps path) (sym paths_are) h);
     once = AllPairs-from_Distinct paths once;
     count = length-map entries (λ (t : Entry). t.instruction) ∙ sym (length-map entries (λ (t : Entry). t.path));
@@ -458,11 +458,11 @@ module _ (f : Forest) (differ : SiblingsDiffer f) where
         let t = entry_at place path at in
         let here = subst (λ k. IsAt instructions k t.0.instruction) t.2 (map_at (λ (t : Entry). t.instruction) entries t.0.place t.0 (place_of_entry t.0 t.1)) in
         let same : t.0.instruction ≡ i = same_at instructions place t.0.instruction i here at' in
-        subst (IsInstruction (selectors_in f) paths path) same (subst (λ q. IsInstruction (selectors_in f) paths q t.0.instruction) t.3 (instruction_right t.0 t.1));
+        subst (IsInstruction (selectors_in by_keys f) paths path) same (subst (λ q. IsInstruction (selectors_in by_keys f) paths q t.0.instruction) t.3 (instruction_right by_keys t.0 t.1));
   }
 
 pub layouts_are_programs : LayoutsArePrograms
-layouts_are_programs f differ = subst (λ ps. IsProgramOf (selectors_in f) ps (program_of f)) (paths_are f differ) (whole f differ)
+layouts_are_programs by_keys f differ = subst (λ ps. IsProgramOf (selectors_in by_keys f) ps (program_of f)) (paths_are f differ) (whole f differ by_keys)
 
 pub worked_layout : WorkedLayout
 worked_layout div p = (refl, refl)

@@ -44,7 +44,7 @@ no_front : (c d : Compound) (front : Path) (step : Combinator) → First c ≡ T
 no_front c d front step e = cc
 
 pub trees_are_closed : TreesAreClosed
-trees_are_closed ast =
+trees_are_closed by_keys ast =
     let f = trees_of ast in
     record {
       once = AllPairs-from_Distinct (nodes_of ast) (nodes_distinct f ast.siblings);

@@ -21,7 +21,7 @@ NodesStayTheBeginnings =
 
 -- The pairs and nodes of every tree of selectors are closed, also where an addition was refused.
 abbrev pub TreesAreClosed : Type 0
-TreesAreClosed = (ast : Ast) → AreClosed (record { pairs = pairs_of ast; nodes = nodes_of ast })
+TreesAreClosed = (by_keys : Bool) (ast : Ast) → AreClosed (record { pairs = pairs_of ast; nodes = nodes_of ast; by_keys = by_keys })
 
 -- So are those of pairs alone, where nothing was refused.
 abbrev pub BeginningsAreClosed : Type 0

@@ -53,8 +53,9 @@ abbrev pub any_by_type : Forest → Bool
 any_by_type none = false
 any_by_type (more c ids children descendants rest) = (has_test_by_type c || (any_by_type children || any_by_type descendants)) || any_by_type rest
 
-abbrev pub selectors_in : Forest → Selectors
-selectors_in f = record { pairs = pairs_in First f; nodes = nodes_in First f }
+-- what a tree looks for, with nodes spared by keys or none
+abbrev pub selectors_in : Bool → Forest → Selectors
+selectors_in by_keys f = record { pairs = pairs_in First f; nodes = nodes_in First f; by_keys = by_keys }
 
 abbrev pub program_of : Forest → Program
 program_of f =
@@ -66,7 +67,7 @@ program_of f =
 
 -- The layout of a tree is a program of its selectors, whose places are those of its nodes in their order.
 abbrev pub LayoutsArePrograms : Type 0
-LayoutsArePrograms = (f : Forest) → SiblingsDiffer f → IsProgramOf (selectors_in f) (nodes_in First f) (program_of f)
+LayoutsArePrograms = (by_keys : Bool) (f : Forest) → SiblingsDiffer f → IsProgramOf (selectors_in by_keys f) (nodes_in First f) (program_of f)
 
 -- No place stands in the ranges of two lists: those of two instructions or two steps, or one of them and the entry range.
 abbrev pub RangesAreApart : Type 0

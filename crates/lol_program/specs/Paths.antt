@@ -1,5 +1,5 @@
 -- A complex selector as a path: compounds, each under the one before it (Selectors 4, "Structure and Terminology").
-use Rattle.std.specs.Prelude.{ℕ, ◌≢◌, ◌↔◌, List, [], ◌∷◌, flat_map, Contains, AllPairs}
+use Rattle.std.specs.Prelude.{ℕ, ◌≢◌, ◌↔◌, Bool, List, [], ◌∷◌, flat_map, Contains, AllPairs}
 use Rattle.lol_css.specs.declared.selector.Combinator.{Combinator}
 use Rattle.lol_instructions.specs.Compounds.{Compound}
 
@@ -22,10 +22,12 @@ abbrev pub beginnings : Path → List Path
 beginnings (First c) = First c ∷ []
 beginnings (Then front step c) = Then front step c ∷ beginnings front
 
--- What is looked for: the pairs of a path and the id that it was added under, and the nodes: the paths that are tried.
+-- What is looked for: the pairs of a path and the id that it was added under, the nodes: the paths that are tried, and whether nodes that
+-- keys rule out are spared.
 pub record Selectors : Type 0 where
   pub pairs : List (Path × ℕ)
   pub nodes : List Path
+  pub by_keys : Bool
 
 abbrev pub all_beginnings : List (Path × ℕ) → List Path
 all_beginnings pairs = flat_map (λ pair. beginnings pair.0) pairs

@@ -1,6 +1,6 @@
 //! From a tree of selectors to their program.
 
-ghost use Rattle.std.specs.Prelude.{◌≡◌, ◌+◌, ◌<◌, ◌≤◌, ◌||◌, IfOk, OnOk, is_some, true, false, length, map};
+ghost use Rattle.std.specs.Prelude.{◌≡◌, ◌+◌, ◌<◌, ◌≤◌, ◌||◌, Bool, IfOk, OnOk, is_some, true, false, length, map};
 ghost use Rattle.lol_program.specs.Asts.{trees_of, nodes_of, is_with_rows};
 ghost use Rattle.lol_program.specs.Views.{node_of, forest_of};
 ghost use Rattle.lol_program.specs.Forest.{none, link, size};
@@ -60,8 +60,8 @@ impl Compiler {
     /// and its descendants' list are laid out the same way. Names, operands and sets of ids move out of the tree, and nothing is cloned.
     /// The program has rows if the compiler or the tree is with rows. It is refused where memory is.
     pub fn compile(self, ast: Ast) -> Result<Program, AllocError>
-        ensures program { IfOk result (λ program.
-            IsProgramOf (selectors_in (trees_of ast)) (nodes_of ast) (program_shown program)) }
+        ensures program { IfOk result (λ program. (by_keys : Bool)
+            → IsProgramOf (selectors_in by_keys (trees_of ast)) (nodes_of ast) (program_shown program)) }
         ensures rows { IfOk result HasItsRows }
         ensures mode { IfOk result (λ program. has_rows program ≡ (makes_rows self || is_with_rows ast)) }
     {

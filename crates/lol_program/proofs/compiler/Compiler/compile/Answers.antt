@@ -34,7 +34,7 @@ returns-clause-program c =
     let end : c.len.result ≡ width f = omega (arith, c.len.ensures, width_is c.into_root-root.result.items, ap width c.into_root-root.ensures) in
     let program : program_shown (record { instructions = c.compile_nodes.new.self.instructions; entry_points = record { start = 0; end = c.len.result }; enable_nth_of_type = flag; rows = c.in_ok-rows.rows }) ≡ program_of f =
     λ i. record { entry = record { start = 0; end = end i }; instructions = shown i; by_type = by_type i } in
-    subst (IsProgramOf (selectors_in f) (nodes_in First f)) (sym program) (layouts_are_programs f c.args.ast.siblings)
+    λ by_keys. subst (IsProgramOf (selectors_in by_keys f) (nodes_in First f)) (sym program) (layouts_are_programs by_keys f c.args.ast.siblings)
 
 pub returns-clause-rows : goal.returns-clause-rows
 returns-clause-rows c = subst (λ (l : List Instruction). AreItsRows l c.in_ok-rows.rows) c.deref.ensures.value c.in_ok-rows.ensures.rows
