@@ -4,7 +4,7 @@ use Rattle.std.specs.Str.{bytes_eq}
 use Rattle.std.specs.Option.{option_map}
 use Rattle.std.specs.List.{range_with_len, list_any}
 use Rattle.std.specs.declared.ops.Range.{Range}
-use Rattle.std.proofs.Common.{◌≡◌, ℕ, zero, suc, ◌+◌, ◌-◌, ◌<◌, ◌≤◌, Bool, true, false, cond, not, List, [], ◌∷◌, length, map, filter, get_or, Option, Some, None, Contains, ◌⊎◌, inl, inr, refl, sym, ap, ◌∙◌, arith, true≢false}
+use Rattle.std.proofs.Common.{◌≡◌, ℕ, zero, suc, ◌+◌, ◌-◌, ◌<◌, ◌≤◌, Bool, true, false, cond, not, List, [], ◌∷◌, ◌++◌, length, map, filter, take, get_or, Option, Some, None, Contains, ◌⊎◌, inl, inr, refl, sym, ap, ◌∙◌, arith, append_assoc, true≢false}
 use Rattle.std.proofs.lemmas.Bool.{cases_lt}
 use Rattle.std.proofs.lemmas.Option.{slice_get-map}
 use Rattle.std.proofs.lemmas.Slice.Eq.{bytes_eq-Decides}
@@ -13,7 +13,7 @@ use Rattle.lol_base.specs.AscendingLaws.{Ascends, ascends_from_pairs, pairs_from
 use Rattle.lol_base.specs.MemberLaws.{Among, among_from_contains, contains_from_among, among_filter, filter_among, any_among, among_any}
 use Rattle.lol_base.specs.ListLaws.{get_or-any}
 use Rattle.lol_base.specs.BoolLaws.{and_parts, not_true}
-use Rattle.lol_base.specs.PlaceLaws.{at_among}
+use Rattle.lol_base.specs.PlaceLaws.{some_is, at_among}
 use Rattle.lol_instructions.specs.Keys.{is_another_name}
 use Rattle.lol_instructions.specs.declared.instruction.Instruction.{Instruction}
 use Rattle.lol_key_table.specs.KeyTables.{AreFound, IsEntryWithin}
@@ -218,3 +218,39 @@ pub range_at : (start n index : ℕ) → index < n → slice_get (range_with_len
 range_at start zero index within = absurd (omega (arith, within))
 range_at start (suc n) zero within = let same : start ≡ start + 0 = omega arith in ap Some same
 range_at start (suc n) (suc k) within = let same : start + 1 + k ≡ start + suc k = omega arith in range_at (start + 1) n k (omega (arith, within)) ∙ ap Some same
+
+-- 7. Adding what passes, place by place
+
+module _ (q : ℕ → Bool) where
+  -- one more
+  pub filter_next : (xs : List ℕ) (index x : ℕ) (b : Bool) → slice_get xs index ≡ Some x → q x ≡ b → filter q (take (index + 1) xs) ≡ filter q (take index xs) ++ cond b (x ∷ []) []
+  filter_next [] index x b at is = cc
+  filter_next (y ∷ ys) zero x b at is = (λ j. cond (q (some_is at j)) (some_is at j ∷ []) []) ∙ ap (λ k. cond k (x ∷ []) []) is
+  filter_next (y ∷ ys) (suc k) x b at is =
+      let count : suc k + 1 ≡ suc (k + 1) = omega arith in
+      ap (λ n. filter q (take n (y ∷ ys))) count ∙ by_test (q y) (filter_next ys k x b at is)
+    where
+      by_test : (own : Bool) → filter q (take (k + 1) ys) ≡ filter q (take k ys) ++ cond b (x ∷ []) []
+          → cond own (y ∷ filter q (take (k + 1) ys)) (filter q (take (k + 1) ys)) ≡ cond own (y ∷ filter q (take k ys)) (filter q (take k ys)) ++ cond b (x ∷ []) []
+      by_test true later = ap (λ l. y ∷ l) later
+      by_test false later = later
+
+  pub next_added : (xs : List ℕ) (index x : ℕ) (b : Bool) (old before after : List ℕ) → slice_get xs index ≡ Some x → before ≡ old ++ filter q (take index xs)
+      → q x ≡ b → after ≡ before ++ cond b (x ∷ []) [] → after ≡ old ++ filter q (take (index + 1) xs)
+  next_added xs index x b old before after at so is added =
+      added ∙ ap (λ l. l ++ cond b (x ∷ []) []) so
+      ∙ (append_assoc old (filter q (take index xs)) (cond b (x ∷ []) []) ∙ ap (λ l. old ++ l) (sym (filter_next xs index x b at is)))
+
+  -- fewer pass before one that passes
+  pub filter_before : (xs : List ℕ) (index x : ℕ) → slice_get xs index ≡ Some x → q x ≡ true → length (filter q (take index xs)) < length (filter q xs)
+  filter_before [] index x at is = cc
+  filter_before (y ∷ ys) zero x at is = by_test (q y) (ap q (some_is at) ∙ is)
+    where
+      by_test : (b : Bool) → b ≡ true → 0 < length (cond b (y ∷ filter q ys) (filter q ys))
+      by_test true passes = omega arith
+      by_test false passes = cc
+  filter_before (y ∷ ys) (suc k) x at is = by_test (q y) (filter_before ys k x at is)
+    where
+      by_test : (b : Bool) → length (filter q (take k ys)) < length (filter q ys) → length (cond b (y ∷ filter q (take k ys)) (filter q (take k ys))) < length (cond b (y ∷ filter q ys) (filter q ys))
+      by_test true later = omega (arith, later)
+      by_test false later = omega (arith, later)

@@ -152,6 +152,7 @@ fn is_short(range: &AddressRange) -> bool {
 }
 
 /// Whether an instruction tests no other name, and, where attributes are given, no id, class or attribute that they lack.
+#[inline(always)]
 pub fn is_left(
     instruction: &Instruction,
     local_name: &LocalName<'_>,

@@ -154,6 +154,19 @@ fn left_of(
     matcher: Option<&AttributeMatcher<'_>>,
 ) -> Result<Vec<usize>, AllocError> {
     let mut left = Vec::new(alloc);
+    candidates.add_left(instructions, name, matcher, &mut left)?;
+    Ok(left)
+}
+
+/// The same by a look at each.
+fn one_by_one(
+    alloc: Global,
+    instructions: &[Instruction],
+    candidates: &Candidates<'_>,
+    name: &LocalName<'_>,
+    matcher: Option<&AttributeMatcher<'_>>,
+) -> Result<Vec<usize>, AllocError> {
+    let mut left = Vec::new(alloc);
     for index in 0..candidates.len() {
         let address = candidates.address(index);
         if let Some(instruction) = instructions.get(address) {
@@ -406,6 +419,72 @@ fn leave_of_long_ranges_what_a_look_at_each_leaves(rt: HostRuntime) -> Result<()
             for end in 50..=60 {
                 assert!(rt; are_alike(alloc, &program, &rows, (start, end), tag)?);
             }
+        }
+    }
+    Ok(())
+}
+
+/// Whether what is added to a list is what a look at each candidate leaves, after what the list had, and in the room that it has.
+fn adds_alike(
+    alloc: Global,
+    instructions: &[Instruction],
+    candidates: &Candidates<'_>,
+    name: &LocalName<'_>,
+    matcher: Option<&AttributeMatcher<'_>>,
+) -> Result<bool, AllocError> {
+    let mut twice = one_by_one(alloc, instructions, candidates, name, matcher)?;
+    let count = twice.len();
+    candidates.add_left(instructions, name, matcher, &mut twice)?;
+    let mut once = Vec::with_capacity(alloc, count)?;
+    let room = once.capacity();
+    candidates.add_left(instructions, name, matcher, &mut once)?;
+    Ok(twice[..count] == once[..] && twice[count..] == once[..] && once.capacity() == room)
+}
+
+/// The same of the candidates of a range, by name and by keys.
+fn add_alike(
+    alloc: Global,
+    program: &Program,
+    rows: &Rows,
+    (start, end): (usize, usize),
+    (name, pairs): &Tag,
+) -> Result<bool, Fail> {
+    let name = LocalName::new(name.as_bytes());
+    let attributes = attributes(alloc, pairs)?;
+    let matcher = matcher(&attributes);
+    let mut hashes = Vec::new(alloc);
+    add_pair_hashes(&name, &matcher, &mut hashes)?;
+    let (mut of_name, mut of_keys) = (Vec::new(alloc), Vec::new(alloc));
+    let named = rows.candidates_by_name(&(start..end), &name_hashes(&name), &mut of_name);
+    let keyed = rows.candidates_by_keys(&(start..end), &hashes, &mut of_keys);
+    let instructions = &program.instructions;
+    Ok(
+        adds_alike(alloc, instructions, &named, &name, None)?
+            && adds_alike(alloc, instructions, &keyed, &name, Some(&matcher))?,
+    )
+}
+
+/// Short ranges and long ones, also past the last instruction.
+const RANGES: &[(usize, usize)] = &[
+    (0, 0),
+    (0, 13),
+    (3, 9),
+    (9, 3),
+    (0, 49),
+    (1, 49),
+    (2, 49),
+    (5, 60),
+    (48, 120),
+];
+
+#[test]
+fn add_what_a_look_at_each_candidate_leaves(rt: HostRuntime) -> Result<(), Fail> {
+    let alloc = rt.alloc();
+    let program = program(alloc, SELECTORS, OTHERS)?;
+    let rows = Rows::of(alloc, &program.instructions)?;
+    for tag in TAGS {
+        for range in RANGES {
+            assert!(rt; add_alike(alloc, &program, &rows, *range, tag)?);
         }
     }
     Ok(())
