@@ -26,7 +26,7 @@ pub use Rattle.lol_stack.specs.declared.execution_ctx.ExecutionCtx.{ExecutionCtx
 pub use Rattle.lol_stack.specs.declared.stack.StackNames.{StackNames}
 pub use Rattle.lol_stack.specs.declared.stack.StackOf.{StackOf}
 pub use Rattle.lol_stack.specs.declared.stack_item.StackItemOf.{StackItemOf}
-pub use Rattle.lol_vm.specs.Answers.{Answer, Dropped, Ended, Match, Started, after, answer, answers, answers_from, asks, attribute_tries, document, document_from, is_dropped, matching_ids, name_tries, needs_attributes, report}
+pub use Rattle.lol_vm.specs.Answers.{Answer, Dropped, Ended, Match, Started, after, answer, answers, answers_from, asks, attribute_tries, document, document_from, is_dropped, is_tried, is_tried_open, matching_ids, name_tries, needs_attributes, report}
 pub use Rattle.lol_vm.specs.Documents.{Document, after_end, after_start, children_of, closed, element_of, empty, inner_part, outer_part, parent_of, place_of, same_parent, typed_children_of}
 pub use Rattle.lol_vm.specs.EventRuns.{Goes, GoesByStart, IsRunOf, answer_taken, machine_of}
 pub use Rattle.lol_vm.specs.Events.{End, Event, Start, has_content, has_content_in}
@@ -42,7 +42,7 @@ pub use Rattle.lol_vm.specs.ReportLaws.{among_matching_ids, every_report, matchi
 pub use Rattle.lol_vm.specs.Standing.{AreTyped, AreTypedIf, CountersArePlaces, Descend, DocumentsAreOrdered, HasCounted, IsOrdered, StandsFor, StandsOn, unfinished}
 pub use Rattle.lol_vm.specs.TagRuns.{AreExecuted, AreTried, AreWithin, IsPointIn, IsStopIn, jumps_in, jumps_of_item, number_of, ranges_from, ranges_left, ranges_of, ranges_to_run_in, rest_of, sight_in, tag_ranges, tried_at}
 pub use Rattle.lol_vm.specs.Views.{answer_of, event_of, match_of, selectors, tag_of}
-pub use Rattle.lol_vm.specs.Vms.{AreOpened, ChargesSlots, GoesOnAt, HasOpen, IsAnswered, IsChargedFor, IsCovered, IsEntered, IsPending, IsRefusal, IsReported, IsRequested, IsRestOf, IsSilent, IsTagOf, IsTriedAtMost, OpensNothing, Stands, StaysFailed, Vm, content_at, content_of, data_in, has_failed, info_of, instructions_in, is_asked_for, open_after, ranges_to_try, slot_bytes, slots_charged, stack_in, tries_in}
+pub use Rattle.lol_vm.specs.Vms.{AreOpened, ChargesSlots, GoesOnAt, HasOpen, IsAnswered, IsChargedFor, IsCovered, IsEntered, IsPending, IsRefusal, IsReported, IsRequested, IsRestOf, IsSilent, IsTagOf, IsTriedAtMost, OpensNothing, Stands, StaysFailed, Vm, content_in, content_of, data_in, has_failed, info_of, instructions_in, is_asked_for, open_after, ranges_to_try, slot_bytes, slots_charged, stack_in, tries_in}
 pub use Rattle.std.proofs.Common.{All, Bool, Contains, Err, List, None, Ok, Option, Result, Some, [], ap, arith, cond, count_by, drop, drop-cons, false, filter, flat_map, get_or, if◌then◌else◌, inl, inr, is_none, length, map, map-id, max, nat_le, nat_lt, not, of_calls, option_to_list, position, refl, reverse, rules, slice_get, slice_set, subst, suc, sym, take, true, true≢false, unwrap_or, zero, ℕ, ◌&&◌, ◌*◌, ◌++◌, ◌+◌, ◌-◌, ◌<◌, ◌==◌, ◌^◌, ◌||◌, ◌↔◌, ◌∙◌, ◌∷◌, ◌≡◌, ◌≢◌, ◌≤◌, ◌⊎◌}
 pub use Rattle.std.proofs.lemmas.Bool.Decides.{Decides-eqb, nat_tests}
 pub use Rattle.std.proofs.lemmas.List.{append-nil, append_cancel_right, drop-append-le, drop_all, drop_at, get_or-append-add, length-drop, length-map, length-reverse, length-set, length-take, length-take-le, map-append, map_push, reverse-append, reverse-reverse, take-append-drop, take_all, take_at, take_more}

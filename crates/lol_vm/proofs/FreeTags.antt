@@ -1,5 +1,5 @@
 -- Start tags that take no memory.
-use Rattle.lol_vm.proofs.Common.{◌≡◌, ℕ, ◌<◌, Bool, true, false, cond, true≢false, List, length, Option, Some, None, Result, Err, refl, sym, ap, ◌∙◌, subst, arith, inl, inr, get_or, Contains, ◌||◌, ◌⊎◌, slice_get, not, ◌&&◌, list_all, IsNone, option_map, not_true, length-map, Range, is_hash, local_name, Among, contains_from_among, is_void, is_esi, lowercased, same_name, StartTag, Namespace, Html, has_test_by_type, Path, Selectors, last_compound, IsProgramOf, is_html, has_content, has_content_in, AllSmall, NeedNoMemory, typed_in, Context, Vm, IsRequested, GoesOnAt, content_at, ExecutionCtx, at_among, within_at, AreTypedIf, StandsOn, Document, Element}
+use Rattle.lol_vm.proofs.Common.{◌≡◌, ℕ, ◌<◌, Bool, true, false, cond, true≢false, List, length, Option, Some, None, Result, Err, refl, sym, ap, ◌∙◌, subst, arith, inl, inr, get_or, Contains, ◌||◌, ◌⊎◌, slice_get, not, ◌&&◌, list_all, IsNone, option_map, not_true, length-map, Range, is_hash, local_name, Among, contains_from_among, is_void, is_esi, lowercased, same_name, StartTag, Namespace, Html, has_test_by_type, Path, Selectors, last_compound, IsProgramOf, is_html, has_content, has_content_in, AllSmall, NeedNoMemory, typed_in, Context, Vm, IsRequested, GoesOnAt, content_in, ExecutionCtx, at_among, within_at, AreTypedIf, StandsOn, Document, Element}
 use Rattle.lol_base.specs.MemberLaws.{among_any}
 use Rattle.std.proofs.lemmas.Option.{slice_get-map, slice_get-get_or}
 use Rattle.std.proofs.lemmas.Slice.Eq.{bytes_eq-Decides}
@@ -48,10 +48,14 @@ pub void_is_closed : (esi : Bool) (tag : StartTag) → tag.namespace ≡ Html �
 void_is_closed esi tag html void = ap (λ ns. has_content_in ns esi tag) html ∙ ap (λ b. not (b || (esi && is_esi tag.name))) void
 
 -- nor is it once it is finished
-pub finished_closed : (point : RecoveryPoint) (content with_content self_closing : Bool) (context : Context) (ns : Namespace)
-    → GoesOnAt (is_html ns) content context point with_content → ns ≡ Html → content ≡ false → content_at point with_content self_closing ≡ false
-finished_closed AtOnce content with_content self_closing context ns goes_on html closed = absurd (true≢false (sym (ap is_html html) ∙ goes_on.0))
-finished_closed (At stop) content with_content self_closing context ns goes_on html closed = goes_on.1 ∙ closed
+pub finished_closed : (point : RecoveryPoint) (content with_content self_closing : Bool) (context : Context) (ns own : Namespace)
+    → GoesOnAt (is_html ns) content context point with_content → ns ≡ Html → own ≡ ns → content ≡ false → content_in own with_content self_closing ≡ false
+finished_closed point content with_content self_closing context ns own goes_on html same closed =
+    ap (λ n. content_in n with_content self_closing) (same ∙ html) ∙ by_point point goes_on
+  where
+    by_point : (point : RecoveryPoint) → GoesOnAt (is_html ns) content context point with_content → with_content ≡ false
+    by_point AtOnce goes_on = goes_on.1 ∙ (ap (λ n. cond (is_html n) content true) html ∙ closed)
+    by_point (At stop) goes_on = goes_on.1 ∙ closed
 
 -- 2. Small selectors
 

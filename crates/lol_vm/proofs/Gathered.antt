@@ -1,11 +1,12 @@
 -- What running places gives.
-use Rattle.lol_vm.proofs.Common.{◌≡◌, ℕ, Bool, true, false, cond, List, [], Option, Some, None, ◌↔◌, inl, inr, refl, sym, ap, ◌∙◌, subst, arith, Contains, slice_get, option_to_list, Range, Element, all_hold, Path, Selectors, last_compound, Among, Distinct, among_from_contains, contains_from_among, distinct_from_pairs, left_matches, matches, matching_ids, among_matching_ids, matching_ids_among, and_parts, and_of, IsAt, IsRangeOf, IsProgramOf, AreClosed, all_places, HasRanges, Matches, HoldOnce, LeftMatches, jumps_of, hereditary_jumps_of, given_by, gathered_from_places, ids_list, context_of, Context}
+use Rattle.lol_vm.proofs.Common.{◌≡◌, ℕ, Bool, true, false, cond, List, [], Option, Some, None, ◌↔◌, inl, inr, refl, sym, ap, ◌∙◌, subst, arith, Contains, slice_get, option_to_list, Range, Element, all_hold, Path, Selectors, last_compound, Among, Distinct, among_from_contains, contains_from_among, distinct_from_pairs, left_matches, matches, matching_ids, among_matching_ids, matching_ids_among, and_parts, and_of, IsAt, IsRangeOf, IsProgramOf, AreClosed, all_places, HasRanges, Matches, HoldOnce, jumps_of, hereditary_jumps_of, given_by, gathered_from_places, ids_list, context_of, Context, is_tried}
 use Rattle.lol_base.specs.MemberLaws.{among_flat_map, flat_map_among, distinct_flat_map}
 use Rattle.lol_css.specs.declared.selector.Combinator.{Combinator}
 use Rattle.lol_css.specs.declared.selector.Combinator.TheVariants.{Child, Descendant}
 use Rattle.lol_program.specs.Programs.{Instruction, Program}
 use Rattle.lol_vm.proofs.Held.{instruction_at, place_of_node, range_of_reached, one_owner}
-use Rattle.lol_vm.proofs.Counted.{path_held, held_at}
+use Rattle.lol_vm.proofs.Counted.{Tried, path_held, held_at}
+use Rattle.lol_vm.specs.TriedLaws.{matching_tried, tried_left}
 use Rattle.lol_program.specs.NodeOnceLaws.{AllPairs-from_Distinct}
 
 module _ {A : Type 0} (what : Instruction → List A) (e : Element) where
@@ -37,21 +38,21 @@ one_option true None = tt
 one_option true (Some x) = (λ h. h, tt)
 one_option false o = tt
 
-module _ (s : Selectors) (paths : List Path) (p : Program) (closed : AreClosed s) (program : IsProgramOf s paths p) (ranges : List (Range ℕ)) (outer : List Element) (held : HoldOnce paths ranges (LeftMatches outer)) (e : Element) where
+module _ (s : Selectors) (paths : List Path) (p : Program) (closed : AreClosed s) (program : IsProgramOf s paths p) (ranges : List (Range ℕ)) (outer : List Element) (e : Element) (held : HoldOnce paths ranges (Tried s e outer)) where
   -- an instruction at a place that is run holds exactly if its path matches
-  holds_matches : (place : ℕ) (path : Path) (i : Instruction) → IsAt paths place path → IsAt p.instructions place i → LeftMatches outer path → i.holds e ≡ true → matches path e outer ≡ true
-  holds_matches place path i at at' left holds = and_of _ _ (sym ((program.each place path i at at').means e).1 ∙ holds) left
+  holds_matches : (place : ℕ) (path : Path) (i : Instruction) → IsAt paths place path → IsAt p.instructions place i → Tried s e outer path → i.holds e ≡ true → matches path e outer ≡ true
+  holds_matches place path i at at' tried holds = and_of _ _ (sym ((program.each place path i at at').means e).1 ∙ holds) (tried_left s e outer path tried)
 
-  matches_holds : (place : ℕ) (path : Path) (i : Instruction) → IsAt paths place path → IsAt p.instructions place i → matches path e outer ≡ true → (i.holds e ≡ true) × LeftMatches outer path
+  matches_holds : (place : ℕ) (path : Path) (i : Instruction) → IsAt paths place path → IsAt p.instructions place i → matches path e outer ≡ true → (i.holds e ≡ true) × Tried s e outer path
   matches_holds place path i at at' fits =
       let both = and_parts (all_hold (last_compound path) e) (left_matches path outer) fits in
-      (((program.each place path i at at').means e).1 ∙ both.0, both.1)
+      (((program.each place path i at at').means e).1 ∙ both.0, matching_tried s e outer path fits)
 
   module _ {A : Type 0} (what : Instruction → List A) where
     gathered_from : (y : A) → Among (gathered_from_places what p e (all_places ranges)) y → (place : ℕ) × (path : Path) × (i : Instruction) × IsAt paths place path × IsAt p.instructions place i × (matches path e outer ≡ true) × Among (what i) y
     gathered_from y h =
         let at = among_flat_map (λ place. given_by what e (slice_get p.instructions place)) (all_places ranges) y h in
-        let x = path_held s paths p closed program ranges outer held at.0 at.1 in
+        let x = path_held s paths p closed program ranges (is_tried s e outer) held at.0 at.1 in
         let i = of_given what e (slice_get p.instructions at.0) y at.2 in
         (at.0, x.0, i.0, x.1, i.1, holds_matches at.0 x.0 i.0 x.1 i.1 x.2 i.2, i.3)
 
@@ -59,7 +60,7 @@ module _ (s : Selectors) (paths : List Path) (p : Program) (closed : AreClosed s
     gathered_at y place path i at at' fits a =
         let both = matches_holds place path i at at' fits in
         flat_map_among (λ place. given_by what e (slice_get p.instructions place)) (all_places ranges) place y
-        (held_at s paths p closed program ranges outer held place path at both.1)
+        (held_at s paths p closed program ranges (is_tried s e outer) held place path at both.1)
         (to_given what e (slice_get p.instructions place) i y at' both.0 a)
 
   ids_reported : (id : ℕ) → Contains (gathered_from_places ids_list p e (all_places ranges)) id ↔ Contains (matching_ids s.pairs e outer) id
@@ -86,8 +87,8 @@ module _ (s : Selectors) (paths : List Path) (p : Program) (closed : AreClosed s
 
     one_place_each : (j k : ℕ) (r : Range ℕ) → Among (all_places ranges) j → Among (all_places ranges) k → Among (given_by list_of e (slice_get p.instructions j)) r → Among (given_by list_of e (slice_get p.instructions k)) r → j ≡ k
     one_place_each j k r a b in_j in_k =
-        let x = path_held s paths p closed program ranges outer held j a in
-        let y = path_held s paths p closed program ranges outer held k b in
+        let x = path_held s paths p closed program ranges (is_tried s e outer) held j a in
+        let y = path_held s paths p closed program ranges (is_tried s e outer) held k b in
         let i = of_given list_of e (slice_get p.instructions j) r in_j in
         let i' = of_given list_of e (slice_get p.instructions k) r in_k in
         let is = of_option (which i.0) r i.3 in
@@ -112,10 +113,10 @@ pub record GivesReport (s : Selectors) (paths : List Path) (p : Program) (contex
   pub hereditary_jumps : HasRanges hereditary_jumps_of paths p (Matches e outer) context.hereditary_jumps
 
 pub runs_give_reports : (s : Selectors) (paths : List Path) (p : Program) (ranges : List (Range ℕ)) (e : Element) (outer : List Element)
-    → AreClosed s → IsProgramOf s paths p → HoldOnce paths ranges (LeftMatches outer)
+    → AreClosed s → IsProgramOf s paths p → HoldOnce paths ranges (Tried s e outer)
     → GivesReport s paths p (context_of p true e (all_places ranges)) e outer
 runs_give_reports s paths p ranges e outer closed program held = record {
-  ids = ids_reported s paths p closed program ranges outer held e;
-  jumps = ranges_had s paths p closed program ranges outer held e jumps_of Child (λ place path i at at'. (program.each place path i at at').jumps);
-  hereditary_jumps = ranges_had s paths p closed program ranges outer held e hereditary_jumps_of Descendant (λ place path i at at'. (program.each place path i at at').hereditary_jumps);
+  ids = ids_reported s paths p closed program ranges outer e held;
+  jumps = ranges_had s paths p closed program ranges outer e held jumps_of Child (λ place path i at at'. (program.each place path i at at').jumps);
+  hereditary_jumps = ranges_had s paths p closed program ranges outer e held hereditary_jumps_of Descendant (λ place path i at at'. (program.each place path i at at').hereditary_jumps);
 }

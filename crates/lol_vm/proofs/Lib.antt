@@ -1,4 +1,6 @@
 mod Common
+pub mod Spared
+pub mod Finding
 mod TagRuns
 mod Starts
 mod VmStarts

@@ -1,5 +1,5 @@
 -- What the machine runs for a start tag, and what that gives.
-use Rattle.lol_vm.proofs.Common.{◌≡◌, ℕ, suc, zero, reverse, ◌+◌, ◌-◌, ◌<◌, ◌≤◌, ◌^◌, Bool, true, false, List, [], ◌∷◌, ◌++◌, length, map, drop, take, get_or, All, Option, Some, None, refl, sym, ap, ◌∙◌, subst, arith, Contains, drop-cons, slice_get, count_by, length-map, length-drop, length-reverse, map-append, reverse-append, reverse-reverse, take-append-drop, option_map, range_with_len, Range, Name, Among, among_from_contains, Ids, TagAttributes, Sight, sight_of, Path, Selectors, AreClosed, places, all_places, Element, names_counted, attributes_counted, Tries, name_tries, attribute_tries, Gathers, Context, no_context, context_of, branch, is_open_at, run, AreRunnable, IsInsideOf, all_at, value_seen, holds_seen, first_open_from, gathered_by_names, gathered_with_attributes, starts_open, HoldOnce, LeftMatches, active_of, last_jumps, ranges_of_active, ranges_to_run, item_shown, items_shown, items_in, active_in, AreTried, number_of, ranges_from, jumps_of_item, ranges_to_run_in, sight_in, content_of, ExecutionCtx, StackItemOf, StackOf, StackNames, StandsOn, Document, at_places, give_if_there, give_branch, instruction_holds, instruction_value, position_from}
+use Rattle.lol_vm.proofs.Common.{◌≡◌, ℕ, suc, zero, reverse, ◌+◌, ◌-◌, ◌<◌, ◌≤◌, ◌^◌, Bool, true, false, List, [], ◌∷◌, ◌++◌, length, map, drop, take, get_or, All, Option, Some, None, refl, sym, ap, ◌∙◌, subst, arith, Contains, drop-cons, slice_get, count_by, length-map, length-drop, length-reverse, map-append, reverse-append, reverse-reverse, take-append-drop, option_map, range_with_len, Range, Name, Among, among_from_contains, Ids, TagAttributes, Sight, sight_of, Path, Selectors, AreClosed, places, all_places, Element, names_counted, attributes_counted, Tries, name_tries, attribute_tries, Gathers, Context, no_context, context_of, branch, is_open_at, run, AreRunnable, IsInsideOf, all_at, value_seen, holds_seen, first_open_from, gathered_by_names, gathered_with_attributes, starts_open, HoldOnce, LeftMatches, active_of, last_jumps, ranges_of_active, ranges_to_run, item_shown, items_shown, items_in, active_in, AreTried, number_of, ranges_from, jumps_of_item, ranges_to_run_in, sight_in, content_of, ExecutionCtx, StackItemOf, StackOf, StackNames, StandsOn, Document, at_places, give_if_there, give_branch, instruction_holds, instruction_value, position_from, is_tried, lowercased, tag_attributes, list_any, or_of, inr, is_html, not, ◌||◌}
 use Rattle.std.proofs.lemmas.List.Sums.{count_by-le-length}
 use Rattle.std.proofs.lemmas.List.FromFn.{length-range_with_len}
 use Rattle.std.proofs.lemmas.List.Quantifiers.{position-Some}
@@ -16,7 +16,15 @@ use Rattle.lol_stack.specs.SoundRangeLaws.{active_after-append}
 use Rattle.lol_stack.specs.SoundStacks.{IsSound, hereditary_jumps_in}
 use Rattle.lol_vm.specs.Matching as matching
 use Rattle.lol_vm.specs.declared.tag_runs.Stop.{Stop}
-use Rattle.lol_vm.proofs.Counted.{places_count_tries}
+use Rattle.lol_vm.proofs.Counted.{Tried, places_are_nodes, places_count_tries}
+use Rattle.lol_vm.specs.TriedLaws.{NotAtOnce}
+use Rattle.lol_vm.proofs.Spared.{kept_held, named_held, opens_asked, spared_few, spared_inside}
+use Rattle.lol_rows.specs.Rows.{is_left_by_keys, is_left_by_name}
+use Rattle.lol_vm.specs.KeyTries.{asks_at_once, is_left_open, node_keys}
+use Rattle.lol_vm.specs.SparedRuns.{IsSparing, opens_at_once, opens_by_rows, ranges_by_name, spared}
+use Rattle.lol_rows.specs.declared.rows.Rows.{Rows}
+use Rattle.std.specs.Prelude.{is_some}
+use Rattle.lol_vm.specs.declared.spared_runs.RowSpace.{RowSpace}
 use Rattle.lol_vm.proofs.Held.{ranges_are_inside, ranges_hold_left_matches, programs_have_each_node}
 use Rattle.lol_vm.proofs.InstructionLists.{offset_inside}
 use Rattle.lol_vm.proofs.InstructionPlaces.{names_gather, same_count, same_stop}
@@ -106,24 +114,77 @@ module _ {E : Type 0} (r : Running E) where
       let within = ranges_are_inside s paths model (items_shown (items_in stack)) outer closed standing.program standing.items q among in
       (within.0, omega (arith, within.1, as_many))) ranges (All-contains_itself ranges)
 
-  module _ (e : Element) where
-    pub whole : (content : Bool) → WholeStart s model ranges e outer content
-    whole content = stopped_starts_are_whole s paths model ranges e outer content closed standing.program held
+  -- as many places as there are nodes whose left part matches, of which there are no more than instructions
+  pub few_places : length (all_places ranges) ≤ length instructions
+  few_places =
+      let count = places_are_nodes s paths model closed standing.program ranges (λ path. matching.left_matches path outer) held in
+      let nodes = (programs_have_each_node s paths model closed standing.program).count in
+      omega (arith, count, nodes, as_many, count_by-le-length (λ path. matching.left_matches path outer) s.nodes)
 
-    -- so many instructions are run
-    pub counted : length (all_at instructions ranges) ≡ name_tries s.nodes outer
-    counted = same_count prog e ranges inside ∙ (places_count_tries s paths model ranges e outer closed standing.program held).names
+  pub within_bounds : (e : Element) → name_tries s e outer ≤ length instructions
+  within_bounds e =
+      let nodes = (programs_have_each_node s paths model closed standing.program).count in
+      omega (arith, nodes, as_many, count_by-le-length (is_tried s e outer) s.nodes)
 
-    pub within_bounds : name_tries s.nodes outer ≤ length instructions
-    within_bounds =
-        let nodes = (programs_have_each_node s paths model closed standing.program).count in
-        omega (arith, nodes, as_many, count_by-le-length (λ node. matching.left_matches node outer) s.nodes)
+-- Ranges that hold the place of each node that is tried for an element, once.
+pub record IsChosen {E : Type 0} (r : Running E) (e : Element) (rs : List (Range ℕ)) : Type 0 where
+  pub held : HoldOnce r.paths rs (Tried r.s e (outer r))
+  pub inside : All (IsInsideOf (instructions r)) rs
 
-    pub runnable : (tries : Tries) → names_counted tries ≡ 0 → attributes_counted tries ≡ 0 → length instructions < 2 ^ 63 → AreRunnable instructions ranges tries
-    runnable tries names attributes size = record {
-      inside = inside;
-      room = (omega (arith, names, size, counted, within_bounds), omega (arith, attributes, size, counted, within_bounds));
-    }
+module _ {E : Type 0} (r : Running E) (e : Element) (rs : List (Range ℕ)) (chosen : IsChosen r e rs) where
+  open r use {s, paths, closed, prog, standing}
+
+  pub whole : (content : Bool) → WholeStart s (model r) rs e (outer r) content
+  whole content = stopped_starts_are_whole s paths (model r) rs e (outer r) content closed standing.program chosen.held
+
+  -- so many instructions are run
+  pub counted : length (all_at (instructions r) rs) ≡ name_tries s e (outer r)
+  counted = same_count prog e rs chosen.inside ∙ (places_count_tries s paths (model r) rs e (outer r) closed standing.program chosen.held).names
+
+-- What is tried by name, where nothing is asked for at once, and what is run with attributes, where these are.
+module _ {E : Type 0} (r : Running E) (e : Element) (space : RowSpace) (sparing : IsSparing r.s r.prog space) (size : length (instructions r) < 2 ^ 63) where
+  -- it can be run
+  pub runnable : (left : Instruction → Bool) (tries : Tries) → names_counted tries ≡ 0 → attributes_counted tries ≡ 0 → AreRunnable (instructions r) (spared r.prog left (ranges r)) tries
+  runnable left tries names attributes =
+      let inside = spared_inside r.s r.paths r.prog r.standing.program (ranges r) (outer r) (held r) e left size (inside r) in
+      let count = same_count r.prog e (spared r.prog left (ranges r)) inside in
+      let few = spared_few r.prog left (ranges r) in
+      record {
+        inside = inside;
+        room = (omega (arith, names, size, count, few, few_places r), omega (arith, attributes, size, count, few, few_places r));
+      }
+
+  -- whether rows tell that it is asked for at once
+  pub opens_is : r.s.by_keys ≡ true → opens_at_once r.prog (lowercased e.tag.name) (ranges r) ≡ list_any (is_left_open node_keys e (outer r)) r.s.nodes
+  opens_is by_keys = by_rows r.prog.rows (sparing.mode ∙ by_keys)
+    where
+      by_rows : (rows : Option Rows) → is_some rows ≡ true → opens_by_rows rows (lowercased e.tag.name) (instructions r) (ranges r) ≡ list_any (is_left_open node_keys e (outer r)) r.s.nodes
+      by_rows None none = cc
+      by_rows (Some rows) some = opens_asked r.s r.paths r.prog r.standing.program (ranges r) (outer r) (held r) e
+
+  pub not_at_once : is_html e.tag.namespace ≡ true → opens_at_once r.prog (lowercased e.tag.name) (ranges r) ≡ false → NotAtOnce r.s e (outer r)
+  not_at_once html shut by_keys = (λ i. not (html i) || sym (opens_is by_keys) i) ∙ shut
+
+  pub at_once : opens_at_once r.prog (lowercased e.tag.name) (ranges r) ≡ true → (r.s.by_keys ≡ true) × (asks_at_once node_keys r.s.nodes e (outer r) ≡ true)
+  at_once opens =
+      let by_keys = sym sparing.mode ∙ by_rows r.prog.rows opens in
+      (by_keys, or_of (not (is_html e.tag.namespace)) _ (inr (sym (opens_is by_keys) ∙ opens)))
+    where
+      by_rows : (rows : Option Rows) → opens_by_rows rows (lowercased e.tag.name) (instructions r) (ranges r) ≡ true → is_some rows ≡ true
+      by_rows None none = cc
+      by_rows (Some rows) some = refl
+
+  pub chosen_by_name : NotAtOnce r.s e (outer r) → IsChosen r e (ranges_by_name r.prog (lowercased e.tag.name) (ranges r))
+  chosen_by_name later = record {
+    held = named_held r.s r.paths r.prog r.standing.program (ranges r) (outer r) (held r) e sparing.mode size later;
+    inside = spared_inside r.s r.paths r.prog r.standing.program (ranges r) (outer r) (held r) e (is_left_by_name (lowercased e.tag.name)) size (inside r);
+  }
+
+  pub chosen_by_keys : (r.s.by_keys ≡ true → asks_at_once node_keys r.s.nodes e (outer r) ≡ true) → IsChosen r e (spared r.prog (is_left_by_keys (lowercased e.tag.name) (tag_attributes e.tag)) (ranges r))
+  chosen_by_keys at_once = record {
+    held = kept_held r.s r.paths r.prog r.standing.program (ranges r) (outer r) (held r) e sparing.mode size at_once;
+    inside = spared_inside r.s r.paths r.prog r.standing.program (ranges r) (outer r) (held r) e (is_left_by_keys (lowercased e.tag.name) (tag_attributes e.tag)) size (inside r);
+  }
 
 -- 4. Content
 
@@ -206,7 +267,7 @@ first_is p e ps n found =
     let at = position-Some (is_open_at p e) ps n 0 (position_from-zero (is_open_at p e) ps ∙ found) in
     (at.0, ap (starts_open p e) (drop-cons ps n 0 at.0) ∙ at.1)
 
-module _ {E : Type 0} (r : Running E) (ids : E → Ids) (with_ids : E → Ids → E) (lends : (w : E) (more : Ids) → ids (with_ids w more) ≡ more) (e : Element) (name : Name) (seen : sight_in r.stack name ≡ sight_of r.prog.enable_nth_of_type e) where
+module _ {E : Type 0} (r : Running E) (ids : E → Ids) (with_ids : E → Ids → E) (lends : (w : E) (more : Ids) → ids (with_ids w more) ≡ more) (e : Element) (name : Name) (seen : sight_in r.stack name ≡ sight_of r.prog.enable_nth_of_type e) (rs : List (Range ℕ)) (chosen : IsChosen r e rs) where
   open r use {s, stack}
 
   abbrev p : programs.Program
@@ -214,9 +275,6 @@ module _ {E : Type 0} (r : Running E) (ids : E → Ids) (with_ids : E → Ids �
 
   abbrev all : List Instruction
   all = instructions r
-
-  abbrev rs : List (Range ℕ)
-  rs = ranges r
 
   module _ {old new : ExecutionCtx E} {before after : Tries} {stop : Option Stop} (tried : AreTried ids with_ids (sight_in stack name) all rs old new before after stop) where
     pub stays : StaysThe old new
@@ -226,12 +284,12 @@ module _ {E : Type 0} (r : Running E) (ids : E → Ids) (with_ids : E → Ids �
     stop_shown =
         tried.stops
         ∙ (ap (λ z. first_open_from z 0 (all_at all rs)) seen
-        ∙ same_stop (r.prog) e rs (inside r))
+        ∙ same_stop (r.prog) e rs chosen.inside)
 
     -- what was gathered is what the run by names gathers
     pub gathered : Gathers ids old.stack_item no_context → Gathers ids new.stack_item (content_of new.with_content (started_by_names p true e rs))
     gathered none =
-        let by_names = names_gather r.prog e rs (inside r) ids with_ids lends old.with_content old no_context (none, refl) in
+        let by_names = names_gather r.prog e rs chosen.inside ids with_ids lends old.with_content old no_context (none, refl) in
         let is_new : gathered_by_names ids with_ids (sight_of p.by_type e) old (all_at all rs) ≡ new = sym (tried.gathered ∙ ap (λ z. gathered_by_names ids with_ids z old (all_at all rs)) seen) in
         let context : context_by_names p old.with_content e no_context (all_places rs) ≡ content_of old.with_content (started_by_names p true e rs) =
         ap (λ x. context_by_names p old.with_content e x (all_places rs)) (nothing_content old.with_content) ∙ by_names_content p old.with_content e no_context (all_places rs) in
@@ -245,13 +303,13 @@ module _ {E : Type 0} (r : Running E) (ids : E → Ids) (with_ids : E → Ids �
 
     pub gathered_all : started_by_names p true e rs ≡ context_of p true e (all_places rs)
     gathered_all =
-        ap (λ ps. run p true e (started_by_names p true e rs) ps) (sym none_left) ∙ (whole r e true).whole
+        ap (λ ps. run p true e (started_by_names p true e rs) ps) (sym none_left) ∙ (whole r e rs chosen true).whole
 
-    pub names_all : names_counted before ≡ 0 → names_counted after ≡ name_tries s.nodes (outer r)
-    names_all none = omega (arith, none, tried.names, counted r e)
+    pub names_all : names_counted before ≡ 0 → names_counted after ≡ name_tries s e (outer r)
+    names_all none = omega (arith, none, tried.names, counted r e rs chosen)
 
-    pub no_attributes : 0 ≡ attribute_tries s.nodes e (outer r)
-    no_attributes = ap (count_by (is_open_at p e)) (sym none_left) ∙ (whole r e true).attributes
+    pub no_attributes : 0 ≡ attribute_tries s e (outer r)
+    no_attributes = ap (count_by (is_open_at p e)) (sym none_left) ∙ (whole r e rs chosen true).attributes
 
     pub no_need : starts_open p e (left_by_names p e rs) ≡ false
     no_need = ap (starts_open p e) none_left
@@ -277,7 +335,7 @@ module _ {E : Type 0} (r : Running E) (ids : E → Ids) (with_ids : E → Ids �
         let front = take stop.range rs in
         let back = drop (stop.range + 1) rs in
         let parts = around rs stop.range no_range within.0 in
-        let count = same_count r.prog e front (All-take (IsInsideOf all) stop.range rs (inside r)) in
+        let count = same_count r.prog e front (All-take (IsInsideOf all) stop.range rs chosen.inside) in
         let fits = offset_inside all rs stop within in
         let sizes = length-range_with_len stopped.start (stopped.end - stopped.start) in
         stops_leave (is_open_at p e) (all_places rs)

@@ -1,5 +1,5 @@
 -- Runs that stop and go on.
-use Rattle.lol_vm.proofs.Common.{HoldOnce, LeftMatches, ◌≡◌, ℕ, suc, ◌+◌, Bool, true, false, cond, not, List, [], ◌∷◌, ◌++◌, length, drop, Option, Some, None, inl, inr, refl, sym, ap, ◌∙◌, subst, arith, Contains, slice_get, count_by, option_to_list, ◌&&◌, ◌||◌, ◌≤◌, if◌then◌else◌, Range, list_any, append-nil, append_cancel_right, drop-append-le, option_map, Attribute, Element, is_html, Path, Selectors, last_compound, count_by-cons, Among, among_from_contains, contains_from_among, left_matches, needs_attributes, asks, attribute_tries, or_of, is_open, Decides, by_names, with_rest, IsAt, IsProgramOf, places, all_places, AreClosed, Context, no_context, given_by, gathered_from_places, context_of, run, instruction_value, value_at, is_open_at, ids_list, jumps_list, hereditary_jumps_list, starts_open, IsRequest, at_places, given_with_attributes, map-append, give_if, give_if_there, given_by_names, instruction_holds, is_true, position_from}
+use Rattle.lol_vm.proofs.Common.{HoldOnce, ◌≡◌, ℕ, suc, ◌+◌, Bool, true, false, cond, not, List, [], ◌∷◌, ◌++◌, length, drop, Option, Some, None, inl, inr, refl, sym, ap, ◌∙◌, subst, arith, Contains, slice_get, count_by, option_to_list, ◌&&◌, ◌||◌, ◌≤◌, if◌then◌else◌, Range, list_any, append-nil, append_cancel_right, drop-append-le, option_map, Attribute, Element, is_html, Path, Selectors, last_compound, count_by-cons, Among, among_from_contains, contains_from_among, left_matches, needs_attributes, asks, attribute_tries, is_open, Decides, by_names, with_rest, IsAt, IsProgramOf, places, all_places, AreClosed, Context, no_context, given_by, gathered_from_places, context_of, run, instruction_value, value_at, is_open_at, ids_list, jumps_list, hereditary_jumps_list, starts_open, IsRequest, at_places, given_with_attributes, map-append, give_if, give_if_there, given_by_names, instruction_holds, is_true, position_from, is_tried_open}
 use Rattle.std.proofs.Common.{append_assoc}
 use Rattle.std.proofs.Math.Seq.{drop-append-add}
 use Rattle.std.proofs.lemmas.Grind.{flat_map-append}
@@ -8,7 +8,7 @@ use Rattle.lol_instructions.specs.declared.name_value.NameValue.{NameValue}
 use Rattle.lol_instructions.specs.declared.name_value.NameValue.TheVariants.{True, False, Open}
 use Rattle.lol_program.specs.ValueLaws.{values_decide, values_are_by_names}
 use Rattle.lol_vm.proofs.Held.{path_at}
-use Rattle.lol_vm.proofs.Counted.{places_count_tries}
+use Rattle.lol_vm.proofs.Counted.{Tried, places_count_tries}
 use Rattle.lol_vm.proofs.OutcomeLemmas.{attributes-append, from_first, names-map}
 
 -- 1. Runs gather
@@ -204,12 +204,12 @@ left_counted test (place ∷ before) left h =
 -- A start tag that stops and goes on: it stops exactly if some node needs attributes, gives what a run with attributes gives, and the
 -- tries by attributes are the open places that are left.
 pub record WholeStart (s : Selectors) (p : Program) (ranges : List (Range ℕ)) (e : Element) (outer : List Element) (content : Bool) : Type 0 where
-  pub asks : starts_open p e (left_by_names p e ranges) ≡ list_any (needs_attributes e outer) s.nodes
+  pub asks : starts_open p e (left_by_names p e ranges) ≡ list_any (is_tried_open s e outer) s.nodes
   pub whole : run p content e (started_by_names p content e ranges) (left_by_names p e ranges) ≡ context_of p content e (all_places ranges)
-  pub attributes : count_by (is_open_at p e) (left_by_names p e ranges) ≡ attribute_tries s.nodes e outer
+  pub attributes : count_by (is_open_at p e) (left_by_names p e ranges) ≡ attribute_tries s e outer
 
 pub stopped_starts_are_whole : (s : Selectors) (paths : List Path) (p : Program) (ranges : List (Range ℕ)) (e : Element) (outer : List Element)
-    (content : Bool) → AreClosed s → IsProgramOf s paths p → HoldOnce paths ranges (LeftMatches outer)
+    (content : Bool) → AreClosed s → IsProgramOf s paths p → HoldOnce paths ranges (Tried s e outer)
     → WholeStart s p ranges e outer content
 stopped_starts_are_whole s paths p ranges e outer content closed program held =
     let stop = runs_stop_where_asked p content e no_context (all_places ranges) (λ place i h at. decides_at s paths p program e place i at) in
@@ -225,7 +225,7 @@ stopped_starts_are_whole s paths p ranges e outer content closed program held =
 -- A run by names that stops gives a request.
 pub stops_are_requests : (s : Selectors) (paths : List Path) (p : Program) (content : Bool) (e : Element) (ranges : List (Range ℕ))
     → IsProgramOf s paths p → starts_open p e (left_by_names p e ranges) ≡ true
-    → IsRequest p content e ranges (started_by_names p content e ranges) (left_by_names p e ranges)
+    → IsRequest p false content e ranges (started_by_names p content e ranges) (left_by_names p e ranges)
 stops_are_requests s paths p content e ranges program asks =
     let stop = λ (x : Element). runs_stop_where_asked p content x no_context (all_places ranges) (λ place i h at. decides_at s paths p program x place i at) in
     let here = stop e in
@@ -233,7 +233,7 @@ stops_are_requests s paths p content e ranges program asks =
       before = here.before;
       parts = here.parts;
       closed = here.closed;
-      asks = or_of (not (is_html e.tag.namespace)) _ (inr asks);
+      asks = asks;
       gathered = λ attributes self_closing finish.
           let x = with_rest e attributes self_closing finish in
           let same = same_values s paths p program e attributes self_closing finish in
@@ -241,14 +241,13 @@ stops_are_requests s paths p content e ranges program asks =
           sym (same_context s paths p program e attributes self_closing finish content no_context (all_places ranges)) ∙ ((stop x).ran ∙ (runs_gather p content x no_context (stop x).before ∙ ap (context_of p content x) fronts));
     }
 
--- Outside HTML a request is made before any place is run.
-pub foreign_tags_ask : (p : Program) (content : Bool) (e : Element) (ranges : List (Range ℕ)) → is_html e.tag.namespace ≡ false
-    → IsRequest p content e ranges no_context (all_places ranges)
-foreign_tags_ask p content e ranges foreign = record {
+-- A request that is made before any place is run.
+pub asked_at_once : (p : Program) (content : Bool) (e : Element) (ranges : List (Range ℕ)) → IsRequest p true content e ranges no_context (all_places ranges)
+asked_at_once p content e ranges = record {
   before = [];
   parts = refl;
   closed = λ place h. absurd (among_from_contains [] place h);
-  asks = λ i. not (foreign i) || starts_open p e (all_places ranges);
+  asks = refl;
   gathered = λ attributes self_closing finish. nothing content;
 }
   where
@@ -257,11 +256,11 @@ foreign_tags_ask p content e ranges foreign = record {
     nothing false = refl
 
 -- A request that is finished, with whatever rest of the tag, gives what a whole run gives.
-pub requests_finish : (p : Program) (content : Bool) (e : Element) (ranges : List (Range ℕ)) (context : Context) (left : List ℕ)
-    → IsRequest p content e ranges context left → (attributes : List Attribute) (self_closing finish : Bool)
+pub requests_finish : (p : Program) (at_once content : Bool) (e : Element) (ranges : List (Range ℕ)) (context : Context) (left : List ℕ)
+    → IsRequest p at_once content e ranges context left → (attributes : List Attribute) (self_closing finish : Bool)
     → run p content (with_rest e attributes self_closing finish) context left
     ≡ context_of p content (with_rest e attributes self_closing finish) (all_places ranges)
-requests_finish p content e ranges context left request attributes self_closing finish =
+requests_finish p at_once content e ranges context left request attributes self_closing finish =
     let x = with_rest e attributes self_closing finish in
     let before : context ≡ run p content x no_context request.before = request.gathered attributes self_closing finish ∙ sym (runs_gather p content x no_context request.before) in
     ap (λ c. run p content x c left) before

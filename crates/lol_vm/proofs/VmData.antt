@@ -1,12 +1,14 @@
 -- Machines with other data of their last element.
-use Rattle.lol_vm.proofs.Common.{◌≡◌, ℕ, suc, zero, ◌-◌, List, [], ◌∷◌, ◌++◌, length, map, Option, Some, None, refl, sym, ap, subst, ◌∙◌, reverse, slice_get, slice_set, option_map, length-map, Name, ranges_of_active, longest, item_shown, items_in, active_in, count_or, typed_in, count_by_type, all_places, Start, unfinished, jumps_of_item, sight_in, tag_ranges, ranges_left, IsPointIn, Vm, instructions_in, data_in, StackItemOf, StackOf, StackNames, some_is, ◌+◌, true, StandsOn, AreItems, Selectors, Path, Document, document, element_of, ranges_to_run_in, ranges_to_try, IsRequest, names_counted, tried_at}
+use Rattle.lol_vm.proofs.Common.{◌≡◌, ℕ, suc, zero, ◌-◌, List, [], ◌∷◌, ◌++◌, length, map, Option, Some, None, refl, sym, ap, subst, ◌∙◌, reverse, slice_get, slice_set, option_map, length-map, Name, ranges_of_active, longest, item_shown, items_in, active_in, count_or, typed_in, count_by_type, all_places, Start, unfinished, jumps_of_item, sight_in, tag_ranges, ranges_left, IsPointIn, Vm, instructions_in, data_in, StackItemOf, StackOf, StackNames, some_is, ◌+◌, true, StandsOn, AreItems, Selectors, Path, Document, document, element_of, ranges_to_run_in, IsRequest, names_counted, tried_at}
 use Rattle.lol_program.specs.Programs.{Program}
 use Rattle.lol_program.specs.ProgramViews.{program_shown}
 use Rattle.lol_program.specs.declared.program.Program as code
 use Rattle.lol_stack.specs.Lending.{with_data}
 use Rattle.lol_stack.specs.SoundLaws.{set_keeps, data_keep_sound}
 use Rattle.lol_stack.specs.StackLending.{with_current, with_data_at, with_data_if}
+use Rattle.lol_vm.specs.SparedRuns.{ranges_before}
 use Rattle.lol_vm.specs.VmLending.{with_current_in}
+use Rattle.lol_vm.specs.Vms.{is_at_once, ranges_tried}
 use Rattle.lol_vm.specs.VmLaws.{DataChangeNothing, DataKeepOpen, DataKeepRequests, LastDataAreLent, LastDataChange, PendingStands, SlotsAreOfDepth}
 use Rattle.lol_vm.proofs.StackCounting.{last_at, last_set}
 
@@ -74,7 +76,7 @@ module _ {E : Type 0} (w : E) where
     }
 
 pub data_change_nothing : {E : Type 0} → DataChangeNothing E
-data_change_nothing s esi vm events w h = record { paths = h.paths; closed = h.closed; standing = data_stand w vm.stack s h.paths (program_shown vm.program) (document s esi events) (longest s esi events) h.standing; switch = h.switch; unfailed = h.unfailed }
+data_change_nothing s esi vm events w h = record { paths = h.paths; closed = h.closed; standing = data_stand w vm.stack s h.paths (program_shown vm.program) (document s esi events) (longest s esi events) h.standing; switch = h.switch; unfailed = h.unfailed; sparing = h.sparing }
 
 pub data_keep_open : {E : Type 0} → DataKeepOpen E
 data_keep_open vm elements w h = record {
@@ -92,9 +94,10 @@ unfolding data_change_nothing
 data_keep_requests ids_of s esi events tag vm request w h = record {
   stands = data_change_nothing s esi vm (events ++ Start (unfinished tag) ∷ []) w h.stands;
   asks = h.asks;
+  at_once = h.at_once;
   context = h.context;
   left = h.left;
-  is_request = subst (λ rs. IsRequest (program_shown vm.program) true (element_of (document s esi events) tag) rs h.context h.left) back h.is_request;
+  is_request = subst (λ rs. IsRequest (program_shown vm.program) (is_at_once request.point) true (element_of (document s esi events) tag) rs h.context h.left) back h.is_request;
   named = h.named;
   sight = same_sight w vm.stack request.ctx.stack_item.local_name ∙ h.sight;
   childless = h.childless;
@@ -106,8 +109,8 @@ data_keep_requests ids_of s esi events tag vm request w h = record {
   attributes = h.attributes;
 }
   where
-    back : ranges_to_try vm ≡ ranges_to_try (with_current_in vm w)
-    back = sym (same_ranges w vm.stack vm.program)
+    back : ranges_tried vm request.ctx.stack_item.local_name request.point ≡ ranges_tried (with_current_in vm w) request.ctx.stack_item.local_name request.point
+    back = ap (λ ranges. ranges_before vm.program request.ctx.stack_item.local_name.lowercased ranges request.point) (sym (same_ranges w vm.stack vm.program))
 
 pub pending_stands : {E : Type 0} → PendingStands E
 pending_stands ids_of s esi events tag vm request h = h.stands

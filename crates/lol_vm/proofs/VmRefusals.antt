@@ -25,6 +25,7 @@ use Rattle.lol_vm.proofs.Children.{documents_are_ordered, ordered_end, ordered_s
 use Rattle.lol_vm.proofs.Kept.{IsNew, counted_stands, ended_stands, for_on, new_stands, same_stands}
 use Rattle.lol_vm.proofs.StackCounting.{many_are}
 use Rattle.lol_vm.proofs.VmStarts.{counted_data}
+use Rattle.lol_vm.specs.SparedRuns.{IsSparing}
 
 -- 1. Machines that stand
 
@@ -92,9 +93,9 @@ below n (p ∷ []) k is = by_test (nat_lt p n) refl is
 below n (p ∷ q ∷ ps) k is = below n (q ∷ ps) k is
 
 module _ {E : Type 0} where
-  pub stands_ended : (s : Selectors) (esi : Bool) (vm new : Vm E) (events : List Event) (name : List ℕ) → IsEnded vm.stack (local_name name) new.stack → new.program ≡ vm.program → new.enable_esi_tags ≡ vm.enable_esi_tags → new.failed ≡ vm.failed
+  pub stands_ended : (s : Selectors) (esi : Bool) (vm new : Vm E) (events : List Event) (name : List ℕ) → IsEnded vm.stack (local_name name) new.stack → new.program ≡ vm.program → new.enable_esi_tags ≡ vm.enable_esi_tags → new.failed ≡ vm.failed → new.space ≡ vm.space
       → Stands s esi vm events → Stands s esi new (events ++ End name ∷ [])
-  stands_ended s esi vm new events name is same_program same_switch same_failed h =
+  stands_ended s esi vm new events name is same_program same_switch same_failed same_space h =
       let d = document s esi events in
       let ended = ended_stands s h.paths (program_shown vm.program) vm.stack d (longest s esi events) (documents_are_ordered s esi events) h.standing new.stack name is in
       record {
@@ -104,6 +105,7 @@ module _ {E : Type 0} where
             (for_on s esi events (End name) (after_end d name) (document_push s esi empty events (End name)) h.paths (program_shown vm.program) new.stack ended);
         switch = same_switch ∙ h.switch;
         unfailed = same_failed ∙ h.unfailed;
+        sparing = subst (λ prog. IsSparing s prog new.space) (sym same_program) (subst (IsSparing s vm.program) (sym same_space) h.sparing);
       }
 
   -- what stays, and what is handed out, where so many elements stay and an end tag closes those from a place on
@@ -143,15 +145,16 @@ same_stack stack = record { root = refl; items = refl; active = refl; typed = re
 
 pub new_vm_stands : {E : Type 0} (ast : Ast) (prog : Program) (stack : StackOf Name StackNames E) (vm : Vm E) (esi : Bool) (item_bytes : ℕ)
     → IsProgramOf (selectors ast) (nodes_of ast) (program_shown prog) → IsNew stack (program_shown prog).by_type item_bytes → ((q : Name) → places_in stack q ≡ [])
-    → vm.program ≡ prog → vm.stack ≡ stack → vm.enable_esi_tags ≡ esi → vm.failed ≡ false → Stands (selectors ast) esi vm []
-new_vm_stands ast prog stack vm esi item_bytes is new places program has switch failed = record {
+    → vm.program ≡ prog → vm.stack ≡ stack → vm.enable_esi_tags ≡ esi → vm.failed ≡ false → IsSparing (selectors ast) prog vm.space → Stands (selectors ast) esi vm []
+new_vm_stands ast prog stack vm esi item_bytes is new places program has switch failed sparing = record {
   paths = nodes_of ast;
-  closed = trees_are_closed ast;
+  closed = trees_are_closed (selectors ast).by_keys ast;
   standing = subst (λ prog. StandsFor (selectors ast) esi (nodes_of ast) (program_shown prog) vm.stack []) (sym program)
       (subst (λ (x : StackOf Name StackNames _). StandsFor (selectors ast) esi (nodes_of ast) (program_shown prog) x []) (sym has)
       (new_stands (selectors ast) (nodes_of ast) (program_shown prog) stack item_bytes is new (new_is_sound stack (ap (λ (v : LimitedVec (StackItemOf Name _)). v.items) new.items) new.active places)));
   switch = switch;
   unfailed = failed;
+  sparing = subst (λ prog. IsSparing (selectors ast) prog vm.space) (sym program) sparing;
 }
 
 -- 5. Refused start tags

@@ -11,6 +11,8 @@ use Rattle.lol_stack.specs.SoundLaws.{set_keeps}
 use Rattle.lol_vm.specs.AnswerLaws.{document_push}
 use Rattle.lol_vm.proofs.Children.{documents_are_ordered}
 use Rattle.lol_vm.proofs.Gathered.{GivesReport}
+use Rattle.lol_vm.specs.SparedRuns.{IsSparing}
+use Rattle.lol_vm.specs.declared.spared_runs.RowSpace.{RowSpace}
 use Rattle.lol_vm.proofs.Kept.{IsItemOf, for_on, opened_stands}
 
 -- 1. Data
@@ -32,31 +34,37 @@ data_with true item old = old ++ item.element_data ∷ []
 data_with false item old = old
 
 -- what an element's tag that was counted comes to, once it is opened if it has content
-pub record Enters {E : Type 0} (s : Selectors) (paths : List Path) (vm : Vm E) (after : Tries) (before : List E) (d : Document) (most : ℕ) (item : StackItemOf Name E) (next : Vm E) (content : Bool) : Type 0 where
+pub record Enters {E : Type 0} (s : Selectors) (paths : List Path) (vm : Vm E) (own : RowSpace) (after : Tries) (before : List E) (d : Document) (most : ℕ) (item : StackItemOf Name E) (next : Vm E) (content : Bool) : Type 0 where
   pub standing : StandsOn s paths (program_shown next.program) next.stack d most
   pub tries : next.tries ≡ after
   pub switch : next.enable_esi_tags ≡ vm.enable_esi_tags
   pub failed : next.failed ≡ vm.failed
+  pub program : next.program ≡ vm.program
+  pub space : next.space ≡ own
   pub has : data_in next ≡ data_with content item before
 
-entered_stands : {E : Type 0} (s : Selectors) (paths : List Path) (vm : Vm E) (stack : StackOf Name StackNames E) (after : Tries) (d : Document) (most : ℕ) → IsOrdered d most → (tag : StartTag) (x : Context) (item : StackItemOf Name E) (next : Vm E) (content : Bool)
+entered_stands : {E : Type 0} (s : Selectors) (paths : List Path) (vm : Vm E) (stack : StackOf Name StackNames E) (space : RowSpace) (after : Tries) (d : Document) (most : ℕ) → IsOrdered d most → (tag : StartTag) (x : Context) (item : StackItemOf Name E) (next : Vm E) (content : Bool)
     → StandsOn s paths (program_shown vm.program) stack (after_start d tag false) (max most (length d.open_elements)) → GivesReport s paths (program_shown vm.program) x (element_of d tag) d.open_elements
-    → IsItemOf item tag.name (content_of content x) → IsEntered content item (record vm { stack = stack; tries = after }) next
-    → Enters s paths vm after (element_data_of (items_in stack)) (after_start d tag content) (max most (length (after_start d tag content).open_elements)) item next content
-entered_stands s paths vm stack after d most ordered tag x item next true here given is entered =
+    → IsItemOf item tag.name (content_of content x) → IsEntered content item (record vm { stack = stack; tries = after; space = space }) next
+    → Enters s paths vm space after (element_data_of (items_in stack)) (after_start d tag content) (max most (length (after_start d tag content).open_elements)) item next content
+entered_stands s paths vm stack space after d most ordered tag x item next true here given is entered =
     let opened = opened_stands s paths (program_shown vm.program) d most ordered tag stack next.stack item x here entered.0 is given.jumps given.hereditary_jumps in
     record {
       standing = subst (λ (v : Vm _). StandsOn s paths (program_shown v.program) v.stack (after_start d tag true) (max most (suc (length d.open_elements)))) (sym entered.1) opened;
       tries = ap (λ (v : Vm _). v.tries) entered.1;
       switch = ap (λ (v : Vm _). v.enable_esi_tags) entered.1;
       failed = ap (λ (v : Vm _). v.failed) entered.1;
+      program = ap (λ (v : Vm _). v.program) entered.1;
+      space = ap (λ (v : Vm _). v.space) entered.1;
       has = ap (λ (v : LimitedVec (StackItemOf Name _)). element_data_of v.items) entered.0.items ∙ map-append (λ (i : StackItemOf Name _). i.element_data) (items_in stack) (item ∷ []);
     }
-entered_stands s paths vm stack after d most ordered tag x item next false here given is entered = record {
+entered_stands s paths vm stack space after d most ordered tag x item next false here given is entered = record {
   standing = subst (λ (v : Vm _). StandsOn s paths (program_shown v.program) v.stack (after_start d tag false) (max most (length d.open_elements))) (sym entered) here;
   tries = ap (λ (v : Vm _). v.tries) entered;
   switch = ap (λ (v : Vm _). v.enable_esi_tags) entered;
   failed = ap (λ (v : Vm _). v.failed) entered;
+  program = ap (λ (v : Vm _). v.program) entered;
+  space = ap (λ (v : Vm _). v.space) entered;
   has = ap data_in entered;
 }
 
@@ -74,8 +82,8 @@ pub record IsComplete {E : Type 0} (ids : E → Ids) (s : Selectors) (esi : Bool
   pub content : ctx.with_content ≡ has_content esi tag
   pub matched : ascending (ids ctx.stack_item.element_data) ≡ matching_ids s.pairs (element_of (document s esi events) tag) (document s esi events).open_elements
   pub item : IsItemOf ctx.stack_item tag.name (content_of (has_content esi tag) x)
-  pub names : names_counted tries ≡ name_tries s.nodes (document s esi events).open_elements
-  pub attributes : attributes_counted tries ≡ attribute_tries s.nodes (element_of (document s esi events) tag) (document s esi events).open_elements
+  pub names : names_counted tries ≡ name_tries s (element_of (document s esi events) tag) (document s esi events).open_elements
+  pub attributes : attributes_counted tries ≡ attribute_tries s (element_of (document s esi events) tag) (document s esi events).open_elements
 
 module _ {E : Type 0} {ids : E → Ids} {s : Selectors} {esi : Bool} {events : List Event} {tag : StartTag} {asked : Bool} {ctx : ExecutionCtx E} {x : Context} {tries : Tries} (all : IsComplete ids s esi events tag asked ctx x tries) where
   abbrev d : Document
@@ -97,12 +105,12 @@ module _ {E : Type 0} {ids : E → Ids} {s : Selectors} {esi : Bool} {events : L
     }
 
     -- the machine stands for the events with this one
-    pub answered : (vm : Vm E) (stack : StackOf Name StackNames E) (paths : List Path) → AreClosed s → StandsOn s paths (program_shown vm.program) stack (after_start d tag false) (max (longest s esi events) (length d.open_elements))
-        → GivesReport s paths (program_shown vm.program) x e d.open_elements → element_data_of (items_in stack) ≡ data_in vm → vm.enable_esi_tags ≡ esi → vm.failed ≡ false
-        → (next : Vm E) → IsEntered ctx.with_content ctx.stack_item (record vm { stack = stack; tries = tries }) next → IsAnswered ids step s esi events tag asked vm next f g
-    answered vm stack paths closed here given same_data switch unfailed next entered =
-        let entering = entered_stands s paths vm stack tries d (longest s esi events) (documents_are_ordered s esi events) tag x ctx.stack_item next (has_content esi tag) here given all.item
-        (subst (λ b. IsEntered b ctx.stack_item (record vm { stack = stack; tries = tries }) next) all.content entered) in
+    pub answered : (vm : Vm E) (stack : StackOf Name StackNames E) (space : RowSpace) (paths : List Path) → AreClosed s → StandsOn s paths (program_shown vm.program) stack (after_start d tag false) (max (longest s esi events) (length d.open_elements))
+        → GivesReport s paths (program_shown vm.program) x e d.open_elements → element_data_of (items_in stack) ≡ data_in vm → vm.enable_esi_tags ≡ esi → vm.failed ≡ false → IsSparing s vm.program space
+        → (next : Vm E) → IsEntered ctx.with_content ctx.stack_item (record vm { stack = stack; tries = tries; space = space }) next → IsAnswered ids step s esi events tag asked vm next f g
+    answered vm stack space paths closed here given same_data switch unfailed sparing next entered =
+        let entering = entered_stands s paths vm stack space tries d (longest s esi events) (documents_are_ordered s esi events) tag x ctx.stack_item next (has_content esi tag) here given all.item
+        (subst (λ b. IsEntered b ctx.stack_item (record vm { stack = stack; tries = tries; space = space }) next) all.content entered) in
         let now : document s esi (events ++ Start tag ∷ []) ≡ after_start d tag (has_content esi tag) =
         document_push s esi empty events (Start tag)
         ∙ ap (after_start d tag) ((λ i. has_content esi tag && not (all.asks i && not tag.finish)) ∙ ((λ i. has_content esi tag && not (all.kept i)) ∙ and-true (has_content esi tag))) in
@@ -110,8 +118,8 @@ module _ {E : Type 0} {ids : E → Ids} {s : Selectors} {esi : Bool} {events : L
         record {
           matched = report s esi e d.open_elements;
           answered =
-              ap (λ b. if (b && not tag.finish) then Dropped else Started (report s esi e d.open_elements) b (name_tries s.nodes d.open_elements) (attribute_tries s.nodes e d.open_elements)) all.asks
-              ∙ (ap (λ b. if b then Dropped else Started (report s esi e d.open_elements) asked (name_tries s.nodes d.open_elements) (attribute_tries s.nodes e d.open_elements)) all.kept
+              ap (λ b. if (b && not tag.finish) then Dropped else Started (report s esi e d.open_elements) b (name_tries s e d.open_elements) (attribute_tries s e d.open_elements)) all.asks
+              ∙ (ap (λ b. if b then Dropped else Started (report s esi e d.open_elements) asked (name_tries s e d.open_elements) (attribute_tries s e d.open_elements)) all.kept
               ∙ (λ i. Started (report s esi e d.open_elements) asked (sym told_all.names i) (sym told_all.attributes i)));
           reported = told_all.called;
           stands = record {
@@ -120,6 +128,7 @@ module _ {E : Type 0} {ids : E → Ids} {s : Selectors} {esi : Bool} {events : L
             standing = for_on s esi events (Start tag) (after_start d tag (has_content esi tag)) now paths (program_shown next.program) next.stack entering.standing;
             switch = entering.switch ∙ switch;
             unfailed = entering.failed ∙ unfailed;
+            sparing = subst (λ prog. IsSparing s prog next.space) (sym entering.program) (subst (IsSparing s vm.program) (sym entering.space) sparing);
           };
           opened = opened_as ids (has_content esi tag) (report s esi e d.open_elements) ctx.stack_item
               (all.matched ∙ sym (map-map (λ (r : Match). r.id) as_match (matching_ids s.pairs e d.open_elements) ∙ map-id (matching_ids s.pairs e d.open_elements)))

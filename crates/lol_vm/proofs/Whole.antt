@@ -1,5 +1,5 @@
 -- What a machine is about to run, and how often nodes are tried.
-use Rattle.lol_vm.proofs.Common.{by_names, is_open, last_compound, document, longest, needs_attributes, left_matches, and_parts}
+use Rattle.lol_vm.proofs.Common.{by_names, is_open, last_compound, document, longest, is_tried, is_tried_open, and_parts}
 use Rattle.std.proofs.lemmas.List.Sums.{count_by-le-length}
 use Rattle.lol_vm.specs.VmLaws.{RangesHoldOnce, TriesAreFew}
 use Rattle.lol_vm.proofs.Starts.{held}
@@ -15,6 +15,6 @@ ranges_hold_once s esi vm events h = record {
 
 pub tries_are_few : TriesAreFew
 tries_are_few s e outer = (
-  fewer (needs_attributes e outer) (λ node. left_matches node outer) (λ node needs. (and_parts (left_matches node outer) (is_open (by_names (last_compound node) e)) needs).0) s.nodes,
-  count_by-le-length (λ node. left_matches node outer) s.nodes,
+  fewer (is_tried_open s e outer) (is_tried s e outer) (λ node h. (and_parts (is_tried s e outer node) (is_open (by_names (last_compound node) e)) h).0) s.nodes,
+  count_by-le-length (is_tried s e outer) s.nodes,
 )

@@ -8,6 +8,7 @@ use Rattle.lol_program.specs.Paths.{Path, Selectors, last_compound}
 use Rattle.lol_vm.specs.Events.{Event, Start, End, has_content}
 use Rattle.lol_vm.specs.Documents.{Document, empty, element_of, closed, after_start, after_end}
 use Rattle.lol_vm.specs.Matching.{left_matches, matches}
+use Rattle.lol_vm.specs.KeyTries.{is_tried_by_keys, node_keys}
 
 -- An id that an element is reported under, and whether the element has content.
 pub record Match : Type 0 where
@@ -32,16 +33,24 @@ report s esi e outer = map (λ id. record { id = id; with_content = has_content 
 
 -- 2. Tries, and what needs attributes
 
--- A node is tried where its left part matches.
-abbrev pub name_tries : List Path → List Element → ℕ
-name_tries nodes outer = count_by (λ node. left_matches node outer) nodes
+-- A node is tried where its left part matches; of selectors whose nodes are spared by keys, where these don't rule it out besides.
+abbrev pub is_tried : Selectors → Element → List Element → Path → Bool
+is_tried s e outer node = if s.by_keys then is_tried_by_keys node_keys s.nodes e outer node else left_matches node outer
 
--- It needs attributes where its value by names is open too.
+-- How many nodes are tried by names.
+abbrev pub name_tries : Selectors → Element → List Element → ℕ
+name_tries s e outer = count_by (is_tried s e outer) s.nodes
+
+-- A node that is tried is tried by attributes too where its value by names is open.
+abbrev pub is_tried_open : Selectors → Element → List Element → Path → Bool
+is_tried_open s e outer node = is_tried s e outer node && is_open (by_names (last_compound node) e)
+
+abbrev pub attribute_tries : Selectors → Element → List Element → ℕ
+attribute_tries s e outer = count_by (is_tried_open s e outer) s.nodes
+
+-- A node needs attributes where its left part matches and its value by names is open.
 abbrev pub needs_attributes : Element → List Element → Path → Bool
 needs_attributes e outer node = left_matches node outer && is_open (by_names (last_compound node) e)
-
-abbrev pub attribute_tries : List Path → Element → List Element → ℕ
-attribute_tries nodes e outer = count_by (needs_attributes e outer) nodes
 
 -- Whether a tag's attributes are asked for: outside HTML always, in HTML where some node needs them.
 abbrev pub asks : Selectors → Element → List Element → Bool
@@ -57,7 +66,7 @@ abbrev pub answer : Selectors → Bool → Document → Event → Answer
 answer s esi d (Start tag) =
     let e = element_of d tag in
     if is_dropped s e d.open_elements then Dropped
-    else Started (report s esi e d.open_elements) (asks s e d.open_elements) (name_tries s.nodes d.open_elements) (attribute_tries s.nodes e d.open_elements)
+    else Started (report s esi e d.open_elements) (asks s e d.open_elements) (name_tries s e d.open_elements) (attribute_tries s e d.open_elements)
 answer s esi d (End name) = Ended (closed name d)
 
 abbrev pub after : Selectors → Bool → Document → Event → Document

@@ -26,12 +26,13 @@ pub record IsReport (s : Selectors) (esi : Bool) (e : Element) (outer : List Ele
   pub ascending : IsStrictlyAscending (ids_of (report s esi e outer))
   pub members : HasMatchingIds s esi e outer
 
--- the same pairs, in any order and number, and the same nodes, each once, in any order
+-- the same pairs, in any order and number, and the same nodes, each once, in any order, spared by keys or not
 pub record SameSelectors (s t : Selectors) : Type 0 where
   pub pairs : SameMembers t.pairs s.pairs
   pub nodes : SameMembers t.nodes s.nodes
   pub each_once : AllPairs (λ a b. a ≢ b) s.nodes
   pub each_once' : AllPairs (λ a b. a ≢ b) t.nodes
+  pub mode : s.by_keys ≡ t.by_keys
 
 -- The order in which pairs and nodes stand changes no answer and no refusal.
 abbrev pub OrderChangesNothing : Type 0
@@ -46,8 +47,13 @@ StrayEndChangesNothing =
     → (answer s esi d (End name) ≡ Ended [])
     × ((after s esi d (End name)).open_elements ≡ d.open_elements) × ((after s esi d (End name)).children ≡ d.children)
 
--- Two trees of the same pairs, with the same nodes, answer alike: in whatever order their selectors were added.
+-- selectors whose nodes are spared by keys, or not
+abbrev pub in_mode : Bool → Selectors → Selectors
+in_mode by_keys s = record s { by_keys = by_keys }
+
+-- Two trees of the same pairs, with the same nodes, answer alike in each mode: in whatever order their selectors were added.
 abbrev pub TreesAnswerAlike : Type 0
 TreesAnswerAlike =
     (a b : Ast) → SameMembers (pairs_of b) (pairs_of a) → SameMembers (nodes_of b) (nodes_of a)
-    → (esi : Bool) (events : List Event) → answers (selectors a) esi events ≡ answers (selectors b) esi events
+    → (by_keys esi : Bool) (events : List Event)
+    → answers (in_mode by_keys (selectors a)) esi events ≡ answers (in_mode by_keys (selectors b)) esi events

@@ -1,6 +1,7 @@
 pub mod Events
 pub mod Documents
 pub mod Matching
+pub mod KeyTries
 pub mod Answers
 pub mod Refusals
 pub mod RunRefusals
@@ -22,9 +23,11 @@ pub mod InstructionRuns
 pub mod Laws
 pub mod ReportLaws
 pub mod AnswerLaws
+pub mod SparedRuns
 pub mod TagRuns
 pub mod Machines
 pub mod PlaceRuns
 pub mod MachineLaws
 pub mod Standing
 pub mod ChargeLaws
+pub mod TriedLaws

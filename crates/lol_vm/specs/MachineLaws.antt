@@ -1,8 +1,8 @@
 -- What a program of selectors does when it is run for a start tag.
-use Rattle.std.specs.Prelude.{ℕ, ◌<◌, ◌≡◌, ◌||◌, not, Bool, true, false, List, [], ◌∷◌, ◌++◌, length, Contains}
+use Rattle.std.specs.Prelude.{ℕ, ◌<◌, ◌≡◌, ◌||◌, Bool, true, false, List, [], ◌∷◌, ◌++◌, length, Contains}
 use Rattle.std.specs.declared.ops.Range.{Range}
 use Rattle.lol_base.specs.StartTags.{Attribute}
-use Rattle.lol_instructions.specs.Tests.{Element, is_html}
+use Rattle.lol_instructions.specs.Tests.{Element}
 use Rattle.lol_instructions.specs.Compounds.{with_rest}
 use Rattle.lol_program.specs.Paths.{Path, Selectors}
 use Rattle.lol_program.specs.Programs.{Program, AreClosed, IsProgramOf, IsAt, all_places}
@@ -35,10 +35,10 @@ starts_open p e [] = false
 starts_open p e (place ∷ ps) = is_open_at p e place
 
 -- A request for the rest of a tag: what is left to run, and the context so far, which is what the places before give, whatever that rest
--- is. None of those is open; the first that is left is open, or the tag isn't of HTML.
-pub record IsRequest (p : Program) (content : Bool) (e : Element) (ranges : List (Range ℕ)) (context : Context) (left : List ℕ) : Type 0 where
+-- is. None of those is open; the first that is left is open, or the rest is asked for before anything is run.
+pub record IsRequest (p : Program) (at_once content : Bool) (e : Element) (ranges : List (Range ℕ)) (context : Context) (left : List ℕ) : Type 0 where
   pub before : List ℕ
   pub parts : all_places ranges ≡ before ++ left
   pub closed : (place : ℕ) → Contains before place → is_open_at p e place ≡ false
-  pub asks : (not (is_html e.tag.namespace) || starts_open p e left) ≡ true
+  pub asks : (at_once || starts_open p e left) ≡ true
   pub gathered : (attributes : List Attribute) (self_closing finish : Bool) → context ≡ context_of p content (with_rest e attributes self_closing finish) before

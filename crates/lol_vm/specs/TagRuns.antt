@@ -19,6 +19,9 @@ use Rattle.lol_vm.specs.declared.tag_runs.Stop.{Stop}
 use Rattle.lol_stack.specs.declared.stack_item.StackItemOf.{StackItemOf}
 use Rattle.lol_stack.specs.declared.stack.StackOf.{StackOf}
 use Rattle.lol_stack.specs.declared.stack.StackNames.{StackNames}
+use Rattle.lol_vm.specs.SparedRuns.{singles}
+use Rattle.lol_vm.specs.declared.tag_runs.TagRanges.{TagRanges}
+use Rattle.lol_vm.specs.declared.tag_runs.TagRanges.TheVariants.{All, Left}
 use Rattle.lol_vm.specs.declared.tag_runs.TagRun.{TagRun}
 use Rattle.lol_vm.specs.declared.tag_runs.RecoveryPoint.{RecoveryPoint}
 use Rattle.lol_vm.specs.declared.tag_runs.RecoveryPoint.TheVariants.{AtOnce, At}
@@ -28,8 +31,12 @@ abbrev pub tag_ranges : Range ℕ → List (Range ℕ) → List (Range ℕ) → 
 tag_ranges entry jumps active = entry ∷ (jumps ++ active)
 
 -- those of what the code runs
+abbrev pub ranges_in : TagRanges → List (Range ℕ)
+ranges_in (All entry_points jumps hereditary_jumps) = tag_ranges entry_points.now jumps.now (ranges_of_active hereditary_jumps.now)
+ranges_in (Left addresses) = singles addresses.now
+
 abbrev pub ranges_of : TagRun → List (Range ℕ)
-ranges_of r = tag_ranges r.entry_points.now r.jumps.now (ranges_of_active r.hereditary_jumps.now)
+ranges_of r = ranges_in r.ranges
 
 -- the number of a stop's instruction among all instructions of ranges
 abbrev pub number_of : List Instruction → List (Range ℕ) → Stop → ℕ

@@ -1,5 +1,9 @@
 -- How far a start tag is tried before its attributes are handed over.
-use Rattle.std.specs.Prelude.{◌≡◌, ◌<◌, ◌^◌, Bool, true, false, length, Option, Some, None, Result, Ok, IfOk, IsOk}
+use Rattle.std.specs.Prelude.{ℕ, ◌≡◌, ◌<◌, ◌^◌, Bool, true, false, List, length, Option, Some, None, Result, Ok, IfOk, IsOk}
+use Rattle.std.specs.declared.ops.Range.{Range}
+use Rattle.lol_program.specs.Programs.{all_places}
+use Rattle.lol_program.specs.ProgramViews.{HasItsRows, has_rows}
+use Rattle.lol_vm.specs.SparedRuns.{HasRoom, HasRoomFor, opens_at_once, ranges_by_name}
 use Rattle.std.specs.declared.alloc.AllocError.{AllocError}
 use Rattle.lol_base.specs.LocalNames.{Name}
 use Rattle.lol_base.specs.StartTags.{StartTag}
@@ -22,22 +26,43 @@ use Rattle.lol_vm.specs.declared.tag_runs.RecoveryPoint.{RecoveryPoint}
 use Rattle.lol_vm.specs.declared.tag_runs.RecoveryPoint.TheVariants.{AtOnce, At}
 use Rattle.lol_vm.specs.declared.tag_runs.Stop.{Stop}
 
--- Something is so of where a run stopped, if it did.
-abbrev pub OfStop : (Option Stop → Type 0) → Option RecoveryPoint → Type 0
-OfStop holds None = holds None
-OfStop holds (Some AtOnce) = ⊥
-OfStop holds (Some (At stop)) = holds (Some stop)
+-- Something is so of where a run stopped, if it did; or the rest of the tag was asked for before anything was run.
+abbrev pub OfStop : (Option Stop → Type 0) → Type 0 → Option RecoveryPoint → Type 0
+OfStop holds asked None = holds None
+OfStop holds asked (Some AtOnce) = asked
+OfStop holds asked (Some (At stop)) = holds (Some stop)
 
 module _ {E R : Type 0} (ids : E → Ids) (with_ids : E → Ids → E) (old new : Vm E) (ctx next : ExecutionCtx E) (result : Result (Option RecoveryPoint) R) where
-  -- A tag of HTML was run by its name, up to the first instruction that needs its attributes.
+  abbrev pub tag_name : Name
+  tag_name = ctx.stack_item.local_name
+
+  -- what of a tag's ranges is tried by its name
+  abbrev pub tried_ranges : List (Range ℕ)
+  tried_ranges = ranges_by_name old.program tag_name.lowercased (ranges_to_try old)
+
+  -- whether its attributes are asked for before
+  abbrev pub is_open_at_once : Bool
+  is_open_at_once = opens_at_once old.program tag_name.lowercased (ranges_to_try old)
+
+  -- it was run, up to a stop
+  abbrev pub WasTried : Bool → Option Stop → Type 0
+  WasTried content stop =
+      (is_open_at_once ≡ false)
+      × AreTried ids with_ids (sight_in old.stack tag_name) (instructions_in old) tried_ranges (record ctx { with_content = content }) next old.tries new.tries stop
+
+  -- nothing was run
+  abbrev pub WasAsked : Bool → Type 0
+  WasAsked content = (is_open_at_once ≡ true) × (next ≡ record ctx { with_content = content }) × (new.tries ≡ old.tries)
+
+  -- A tag of HTML was run by its name, up to the first instruction that needs its attributes, or these were asked for at once.
   pub record IsTriedByName (content : Bool) : Type 0 where
     pub size : length (instructions_in old) < 2 ^ 63
-    pub tried : AreRunnable (instructions_in old) (ranges_to_try old) old.tries
-        → IfOk result (OfStop (λ stop. AreTried ids with_ids (sight_in old.stack ctx.stack_item.local_name) (instructions_in old) (ranges_to_try old) (record ctx { with_content = content }) next old.tries new.tries stop))
+    pub tried : HasItsRows old.program → AreRunnable (instructions_in old) tried_ranges old.tries → IfOk result (OfStop (WasTried content) (WasAsked content))
     pub attributes : attributes_counted new.tries ≡ attributes_counted old.tries
-    pub within : AreRunnable (instructions_in old) (ranges_to_try old) old.tries
-        → AreWithin (sight_in old.stack ctx.stack_item.local_name) (instructions_in old) (ranges_to_try old) old.tries new.tries 0
-    pub free : NeedNoMemory content (instructions_in old) → IsOk result
+    pub within : HasItsRows old.program → is_open_at_once ≡ false → AreRunnable (instructions_in old) tried_ranges old.tries
+        → AreWithin (sight_in old.stack tag_name) (instructions_in old) tried_ranges old.tries new.tries 0
+    pub untried : HasItsRows old.program → is_open_at_once ≡ true → new.tries ≡ old.tries
+    pub free : HasItsRows old.program → (has_rows old.program ≡ true → HasRoomFor old.space (length (all_places (ranges_to_try old)))) → NeedNoMemory content (instructions_in old) → IsOk result
 
   -- a tag that isn't of HTML needs its attributes at once
   abbrev pub IsTriedAs : Bool → Bool → Type 0
@@ -64,6 +89,7 @@ pub record IsBegun {E : Type 0} (ids : E → Ids) (with_ids : E → Ids → E) (
   pub before : Tries
   pub names : names_counted before ≡ 0
   pub attributes : attributes_counted before ≡ 0
-  pub kept : new ≡ record old { stack = stack; tries = new.tries }
+  pub kept : new ≡ record old { stack = stack; tries = new.tries; space = new.space }
+  pub spared : HasRoom old.program old.space → HasRoom old.program new.space
   pub tried : (tag : StartTag) → IsTagOf ctx.stack_item.local_name ctx.ns tag
       → IsTried {R = AllocError} ids with_ids (record old { stack = stack; tries = before }) new ctx next (Ok stopped) tag

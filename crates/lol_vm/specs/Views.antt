@@ -5,7 +5,7 @@ use Rattle.lol_base.specs.declared.namespace.Namespace.{Namespace}
 use Rattle.lol_base.specs.declared.start_tag.AuxStartTagInfo.{AuxStartTagInfo}
 use Rattle.lol_memory.specs.declared.match_info.MatchInfo.{MatchInfo}
 use Rattle.lol_program.specs.Paths.{Selectors}
-use Rattle.lol_program.specs.Asts.{pairs_of, nodes_of}
+use Rattle.lol_program.specs.Asts.{pairs_of, nodes_of, is_with_rows}
 use Rattle.lol_instructions.specs.Tries.{names_counted, attributes_counted}
 use Rattle.lol_program.specs.declared.ast.Ast.{Ast}
 use Rattle.lol_vm.specs.Events as events
@@ -39,6 +39,6 @@ answer_of (Started asked matched tries) = answers.Started (map match_of matched.
 answer_of Dropped = answers.Dropped
 answer_of (Ended closed) = answers.Ended closed.items
 
--- the selectors that were added, and the nodes of their tree
+-- the selectors that were added, the nodes of their tree, and whether its program is made with rows
 abbrev pub selectors : Ast → Selectors
-selectors ast = record { pairs = pairs_of ast; nodes = nodes_of ast }
+selectors ast = record { pairs = pairs_of ast; nodes = nodes_of ast; by_keys = is_with_rows ast }

@@ -89,4 +89,4 @@ RangesHoldOnce E =
 abbrev pub TriesAreFew : Type 0
 TriesAreFew =
     (s : Selectors) (e : Element) (outer : List Element)
-    → (attribute_tries s.nodes e outer ≤ name_tries s.nodes outer) × (name_tries s.nodes outer ≤ length s.nodes)
+    → (attribute_tries s e outer ≤ name_tries s e outer) × (name_tries s e outer ≤ length s.nodes)

@@ -1,5 +1,5 @@
 -- When a machine stands for the events that it was told of, and how it answers one more.
-use Rattle.std.specs.Prelude.{ℕ, ◌+◌, ◌-◌, ◌*◌, ◌≤◌, ◌≡◌, ◌↔◌, Bool, true, false, not, List, [], ◌∷◌, ◌++◌, map, length, Option, Some, None, Result, Ok, Err}
+use Rattle.std.specs.Prelude.{ℕ, ◌+◌, ◌-◌, ◌*◌, ◌≤◌, ◌≡◌, ◌↔◌, Bool, true, false, not, if◌then◌else◌, List, [], ◌∷◌, ◌++◌, map, length, Option, Some, None, Result, Ok, Err}
 use Rattle.std.specs.declared.ops.Range.{Range}
 use Rattle.lol_base.specs.LocalNames.{Name, local_name}
 use Rattle.lol_base.specs.StartTags.{StartTag, attributes_of}
@@ -12,6 +12,8 @@ use Rattle.lol_instructions.specs.Compiled.{sight_of}
 use Rattle.lol_program.specs.Paths.{Path, Selectors}
 use Rattle.lol_program.specs.Programs.{AreClosed, all_places}
 use Rattle.lol_program.specs.ProgramViews.{program_shown}
+use Rattle.lol_vm.specs.KeyTries.{asks_at_once, node_keys}
+use Rattle.lol_vm.specs.SparedRuns.{IsSparing, ranges_before}
 use Rattle.lol_instructions.specs.Tests.{Element, is_html}
 use Rattle.lol_instructions.specs.Tries.{names_counted, attributes_counted}
 use Rattle.lol_program.specs.declared.program.Program.{Program}
@@ -70,9 +72,13 @@ module _ {E : Type 0} where
   abbrev pub instructions_in : Vm E → List Instruction
   instructions_in vm = vm.program.instructions.items
 
-  -- what a start tag is run through
+  -- what a start tag is run through, but for what rows spare
   abbrev pub ranges_to_try : Vm E → List (Range ℕ)
   ranges_to_try vm = ranges_to_run_in vm.program vm.stack
+
+  -- what a start tag of a name whose run stopped at a point was run through
+  abbrev pub ranges_tried : Vm E → Name → RecoveryPoint → List (Range ℕ)
+  ranges_tried vm name point = ranges_before vm.program name.lowercased (ranges_to_try vm) point
 
 -- 2. Standing
 
@@ -83,6 +89,7 @@ pub record Stands {E : Type 0} (s : Selectors) (esi : Bool) (vm : Vm E) (events 
   pub standing : StandsFor s esi paths (program_shown vm.program) vm.stack events
   pub switch : vm.enable_esi_tags ≡ esi
   pub unfailed : vm.failed ≡ false
+  pub sparing : IsSparing s vm.program vm.space
 
 -- It has these open elements, the innermost first: what it keeps stands on a document that has them. This survives a refusal.
 pub record HasOpen {E : Type 0} (vm : Vm E) (elements : List Element) : Type 0 where
@@ -126,6 +133,10 @@ IsTagOf name ns tag = IsNameOf name tag.name × (tag.namespace ≡ ns)
 abbrev pub IsRestOf : AuxStartTagInfo → StartTag → Type 0
 IsRestOf aux tag = (tag.attributes ≡ attributes_of aux) × (tag.self_closing ≡ aux.self_closing) × (tag.finish ≡ true)
 
+-- where nodes are spared by keys, how many are tried depends on the rest of a tag: this is it
+abbrev pub NeedsRest : Selectors → AuxStartTagInfo → StartTag → Type 0
+NeedsRest s aux tag = s.by_keys ≡ true → IsRestOf aux tag
+
 -- each answer but a request refuses the tag, and all that come later
 abbrev pub IsRefusal : {E : Type 0} → VmError E → Type 0
 IsRefusal (InfoRequest request) = ⊥
@@ -154,14 +165,18 @@ abbrev pub content_of : Bool → Context → Context
 content_of true context = context
 content_of false context = record { ids = context.ids; jumps = []; hereditary_jumps = [] }
 
--- whether an element has content, once it is known whether its tag closes itself
-abbrev pub content_at : RecoveryPoint → Bool → Bool → Bool
-content_at AtOnce with_content self_closing = not self_closing
-content_at (At stop) with_content self_closing = with_content
+-- whether an element has content, once it is known whether its tag closes itself: that counts outside HTML alone
+abbrev pub content_in : Namespace → Bool → Bool → Bool
+content_in ns with_content self_closing = if is_html ns then with_content else not self_closing
 
--- where a request goes on: outside HTML at once, with nothing gathered
+-- whether nothing was run before a request
+abbrev pub is_at_once : RecoveryPoint → Bool
+is_at_once AtOnce = true
+is_at_once (At stop) = false
+
+-- where a request goes on: at once with nothing gathered, which outside HTML is always so; what is known of its content
 abbrev pub GoesOnAt : Bool → Bool → Context → RecoveryPoint → Bool → Type 0
-GoesOnAt html content context AtOnce with_content = (html ≡ false) × (context ≡ no_context) × (with_content ≡ true)
+GoesOnAt html content context AtOnce with_content = (context ≡ no_context) × (with_content ≡ (if html then content else true))
 GoesOnAt html content context (At stop) with_content = (html ≡ true) × (with_content ≡ content)
 
 -- whether the attributes of a start tag after events are asked for
@@ -172,13 +187,13 @@ is_asked_for s esi events tag = asks s (element_of (document s esi events) tag) 
 pub record IsReported {F : Type 0} (step : F → MatchInfo → Unit {0} → F → Type 0) (s : Selectors) (esi : Bool) (events : List Event) (tag : StartTag) (asked : Bool) (tries : Tries) (f g : F) : Type 0 where
   pub asks : asks s (element_of (document s esi events) tag) (document s esi events).open_elements ≡ asked
   pub called : IsCalledAtEach step f (map info_of (report s esi (element_of (document s esi events) tag) (document s esi events).open_elements)) g
-  pub names : names_counted tries ≡ name_tries s.nodes (document s esi events).open_elements
-  pub attributes : attributes_counted tries ≡ attribute_tries s.nodes (element_of (document s esi events) tag) (document s esi events).open_elements
+  pub names : names_counted tries ≡ name_tries s (element_of (document s esi events) tag) (document s esi events).open_elements
+  pub attributes : attributes_counted tries ≡ attribute_tries s (element_of (document s esi events) tag) (document s esi events).open_elements
 
 -- No more nodes were tried for a start tag than the definition tries.
 pub record IsTriedAtMost (s : Selectors) (esi : Bool) (events : List Event) (tag : StartTag) (tries : Tries) : Type 0 where
-  pub names : names_counted tries ≤ name_tries s.nodes (document s esi events).open_elements
-  pub attributes : attributes_counted tries ≤ attribute_tries s.nodes (element_of (document s esi events) tag) (document s esi events).open_elements
+  pub names : names_counted tries ≤ name_tries s (element_of (document s esi events) tag) (document s esi events).open_elements
+  pub attributes : attributes_counted tries ≤ attribute_tries s (element_of (document s esi events) tag) (document s esi events).open_elements
 
 module _ {E : Type 0} (ids_of : E → Ids) where
   -- An element with content comes last, whose data hold exactly the ids that it is reported under; no other data change.
@@ -201,17 +216,18 @@ module _ {E : Type 0} (ids_of : E → Ids) where
   pub record IsPending (s : Selectors) (esi : Bool) (events : List Event) (tag : StartTag) (vm : Vm E) (request : AuxStartTagInfoRequest E) : Type 0 where
     pub stands : Stands s esi vm (events ++ Start (unfinished tag) ∷ [])
     pub asks : asks s (element_of (document s esi events) tag) (document s esi events).open_elements ≡ true
+    pub at_once : s.by_keys ≡ true → asks_at_once node_keys s.nodes (element_of (document s esi events) tag) (document s esi events).open_elements ≡ is_at_once request.point
     pub context : Context
     pub left : List ℕ
-    pub is_request : IsRequest (program_shown vm.program) true (element_of (document s esi events) tag) (ranges_to_try vm) context left
+    pub is_request : IsRequest (program_shown vm.program) (is_at_once request.point) true (element_of (document s esi events) tag) (ranges_tried vm request.ctx.stack_item.local_name request.point) context left
     pub named : IsTagOf request.ctx.stack_item.local_name request.ctx.ns tag
     pub sight : sight_in vm.stack request.ctx.stack_item.local_name ≡ sight_of vm.program.enable_nth_of_type (element_of (document s esi events) tag)
     pub childless : request.ctx.stack_item.child_counter ≡ 0
     pub gathered : Gathers ids_of request.ctx.stack_item (content_of request.ctx.with_content context)
     pub goes_on : GoesOnAt (is_html tag.namespace) (has_content esi tag) context request.point request.ctx.with_content
-    pub stopped : IsPointIn (instructions_in vm) (ranges_to_try vm) request.point
-    pub places_left : left ≡ all_places (ranges_left (ranges_to_try vm) request.point)
-    pub names : names_counted vm.tries + length left ≡ length (all_places (ranges_to_try vm)) + tried_at request.point
+    pub stopped : IsPointIn (instructions_in vm) (ranges_tried vm request.ctx.stack_item.local_name request.point) request.point
+    pub places_left : left ≡ all_places (ranges_left (ranges_tried vm request.ctx.stack_item.local_name request.point) request.point)
+    pub names : names_counted vm.tries + length left ≡ length (all_places (ranges_tried vm request.ctx.stack_item.local_name request.point)) + tried_at request.point
     pub attributes : attributes_counted vm.tries ≡ 0
 
 -- 6. Charges

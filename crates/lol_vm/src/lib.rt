@@ -8,6 +8,7 @@ mod instruction_runs;
 pub mod laws;
 pub mod machine_laws;
 mod run;
+mod spared_runs;
 mod started;
 mod tag_runs;
 mod vm;

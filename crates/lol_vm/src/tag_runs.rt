@@ -1,15 +1,19 @@
 //! Running what a start tag is run through: the entry points, the last open element's jumps, and the active hereditary jumps.
 
-ghost use Rattle.std.specs.Prelude.{◌≡◌, ◌<◌, ◌^◌, drop, get_or, length, IfOk, IsOk};
+ghost use Rattle.std.specs.Prelude.{◌≡◌, ◌<◌, ◌^◌, ◌+◌, if◌then◌else◌, drop, get_or, length, IfOk, IsOk};
 ghost use Rattle.lol_instructions.specs.Compiled.{sight};
 ghost use Rattle.lol_instructions.specs.Tries.{attributes_counted};
+ghost use Rattle.lol_program.specs.ProgramViews.{has_rows};
 ghost use Rattle.lol_stack.specs.WithRange.{no_range};
+ghost use Rattle.lol_vm.specs.Machines.{ranges_of_active};
+ghost use Rattle.lol_vm.specs.SparedRuns.{singles};
 ghost use Rattle.lol_vm.specs.InstructionRuns.{AreRunnable, NeedNoMemory};
-ghost use Rattle.lol_vm.specs.TagRuns.{ranges_of, ranges_from, ranges_left, tried_at, IsStopIn, IsPointIn, AreTried, AreExecuted, AreWithin, jumps_in, ranges_to_run_in, sight_in};
+ghost use Rattle.lol_vm.specs.TagRuns.{ranges_of, ranges_in, tag_ranges, ranges_from, ranges_left, tried_at, IsStopIn, IsPointIn, AreTried, AreExecuted, AreWithin, jumps_in, ranges_to_run_in, sight_in};
 
 use crate::instruction_runs::{
     complete_instructions, exec_instructions, instructions_in, range_from, try_instructions,
 };
+use crate::spared_runs::RowSpace;
 use lol_base::LocalName;
 use lol_program::{AddressRange, AttributeMatcher, Instruction, Program, SelectorState, Tries};
 use lol_stack::{ElementData, ExecutionCtx, Stack};
@@ -31,36 +35,131 @@ pub(crate) enum RecoveryPoint {
     At(Stop),
 }
 
+/// What a start tag is run through.
+#[derive(Clone, Copy)]
+pub(crate) enum TagRanges<'p> {
+    /// The entry points, the last open element's jumps, and the active hereditary jumps.
+    All {
+        entry_points: &'p AddressRange,
+        jumps: &'p [AddressRange],
+        hereditary_jumps: &'p [(AddressRange, usize)],
+    },
+    /// Of these, the instructions at some addresses, each as a range.
+    Left(&'p [usize]),
+}
+
+impl<'p> TagRanges<'p> {
+    /// All that a start tag may be run through.
+    #[inline(always)]
+    pub(crate) fn all<E>(program: &'p Program, stack: &'p Stack<E>) -> Self
+        ensures { ranges_in result ≡ ranges_to_run_in program.now stack.now }
+    {
+        TagRanges::All {
+            entry_points: &program.entry_points,
+            jumps: last_jumps(stack),
+            hereditary_jumps: stack.active_hereditary_jumps(),
+        }
+    }
+
+    /// How many ranges there are.
+    #[inline(always)]
+    pub(crate) fn len(self) -> usize
+        ensures { result ≡ length (ranges_in self.entry) }
+    {
+        match self {
+            TagRanges::All {
+                jumps,
+                hereditary_jumps,
+                ..
+            } => len_of_all(jumps, hereditary_jumps),
+            TagRanges::Left(addresses) => addresses.len(),
+        }
+    }
+
+    /// One of the ranges.
+    #[inline(always)]
+    pub(crate) fn range(self, index: usize) -> AddressRange
+        requires { index < length (ranges_in self) }
+        ensures { result ≡ get_or (ranges_in self.entry) index no_range }
+    {
+        match self {
+            TagRanges::All {
+                entry_points,
+                jumps,
+                hereditary_jumps,
+            } => range_of_all(entry_points, jumps, hereditary_jumps, index),
+            TagRanges::Left(addresses) => {
+                let address = addresses[index];
+                address..address.saturating_add(1)
+            }
+        }
+    }
+}
+
+/// How many ranges entry points, jumps and hereditary jumps are.
+#[inline(always)]
+fn len_of_all(jumps: &[AddressRange], hereditary_jumps: &[(AddressRange, usize)]) -> usize
+    ensures { result ≡ 1 + (length jumps.now + length hereditary_jumps.now) }
+{
+    1 + jumps.len() + hereditary_jumps.len()
+}
+
+/// One of the entry points, the jumps, and the hereditary jumps, in this order.
+#[inline(always)]
+fn range_of_all(
+    entry_points: &AddressRange,
+    jumps: &[AddressRange],
+    hereditary_jumps: &[(AddressRange, usize)],
+    index: usize,
+) -> AddressRange
+    requires { index < length (tag_ranges entry_points.now jumps.now (ranges_of_active hereditary_jumps.now)) }
+    ensures { result ≡ get_or (tag_ranges entry_points.now jumps.now (ranges_of_active hereditary_jumps.now)) index no_range }
+{
+    let hereditary = 1 + jumps.len();
+    if index >= hereditary {
+        let range = &hereditary_jumps[index - hereditary].0;
+        return range.start..range.end;
+    }
+    let range = match index.checked_sub(1) {
+        None => entry_points,
+        Some(index) => &jumps[index],
+    };
+    range.start..range.end
+}
+
 /// The run of a start tag: the ranges of instructions that it is run through, one after the other, and what their tests see.
 #[derive(Drop)]
 pub(crate) struct TagRun<'p> {
     instructions: &'p [Instruction],
-    entry_points: &'p AddressRange,
-    jumps: &'p [AddressRange],
-    hereditary_jumps: &'p [(AddressRange, usize)],
+    ranges: TagRanges<'p>,
     state: SelectorState<'p>,
     alloc: Global,
 }
 
 impl<'p> TagRun<'p> {
-    /// The run of a start tag of this name, which has been counted.
+    /// The run of a start tag of this name, which has been counted: through all that it may be run through, or where the program has rows
+    /// through what was found left.
     #[inline(always)]
     pub(crate) fn new<'i: 'p, E>(
         program: &'p Program,
         stack: &'p Stack<E>,
+        space: &'p RowSpace,
         name: &LocalName<'i>,
         alloc: Global,
     ) -> Self
         ensures size { length program.now.instructions.items < 2 ^ 63 }
         ensures instructions { result.instructions.now ≡ program.now.instructions.items }
-        ensures ranges { ranges_of result ≡ ranges_to_run_in program.now stack.now }
+        ensures ranges { ranges_of result ≡ (if has_rows program.now then singles space.now.left.items
+            else ranges_to_run_in program.now stack.now) }
         ensures sight { sight result.state name.now ≡ sight_in stack.now name.now }
     {
+        let ranges = match &program.rows {
+            None => TagRanges::all(program, stack),
+            Some(_) => TagRanges::Left(space.left()),
+        };
         TagRun {
             instructions: &program.instructions,
-            entry_points: &program.entry_points,
-            jumps: last_jumps(stack),
-            hereditary_jumps: stack.active_hereditary_jumps(),
+            ranges,
             state: stack.build_state(name),
             alloc,
         }
@@ -71,23 +170,16 @@ impl<'p> TagRun<'p> {
     fn len(&self) -> usize
         ensures { result ≡ length (ranges_of self.now) }
     {
-        1 + self.jumps.len() + self.hereditary_jumps.len()
+        self.ranges.len()
     }
 
     /// One of the ranges.
     #[inline(always)]
-    fn range(&self, index: usize) -> &'p AddressRange
+    fn range(&self, index: usize) -> AddressRange
         requires { index < length (ranges_of self.now) }
-        ensures { result.now ≡ get_or (ranges_of self.now) index no_range }
+        ensures { result ≡ get_or (ranges_of self.now) index no_range }
     {
-        let hereditary = 1 + self.jumps.len();
-        if index >= hereditary {
-            return &self.hereditary_jumps[index - hereditary].0;
-        }
-        match index.checked_sub(1) {
-            None => self.entry_points,
-            Some(index) => &self.jumps[index],
-        }
+        self.ranges.range(index)
     }
 
     /// Runs without attributes, up to the first instruction that needs them.
@@ -110,7 +202,7 @@ impl<'p> TagRun<'p> {
     {
         let state = self.state;
         for index in 0..self.len() {
-            let part = instructions_in(self.instructions, self.range(index), tries);
+            let part = instructions_in(self.instructions, &self.range(index), tries);
             if let Some(offset) = try_instructions(part, &state, self.alloc, ctx, tries)? {
                 return Ok(Some(Stop {
                     range: index,
@@ -143,7 +235,7 @@ impl<'p> TagRun<'p> {
     {
         let state = self.state;
         for index in first..self.len() {
-            let part = instructions_in(self.instructions, self.range(index), tries);
+            let part = instructions_in(self.instructions, &self.range(index), tries);
             exec_instructions(part, &state, matcher, self.alloc, ctx, tries)?;
         }
         Ok(())
@@ -203,7 +295,7 @@ impl<'p> TagRun<'p> {
         if stop.range >= self.len() {
             return Ok(());
         }
-        let left = range_from(self.range(stop.range), stop.offset);
+        let left = range_from(&self.range(stop.range), stop.offset);
         let part = instructions_in(self.instructions, &left, tries);
         let state = self.state;
         complete_instructions(part, &state, matcher, self.alloc, ctx, tries)?;

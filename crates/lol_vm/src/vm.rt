@@ -18,12 +18,14 @@ ghost use Rattle.lol_vm.specs.VmErrors.{IsAskedOrFull};
 ghost use Rattle.lol_vm.specs.Due.{IsDue, IsNeverForMemory, IsAfterHandedReport, IsAfterReport, IsNeverPending, IsAfterWholeReport, IsWithinLimit};
 ghost use Rattle.lol_vm.specs.Premises.{ForAskedOf, ForEndOf, ForHandedOf, ForPending, ForRestOf, ForTagOf};
 ghost use Rattle.lol_vm.specs.TriedStarts.{IsBegun, IsNewContext, IsTried, left_at};
+ghost use Rattle.lol_vm.specs.SparedRuns.{HasRoom};
 ghost use Rattle.lol_vm.specs.VmLending.{lends_current_of_vm};
 ghost use Rattle.lol_stack.specs.Stacks.{items_in, slots_in, item_bytes_in, list_in, last_count, IsPushed, IsSame};
 ghost use Rattle.lol_vm.specs.Views.{selectors};
-ghost use Rattle.lol_vm.specs.Vms.{Stands, HasOpen, IsNameOf, IsTagOf, IsAnswered, IsReported, IsTriedAtMost, IsPending, IsRefusal, IsSilent, content_at, open_after, stack_in, tries_in, has_failed, program_in, data_in, slots_charged, slot_bytes, ChargesSlots, IsCovered, IsRequested, IsEntered, OpensNothing, StaysFailed, is_asked_for, with_failure};
+ghost use Rattle.lol_vm.specs.Vms.{Stands, HasOpen, IsNameOf, IsTagOf, IsAnswered, IsReported, IsTriedAtMost, IsPending, IsRefusal, IsSilent, NeedsRest, content_in, open_after, stack_in, tries_in, has_failed, program_in, data_in, slots_charged, slot_bytes, ChargesSlots, IsCovered, IsRequested, IsEntered, OpensNothing, StaysFailed, is_asked_for, with_failure};
 
 use crate::error::{AuxStartTagInfoRequest, StartTagError, VmError};
+use crate::spared_runs::{RowSpace, find_at, find_by_name};
 use crate::tag_runs::{RecoveryPoint, TagRun};
 use lol_base::{AuxStartTagInfo, LocalName, Namespace};
 use lol_memory::{MatchInfo, MemoryLimitExceededError, PushError, SharedMemoryLimiter};
@@ -39,6 +41,7 @@ pub struct VmOf<P, N, M, E> {
     enable_esi_tags: bool,
     stack: StackOf<N, M, E>,
     tries: Tries,
+    space: RowSpace,
     failed: bool,
     alloc: Global,
 }
@@ -48,7 +51,14 @@ pub struct VmOf<P, N, M, E> {
 pub type SelectorMatchingVm<E> = VmOf<Program, LocalName<'static>, StackNames, E>;
 
 impl<P, N, M, E> VmOf<P, N, M, E> {
-    fn with_parts(alloc: Global, program: P, enable_esi_tags: bool, stack: StackOf<N, M, E>) -> Self
+    fn with_parts(
+        alloc: Global,
+        program: P,
+        enable_esi_tags: bool,
+        stack: StackOf<N, M, E>,
+        space: RowSpace,
+    ) -> Self
+        ensures space { result.space ≡ space }
         ensures program { result.program ≡ program }
         ensures enable_esi_tags { result.enable_esi_tags ≡ enable_esi_tags }
         ensures stack { result.stack ≡ stack }
@@ -61,6 +71,7 @@ impl<P, N, M, E> VmOf<P, N, M, E> {
             enable_esi_tags,
             stack,
             tries: Tries::new(),
+            space,
             failed: false,
             alloc,
         }
@@ -126,8 +137,9 @@ impl<E: ElementData> VmOf<Program, LocalName<'static>, StackNames, E> {
     {
         let program = Compiler::new(alloc).compile(ast)?;
         let by_type = program.enable_nth_of_type;
+        let space = RowSpace::new(alloc, &program)?;
         let stack: Stack<E> = StackOf::new(alloc, item_bytes, by_type);
-        Ok(VmOf::with_parts(alloc, program, enable_esi_tags, stack))
+        Ok(VmOf::with_parts(alloc, program, enable_esi_tags, stack, space))
     }
 
     /// Matches a start tag: counts it, reports it and, if its element has content, opens it.
@@ -230,8 +242,8 @@ impl<E: ElementData> VmOf<Program, LocalName<'static>, StackNames, E> {
             (tries_in self.new) match_handler.old match_handler.new) }
         ensures free { IfErr result (λ error. ForTagOf self.old local_name.entry ns (λ s esi events tag.
             TakesNoMemory s tag → error ≡ StartTagError.CounterFull)) }
-        ensures tried { ForTagOf self.old local_name.entry ns (λ s esi events tag.
-            IsTriedAtMost s esi events tag (tries_in self.new)) }
+        ensures tried { ForTagOf self.old local_name.entry ns (λ s esi events tag. NeedsRest s aux_info.entry tag
+            → IsTriedAtMost s esi events tag (tries_in self.new)) }
         ensures due { IfErr result (λ error. IsDue self.old limiter.old
             → ForTagOf self.old local_name.entry ns (λ s esi events tag.
             AreFlat s → error ≡ StartTagError.Memory → ⊥)) }
@@ -292,7 +304,8 @@ impl<E: ElementData> VmOf<Program, LocalName<'static>, StackNames, E> {
         }
     }
 
-    /// Tries a start tag by its name, up to the first test that needs its attributes: one that isn't of HTML needs them at once.
+    /// Tries a start tag by its name, up to the first test that needs its attributes: one that isn't of HTML needs them at once, and so
+    /// does one of which rows tell that an instruction does.
     #[inline(always)]
     fn try_start(
         &mut self,
@@ -301,8 +314,10 @@ impl<E: ElementData> VmOf<Program, LocalName<'static>, StackNames, E> {
         ensures tried { (tag : StartTag) → IsTagOf ctx.old.stack_item.local_name ctx.old.ns tag
             → IsTried E.ids E.with_ids self.old self.new ctx.old ctx.new result tag }
         ensures name { ctx.new.stack_item.local_name ≡ ctx.old.stack_item.local_name }
-        ensures ok { OnOk result (self.new ≡ record self.old { tries = self.new.tries }) }
-        ensures err { OnErr result (self.new ≡ with_failure (record self.old { tries = self.new.tries })) }
+        ensures ok { OnOk result (self.new ≡ record self.old { tries = self.new.tries; space = self.new.space }) }
+        ensures err { OnErr result
+            (self.new ≡ with_failure (record self.old { tries = self.new.tries; space = self.new.space })) }
+        ensures room { HasRoom self.old.program self.old.space → HasRoom self.old.program self.new.space }
     {
         let directive = Stack::get_stack_directive(&ctx.stack_item, ctx.ns, self.enable_esi_tags);
         if directive == StackDirective::PushIfNotSelfClosing {
@@ -310,7 +325,15 @@ impl<E: ElementData> VmOf<Program, LocalName<'static>, StackNames, E> {
         }
         ctx.with_content = directive == StackDirective::Push;
         let name = &ctx.stack_item.local_name;
-        let run = TagRun::new(&self.program, &self.stack, name, self.alloc);
+        match find_by_name(&self.program, &self.stack, name, &mut self.space) {
+            Ok(false) => (),
+            Ok(true) => return Ok(Some(RecoveryPoint::AtOnce)),
+            Err(error) => {
+                self.failed = true;
+                return Err(error);
+            }
+        }
+        let run = TagRun::new(&self.program, &self.stack, &self.space, name, self.alloc);
         match run.try_by_name(ctx, &mut self.tries) {
             Ok(None) => Ok(None),
             Ok(Some(stop)) => Ok(Some(RecoveryPoint::At(stop))),
@@ -395,8 +418,8 @@ impl<E: ElementData> VmOf<Program, LocalName<'static>, StackNames, E> {
             × ForRestOf self.old E.ids request aux_info.entry (λ s esi events tag. (has_content esi tag ≡ true)
             × IsReported F.step s esi events tag true (tries_in self.new) match_handler.old match_handler.new) }
         ensures free { ForPending self.old E.ids request (λ s esi events tag. TakesNoMemory s tag → IsOk result) }
-        ensures tried { ForPending self.old E.ids request (λ s esi events tag.
-            IsTriedAtMost s esi events tag (tries_in self.new)) }
+        ensures tried { ForPending self.old E.ids request (λ s esi events tag. NeedsRest s aux_info.entry tag
+            → IsTriedAtMost s esi events tag (tries_in self.new)) }
         ensures due { (error : AllocError) → result ≡ Err (PushError.Memory error) → IsDue self.old limiter.old
             → IsNeverPending E.ids self.old request }
         ensures all_or_none { (error : AllocError) → result ≡ Err (PushError.Memory error)
@@ -434,7 +457,7 @@ impl<E: ElementData> VmOf<Program, LocalName<'static>, StackNames, E> {
         ensures free { ForPending self.old E.ids (left_at ctx.entry point) (λ s esi events tag.
             TakesNoMemory s tag → IsOk result) }
         ensures tried { ForPending self.old E.ids (left_at ctx.entry point) (λ s esi events tag.
-            IsTriedAtMost s esi events tag (tries_in self.new)) }
+            NeedsRest s aux_info.entry tag → IsTriedAtMost s esi events tag (tries_in self.new)) }
         ensures due { (error : AllocError) → result ≡ Err (PushError.Memory error) → IsDue self.old limiter.old
             → IsNeverPending E.ids self.old (left_at ctx.entry point) }
         ensures all_or_none { (error : AllocError) → result ≡ Err (PushError.Memory error)
@@ -442,10 +465,15 @@ impl<E: ElementData> VmOf<Program, LocalName<'static>, StackNames, E> {
             ⊎ IsAfterWholeReport E.ids self.old (left_at ctx.entry point) F.step aux_info.entry limiter.old
             (tries_in self.new) match_handler.old match_handler.new }
     {
-        ctx.with_content = content_at(point, ctx.with_content, aux_info.self_closing);
+        ctx.with_content = content_in(ctx.ns, ctx.with_content, aux_info.self_closing);
         let matcher = AttributeMatcher::new(aux_info.input, aux_info.attr_buffer, ctx.ns);
         let name = &ctx.stack_item.local_name;
-        let run = TagRun::new(&self.program, &self.stack, name, self.alloc);
+        let space = &mut self.space;
+        if let Err(error) = find_at(&self.program, &self.stack, point, name, &matcher, space) {
+            self.failed = true;
+            return Err(PushError::Memory(error));
+        }
+        let run = TagRun::new(&self.program, &self.stack, &self.space, name, self.alloc);
         if let Err(error) = run.complete(point, &matcher, &mut ctx, &mut self.tries) {
             self.failed = true;
             return Err(PushError::Memory(error));
@@ -489,6 +517,7 @@ impl<E: ElementData> VmOf<Program, LocalName<'static>, StackNames, E> {
             enable_esi_tags: _,
             stack,
             tries: _,
+            space: _,
             failed: _,
             alloc: _,
         } = self;
@@ -506,6 +535,7 @@ impl<E: ElementData> VmOf<Program, LocalName<'static>, StackNames, E> {
             enable_esi_tags: _,
             stack,
             tries: _,
+            space: _,
             failed: _,
             alloc: _,
         } = self;
@@ -539,11 +569,11 @@ fn open_element<E: ElementData>(
 }
 
 /// Whether an element has content, once it is known whether its tag closes itself: that counts outside HTML alone.
-fn content_at(point: RecoveryPoint, with_content: bool, self_closing: bool) -> bool
-    ensures { result ≡ content_at point with_content self_closing }
+fn content_in(ns: Namespace, with_content: bool, self_closing: bool) -> bool
+    ensures { result ≡ content_in ns with_content self_closing }
 {
-    match point {
-        RecoveryPoint::AtOnce => !self_closing,
-        RecoveryPoint::At(_) => with_content,
+    match ns {
+        Namespace::Html => with_content,
+        Namespace::Svg | Namespace::MathML => !self_closing,
     }
 }

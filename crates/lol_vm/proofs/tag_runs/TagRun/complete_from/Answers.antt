@@ -15,7 +15,7 @@ returns-in_err-complete_instructions-clause-within g c = λ is_stop runnable.
     let part = c.instructions_in-part.result.now in
     let told = c.complete_instructions.ensures in
     let s = sight c.args.self.now.state c.args.ctx.now.stack_item.local_name in
-    let r = c.range.result.now in
+    let r = c.range.result in
     let is = rest_lent all ranges stop is_stop c.args.tries.now runnable part r c.range_from-left.result c.range.ensures c.range_from-left.ensures c.instructions_in-part.ensures.value in
     let some = rest_some all ranges stop is_stop c.args.tries.now runnable part is in
     record {
@@ -35,7 +35,7 @@ module _ (g : given.Over) (c : goal.After-exec_from g) (is_stop : IsStopIn c.arg
 
   is : c.instructions_in-part.result.now ≡ instructions_at c.args.self.now.instructions.now rest
   is =
-      rest_lent c.args.self.now.instructions.now (ranges_of c.args.self.now) c.args.stop is_stop c.args.tries.now runnable c.instructions_in-part.result.now c.range.result.now c.range_from-left.result
+      rest_lent c.args.self.now.instructions.now (ranges_of c.args.self.now) c.args.stop is_stop c.args.tries.now runnable c.instructions_in-part.result.now c.range.result c.range_from-left.result
       c.range.ensures c.range_from-left.ensures c.instructions_in-part.ensures.value
 
   some : 0 < length c.instructions_in-part.result.now

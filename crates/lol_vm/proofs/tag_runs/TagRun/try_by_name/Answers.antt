@@ -16,7 +16,7 @@ loop-index-preserved g c =
     let t = sight c.args.self.now.state c.loop-index.ctx.stack_item.local_name in
     let s = sight c.args.self.now.state c.args.ctx.now.stack_item.local_name in
     let same : t ≡ s = ap (sight c.args.self.now.state) so_far.name in
-    let r = c.range.result.now in
+    let r = c.range.result in
     let within : k < length ranges = subst (λ n. k < n) c.len-index-end.ensures c.loop-index-test.true in
     let first = first_left all ranges k r within c.range.ensures in
     let is = λ (runnable : AreRunnable all ranges c.args.tries.now). part_is all ranges k r within c.range.ensures (so_far.runs runnable) part c.instructions_in-part.ensures.value in
@@ -51,7 +51,7 @@ returns-in-Some-clause-tried g c = λ runnable.
     let t = sight c.args.self.now.state c.loop-index.ctx.stack_item.local_name in
     let s = sight c.args.self.now.state c.args.ctx.now.stack_item.local_name in
     let same : t ≡ s = ap (sight c.args.self.now.state) so_far.name in
-    let r = c.range.result.now in
+    let r = c.range.result in
     let within : k < length ranges = subst (λ n. k < n) c.len-index-end.ensures c.loop-index-test.true in
     let first = first_left all ranges k r within c.range.ensures in
     let is = part_is all ranges k r within c.range.ensures (so_far.runs runnable) part c.instructions_in-part.ensures.value in
@@ -68,7 +68,7 @@ pub returns-in-Some-clause-within : goal.returns-in-Some-clause-within
 returns-in-Some-clause-within g c = λ runnable.
     let so_far = c.loop-index.invariant in
     let told = c.try_instructions.ensures in
-    tried_within c.args.self.now.instructions.now (ranges_of c.args.self.now) c.loop-index.index c.range.result.now (subst (λ n. c.loop-index.index < n) c.len-index-end.ensures c.loop-index-test.true) c.range.ensures
+    tried_within c.args.self.now.instructions.now (ranges_of c.args.self.now) c.loop-index.index c.range.result (subst (λ n. c.loop-index.index < n) c.len-index-end.ensures c.loop-index-test.true) c.range.ensures
     (so_far.runs runnable) c.instructions_in-part.result.now c.instructions_in-part.ensures.value _ c.args.tries.now _ (so_far.names runnable) so_far.attributes told.names_bound told.attributes
 
 -- 3. It was refused
@@ -77,7 +77,7 @@ pub returns-in_err-offset-clause-within : goal.returns-in_err-offset-clause-with
 returns-in_err-offset-clause-within g c = λ runnable.
     let so_far = c.loop-index.invariant in
     let told = c.try_instructions.ensures in
-    tried_within c.args.self.now.instructions.now (ranges_of c.args.self.now) c.loop-index.index c.range.result.now (subst (λ n. c.loop-index.index < n) c.len-index-end.ensures c.loop-index-test.true) c.range.ensures
+    tried_within c.args.self.now.instructions.now (ranges_of c.args.self.now) c.loop-index.index c.range.result (subst (λ n. c.loop-index.index < n) c.len-index-end.ensures c.loop-index-test.true) c.range.ensures
     (so_far.runs runnable) c.instructions_in-part.result.now c.instructions_in-part.ensures.value _ c.args.tries.now _ (so_far.names runnable) so_far.attributes told.names_bound told.attributes
 
 pub returns-in_err-offset-clause-free : goal.returns-in_err-offset-clause-free

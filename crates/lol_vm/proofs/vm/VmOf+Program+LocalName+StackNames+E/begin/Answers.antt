@@ -51,7 +51,7 @@ returns-in-Err-try_start g c =
     let counted = c.in_default.ensures in
     let is = c.in-Err-try_start.ensures.err in
     let trial : Trial g.E.ElementData.ids g.E.ElementData.with_ids c.args.self.now c.try_start.new.self c.args.ctx.now.stack_item.local_name c.args.ctx.now.ns c.try_start.new.ctx c.try_start.result =
-    trial_of g.met.E.ElementData.ids_of_changed c.args.ctx.now c.requires.0 refl c.requires.1 counted.room c.add_child.new.self counted.ok c.new-self.result c.new-self.ensures.names c.new-self.ensures.attributes c.try_start.ensures.tried in
+    trial_of g.met.E.ElementData.ids_of_changed c.args.ctx.now c.requires.0 refl c.requires.1 counted.room c.add_child.new.self counted.ok c.new-self.result c.new-self.ensures.names c.new-self.ensures.attributes c.try_start.ensures.room c.try_start.ensures.tried in
     record {
       begun = tt;
       name = c.try_start.ensures.name;
@@ -73,7 +73,7 @@ returns-in-Ok g c =
     let counted = c.in_default.ensures in
     let is = c.in-Ok.ensures.ok in
     let trial : Trial g.E.ElementData.ids g.E.ElementData.with_ids c.args.self.now c.try_start.new.self c.args.ctx.now.stack_item.local_name c.args.ctx.now.ns c.try_start.new.ctx c.try_start.result =
-    trial_of g.met.E.ElementData.ids_of_changed c.args.ctx.now c.requires.0 refl c.requires.1 counted.room c.add_child.new.self counted.ok c.new-self.result c.new-self.ensures.names c.new-self.ensures.attributes c.try_start.ensures.tried in
+    trial_of g.met.E.ElementData.ids_of_changed c.args.ctx.now c.requires.0 refl c.requires.1 counted.room c.add_child.new.self counted.ok c.new-self.result c.new-self.ensures.names c.new-self.ensures.attributes c.try_start.ensures.room c.try_start.ensures.tried in
     record {
       begun = record {
         room = counted.room;
@@ -83,6 +83,7 @@ returns-in-Ok g c =
         names = c.new-self.ensures.names;
         attributes = c.new-self.ensures.attributes;
         kept = is;
+        spared = c.try_start.ensures.room;
         tried = λ tag named.
             subst (λ r. IsTried g.E.ElementData.ids g.E.ElementData.with_ids (record c.args.self.now { stack = c.add_child.new.self; tries = c.new-self.result }) c.try_start.new.self c.args.ctx.now c.try_start.new.ctx r tag) c.in-Ok.is
             (c.try_start.ensures.tried tag named);

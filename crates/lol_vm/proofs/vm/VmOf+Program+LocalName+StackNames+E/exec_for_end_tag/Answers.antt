@@ -4,7 +4,7 @@ use Rattle.lol_vm.proofs.vm.VmOf+Program+LocalName+StackNames+E.exec_for_end_tag
 
 pub returns-clause-stands : goal.returns-clause-stands
 returns-clause-stands g c = λ s esi events name named stands.
-    stands_ended s esi c.args.self.now _ events name (subst (λ n. IsEnded c.args.self.now.stack n c.pop_up_to.new.self) named c.pop_up_to.ensures.ended) refl refl refl stands
+    stands_ended s esi c.args.self.now _ events name (subst (λ n. IsEnded c.args.self.now.stack n c.pop_up_to.new.self) named c.pop_up_to.ensures.ended) refl refl refl refl stands
 
 pub returns-clause-still_open : goal.returns-clause-still_open
 returns-clause-still_open g c = λ elements name named h.

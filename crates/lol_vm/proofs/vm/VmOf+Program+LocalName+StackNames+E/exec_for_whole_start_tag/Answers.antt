@@ -30,7 +30,7 @@ returns-in-Err g c =
       silent = λ is. refl;
       limited = λ limit. absurd (c.begin.ensures.unlimited (c.in-Err.is ∙ ap Err (error_is limit)));
       free = λ s esi events tag stands named takes. c.in-Err.ensures.free s esi events tag stands (named_so c.new-ctx.ensures.item c.new-ctx.ensures.ns tag named) (inl takes);
-      tried = λ s esi events tag stands named. c.begin.ensures.tried s esi events tag stands (named_so c.new-ctx.ensures.item c.new-ctx.ensures.ns tag named);
+      tried = λ s esi events tag stands named rest. c.begin.ensures.tried s esi events tag stands (named_so c.new-ctx.ensures.item c.new-ctx.ensures.ns tag named);
       due = λ due s esi events tag stands named flat memory. let full = c.in-Err.ensures.free s esi events tag stands (named_so c.new-ctx.ensures.item c.new-ctx.ensures.ns tag named) (inr flat) in cc;
       all_or_none = λ is. inl refl;
     }
@@ -114,7 +114,7 @@ returns-in-Ok-answer g c =
       silent = λ is. elim is [ inl full ↦ cc | inr failed ↦ cc ];
       limited = λ limit. cc;
       free = tt;
-      tried = λ s esi events tag stands named. subst (IsTriedAtMost s esi events tag) (sym c.answer.ensures.tries) (c.begin.ensures.tried s esi events tag stands (named_so c.new-ctx.ensures.item c.new-ctx.ensures.ns tag named));
+      tried = λ s esi events tag stands named rest. subst (IsTriedAtMost s esi events tag) (sym c.answer.ensures.tries) (c.begin.ensures.tried s esi events tag stands (named_so c.new-ctx.ensures.item c.new-ctx.ensures.ns tag named));
       due = tt;
       all_or_none = λ is. cc;
     }
@@ -149,7 +149,7 @@ returns-in-Err-answer g c =
                 (sym all.content ∙ opens.0, reported_if (reported all c.in-Err-answer.ensures.reported _ c.answer.ensures.tries)),
           );
       free = λ s esi events tag stands named takes. absurd (never ((begun_complete b s esi events tag stands named c.in_default.is).content ∙ void_is_closed esi tag takes.1 takes.2));
-      tried = λ s esi events tag stands named. subst (IsTriedAtMost s esi events tag) (sym c.answer.ensures.tries) (c.begin.ensures.tried s esi events tag stands (named_so c.new-ctx.ensures.item c.new-ctx.ensures.ns tag named));
+      tried = λ s esi events tag stands named rest. subst (IsTriedAtMost s esi events tag) (sym c.answer.ensures.tries) (c.begin.ensures.tried s esi events tag stands (named_so c.new-ctx.ensures.item c.new-ctx.ensures.ns tag named));
       due = λ due s esi events tag stands named flat memory. room memory due;
       all_or_none = λ is. inr (
         λ s esi events tag stands named rest. reported_if (reported (begun_complete b s esi events tag stands named c.in_default.is) c.in-Err-answer.ensures.reported _ c.answer.ensures.tries),

@@ -1,0 +1,55 @@
+use Rattle.lol_vm.proofs.Common.{Result, Ok, Err, true, append-nil, ◌≡◌, ◌++◌, ◌<◌, arith, sym, ap, ◌∙◌, subst, length, take}
+use Rattle.std.proofs.lemmas.List.{length-append}
+use Rattle.std.proofs.Common.{append_assoc}
+use Rattle.std.specs.Prelude.{OnOk, is_ok}
+use Rattle.lol_rows.specs.TagHashes.{pair_hashes}
+use Rattle.lol_rows.specs.CandidateLaws.{candidates_most}
+use Rattle.lol_rows.specs.Rows.{AreRowsOf, is_left_by_keys, passing}
+use Rattle.lol_vm.specs.SparedRuns.{all_passing}
+use Rattle.lol_vm.specs.TagRuns.{ranges_in}
+use Rattle.lol_vm.proofs.Finding.{found_more, found_room}
+use Rattle.lol_vm.proofs.VmRefusals.{err_is_not_ok}
+use Rattle.lol_vm.proofs.spared_runs.add_left_by_keys.Goals as goal
+
+pub loop-index-init : goal.loop-index-init
+loop-index-init c = record {
+  left = λ rows. sym (append-nil c.args.space.now.left.items);
+  hashes = λ hashed. from_ok c.add_pair_hashes.result _ c.add_pair_hashes.ensures (sym c.is_ok-are_hashed.ensures.value ∙ hashed) ∙ ap (λ xs. xs ++ pair_hashes c.args.name.now.lowercased c.args.matcher.now) c.clear.ensures.items;
+  room = omega arith;
+}
+  where
+    from_ok : {T X : Type 0} (r : Result T X) (P : Type 0) → OnOk r P → is_ok r ≡ true → P
+    from_ok (Ok v) P h is = h
+    from_ok (Err error) P h is = cc
+
+pub returns-in_err-add_left-clause-free : goal.returns-in_err-add_left-clause-free
+returns-in_err-add_left-clause-free c = λ rows room.
+    let left = is_left_by_keys c.args.name.now.lowercased c.args.matcher.now in
+    let instructions = c.args.instructions.now in
+    let ranges = ranges_in c.args.ranges in
+    let r = c.range-range.result in
+    let within : c.loop-index.index < length ranges = subst (λ n. c.loop-index.index < n) c.len-index-end.ensures c.loop-index-test.true in
+    let fits = found_room left instructions ranges c.loop-index.index r within c.range-range.ensures in
+    let are = c.candidates_by_keys-candidates.ensures instructions c.args.name.now.lowercased c.args.matcher.now rows (λ hashed. c.deref.ensures.value ∙ c.loop-index.invariant.hashes hashed) in
+    let most = candidates_most left instructions r c.candidates_by_keys-candidates.result are in
+    let so_far = ap length (c.loop-index.invariant.left rows) in
+    let sum = length-append c.args.space.now.left.items (all_passing left instructions (take c.loop-index.index ranges)) in
+    absurd (err_is_not_ok c.add_left.result c.in_err-add_left.field-0.0 c.in_err-add_left.was (c.add_left.ensures.free (omega (arith, room, fits, most, so_far, sum, c.loop-index.invariant.room))))
+
+pub loop-index-preserved : goal.loop-index-preserved
+loop-index-preserved c =
+    let left = is_left_by_keys c.args.name.now.lowercased c.args.matcher.now in
+    let instructions = c.args.instructions.now in
+    let ranges = ranges_in c.args.ranges in
+    let r = c.range-range.result in
+    let within : c.loop-index.index < length ranges = subst (λ n. c.loop-index.index < n) c.len-index-end.ensures c.loop-index-test.true in
+    let are = λ (rows : AreRowsOf c.args.instructions.now c.args.rows.now). c.candidates_by_keys-candidates.ensures instructions c.args.name.now.lowercased c.args.matcher.now rows (λ hashed. c.deref.ensures.value ∙ c.loop-index.invariant.hashes hashed) in
+    record {
+      left = λ rows.
+          c.in_ok-add_left.ensures.left
+          ∙ ((λ i. c.loop-index.invariant.left rows i ++ are rows i)
+          ∙ (append_assoc c.args.space.now.left.items (all_passing left instructions (take c.loop-index.index ranges)) (passing left instructions r)
+          ∙ ap (λ xs. c.args.space.now.left.items ++ xs) (sym (found_more left instructions ranges c.loop-index.index r within c.range-range.ensures))));
+      hashes = c.loop-index.invariant.hashes;
+      room = omega (arith, c.loop-index.invariant.room, c.add_left.ensures.capacity);
+    }

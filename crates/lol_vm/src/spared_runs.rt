@@ -1,0 +1,229 @@
+//! Sparing instructions by their keys: what of a start tag's ranges is run where the program has rows.
+
+ghost use Rattle.std.specs.Prelude.{ℕ, List, ◌≡◌, ◌++◌, ◌+◌, ◌≤◌, ◌<◌, ◌^◌, [], false, true, length, IfOk, IsOk, OnOk};
+ghost use Rattle.std.specs.List.{list_any};
+ghost use Rattle.std.specs.Vec.{vec_capacity};
+ghost use Rattle.lol_program.specs.ProgramViews.{HasItsRows, has_rows};
+ghost use Rattle.lol_program.specs.Programs.{all_places};
+ghost use Rattle.lol_instructions.specs.Attributes.{TagAttributes};
+ghost use Rattle.lol_instructions.specs.declared.instruction.Instruction.{Instruction};
+ghost use Rattle.lol_rows.specs.TagHashes.{pair_hashes};
+ghost use Rattle.lol_rows.specs.Rows.{AreCandidates, AreRowsOf, is_left_by_keys, is_left_by_name, is_left_open, some_pass};
+ghost use Rattle.lol_vm.specs.SparedRuns.{HasRoom, HasRoomFor, all_passing, left_at_point, opens_at_once};
+ghost use Rattle.lol_vm.specs.TagRuns.{ranges_in, ranges_to_run_in};
+
+use crate::tag_runs::{RecoveryPoint, TagRanges};
+use lol_base::LocalName;
+use lol_program::{AddressRange, AttributeMatcher, Instruction, Program};
+use lol_rows::{Candidates, Rows, add_pair_hashes, name_hashes};
+use lol_stack::Stack;
+use std::alloc::{AllocError, Global};
+
+/// Room for what rows find, kept from tag to tag. What is left has room for all instructions.
+#[derive(Drop)]
+pub(crate) struct RowSpace {
+    left: Vec<usize>,
+    found: Vec<usize>,
+    hashes: Vec<u32>,
+}
+
+impl RowSpace {
+    /// Room for a program. Where that has no rows it takes no memory.
+    pub(crate) fn new(alloc: Global, program: &Program) -> Result<Self, AllocError>
+        ensures room { IfOk result (λ space. HasRoom program.now space) }
+        ensures size { length program.now.instructions.items < 2 ^ 63 }
+    {
+        let count = match &program.rows {
+            Some(_) => program.instructions.len(),
+            None => 0,
+        };
+        Ok(RowSpace {
+            left: Vec::with_capacity(alloc, count)?,
+            found: Vec::new(alloc),
+            hashes: Vec::new(alloc),
+        })
+    }
+
+    /// The addresses that were found left.
+    #[inline(always)]
+    pub(crate) fn left(&self) -> &[usize]
+        ensures { result.now ≡ self.now.left.items }
+    {
+        &self.left
+    }
+}
+
+/// Finds what is tried of a start tag's ranges by its name, where the program has rows, and answers whether nothing is, since an
+/// instruction that the name leaves is known to need attributes.
+#[inline(always)]
+pub(crate) fn find_by_name<E>(
+    program: &Program,
+    stack: &Stack<E>,
+    name: &LocalName<'_>,
+    space: &mut RowSpace,
+) -> Result<bool, AllocError>
+    ensures asks { IfOk result (λ asks. HasItsRows program.now
+        → asks ≡ opens_at_once program.now name.now.lowercased (ranges_to_run_in program.now stack.now)) }
+    ensures left { IfOk result (λ asks. asks ≡ false → HasItsRows program.now → has_rows program.now ≡ true
+        → space.new.left.items ≡ all_passing (is_left_by_name name.now.lowercased) program.now.instructions.items
+        (ranges_to_run_in program.now stack.now)) }
+    ensures free { HasItsRows program.now
+        → (has_rows program.now ≡ true
+        → HasRoomFor space.old (length (all_places (ranges_to_run_in program.now stack.now)))) → IsOk result }
+    ensures room { vec_capacity space.old.left ≤ vec_capacity space.new.left }
+{
+    match &program.rows {
+        None => Ok(false),
+        Some(rows) => {
+            let ranges = TagRanges::all(program, stack);
+            find_left_by_name(rows, &program.instructions, ranges, name, space)
+        }
+    }
+}
+
+/// Finds what a run that stopped at a point goes on in, where the program has rows: what the name leaves, as before, or where nothing
+/// was run what the name and the attributes leave.
+#[inline(always)]
+pub(crate) fn find_at<E>(
+    program: &Program,
+    stack: &Stack<E>,
+    point: RecoveryPoint,
+    name: &LocalName<'_>,
+    matcher: &AttributeMatcher<'_>,
+    space: &mut RowSpace,
+) -> Result<(), AllocError>
+    ensures left { OnOk result (HasItsRows program.now → has_rows program.now ≡ true → space.new.left.items
+        ≡ all_passing (left_at_point name.now.lowercased matcher.now point) program.now.instructions.items
+        (ranges_to_run_in program.now stack.now)) }
+    ensures free { HasItsRows program.now
+        → (has_rows program.now ≡ true
+        → HasRoomFor space.old (length (all_places (ranges_to_run_in program.now stack.now)))) → IsOk result }
+    ensures room { vec_capacity space.old.left ≤ vec_capacity space.new.left }
+{
+    match &program.rows {
+        None => Ok(()),
+        Some(rows) => {
+            space.left.clear();
+            let ranges = TagRanges::all(program, stack);
+            let instructions = program.instructions.as_slice();
+            match point {
+                RecoveryPoint::AtOnce => {
+                    add_left_by_keys(rows, instructions, ranges, name, matcher, space)
+                }
+                RecoveryPoint::At(_) => add_left_by_name(rows, instructions, ranges, name, space),
+            }
+        }
+    }
+}
+
+#[inline(never)]
+fn find_left_by_name(
+    rows: &Rows,
+    instructions: &[Instruction],
+    ranges: TagRanges<'_>,
+    name: &LocalName<'_>,
+    space: &mut RowSpace,
+) -> Result<bool, AllocError>
+    ensures asks { IfOk result (λ asks. AreRowsOf instructions.now rows.now → asks
+        ≡ list_any (some_pass (is_left_open name.now.lowercased) instructions.now) (ranges_in ranges.entry)) }
+    ensures left { IfOk result (λ asks. asks ≡ false → AreRowsOf instructions.now rows.now → space.new.left.items
+        ≡ all_passing (is_left_by_name name.now.lowercased) instructions.now (ranges_in ranges.entry)) }
+    ensures free { AreRowsOf instructions.now rows.now
+        → HasRoomFor space.old (length (all_places (ranges_in ranges.entry))) → IsOk result }
+    ensures room { vec_capacity space.old.left ≤ vec_capacity space.new.left }
+{
+    if has_open(rows, instructions, ranges, name) {
+        return Ok(true);
+    }
+    space.left.clear();
+    add_left_by_name(rows, instructions, ranges, name, space)?;
+    Ok(false)
+}
+
+/// Whether one of the ranges has an instruction that the name leaves and that is known to need attributes.
+fn has_open(
+    rows: &Rows,
+    instructions: &[Instruction],
+    ranges: TagRanges<'_>,
+    name: &LocalName<'_>,
+) -> bool
+    ensures { AreRowsOf instructions.now rows.now → result
+        ≡ list_any (some_pass (is_left_open name.now.lowercased) instructions.now) (ranges_in ranges.entry) }
+{
+    let hashes = name_hashes(name);
+    for index in 0..ranges.len() {
+        if rows.has_open(instructions, &ranges.range(index), name, &hashes) {
+            return true;
+        }
+    }
+    false
+}
+
+/// Adds the addresses of what the name leaves.
+#[inline(never)]
+fn add_left_by_name(
+    rows: &Rows,
+    instructions: &[Instruction],
+    ranges: TagRanges<'_>,
+    name: &LocalName<'_>,
+    space: &mut RowSpace,
+) -> Result<(), AllocError>
+    ensures left { OnOk result (AreRowsOf instructions.now rows.now → space.new.left.items ≡ space.old.left.items
+        ++ all_passing (is_left_by_name name.now.lowercased) instructions.now (ranges_in ranges.entry)) }
+    ensures free { AreRowsOf instructions.now rows.now
+        → HasRoomFor space.old (length space.old.left.items + length (all_places (ranges_in ranges.entry))) → IsOk result }
+    ensures room { vec_capacity space.old.left ≤ vec_capacity space.new.left }
+{
+    let hashes = name_hashes(name);
+    for index in 0..ranges.len() {
+        let range = ranges.range(index);
+        let candidates = rows.candidates_by_name(&range, &hashes, &mut space.found);
+        candidates.add_left(instructions, name, None, &mut space.left)?;
+    }
+    Ok(())
+}
+
+/// Adds the addresses of what the name and the attributes leave.
+#[inline(never)]
+fn add_left_by_keys(
+    rows: &Rows,
+    instructions: &[Instruction],
+    ranges: TagRanges<'_>,
+    name: &LocalName<'_>,
+    matcher: &AttributeMatcher<'_>,
+    space: &mut RowSpace,
+) -> Result<(), AllocError>
+    ensures left { OnOk result (AreRowsOf instructions.now rows.now → space.new.left.items ≡ space.old.left.items
+        ++ all_passing (is_left_by_keys name.now.lowercased matcher.now) instructions.now (ranges_in ranges.entry)) }
+    ensures free { AreRowsOf instructions.now rows.now
+        → HasRoomFor space.old (length space.old.left.items + length (all_places (ranges_in ranges.entry))) → IsOk result }
+    ensures room { vec_capacity space.old.left ≤ vec_capacity space.new.left }
+{
+    space.hashes.clear();
+    let are_hashed = add_pair_hashes(name, matcher, &mut space.hashes).is_ok();
+    for index in 0..ranges.len() {
+        let range = ranges.range(index);
+        let hashes = &space.hashes;
+        let candidates = candidates_by_keys(rows, &range, hashes, are_hashed, &mut space.found);
+        candidates.add_left(instructions, name, Some(matcher), &mut space.left)?;
+    }
+    Ok(())
+}
+
+/// The candidates of a range by the hashes of a tag's keys; each of the range where memory for these was refused.
+fn candidates_by_keys<'f>(
+    rows: &Rows,
+    range: &AddressRange,
+    hashes: &[u32],
+    are_hashed: bool,
+    found: &'f mut Vec<usize>,
+) -> Candidates<'f>
+    ensures { (instructions : List Instruction) (name : List ℕ) (seen : TagAttributes) → AreRowsOf instructions rows.now
+        → (are_hashed ≡ true → hashes.now ≡ pair_hashes name seen)
+        → AreCandidates (is_left_by_keys name seen) instructions range.now result }
+{
+    if !are_hashed {
+        return Candidates::Each(range.start..range.end);
+    }
+    rows.candidates_by_keys(range, hashes, found)
+}
