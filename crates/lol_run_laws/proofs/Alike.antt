@@ -13,7 +13,10 @@ use Rattle.lol_instructions.specs.Tests.{Element, is_html}
 use Rattle.lol_program.specs.Paths.{Path, First, Then, Selectors, last_compound}
 use Rattle.lol_program.specs.Programs.{AreClosed}
 use Rattle.lol_vm.specs.AnswerLaws.{started_if}
-use Rattle.lol_vm.specs.Answers.{Answer, Started, Dropped, Ended, matching_ids, report, name_tries, attribute_tries, needs_attributes, asks, is_dropped, answer, after}
+use Rattle.lol_vm.specs.Answers.{Answer, Started, Dropped, Ended, matching_ids, report, name_tries, attribute_tries, needs_attributes, asks, is_dropped, is_tried, is_tried_open, answer, after}
+use Rattle.lol_vm.specs.KeyTries.{asks_at_once, is_left, is_left_open, node_keys}
+use Rattle.lol_vm.specs.TriedLaws.{at_once_asks, tried_needs}
+use Rattle.lol_instructions.specs.Keys.{is_ruled_out_by_attributes, is_ruled_out_by_name}
 use Rattle.lol_base.specs.Ascending.{ascending_once}
 use Rattle.lol_vm.specs.Documents.{Document, element_of, parent_of, children_of, typed_children_of, place_of, inner_part, outer_part}
 use Rattle.lol_vm.specs.Events.{Event, Start, End, has_content, has_content_in}
@@ -140,14 +143,19 @@ module _ (s : Selectors) (closed : AreClosed s) where
       same_report : report s esi x xs ≡ report s esi y ys
       same_report = λ i. map (λ id. record { id = id; with_content = content i }) (same_ids i)
 
-      same_name_tries : name_tries s.nodes xs ≡ name_tries s.nodes ys
-      same_name_tries = count_same (λ node. left_matches node xs) (λ node. left_matches node ys) s.nodes (λ node a. left node (contains_from_among s.nodes node a))
+      -- and where they try the same nodes
+      module _ (tried : (node : Path) → IsNode node → is_tried s x xs node ≡ is_tried s y ys node) where
+        same_name_tries : name_tries s x xs ≡ name_tries s y ys
+        same_name_tries = count_same (is_tried s x xs) (is_tried s y ys) s.nodes (λ node a. tried node (contains_from_among s.nodes node a))
 
-      same_attribute_tries : attribute_tries s.nodes x xs ≡ attribute_tries s.nodes y ys
-      same_attribute_tries = count_same (needs_attributes x xs) (needs_attributes y ys) s.nodes (λ node a. needs node (contains_from_among s.nodes node a))
+        same_attribute_tries : attribute_tries s x xs ≡ attribute_tries s y ys
+        same_attribute_tries =
+            count_same (is_tried_open s x xs) (is_tried_open s y ys) s.nodes
+            (λ node a. let is = contains_from_among s.nodes node a in
+            tried_needs s x xs node ∙ ((λ i. tried node is i && needs node is i) ∙ sym (tried_needs s y ys node)))
 
-      pub same_started : started x xs ≡ started y ys
-      same_started = λ i. cond (same_dropped i) Dropped (Started (same_report i) (same_asks i) (same_name_tries i) (same_attribute_tries i))
+        pub same_started : started x xs ≡ started y ys
+        same_started = λ i. cond (same_dropped i) Dropped (Started (same_report i) (same_asks i) (same_name_tries i) (same_attribute_tries i))
 
     -- 4. Documents that no node tells apart
 
@@ -169,12 +177,24 @@ module _ (s : Selectors) (closed : AreClosed s) where
     pub same_needs : (e : Element) {xs ys : List Element} → Alike xs ys → (node : Path) → IsNode node → needs_attributes e xs node ≡ needs_attributes e ys node
     same_needs e h node is = ap (λ b. b && is_open (by_names (last_compound node) e)) (same_left h node is)
 
+    same_at_once : (e : Element) {xs ys : List Element} → Alike xs ys → asks_at_once node_keys s.nodes e xs ≡ asks_at_once node_keys s.nodes e ys
+    same_at_once e {xs} {ys} h =
+        λ i. not (is_html e.tag.namespace)
+        || any_same (is_left_open node_keys e xs) (is_left_open node_keys e ys) s.nodes
+        (λ node a. ap (λ b. (b && not (is_ruled_out_by_name (node_keys node) e)) && (node_keys node).opens) (same_left h node (contains_from_among s.nodes node a))) i
+
+    same_tried : (e : Element) {xs ys : List Element} → Alike xs ys → (node : Path) → IsNode node → is_tried s e xs node ≡ is_tried s e ys node
+    same_tried e {xs} {ys} h node is =
+        λ i. cond s.by_keys
+        ((same_left h node is i && not (is_ruled_out_by_name (node_keys node) e)) && not (same_at_once e h i && is_ruled_out_by_attributes (node_keys node) e))
+        (same_left h node is i)
+
     pub same_answer : (d g : Document) (event : Event) → AlikeDocuments d g → answer s esi d event ≡ answer s esi g event
     same_answer d g (Start tag) h =
         let e = element_of g tag in
         ap (λ x. started x d.open_elements) (same_element d g tag h)
         ∙ same_started e e d.open_elements g.open_elements refl refl (λ is i. is i && not tag.finish) (same_left h.open_elements) (same_needs e h.open_elements)
-        (same_matches e h.open_elements)
+        (same_matches e h.open_elements) (same_tried e h.open_elements)
     same_answer d g (End name) h =
         ap (λ (ns : List ℕ). Ended (reverse ns))
         (ap (λ o. map (λ (e : Element). e.number) (inner_part o d.open_elements)) (same_place name h.open_elements)
@@ -275,8 +295,16 @@ module _ (s : Selectors) (closed : AreClosed s) where
         dropped_alike : asks s e d.open_elements ≡ asks s other d.open_elements → is_dropped s e d.open_elements ≡ is_dropped s other d.open_elements
         dropped_alike same = (λ i. unasked i && not tag.finish) ∙ sym (λ i. (sym same ∙ unasked) i && not finish)
 
+        later : asks_at_once node_keys s.nodes e d.open_elements ≡ false
+        later = not_true (asks_at_once node_keys s.nodes e d.open_elements) (λ now. true≢false (sym (at_once_asks s e d.open_elements now) ∙ unasked))
+
+        tried_alike : (node : Path) → IsNode node → is_tried s e d.open_elements node ≡ is_tried s other d.open_elements node
+        tried_alike node is =
+            (λ i. cond s.by_keys (is_left node_keys (later i) e d.open_elements node) (left_matches node d.open_elements))
+            ∙ sym (λ i. cond s.by_keys (is_left node_keys (later i) other d.open_elements node) (left_matches node d.open_elements))
+
         pub unasked_answered : answer s esi d (Start changed) ≡ answer s esi d (Start tag)
-        unasked_answered = sym (same_started e other d.open_elements d.open_elements content_alike refl dropped_alike (λ node is. refl) needs_alike matched_alike)
+        unasked_answered = sym (same_started e other d.open_elements d.open_elements content_alike refl dropped_alike (λ node is. refl) needs_alike matched_alike tried_alike)
 
         pub unasked_after : AlikeDocuments (after s esi d (Start changed)) (after s esi d (Start tag))
         unasked_after = record {

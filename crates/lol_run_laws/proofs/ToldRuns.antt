@@ -82,7 +82,7 @@ told_goes_on s esi events event = told_push s esi empty events event
 pub asked_runs_answer_alike : AskedRunsAnswerAlike
 asked_runs_answer_alike ast esi events =
     let s = selectors ast in
-    let closed = trees_are_closed ast in
+    let closed = trees_are_closed s.by_keys ast in
     record {
       answered = told_answered s closed esi empty empty events (documents_self s closed esi empty);
       refused_alike = λ a. told_refused s closed esi a empty empty 0 events (documents_self s closed esi empty);
