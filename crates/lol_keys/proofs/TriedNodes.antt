@@ -1,7 +1,7 @@
 -- What is tried by keys.
-use Rattle.std.proofs.Common.{◌≡◌, ℕ, ◌+◌, Bool, true, false, cond, not, ◌&&◌, ◌||◌, List, [], ◌∷◌, map, filter, length, refl, sym, ap, ◌∙◌, arith}
+use Rattle.std.proofs.Common.{◌≡◌, ℕ, ◌+◌, Bool, true, false, cond, not, ◌&&◌, ◌||◌, List, [], ◌∷◌, map, filter, length, refl, sym, ap, subst, ◌∙◌, arith}
 use Rattle.lol_base.specs.Ascending.{ascending_once}
-use Rattle.std.specs.Prelude.{count_by, sum_by}
+use Rattle.std.specs.Prelude.{count_by, max, sum_by}
 use Rattle.std.specs.List.{list_any}
 use Rattle.std.proofs.lemmas.List.Sums.{sum_by-cons, length-filter}
 use Rattle.lol_base.specs.BoolLaws.{and_parts, and_of, same_bool}
@@ -14,11 +14,14 @@ use Rattle.lol_program.specs.Paths.{Path, Selectors, last_compound}
 use Rattle.lol_program.specs.ValueLaws.{values_decide}
 use Rattle.lol_vm.specs.Matching.{matches, left_matches}
 use Rattle.lol_vm.specs.Events.{Event, Start, End}
-use Rattle.lol_vm.specs.Documents.{Document, element_of}
-use Rattle.lol_vm.specs.Answers.{Started, Dropped, report, is_dropped, answer, after, answers_from, name_tries, attribute_tries, needs_attributes, asks}
+use Rattle.lol_vm.specs.Documents.{Document, element_of, empty}
+use Rattle.lol_vm.specs.KeyTries.{AreRight, node_keys, is_left_by_name, is_left_open, asks_at_once, is_left, is_tried_by_keys, name_tries_by_keys, tries_attributes_by_keys, attribute_tries_by_keys}
+use Rattle.lol_vm.specs.Answers.{Started, Dropped, report, is_dropped, answer, after, answers_from, document_from, needs_attributes, asks}
+use Rattle.lol_vm.specs.Refusals.{Allowance, refusal, or_later, refused_from}
+use Rattle.lol_vm.specs.Laws.{in_mode}
 use Rattle.lol_instructions.specs.Keys.{Keys, is_ruled_out_by_name, is_ruled_out_by_attributes, no_keys}
-use Rattle.lol_keys.specs.KeyTries.{AreRight, is_left_by_name, is_left_open, asks_at_once, is_left, is_tried, name_tries_by_keys, tries_attributes, attribute_tries_by_keys, Without, Completing, With, one_if, name_counted, attribute_counted, calls_by_names, calls_in, needs_them, answer_by_keys, answers_by_keys_from}
-use Rattle.lol_keys.specs.KeyLaws.{MatchingNodesAreTried, TriedPairsGiveIds, NamesKeepAsks, AsksByTries, FirstStepSeesNoRest, TriesAreAtMost, TriesAndSparedAreAll, CallsAreCounted, CallsAskWhereAsked, OrderChangesNoTries, NoKeysAreExact, Spares, AllSpare, AnswersAreSparing}
+use Rattle.lol_keys.specs.Calls.{all_name_tries, all_attribute_tries, Without, Completing, With, one_if, name_counted, attribute_counted, calls_by_names, calls_in, needs_them, answer_by_keys, answers_by_keys_from}
+use Rattle.lol_keys.specs.KeyLaws.{MatchingNodesAreTried, TriedPairsGiveIds, NamesKeepAsks, AsksByTries, FirstStepSeesNoRest, TriesAreAtMost, TriesAndSparedAreAll, CallsAreCounted, CallsAskWhereAsked, OrderChangesNoTries, NoKeysAreExact, Spares, AllSpare, AnswersAreSparing, ModesCountTries, ModesAnswerByKeys, ModesAnswerAlike}
 use Rattle.lol_keys.proofs.Counting.{filter_within, any_within, any_both, any_weaker, any_same, count_sum, count_both}
 
 -- 1. What is ruled out neither matches nor is open
@@ -79,7 +82,7 @@ matching_nodes_are_tried keys right nodes e outer path h = tried_where_matches k
 pub tried_pairs_give_ids : TriedPairsGiveIds
 tried_pairs_give_ids keys right nodes pairs e outer =
     ap (λ kept. ascending_once (map (λ (p : Path × ℕ). p.1) kept))
-    (filter_within (λ (p : Path × ℕ). matches p.0 e outer) (λ (p : Path × ℕ). is_tried keys nodes e outer p.0) (λ p h. matching_nodes_are_tried keys right nodes e outer p.0 h) pairs)
+    (filter_within (λ (p : Path × ℕ). matches p.0 e outer) (λ (p : Path × ℕ). is_tried_by_keys keys nodes e outer p.0) (λ p h. matching_nodes_are_tried keys right nodes e outer p.0 h) pairs)
 
 -- 2. Attributes are asked for as before
 
@@ -140,9 +143,9 @@ spared_attributes false n x o = refl
 pub tries_and_spared_are_all : TriesAndSparedAreAll
 tries_and_spared_are_all keys nodes e outer =
     let at_once = asks_at_once keys nodes e outer in (
-      count_sum (is_tried keys nodes e outer) (λ node. left_matches node outer && not (is_tried keys nodes e outer node)) (λ node. left_matches node outer)
+      count_sum (is_tried_by_keys keys nodes e outer) (λ node. left_matches node outer && not (is_tried_by_keys keys nodes e outer node)) (λ node. left_matches node outer)
           (λ node. spared_name (left_matches node outer) (not (is_ruled_out_by_name (keys node) e)) (not (at_once && is_ruled_out_by_attributes (keys node) e))) nodes,
-      count_sum (tries_attributes keys nodes e outer) (λ node. needs_attributes e outer node && not (is_tried keys nodes e outer node)) (needs_attributes e outer)
+      count_sum (tries_attributes_by_keys keys nodes e outer) (λ node. needs_attributes e outer node && not (is_tried_by_keys keys nodes e outer node)) (needs_attributes e outer)
           (λ node. spared_attributes (left_matches node outer) (not (is_ruled_out_by_name (keys node) e)) (not (at_once && is_ruled_out_by_attributes (keys node) e)) (is_open (by_names (last_compound node) e))) nodes,
     )
 
@@ -219,14 +222,14 @@ module _ (e : Element) where
 pub calls_are_counted : CallsAreCounted
 calls_are_counted keys nodes e outer =
     let at_once = asks_at_once keys nodes e outer in (
-      names_in e at_once (filter (is_tried keys nodes e outer) nodes) ∙ length-filter (is_tried keys nodes e outer) nodes,
-      attributes_in e at_once (filter (is_tried keys nodes e outer) nodes) ∙ count_both (opens_at e) (is_tried keys nodes e outer) nodes,
+      names_in e at_once (filter (is_tried_by_keys keys nodes e outer) nodes) ∙ length-filter (is_tried_by_keys keys nodes e outer) nodes,
+      attributes_in e at_once (filter (is_tried_by_keys keys nodes e outer) nodes) ∙ count_both (opens_at e) (is_tried_by_keys keys nodes e outer) nodes,
     )
 
 pub calls_ask_where_asked : CallsAskWhereAsked
 calls_ask_where_asked keys right s e outer =
-    needed_in e (asks_at_once keys s.nodes e outer) (filter (is_tried keys s.nodes e outer) s.nodes)
-    ∙ ap (λ b. asks_at_once keys s.nodes e outer || b) (any_both (opens_at e) (is_tried keys s.nodes e outer) s.nodes)
+    needed_in e (asks_at_once keys s.nodes e outer) (filter (is_tried_by_keys keys s.nodes e outer) s.nodes)
+    ∙ ap (λ b. asks_at_once keys s.nodes e outer || b) (any_both (opens_at e) (is_tried_by_keys keys s.nodes e outer) s.nodes)
     ∙ asks_by_tries keys right s e outer
 
 -- 5. The order
@@ -237,8 +240,8 @@ order_changes_no_tries keys xs ys same once once' e outer =
     let from : (p : Path) → Among ys p → Among xs p = λ p h. among_from_contains xs p ((same p).1 (contains_from_among ys p h)) in
     let first : asks_at_once keys xs e outer ≡ asks_at_once keys ys e outer = ap (λ b. not (is_html e.tag.namespace) || b) (any_same (is_left_open keys e outer) xs ys to from) in
     let counts : (p : Path → Bool) → count_by p xs ≡ count_by p ys = λ p. same_count p xs ys (distinct_from_pairs xs once) (distinct_from_pairs ys once') to from in (
-      (λ i. count_by (λ node. is_left keys (first i) e outer node) xs) ∙ counts (is_tried keys ys e outer),
-      (λ i. count_by (λ node. is_left keys (first i) e outer node && is_open (by_names (last_compound node) e)) xs) ∙ counts (tries_attributes keys ys e outer),
+      (λ i. count_by (λ node. is_left keys (first i) e outer node) xs) ∙ counts (is_tried_by_keys keys ys e outer),
+      (λ i. count_by (λ node. is_left keys (first i) e outer node && is_open (by_names (last_compound node) e)) xs) ∙ counts (tries_attributes_by_keys keys ys e outer),
     )
 
 -- 6. Without keys, and whole runs
@@ -256,19 +259,63 @@ no_keys_are_exact nodes e outer =
     )
 
 module _ (keys : Path → Keys) (s : Selectors) (esi : Bool) where
-  answer_spares : (d : Document) (event : Event) → Spares (answer_by_keys keys s esi d event) (answer s esi d event)
+  answer_spares : (d : Document) (event : Event) → Spares (answer_by_keys keys s esi d event) (answer (in_mode false s) esi d event)
   answer_spares d (End name) = refl
   answer_spares d (Start tag) = by_dropped (is_dropped s (element_of d tag) d.open_elements)
     where
       by_dropped : (b : Bool) → Spares
           (cond b Dropped (Started (report s esi (element_of d tag) d.open_elements) (asks s (element_of d tag) d.open_elements) (name_tries_by_keys keys s.nodes (element_of d tag) d.open_elements) (attribute_tries_by_keys keys s.nodes (element_of d tag) d.open_elements)))
-          (cond b Dropped (Started (report s esi (element_of d tag) d.open_elements) (asks s (element_of d tag) d.open_elements) (name_tries s.nodes d.open_elements) (attribute_tries s.nodes (element_of d tag) d.open_elements)))
+          (cond b Dropped (Started (report s esi (element_of d tag) d.open_elements) (asks s (element_of d tag) d.open_elements) (all_name_tries s.nodes d.open_elements) (all_attribute_tries s.nodes (element_of d tag) d.open_elements)))
       by_dropped true = tt
       by_dropped false = let most = tries_are_at_most keys s.nodes (element_of d tag) d.open_elements in (refl, refl, most.0, most.1)
 
-  spare_from : (d : Document) (events : List Event) → AllSpare (answers_by_keys_from keys s esi d events) (answers_from s esi d events)
+  spare_from : (d : Document) (events : List Event) → AllSpare (answers_by_keys_from keys s esi d events) (answers_from (in_mode false s) esi d events)
   spare_from d [] = tt
-  spare_from d (event ∷ events) = (answer_spares d event, spare_from (after s esi d event) events)
+  spare_from d (Start tag ∷ events) = (answer_spares d (Start tag), spare_from (after s esi d (Start tag)) events)
+  spare_from d (End name ∷ events) = (refl, spare_from (after s esi d (End name)) events)
 
 pub answers_are_sparing : AnswersAreSparing
 answers_are_sparing keys s esi d events = spare_from keys s esi d events
+
+-- 7. The two modes
+
+pub modes_count_tries : ModesCountTries
+modes_count_tries s e outer = (refl, refl, refl, refl)
+
+module _ (s : Selectors) (esi : Bool) where
+  spared_by_keys : (d : Document) (events : List Event) → answers_from (in_mode true s) esi d events ≡ answers_by_keys_from node_keys s esi d events
+  spared_by_keys d [] = refl
+  spared_by_keys d (Start tag ∷ events) = ap (λ more. answer_by_keys node_keys s esi d (Start tag) ∷ more) (spared_by_keys (after s esi d (Start tag)) events)
+  spared_by_keys d (End name ∷ events) = ap (λ more. answer_by_keys node_keys s esi d (End name) ∷ more) (spared_by_keys (after s esi d (End name)) events)
+
+  all_by_no_keys : (d : Document) (events : List Event) → answers_from (in_mode false s) esi d events ≡ answers_by_keys_from (λ node. no_keys) s esi d events
+  all_by_no_keys d [] = refl
+  all_by_no_keys d (Start tag ∷ events) =
+      let e = element_of d tag in
+      let outer = d.open_elements in
+      let exact = no_keys_are_exact s.nodes e outer in
+      (λ i. cond (is_dropped s e outer) Dropped (Started (report s esi e outer) (asks s e outer) (sym exact.0 i) (sym exact.1 i)) ∷ all_by_no_keys (after s esi d (Start tag)) events i)
+  all_by_no_keys d (End name ∷ events) = ap (λ more. answer_by_keys (λ node. no_keys) s esi d (End name) ∷ more) (all_by_no_keys (after s esi d (End name)) events)
+
+  modes_spare : (d : Document) (events : List Event) → AllSpare (answers_from (in_mode true s) esi d events) (answers_from (in_mode false s) esi d events)
+  modes_spare d events = subst (λ told. AllSpare told (answers_from (in_mode false s) esi d events)) (sym (spared_by_keys d events)) (spare_from node_keys s esi d events)
+
+  same_document : (d : Document) (events : List Event) → document_from (in_mode true s) esi d events ≡ document_from (in_mode false s) esi d events
+  same_document d [] = refl
+  same_document d (Start tag ∷ events) = same_document (after s esi d (Start tag)) events
+  same_document d (End name ∷ events) = same_document (after s esi d (End name)) events
+
+  same_refused : (a : Allowance) (d : Document) (most : ℕ) (events : List Event) → refused_from (in_mode true s) esi a d most events ≡ refused_from (in_mode false s) esi a d most events
+  same_refused a d most [] = refl
+  same_refused a d most (Start tag ∷ events) =
+      let next = after s esi d (Start tag) in
+      ap (or_later d.events (refusal s esi a d most (Start tag))) (same_refused a next (max most (length next.open_elements)) events)
+  same_refused a d most (End name ∷ events) =
+      let next = after s esi d (End name) in
+      same_refused a next (max most (length next.open_elements)) events
+
+pub modes_answer_by_keys : ModesAnswerByKeys
+modes_answer_by_keys s esi d events = (spared_by_keys s esi d events, all_by_no_keys s esi d events)
+
+pub modes_answer_alike : ModesAnswerAlike
+modes_answer_alike s esi events = (modes_spare s esi empty events, same_document s esi empty events, λ a. same_refused s esi a empty 0 events)

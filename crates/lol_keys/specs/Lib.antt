@@ -1,3 +1,3 @@
-pub mod KeyTries
+pub mod Calls
 pub mod KeyLaws
 pub mod Rows

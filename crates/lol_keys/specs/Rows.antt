@@ -6,10 +6,11 @@ use Rattle.lol_base.specs.declared.attribute.AttrSelectorOperator.TheVariants.{E
 use Rattle.lol_base.specs.declared.attribute.ParsedCaseSensitivity.TheVariants.{CaseSensitive}
 use Rattle.lol_instructions.specs.Tests.{Element, AnyName, HasName, IsNthChild, HasId, HasClass, Compares}
 use Rattle.lol_instructions.specs.Compounds.{Test, OfName, OfAttributes, NoneOf, SomeOf, Compound, all_of, any_of, by_names, is_open}
-use Rattle.lol_program.specs.Paths.{Path, First, last_compound}
+use Rattle.lol_program.specs.Paths.{Path, Selectors, First, last_compound}
 use Rattle.lol_vm.specs.Answers.{name_tries, attribute_tries, asks}
 use Rattle.lol_instructions.specs.Keys.{Keys, AttributeKey, ById, ByClass, ByAttribute, is_ruled_out_by_attributes, one_key}
-use Rattle.lol_keys.specs.KeyTries.{Call, Without, Completing, With, name_counted, asks_at_once, name_tries_by_keys, attribute_tries_by_keys}
+use Rattle.lol_vm.specs.KeyTries.{asks_at_once, name_tries_by_keys, attribute_tries_by_keys}
+use Rattle.lol_keys.specs.Calls.{Call, Without, Completing, With, name_counted}
 
 abbrev name : List ℕ → Test
 name bytes = OfName (HasName bytes)
@@ -59,16 +60,23 @@ node tests = First (all_of tests)
 abbrev key_of : Path → Keys
 key_of node = one_key (last_compound node)
 
-abbrev asks_for : List Path → Element → Bool
-asks_for nodes e = asks (record { pairs = []; nodes = nodes }) e []
+-- selectors with these nodes, which are spared by keys or not
+abbrev selectors_of_nodes : Bool → List Path → Selectors
+selectors_of_nodes by_keys nodes = record { pairs = []; nodes = nodes; by_keys = by_keys }
 
--- the tries of the exact machine and by one key, by names and by attributes; whether attributes are asked for, and at once
+abbrev asks_for : List Path → Element → Bool
+asks_for nodes e = asks (selectors_of_nodes false nodes) e []
+
+-- the tries without keys, by one key, and of selectors whose nodes are spared, by names and by attributes; whether attributes are asked for,
+-- and at once
 pub record AreCounts (nodes : List Path) (e : Element) (names attributes names_by_keys attributes_by_keys : ℕ) (asked at_once : Bool)
     : Type 0 where
-  pub names_tried : name_tries nodes [] ≡ names
-  pub attributes_tried : attribute_tries nodes e [] ≡ attributes
+  pub names_tried : name_tries (selectors_of_nodes false nodes) e [] ≡ names
+  pub attributes_tried : attribute_tries (selectors_of_nodes false nodes) e [] ≡ attributes
   pub names_tried_by_keys : name_tries_by_keys key_of nodes e [] ≡ names_by_keys
   pub attributes_tried_by_keys : attribute_tries_by_keys key_of nodes e [] ≡ attributes_by_keys
+  pub names_tried_of_spared : name_tries (selectors_of_nodes true nodes) e [] ≡ names_by_keys
+  pub attributes_tried_of_spared : attribute_tries (selectors_of_nodes true nodes) e [] ≡ attributes_by_keys
   pub attributes_asked : asks_for nodes e ≡ asked
   pub asked_at_once : asks_at_once key_of nodes e [] ≡ at_once
 
