@@ -3,6 +3,7 @@ use Rattle.std.proofs.Common.{◌≡◌, ℕ, Bool, true, false, cond, List, [],
 use Rattle.std.specs.Prelude.{max}
 use Rattle.lol_base.specs.StartTags.{StartTag}
 use Rattle.lol_instructions.specs.Tests.{Element}
+use Rattle.lol_program.specs.Asts.{is_with_rows}
 use Rattle.lol_program.specs.ClosedLaws.{trees_are_closed}
 use Rattle.lol_program.specs.Paths.{Selectors}
 use Rattle.lol_vm.specs.AnswerLaws as laws
@@ -16,10 +17,10 @@ use Rattle.lol_reasons.specs.NumberingLaws.{GoesAlike, NodesDecideTheRest, Numbe
 module _ (s t : Selectors) (same : SameNodes s t) (esi : Bool) where
   -- the pairs of one over the nodes of the other
   abbrev between : Selectors
-  between = record { pairs = t.pairs; nodes = s.nodes }
+  between = record { pairs = t.pairs; nodes = s.nodes; by_keys = s.by_keys }
 
   same_between : SameSelectors between t
-  same_between = record { pairs = λ x. (λ h. h, λ h. h); nodes = same.members; each_once = same.each_once; each_once' = same.each_once' }
+  same_between = record { pairs = λ x. (λ h. h, λ h. h); nodes = same.members; each_once = same.each_once; each_once' = same.each_once'; mode = same.mode }
 
   same_asks : (e : Element) (outer : List Element) → asks s e outer ≡ asks t e outer
   same_asks e outer = laws.same_asks between t same_between esi e outer
@@ -32,13 +33,13 @@ module _ (s t : Selectors) (same : SameNodes s t) (esi : Bool) where
   same_start d tag =
       by_test (is_dropped s e d.open_elements)
       ∙ ap (reporting (report s esi e d.open_elements))
-      (laws.same_answer between t esi (λ e' outer. refl) same_asks (laws.same_tries between t same_between esi) d (Start tag))
+      (laws.same_answer between t esi (λ e' outer. refl) same_asks (laws.same_tried between t same_between esi) (laws.same_tries between t same_between esi) d (Start tag))
     where
       e : Element
       e = element_of d tag
 
       told : Selectors → Answer
-      told u = Started (report u esi e d.open_elements) (asks s e d.open_elements) (name_tries s.nodes d.open_elements) (attribute_tries s.nodes e d.open_elements)
+      told u = Started (report u esi e d.open_elements) (asks s e d.open_elements) (name_tries s e d.open_elements) (attribute_tries s e d.open_elements)
 
       by_test : (b : Bool) → cond b Dropped (told s) ≡ reporting (report s esi e d.open_elements) (cond b Dropped (told t))
       by_test true = refl
@@ -77,8 +78,9 @@ pub nodes_decide_the_rest : NodesDecideTheRest
 nodes_decide_the_rest s t same esi = (goes_alike s t same esi, runs_alike s t same esi)
 
 pub numbers_change_no_node : NumbersChangeNoNode
-numbers_change_no_node texts numbering holds s nodes once = record {
+numbers_change_no_node texts numbering holds s nodes once mode = record {
   members = λ path. (λ h. (holds.nodes path).0 ((nodes path).1 h), λ h. (nodes path).0 ((holds.nodes path).1 h));
   each_once = once;
-  each_once' = (trees_are_closed numbering.ast).once;
+  each_once' = (trees_are_closed (is_with_rows numbering.ast) numbering.ast).once;
+  mode = mode;
 }

@@ -1,5 +1,5 @@
 -- The items around the element of a start tag that a machine was told of last.
-use Rattle.std.proofs.Common.{◌≡◌, suc, ◌-◌, Bool, true, false, cond, List, [], ◌∷◌, ◌++◌, length, map, reverse, take, refl, sym, ap, ◌∙◌, subst, arith}
+use Rattle.std.proofs.Common.{◌≡◌, suc, ◌-◌, Bool, true, false, cond, List, [], ◌∷◌, length, map, reverse, take, refl, sym, ap, ◌∙◌, subst, arith}
 use Rattle.std.proofs.lemmas.List.{length-map, length-reverse, take_all, take-map}
 use Rattle.lol_base.specs.LocalNames.{Name}
 use Rattle.lol_instructions.specs.Tests.{Element}

@@ -139,7 +139,7 @@ told s added same esi d (Start tag) = by_test (is_dropped s e d.open_elements)
     e = element_of d tag
 
     by_test : (b : Bool) → ascending_once (ids_of_reasons (cond b [] (reasons added e d.open_elements)))
-        ≡ ids_reported (cond b Dropped (Started (report s esi e d.open_elements) (asks s e d.open_elements) (name_tries s.nodes d.open_elements) (attribute_tries s.nodes e d.open_elements)))
+        ≡ ids_reported (cond b Dropped (Started (report s esi e d.open_elements) (asks s e d.open_elements) (name_tries s e d.open_elements) (attribute_tries s e d.open_elements)))
     by_test true = refl
     by_test false = reasons_give_report s added same esi e d.open_elements
 

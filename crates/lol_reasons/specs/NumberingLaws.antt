@@ -2,6 +2,7 @@
 use Rattle.std.specs.Prelude.{ℕ, ◌≡◌, ◌≢◌, Bool, List, map, filter, filter_map, slice_get, AllPairs}
 use Rattle.lol_base.specs.StartTags.{StartTag}
 use Rattle.lol_instructions.specs.Tests.{Element}
+use Rattle.lol_program.specs.Asts.{is_with_rows}
 use Rattle.lol_program.specs.Paths.{Selectors, all_beginnings}
 use Rattle.lol_program.specs.Sets.{SameMembers}
 use Rattle.lol_vm.specs.Answers.{Answer, Match, Started, Dropped, Ended, after, answer, asks, document, matching_ids, report}
@@ -15,11 +16,12 @@ use Rattle.lol_reasons.specs.Numbered.{HasItemsOf, HoldsItems}
 use Rattle.lol_reasons.specs.ReasonLaws.{place_of_added}
 use Rattle.lol_reasons.specs.declared.texts.Numbering.{Numbering}
 
--- The same nodes, each once, in any order; the pairs may be others.
+-- The same nodes, each once, in any order, spared by keys or not; the pairs may be others.
 pub record SameNodes (s t : Selectors) : Type 0 where
   pub members : SameMembers t.nodes s.nodes
   pub each_once : AllPairs (λ a b. a ≢ b) s.nodes
   pub each_once' : AllPairs (λ a b. a ≢ b) t.nodes
+  pub mode : s.by_keys ≡ t.by_keys
 
 -- an answer that reports this instead
 abbrev pub reporting : List Match → Answer → Answer
@@ -51,6 +53,7 @@ abbrev pub NumbersChangeNoNode : Type 0
 NumbersChangeNoNode =
     (texts : List Text) (numbering : Numbering) → HoldsItems (added_by texts) numbering
     → (s : Selectors) → SameMembers s.nodes (all_beginnings (pairs_added (added_by texts))) → AllPairs (λ a b. a ≢ b) s.nodes
+    → s.by_keys ≡ is_with_rows numbering.ast
     → SameNodes s (selectors numbering.ast)
 
 -- The numbers that are reported name exactly the items that match, by id, text and item, in the order of adding.

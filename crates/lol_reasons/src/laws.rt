@@ -58,8 +58,9 @@ pub fn machines_show_around<E>()
     ensures { MachinesShowAround E }
 {}
 
-/// Selectors with the same nodes come to the same document and ask for the same, whatever ids their paths have; they refuse the same events,
-/// and answer alike but for what they report. So do the selectors whose items stand under their numbers, and those with the texts' ids.
+/// Selectors with the same nodes, both with rows or both without, come to the same document and ask for the same, whatever ids their paths
+/// have; they refuse the same events, and answer alike but for what they report. So do the selectors whose items stand under their numbers,
+/// and those with the texts' ids.
 pub fn numbers_change_reports_alone()
     ensures alike { NodesDecideTheRest }
     ensures nodes { NumbersChangeNoNode }

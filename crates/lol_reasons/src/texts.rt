@@ -1,7 +1,8 @@
 //! Selectors whose items are told apart in a report.
 
-ghost use Rattle.std.specs.Prelude.{◌≡◌, ◌<◌, ◌+◌, List, [], ◌∷◌, ◌++◌, length, IfOk, IsErrOf, OnOk, OnErr};
+ghost use Rattle.std.specs.Prelude.{◌≡◌, ◌<◌, ◌+◌, false, List, [], ◌∷◌, ◌++◌, length, IfOk, IsErrOf, OnOk, OnErr};
 ghost use Rattle.lol_css.specs.TreeViews.{list_of};
+ghost use Rattle.lol_program.specs.Asts.{is_with_rows};
 ghost use Rattle.lol_reasons.specs.Explanations.{Added, added_by};
 ghost use Rattle.lol_reasons.specs.Numbered.{HoldsItems, added_by_text, item_added, text_shown, texts_in};
 
@@ -56,12 +57,13 @@ impl Texts {
         Ok(())
     }
 
-    /// The items of all texts, each under its number. The texts stay as they are, so after an error it may be asked for again.
+    /// The items of all texts, each under its number, in a tree without rows. The texts stay as they are, so after an error it may be asked for again.
     ///
     /// # Errors
     /// `TooManyItems` if there are more items than ids, or `Memory`.
     pub fn number_items(&self) -> Result<Numbering, NumberingError>
         ensures numbered { IfOk result (λ numbering. HoldsItems (added_by (texts_in self.now)) numbering) }
+        ensures rows { IfOk result (λ numbering. is_with_rows numbering.ast ≡ false) }
         ensures too_many { IsErrOf result NumberingError.TooManyItems
             → u32.MAX + 1 < length (added_by (texts_in self.now)) }
     {
@@ -75,7 +77,8 @@ impl Texts {
 
 impl Numbering {
     fn new(alloc: Global) -> Self
-        ensures { HoldsItems [] result }
+        ensures holds { HoldsItems [] result }
+        ensures rows { is_with_rows result.ast ≡ false }
     {
         Numbering {
             ast: Ast::new(alloc),
@@ -87,6 +90,7 @@ impl Numbering {
     fn add_text(&mut self, number: usize, text: &Text) -> Result<(), NumberingError>
         ensures added { OnOk result ((added : List Added) → HoldsItems added self.old
             → HoldsItems (added ++ added_by_text number (text_shown text.now)) self.new) }
+        ensures rows { is_with_rows self.new.ast ≡ is_with_rows self.old.ast }
         ensures too_many { IsErrOf result NumberingError.TooManyItems → (added : List Added) → HoldsItems added self.old
             → u32.MAX + 1 < length (added ++ added_by_text number (text_shown text.now)) }
     {
@@ -104,6 +108,7 @@ impl Numbering {
     fn add_item(&mut self, named: ItemOfText, item: &ComplexSelector) -> Result<(), NumberingError>
         ensures added { OnOk result ((added : List Added) → HoldsItems added self.old
             → HoldsItems (added ++ item_added named item.now ∷ []) self.new) }
+        ensures rows { is_with_rows self.new.ast ≡ is_with_rows self.old.ast }
         ensures too_many { IsErrOf result NumberingError.TooManyItems
             → (added : List Added) → HoldsItems added self.old → u32.MAX < length added }
     {
