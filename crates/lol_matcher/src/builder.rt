@@ -7,6 +7,7 @@ use lol_memory::MatchId;
 use lol_program::Ast;
 use std::alloc::{AllocError, Global};
 use std::marker::Model;
+use std::mem;
 
 /// How many bytes an open element is charged for, unless `element_bytes` says another number.
 const DEFAULT_ELEMENT_BYTES: usize = 64;
@@ -42,9 +43,9 @@ impl Model for MatcherBuilder {
 }
 
 impl MatcherBuilder {
-    ghost use Rattle.std.specs.Prelude.{◌≡◌, [], false, IfOk, IfErr, OnOk, max};
+    ghost use Rattle.std.specs.Prelude.{◌≡◌, [], true, false, IfOk, IfErr, OnOk, max};
     ghost use Rattle.lol_instructions.specs.Tries.{names_counted, attributes_counted};
-    ghost use Rattle.lol_program.specs.Asts.{pairs_of, nodes_of};
+    ghost use Rattle.lol_program.specs.Asts.{pairs_of, nodes_of, is_with_rows};
     ghost use Rattle.lol_matcher.specs.Building.{Adds, Refuses, started_with};
 
     /// No selectors, no bound on memory, 64 bytes for each element, and ESI's names as others.
@@ -54,6 +55,7 @@ impl MatcherBuilder {
         ensures memory { result.max_memory ≡ usize.MAX }
         ensures bytes { result.element_bytes ≡ 64 }
         ensures esi { result.esi ≡ false }
+        ensures rows { is_with_rows result.ast ≡ false }
     {
         MatcherBuilder {
             alloc,
@@ -94,6 +96,18 @@ impl MatcherBuilder {
         self.enable_esi_tags = enabled;
     }
 
+    /// Has the matcher spare the nodes that a tag's name, id, classes and attributes rule out: for hundreds of selectors and more. It answers
+    /// the same, and tries fewer nodes. Until it is called all nodes are tried whose left part matches.
+    pub fn with_rows(&mut self)
+        ensures pairs { pairs_of self.new.ast ≡ pairs_of self.old.ast }
+        ensures nodes { nodes_of self.new.ast ≡ nodes_of self.old.ast }
+        ensures rows { is_with_rows self.new.ast ≡ true }
+        ensures rest { self.new ≡ record self.old { ast = self.new.ast } }
+    {
+        let ast = mem::replace(&mut self.ast, Ast::new(self.alloc));
+        self.ast = ast.with_rows();
+    }
+
     /// Adds the selectors of a text, a list of them with commas, under an id. Several texts may have one id.
     ///
     /// # Errors
@@ -101,6 +115,7 @@ impl MatcherBuilder {
     pub fn add(&mut self, id: MatchId, text: &str) -> Result<(), AddError>
         ensures added { OnOk result (Adds id text.now self.old.ast self.new.ast) }
         ensures refused { IfErr result (λ error. Refuses id text.now error self.old.ast self.new.ast) }
+        ensures rows { is_with_rows self.new.ast ≡ is_with_rows self.old.ast }
         ensures rest { self.new ≡ record self.old { ast = self.new.ast } }
     {
         add_text(self.alloc, &mut self.ast, id, text)

@@ -6,7 +6,7 @@ ghost use Rattle.lol_matcher.specs.Keeping.{ForHandedTag, ForTag, IsCharged, IsH
 ghost use Rattle.lol_matcher.specs.Refusing.{IsRefusedFor, refusal_after};
 ghost use Rattle.lol_vm.specs.Answers.{document};
 ghost use Rattle.lol_vm.specs.FreeTags.{AreFlat};
-ghost use Rattle.lol_vm.specs.Vms.{HasOpen, IsTriedAtMost, data_in, slot_bytes, tries_in};
+ghost use Rattle.lol_vm.specs.Vms.{HasOpen, IsTriedAtMost, data_in, slot_bytes, tries_in, NeedsRest};
 
 use crate::error::MatcherError;
 use crate::laws::run_laws;
@@ -37,8 +37,8 @@ pub(crate) fn hand_tag<T: Drop>(
         data_in vm.new ≡ data_in vm.old)) }
     ensures still_open { OnErr result (ForTag vm.old limiter.old name.now ns (λ s esi events tag.
         HasOpen vm.new (document s esi events).open_elements)) }
-    ensures tried { ForTag vm.old limiter.old name.now ns (λ s esi events tag.
-        IsTriedAtMost s esi events tag (tries_in vm.new)) }
+    ensures tried { ForTag vm.old limiter.old name.now ns (λ s esi events tag. NeedsRest s aux_info.entry tag
+        → IsTriedAtMost s esi events tag (tries_in vm.new)) }
     ensures charged { IsCharged vm.old limiter.old → IsCharged vm.new limiter.new }
     ensures bytes { slot_bytes vm.new ≡ slot_bytes vm.old }
     ensures maximum { limiter.new.maximum ≡ limiter.old.maximum }

@@ -83,7 +83,7 @@ impl<T: Drop> Drop for Matcher<T> {
 
 impl Matcher {
     ghost use Rattle.std.specs.Prelude.{◌≡◌, [], false};
-    ghost use Rattle.lol_program.specs.Asts.{pairs_of, nodes_of};
+    ghost use Rattle.lol_program.specs.Asts.{is_with_rows, pairs_of, nodes_of};
 
     /// A builder with no selectors, no bound on memory, 64 bytes for each open element, and ESI's names as others.
     pub fn builder(alloc: Global) -> MatcherBuilder
@@ -92,6 +92,7 @@ impl Matcher {
         ensures memory { result.max_memory ≡ usize.MAX }
         ensures bytes { result.element_bytes ≡ 64 }
         ensures esi { result.esi ≡ false }
+        ensures rows { is_with_rows result.ast ≡ false }
     {
         MatcherBuilder::new(alloc)
     }

@@ -3,6 +3,7 @@
 ghost use Rattle.std.specs.Prelude.{◌≡◌, Ok, Err, IfErr, IfOk, OnOk};
 ghost use Rattle.lol_css.specs.Accepting.{accept};
 ghost use Rattle.lol_css.specs.TreeViews.{list_of};
+ghost use Rattle.lol_program.specs.Asts.{is_with_rows};
 ghost use Rattle.lol_matcher.specs.Building.{Adds, IsRefused, Refuses};
 
 use crate::error::AddError;
@@ -21,6 +22,7 @@ pub(crate) fn add_text(
 ) -> Result<(), AddError>
     ensures added { OnOk result (Adds id text.now ast.old ast.new) }
     ensures refused { IfErr result (λ error. Refuses id text.now error ast.old ast.new) }
+    ensures rows { is_with_rows ast.new ≡ is_with_rows ast.old }
 {
     let selector = read_selector(alloc, text)?;
     match ast.add_selector(&selector, id) {

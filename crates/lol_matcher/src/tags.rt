@@ -11,7 +11,7 @@ ghost use Rattle.lol_matcher.specs.Answering.{last_value, with_value};
 ghost use Rattle.lol_matcher.specs.Refusing.{IsRefusedFor, refusal_after};
 ghost use Rattle.lol_vm.specs.Events.{Event, End, has_content};
 ghost use Rattle.lol_vm.specs.FreeTags.{AreFlat, RunsWithoutMemory};
-ghost use Rattle.lol_vm.specs.Vms.{HasOpen, IsPending, IsTriedAtMost, data_in, open_after, slot_bytes, tries_in};
+ghost use Rattle.lol_vm.specs.Vms.{HasOpen, IsPending, IsTriedAtMost, data_in, open_after, slot_bytes, tries_in, NeedsRest};
 
 use crate::error::MatcherError;
 use crate::laws::{data_laws, run_laws};
@@ -108,7 +108,8 @@ pub(crate) fn finish_tag<T: Drop>(
     ensures unchanged { OnErr result (data_in vm.new ≡ data_in vm.old) }
     ensures still_open { OnErr result (KeepsOpen vm.old vm.new) }
     ensures tried { (s : Selectors) (esi : Bool) (events : List Event) (tag : StartTag)
-        → IsPending ids_of s esi events tag vm.old request → IsTriedAtMost s esi events tag (tries_in vm.new) }
+        → IsPending ids_of s esi events tag vm.old request → NeedsRest s aux_info.entry tag
+        → IsTriedAtMost s esi events tag (tries_in vm.new) }
     ensures charged { IsCharged vm.old limiter.old → IsCharged vm.new limiter.new }
     ensures bytes { slot_bytes vm.new ≡ slot_bytes vm.old }
     ensures maximum { limiter.new.maximum ≡ limiter.old.maximum }

@@ -97,12 +97,12 @@ returns-in-Err-Failed-clause-refused g c = λ s esi events tag runs named spaced
     absurd (true≢false (sym (c.exec_for_whole_start_tag.ensures.failed.exactly.0 (c.in-Err-Failed.is ∙ ap Err c.in-Err-Failed.field-0-is)) ∙ hasnt_failed s esi c.args.vm.now events runs.stands))
 
 pub returns-then-matches-clause-tried : goal.returns-then-matches-clause-tried
-returns-then-matches-clause-tried g c = λ s esi events tag runs named spaced.
-    tried_on s esi events tag c.clear_opened-opened.ensures.running (c.exec_for_whole_start_tag.ensures.tried s esi events tag runs.stands (c.new-local_name.ensures ∙ ap local_name (sym named), spaced))
+returns-then-matches-clause-tried g c = λ s esi events tag runs named spaced rest.
+    tried_on s esi events tag c.clear_opened-opened.ensures.running (c.exec_for_whole_start_tag.ensures.tried s esi events tag runs.stands (c.new-local_name.ensures ∙ ap local_name (sym named), spaced) rest)
 
 pub returns-else-matches-clause-tried : goal.returns-else-matches-clause-tried
-returns-else-matches-clause-tried g c = λ s esi events tag runs named spaced.
-    tried_on s esi events tag c.clear_opened-opened.ensures.running (c.exec_for_whole_start_tag.ensures.tried s esi events tag runs.stands (c.new-local_name.ensures ∙ ap local_name (sym named), spaced))
+returns-else-matches-clause-tried g c = λ s esi events tag runs named spaced rest.
+    tried_on s esi events tag c.clear_opened-opened.ensures.running (c.exec_for_whole_start_tag.ensures.tried s esi events tag runs.stands (c.new-local_name.ensures ∙ ap local_name (sym named), spaced) rest)
 
 pub returns-else-matches-clause-charged : goal.returns-else-matches-clause-charged
 returns-else-matches-clause-charged g c = charged_after c.exec_for_whole_start_tag.ensures.charges c.clear_opened-opened.ensures.running
@@ -121,3 +121,15 @@ returns-in-Err-CounterFull-clause-still_open g c = λ s esi events tag runs name
 pub returns-in-Err-Memory-clause-still_open : goal.returns-in-Err-Memory-clause-still_open
 returns-in-Err-Memory-clause-still_open g c = λ s esi events tag runs named spaced.
     c.in-Err-Memory.ensures.left.still_open (_, c.new-local_name.ensures) _ (c.run_laws.ensures.has_open s esi c.args.vm.now events runs.stands)
+
+pub returns-in-Err-MemoryLimitExceeded-clause-tried : goal.returns-in-Err-MemoryLimitExceeded-clause-tried
+returns-in-Err-MemoryLimitExceeded-clause-tried g c = λ s esi events tag runs named spaced rest.
+    c.exec_for_whole_start_tag.ensures.tried s esi events tag runs.stands (c.new-local_name.ensures ∙ ap local_name (sym named), spaced) rest
+
+pub returns-in-Err-CounterFull-clause-tried : goal.returns-in-Err-CounterFull-clause-tried
+returns-in-Err-CounterFull-clause-tried g c = λ s esi events tag runs named spaced rest.
+    c.exec_for_whole_start_tag.ensures.tried s esi events tag runs.stands (c.new-local_name.ensures ∙ ap local_name (sym named), spaced) rest
+
+pub returns-in-Err-Memory-clause-tried : goal.returns-in-Err-Memory-clause-tried
+returns-in-Err-Memory-clause-tried g c = λ s esi events tag runs named spaced rest.
+    c.exec_for_whole_start_tag.ensures.tried s esi events tag runs.stands (c.new-local_name.ensures ∙ ap local_name (sym named), spaced) rest

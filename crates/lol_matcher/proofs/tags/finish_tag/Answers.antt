@@ -56,9 +56,9 @@ returns-in-Err-Memory-clause-refused g c = λ s esi events tag past pending rest
     refused_for_memory s esi charged tag room (λ free opening limited. c.finish_start_tag.ensures.due _ is limited s esi events tag pending free)
 
 pub returns-then-matches-clause-tried : goal.returns-then-matches-clause-tried
-returns-then-matches-clause-tried g c = λ s esi events tag pending.
-    tried_on s esi events tag c.clear_opened-opened.ensures.running (c.finish_start_tag.ensures.tried s esi events tag pending)
+returns-then-matches-clause-tried g c = λ s esi events tag pending rest.
+    tried_on s esi events tag c.clear_opened-opened.ensures.running (c.finish_start_tag.ensures.tried s esi events tag pending rest)
 
 pub returns-else-matches-clause-tried : goal.returns-else-matches-clause-tried
-returns-else-matches-clause-tried g c = λ s esi events tag pending.
-    tried_on s esi events tag c.clear_opened-opened.ensures.running (c.finish_start_tag.ensures.tried s esi events tag pending)
+returns-else-matches-clause-tried g c = λ s esi events tag pending rest.
+    tried_on s esi events tag c.clear_opened-opened.ensures.running (c.finish_start_tag.ensures.tried s esi events tag pending rest)

@@ -39,7 +39,7 @@ module _ (g : given.Over) (c : After-finish_tag g) where
   pending = waits.pending tag refl refl
 
   tried : IsTriedAtMost (selectors t.ast) t.esi t.events tag (tries_in c.finish_tag.new.vm)
-  tried = c.finish_tag.ensures.tried (selectors t.ast) t.esi t.events tag pending
+  tried = c.finish_tag.ensures.tried (selectors t.ast) t.esi t.events tag pending (λ by_keys. (refl, refl, refl))
 
   abbrev IsAnswered : Finished → Type 0
   IsAnswered answer = IsFinished (selectors t.ast) t.esi t.events tag answer c.finish_tag.new.matches.items.items (allowed c.self.inside.vm c.self.inside.limiter) c.self.inside.vm c.finish_tag.new.vm c.finish_tag.new.limiter

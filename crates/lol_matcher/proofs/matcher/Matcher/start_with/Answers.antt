@@ -27,7 +27,7 @@ module _ (g : given.Over) (c : After-hand_tag g) where
   runs = c.self.invariant.runs c.if-self.false
 
   tried : IsTriedAtMost (selectors t.ast) t.esi (heard t) tag (tries_in c.hand_tag.new.vm)
-  tried = c.hand_tag.ensures.tried (selectors t.ast) t.esi (heard t) tag runs refl refl
+  tried = c.hand_tag.ensures.tried (selectors t.ast) t.esi (heard t) tag runs refl refl (λ by_keys. (refl, refl, refl))
 
   has_open : Runs (selectors t.ast) t.esi (heard (handed_told t tag)) c.hand_tag.new.vm c.hand_tag.new.limiter → HasOpen c.hand_tag.new.vm (elements_of (handed_told t tag))
   has_open on = c.run_laws.ensures.has_open (selectors t.ast) t.esi c.hand_tag.new.vm (heard (handed_told t tag)) on.stands
