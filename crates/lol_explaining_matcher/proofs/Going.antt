@@ -11,6 +11,7 @@ use Rattle.lol_instructions.specs.Tries.{names_counted, attributes_counted}
 use Rattle.lol_instructions.specs.declared.tries.Tries.{Tries}
 use Rattle.lol_memory.specs.declared.match_info.MatchInfo.{MatchInfo}
 use Rattle.lol_program.specs.declared.ast.Ast.{Ast}
+use Rattle.lol_program.specs.Asts.{is_with_rows}
 use Rattle.lol_program.specs.ClosedLaws.{trees_are_closed}
 use Rattle.lol_program.specs.PairNodeLaws.{nodes_of-AreNodes}
 use Rattle.lol_program.specs.Paths.{Path, Selectors, all_beginnings}
@@ -312,7 +313,7 @@ module _ {T : Type 0} (laws : LawsHold) (texts : List Text) (explainer : Explain
         goes_on told_tag same content =
             subst (λ (m : Matching T). Explains texts explainer (with_report_of (items_of explainer) m (with_event notes)) m) (sym as_told)
             (explains_reported laws texts explainer (with_told told old new) was.holds was.nodes (with_event notes) ok (heard t) told_tag (ap (λ event. heard t ++ event ∷ []) same) goes.unfailed refl refl _
-            (ap (answer s t.esi d) (sym same) ∙ (laws.told_alike s (trees_are_closed t.ast) t.esi d (Start tag) ∙ is)) (opens.opened ∙ content)
+            (ap (answer s t.esi d) (sym same) ∙ (laws.told_alike s (trees_are_closed (is_with_rows t.ast) t.ast) t.esi d (Start tag) ∙ is)) (opens.opened ∙ content)
             (λ few. goes.numbered (few_before told _ refl few)) (λ few. next_counted told _ refl few))
 
         by_asked : (asked : Bool) → is_asked_for s t.esi (heard t) tag ≡ asked → Explains texts explainer (with_report_of (items_of explainer) new (with_event notes)) new
@@ -427,8 +428,8 @@ values_explain {T} texts explainer notes old new is was = subst (Explains texts 
 
 -- a matcher that was told of nothing yet
 pub first_explains : {T : Type 0} (laws : LawsHold) (texts : List Text) (old explainer : Explainer) (m : Matching T) (b : Building) (tries : Tries)
-    → HoldsItems (added_by texts) (record { ast = m.told.ast; explainer = old }) → items_of explainer ≡ items_of old → m ≡ started_with b tries → Explains texts explainer nothing_noted m
-first_explains {T} laws texts old explainer m b tries holds same is = record {
+    → HoldsItems (added_by texts) (record { ast = m.told.ast; explainer = old }) → items_of explainer ≡ items_of old → m ≡ started_with b tries → is_with_rows m.told.ast ≡ false → Explains texts explainer nothing_noted m
+first_explains {T} laws texts old explainer m b tries holds same is rows = record {
   holds = record { tree = holds.tree; nodes = holds.nodes; explainer = same ∙ holds.explainer };
   nodes = nodes;
   goes = λ ok. goes;
@@ -451,7 +452,7 @@ first_explains {T} laws texts old explainer m b tries holds same is = record {
     nodes =
         let are = nodes_of-AreNodes (plain_selectors texts).pairs in
         laws.numbers_change_no_node texts (record { ast = m.told.ast; explainer = old }) holds (plain_selectors texts)
-        (subst (λ (ps : List (Path × ℕ)). SameMembers (plain_selectors texts).nodes (all_beginnings ps)) (sym (laws.pairs_are_added texts)) (λ x. ((are.members x).1, (are.members x).0))) are.each_once
+        (subst (λ (ps : List (Path × ℕ)). SameMembers (plain_selectors texts).nodes (all_beginnings ps)) (sym (laws.pairs_are_added texts)) (λ x. ((are.members x).1, (are.members x).0))) are.each_once (sym rows)
 
 pub tree_holds : {T : Type 0} (added : List Added) (m : Matching T) (b settings : Building) (tries : Tries) (ast : Ast) (explainer : Explainer) → m ≡ started_with b tries → b ≡ record settings { ast = ast }
     → HoldsItems added (record { ast = ast; explainer = explainer }) → (m.told.ast ≡ ast) × HoldsItems added (record { ast = m.told.ast; explainer = explainer })

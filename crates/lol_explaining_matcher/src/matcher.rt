@@ -71,6 +71,7 @@ impl<T: Drop> ExplainingMatcher<T> {
     ghost use Rattle.lol_vm.specs.Views.{match_of};
     ghost use Rattle.lol_vm.specs.Vms.{open_after};
     ghost use Rattle.lol_explaining_matcher.specs.Explaining.{AreNumbered, ReportsFor, reasons_told, with_end, with_last};
+    ghost use Rattle.lol_program.specs.Asts.{is_with_rows};
     ghost use Rattle.lol_explaining_matcher.specs.Plain.{FinishesPlainly, HasOpenPlainly, HasTries, IsHandedPlainly, RefusesPlainly, RefusesStartPlainly, StartsPlainly, last_answer, last_opens, matches_in, plain_reasons};
 
     /// An explaining matcher of the items of texts, and of what explains them.
@@ -82,6 +83,7 @@ impl<T: Drop> ExplainingMatcher<T> {
     ) -> Result<Self, NumberingError>
         requires holds { HoldsItems (added_by (texts_in texts))
             (record { ast = matcher.told.ast; explainer = explainer }) }
+        requires rows { is_with_rows matcher.told.ast ≡ false }
         requires started { (b : Building) × (tries : Tries) × (matcher ≡ started_with b tries) }
         ensures made { IfOk result (λ made. made
             ≡ record { texts = texts; items = matcher; failed = false; matched = [] }) }

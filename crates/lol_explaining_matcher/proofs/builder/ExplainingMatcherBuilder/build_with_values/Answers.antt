@@ -1,4 +1,5 @@
 use Rattle.std.proofs.Common.{refl, sym, ap, ◌∙◌, subst}
+use Rattle.lol_program.specs.Asts.{is_with_rows}
 use Rattle.lol_matcher.specs.Building.{Building, started_with}
 use Rattle.lol_reasons.specs.Explanations.{added_by}
 use Rattle.lol_reasons.specs.Numbered.{texts_in}
@@ -12,6 +13,11 @@ new-requires-clause-holds g c =
 
 pub new-requires-clause-started : goal.new-requires-clause-started
 new-requires-clause-started g c = (c.set_tree.new.self, c.in_ok-matcher.matcher.tries, c.in_ok-matcher.ensures.told)
+
+pub new-requires-clause-rows : goal.new-requires-clause-rows
+new-requires-clause-rows g c =
+    ap is_with_rows (tree_holds (added_by (texts_in c.self.inside.texts)) c.in_ok-matcher.matcher c.set_tree.new.self c.self.inside.settings c.in_ok-matcher.matcher.tries _ c.in_ok-ast.field-0.explainer c.in_ok-matcher.ensures.told c.set_tree.ensures c.in_ok-ast.ensures.numbered).0
+    ∙ c.in_ok-ast.ensures.rows
 
 pub returns-clause-ok : goal.returns-clause-ok
 returns-clause-ok g c =

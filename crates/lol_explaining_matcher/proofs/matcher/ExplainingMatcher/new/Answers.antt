@@ -8,4 +8,4 @@ use Rattle.lol_explaining_matcher.proofs.matcher.ExplainingMatcher.new.Goals as 
 pub invariant_of-result : goal.invariant_of-result
 invariant_of-result g c =
     subst (λ (notes : Noting). Explains (texts_in c.args.texts) c.index.new.self notes c.args.matcher) (sym c.new.ensures)
-    (first_explains c.plain_laws.ensures (texts_in c.args.texts) c.args.explainer c.index.new.self c.args.matcher (c.requires.started).0 (c.requires.started).1 c.requires.holds c.index.ensures (c.requires.started).2)
+    (first_explains c.plain_laws.ensures (texts_in c.args.texts) c.args.explainer c.index.new.self c.args.matcher (c.requires.started).0 (c.requires.started).1 c.requires.holds c.index.ensures (c.requires.started).2 c.requires.rows)
