@@ -538,6 +538,40 @@ def all_by_names(tests: tuple, element: Element) -> Optional[bool]:
     return False if False in values else OPEN if OPEN in values else True
 
 
+# Keys: what a tag must have for its element to pass a compound. No test inside `:not`, `:is` or `:where` is one.
+
+
+class Keys(NamedTuple):
+    """A name in lower case; an id, else a class, else an attribute's name, each as a test; and whether the value by names is known to be
+    open at each element of the name."""
+
+    name: Optional[bytes]
+    attribute: Optional[tuple]
+    opens: bool
+
+
+def attribute_key(test: tuple) -> Optional[tuple]:
+    """The test of an id, a class or an attribute that a test of attributes asks for. A comparison that its empty operand makes false
+    asks for none."""
+    if test[0] in ("id", "class", "attribute"):
+        return test
+    _, name, operator, operand, _ = test
+    return None if operator not in ("=", "|=") and operand == b"" else ("attribute", name)
+
+
+def is_of_attributes(test: tuple) -> bool:
+    return test[0] not in ("none", "some", "any name", "no name", "name", "place", "typed place")
+
+
+def keys_of(tests: tuple) -> Keys:
+    names = [test[1].lower() for test in tests if test[0] == "name"]
+    others = [test for test in tests if test[0] not in ("name", "any name")]
+    asked = [key for test in others if is_of_attributes(test) and (key := attribute_key(test))]
+    key = next((key for kind in ("id", "class", "attribute") for key in asked if key[0] == kind), None)
+    opens = bool(others) and all(map(is_of_attributes, others)) and len(names) < 2
+    return Keys(names[0] if names else None, key, opens)
+
+
 # Documents and answers
 
 GREATEST_COUNT = 2147483647
@@ -552,6 +586,7 @@ class Document:
         self.open = [Element(StartTag(b"", "", [], False, True), 0, 0, 0)]
         self.slots = 0
         self.paths = list(script.selectors.nodes)
+        self.keys = [keys_of(path.tests) for path in self.paths]
 
     def element_of(self, event: int, tag: StartTag) -> Element:
         """The element of a start tag that comes now, a child of the innermost open one (Selectors 4, 13.3, 13.4)."""
@@ -599,6 +634,15 @@ class Document:
                     lines.append(f"why\t{identifier}\t{number}\t{item}\t{passed}")
         return lines
 
+    def looked_at(self, tried: list, element: Element) -> list:
+        """Of the nodes that are tried, those that keys don't rule out: by the name, and where attributes are asked for before any node is
+        tried, by these."""
+        named = [(node, tests) for node, tests in tried if self.keys[node].name in (None, element.tag.name.lower())]
+        if element.tag.namespace == "html" and not any(self.keys[node].opens for node, _ in named):
+            return named
+        keys = ((node, tests, self.keys[node].attribute) for node, tests in named)
+        return [(node, tests) for node, tests, key in keys if key is None or attribute_holds(key, element)]
+
     def answer_start(self, event: int, tag: StartTag) -> list[str]:
         """The lines of a start tag: of its report, its tries, and whether attributes were asked for; and of the reasons."""
         element, outer = self.element_of(event, tag), self.open[:]
@@ -614,6 +658,9 @@ class Document:
             self.open_element(element, matching)
         report = sorted({identifier for node, identifier in pairs if node in matching})
         line = "start\t" + listed(f"{identifier}" if content else f"{identifier}/" for identifier in report)
+        if self.script.rows:
+            tried = self.looked_at(tried, element)
+            needing = [node for node, tests in tried if all_by_names(tests, element) is OPEN]
         tries = f"\ttries {len(tried)} {len(needing)}" if self.script.tries else ""
         reasons = self.reasons(element, outer, matching) if self.script.explain else []
         return [line + ("\tasked" if asked else "") + tries] + reasons
@@ -643,6 +690,7 @@ class Script:
     esi: bool = False
     tries: bool = False
     explain: bool = False
+    rows: bool = False
     selects: list = field(default_factory=list)  # for each line its number, its id and the numbers of its items' paths
     selectors: Selectors = field(default_factory=Selectors)
     tags: list = field(default_factory=list)
@@ -662,6 +710,8 @@ class Script:
                 self.tries = True
             case [b"explain"]:
                 self.explain = True
+            case [b"rows"]:
+                self.rows = True
             case [b"limit", limit]:
                 self.limit = number(limit, 2**64 - 1, "form")
             case [b"select", identifier, _, *_]:
