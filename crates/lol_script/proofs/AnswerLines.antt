@@ -43,8 +43,9 @@ same_selectors code s reading =
     record {
       pairs = reading.pairs;
       nodes = λ node. (λ h. (are.members node).1 ((reading.nodes node).0 h), λ h. (reading.nodes node).1 ((are.members node).0 h));
-      each_once = (trees_are_closed code.ast).once;
+      each_once = (trees_are_closed false code.ast).once;
       each_once' = are.each_once;
+      mode = reading.rows;
     }
 
 -- 1. What is written for each event

@@ -55,7 +55,7 @@ module _ (s : Selectors) (esi : Bool) where
       → is_dropped s (element_of d tag) d.open_elements ≡ false
   undropped d tag matched asked names attributes same = by_drop (is_dropped s (element_of d tag) d.open_elements) same
     where
-      by_drop : (b : Bool) → Started matched asked names attributes ≡ (if b then Dropped else Started (report s esi (element_of d tag) d.open_elements) (asks s (element_of d tag) d.open_elements) (name_tries s.nodes d.open_elements) (attribute_tries s.nodes (element_of d tag) d.open_elements)) → b ≡ false
+      by_drop : (b : Bool) → Started matched asked names attributes ≡ (if b then Dropped else Started (report s esi (element_of d tag) d.open_elements) (asks s (element_of d tag) d.open_elements) (name_tries s (element_of d tag) d.open_elements) (attribute_tries s (element_of d tag) d.open_elements)) → b ≡ false
       by_drop false h = refl
       by_drop true h = cc
 
@@ -63,7 +63,7 @@ module _ (s : Selectors) (esi : Bool) where
   pub dropped : (d : Document) (tag : StartTag) → Dropped ≡ answer s esi d (Start tag) → is_dropped s (element_of d tag) d.open_elements ≡ true
   dropped d tag same = by_drop (is_dropped s (element_of d tag) d.open_elements) same
     where
-      by_drop : (b : Bool) → Dropped ≡ (if b then Dropped else Started (report s esi (element_of d tag) d.open_elements) (asks s (element_of d tag) d.open_elements) (name_tries s.nodes d.open_elements) (attribute_tries s.nodes (element_of d tag) d.open_elements)) → b ≡ true
+      by_drop : (b : Bool) → Dropped ≡ (if b then Dropped else Started (report s esi (element_of d tag) d.open_elements) (asks s (element_of d tag) d.open_elements) (name_tries s (element_of d tag) d.open_elements) (attribute_tries s (element_of d tag) d.open_elements)) → b ≡ true
       by_drop true h = refl
       by_drop false h = cc
 
@@ -75,7 +75,7 @@ module _ (s : Selectors) (esi : Bool) where
   pub reported : (d : Document) (tag : StartTag) (matched : List Match) (asked : Bool) (names attributes : ℕ) → Started matched asked names attributes ≡ answer s esi d (Start tag)
       → matched ≡ report s esi (element_of d tag) d.open_elements
   reported d tag matched asked names attributes same =
-      ap matched_in same ∙ ap (λ (b : Bool). matched_in (if b then Dropped else Started (report s esi (element_of d tag) d.open_elements) (asks s (element_of d tag) d.open_elements) (name_tries s.nodes d.open_elements) (attribute_tries s.nodes (element_of d tag) d.open_elements))) (undropped d tag matched asked names attributes same)
+      ap matched_in same ∙ ap (λ (b : Bool). matched_in (if b then Dropped else Started (report s esi (element_of d tag) d.open_elements) (asks s (element_of d tag) d.open_elements) (name_tries s (element_of d tag) d.open_elements) (attribute_tries s (element_of d tag) d.open_elements))) (undropped d tag matched asked names attributes same)
 
 -- 3. Content
 

@@ -1,10 +1,10 @@
 -- What the code has read of a script.
-use Rattle.std.specs.Prelude.{◌≡◌, ℕ, true, List, [], ◌++◌, Option, Some, Result, Ok, Err}
+use Rattle.std.specs.Prelude.{◌≡◌, ℕ, true, false, List, [], ◌++◌, Option, Some, Result, Ok, Err}
 use Rattle.std.specs.Io.KnownBytes.{IsAtEnd}
 use Rattle.lol_css.specs.Accepting.{accept}
 use Rattle.lol_css.specs.Trees.{Items}
 use Rattle.lol_program.specs.Paths.{all_beginnings}
-use Rattle.lol_program.specs.Asts.{pairs_of, nodes_of}
+use Rattle.lol_program.specs.Asts.{pairs_of, nodes_of, is_with_rows}
 use Rattle.lol_program.specs.Conditions.{pairs_under}
 use Rattle.lol_program.specs.Sets.{Joins, SameMembers}
 use Rattle.lol_program.specs.declared.ast.Ast.{Ast}
@@ -22,7 +22,8 @@ use Rattle.lol_script.specs.declared.settings.Stop.TheVariants.{Fault, Bad}
 
 -- 1. Settings
 
--- The code has these settings and lines, and its tree has these pairs and their beginnings, as sets; no tag was read.
+-- The code has these settings and lines, and its tree, which is without rows, has these pairs and their beginnings, as sets; no tag
+-- was read.
 pub record IsReading (code : Settings) (s : Script) : Type 0 where
   pub limit : code.limit ≡ s.limit
   pub esi : code.esi ≡ s.esi
@@ -30,6 +31,7 @@ pub record IsReading (code : Settings) (s : Script) : Type 0 where
   pub explains : code.explains ≡ s.explains
   pub pairs : SameMembers (pairs_in s) (pairs_of code.ast)
   pub nodes : SameMembers (all_beginnings (pairs_in s)) (nodes_of code.ast)
+  pub rows : is_with_rows code.ast ≡ false
   pub selects : KeepsLines code.selects s.selects
   pub none : s.events ≡ []
 
@@ -47,6 +49,7 @@ pub record AddsSelectors (text : List ℕ) (id : ℕ) (old new : Ast) : Type 0 w
   pub read : accept text ≡ Ok items
   pub pairs : Joins (pairs_of old) (pairs_of new) (pairs_under id items)
   pub nodes : Joins (nodes_of old) (nodes_of new) (all_beginnings (pairs_under id items))
+  pub rows : is_with_rows new ≡ is_with_rows old
 
 -- a bad line is that of the definition; else memory was refused
 abbrev pub Stops : Stop → Result Script BadLine → Type 0

@@ -24,7 +24,7 @@ returns c = λ s keeps.
       known = holds.explainer;
       items = holds.tree;
       nodes = c.numbers_change_reports_alone.ensures.nodes (texts_in s) numbering holds (selectors_in s)
-          (subst (λ (ps : List (Path × ℕ)). SameMembers (selectors_in s).nodes (all_beginnings ps)) (sym pairs) (λ x. ((are.members x).1, (are.members x).0))) are.each_once;
+          (subst (λ (ps : List (Path × ℕ)). SameMembers (selectors_in s).nodes (all_beginnings ps)) (sym pairs) (λ x. ((are.members x).1, (are.members x).0))) are.each_once (sym c.in-Ok.ensures.rows);
       lines = c.in_ok-numbers.ensures ∙ (ap (map (λ (l : code.KeptLine). l.number)) keeps.1.lengths
           ∙ (sym (map_through (λ (l : code.KeptLine). l.number) with_length kept) ∙ keeps.2.numbers));
     }
