@@ -1,9 +1,9 @@
 -- How far a start tag is tried before its attributes are handed over.
-use Rattle.std.specs.Prelude.{ℕ, ◌≡◌, ◌<◌, ◌^◌, Bool, true, false, List, length, Option, Some, None, Result, Ok, IfOk, IsOk}
+use Rattle.std.specs.Prelude.{ℕ, ◌≡◌, ◌<◌, ◌^◌, ◌⊎◌, Bool, true, false, List, length, Option, Some, None, Result, Ok, IfOk, IsOk}
 use Rattle.std.specs.declared.ops.Range.{Range}
 use Rattle.lol_program.specs.Programs.{all_places}
 use Rattle.lol_program.specs.ProgramViews.{HasItsRows, has_rows}
-use Rattle.lol_vm.specs.SparedRuns.{HasRoom, HasRoomFor, opens_at_once, ranges_by_name}
+use Rattle.lol_vm.specs.SparedRuns.{HasRoom, HasRoomFor, opens_at_once, ranges_after, ranges_by_name}
 use Rattle.std.specs.declared.alloc.AllocError.{AllocError}
 use Rattle.lol_base.specs.LocalNames.{Name}
 use Rattle.lol_base.specs.StartTags.{StartTag}
@@ -19,7 +19,8 @@ use Rattle.lol_stack.specs.declared.stack.StackNames.{StackNames}
 use Rattle.lol_stack.specs.declared.stack.StackOf.{StackOf}
 use Rattle.lol_vm.specs.Events.{has_content}
 use Rattle.lol_vm.specs.InstructionRuns.{AreRunnable, NeedNoMemory}
-use Rattle.lol_vm.specs.TagRuns.{AreTried, AreWithin, sight_in}
+use Rattle.lol_vm.specs.TagRuns.{AreExecuted, AreTried, AreWithin, IsPointIn, ranges_left, sight_in, tried_at}
+use Rattle.lol_instructions.specs.Attributes.{TagAttributes}
 use Rattle.lol_vm.specs.Vms.{IsTagOf, Vm, instructions_in, ranges_to_try}
 use Rattle.lol_vm.specs.declared.error.AuxStartTagInfoRequest.{AuxStartTagInfoRequest}
 use Rattle.lol_vm.specs.declared.tag_runs.RecoveryPoint.{RecoveryPoint}
@@ -73,6 +74,10 @@ module _ {E R : Type 0} (ids : E → Ids) (with_ids : E → Ids → E) (old new 
   IsTried tag = IsTriedAs (is_html tag.namespace) (has_content old.enable_esi_tags tag)
 
 module _ {E : Type 0} where
+  -- what a start tag that stopped at a point is run through, once its attributes are there
+  abbrev pub ranges_to_complete : Vm E → ExecutionCtx E → RecoveryPoint → TagAttributes → List (Range ℕ)
+  ranges_to_complete vm ctx point seen = ranges_after vm.program ctx.stack_item.local_name.lowercased seen (ranges_to_try vm) point
+
   -- nothing is known of a start tag but its name and namespace
   abbrev pub IsNewContext : (E → Ids) → ExecutionCtx E → Type 0
   IsNewContext ids ctx = IsNewItem ids ctx.stack_item.local_name ctx.stack_item × (ctx.with_content ≡ true)
@@ -80,6 +85,16 @@ module _ {E : Type 0} where
   -- the request for the rest of a start tag that stopped at a point
   abbrev pub left_at : ExecutionCtx E → RecoveryPoint → AuxStartTagInfoRequest E
   left_at ctx point = record { ctx = ctx; point = point }
+
+-- What is left of a start tag that stopped at a point was run with attributes.
+pub record IsCompleted {E R : Type 0} (ids : E → Ids) (with_ids : E → Ids → E) (old new : Vm E) (ctx next : ExecutionCtx E) (point : RecoveryPoint) (seen : TagAttributes) (result : Result (Unit {0}) R) : Type 0 where
+  pub executed : HasItsRows old.program → IsPointIn (instructions_in old) (ranges_to_complete old ctx point seen) point
+      → AreRunnable (instructions_in old) (ranges_left (ranges_to_complete old ctx point seen) point) old.tries
+      → IfOk result (λ done. AreExecuted ids with_ids (sight_in old.stack ctx.stack_item.local_name) (instructions_in old) (ranges_left (ranges_to_complete old ctx point seen) point) ctx next old.tries new.tries seen (tried_at point))
+  pub within : HasItsRows old.program → IsPointIn (instructions_in old) (ranges_to_complete old ctx point seen) point
+      → AreRunnable (instructions_in old) (ranges_left (ranges_to_complete old ctx point seen) point) old.tries
+      → (new.tries ≡ old.tries) ⊎ AreWithin (sight_in old.stack ctx.stack_item.local_name) (instructions_in old) (ranges_left (ranges_to_complete old ctx point seen) point) old.tries new.tries (tried_at point)
+  pub free : HasItsRows old.program → (has_rows old.program ≡ true → HasRoomFor old.space (length (all_places (ranges_to_try old)))) → NeedNoMemory ctx.with_content (instructions_in old) → IsOk result
 
 -- A start tag was counted, and tried by its name.
 pub record IsBegun {E : Type 0} (ids : E → Ids) (with_ids : E → Ids → E) (old new : Vm E) (ctx next : ExecutionCtx E) (stopped : Option RecoveryPoint) : Type 0 where

@@ -1,9 +1,8 @@
 //! Running what a start tag is run through: the entry points, the last open element's jumps, and the active hereditary jumps.
 
-ghost use Rattle.std.specs.Prelude.{◌≡◌, ◌<◌, ◌^◌, ◌+◌, if◌then◌else◌, drop, get_or, length, IfOk, IsOk};
+ghost use Rattle.std.specs.Prelude.{◌≡◌, ◌<◌, ◌^◌, ◌+◌, drop, get_or, length, IfOk, IsOk};
 ghost use Rattle.lol_instructions.specs.Compiled.{sight};
 ghost use Rattle.lol_instructions.specs.Tries.{attributes_counted};
-ghost use Rattle.lol_program.specs.ProgramViews.{has_rows};
 ghost use Rattle.lol_stack.specs.WithRange.{no_range};
 ghost use Rattle.lol_vm.specs.Machines.{ranges_of_active};
 ghost use Rattle.lol_vm.specs.SparedRuns.{singles};
@@ -137,10 +136,29 @@ pub(crate) struct TagRun<'p> {
 }
 
 impl<'p> TagRun<'p> {
-    /// The run of a start tag of this name, which has been counted: through all that it may be run through, or where the program has rows
-    /// through what was found left.
+    /// The run of a start tag of this name, which has been counted, through all that it may be run through.
     #[inline(always)]
     pub(crate) fn new<'i: 'p, E>(
+        program: &'p Program,
+        stack: &'p Stack<E>,
+        name: &LocalName<'i>,
+        alloc: Global,
+    ) -> Self
+        ensures size { length program.now.instructions.items < 2 ^ 63 }
+        ensures instructions { result.instructions.now ≡ program.now.instructions.items }
+        ensures ranges { ranges_of result ≡ ranges_to_run_in program.now stack.now }
+        ensures sight { sight result.state name.now ≡ sight_in stack.now name.now }
+    {
+        TagRun {
+            instructions: &program.instructions,
+            ranges: TagRanges::all(program, stack),
+            state: stack.build_state(name),
+            alloc,
+        }
+    }
+
+    /// The same through what was found left.
+    pub(crate) fn left<'i: 'p, E>(
         program: &'p Program,
         stack: &'p Stack<E>,
         space: &'p RowSpace,
@@ -149,17 +167,12 @@ impl<'p> TagRun<'p> {
     ) -> Self
         ensures size { length program.now.instructions.items < 2 ^ 63 }
         ensures instructions { result.instructions.now ≡ program.now.instructions.items }
-        ensures ranges { ranges_of result ≡ (if has_rows program.now then singles space.now.left.items
-            else ranges_to_run_in program.now stack.now) }
+        ensures ranges { ranges_of result ≡ singles space.now.left.items }
         ensures sight { sight result.state name.now ≡ sight_in stack.now name.now }
     {
-        let ranges = match &program.rows {
-            None => TagRanges::all(program, stack),
-            Some(_) => TagRanges::Left(space.left()),
-        };
         TagRun {
             instructions: &program.instructions,
-            ranges,
+            ranges: TagRanges::Left(space.left()),
             state: stack.build_state(name),
             alloc,
         }

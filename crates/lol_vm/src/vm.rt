@@ -1,6 +1,6 @@
 //! The machine, tag by tag.
 
-ghost use Rattle.std.specs.Prelude.{List, Bool, Err, ℕ, ◌≡◌, ◌≤◌, ◌<◌, ◌-◌, ◌*◌, ◌↔◌, ◌⊎◌, ◌++◌, ◌∷◌, [], true, false, take, drop, length, slice_get, OnOk, OnErr, Some, None, IfOk, IfErr, IsOk, IsSome, IsErrOf, IsNone};
+ghost use Rattle.std.specs.Prelude.{List, Bool, Err, ℕ, ◌≡◌, ◌≤◌, ◌<◌, ◌^◌, ◌-◌, ◌*◌, ◌↔◌, ◌⊎◌, ◌++◌, ◌∷◌, [], true, false, take, drop, length, slice_get, OnOk, OnErr, Some, None, IfOk, IfErr, IsOk, IsSome, IsErrOf, IsNone};
 ghost use Rattle.std.specs.Option.{option_copied_mut, option_map};
 ghost use Rattle.std.specs.Borrow.{sem};
 ghost use Rattle.lol_base.specs.StartTags.{StartTag, RangesAreInside};
@@ -17,7 +17,8 @@ ghost use Rattle.lol_vm.specs.FreeTags.{AreFlat, TakesNoMemory};
 ghost use Rattle.lol_vm.specs.VmErrors.{IsAskedOrFull};
 ghost use Rattle.lol_vm.specs.Due.{IsDue, IsNeverForMemory, IsAfterHandedReport, IsAfterReport, IsNeverPending, IsAfterWholeReport, IsWithinLimit};
 ghost use Rattle.lol_vm.specs.Premises.{ForAskedOf, ForEndOf, ForHandedOf, ForPending, ForRestOf, ForTagOf};
-ghost use Rattle.lol_vm.specs.TriedStarts.{IsBegun, IsNewContext, IsTried, left_at};
+ghost use Rattle.lol_program.specs.ProgramViews.{has_rows};
+ghost use Rattle.lol_vm.specs.TriedStarts.{IsBegun, IsCompleted, IsNewContext, IsTried, IsTriedByName, left_at};
 ghost use Rattle.lol_vm.specs.SparedRuns.{HasRoom};
 ghost use Rattle.lol_vm.specs.VmLending.{lends_current_of_vm};
 ghost use Rattle.lol_stack.specs.Stacks.{items_in, slots_in, item_bytes_in, list_in, last_count, IsPushed, IsSame};
@@ -324,6 +325,35 @@ impl<E: ElementData> VmOf<Program, LocalName<'static>, StackNames, E> {
             return Ok(Some(RecoveryPoint::AtOnce));
         }
         ctx.with_content = directive == StackDirective::Push;
+        if self.program.rows.is_some() {
+            return self.try_left(ctx);
+        }
+        let name = &ctx.stack_item.local_name;
+        let run = TagRun::new(&self.program, &self.stack, name, self.alloc);
+        match run.try_by_name(ctx, &mut self.tries) {
+            Ok(None) => Ok(None),
+            Ok(Some(stop)) => Ok(Some(RecoveryPoint::At(stop))),
+            Err(error) => {
+                self.failed = true;
+                Err(error)
+            }
+        }
+    }
+
+    /// Tries a start tag of HTML by its name where the program has rows: what these leave, unless they know that it needs its attributes.
+    #[inline(never)]
+    fn try_left(
+        &mut self,
+        ctx: &mut ExecutionCtx<'_, E>,
+    ) -> Result<Option<RecoveryPoint>, AllocError>
+        ensures tried { has_rows self.old.program ≡ true → IsTriedByName E.ids E.with_ids
+            self.old self.new ctx.old ctx.new result ctx.old.with_content }
+        ensures name { ctx.new.stack_item.local_name ≡ ctx.old.stack_item.local_name }
+        ensures ok { OnOk result (self.new ≡ record self.old { tries = self.new.tries; space = self.new.space }) }
+        ensures err { OnErr result
+            (self.new ≡ with_failure (record self.old { tries = self.new.tries; space = self.new.space })) }
+        ensures room { HasRoom self.old.program self.old.space → HasRoom self.old.program self.new.space }
+    {
         let name = &ctx.stack_item.local_name;
         match find_by_name(&self.program, &self.stack, name, &mut self.space) {
             Ok(false) => (),
@@ -333,7 +363,7 @@ impl<E: ElementData> VmOf<Program, LocalName<'static>, StackNames, E> {
                 return Err(error);
             }
         }
-        let run = TagRun::new(&self.program, &self.stack, &self.space, name, self.alloc);
+        let run = TagRun::left(&self.program, &self.stack, &self.space, name, self.alloc);
         match run.try_by_name(ctx, &mut self.tries) {
             Ok(None) => Ok(None),
             Ok(Some(stop)) => Ok(Some(RecoveryPoint::At(stop))),
@@ -467,18 +497,57 @@ impl<E: ElementData> VmOf<Program, LocalName<'static>, StackNames, E> {
     {
         ctx.with_content = content_in(ctx.ns, ctx.with_content, aux_info.self_closing);
         let matcher = AttributeMatcher::new(aux_info.input, aux_info.attr_buffer, ctx.ns);
-        let name = &ctx.stack_item.local_name;
-        let space = &mut self.space;
-        if let Err(error) = find_at(&self.program, &self.stack, point, name, &matcher, space) {
-            self.failed = true;
-            return Err(PushError::Memory(error));
-        }
-        let run = TagRun::new(&self.program, &self.stack, &self.space, name, self.alloc);
-        if let Err(error) = run.complete(point, &matcher, &mut ctx, &mut self.tries) {
+        if let Err(error) = self.complete(point, &matcher, &mut ctx) {
             self.failed = true;
             return Err(PushError::Memory(error));
         }
         self.answer(ctx, limiter, match_handler)
+    }
+
+    /// Runs what is left of a start tag that stopped at a point.
+    #[inline(always)]
+    fn complete(
+        &mut self,
+        point: RecoveryPoint,
+        matcher: &AttributeMatcher<'_>,
+        ctx: &mut ExecutionCtx<'_, E>,
+    ) -> Result<(), AllocError>
+        ensures completed { IsCompleted E.ids E.with_ids self.old self.new ctx.old ctx.new point matcher.now result }
+        ensures size { length self.old.program.instructions.items < 2 ^ 63 }
+        ensures name { ctx.new.stack_item.local_name ≡ ctx.old.stack_item.local_name }
+        ensures content { ctx.new.with_content ≡ ctx.old.with_content }
+        ensures kept { self.new ≡ record self.old { tries = self.new.tries; space = self.new.space } }
+        ensures room { HasRoom self.old.program self.old.space → HasRoom self.old.program self.new.space }
+    {
+        if self.program.rows.is_some() {
+            return self.complete_left(point, matcher, ctx);
+        }
+        let name = &ctx.stack_item.local_name;
+        let run = TagRun::new(&self.program, &self.stack, name, self.alloc);
+        run.complete(point, matcher, ctx, &mut self.tries)
+    }
+
+    /// The same where the program has rows.
+    #[inline(never)]
+    fn complete_left(
+        &mut self,
+        point: RecoveryPoint,
+        matcher: &AttributeMatcher<'_>,
+        ctx: &mut ExecutionCtx<'_, E>,
+    ) -> Result<(), AllocError>
+        ensures completed { has_rows self.old.program ≡ true → IsCompleted E.ids E.with_ids
+            self.old self.new ctx.old ctx.new point matcher.now result }
+        ensures size { length self.old.program.instructions.items < 2 ^ 63 }
+        ensures name { ctx.new.stack_item.local_name ≡ ctx.old.stack_item.local_name }
+        ensures content { ctx.new.with_content ≡ ctx.old.with_content }
+        ensures kept { self.new ≡ record self.old { tries = self.new.tries; space = self.new.space } }
+        ensures room { HasRoom self.old.program self.old.space → HasRoom self.old.program self.new.space }
+    {
+        let name = &ctx.stack_item.local_name;
+        let space = &mut self.space;
+        find_at(&self.program, &self.stack, point, name, matcher, space)?;
+        let run = TagRun::left(&self.program, &self.stack, &self.space, name, self.alloc);
+        run.complete(point, matcher, ctx, &mut self.tries)
     }
 
     /// Closes the last open element of a name and all inside it, and calls the handler with their data, the outermost first. Where no
