@@ -4,9 +4,11 @@ use Rattle.std.specs.Prelude.{codes, decimal, if◌then◌else◌}
 use Rattle.std.specs.List.{concat}
 use Rattle.std.proofs.lemmas.List.{append_assoc, append-nil, take_at}
 use Rattle.std.proofs.lemmas.List.Folds.{concat-append}
+use Rattle.lol_program.specs.Asts.{is_with_rows}
 use Rattle.lol_program.specs.ClosedLaws.{trees_are_closed}
 use Rattle.lol_program.specs.PairNodeLaws.{nodes_of-AreNodes}
 use Rattle.lol_program.specs.Paths.{Selectors}
+use Rattle.lol_program.specs.declared.ast.Ast.{Ast}
 use Rattle.lol_reasons.specs.Explanations.{added_by, reasons_at}
 use Rattle.lol_reasons.specs.NumberingLaws.{NodesDecideTheRest}
 use Rattle.lol_vm.specs.Answers.{Answer, after, answer, answers_from, document, document_from}
@@ -23,11 +25,11 @@ use Rattle.lol_vm.specs.declared.events.RunCause.{RunCause}
 use Rattle.lol_vm.specs.declared.events.RunCause.TheVariants.{MemoryLimitExceeded, CounterFull, Memory}
 use Rattle.lol_instructions.specs.declared.tries.Tries.{Tries}
 use Rattle.lol_script.specs.Answering.{Answers, HasRun, IsCauseOf, IsWritten, has_ended, output_for}
-use Rattle.lol_script.specs.Explaining.{Explains, IfExplained, IsNewRun, IsRunThrough, limiter_of, selectors_in}
+use Rattle.lol_script.specs.Explaining.{Explains, IfExplained, IsNewRun, IsRunThrough, limiter_of}
 use Rattle.lol_script.specs.FieldLists.{tries_shown}
 use Rattle.lol_script.specs.Output.{comma_list, lines_of, shown_answer, tries_field}
 use Rattle.lol_script.specs.Readings.{IsReading}
-use Rattle.lol_script.specs.Scripts.{Output, Script, output_of, pairs_in, reason_lines, run_output, shown_cause, text_for, texts_for, texts_in, with_event}
+use Rattle.lol_script.specs.Scripts.{Output, Script, output_of, pairs_in, reason_lines, run_output, selectors_in, shown_cause, text_for, texts_for, texts_in, with_event}
 use Rattle.lol_script.specs.SelectLines.{KeepsLines}
 use Rattle.lol_script.specs.declared.explained.Explained.{Explained}
 use Rattle.lol_script.specs.declared.program.Status.{Status}
@@ -37,7 +39,8 @@ use Rattle.lol_script.specs.declared.script_run.Answering.TheVariants as answeri
 use Rattle.lol_script.specs.declared.script_run.ScriptRun.{ScriptRun}
 use Rattle.lol_script.specs.declared.settings.Settings.{Settings}
 
-pub same_selectors : (code : Settings) (s : Script) → IsReading code s → SameSelectors (selectors code.ast) (selectors_in s)
+-- the selectors of a tree that has rows where the script says so
+pub same_selectors : (code : Settings) (s : Script) → IsReading code s → SameSelectors (record (selectors code.ast) { by_keys = code.has_rows }) (selectors_in s)
 same_selectors code s reading =
     let are = nodes_of-AreNodes (pairs_in s) in
     record {
@@ -45,7 +48,7 @@ same_selectors code s reading =
       nodes = λ node. (λ h. (are.members node).1 ((reading.nodes node).0 h), λ h. (reading.nodes node).1 ((are.members node).0 h));
       each_once = (trees_are_closed false code.ast).once;
       each_once' = are.each_once;
-      mode = reading.rows;
+      mode = reading.has_rows;
     }
 
 -- 1. What is written for each event
@@ -255,7 +258,7 @@ explained_is P answering.Plain h = absurd h
 explained_is P answering.Refused h = absurd h
 explained_is P (answering.WithReasons x) h = (x, refl, h)
 
-module _ (code : ScriptRun) (settings : Settings) (s : Script) (reading : IsReading settings s) (shows : code.shows_tries ≡ settings.shows_tries)
+module _ (code : ScriptRun) (settings : Settings) (tree : Ast) (with_rows : selectors tree ≡ record (selectors settings.ast) { by_keys = settings.has_rows }) (s : Script) (reading : IsReading settings s) (shows : code.shows_tries ≡ settings.shows_tries)
     (none : code.text.items ≡ []) (limiter : code.limiter ≡ limiter_of s) (word : s.limit ≤ 18446744073709551615) where
   -- a new run is one through a script without events
   begins : (sel : Selectors) → IsNewRun sel settings.esi code.run → IsRunThrough sel s code.run s.events code.limiter
@@ -267,26 +270,26 @@ module _ (code : ScriptRun) (settings : Settings) (s : Script) (reading : IsRead
   nothing_written : (sel : Selectors) → code.text.items ≡ concat (texts_for sel s empty s.events)
   nothing_written sel = none ∙ ap (λ (events : List Event). concat (texts_for sel s empty events)) (sym reading.none)
 
-  pub begun : (settings.explains ≡ false → (code.answering ≡ answering.Plain) × IsNewRun (selectors settings.ast) settings.esi code.run)
-      → (settings.explains ≡ true → IfExplained code.answering (λ explained. (t : Script) → KeepsLines settings.selects t.selects → (numbered : Selectors) × Explains explained t numbered × IsNewRun numbered settings.esi code.run))
+  pub begun : (settings.explains ≡ false → (code.answering ≡ answering.Plain) × IsNewRun (selectors tree) settings.esi code.run)
+      → (settings.explains ≡ true → IfExplained code.answering (λ explained. (t : Script) → KeepsLines settings.selects t.selects → is_with_rows tree ≡ t.has_rows → (numbered : Selectors) × Explains explained t numbered × IsNewRun numbered settings.esi code.run))
       → Answers code s
   begun plain explained = by_explains settings.explains refl
     where
       by_explains : (b : Bool) → settings.explains ≡ b → Answers code s
       by_explains false is =
-          let sel = selectors settings.ast in
+          let sel = selectors tree in
           let new = plain is in
           let silent : s.explains ≡ false = sym reading.explains ∙ is in
           record {
             selectors = sel;
-            same = same_output sel s silent (same_selectors settings s reading);
+            same = same_output sel s silent (subst (λ (t : Selectors). SameSelectors t (selectors_in s)) (sym with_rows) (same_selectors settings s reading));
             shows_tries = shows ∙ reading.shows_tries;
             written = subst (IsWritten sel s code) (sym (ap has_ended new.0)) (subst (HasRun sel s code) (sym new.0) (silent, begins sel new.1), nothing_written sel);
           }
       by_explains true is =
           let sel = selectors_in s in
           let some = explained_is _ code.answering (explained is) in
-          let new = some.2 s reading.selects in
+          let new = some.2 s reading.selects (ap (λ (t : Selectors). t.by_keys) with_rows ∙ reading.has_rows) in
           record {
             selectors = sel;
             same = λ events. refl;

@@ -93,13 +93,14 @@ pub none_of_kind : (kind rest : List ℕ) → bytes_eq kind (codes "limit") ≡ 
     → bytes_eq kind (codes "drop") ≡ false → bytes_eq kind (codes "end") ≡ false → of_kind kind (slice_split is_tab rest) ≡ None
 none_of_kind kind rest limit select start drops end =
     let h = has_fields rest in
-    ap (of_kind kind) h.is ∙ rw limit (rw select (rw start (rw drops (rw end (neither (bytes_eq kind (codes "esi")) (bytes_eq kind (codes "tries")) (bytes_eq kind (codes "explain")))))))
+    ap (of_kind kind) h.is ∙ rw limit (rw select (rw start (rw drops (rw end (neither (bytes_eq kind (codes "esi")) (bytes_eq kind (codes "tries")) (bytes_eq kind (codes "explain")) (bytes_eq kind (codes "rows")))))))
   where
-    neither : (a b c : Bool) → (if a then None else (if b then None else (if c then None else None))) ≡ nothing
-    neither true b c = refl
-    neither false true c = refl
-    neither false false true = refl
-    neither false false false = refl
+    neither : (a b c d : Bool) → (if a then None else (if b then None else (if c then None else (if d then None else None)))) ≡ nothing
+    neither true b c d = refl
+    neither false true c d = refl
+    neither false false true d = refl
+    neither false false false true = refl
+    neither false false false false = refl
 
 -- the first place that a search finds after n bytes that don't pass
 pub far_first : (p : ℕ → Bool) (xs : List ℕ) (n : ℕ) (found : Option ℕ) → n ≤ length xs → Nowhere (Passes p xs) 0 n → IsFirstByte p (drop n xs) found
@@ -138,8 +139,8 @@ without_tab : (bytes word : List ℕ) (n : ℕ) → position is_tab bytes ≡ So
 without_tab bytes word n some none =
     not_true _ (λ same. let absent : Some n ≡ None = sym some ∙ (ap (position is_tab) ((bytes_eq-Decides bytes word).0 same) ∙ none) in cc)
 
-none_bare : (bytes : List ℕ) → bytes_eq bytes (codes "esi") ≡ false → bytes_eq bytes (codes "tries") ≡ false → bytes_eq bytes (codes "explain") ≡ false → of_kind bytes [] ≡ None
-none_bare bytes esi tries explain = rw esi (rw tries (rw explain (all_none (bytes_eq bytes (codes "limit")) (bytes_eq bytes (codes "select")) (bytes_eq bytes (codes "start")) (bytes_eq bytes (codes "drop")) (bytes_eq bytes (codes "end")))))
+none_bare : (bytes : List ℕ) → bytes_eq bytes (codes "esi") ≡ false → bytes_eq bytes (codes "tries") ≡ false → bytes_eq bytes (codes "explain") ≡ false → bytes_eq bytes (codes "rows") ≡ false → of_kind bytes [] ≡ None
+none_bare bytes esi tries explain rows = rw esi (rw tries (rw explain (rw rows (all_none (bytes_eq bytes (codes "limit")) (bytes_eq bytes (codes "select")) (bytes_eq bytes (codes "start")) (bytes_eq bytes (codes "drop")) (bytes_eq bytes (codes "end"))))))
   where
     all_none : (a b c d e : Bool) → (if a then nothing else (if b then nothing else (if c then nothing else (if d then nothing else (if e then nothing else nothing))))) ≡ nothing
     all_none true b c d e = refl
@@ -161,7 +162,7 @@ bare_or_none bytes start end drops select limit = by_tab (position is_tab bytes)
         let kind = take n bytes in
         let rest = drop (n + 1) bytes in
         let is = cut_at bytes n h in
-        none_bare bytes (without_tab bytes (codes "esi") n h refl) (without_tab bytes (codes "tries") n h refl) (without_tab bytes (codes "explain") n h refl)
+        none_bare bytes (without_tab bytes (codes "esi") n h refl) (without_tab bytes (codes "tries") n h refl) (without_tab bytes (codes "explain") n h refl) (without_tab bytes (codes "rows") n h refl)
         ∙ sym (ap from_fields (split_some bytes n h)
         ∙ none_of_kind kind rest (isnt_kind bytes kind rest _ is limit) (isnt_kind bytes kind rest _ is select)
         (isnt_kind bytes kind rest _ is start) (isnt_kind bytes kind rest _ is drops) (isnt_kind bytes kind rest _ is end))

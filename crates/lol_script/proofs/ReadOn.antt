@@ -10,10 +10,9 @@ use Rattle.lol_vm.specs.Documents.{empty}
 use Rattle.lol_vm.specs.Events.{Event}
 use Rattle.lol_vm.specs.Refusals.{refused}
 use Rattle.lol_script.specs.Devices.{IsReadFault, Reads, ReadsToEnd, device_of, failures_of}
-use Rattle.lol_script.specs.Explaining.{selectors_in}
 use Rattle.lol_script.specs.ReadLines.{GoesOn, ReadLines, cut_at, is_line_feed, later_lines, next_line}
 use Rattle.lol_script.specs.Readings.{IsBad, IsReadTo, IsStop, Stops}
-use Rattle.lol_script.specs.Scripts.{Script, and_then, output, output_of, read_lines, read_script, run_output, texts_for, with_bytes}
+use Rattle.lol_script.specs.Scripts.{Script, and_then, output, output_of, read_lines, read_script, run_output, selectors_in, texts_for, with_bytes}
 use Rattle.lol_script.specs.declared.bad_line.BadLine.{BadLine}
 use Rattle.lol_script.specs.declared.device.Counted.{Counted}
 use Rattle.lol_script.specs.declared.device.RunFault.{RunFault}

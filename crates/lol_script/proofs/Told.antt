@@ -21,9 +21,9 @@ use Rattle.lol_vm.specs.Documents.{Document, element_of, empty}
 use Rattle.lol_vm.specs.Events.{Event, Start, End, has_content}
 use Rattle.lol_vm.specs.Laws.{ids_of}
 use Rattle.lol_base.specs.StartTags.{StartTag}
-use Rattle.lol_script.specs.Explaining.{IsAnsweredBy, IsDroppedIn, IsToldOf, selectors_in}
+use Rattle.lol_script.specs.Explaining.{IsAnsweredBy, IsDroppedIn, IsToldOf}
 use Rattle.lol_script.specs.Output.{shown_match}
-use Rattle.lol_script.specs.Scripts.{Script, texts_in}
+use Rattle.lol_script.specs.Scripts.{Script, selectors_in, texts_in}
 use Rattle.lol_reasons.specs.declared.explainer.Reason.{Reason}
 use Rattle.lol_script.specs.declared.output.FieldList.{FieldList}
 use Rattle.lol_script.specs.SelectLines.{text_accepted}

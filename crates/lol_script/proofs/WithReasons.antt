@@ -24,10 +24,10 @@ use Rattle.lol_vm.specs.Vms.{Vm, data_in, tries_in}
 use Rattle.lol_vm.specs.declared.event_run.EventRun.{EventRun}
 use Rattle.lol_vm.specs.declared.events.RunCause.{RunCause}
 use Rattle.lol_script.specs.Answering.{Answers, AreTold, HasRun, IsCauseOf, IsMadeReady, IsPushed, IsStarted, IsWritten, has_ended, lines_told}
-use Rattle.lol_script.specs.Explaining.{Explains, IsAnsweredBy, IsDroppedIn, IsRunThrough, Tells, limiter_of, lines_by, selectors_in, with_reasons}
+use Rattle.lol_script.specs.Explaining.{Explains, IsAnsweredBy, IsDroppedIn, IsRunThrough, Tells, limiter_of, lines_by, with_reasons}
 use Rattle.lol_script.specs.FieldLists.{list_text, match_field, started_by, started_text, tries_shown, was_refused}
 use Rattle.lol_script.specs.Output.{comma_list, lines_of, shown_answer, shown_match, shown_reason, tries_field}
-use Rattle.lol_script.specs.Scripts.{Script, line_number, reason_lines, shown_cause, text_for, texts_in, with_event}
+use Rattle.lol_script.specs.Scripts.{Script, line_number, reason_lines, selectors_in, shown_cause, text_for, texts_in, with_event}
 use Rattle.lol_script.specs.declared.explained.Explained.{Explained}
 use Rattle.lol_script.specs.declared.output.FieldList.{FieldList}
 use Rattle.lol_script.specs.declared.script_run.Answering.{Answering}

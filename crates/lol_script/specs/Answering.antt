@@ -21,13 +21,13 @@ use Rattle.lol_vm.specs.declared.event_run.EventRun.{EventRun}
 use Rattle.lol_vm.specs.declared.events.RunCause.{RunCause}
 use Rattle.lol_vm.specs.declared.events.RunCause.TheVariants.{MemoryLimitExceeded, CounterFull, Memory}
 use Rattle.lol_script.specs.Devices.{ReadsToEnd}
-use Rattle.lol_script.specs.Explaining.{Explains, IsRunThrough, Tells, limiter_of, lines_by, selectors_in, with_reasons}
+use Rattle.lol_script.specs.Explaining.{Explains, IsRunThrough, Tells, limiter_of, lines_by, with_reasons}
 use Rattle.lol_script.specs.FieldLists.{fields_in, list_text, match_field, started_by, was_refused}
 use Rattle.lol_script.specs.Output.{comma_list, lines_of}
 use Rattle.lol_script.specs.ReadLines.{ReadLines}
 use Rattle.lol_script.specs.Readings.{IsReadTo, IsTagLine}
 use Rattle.lol_script.specs.Script.{line_at}
-use Rattle.lol_script.specs.Scripts.{Output, Script, output, output_of, run_output, shown_cause, texts_for}
+use Rattle.lol_script.specs.Scripts.{Output, Script, output, output_of, run_output, selectors_in, shown_cause, texts_for}
 use Rattle.lol_script.specs.declared.device.Counted.{Counted}
 use Rattle.lol_script.specs.declared.explained.Explained.{Explained}
 use Rattle.lol_script.specs.declared.output.FieldList.{FieldList}

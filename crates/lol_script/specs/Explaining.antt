@@ -5,7 +5,6 @@ use Rattle.lol_instructions.specs.Tests.{Element}
 use Rattle.lol_instructions.specs.Tries.{names_counted, attributes_counted}
 use Rattle.lol_instructions.specs.declared.tries.Tries.{Tries}
 use Rattle.lol_memory.specs.Limiter.{Limiter}
-use Rattle.lol_program.specs.Nodes.{selectors_of}
 use Rattle.lol_program.specs.Paths.{Selectors}
 use Rattle.lol_reasons.specs.Explanations as explanations
 use Rattle.lol_reasons.specs.Explanations.{added_by, reasons, reasons_at}
@@ -21,16 +20,12 @@ use Rattle.lol_vm.specs.Vms.{tries_in}
 use Rattle.lol_vm.specs.declared.event_run.EventRun.{EventRun}
 use Rattle.lol_script.specs.FieldLists.{fields_in, list_text, match_field, was_refused}
 use Rattle.lol_script.specs.Output.{comma_list, lines_of, shown_match, shown_reason}
-use Rattle.lol_script.specs.Scripts.{Script, pairs_in, texts_in}
+use Rattle.lol_script.specs.Scripts.{Script, selectors_in, texts_in}
 use Rattle.lol_script.specs.declared.explained.Explained.{Explained}
 use Rattle.lol_script.specs.declared.output.Field.{Field}
 use Rattle.lol_script.specs.declared.output.FieldList.{FieldList}
 use Rattle.lol_script.specs.declared.script_run.Answering.{Answering}
 use Rattle.lol_script.specs.declared.script_run.Answering.TheVariants.{Plain, WithReasons, Refused}
-
--- the selectors of a script, under their ids
-abbrev pub selectors_in : Script → Selectors
-selectors_in s = selectors_of (pairs_in s)
 
 -- the limiter before a script's run
 abbrev pub limiter_of : Script → Limiter

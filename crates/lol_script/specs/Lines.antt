@@ -9,7 +9,7 @@ use Rattle.lol_script.specs.Script.{is_tab, attribute_at}
 use Rattle.lol_script.specs.declared.lines.Line.{Line}
 use Rattle.lol_script.specs.declared.lines.Line.TheVariants.{Setting, Start, End}
 use Rattle.lol_script.specs.declared.lines.Setting.{Setting as SettingOf}
-use Rattle.lol_script.specs.declared.lines.Setting.TheVariants.{Limit, Esi, Tries, Explain, Select}
+use Rattle.lol_script.specs.declared.lines.Setting.TheVariants.{Limit, Esi, Tries, Explain, Rows, Select}
 use Rattle.lol_script.specs.declared.lines.StartLine.{StartLine}
 
 -- the fields of the rest of a line, if there is one
@@ -37,6 +37,7 @@ set_by (Limit maximum) = script.SetLimit maximum
 set_by Esi = script.TurnEsiOn
 set_by Tries = script.ShowTries
 set_by Explain = script.ShowReasons
+set_by Rows = script.MakeRows
 set_by (Select id text) = script.Select id text.now
 
 -- what the code's line says

@@ -13,6 +13,7 @@ pub data Line : Type 0 where
   TurnEsiOn : Line
   ShowTries : Line
   ShowReasons : Line
+  MakeRows : Line
   Select : (id : ℕ) (text : List ℕ) → Line
   StartLine : (tag : StartTag) → Line
   EndLine : (name : List ℕ) → Line
@@ -88,9 +89,9 @@ abbrev pub of_kind : List ℕ → List (List ℕ) → Option Line
 of_kind kind fields =
     if bytes_eq kind (codes "limit") then limit_at fields else (if bytes_eq kind (codes "esi") then bare_line TurnEsiOn fields
     else (if bytes_eq kind (codes "tries") then bare_line ShowTries fields else (if bytes_eq kind (codes "explain") then bare_line ShowReasons fields
-    else (if bytes_eq kind (codes "select") then select_at fields
+    else (if bytes_eq kind (codes "rows") then bare_line MakeRows fields else (if bytes_eq kind (codes "select") then select_at fields
     else (if bytes_eq kind (codes "start") then start_at true fields else (if bytes_eq kind (codes "drop") then start_at false fields
-    else (if bytes_eq kind (codes "end") then end_at fields else None)))))))
+    else (if bytes_eq kind (codes "end") then end_at fields else None))))))))
 
 abbrev pub from_fields : List (List ℕ) → Option Line
 from_fields [] = None

@@ -13,7 +13,7 @@ use Rattle.lol_vm.specs.Answers.{after, answer}
 use Rattle.lol_vm.specs.Documents.{Document, empty}
 use Rattle.lol_reasons.specs.Explanations.{Reason, Text, added_by, reasons_at}
 use Rattle.lol_vm.specs.Refusals.{Cause, Limit, Counter, refused}
-use Rattle.lol_script.specs.Script.{Line, SetLimit, TurnEsiOn, ShowTries, ShowReasons, Select, StartLine, EndLine, line_at}
+use Rattle.lol_script.specs.Script.{Line, SetLimit, TurnEsiOn, ShowTries, ShowReasons, MakeRows, Select, StartLine, EndLine, line_at}
 use Rattle.lol_script.specs.Output.{shown_answer, shown_reason, lines_of, bad_line}
 use Rattle.lol_script.specs.declared.bad_line.BadLine.{BadLine}
 use Rattle.lol_script.specs.declared.bad_line.Cause.TheVariants.{Form, Selector}
@@ -27,17 +27,18 @@ pub record SelectLine : Type 0 where
   pub number : ℕ
   pub text : Text
 
--- What is asked for: the greatest usage, whether ESI is on and tries and reasons are shown, the selectors, the tags.
+-- What is asked for: the greatest usage, whether ESI is on, tries and reasons are shown, and there are rows, the selectors, the tags.
 pub record Script : Type 0 where
   pub limit : ℕ
   pub esi : Bool
   pub shows_tries : Bool
   pub explains : Bool
+  pub has_rows : Bool
   pub selects : List SelectLine
   pub events : List Event
 
 abbrev pub empty_script : Script
-empty_script = record { limit = 18446744073709551615; esi = false; shows_tries = false; explains = false; selects = []; events = [] }
+empty_script = record { limit = 18446744073709551615; esi = false; shows_tries = false; explains = false; has_rows = false; selects = []; events = [] }
 
 abbrev pub texts_in : Script → List Text
 texts_in s = map (λ line. line.text) s.selects
@@ -45,6 +46,10 @@ texts_in s = map (λ line. line.text) s.selects
 -- the selectors under their ids
 abbrev pub pairs_in : Script → List (Path × ℕ)
 pairs_in s = flat_map (λ text. pairs_under text.id text.items) (texts_in s)
+
+-- the selectors of a script, under their ids; their nodes are spared by keys where there are rows
+abbrev pub selectors_in : Script → Selectors
+selectors_in s = record (selectors_of (pairs_in s)) { by_keys = s.has_rows }
 
 abbrev pub malformed : ℕ → Result Script BadLine
 malformed number = Err (record { number = number; cause = Form })
@@ -71,6 +76,7 @@ with_line number s (SetLimit maximum) = unless_begun s.events number (Ok (record
 with_line number s TurnEsiOn = unless_begun s.events number (Ok (record s { esi = true }))
 with_line number s ShowTries = unless_begun s.events number (Ok (record s { shows_tries = true }))
 with_line number s ShowReasons = unless_begun s.events number (Ok (record s { explains = true }))
+with_line number s MakeRows = unless_begun s.events number (Ok (record s { has_rows = true }))
 with_line number s (Select id text) = unless_begun s.events number (with_selector number s id (accept text))
 with_line number s (StartLine tag) = Ok (with_event s (Start tag))
 with_line number s (EndLine name) = Ok (with_event s (End name))
@@ -130,7 +136,7 @@ good_output selectors s =
     run_output (texts_for selectors s empty s.events) (refused selectors s.esi (record { item_bytes = 64; maximum = s.limit; usage = 0 }) s.events)
 
 abbrev pub output_of : Result Script BadLine → Output
-output_of (Ok s) = good_output (selectors_of (pairs_in s)) s
+output_of (Ok s) = good_output (selectors_in s) s
 output_of (Err bad) = record { text = bad_line bad; status = Bad }
 
 -- What is written for a script, and how its run ends.

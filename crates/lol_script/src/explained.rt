@@ -16,6 +16,7 @@ ghost use Rattle.lol_script.specs.SelectLines.{KeepsLines};
 
 use crate::output::{FieldList, push_reason};
 use crate::select_lines::SelectLines;
+use crate::settings::with_rows_if;
 use lol_reasons::{Explainer, Reason};
 use lol_vm::{Ast, DenseHashSet, ElementValue, EventRun, MatchId, MatchInfo, StackItem};
 use std::alloc::{AllocError, Global};
@@ -34,9 +35,13 @@ pub struct Explained {
 }
 
 impl Explained {
-    /// The selectors of these lines, each item under an id of its own, and what explains their reports.
-    pub fn new(alloc: Global, selects: &SelectLines) -> Result<(Ast, Self), AllocError>
-        ensures { IfOk result (λ made. (s : scripts.Script) → KeepsLines selects.now s.selects
+    /// The selectors of these lines, each item under an id of its own, in a tree with rows or without, and what explains their reports.
+    pub fn new(
+        alloc: Global,
+        selects: &SelectLines,
+        has_rows: bool,
+    ) -> Result<(Ast, Self), AllocError>
+        ensures { IfOk result (λ made. (s : scripts.Script) → KeepsLines selects.now s.selects → has_rows ≡ s.has_rows
             → Explains made.1 s (selectors made.0)) }
     {
         lol_reasons::laws::numbers_change_reports_alone();
@@ -50,7 +55,7 @@ impl Explained {
             lines: selects.numbers(alloc)?,
             around: 0,
         };
-        Ok((numbering.ast, explained))
+        Ok((with_rows_if(numbering.ast, has_rows), explained))
     }
 
     /// Makes a table of the machine's program, so that reasons are found quickly.

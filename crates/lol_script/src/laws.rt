@@ -2,7 +2,7 @@
 
 ghost use Rattle.std.specs.Prelude.{◌≡◌, [], ◌∷◌, ◌++◌, Some, None, true, false, codes};
 ghost use Rattle.lol_base.specs.declared.namespace.Namespace.TheVariants.{Html, Svg};
-ghost use Rattle.lol_script.specs.Script.{line_at, number_up_to, SetLimit, TurnEsiOn, ShowTries, ShowReasons, Select, EndLine};
+ghost use Rattle.lol_script.specs.Script.{line_at, number_up_to, SetLimit, TurnEsiOn, ShowTries, ShowReasons, MakeRows, Select, EndLine};
 ghost use Rattle.lol_script.specs.Scripts.{output};
 ghost use Rattle.lol_script.specs.WorkedRows.{attribute, start_line, written};
 ghost use Rattle.lol_script.specs.declared.program.Status.TheVariants.{Good, BadLine, Refused};
@@ -29,6 +29,10 @@ pub fn worked_settings()
     ensures explain_return { line_at (codes "explain\r") ≡ None }
     ensures explain_tab { line_at (codes "explain\t") ≡ None }
     ensures explain_capital { line_at (codes "Explain") ≡ None }
+    ensures rows { line_at (codes "rows") ≡ Some MakeRows }
+    ensures rows_return { line_at (codes "rows\r") ≡ None }
+    ensures rows_tab { line_at (codes "rows\t") ≡ None }
+    ensures rows_capital { line_at (codes "Rows") ≡ None }
     ensures limit_tab { line_at (codes "limit\t5\t") ≡ None }
     ensures no_text { line_at (codes "select\t0") ≡ None }
     ensures empty_text { line_at (codes "select\t0\t") ≡ Some (Select 0 []) }
@@ -64,6 +68,9 @@ pub fn worked_outputs()
     ensures tries { output (codes "tries\nselect\t0\tdiv p\nselect\t1\tdiv > p\n"
         ++ codes "start\thtml\tdiv\nstart\thtml\tsection\nstart\thtml\tp\nend\tdiv\n")
         ≡ written (codes "start\t-\ttries 1 0\nstart\t-\ttries 3 0\nstart\t0\ttries 2 0\nend\t0,1,2\n") Good }
+    ensures tries_with_rows { output (codes "rows\ntries\nselect\t0\tdiv p\nselect\t1\t.a\nselect\t2\tp\n"
+        ++ codes "start\thtml\tdiv\nstart\thtml\tp\tclass=a\n")
+        ≡ written (codes "start\t-\tasked\ttries 1 0\nstart\t0,1,2\tasked\ttries 3 1\n") Good }
     ensures without_content { output (codes "select\t4\t* > br, P\nselect\t2\tp\n"
         ++ codes "start\thtml\tp\nstart\thtml\tBR\nstart\thtml\tp\nend\tP\nend\tP\n")
         ≡ written (codes "start\t2,4\nstart\t4/\nstart\t2,4\nend\t2\nend\t0\n") Good }

@@ -41,6 +41,9 @@ pub enum Setting<'s> {
     /// Reasons are shown.
     Explain,
 
+    /// The machine is made with rows.
+    Rows,
+
     /// A selector, and the id that it is added under.
     Select { id: u32, text: &'s str },
 }
@@ -281,6 +284,8 @@ fn bare_line(kind: &[u8]) -> Option<Line<'static>>
         Some(Line::Setting(Setting::Tries))
     } else if kind == b"explain".as_slice() {
         Some(Line::Setting(Setting::Explain))
+    } else if kind == b"rows".as_slice() {
+        Some(Line::Setting(Setting::Rows))
     } else {
         None
     }

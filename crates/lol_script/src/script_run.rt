@@ -3,6 +3,7 @@
 ghost use Rattle.std.specs.Prelude.{◌≡◌, ◌≢◌, ◌∷◌, ◌++◌, [], List, IfOk, IfErr, OnOk, Ok, decimal, false, length, map, true};
 ghost use Rattle.lol_instructions.specs.Tries.{attributes_counted, names_counted};
 ghost use Rattle.lol_memory.specs.Limiter.{Limiter};
+ghost use Rattle.lol_program.specs.Asts.{is_with_rows};
 ghost use Rattle.lol_program.specs.Paths.{Selectors};
 ghost use Rattle.lol_vm.specs.EventRuns.{ForRunOfEvents, machine_of};
 ghost use Rattle.lol_vm.specs.Events.{Event, Start, End};
@@ -27,7 +28,7 @@ use crate::lines::{Line, StartLine, line_of};
 use crate::output::{FieldList, push_ended, push_line, push_started};
 use crate::program::Status;
 use crate::select_lines::SelectLines;
-use crate::settings::{Settings, Stop, malformed};
+use crate::settings::{Settings, Stop, malformed, with_rows_if};
 use crate::tags::handed_over;
 use lol_reasons::Reason;
 use lol_reasons::laws::numbers_change_reports_alone;
@@ -77,9 +78,11 @@ impl ScriptRun {
             esi,
             shows_tries,
             explains,
+            has_rows,
             ast,
             selects,
         } = settings;
+        let ast = with_rows_if(ast, has_rows);
         let (run, answering) = new_run(alloc, ast, &selects, explains, esi)?;
         Ok(ScriptRun {
             run,
@@ -269,7 +272,7 @@ impl ScriptRun {
     }
 }
 
-/// A run over selectors or, if reasons are shown, over those of these lines, and how its tags are answered.
+/// A run over selectors or, if reasons are shown, over those of these lines, with rows or without as the tree is, and how its tags are answered.
 fn new_run(
     alloc: Global,
     ast: Ast,
@@ -280,11 +283,11 @@ fn new_run(
     ensures plain { explains ≡ false
         → IfOk result (λ made. (made.1 ≡ Plain) × IsNewRun (selectors ast) esi made.0) }
     ensures explained { explains ≡ true → IfOk result (λ made. IfExplained made.1 (λ explained.
-        (s : scripts.Script) → KeepsLines selects.now s.selects
+        (s : scripts.Script) → KeepsLines selects.now s.selects → is_with_rows ast ≡ s.has_rows
         → (numbered : Selectors) × Explains explained s numbered × IsNewRun numbered esi made.0)) }
 {
     if explains {
-        let (run, explained) = explained_run(alloc, selects, esi)?;
+        let (run, explained) = explained_run(alloc, selects, ast.has_rows(), esi)?;
         return Ok((run, Answering::WithReasons(explained)));
     }
     Ok((
@@ -297,12 +300,13 @@ fn new_run(
 fn explained_run(
     alloc: Global,
     selects: &SelectLines,
+    has_rows: bool,
     esi: bool,
 ) -> Result<(EventRun, Explained), AllocError>
-    ensures { IfOk result (λ made. (s : scripts.Script) → KeepsLines selects.now s.selects
+    ensures { IfOk result (λ made. (s : scripts.Script) → KeepsLines selects.now s.selects → has_rows ≡ s.has_rows
         → (numbered : Selectors) × Explains made.1 s numbered × IsNewRun numbered esi made.0) }
 {
-    let (ast, mut explained) = Explained::new(alloc, selects)?;
+    let (ast, mut explained) = Explained::new(alloc, selects, has_rows)?;
     let run = EventRun::new(alloc, ast, ITEM_BYTES, esi)?;
     match explained.index(&run) {
         Ok(()) => Ok((run, explained)),

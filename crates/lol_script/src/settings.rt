@@ -1,8 +1,10 @@
 //! The settings of a script, which stand before its tags.
 
-ghost use Rattle.std.specs.Prelude.{◌≡◌, ◌<◌, ◌∷◌, [], None, IfOk, IfErr, IfSome, OnOk};
+ghost use Rattle.std.specs.Prelude.{◌≡◌, ◌<◌, ◌∷◌, [], None, false, IfOk, IfErr, IfSome, OnOk};
 ghost use Rattle.std.specs.Bool.{MatchBool};
 ghost use Rattle.lol_css.specs.Accepting.{accept};
+ghost use Rattle.lol_program.specs.Asts.{is_with_rows};
+ghost use Rattle.lol_vm.specs.Views.{selectors};
 ghost use Rattle.lol_script.specs.Devices.{ReadsToEnd, failures_of};
 ghost use Rattle.lol_script.specs.Lines.{set_by};
 ghost use Rattle.lol_script.specs.ReadLines.{no_lines};
@@ -34,6 +36,9 @@ pub struct Settings {
 
     /// Whether reasons are shown.
     pub explains: bool,
+
+    /// Whether the machine is made with rows. The tree is without them.
+    pub has_rows: bool,
     pub ast: Ast,
 
     /// The lines of the selectors. They are read again if reasons are shown.
@@ -59,6 +64,7 @@ impl Settings {
             esi: false,
             shows_tries: false,
             explains: false,
+            has_rows: false,
             ast: Ast::new(alloc),
             selects: SelectLines::new(alloc),
         }
@@ -102,6 +108,7 @@ impl Settings {
             Setting::Esi => self.esi = true,
             Setting::Tries => self.shows_tries = true,
             Setting::Explain => self.explains = true,
+            Setting::Rows => self.has_rows = true,
             Setting::Select { id, text } => {
                 take_selector(alloc, &mut self.ast, number, id, text)?;
                 let Ok(()) = self.selects.push(number, id, text) else {
@@ -111,6 +118,13 @@ impl Settings {
         }
         Ok(())
     }
+}
+
+/// The tree that a machine is made of, with rows or without, by one without them.
+pub fn with_rows_if(ast: Ast, has_rows: bool) -> Ast
+    ensures { is_with_rows ast ≡ false → selectors result ≡ record (selectors ast) { by_keys = has_rows } }
+{
+    if has_rows { ast.with_rows() } else { ast }
 }
 
 /// A line that has none of the forms, or stands where it can't.

@@ -18,6 +18,7 @@ returns c = record {
   nothing = refl;
   descendant_and_child = refl;
   tries = refl;
+  tries_with_rows = refl;
   without_content = refl;
   dropped = refl;
   foreign = refl;

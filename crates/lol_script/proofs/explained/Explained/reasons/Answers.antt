@@ -22,9 +22,9 @@ use Rattle.lol_vm.specs.Follows.{StartedElement}
 use Rattle.lol_vm.specs.Laws.{ids_of}
 use Rattle.lol_script.specs.FieldLists.{fields_in, match_field, number_in, shown_field}
 use Rattle.lol_vm.specs.Vms.{Stands, Vm, data_in, stack_in}
-use Rattle.lol_script.specs.Explaining.{reported_ids, selectors_in}
+use Rattle.lol_script.specs.Explaining.{reported_ids}
 use Rattle.lol_script.specs.Output.{comma_list, shown_match}
-use Rattle.lol_script.specs.Scripts.{pairs_in, texts_in}
+use Rattle.lol_script.specs.Scripts.{pairs_in, selectors_in, texts_in}
 use Rattle.lol_script.proofs.ListedFields.{map_through}
 use Rattle.lol_script.proofs.Told.{events_counted, more_open, none_mapped, numbers_around, shown_ids}
 use Rattle.lol_script.proofs.explained.Explained.reasons.Goals as goal
