@@ -82,7 +82,7 @@ kept_are_reasons s esi added d (Start tag) = by_test (is_dropped s e d.open_elem
     e : Element
     e = element_of d tag
 
-    by_test : (b : Bool) → kept_by (cond b Dropped (Started (report s esi e d.open_elements) (asks s e d.open_elements) (name_tries s.nodes d.open_elements) (attribute_tries s.nodes e d.open_elements))) (reasons added e d.open_elements)
+    by_test : (b : Bool) → kept_by (cond b Dropped (Started (report s esi e d.open_elements) (asks s e d.open_elements) (name_tries s e d.open_elements) (attribute_tries s e d.open_elements))) (reasons added e d.open_elements)
         ≡ cond b [] (reasons added e d.open_elements)
     by_test true = refl
     by_test false = refl

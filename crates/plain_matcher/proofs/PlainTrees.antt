@@ -16,7 +16,9 @@ use Rattle.lol_program.specs.Forest.{Forest, none, more, tops, below, nodes_in, 
 use Rattle.lol_vm.specs.Events.{Event, Start, End, has_content}
 use Rattle.lol_vm.specs.Documents.{Document, empty, element_of, after_start, after_end}
 use Rattle.lol_vm.specs.AnswerLaws.{same_answers}
-use Rattle.lol_vm.specs.Answers.{matching_ids, needs_attributes, asks, answers, after}
+use Rattle.lol_vm.specs.Answers.{matching_ids, needs_attributes, asks, answers, after, is_tried}
+use Rattle.lol_vm.specs.KeyTries.{is_left, is_left_open, node_keys}
+use Rattle.lol_vm.specs.Matching.{left_matches}
 use Rattle.lol_reasons.specs.Explanations.{Added, reasons, reasons_at, explanations, explanations_from}
 use Rattle.plain_matcher.specs.PlainNodes.{nodes_listed, pairs_at, selectors_listed}
 
@@ -78,17 +80,28 @@ module _ (p : Path → Bool) where
 -- 3. Answers
 
 module _ (s t : Selectors) (counts : (p : Path → Bool) → count_by p s.nodes ≡ count_by p t.nodes) where
+  same_any : (p : Path → Bool) → list_any p s.nodes ≡ list_any p t.nodes
+  same_any p = any_counted p s.nodes ∙ ap (nat_lt 0) (counts p) ∙ sym (any_counted p t.nodes)
+
   same_asks : (e : Element) (outer : List Element) → asks s e outer ≡ asks t e outer
   same_asks e outer =
       ap (λ b. not (is_html e.tag.namespace) || b)
-      (any_counted (needs_attributes e outer) s.nodes ∙ ap (nat_lt 0) (counts (needs_attributes e outer)) ∙ sym (any_counted (needs_attributes e outer) t.nodes))
+      (same_any (needs_attributes e outer))
 
-pub listed_answers : (f : Forest) (esi : Bool) (events : List Event) → answers (selectors_listed (nodes_listed First f)) esi events ≡ answers (record { pairs = pairs_in First f; nodes = nodes_in First f }) esi events
-listed_answers f esi events =
-    let listed = selectors_listed (nodes_listed First f) in
-    let grown : Selectors = record { pairs = pairs_in First f; nodes = nodes_in First f } in
-    let counts : (p : Path → Bool) → count_by p listed.nodes ≡ count_by p grown.nodes = λ p. nodes_counted p f in
-    same_answers listed grown esi (λ e outer. ap (λ pairs. matching_ids pairs e outer) (pairs_listed First f)) (same_asks listed grown counts) counts empty events
+  same_tried : s.by_keys ≡ t.by_keys → (e : Element) (outer : List Element) → is_tried s e outer ≡ is_tried t e outer
+  same_tried mode e outer =
+      λ i node. cond (mode i) (is_left node_keys (not (is_html e.tag.namespace) || same_any (is_left_open node_keys e outer) i) e outer node) (left_matches node outer)
+
+abbrev grown : Bool → Forest → Selectors
+grown by_keys f = record { pairs = pairs_in First f; nodes = nodes_in First f; by_keys = by_keys }
+
+pub listed_answers : (f : Forest) (by_keys esi : Bool) (events : List Event) → answers (selectors_listed by_keys (nodes_listed First f)) esi events ≡ answers (grown by_keys f) esi events
+listed_answers f by_keys esi events =
+    let listed = selectors_listed by_keys (nodes_listed First f) in
+    let trees = grown by_keys f in
+    let counts : (p : Path → Bool) → count_by p listed.nodes ≡ count_by p trees.nodes = λ p. nodes_counted p f in
+    same_answers listed trees esi (λ e outer. ap (λ pairs. matching_ids pairs e outer) (pairs_listed First f)) (same_asks listed trees counts)
+    (same_tried listed trees counts refl) counts empty events
 
 -- 4. Reasons
 
@@ -102,9 +115,10 @@ module _ (s t : Selectors) (esi : Bool) (added : List Added) (same : (e : Elemen
       ∙ ap (λ rest. reasons_at t added d (Start tag) ∷ rest) (same_explanations (after t esi d (Start tag)) events)
   same_explanations d (End name ∷ events) = ap (λ rest. [] ∷ rest) (same_explanations (after_end d name) events)
 
-pub listed_explanations : (f : Forest) (esi : Bool) (added : List Added) (events : List Event)
-    → explanations (selectors_listed (nodes_listed First f)) esi added events ≡ explanations (record { pairs = pairs_in First f; nodes = nodes_in First f }) esi added events
-listed_explanations f esi added events =
-    let listed = selectors_listed (nodes_listed First f) in
-    let grown : Selectors = record { pairs = pairs_in First f; nodes = nodes_in First f } in
-    same_explanations listed grown esi added (same_asks listed grown (λ p. nodes_counted p f)) empty events
+-- no reason depends on what is spared
+pub listed_explanations : (f : Forest) (spared by_keys esi : Bool) (added : List Added) (events : List Event)
+    → explanations (selectors_listed spared (nodes_listed First f)) esi added events ≡ explanations (grown by_keys f) esi added events
+listed_explanations f spared by_keys esi added events =
+    let listed = selectors_listed spared (nodes_listed First f) in
+    let trees = grown by_keys f in
+    same_explanations listed trees esi added (same_asks listed trees (λ p. nodes_counted p f)) empty events

@@ -31,7 +31,7 @@ answer_shown (Ended closed) = answers.Ended closed.items
 abbrev pub start_answer : Selectors → Bool → Element → List Element → Answer
 start_answer s esi e outer =
     if is_dropped s e outer then answers.Dropped
-    else answers.Started (report s esi e outer) (asks s e outer) (name_tries s.nodes outer) (attribute_tries s.nodes e outer)
+    else answers.Started (report s esi e outer) (asks s e outer) (name_tries s e outer) (attribute_tries s e outer)
 
 abbrev pub started : Selectors → Bool → Document → Element → Document
 started s esi d e =

@@ -1,5 +1,5 @@
 -- The nodes that the plain matcher lists, and the selectors that they are.
-use Rattle.std.specs.Prelude.{ℕ, List, [], ◌∷◌, ◌++◌, map, flat_map}
+use Rattle.std.specs.Prelude.{ℕ, Bool, List, [], ◌∷◌, ◌++◌, map, flat_map}
 use Rattle.lol_css.specs.declared.selector.Combinator.{Combinator}
 use Rattle.lol_css.specs.declared.selector.Combinator.TheVariants.{Child, Descendant}
 use Rattle.lol_memory.specs.Ids.{ascending}
@@ -37,9 +37,16 @@ nodes_listed make (more c ids children descendants rest) =
 abbrev pub pairs_at : Path × List ℕ → List (Path × ℕ)
 pairs_at node = map (λ id. (node.0, id)) node.1
 
--- The selectors that listed nodes are.
-abbrev pub selectors_listed : List (Path × List ℕ) → Selectors
-selectors_listed nodes = record { pairs = flat_map pairs_at nodes; nodes = map (λ node. node.0) nodes }
+-- The selectors that listed nodes are, spared by keys or not.
+abbrev pub selectors_listed : Bool → List (Path × List ℕ) → Selectors
+selectors_listed by_keys nodes = record { pairs = flat_map pairs_at nodes; nodes = map (λ node. node.0) nodes; by_keys = by_keys }
 
-abbrev pub selectors_shown : List PlainNode → Selectors
-selectors_shown nodes = selectors_listed (map node_shown nodes)
+abbrev pub selectors_shown : Bool → List PlainNode → Selectors
+selectors_shown by_keys nodes = selectors_listed by_keys (map node_shown nodes)
+
+-- their pairs and their nodes
+abbrev pub pairs_of : List PlainNode → List (Path × ℕ)
+pairs_of nodes = flat_map pairs_at (map node_shown nodes)
+
+abbrev pub paths_of : List PlainNode → List Path
+paths_of nodes = map (λ node. node.0) (map node_shown nodes)

@@ -5,8 +5,10 @@ mod plain;
 mod plain_compound;
 mod plain_document;
 mod plain_element;
+mod plain_keys;
 mod plain_nodes;
 mod plain_run;
+mod plain_tries;
 mod plain_witness;
 mod tag_words;
 

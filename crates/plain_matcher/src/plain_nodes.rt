@@ -1,18 +1,17 @@
 //! The plain matcher's list of the tree's nodes, and which of them match.
 
 ghost use Rattle.std.specs.Prelude.{◌≡◌, ◌++◌, ◌≤◌, IfOk, OnOk, [], ◌∷◌, map, length};
-ghost use Rattle.std.specs.List.{count_by};
 ghost use Rattle.lol_memory.specs.Ids.{ascending};
 ghost use Rattle.lol_program.specs.Views.{node_of, linked, forest_of};
 ghost use Rattle.lol_vm.specs.Answers as answers;
 ghost use Rattle.lol_vm.specs.Matching.{matches, left_matches, step_reaches};
 ghost use Rattle.plain_matcher.specs.PlainElements.{element_shown};
-ghost use Rattle.plain_matcher.specs.PlainNodes.{path_shown, path_to, node_shown, nodes_listed, selectors_shown};
+ghost use Rattle.plain_matcher.specs.PlainNodes.{path_shown, path_to, node_shown, nodes_listed, pairs_of};
 
-use crate::plain_element::{PlainElement, by_names, predicate_passes};
+use crate::plain_element::{PlainElement, predicate_passes};
 use lol_css::Combinator;
 use lol_memory::DenseHashSet;
-use lol_program::{AstNode, NameValue, Predicate};
+use lol_program::{AstNode, Predicate};
 use std::alloc::{AllocError, Global};
 
 /// A compound on the way down the tree, and how it stands to the one above it. (A root stands under nothing.)
@@ -107,7 +106,7 @@ fn path_matches(
 
 /// Whether what stands left of a path's last compound matches, for an element inside these ones.
 #[cycle(matching)]
-fn left_part_matches(
+pub(crate) fn left_part_matches(
     alloc: Global,
     path: &[Step<'_>],
     outer: &[PlainElement<'_>],
@@ -152,7 +151,7 @@ pub(crate) fn matching_ids(
     element: &PlainElement<'_>,
     outer: &[PlainElement<'_>],
 ) -> Result<DenseHashSet, AllocError>
-    ensures { IfOk result (λ ids. ascending ids ≡ answers.matching_ids (selectors_shown nodes.now).pairs (element_shown element.now) (map element_shown outer.now)) }
+    ensures { IfOk result (λ ids. ascending ids ≡ answers.matching_ids (pairs_of nodes.now) (element_shown element.now) (map element_shown outer.now)) }
 {
     let mut ids = DenseHashSet::new(alloc);
     for node in nodes {
@@ -161,56 +160,4 @@ pub(crate) fn matching_ids(
         }
     }
     Ok(ids)
-}
-
-/// How many nodes are tried for an element inside these ones.
-pub(crate) fn name_tries(
-    alloc: Global,
-    nodes: &[PlainNode<'_>],
-    outer: &[PlainElement<'_>],
-) -> Result<usize, AllocError>
-    ensures { IfOk result (λ tries. tries ≡ answers.name_tries (selectors_shown nodes.now).nodes (map element_shown outer.now)) }
-{
-    let mut tries = 0;
-    for node in nodes {
-        if left_part_matches(alloc, &node.path, outer)? {
-            tries += 1;
-        }
-    }
-    Ok(tries)
-}
-
-/// How many of them need attributes.
-pub(crate) fn attribute_tries(
-    alloc: Global,
-    nodes: &[PlainNode<'_>],
-    element: &PlainElement<'_>,
-    outer: &[PlainElement<'_>],
-) -> Result<usize, AllocError>
-    ensures { IfOk result (λ tries. tries ≡ answers.attribute_tries (selectors_shown nodes.now).nodes (element_shown element.now) (map element_shown outer.now)) }
-{
-    let mut tries = 0;
-    for node in nodes {
-        if needs_attributes(alloc, &node.path, element, outer)? {
-            tries += 1;
-        }
-    }
-    Ok(tries)
-}
-
-fn needs_attributes(
-    alloc: Global,
-    path: &[Step<'_>],
-    element: &PlainElement<'_>,
-    outer: &[PlainElement<'_>],
-) -> Result<bool, AllocError>
-    ensures { IfOk result (λ needs. needs ≡ answers.needs_attributes (element_shown element.now) (map element_shown outer.now) (path_shown path.now)) }
-{
-    let Some((last, _)) = path.split_first() else {
-        return Ok(false);
-    };
-    if !left_part_matches(alloc, path, outer)? {
-        return Ok(false);
-    }
-    Ok(by_names(last.predicate, element) == NameValue::Open)
 }

@@ -1,6 +1,6 @@
 //! The reasons of a run, by the definitions, step by step.
 
-ghost use Rattle.std.specs.Prelude.{◌≡◌, IfOk, All, map};
+ghost use Rattle.std.specs.Prelude.{◌≡◌, false, IfOk, All, map};
 ghost use Rattle.lol_reasons.specs.Explanations.{added_by, explanations};
 ghost use Rattle.lol_vm.specs.Views.{HasRangesInside, event_of, selectors};
 ghost use Rattle.plain_matcher.specs.Plain.{answer_shown, document_shown};
@@ -48,14 +48,22 @@ fn explanations_of(
 ) -> Result<Vec<Vec<PlainReason>>, AllocError>
     requires { All HasRangesInside events.now }
     ensures { IfOk result (λ told. map (λ reasons. map reason_shown reasons.items) told.items
-        ≡ explanations (selectors_shown nodes.now) enable_esi_tags (added_by (map text_shown texts.now))
+        ≡ explanations (selectors_shown false nodes.now) enable_esi_tags (added_by (map text_shown texts.now))
         (map event_of events.now)) }
 {
     let mut document = PlainDocument::new(alloc);
     let mut told = Vec::new(alloc);
     for (number, event) in events.iter().enumerate() {
         let found = found_at(alloc, texts, number, &document, event)?;
-        let answer = answer(alloc, nodes, enable_esi_tags, number, &mut document, event)?;
+        let answer = answer(
+            alloc,
+            nodes,
+            false,
+            enable_esi_tags,
+            number,
+            &mut document,
+            event,
+        )?;
         told.push(if_started(alloc, &answer, found))?;
     }
     Ok(told)

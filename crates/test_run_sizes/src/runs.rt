@@ -99,7 +99,7 @@ fn handed_out(alloc: Global, ast: Ast, events: &[TagEvent<'_>], reported: &mut R
 fn told(alloc: Global, ast: &Ast, events: &[TagEvent<'_>]) -> Result<Vec<PlainAnswer>, AllocError>
     requires { All HasRangesInside events.now }
 {
-    plain_answers(alloc, ast, false, events)
+    plain_answers(alloc, ast, false, false, events)
 }
 
 fn ids(alloc: Global, ast: Ast, events: &[TagEvent<'_>]) -> Option<Vec<u32>>

@@ -157,7 +157,7 @@ fn answered(
 ) -> Result<Vec<PlainAnswer>, AllocError>
     requires { All HasRangesInside events.now }
 {
-    plain_answers(alloc, ast, enable_esi_tags, events)
+    plain_answers(alloc, ast, false, enable_esi_tags, events)
 }
 
 fn compare_events(

@@ -75,7 +75,7 @@ fn plainly(
 ) -> Result<Vec<PlainAnswer>, AllocError> {
     let attributes = attributes_of(alloc, tags)?;
     let events = events_of(alloc, tags, &attributes)?;
-    plain_answers(alloc, ast, enable_esi_tags, &events)
+    plain_answers(alloc, ast, false, enable_esi_tags, &events)
 }
 
 /// The answers to tags, written one after the other.

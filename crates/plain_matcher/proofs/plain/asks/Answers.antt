@@ -8,7 +8,7 @@ use Rattle.lol_base.specs.declared.namespace.Namespace.TheVariants.{Html, Svg, M
 use Rattle.lol_instructions.specs.Tests.{is_html}
 use Rattle.lol_vm.specs.Answers.{needs_attributes}
 use Rattle.plain_matcher.specs.PlainElements.{element_shown}
-use Rattle.plain_matcher.specs.PlainNodes.{selectors_shown}
+use Rattle.plain_matcher.specs.PlainNodes.{paths_of}
 use Rattle.plain_matcher.proofs.PlainTrees.{any_counted}
 use Rattle.plain_matcher.proofs.plain.asks.Goals as goal
 
@@ -20,6 +20,6 @@ html_if MathML h = cc
 pub returns-else-ne : goal.returns-else-ne
 returns-else-ne c =
     let needs = needs_attributes (element_shown c.args.element.now) (map element_shown c.args.outer.now) in
-    let nodes = (selectors_shown c.args.nodes.now).nodes in
+    let nodes = paths_of c.args.nodes.now in
     let html = ap is_html c.requires ∙ html_if c.args.ns (sym c.ne.ensures ∙ c.if-ne.false) in
     ap (nat_lt 0) c.in_ok-tries.ensures ∙ sym (any_counted needs nodes) ∙ ap (λ (h : Bool). not h || list_any needs nodes) (sym html)

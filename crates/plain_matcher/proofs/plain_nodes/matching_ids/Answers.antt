@@ -4,7 +4,7 @@ use Rattle.lol_program.specs.IdSetLaws.{ascending-no_ids}
 use Rattle.lol_vm.specs.Answers as answers
 use Rattle.lol_vm.specs.Matching.{matches}
 use Rattle.plain_matcher.specs.PlainElements.{element_shown}
-use Rattle.plain_matcher.specs.PlainNodes.{path_shown, selectors_shown}
+use Rattle.plain_matcher.specs.PlainNodes.{path_shown, pairs_of}
 use Rattle.plain_matcher.specs.declared.plain_nodes.Step.{Step}
 use Rattle.plain_matcher.proofs.PlainIds.{ids_matched, ids_not_matched}
 use Rattle.plain_matcher.proofs.PlainListed.{pairs_more}
@@ -22,7 +22,7 @@ loop-node-preserved c =
     let e = element_shown c.args.element.now in
     let outer = map element_shown c.args.outer.now in
     let path = path_shown node.path.items in
-    let pairs = (selectors_shown (take i nodes)).pairs in
+    let pairs = pairs_of (take i nodes) in
     let told = sym (c.in_ok-path_matches.ensures ∙ ap (λ (p : List Step). matches (path_shown p) e outer) c.deref.ensures.value) in
     let more = ap (λ ps. answers.matching_ids ps e outer) (sym (pairs_more nodes i node c.loop-node-test.true c.node-item.is)) in
     elim c.if-branch.branch [

@@ -1,4 +1,4 @@
-use Rattle.std.proofs.Common.{map, ap, ◌∙◌}
+use Rattle.std.proofs.Common.{false, map, ap, ◌∙◌}
 use Rattle.std.proofs.lemmas.List.{map-append}
 use Rattle.lol_vm.specs.Views.{event_of}
 use Rattle.lol_reasons.specs.Explanations.{added_by}
@@ -10,7 +10,7 @@ use Rattle.plain_matcher.proofs.plain_run.explanations_of.Goals as goal
 
 pub loop-number-preserved : goal.loop-number-preserved
 loop-number-preserved c =
-    let s = selectors_shown c.args.nodes.now in
+    let s = selectors_shown false c.args.nodes.now in
     let esi = c.args.enable_esi_tags in
     let added = added_by (map text_shown c.args.texts.now) in
     let d = document_shown c.loop-number.number c.loop-number.document in

@@ -1,6 +1,6 @@
-use Rattle.std.proofs.Common.{◌≡◌, ◌++◌, ap, ◌∙◌, map}
+use Rattle.std.proofs.Common.{◌≡◌, false, ◌++◌, ap, ◌∙◌, map}
 use Rattle.std.proofs.lemmas.Result.{IfOk-weaker}
-use Rattle.lol_program.specs.Asts.{trees_of}
+use Rattle.lol_program.specs.Asts.{trees_of, is_with_rows}
 use Rattle.lol_program.specs.Paths.{First}
 use Rattle.lol_vm.specs.Views.{event_of}
 use Rattle.lol_reasons.specs.Explanations.{added_by, explanations}
@@ -19,5 +19,5 @@ returns c =
     ap (map node_shown) c.deref.ensures.value ∙ c.in_ok-list_nodes.ensures
     ∙ (λ i. map node_shown (c.new-nodes.ensures.items i) ++ nodes_listed First (c.root.ensures i)) in
     IfOk-weaker c.explanations_of.result _ _
-    (λ told is. is ∙ ap (λ nodes. explanations (selectors_listed nodes) esi added events) listed ∙ listed_explanations trees esi added events)
+    (λ told is. is ∙ ap (λ nodes. explanations (selectors_listed false nodes) esi added events) listed ∙ listed_explanations trees false (is_with_rows c.args.ast.now) esi added events)
     c.explanations_of.ensures

@@ -1,0 +1,13 @@
+use Rattle.std.proofs.Common.{◌≡◌, ◌≤◌, map, take}
+use Rattle.std.specs.Prelude.{count_by}
+use Rattle.plain_matcher.specs.PlainElements.{element_shown}
+use Rattle.plain_matcher.specs.PlainNodes.{paths_of}
+use Rattle.plain_matcher.specs.PlainTries.{is_tried_open_in}
+use Rattle.plain_matcher.proofs.plain_tries.attribute_tries.Given as goal
+
+abbrev pub invariant-loop-node : goal.invariant-loop-node
+invariant-loop-node l =
+    record {
+      counted : l.tries ≡ count_by (is_tried_open_in l.trying (element_shown l.element) (map element_shown l.outer)) (paths_of (take l.node-index l.nodes));
+      within : l.tries ≤ l.node-index;
+    }
