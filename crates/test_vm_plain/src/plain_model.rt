@@ -1,4 +1,4 @@
-//! Random tags over random selectors, told to the machine and answered plainly.
+//! Random tags over random selectors, told to the machine, with rows and without, and answered plainly.
 
 ghost use Rattle.std.specs.Prelude.{All};
 ghost use Rattle.lol_vm.specs.Views.{HasRangesInside};
@@ -42,6 +42,12 @@ struct Drawn {
 }
 
 impl Drawn {
+    fn new(seed: u64) -> Self {
+        Drawn {
+            random: Random::new(seed),
+        }
+    }
+
     fn below(&mut self, bound: u32) -> u32 {
         self.random.below(bound)
     }
@@ -149,17 +155,70 @@ fn expect_agreement(rt: &impl Abort, seed: u64, reports: &[TagReport], told: &[P
     }
 }
 
-fn answered(
-    alloc: Global,
-    ast: &Ast,
-    enable_esi_tags: bool,
-    events: &[TagEvent<'_>],
-) -> Result<Vec<PlainAnswer>, AllocError>
-    requires { All HasRangesInside events.now }
-{
-    plain_answers(alloc, ast, false, enable_esi_tags, events)
+/// Whether two reports say the same but for tries.
+fn are_alike(report: &TagReport, other: &TagReport) -> bool {
+    match report {
+        TagReport::Started { matched, asked, .. } => match other {
+            TagReport::Started {
+                matched: ids,
+                asked: was_asked,
+                ..
+            } => matched.as_slice() == ids.as_slice() && *asked == *was_asked,
+            _ => false,
+        },
+        TagReport::Dropped => matches!(other, TagReport::Dropped),
+        TagReport::Ended { closed } => match other {
+            TagReport::Ended { closed: numbers } => closed.as_slice() == numbers.as_slice(),
+            _ => false,
+        },
+    }
 }
 
+/// How many tries by names reports count.
+fn name_tries(reports: &[TagReport]) -> u64 {
+    let mut names: u64 = 0;
+    for report in reports {
+        if let TagReport::Started { tries, .. } = report {
+            names = names.saturating_add(tries.names());
+        }
+    }
+    names
+}
+
+/// Rows change nothing but how many nodes are tried.
+fn expect_fewer_tries(
+    rt: &impl Abort,
+    seed: u64,
+    reports: &[TagReport],
+    without_rows: &[TagReport],
+) {
+    assert!(rt; reports.len() == without_rows.len());
+    for (place, (report, other)) in reports.iter().zip(without_rows).enumerate() {
+        assert!(rt; are_alike(report, other), "document {seed}, tag {place}");
+    }
+    assert!(rt;
+        name_tries(reports) < name_tries(without_rows),
+        "document {seed}"
+    );
+}
+
+/// What the machine reports, with rows or without, which is what the plain matcher answers.
+fn agreed(
+    rt: &impl Abort,
+    alloc: Global,
+    seed: u64,
+    ast: Ast,
+    events: &[TagEvent<'_>],
+) -> Result<Vec<TagReport>, Fail>
+    requires { All HasRangesInside events.now }
+{
+    let told = plain_answers(alloc, &ast, ast.has_rows(), has_esi(seed), events)?;
+    let reports = reports_of_events(alloc, ast, has_esi(seed), events)?;
+    expect_agreement(rt, seed, &reports, &told);
+    Ok(reports)
+}
+
+/// With the drawn selectors, and with the same with rows.
 fn compare_events(
     rt: &impl Abort,
     alloc: Global,
@@ -169,31 +228,20 @@ fn compare_events(
 ) -> Result<(), Fail>
     requires { All HasRangesInside events.now }
 {
-    let told = answered(alloc, &ast, has_esi(seed), events)?;
-    let reports = reports_of_events(alloc, ast, has_esi(seed), events)?;
-    expect_agreement(rt, seed, &reports, &told);
+    let reports = agreed(rt, alloc, seed, ast, events)?;
+    let with_rows = Drawn::new(seed).selectors(alloc)?.with_rows();
+    let spared = agreed(rt, alloc, seed, with_rows, events)?;
+    expect_fewer_tries(rt, seed, &spared, &reports);
     Ok(())
 }
 
-fn compare_tags(
-    rt: &impl Abort,
-    alloc: Global,
-    drawn: &mut Drawn,
-    seed: u64,
-    ast: Ast,
-) -> Result<(), Fail> {
+fn compare(rt: &impl Abort, alloc: Global, seed: u64) -> Result<(), Fail> {
+    let mut drawn = Drawn::new(seed);
+    let ast = drawn.selectors(alloc)?;
     let tags = drawn.tags(alloc)?;
     let attributes = attributes_of(alloc, &tags)?;
     let events = events_of(alloc, &tags, &attributes)?;
     compare_events(rt, alloc, seed, ast, &events)
-}
-
-fn compare(rt: &impl Abort, alloc: Global, seed: u64) -> Result<(), Fail> {
-    let mut drawn = Drawn {
-        random: Random::new(seed),
-    };
-    let ast = drawn.selectors(alloc)?;
-    compare_tags(rt, alloc, &mut drawn, seed, ast)
 }
 
 #[test]
