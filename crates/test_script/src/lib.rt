@@ -19,4 +19,6 @@ mod scripts;
 #[cfg(test)]
 mod sizes;
 #[cfg(test)]
+mod with_rows;
+#[cfg(test)]
 mod worked;

@@ -1,0 +1,104 @@
+//! Scripts whose machine has rows.
+
+use crate::runs::expect_run;
+use crate::worked::ANSWERED;
+use lol_script::Status;
+use std::test::Fail;
+
+/// A script, its output, and how its run ends.
+type Row = (&'static str, &'static str, Status);
+
+/// Where the line may stand, and what is tried with it.
+const TRIED: [Row; 12] = [
+    (
+        "rows\ntries\nselect\t0\tdiv p\nselect\t1\tdiv > p\nstart\thtml\tdiv\nstart\thtml\tsection\nstart\thtml\tp\nend\tdiv\n",
+        "start\t-\ttries 1 0\nstart\t-\ttries 0 0\nstart\t0\ttries 1 0\nend\t0,1,2\n",
+        Status::Good,
+    ),
+    // After the selectors, and twice.
+    (
+        "\nselect\t0\t.a\nrows\n\ntries\nrows\nstart\thtml\tp\nend\tx\nstart\thtml\tp\tclass=a",
+        "start\t-\tasked\ttries 0 0\nend\t-\nstart\t0\tasked\ttries 1 1\n",
+        Status::Good,
+    ),
+    // The last of two keys of a kind, and an id before all others.
+    (
+        "rows\ntries\nselect\t0\t[a][b]\nselect\t1\t#d[b].c#e.a\nstart\thtml\tp\ta\nstart\thtml\tp\tb\nstart\thtml\tp\tid=d\nstart\thtml\tp\tid=e\n",
+        "start\t-\tasked\ttries 0 0\nstart\t-\tasked\ttries 1 1\nstart\t-\tasked\ttries 0 0\nstart\t-\tasked\ttries 1 1\n",
+        Status::Good,
+    ),
+    // No selector is known to need attributes: what the name leaves is tried in HTML, and elsewhere what attributes leave too.
+    (
+        "tries\nrows\nselect\t0\tp:not(.a)\nselect\t1\tp.b:first-child\nselect\t2\tdiv.c\nstart\thtml\tp\nstart\tsvg\tp\nstart\thtml\tp\n",
+        "start\t0\tasked\ttries 2 2\nstart\t0\tasked\ttries 1 1\nstart\t0\tasked\ttries 2 2\n",
+        Status::Good,
+    ),
+    // One is.
+    (
+        "tries\nrows\nselect\t0\tp:not(.a)\nselect\t1\tp.b:first-child\nselect\t2\t.c\nstart\thtml\tp\nstart\tsvg\tp\tclass=b\n",
+        "start\t0\tasked\ttries 1 1\nstart\t0,1\tasked\ttries 2 2\n",
+        Status::Good,
+    ),
+    (
+        "rows\ntries\nselect\t0\t.a\ndrop\thtml\tp\nstart\thtml\tp\n",
+        "dropped\nstart\t-\tasked\ttries 0 0\n",
+        Status::Good,
+    ),
+    // Reasons are the same.
+    (
+        "explain\nrows\nselect\t0\tdiv p, .a\nselect\t5\tdiv > p\nstart\thtml\tdiv\tclass=a\nstart\thtml\tsection\nstart\thtml\tp\nend\tdiv\n",
+        "start\t0\tasked\nwhy\t0\t3\t1\t0\nstart\t-\tasked\nstart\t0\tasked\nwhy\t0\t3\t0\t0,2\nend\t0,1,2\n",
+        Status::Good,
+    ),
+    ("rows\nselect\t0\tp\n", "", Status::Good),
+    ("rows\r\nend\tp\n", "bad line 1: form\n", Status::BadLine),
+    ("rows\t\n", "bad line 1: form\n", Status::BadLine),
+    ("end\tp\nrows\n", "bad line 2: form\n", Status::BadLine),
+    ("Rows\n", "bad line 1: form\n", Status::BadLine),
+];
+
+#[test]
+fn spares_what_a_tag_rules_out(rt: HostRuntime) {
+    for (script, output, status) in &TRIED {
+        expect_run(
+            &rt,
+            rt.alloc(),
+            script.as_bytes(),
+            *status,
+            output.as_bytes(),
+        );
+    }
+}
+
+/// A script without the line `tries`, or an output without the field.
+fn without_tries(text: &str, kept: &mut String) -> Result<(), Fail> {
+    for line in text.split('\n') {
+        if line.is_empty() || line == "tries" {
+            continue;
+        }
+        let shown = match line.find("\ttries ") {
+            Some(place) => &line[..place],
+            None => line,
+        };
+        kept.push_str(shown)?;
+        kept.push_str("\n")?;
+    }
+    Ok(())
+}
+
+/// With `rows` a good script writes what it writes without, but for its tries.
+#[test]
+fn changes_no_other_field(rt: HostRuntime) -> Result<(), Fail> {
+    for (script, output, status) in &ANSWERED {
+        if *status == Status::BadLine {
+            continue;
+        }
+        let mut plain = String::new(rt.alloc());
+        plain.push_str("rows\n")?;
+        without_tries(script, &mut plain)?;
+        let mut lines = String::new(rt.alloc());
+        without_tries(output, &mut lines)?;
+        expect_run(&rt, rt.alloc(), plain.as_bytes(), *status, lines.as_bytes());
+    }
+    Ok(())
+}
