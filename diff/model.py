@@ -567,7 +567,7 @@ def keys_of(tests: tuple) -> Keys:
     names = [test[1].lower() for test in tests if test[0] == "name"]
     others = [test for test in tests if test[0] not in ("name", "any name")]
     asked = [key for test in others if is_of_attributes(test) and (key := attribute_key(test))]
-    key = next((key for kind in ("id", "class", "attribute") for key in asked if key[0] == kind), None)
+    key = next((key for kind in ("id", "class", "attribute") for key in reversed(asked) if key[0] == kind), None)
     opens = bool(others) and all(map(is_of_attributes, others)) and len(names) < 2
     return Keys(names[0] if names else None, key, opens)
 

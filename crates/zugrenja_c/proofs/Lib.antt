@@ -4,3 +4,4 @@ pub mod Statuses
 pub mod Buffers
 pub mod Closings
 pub mod ReasonTables
+pub mod Finishes
