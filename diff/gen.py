@@ -3,6 +3,7 @@
 
     python3 diff/gen.py --seed S NUMBER                prints one
     python3 diff/gen.py --seed S NUMBER --explain      with `explain` in it
+    python3 diff/gen.py --seed S NUMBER --rows         with `rows` in it
 """
 
 import argparse
@@ -267,24 +268,26 @@ def kind_named(name: str):
     return {kind.__name__: kind for kind in (*KINDS, many_selectors)}[name]
 
 
-def with_explain(r: random.Random, lines: list) -> list:
-    """The lines with `explain` somewhere before the first tag, now and then twice."""
+def with_line(r: random.Random, lines: list, line: bytes) -> list:
+    """The lines with this one somewhere before the first tag, now and then twice."""
     tags = [place for place, line in enumerate(lines) if line.startswith((b"start", b"drop", b"end"))]
     for _ in range(r.choice((1, 1, 1, 2))):
         place = r.randrange((tags or [len(lines)])[0] + 1)
-        lines = lines[:place] + [b"explain"] + lines[place:]
+        lines = lines[:place] + [line] + lines[place:]
     return lines
 
 
-def case(seed: int, number: int, kind=None, explain: bool = False) -> bytes:
-    """The script of this number under this seed, of a kind if one is given. With `explain` it is the same but for that line."""
+def case(seed: int, number: int, kind=None, explain: bool = False, rows: bool = False) -> bytes:
+    """The script of this number under this seed, of a kind if one is given. With `explain` or `rows` it is the same but for that line."""
     r = random.Random(f"{seed} {number}")
     lines = (kind or r.choices(list(KINDS), list(KINDS.values()))[0])(r)
     if r.random() < 0.04:
         lines.insert(r.randrange(len(lines) + 1), b"")
     last = r.choice((b"\n",) * 20 + (b"",))
     if explain:
-        lines = with_explain(random.Random(f"explain {seed} {number}"), lines)
+        lines = with_line(random.Random(f"explain {seed} {number}"), lines, b"explain")
+    if rows:
+        lines = with_line(random.Random(f"rows {seed} {number}"), lines, b"rows")
     return b"\n".join(lines) + last
 
 
@@ -292,9 +295,10 @@ def main():
     parser = argparse.ArgumentParser(description="Prints the script of a number under a seed.")
     parser.add_argument("--seed", type=int, default=1)
     parser.add_argument("--explain", action="store_true", help="write `explain` into it")
+    parser.add_argument("--rows", action="store_true", help="write `rows` into it")
     parser.add_argument("number", type=int)
     options = parser.parse_args()
-    sys.stdout.buffer.write(case(options.seed, options.number, explain=options.explain))
+    sys.stdout.buffer.write(case(options.seed, options.number, explain=options.explain, rows=options.rows))
 
 
 if __name__ == "__main__":

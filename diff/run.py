@@ -5,6 +5,7 @@
     python3 diff/run.py 20000 --seed 1 --store              and stores some of those on which all agree
     python3 diff/run.py 2000 --kind many_selectors          of one kind
     python3 diff/run.py 20000 --explain                     with reasons
+    python3 diff/run.py 20000 --rows                        with rows
     python3 diff/run.py --stored                            replays the stored cases
     python3 diff/run.py --stored --lines                    and tells which lines of the model they reach
 """
@@ -34,7 +35,7 @@ class Comparing:
 
     def __init__(self, port: str, peers: list, options):
         self.port, self.peers, self.seed, self.kind = port, peers, options.seed, options.kind
-        self.explain, self.keep = options.explain, options.store
+        self.explain, self.rows, self.keep = options.explain, options.rows, options.store
 
     def class_of(self, script: bytes, peer: Peer, port: tuple, other: tuple) -> str | None:
         """The known class of a difference. From the model none is known."""
@@ -73,7 +74,7 @@ class Comparing:
     def batch(self, numbers: range) -> tuple:
         counts, found, pool = collections.Counter(), [], []
         for number in numbers:
-            script = gen.case(self.seed, number, self.kind, self.explain)
+            script = gen.case(self.seed, number, self.kind, self.explain, self.rows)
             port = run_program(self.port, script)
             differences = self.differences(number, script, port, counts)
             found += differences
@@ -184,6 +185,7 @@ def main() -> int:
     parser.add_argument("--first", type=int, default=0, help="the number of the first case")
     parser.add_argument("--kind", type=gen.kind_named, help="the one kind of cases, by its name in gen.py")
     parser.add_argument("--explain", action="store_true", help="write `explain` into each script")
+    parser.add_argument("--rows", action="store_true", help="write `rows` into each script")
     parser.add_argument("--port", default=PORT, help="the program to test")
     parser.add_argument("--beside", nargs="+", action="extend", default=[],
                         help="programs that answer the same scripts")
