@@ -287,7 +287,8 @@ def case(seed: int, number: int, kind=None, explain: bool = False, rows: bool = 
     if explain:
         lines = with_line(random.Random(f"explain {seed} {number}"), lines, b"explain")
     if rows:
-        lines = with_line(random.Random(f"rows {seed} {number}"), lines, b"rows")
+        of_rows = random.Random(f"rows {seed} {number}")
+        lines = with_line(of_rows, lines, b"rows\t%d" % of_rows.choice([0] * 7 + [3, 10, 1000]))
     return b"\n".join(lines) + last
 
 

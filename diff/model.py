@@ -576,6 +576,7 @@ def keys_of(tests: tuple) -> Keys:
 
 GREATEST_COUNT = 2147483647
 ITEM_BYTES = 64
+ROWS_PAY_FROM = 256  # nodes, where the line `rows` gives no number
 
 
 class Document:
@@ -587,6 +588,7 @@ class Document:
         self.slots = 0
         self.paths = list(script.selectors.nodes)
         self.keys = [keys_of(path.tests) for path in self.paths]
+        self.has_rows = script.rows_from is not None and script.rows_from <= len(self.paths)
 
     def element_of(self, event: int, tag: StartTag) -> Element:
         """The element of a start tag that comes now, a child of the innermost open one (Selectors 4, 13.3, 13.4)."""
@@ -658,7 +660,7 @@ class Document:
             self.open_element(element, matching)
         report = sorted({identifier for node, identifier in pairs if node in matching})
         line = "start\t" + listed(f"{identifier}" if content else f"{identifier}/" for identifier in report)
-        if self.script.rows:
+        if self.has_rows:
             tried = self.looked_at(tried, element)
             needing = [node for node, tests in tried if all_by_names(tests, element) is OPEN]
         tries = f"\ttries {len(tried)} {len(needing)}" if self.script.tries else ""
@@ -690,7 +692,7 @@ class Script:
     esi: bool = False
     tries: bool = False
     explain: bool = False
-    rows: bool = False
+    rows_from: int | None = None
     selects: list = field(default_factory=list)  # for each line its number, its id and the numbers of its items' paths
     selectors: Selectors = field(default_factory=Selectors)
     tags: list = field(default_factory=list)
@@ -711,7 +713,9 @@ class Script:
             case [b"explain"]:
                 self.explain = True
             case [b"rows"]:
-                self.rows = True
+                self.rows_from = ROWS_PAY_FROM
+            case [b"rows", fewest]:
+                self.rows_from = number(fewest, 2**64 - 1, "form")
             case [b"limit", limit]:
                 self.limit = number(limit, 2**64 - 1, "form")
             case [b"select", identifier, _, *_]:

@@ -1,6 +1,5 @@
 mod AttributeValues
 mod MarkLemmas
-mod KeyLemmas
 mod MatcherLemmas
 pub mod PredicateMarkLemmas
 mod WordPlaces

@@ -11,6 +11,7 @@ pub mod AttributeLaws
 pub mod Compiled
 pub mod Keys
 pub mod CompiledKeys
+pub mod OpenKeyLaws
 pub mod CompiledRowLaws
 pub mod DecisionLaws
 pub mod Running

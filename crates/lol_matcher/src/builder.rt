@@ -43,7 +43,7 @@ impl Model for MatcherBuilder {
 }
 
 impl MatcherBuilder {
-    ghost use Rattle.std.specs.Prelude.{◌≡◌, [], true, false, IfOk, IfErr, OnOk, max};
+    ghost use Rattle.std.specs.Prelude.{◌≡◌, ◌||◌, nat_le, length, [], true, false, IfOk, IfErr, OnOk, max};
     ghost use Rattle.lol_instructions.specs.Tries.{names_counted, attributes_counted};
     ghost use Rattle.lol_program.specs.Asts.{pairs_of, nodes_of, is_with_rows};
     ghost use Rattle.lol_matcher.specs.Building.{Adds, Refuses, started_with};
@@ -106,6 +106,19 @@ impl MatcherBuilder {
     {
         let ast = mem::replace(&mut self.ast, Ast::new(self.alloc));
         self.ast = ast.with_rows();
+    }
+
+    /// The same if so many nodes were added: `ROWS_PAY_FROM` of them, where rows are to pay. A selector gives as many nodes as it has
+    /// compounds, but for those that begin as another one does. It is called after the selectors were added, and takes no memory.
+    pub fn with_rows_from(&mut self, fewest: usize)
+        ensures pairs { pairs_of self.new.ast ≡ pairs_of self.old.ast }
+        ensures nodes { nodes_of self.new.ast ≡ nodes_of self.old.ast }
+        ensures rows { is_with_rows self.new.ast
+            ≡ (is_with_rows self.old.ast || nat_le fewest (length (nodes_of self.old.ast))) }
+        ensures rest { self.new ≡ record self.old { ast = self.new.ast } }
+    {
+        let ast = mem::replace(&mut self.ast, Ast::new(self.alloc));
+        self.ast = ast.with_rows_from(fewest);
     }
 
     /// Adds the selectors of a text, a list of them with commas, under an id. Several texts may have one id.

@@ -13,6 +13,9 @@ use lol_css::{ComplexSelector, Selector, SelectorList};
 use lol_memory::MatchId;
 use std::alloc::{AllocError, Global};
 
+/// From so many nodes on, rows take less time than they cost (measured: docs/TESTED.md).
+pub const ROWS_PAY_FROM: usize = 256;
+
 /// The selectors that are looked for, as a tree in which equal beginnings are shared (lol_html's `Ast`). Seen from outside it is a set
 /// of nodes, each known by its path, and a set of pairs of a path and an id.
 #[derive(Debug, Drop, PartialEq, Eq)]
@@ -27,7 +30,7 @@ pub struct Ast {
 }
 
 impl Ast {
-    ghost use Rattle.std.specs.Prelude.{◌≢◌, ℕ, List, [], ◌∷◌, true, false, Some, IfOk, OnOk, OnErr, IsOk, Contains, length, map, flat_map, AllPairs};
+    ghost use Rattle.std.specs.Prelude.{◌≢◌, ◌||◌, nat_le, ℕ, List, [], ◌∷◌, true, false, Some, IfOk, OnOk, OnErr, IsOk, Contains, length, map, flat_map, AllPairs};
     ghost use Rattle.lol_css.specs.TreeViews.{item_of, list_of};
     ghost use Rattle.lol_program.specs.Paths.{Path, beginnings, all_beginnings};
     ghost use Rattle.lol_program.specs.Conditions.{pairs_under, path_of};
@@ -59,6 +62,18 @@ impl Ast {
         let mut ast = self;
         ast.with_rows = true;
         ast
+    }
+
+    /// The same tree, whose program is made with rows if it has so many nodes or more.
+    pub fn with_rows_from(self, fewest: usize) -> Ast
+        ensures nodes { nodes_of result ≡ nodes_of self }
+        ensures pairs { pairs_of result ≡ pairs_of self }
+        ensures rows { is_with_rows result ≡ (is_with_rows self || nat_le fewest (length (nodes_of self))) }
+    {
+        if self.cumulative_node_count() < fewest {
+            return self;
+        }
+        self.with_rows()
     }
 
     /// Whether its program is made with rows.

@@ -14,7 +14,7 @@ mod predicate;
 mod program;
 mod reserved_id;
 
-pub use ast::Ast;
+pub use ast::{Ast, ROWS_PAY_FROM};
 pub use ast_node::AstNode;
 pub use compilable::Compilable;
 pub use compiler::Compiler;

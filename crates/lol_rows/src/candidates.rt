@@ -31,9 +31,9 @@ impl Candidates<'_> {
         }
     }
 
-    /// The one at an index below their number. It takes one step.
+    /// The one at an index below their number.
     #[inline(always)]
-    pub fn address(&self, index: usize) -> usize
+    fn address(&self, index: usize) -> usize
         requires { index < length (candidate_addresses self.now) }
         ensures { slice_get (candidate_addresses self.now) index ≡ Some result }
     {

@@ -4,10 +4,12 @@ use Rattle.std.specs.Prelude.{codes, decimal, if◌then◌else◌}
 use Rattle.std.specs.List.{concat}
 use Rattle.std.proofs.lemmas.List.{append_assoc, append-nil, take_at}
 use Rattle.std.proofs.lemmas.List.Folds.{concat-append}
-use Rattle.lol_program.specs.Asts.{is_with_rows}
+use Rattle.lol_base.specs.MemberLaws.{among_too, distinct_from_pairs, same_length}
+use Rattle.lol_program.specs.Asts.{is_with_rows, nodes_of}
 use Rattle.lol_program.specs.ClosedLaws.{trees_are_closed}
 use Rattle.lol_program.specs.PairNodeLaws.{nodes_of-AreNodes}
-use Rattle.lol_program.specs.Paths.{Selectors}
+use Rattle.lol_program.specs.Nodes.{selectors_of}
+use Rattle.lol_program.specs.Paths.{Path, Selectors}
 use Rattle.lol_program.specs.declared.ast.Ast.{Ast}
 use Rattle.lol_reasons.specs.Explanations.{added_by, reasons_at}
 use Rattle.lol_reasons.specs.NumberingLaws.{NodesDecideTheRest}
@@ -29,7 +31,7 @@ use Rattle.lol_script.specs.Explaining.{Explains, IfExplained, IsNewRun, IsRunTh
 use Rattle.lol_script.specs.FieldLists.{tries_shown}
 use Rattle.lol_script.specs.Output.{comma_list, lines_of, shown_answer, tries_field}
 use Rattle.lol_script.specs.Readings.{IsReading}
-use Rattle.lol_script.specs.Scripts.{Output, Script, output_of, pairs_in, reason_lines, run_output, selectors_in, shown_cause, text_for, texts_for, texts_in, with_event}
+use Rattle.lol_script.specs.Scripts.{Output, Script, makes_rows, output_of, pairs_in, reason_lines, run_output, selectors_in, shown_cause, text_for, texts_for, texts_in, with_event}
 use Rattle.lol_script.specs.SelectLines.{KeepsLines}
 use Rattle.lol_script.specs.declared.explained.Explained.{Explained}
 use Rattle.lol_script.specs.declared.program.Status.{Status}
@@ -40,15 +42,24 @@ use Rattle.lol_script.specs.declared.script_run.ScriptRun.{ScriptRun}
 use Rattle.lol_script.specs.declared.settings.Settings.{Settings}
 
 -- the selectors of a tree that has rows where the script says so
-pub same_selectors : (code : Settings) (s : Script) → IsReading code s → SameSelectors (record (selectors code.ast) { by_keys = code.has_rows }) (selectors_in s)
+abbrev pub with_rows_of : Settings → Selectors
+with_rows_of code = record (selectors code.ast) { by_keys = makes_rows code.rows_from (length (nodes_of code.ast)) }
+
+pub same_selectors : (code : Settings) (s : Script) → IsReading code s → SameSelectors (with_rows_of code) (selectors_in s)
 same_selectors code s reading =
     let are = nodes_of-AreNodes (pairs_in s) in
+    let once = (trees_are_closed false code.ast).once in
+    let nodes = λ (node : Path). (λ h. (are.members node).1 ((reading.nodes node).0 h), λ h. (reading.nodes node).1 ((are.members node).0 h)) in
+    let all = (selectors_of (pairs_in s)).nodes in
+    let count : length (nodes_of code.ast) ≡ length all = 
+    same_length (nodes_of code.ast) all (distinct_from_pairs (nodes_of code.ast) once) (distinct_from_pairs all are.each_once)
+    (among_too (nodes_of code.ast) all (λ node. (nodes node).0)) (among_too all (nodes_of code.ast) (λ node. (nodes node).1)) in
     record {
       pairs = reading.pairs;
-      nodes = λ node. (λ h. (are.members node).1 ((reading.nodes node).0 h), λ h. (reading.nodes node).1 ((are.members node).0 h));
-      each_once = (trees_are_closed false code.ast).once;
+      nodes = nodes;
+      each_once = once;
       each_once' = are.each_once;
-      mode = reading.has_rows;
+      mode = λ i. makes_rows (reading.rows_from i) (count i);
     }
 
 -- 1. What is written for each event
@@ -258,7 +269,7 @@ explained_is P answering.Plain h = absurd h
 explained_is P answering.Refused h = absurd h
 explained_is P (answering.WithReasons x) h = (x, refl, h)
 
-module _ (code : ScriptRun) (settings : Settings) (tree : Ast) (with_rows : selectors tree ≡ record (selectors settings.ast) { by_keys = settings.has_rows }) (s : Script) (reading : IsReading settings s) (shows : code.shows_tries ≡ settings.shows_tries)
+module _ (code : ScriptRun) (settings : Settings) (tree : Ast) (with_rows : selectors tree ≡ with_rows_of settings) (s : Script) (reading : IsReading settings s) (shows : code.shows_tries ≡ settings.shows_tries)
     (none : code.text.items ≡ []) (limiter : code.limiter ≡ limiter_of s) (word : s.limit ≤ 18446744073709551615) where
   -- a new run is one through a script without events
   begins : (sel : Selectors) → IsNewRun sel settings.esi code.run → IsRunThrough sel s code.run s.events code.limiter
@@ -271,7 +282,7 @@ module _ (code : ScriptRun) (settings : Settings) (tree : Ast) (with_rows : sele
   nothing_written sel = none ∙ ap (λ (events : List Event). concat (texts_for sel s empty events)) (sym reading.none)
 
   pub begun : (settings.explains ≡ false → (code.answering ≡ answering.Plain) × IsNewRun (selectors tree) settings.esi code.run)
-      → (settings.explains ≡ true → IfExplained code.answering (λ explained. (t : Script) → KeepsLines settings.selects t.selects → is_with_rows tree ≡ t.has_rows → (numbered : Selectors) × Explains explained t numbered × IsNewRun numbered settings.esi code.run))
+      → (settings.explains ≡ true → IfExplained code.answering (λ explained. (t : Script) → KeepsLines settings.selects t.selects → is_with_rows tree ≡ (selectors_in t).by_keys → (numbered : Selectors) × Explains explained t numbered × IsNewRun numbered settings.esi code.run))
       → Answers code s
   begun plain explained = by_explains settings.explains refl
     where
@@ -289,7 +300,7 @@ module _ (code : ScriptRun) (settings : Settings) (tree : Ast) (with_rows : sele
       by_explains true is =
           let sel = selectors_in s in
           let some = explained_is _ code.answering (explained is) in
-          let new = some.2 s reading.selects (ap (λ (t : Selectors). t.by_keys) with_rows ∙ reading.has_rows) in
+          let new = some.2 s reading.selects (ap (λ (t : Selectors). t.by_keys) with_rows ∙ (same_selectors settings s reading).mode) in
           record {
             selectors = sel;
             same = λ events. refl;

@@ -15,7 +15,7 @@ use Rattle.std.proofs.lemmas.List.Sums.{fails_before_first, passes_at_first, pos
 use Rattle.lol_base.specs.BoolLaws.{not_true}
 use Rattle.lol_base.specs.CodePoints.{tab}
 use Rattle.memchr.specs.Find.{IsFirstByte, Nowhere, Passes}
-use Rattle.lol_script.specs.Script.{Line, Select, is_tab, limit_at, select_at, end_at, of_kind, from_fields, line_at, number_up_to}
+use Rattle.lol_script.specs.Script.{Line, Select, is_tab, limit_at, rows_at, select_at, end_at, of_kind, from_fields, line_at, number_up_to}
 
 pub pos_in : (n m : ℕ) → cond (nat_lt n m) (Some n) None ≡ None → m ≤ n
 pos_in n m h = grind (arith, nat_tests)
@@ -82,6 +82,9 @@ select_by_cut id text =
 pub limit_too_long : (number rest : List ℕ) → limit_at (number ∷ slice_split is_tab rest) ≡ None
 limit_too_long number rest = let h = has_fields rest in ap (λ fields. limit_at (number ∷ fields)) h.is
 
+pub rows_too_long : (number rest : List ℕ) → rows_at (number ∷ slice_split is_tab rest) ≡ None
+rows_too_long number rest = let h = has_fields rest in ap (λ fields. rows_at (number ∷ fields)) h.is
+
 pub end_too_long : (name rest : List ℕ) → end_at (name ∷ slice_split is_tab rest) ≡ None
 end_too_long name rest = let h = has_fields rest in ap (λ fields. end_at (name ∷ fields)) h.is
 
@@ -89,18 +92,17 @@ abbrev nothing : Option Line
 nothing = None
 
 -- a line of several fields is of one of the kinds that have some
-pub none_of_kind : (kind rest : List ℕ) → bytes_eq kind (codes "limit") ≡ false → bytes_eq kind (codes "select") ≡ false → bytes_eq kind (codes "start") ≡ false
-    → bytes_eq kind (codes "drop") ≡ false → bytes_eq kind (codes "end") ≡ false → of_kind kind (slice_split is_tab rest) ≡ None
-none_of_kind kind rest limit select start drops end =
+pub none_of_kind : (kind rest : List ℕ) → bytes_eq kind (codes "limit") ≡ false → bytes_eq kind (codes "rows") ≡ false → bytes_eq kind (codes "select") ≡ false
+    → bytes_eq kind (codes "start") ≡ false → bytes_eq kind (codes "drop") ≡ false → bytes_eq kind (codes "end") ≡ false → of_kind kind (slice_split is_tab rest) ≡ None
+none_of_kind kind rest limit rows select start drops end =
     let h = has_fields rest in
-    ap (of_kind kind) h.is ∙ rw limit (rw select (rw start (rw drops (rw end (neither (bytes_eq kind (codes "esi")) (bytes_eq kind (codes "tries")) (bytes_eq kind (codes "explain")) (bytes_eq kind (codes "rows")))))))
+    ap (of_kind kind) h.is ∙ rw limit (rw rows (rw select (rw start (rw drops (rw end (neither (bytes_eq kind (codes "esi")) (bytes_eq kind (codes "tries")) (bytes_eq kind (codes "explain"))))))))
   where
-    neither : (a b c d : Bool) → (if a then None else (if b then None else (if c then None else (if d then None else None)))) ≡ nothing
-    neither true b c d = refl
-    neither false true c d = refl
-    neither false false true d = refl
-    neither false false false true = refl
-    neither false false false false = refl
+    neither : (a b c : Bool) → (if a then None else (if b then None else (if c then None else None))) ≡ nothing
+    neither true b c = refl
+    neither false true c = refl
+    neither false false true = refl
+    neither false false false = refl
 
 -- the first place that a search finds after n bytes that don't pass
 pub far_first : (p : ℕ → Bool) (xs : List ℕ) (n : ℕ) (found : Option ℕ) → n ≤ length xs → Nowhere (Passes p xs) 0 n → IsFirstByte p (drop n xs) found
@@ -153,8 +155,8 @@ none_bare bytes esi tries explain rows = rw esi (rw tries (rw explain (rw rows (
 -- A line that begins with none of the kinds that have fields is a bare one, or of none of the forms.
 pub bare_or_none : (bytes : List ℕ) → ((rest : List ℕ) → bytes ≢ codes "start" ++ tab ∷ rest) → ((rest : List ℕ) → bytes ≢ codes "end" ++ tab ∷ rest)
     → ((rest : List ℕ) → bytes ≢ codes "drop" ++ tab ∷ rest) → ((rest : List ℕ) → bytes ≢ codes "select" ++ tab ∷ rest)
-    → ((rest : List ℕ) → bytes ≢ codes "limit" ++ tab ∷ rest) → of_kind bytes [] ≡ line_at bytes
-bare_or_none bytes start end drops select limit = by_tab (position is_tab bytes) refl
+    → ((rest : List ℕ) → bytes ≢ codes "limit" ++ tab ∷ rest) → ((rest : List ℕ) → bytes ≢ codes "rows" ++ tab ∷ rest) → of_kind bytes [] ≡ line_at bytes
+bare_or_none bytes start end drops select limit rows = by_tab (position is_tab bytes) refl
   where
     by_tab : (found : Option ℕ) → position is_tab bytes ≡ found → of_kind bytes [] ≡ line_at bytes
     by_tab None h = sym (ap from_fields (split_none bytes h))
@@ -164,5 +166,5 @@ bare_or_none bytes start end drops select limit = by_tab (position is_tab bytes)
         let is = cut_at bytes n h in
         none_bare bytes (without_tab bytes (codes "esi") n h refl) (without_tab bytes (codes "tries") n h refl) (without_tab bytes (codes "explain") n h refl) (without_tab bytes (codes "rows") n h refl)
         ∙ sym (ap from_fields (split_some bytes n h)
-        ∙ none_of_kind kind rest (isnt_kind bytes kind rest _ is limit) (isnt_kind bytes kind rest _ is select)
+        ∙ none_of_kind kind rest (isnt_kind bytes kind rest _ is limit) (isnt_kind bytes kind rest _ is rows) (isnt_kind bytes kind rest _ is select)
         (isnt_kind bytes kind rest _ is start) (isnt_kind bytes kind rest _ is drops) (isnt_kind bytes kind rest _ is end))

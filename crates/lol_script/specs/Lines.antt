@@ -37,7 +37,7 @@ set_by (Limit maximum) = script.SetLimit maximum
 set_by Esi = script.TurnEsiOn
 set_by Tries = script.ShowTries
 set_by Explain = script.ShowReasons
-set_by Rows = script.MakeRows
+set_by (Rows fewest) = script.MakeRows fewest
 set_by (Select id text) = script.Select id text.now
 
 -- what the code's line says

@@ -29,7 +29,7 @@ pub record IsReading (code : Settings) (s : Script) : Type 0 where
   pub esi : code.esi ≡ s.esi
   pub shows_tries : code.shows_tries ≡ s.shows_tries
   pub explains : code.explains ≡ s.explains
-  pub has_rows : code.has_rows ≡ s.has_rows
+  pub rows_from : code.rows_from ≡ s.rows_from
   pub pairs : SameMembers (pairs_in s) (pairs_of code.ast)
   pub nodes : SameMembers (all_beginnings (pairs_in s)) (nodes_of code.ast)
   pub rows : is_with_rows code.ast ≡ false

@@ -13,7 +13,7 @@ pub data Line : Type 0 where
   TurnEsiOn : Line
   ShowTries : Line
   ShowReasons : Line
-  MakeRows : Line
+  MakeRows : (fewest : ℕ) → Line  -- from so many nodes on
   Select : (id : ℕ) (text : List ℕ) → Line
   StartLine : (tag : StartTag) → Line
   EndLine : (name : List ℕ) → Line
@@ -80,6 +80,12 @@ abbrev pub limit_at : List (List ℕ) → Option Line
 limit_at (field ∷ []) = option_map SetLimit (number_up_to 18446744073709551615 field)
 limit_at other = None
 
+-- rows from so many nodes on, or where no number is given from so many as rows pay for
+abbrev pub rows_at : List (List ℕ) → Option Line
+rows_at [] = Some (MakeRows 256)
+rows_at (field ∷ []) = option_map MakeRows (number_up_to 18446744073709551615 field)
+rows_at other = None
+
 -- a line without further fields
 abbrev pub bare_line : Line → List (List ℕ) → Option Line
 bare_line line [] = Some line
@@ -89,7 +95,7 @@ abbrev pub of_kind : List ℕ → List (List ℕ) → Option Line
 of_kind kind fields =
     if bytes_eq kind (codes "limit") then limit_at fields else (if bytes_eq kind (codes "esi") then bare_line TurnEsiOn fields
     else (if bytes_eq kind (codes "tries") then bare_line ShowTries fields else (if bytes_eq kind (codes "explain") then bare_line ShowReasons fields
-    else (if bytes_eq kind (codes "rows") then bare_line MakeRows fields else (if bytes_eq kind (codes "select") then select_at fields
+    else (if bytes_eq kind (codes "rows") then rows_at fields else (if bytes_eq kind (codes "select") then select_at fields
     else (if bytes_eq kind (codes "start") then start_at true fields else (if bytes_eq kind (codes "drop") then start_at false fields
     else (if bytes_eq kind (codes "end") then end_at fields else None))))))))
 

@@ -1,5 +1,5 @@
 -- What a whole script asks for, and what is written for it.
-use Rattle.std.specs.Prelude.{ℕ, ◌+◌, Bool, false, true, ◌==◌, if◌then◌else◌, List, [], ◌∷◌, ◌++◌, flat_map, get_or, map, take, Option, Some, None, Result, Ok, Err, codes}
+use Rattle.std.specs.Prelude.{ℕ, ◌+◌, Bool, false, true, ◌==◌, if◌then◌else◌, List, [], ◌∷◌, ◌++◌, flat_map, get_or, length, map, nat_le, take, Option, Some, None, Result, Ok, Err, codes}
 use Rattle.std.specs.List.{concat, slice_split}
 use Rattle.lol_css.specs.Accepting.{accept}
 use Rattle.lol_base.specs.CodePoints.{line_feed}
@@ -27,18 +27,19 @@ pub record SelectLine : Type 0 where
   pub number : ℕ
   pub text : Text
 
--- What is asked for: the greatest usage, whether ESI is on, tries and reasons are shown, and there are rows, the selectors, the tags.
+-- What is asked for: the greatest usage, whether ESI is on, tries and reasons are shown, from how many nodes on there are rows if any are
+-- asked for, the selectors, the tags.
 pub record Script : Type 0 where
   pub limit : ℕ
   pub esi : Bool
   pub shows_tries : Bool
   pub explains : Bool
-  pub has_rows : Bool
+  pub rows_from : Option ℕ
   pub selects : List SelectLine
   pub events : List Event
 
 abbrev pub empty_script : Script
-empty_script = record { limit = 18446744073709551615; esi = false; shows_tries = false; explains = false; has_rows = false; selects = []; events = [] }
+empty_script = record { limit = 18446744073709551615; esi = false; shows_tries = false; explains = false; rows_from = None; selects = []; events = [] }
 
 abbrev pub texts_in : Script → List Text
 texts_in s = map (λ line. line.text) s.selects
@@ -47,9 +48,16 @@ texts_in s = map (λ line. line.text) s.selects
 abbrev pub pairs_in : Script → List (Path × ℕ)
 pairs_in s = flat_map (λ text. pairs_under text.id text.items) (texts_in s)
 
+-- whether there are rows over so many nodes
+abbrev pub makes_rows : Option ℕ → ℕ → Bool
+makes_rows None nodes = false
+makes_rows (Some fewest) nodes = nat_le fewest nodes
+
 -- the selectors of a script, under their ids; their nodes are spared by keys where there are rows
 abbrev pub selectors_in : Script → Selectors
-selectors_in s = record (selectors_of (pairs_in s)) { by_keys = s.has_rows }
+selectors_in s =
+    let all = selectors_of (pairs_in s) in
+    record all { by_keys = makes_rows s.rows_from (length all.nodes) }
 
 abbrev pub malformed : ℕ → Result Script BadLine
 malformed number = Err (record { number = number; cause = Form })
@@ -76,7 +84,7 @@ with_line number s (SetLimit maximum) = unless_begun s.events number (Ok (record
 with_line number s TurnEsiOn = unless_begun s.events number (Ok (record s { esi = true }))
 with_line number s ShowTries = unless_begun s.events number (Ok (record s { shows_tries = true }))
 with_line number s ShowReasons = unless_begun s.events number (Ok (record s { explains = true }))
-with_line number s MakeRows = unless_begun s.events number (Ok (record s { has_rows = true }))
+with_line number s (MakeRows fewest) = unless_begun s.events number (Ok (record s { rows_from = Some fewest }))
 with_line number s (Select id text) = unless_begun s.events number (with_selector number s id (accept text))
 with_line number s (StartLine tag) = Ok (with_event s (Start tag))
 with_line number s (EndLine name) = Ok (with_event s (End name))

@@ -12,6 +12,7 @@ ghost use Rattle.lol_script.specs.Explaining.{Explains, Tells, lines_by, reporte
 ghost use Rattle.lol_script.specs.FieldLists.{list_text, was_refused};
 ghost use Rattle.lol_script.specs.Output.{comma_list, lines_of, shown_match};
 ghost use Rattle.lol_script.specs.Scripts as scripts;
+ghost use Rattle.lol_script.specs.Scripts.{selectors_in};
 ghost use Rattle.lol_script.specs.SelectLines.{KeepsLines};
 
 use crate::output::{FieldList, push_reason};
@@ -41,7 +42,8 @@ impl Explained {
         selects: &SelectLines,
         has_rows: bool,
     ) -> Result<(Ast, Self), AllocError>
-        ensures { IfOk result (λ made. (s : scripts.Script) → KeepsLines selects.now s.selects → has_rows ≡ s.has_rows
+        ensures { IfOk result (λ made. (s : scripts.Script) → KeepsLines selects.now s.selects
+            → has_rows ≡ (selectors_in s).by_keys
             → Explains made.1 s (selectors made.0)) }
     {
         lol_reasons::laws::numbers_change_reports_alone();

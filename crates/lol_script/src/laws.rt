@@ -29,9 +29,11 @@ pub fn worked_settings()
     ensures explain_return { line_at (codes "explain\r") ≡ None }
     ensures explain_tab { line_at (codes "explain\t") ≡ None }
     ensures explain_capital { line_at (codes "Explain") ≡ None }
-    ensures rows { line_at (codes "rows") ≡ Some MakeRows }
+    ensures rows { line_at (codes "rows") ≡ Some (MakeRows 256) }
+    ensures rows_from { line_at (codes "rows\t0") ≡ Some (MakeRows 0) }
     ensures rows_return { line_at (codes "rows\r") ≡ None }
     ensures rows_tab { line_at (codes "rows\t") ≡ None }
+    ensures rows_two { line_at (codes "rows\t1\t2") ≡ None }
     ensures rows_capital { line_at (codes "Rows") ≡ None }
     ensures limit_tab { line_at (codes "limit\t5\t") ≡ None }
     ensures no_text { line_at (codes "select\t0") ≡ None }
@@ -68,7 +70,7 @@ pub fn worked_outputs()
     ensures tries { output (codes "tries\nselect\t0\tdiv p\nselect\t1\tdiv > p\n"
         ++ codes "start\thtml\tdiv\nstart\thtml\tsection\nstart\thtml\tp\nend\tdiv\n")
         ≡ written (codes "start\t-\ttries 1 0\nstart\t-\ttries 3 0\nstart\t0\ttries 2 0\nend\t0,1,2\n") Good }
-    ensures tries_with_rows { output (codes "rows\ntries\nselect\t0\tdiv p\nselect\t1\t.a\nselect\t2\tp\n"
+    ensures tries_with_rows { output (codes "rows\t0\ntries\nselect\t0\tdiv p\nselect\t1\t.a\nselect\t2\tp\n"
         ++ codes "start\thtml\tdiv\nstart\thtml\tp\tclass=a\n")
         ≡ written (codes "start\t-\tasked\ttries 1 0\nstart\t0,1,2\tasked\ttries 3 1\n") Good }
     ensures without_content { output (codes "select\t4\t* > br, P\nselect\t2\tp\n"

@@ -4,7 +4,7 @@ ghost use Rattle.std.specs.Prelude.{◌≡◌, ◌≢◌, ◌<◌, ◌∷◌, �
 ghost use Rattle.std.specs.Str.{is_utf8};
 ghost use Rattle.std.specs.List.{slice_split, list_all};
 ghost use Rattle.lol_base.specs.CodePoints.{tab};
-ghost use Rattle.lol_script.specs.Script.{is_tab, is_named, attribute_at, namespace_at, number_up_to, limit_at, select_at, start_at, end_at, of_kind, line_at};
+ghost use Rattle.lol_script.specs.Script.{is_tab, is_named, attribute_at, namespace_at, number_up_to, limit_at, rows_at, select_at, start_at, end_at, of_kind, line_at};
 ghost use Rattle.lol_base.specs.declared.start_tag.AttributeOutline.{AttributeOutline};
 ghost use Rattle.lol_script.specs.Lines.{HasOutlines, fields_of, said_by};
 
@@ -41,8 +41,8 @@ pub enum Setting<'s> {
     /// Reasons are shown.
     Explain,
 
-    /// The machine is made with rows.
-    Rows,
+    /// The machine is made with rows if it has so many nodes or more.
+    Rows { fewest: u64 },
 
     /// A selector, and the id that it is added under.
     Select { id: u32, text: &'s str },
@@ -61,6 +61,9 @@ pub struct StartLine<'s> {
     /// Whether the attributes are handed over where they are asked for.
     pub finish: bool,
 }
+
+/// From so many nodes on there are rows where a line doesn't say from how many.
+const ROWS_PAY_FROM: u64 = 256;
 
 /// How many bytes are looked at one by one. Most fields are shorter, and a call of `memchr` costs more than these.
 const NEAR: usize = 8;
@@ -149,6 +152,18 @@ fn limit_of(rest: &[u8]) -> Option<Line<'_>>
     }
     let maximum = number(rest)?;
     Some(Line::Setting(Setting::Limit { maximum }))
+}
+
+#[tactic(auto, using(crate::proofs::Fields::rows_too_long))]
+fn rows_of(rest: &[u8]) -> Option<Line<'_>>
+    ensures said { option_map said_by result ≡ rows_at (slice_split is_tab rest.now) }
+    ensures outlines { (outlines : List AttributeOutline) → IfSome result (HasOutlines outlines) }
+{
+    if cut(rest).is_some() {
+        return None;
+    }
+    let fewest = number(rest)?;
+    Some(Line::Setting(Setting::Rows { fewest }))
 }
 
 #[tactic(auto, using(crate::proofs::Fields::select_by_cut))]
@@ -285,7 +300,9 @@ fn bare_line(kind: &[u8]) -> Option<Line<'static>>
     } else if kind == b"explain".as_slice() {
         Some(Line::Setting(Setting::Explain))
     } else if kind == b"rows".as_slice() {
-        Some(Line::Setting(Setting::Rows))
+        Some(Line::Setting(Setting::Rows {
+            fewest: ROWS_PAY_FROM,
+        }))
     } else {
         None
     }
@@ -307,6 +324,8 @@ fn other_line<'s>(
         start_of(rest, false, outlines)
     } else if let Some(rest) = after_kind(bytes, b"limit") {
         Ok(limit_of(rest))
+    } else if let Some(rest) = after_kind(bytes, b"rows") {
+        Ok(rows_of(rest))
     } else {
         Ok(bare_line(bytes))
     }

@@ -18,7 +18,7 @@ ghost use Rattle.lol_script.specs.Lines.{AreOutlinesOf, start_tag_of};
 ghost use Rattle.lol_script.specs.Output.{lines_of, tries_field};
 ghost use Rattle.lol_script.specs.Readings.{ForReading, Stops};
 ghost use Rattle.lol_script.specs.Scripts as scripts;
-ghost use Rattle.lol_script.specs.Scripts.{output_of, shown_cause, with_bytes, with_event};
+ghost use Rattle.lol_script.specs.Scripts.{output_of, selectors_in, shown_cause, with_bytes, with_event};
 ghost use Rattle.lol_script.specs.SelectLines.{KeepsLines};
 ghost use Rattle.lol_script.specs.declared.script_run.Answering.TheVariants.{Plain, Refused};
 
@@ -28,7 +28,7 @@ use crate::lines::{Line, StartLine, line_of};
 use crate::output::{FieldList, push_ended, push_line, push_started};
 use crate::program::Status;
 use crate::select_lines::SelectLines;
-use crate::settings::{Settings, Stop, malformed, with_rows_if};
+use crate::settings::{Settings, Stop, malformed, with_rows_from};
 use crate::tags::handed_over;
 use lol_reasons::Reason;
 use lol_reasons::laws::numbers_change_reports_alone;
@@ -78,11 +78,11 @@ impl ScriptRun {
             esi,
             shows_tries,
             explains,
-            has_rows,
+            rows_from,
             ast,
             selects,
         } = settings;
-        let ast = with_rows_if(ast, has_rows);
+        let ast = with_rows_from(ast, rows_from);
         let (run, answering) = new_run(alloc, ast, &selects, explains, esi)?;
         Ok(ScriptRun {
             run,
@@ -283,7 +283,7 @@ fn new_run(
     ensures plain { explains ≡ false
         → IfOk result (λ made. (made.1 ≡ Plain) × IsNewRun (selectors ast) esi made.0) }
     ensures explained { explains ≡ true → IfOk result (λ made. IfExplained made.1 (λ explained.
-        (s : scripts.Script) → KeepsLines selects.now s.selects → is_with_rows ast ≡ s.has_rows
+        (s : scripts.Script) → KeepsLines selects.now s.selects → is_with_rows ast ≡ (selectors_in s).by_keys
         → (numbered : Selectors) × Explains explained s numbered × IsNewRun numbered esi made.0)) }
 {
     if explains {
@@ -303,7 +303,8 @@ fn explained_run(
     has_rows: bool,
     esi: bool,
 ) -> Result<(EventRun, Explained), AllocError>
-    ensures { IfOk result (λ made. (s : scripts.Script) → KeepsLines selects.now s.selects → has_rows ≡ s.has_rows
+    ensures { IfOk result (λ made. (s : scripts.Script) → KeepsLines selects.now s.selects
+        → has_rows ≡ (selectors_in s).by_keys
         → (numbered : Selectors) × Explains made.1 s numbered × IsNewRun numbered esi made.0) }
 {
     let (ast, mut explained) = Explained::new(alloc, selects, has_rows)?;

@@ -1,9 +1,9 @@
 //! The settings of a script, which stand before its tags.
 
-ghost use Rattle.std.specs.Prelude.{◌≡◌, ◌<◌, ◌∷◌, [], None, false, IfOk, IfErr, IfSome, OnOk};
+ghost use Rattle.std.specs.Prelude.{◌≡◌, ◌<◌, ◌∷◌, [], None, false, IfOk, IfErr, IfSome, OnOk, length};
 ghost use Rattle.std.specs.Bool.{MatchBool};
 ghost use Rattle.lol_css.specs.Accepting.{accept};
-ghost use Rattle.lol_program.specs.Asts.{is_with_rows};
+ghost use Rattle.lol_program.specs.Asts.{is_with_rows, nodes_of};
 ghost use Rattle.lol_vm.specs.Views.{selectors};
 ghost use Rattle.lol_script.specs.Devices.{ReadsToEnd, failures_of};
 ghost use Rattle.lol_script.specs.Lines.{set_by};
@@ -11,7 +11,7 @@ ghost use Rattle.lol_script.specs.ReadLines.{no_lines};
 ghost use Rattle.lol_script.specs.Readings.{AddsSelectors, ForReading, IsReading, IsReadTo, IsStop, IsTagLine, ReadsScript, Stops};
 ghost use Rattle.lol_script.specs.Script.{line_at};
 ghost use Rattle.lol_script.specs.Scripts as scripts;
-ghost use Rattle.lol_script.specs.Scripts.{empty_script, output, with_bytes, with_line, with_selector};
+ghost use Rattle.lol_script.specs.Scripts.{empty_script, makes_rows, output, with_bytes, with_line, with_selector};
 ghost use Rattle.lol_script.specs.declared.program.Status.TheVariants.{Good};
 
 use crate::bad_line::{BadLine, Cause};
@@ -37,8 +37,8 @@ pub struct Settings {
     /// Whether reasons are shown.
     pub explains: bool,
 
-    /// Whether the machine is made with rows. The tree is without them.
-    pub has_rows: bool,
+    /// From how many nodes on the machine is made with rows, if any are asked for. The tree is without them.
+    pub rows_from: Option<u64>,
     pub ast: Ast,
 
     /// The lines of the selectors. They are read again if reasons are shown.
@@ -64,7 +64,7 @@ impl Settings {
             esi: false,
             shows_tries: false,
             explains: false,
-            has_rows: false,
+            rows_from: None,
             ast: Ast::new(alloc),
             selects: SelectLines::new(alloc),
         }
@@ -108,7 +108,7 @@ impl Settings {
             Setting::Esi => self.esi = true,
             Setting::Tries => self.shows_tries = true,
             Setting::Explain => self.explains = true,
-            Setting::Rows => self.has_rows = true,
+            Setting::Rows { fewest } => self.rows_from = Some(fewest),
             Setting::Select { id, text } => {
                 take_selector(alloc, &mut self.ast, number, id, text)?;
                 let Ok(()) = self.selects.push(number, id, text) else {
@@ -120,7 +120,18 @@ impl Settings {
     }
 }
 
-/// The tree that a machine is made of, with rows or without, by one without them.
+/// The tree that a machine is made of, with rows where it has so many nodes, by one without them.
+pub fn with_rows_from(ast: Ast, fewest: Option<u64>) -> Ast
+    ensures { is_with_rows ast ≡ false → selectors result
+        ≡ record (selectors ast) { by_keys = makes_rows fewest (length (nodes_of ast)) } }
+{
+    match fewest {
+        Some(fewest) => ast.with_rows_from(fewest as usize),
+        None => ast,
+    }
+}
+
+/// The same with rows or without.
 pub fn with_rows_if(ast: Ast, has_rows: bool) -> Ast
     ensures { is_with_rows ast ≡ false → selectors result ≡ record (selectors ast) { by_keys = has_rows } }
 {

@@ -40,7 +40,7 @@ pub use Rattle.lol_vm.specs.PlaceRuns.{Context, Gathers, at_places, branch, cont
 pub use Rattle.lol_vm.specs.Refusals.{Allowance, Cause, Counter, Limit, exceeds, greatest_count, longest, longest_from, or_later, refusal, refused, refused_from}
 pub use Rattle.lol_vm.specs.ReportLaws.{among_matching_ids, every_report, matching_ids_among, matching_ids_ascend}
 pub use Rattle.lol_vm.specs.Standing.{AreTyped, AreTypedIf, CountersArePlaces, Descend, DocumentsAreOrdered, HasCounted, IsOrdered, StandsFor, StandsOn, unfinished}
-pub use Rattle.lol_vm.specs.TagRuns.{AreExecuted, AreTried, AreWithin, IsPointIn, IsStopIn, jumps_in, jumps_of_item, number_of, ranges_from, ranges_left, ranges_of, ranges_to_run_in, rest_of, sight_in, tag_ranges, tried_at}
+pub use Rattle.lol_vm.specs.TagRuns.{AreExecuted, AreTried, AreWithin, IsPointIn, IsStopIn, jumps_in, jumps_of_item, number_of, ranges_from, ranges_left, all_ranges, left_ranges, ranges_to_run_in, rest_of, sight_in, tag_ranges, tried_at}
 pub use Rattle.lol_vm.specs.Views.{answer_of, event_of, match_of, selectors, tag_of}
 pub use Rattle.lol_vm.specs.Vms.{AreOpened, ChargesSlots, GoesOnAt, HasOpen, IsAnswered, IsChargedFor, IsCovered, IsEntered, IsPending, IsRefusal, IsReported, IsRequested, IsRestOf, IsSilent, IsTagOf, IsTriedAtMost, OpensNothing, Stands, StaysFailed, Vm, content_in, content_of, data_in, has_failed, info_of, instructions_in, is_asked_for, open_after, ranges_to_try, slot_bytes, slots_charged, stack_in, tries_in}
 pub use Rattle.std.proofs.Common.{All, Bool, Contains, Err, List, None, Ok, Option, Result, Some, [], ap, arith, cond, count_by, drop, drop-cons, false, filter, flat_map, get_or, if◌then◌else◌, inl, inr, is_none, length, map, map-id, max, nat_le, nat_lt, not, of_calls, option_to_list, position, refl, reverse, rules, slice_get, slice_set, subst, suc, sym, take, true, true≢false, unwrap_or, zero, ℕ, ◌&&◌, ◌*◌, ◌++◌, ◌+◌, ◌-◌, ◌<◌, ◌==◌, ◌^◌, ◌||◌, ◌↔◌, ◌∙◌, ◌∷◌, ◌≡◌, ◌≢◌, ◌≤◌, ◌⊎◌}

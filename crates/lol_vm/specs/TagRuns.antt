@@ -20,9 +20,8 @@ use Rattle.lol_stack.specs.declared.stack_item.StackItemOf.{StackItemOf}
 use Rattle.lol_stack.specs.declared.stack.StackOf.{StackOf}
 use Rattle.lol_stack.specs.declared.stack.StackNames.{StackNames}
 use Rattle.lol_vm.specs.SparedRuns.{singles}
-use Rattle.lol_vm.specs.declared.tag_runs.TagRanges.{TagRanges}
-use Rattle.lol_vm.specs.declared.tag_runs.TagRanges.TheVariants.{All, Left}
-use Rattle.lol_vm.specs.declared.tag_runs.TagRun.{TagRun}
+use Rattle.lol_vm.specs.declared.tag_runs.AllRanges.{AllRanges}
+use Rattle.lol_vm.specs.declared.tag_runs.LeftRanges.{LeftRanges}
 use Rattle.lol_vm.specs.declared.tag_runs.RecoveryPoint.{RecoveryPoint}
 use Rattle.lol_vm.specs.declared.tag_runs.RecoveryPoint.TheVariants.{AtOnce, At}
 
@@ -31,12 +30,11 @@ abbrev pub tag_ranges : Range ℕ → List (Range ℕ) → List (Range ℕ) → 
 tag_ranges entry jumps active = entry ∷ (jumps ++ active)
 
 -- those of what the code runs
-abbrev pub ranges_in : TagRanges → List (Range ℕ)
-ranges_in (All entry_points jumps hereditary_jumps) = tag_ranges entry_points.now jumps.now (ranges_of_active hereditary_jumps.now)
-ranges_in (Left addresses) = singles addresses.now
+abbrev pub all_ranges : AllRanges → List (Range ℕ)
+all_ranges r = tag_ranges r.entry_points.now r.jumps.now (ranges_of_active r.hereditary_jumps.now)
 
-abbrev pub ranges_of : TagRun → List (Range ℕ)
-ranges_of r = ranges_in r.ranges
+abbrev pub left_ranges : LeftRanges → List (Range ℕ)
+left_ranges r = singles r.addresses.now
 
 -- the number of a stop's instruction among all instructions of ranges
 abbrev pub number_of : List Instruction → List (Range ℕ) → Stop → ℕ

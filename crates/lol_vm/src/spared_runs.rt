@@ -10,9 +10,9 @@ ghost use Rattle.lol_instructions.specs.declared.instruction.Instruction.{Instru
 ghost use Rattle.lol_rows.specs.TagHashes.{pair_hashes};
 ghost use Rattle.lol_rows.specs.Rows.{AreCandidates, AreRowsOf, is_left_by_keys, is_left_by_name, is_left_open, some_pass};
 ghost use Rattle.lol_vm.specs.SparedRuns.{HasRoom, HasRoomFor, all_passing, left_at_point, opens_at_once};
-ghost use Rattle.lol_vm.specs.TagRuns.{ranges_in, ranges_to_run_in};
+ghost use Rattle.lol_vm.specs.TagRuns.{all_ranges, ranges_to_run_in};
 
-use crate::tag_runs::{RecoveryPoint, TagRanges};
+use crate::tag_runs::{AllRanges, RecoveryPoint, TagRanges};
 use lol_base::LocalName;
 use lol_program::{AddressRange, AttributeMatcher, Instruction, Program};
 use lol_rows::{Candidates, Rows, add_pair_hashes, name_hashes};
@@ -75,7 +75,7 @@ pub(crate) fn find_by_name<E>(
     match &program.rows {
         None => Ok(false),
         Some(rows) => {
-            let ranges = TagRanges::all(program, stack);
+            let ranges = AllRanges::new(program, stack);
             find_left_by_name(rows, &program.instructions, ranges, name, space)
         }
     }
@@ -104,7 +104,7 @@ pub(crate) fn find_at<E>(
         None => Ok(()),
         Some(rows) => {
             space.left.clear();
-            let ranges = TagRanges::all(program, stack);
+            let ranges = AllRanges::new(program, stack);
             let instructions = program.instructions.as_slice();
             match point {
                 RecoveryPoint::AtOnce => {
@@ -120,16 +120,16 @@ pub(crate) fn find_at<E>(
 fn find_left_by_name(
     rows: &Rows,
     instructions: &[Instruction],
-    ranges: TagRanges<'_>,
+    ranges: AllRanges<'_>,
     name: &LocalName<'_>,
     space: &mut RowSpace,
 ) -> Result<bool, AllocError>
     ensures asks { IfOk result (λ asks. AreRowsOf instructions.now rows.now → asks
-        ≡ list_any (some_pass (is_left_open name.now.lowercased) instructions.now) (ranges_in ranges.entry)) }
+        ≡ list_any (some_pass (is_left_open name.now.lowercased) instructions.now) (all_ranges ranges.entry)) }
     ensures left { IfOk result (λ asks. asks ≡ false → AreRowsOf instructions.now rows.now → space.new.left.items
-        ≡ all_passing (is_left_by_name name.now.lowercased) instructions.now (ranges_in ranges.entry)) }
+        ≡ all_passing (is_left_by_name name.now.lowercased) instructions.now (all_ranges ranges.entry)) }
     ensures free { AreRowsOf instructions.now rows.now
-        → HasRoomFor space.old (length (all_places (ranges_in ranges.entry))) → IsOk result }
+        → HasRoomFor space.old (length (all_places (all_ranges ranges.entry))) → IsOk result }
     ensures room { vec_capacity space.old.left ≤ vec_capacity space.new.left }
 {
     if has_open(rows, instructions, ranges, name) {
@@ -144,11 +144,11 @@ fn find_left_by_name(
 fn has_open(
     rows: &Rows,
     instructions: &[Instruction],
-    ranges: TagRanges<'_>,
+    ranges: AllRanges<'_>,
     name: &LocalName<'_>,
 ) -> bool
     ensures { AreRowsOf instructions.now rows.now → result
-        ≡ list_any (some_pass (is_left_open name.now.lowercased) instructions.now) (ranges_in ranges.entry) }
+        ≡ list_any (some_pass (is_left_open name.now.lowercased) instructions.now) (all_ranges ranges.entry) }
 {
     let hashes = name_hashes(name);
     for index in 0..ranges.len() {
@@ -164,14 +164,14 @@ fn has_open(
 fn add_left_by_name(
     rows: &Rows,
     instructions: &[Instruction],
-    ranges: TagRanges<'_>,
+    ranges: AllRanges<'_>,
     name: &LocalName<'_>,
     space: &mut RowSpace,
 ) -> Result<(), AllocError>
     ensures left { OnOk result (AreRowsOf instructions.now rows.now → space.new.left.items ≡ space.old.left.items
-        ++ all_passing (is_left_by_name name.now.lowercased) instructions.now (ranges_in ranges.entry)) }
+        ++ all_passing (is_left_by_name name.now.lowercased) instructions.now (all_ranges ranges.entry)) }
     ensures free { AreRowsOf instructions.now rows.now
-        → HasRoomFor space.old (length space.old.left.items + length (all_places (ranges_in ranges.entry))) → IsOk result }
+        → HasRoomFor space.old (length space.old.left.items + length (all_places (all_ranges ranges.entry))) → IsOk result }
     ensures room { vec_capacity space.old.left ≤ vec_capacity space.new.left }
 {
     let hashes = name_hashes(name);
@@ -188,15 +188,15 @@ fn add_left_by_name(
 fn add_left_by_keys(
     rows: &Rows,
     instructions: &[Instruction],
-    ranges: TagRanges<'_>,
+    ranges: AllRanges<'_>,
     name: &LocalName<'_>,
     matcher: &AttributeMatcher<'_>,
     space: &mut RowSpace,
 ) -> Result<(), AllocError>
     ensures left { OnOk result (AreRowsOf instructions.now rows.now → space.new.left.items ≡ space.old.left.items
-        ++ all_passing (is_left_by_keys name.now.lowercased matcher.now) instructions.now (ranges_in ranges.entry)) }
+        ++ all_passing (is_left_by_keys name.now.lowercased matcher.now) instructions.now (all_ranges ranges.entry)) }
     ensures free { AreRowsOf instructions.now rows.now
-        → HasRoomFor space.old (length space.old.left.items + length (all_places (ranges_in ranges.entry))) → IsOk result }
+        → HasRoomFor space.old (length space.old.left.items + length (all_places (all_ranges ranges.entry))) → IsOk result }
     ensures room { vec_capacity space.old.left ≤ vec_capacity space.new.left }
 {
     space.hashes.clear();

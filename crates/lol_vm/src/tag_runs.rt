@@ -3,11 +3,9 @@
 ghost use Rattle.std.specs.Prelude.{◌≡◌, ◌<◌, ◌^◌, ◌+◌, drop, get_or, length, IfOk, IsOk};
 ghost use Rattle.lol_instructions.specs.Compiled.{sight};
 ghost use Rattle.lol_instructions.specs.Tries.{attributes_counted};
-ghost use Rattle.lol_stack.specs.WithRange.{no_range};
-ghost use Rattle.lol_vm.specs.Machines.{ranges_of_active};
 ghost use Rattle.lol_vm.specs.SparedRuns.{singles};
 ghost use Rattle.lol_vm.specs.InstructionRuns.{AreRunnable, NeedNoMemory};
-ghost use Rattle.lol_vm.specs.TagRuns.{ranges_of, ranges_in, tag_ranges, ranges_from, ranges_left, tried_at, IsStopIn, IsPointIn, AreTried, AreExecuted, AreWithin, jumps_in, ranges_to_run_in, sight_in};
+ghost use Rattle.lol_vm.specs.TagRuns.{all_ranges, left_ranges, ranges_from, ranges_left, tried_at, IsStopIn, IsPointIn, AreTried, AreExecuted, AreWithin, jumps_in, ranges_to_run_in, sight_in};
 
 use crate::instruction_runs::{
     complete_instructions, exec_instructions, instructions_in, range_from, try_instructions,
@@ -34,108 +32,104 @@ pub(crate) enum RecoveryPoint {
     At(Stop),
 }
 
-/// What a start tag is run through.
-#[derive(Clone, Copy)]
-pub(crate) enum TagRanges<'p> {
-    /// The entry points, the last open element's jumps, and the active hereditary jumps.
-    All {
-        entry_points: &'p AddressRange,
-        jumps: &'p [AddressRange],
-        hereditary_jumps: &'p [(AddressRange, usize)],
-    },
-    /// Of these, the instructions at some addresses, each as a range.
-    Left(&'p [usize]),
+/// Ranges of instructions that a start tag is run through, one after the other.
+pub(crate) trait TagRanges {
+    ghost use Rattle.std.specs.Prelude.{ℕ, List, ◌≡◌, ◌<◌, get_or, length};
+    ghost use Rattle.std.specs.declared.ops.Range.{Range};
+    ghost use Rattle.lol_stack.specs.WithRange.{no_range};
+
+    // The ranges.
+    ghost listed: { Self → List (Range ℕ) };
+
+    /// How many there are.
+    fn len(&self) -> usize
+        ensures { result ≡ length (listed self.now) };
+
+    /// One of them.
+    fn range(&self, index: usize) -> AddressRange
+        requires { index < length (listed self.now) }
+        ensures { result ≡ get_or (listed self.now) index no_range };
 }
 
-impl<'p> TagRanges<'p> {
-    /// All that a start tag may be run through.
+/// All that a start tag may be run through: the entry points, the last open element's jumps, and the active hereditary jumps.
+#[derive(Clone, Copy)]
+pub(crate) struct AllRanges<'p> {
+    entry_points: &'p AddressRange,
+    jumps: &'p [AddressRange],
+    hereditary_jumps: &'p [(AddressRange, usize)],
+}
+
+impl<'p> AllRanges<'p> {
     #[inline(always)]
-    pub(crate) fn all<E>(program: &'p Program, stack: &'p Stack<E>) -> Self
-        ensures { ranges_in result ≡ ranges_to_run_in program.now stack.now }
+    pub(crate) fn new<E>(program: &'p Program, stack: &'p Stack<E>) -> Self
+        ensures { all_ranges result ≡ ranges_to_run_in program.now stack.now }
     {
-        TagRanges::All {
+        AllRanges {
             entry_points: &program.entry_points,
             jumps: last_jumps(stack),
             hereditary_jumps: stack.active_hereditary_jumps(),
         }
     }
+}
 
-    /// How many ranges there are.
+impl TagRanges for AllRanges<'_> {
+    ghost use Rattle.lol_vm.specs.TagRuns.{all_ranges};
+
+    ghost listed = { all_ranges };
+
     #[inline(always)]
-    pub(crate) fn len(self) -> usize
-        ensures { result ≡ length (ranges_in self.entry) }
-    {
-        match self {
-            TagRanges::All {
-                jumps,
-                hereditary_jumps,
-                ..
-            } => len_of_all(jumps, hereditary_jumps),
-            TagRanges::Left(addresses) => addresses.len(),
-        }
+    fn len(&self) -> usize {
+        1 + self.jumps.len() + self.hereditary_jumps.len()
     }
 
-    /// One of the ranges.
     #[inline(always)]
-    pub(crate) fn range(self, index: usize) -> AddressRange
-        requires { index < length (ranges_in self) }
-        ensures { result ≡ get_or (ranges_in self.entry) index no_range }
-    {
-        match self {
-            TagRanges::All {
-                entry_points,
-                jumps,
-                hereditary_jumps,
-            } => range_of_all(entry_points, jumps, hereditary_jumps, index),
-            TagRanges::Left(addresses) => {
-                let address = addresses[index];
-                address..address.saturating_add(1)
-            }
+    fn range(&self, index: usize) -> AddressRange {
+        let hereditary = 1 + self.jumps.len();
+        if index >= hereditary {
+            let range = &self.hereditary_jumps[index - hereditary].0;
+            return range.start..range.end;
         }
+        let range = match index.checked_sub(1) {
+            None => self.entry_points,
+            Some(index) => &self.jumps[index],
+        };
+        range.start..range.end
     }
 }
 
-/// How many ranges entry points, jumps and hereditary jumps are.
-#[inline(always)]
-fn len_of_all(jumps: &[AddressRange], hereditary_jumps: &[(AddressRange, usize)]) -> usize
-    ensures { result ≡ 1 + (length jumps.now + length hereditary_jumps.now) }
-{
-    1 + jumps.len() + hereditary_jumps.len()
+/// Of these, the instructions at some addresses, each as a range.
+#[derive(Clone, Copy)]
+pub(crate) struct LeftRanges<'p> {
+    addresses: &'p [usize],
 }
 
-/// One of the entry points, the jumps, and the hereditary jumps, in this order.
-#[inline(always)]
-fn range_of_all(
-    entry_points: &AddressRange,
-    jumps: &[AddressRange],
-    hereditary_jumps: &[(AddressRange, usize)],
-    index: usize,
-) -> AddressRange
-    requires { index < length (tag_ranges entry_points.now jumps.now (ranges_of_active hereditary_jumps.now)) }
-    ensures { result ≡ get_or (tag_ranges entry_points.now jumps.now (ranges_of_active hereditary_jumps.now)) index no_range }
-{
-    let hereditary = 1 + jumps.len();
-    if index >= hereditary {
-        let range = &hereditary_jumps[index - hereditary].0;
-        return range.start..range.end;
+impl TagRanges for LeftRanges<'_> {
+    ghost use Rattle.lol_vm.specs.TagRuns.{left_ranges};
+
+    ghost listed = { left_ranges };
+
+    #[inline(always)]
+    fn len(&self) -> usize {
+        self.addresses.len()
     }
-    let range = match index.checked_sub(1) {
-        None => entry_points,
-        Some(index) => &jumps[index],
-    };
-    range.start..range.end
+
+    #[inline(always)]
+    fn range(&self, index: usize) -> AddressRange {
+        let address = self.addresses[index];
+        address..address.saturating_add(1)
+    }
 }
 
 /// The run of a start tag: the ranges of instructions that it is run through, one after the other, and what their tests see.
 #[derive(Drop)]
-pub(crate) struct TagRun<'p> {
+pub(crate) struct TagRun<'p, R> {
     instructions: &'p [Instruction],
-    ranges: TagRanges<'p>,
+    ranges: R,
     state: SelectorState<'p>,
     alloc: Global,
 }
 
-impl<'p> TagRun<'p> {
+impl<'p> TagRun<'p, AllRanges<'p>> {
     /// The run of a start tag of this name, which has been counted, through all that it may be run through.
     #[inline(always)]
     pub(crate) fn new<'i: 'p, E>(
@@ -146,17 +140,19 @@ impl<'p> TagRun<'p> {
     ) -> Self
         ensures size { length program.now.instructions.items < 2 ^ 63 }
         ensures instructions { result.instructions.now ≡ program.now.instructions.items }
-        ensures ranges { ranges_of result ≡ ranges_to_run_in program.now stack.now }
+        ensures ranges { all_ranges result.ranges ≡ ranges_to_run_in program.now stack.now }
         ensures sight { sight result.state name.now ≡ sight_in stack.now name.now }
     {
         TagRun {
             instructions: &program.instructions,
-            ranges: TagRanges::all(program, stack),
+            ranges: AllRanges::new(program, stack),
             state: stack.build_state(name),
             alloc,
         }
     }
+}
 
+impl<'p> TagRun<'p, LeftRanges<'p>> {
     /// The same through what was found left.
     pub(crate) fn left<'i: 'p, E>(
         program: &'p Program,
@@ -167,34 +163,21 @@ impl<'p> TagRun<'p> {
     ) -> Self
         ensures size { length program.now.instructions.items < 2 ^ 63 }
         ensures instructions { result.instructions.now ≡ program.now.instructions.items }
-        ensures ranges { ranges_of result ≡ singles space.now.left.items }
+        ensures ranges { left_ranges result.ranges ≡ singles space.now.left.items }
         ensures sight { sight result.state name.now ≡ sight_in stack.now name.now }
     {
         TagRun {
             instructions: &program.instructions,
-            ranges: TagRanges::Left(space.left()),
+            ranges: LeftRanges {
+                addresses: space.left(),
+            },
             state: stack.build_state(name),
             alloc,
         }
     }
+}
 
-    /// How many ranges there are.
-    #[inline(always)]
-    fn len(&self) -> usize
-        ensures { result ≡ length (ranges_of self.now) }
-    {
-        self.ranges.len()
-    }
-
-    /// One of the ranges.
-    #[inline(always)]
-    fn range(&self, index: usize) -> AddressRange
-        requires { index < length (ranges_of self.now) }
-        ensures { result ≡ get_or (ranges_of self.now) index no_range }
-    {
-        self.ranges.range(index)
-    }
-
+impl<'p, R: TagRanges> TagRun<'p, R> {
     /// Runs without attributes, up to the first instruction that needs them.
     #[inline(always)]
     pub(crate) fn try_by_name<E: ElementData>(
@@ -202,20 +185,20 @@ impl<'p> TagRun<'p> {
         ctx: &mut ExecutionCtx<'_, E>,
         tries: &mut Tries,
     ) -> Result<Option<Stop>, AllocError>
-        ensures tried { AreRunnable self.now.instructions.now (ranges_of self.now) tries.old → IfOk result (λ stop.
+        ensures tried { AreRunnable self.now.instructions.now (R.listed self.now.ranges) tries.old → IfOk result (λ stop.
             AreTried E.ids E.with_ids (sight self.now.state ctx.old.stack_item.local_name) self.now.instructions.now
-            (ranges_of self.now) ctx.old ctx.new tries.old tries.new stop) }
+            (R.listed self.now.ranges) ctx.old ctx.new tries.old tries.new stop) }
         ensures attributes { attributes_counted tries.new ≡ attributes_counted tries.old }
-        ensures within { AreRunnable self.now.instructions.now (ranges_of self.now) tries.old
+        ensures within { AreRunnable self.now.instructions.now (R.listed self.now.ranges) tries.old
             → AreWithin (sight self.now.state ctx.old.stack_item.local_name) self.now.instructions.now
-            (ranges_of self.now) tries.old tries.new 0 }
+            (R.listed self.now.ranges) tries.old tries.new 0 }
         ensures name { ctx.new.stack_item.local_name ≡ ctx.old.stack_item.local_name }
         ensures content { ctx.new.with_content ≡ ctx.old.with_content }
         ensures free { NeedNoMemory ctx.old.with_content self.now.instructions.now → IsOk result }
     {
         let state = self.state;
-        for index in 0..self.len() {
-            let part = instructions_in(self.instructions, &self.range(index), tries);
+        for index in 0..self.ranges.len() {
+            let part = instructions_in(self.instructions, &self.ranges.range(index), tries);
             if let Some(offset) = try_instructions(part, &state, self.alloc, ctx, tries)? {
                 return Ok(Some(Stop {
                     range: index,
@@ -235,20 +218,20 @@ impl<'p> TagRun<'p> {
         ctx: &mut ExecutionCtx<'_, E>,
         tries: &mut Tries,
     ) -> Result<(), AllocError>
-        ensures executed { AreRunnable self.now.instructions.now (drop first (ranges_of self.now)) tries.old
+        ensures executed { AreRunnable self.now.instructions.now (drop first (R.listed self.now.ranges)) tries.old
             → IfOk result (λ done. AreExecuted E.ids E.with_ids
             (sight self.now.state ctx.old.stack_item.local_name) self.now.instructions.now
-            (drop first (ranges_of self.now)) ctx.old ctx.new tries.old tries.new matcher.now 0) }
-        ensures within { AreRunnable self.now.instructions.now (drop first (ranges_of self.now)) tries.old
+            (drop first (R.listed self.now.ranges)) ctx.old ctx.new tries.old tries.new matcher.now 0) }
+        ensures within { AreRunnable self.now.instructions.now (drop first (R.listed self.now.ranges)) tries.old
             → AreWithin (sight self.now.state ctx.old.stack_item.local_name) self.now.instructions.now
-            (drop first (ranges_of self.now)) tries.old tries.new 0 }
+            (drop first (R.listed self.now.ranges)) tries.old tries.new 0 }
         ensures name { ctx.new.stack_item.local_name ≡ ctx.old.stack_item.local_name }
         ensures content { ctx.new.with_content ≡ ctx.old.with_content }
         ensures free { NeedNoMemory ctx.old.with_content self.now.instructions.now → IsOk result }
     {
         let state = self.state;
-        for index in first..self.len() {
-            let part = instructions_in(self.instructions, &self.range(index), tries);
+        for index in first..self.ranges.len() {
+            let part = instructions_in(self.instructions, &self.ranges.range(index), tries);
             exec_instructions(part, &state, matcher, self.alloc, ctx, tries)?;
         }
         Ok(())
@@ -263,16 +246,16 @@ impl<'p> TagRun<'p> {
         ctx: &mut ExecutionCtx<'_, E>,
         tries: &mut Tries,
     ) -> Result<(), AllocError>
-        ensures executed { IsPointIn self.now.instructions.now (ranges_of self.now) point
-            → AreRunnable self.now.instructions.now (ranges_left (ranges_of self.now) point) tries.old
+        ensures executed { IsPointIn self.now.instructions.now (R.listed self.now.ranges) point
+            → AreRunnable self.now.instructions.now (ranges_left (R.listed self.now.ranges) point) tries.old
             → IfOk result (λ done. AreExecuted E.ids E.with_ids
             (sight self.now.state ctx.old.stack_item.local_name) self.now.instructions.now
-            (ranges_left (ranges_of self.now) point) ctx.old ctx.new tries.old tries.new matcher.now
+            (ranges_left (R.listed self.now.ranges) point) ctx.old ctx.new tries.old tries.new matcher.now
             (tried_at point)) }
-        ensures within { IsPointIn self.now.instructions.now (ranges_of self.now) point
-            → AreRunnable self.now.instructions.now (ranges_left (ranges_of self.now) point) tries.old
+        ensures within { IsPointIn self.now.instructions.now (R.listed self.now.ranges) point
+            → AreRunnable self.now.instructions.now (ranges_left (R.listed self.now.ranges) point) tries.old
             → AreWithin (sight self.now.state ctx.old.stack_item.local_name) self.now.instructions.now
-            (ranges_left (ranges_of self.now) point) tries.old tries.new (tried_at point) }
+            (ranges_left (R.listed self.now.ranges) point) tries.old tries.new (tried_at point) }
         ensures name { ctx.new.stack_item.local_name ≡ ctx.old.stack_item.local_name }
         ensures content { ctx.new.with_content ≡ ctx.old.with_content }
         ensures free { NeedNoMemory ctx.old.with_content self.now.instructions.now → IsOk result }
@@ -292,23 +275,23 @@ impl<'p> TagRun<'p> {
         ctx: &mut ExecutionCtx<'_, E>,
         tries: &mut Tries,
     ) -> Result<(), AllocError>
-        ensures executed { IsStopIn self.now.instructions.now (ranges_of self.now) stop
-            → AreRunnable self.now.instructions.now (ranges_from (ranges_of self.now) stop) tries.old
+        ensures executed { IsStopIn self.now.instructions.now (R.listed self.now.ranges) stop
+            → AreRunnable self.now.instructions.now (ranges_from (R.listed self.now.ranges) stop) tries.old
             → IfOk result (λ done. AreExecuted E.ids E.with_ids
             (sight self.now.state ctx.old.stack_item.local_name) self.now.instructions.now
-            (ranges_from (ranges_of self.now) stop) ctx.old ctx.new tries.old tries.new matcher.now 1) }
-        ensures within { IsStopIn self.now.instructions.now (ranges_of self.now) stop
-            → AreRunnable self.now.instructions.now (ranges_from (ranges_of self.now) stop) tries.old
+            (ranges_from (R.listed self.now.ranges) stop) ctx.old ctx.new tries.old tries.new matcher.now 1) }
+        ensures within { IsStopIn self.now.instructions.now (R.listed self.now.ranges) stop
+            → AreRunnable self.now.instructions.now (ranges_from (R.listed self.now.ranges) stop) tries.old
             → AreWithin (sight self.now.state ctx.old.stack_item.local_name) self.now.instructions.now
-            (ranges_from (ranges_of self.now) stop) tries.old tries.new 1 }
+            (ranges_from (R.listed self.now.ranges) stop) tries.old tries.new 1 }
         ensures name { ctx.new.stack_item.local_name ≡ ctx.old.stack_item.local_name }
         ensures content { ctx.new.with_content ≡ ctx.old.with_content }
         ensures free { NeedNoMemory ctx.old.with_content self.now.instructions.now → IsOk result }
     {
-        if stop.range >= self.len() {
+        if stop.range >= self.ranges.len() {
             return Ok(());
         }
-        let left = range_from(&self.range(stop.range), stop.offset);
+        let left = range_from(&self.ranges.range(stop.range), stop.offset);
         let part = instructions_in(self.instructions, &left, tries);
         let state = self.state;
         complete_instructions(part, &state, matcher, self.alloc, ctx, tries)?;

@@ -168,7 +168,10 @@ fn one_by_one(
 ) -> Result<Vec<usize>, AllocError> {
     let mut left = Vec::new(alloc);
     for index in 0..candidates.len() {
-        let address = candidates.address(index);
+        let address = match candidates {
+            Candidates::Each(range) => range.start.saturating_add(index),
+            Candidates::Found(found) => found[index],
+        };
         if let Some(instruction) = instructions.get(address) {
             if is_left(instruction, name, matcher) {
                 left.push(address)?;

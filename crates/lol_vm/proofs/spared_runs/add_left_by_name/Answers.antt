@@ -3,7 +3,7 @@ use Rattle.std.proofs.lemmas.List.{length-append}
 use Rattle.lol_rows.specs.CandidateLaws.{candidates_most}
 use Rattle.lol_rows.specs.Rows.{is_left_by_name}
 use Rattle.lol_vm.specs.SparedRuns.{all_passing}
-use Rattle.lol_vm.specs.TagRuns.{ranges_in}
+use Rattle.lol_vm.specs.TagRuns.{all_ranges}
 use Rattle.lol_vm.proofs.Finding.{found_room}
 use Rattle.lol_vm.proofs.VmRefusals.{err_is_not_ok}
 use Rattle.lol_vm.proofs.spared_runs.add_left_by_name.Goals as goal
@@ -12,7 +12,7 @@ pub returns-in_err-add_left-clause-free : goal.returns-in_err-add_left-clause-fr
 returns-in_err-add_left-clause-free c = λ rows room.
     let left = is_left_by_name c.args.name.now.lowercased in
     let instructions = c.args.instructions.now in
-    let ranges = ranges_in c.args.ranges in
+    let ranges = all_ranges c.args.ranges in
     let r = c.range-range.result in
     let within : c.loop-index.index < length ranges = subst (λ n. c.loop-index.index < n) c.len-index-end.ensures c.loop-index-test.true in
     let fits = found_room left instructions ranges c.loop-index.index r within c.range-range.ensures in

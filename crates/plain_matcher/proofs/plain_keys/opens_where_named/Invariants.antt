@@ -2,7 +2,7 @@ use Rattle.std.proofs.Common.{◌≡◌, drop, map}
 use Rattle.lol_instructions.specs.Keys.{both_keys}
 use Rattle.lol_program.specs.Predicates.{tests_of}
 use Rattle.plain_matcher.specs.PlainTries.{test_key}
-use Rattle.plain_matcher.proofs.PlainKeys.{opens_after}
+use Rattle.lol_instructions.specs.OpenKeyLaws.{opens_after}
 use Rattle.plain_matcher.proofs.plain_keys.opens_where_named.Given as goal
 
 -- what is left decides

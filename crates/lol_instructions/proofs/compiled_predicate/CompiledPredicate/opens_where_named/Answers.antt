@@ -1,6 +1,6 @@
 use Rattle.std.proofs.Common.{map}
 use Rattle.lol_instructions.specs.CompiledKeys.{compiled_key_test}
-use Rattle.lol_instructions.proofs.KeyLemmas.{opens_from_start}
+use Rattle.lol_instructions.specs.OpenKeyLaws.{opens_from_start}
 use Rattle.lol_instructions.proofs.compiled_predicate.CompiledPredicate.opens_where_named.Goals as goal
 
 pub loop-test-init : goal.loop-test-init

@@ -1,7 +1,7 @@
 use Rattle.std.proofs.Common.{◌≡◌, drop, map}
 use Rattle.lol_instructions.specs.CompiledKeys.{compiled_key_test}
 use Rattle.lol_instructions.specs.Keys.{opens_where_named}
-use Rattle.lol_instructions.proofs.KeyLemmas.{opens_after}
+use Rattle.lol_instructions.specs.OpenKeyLaws.{opens_after}
 use Rattle.lol_instructions.proofs.compiled_predicate.CompiledPredicate.opens_where_named.Given as goal
 
 -- what is left decides

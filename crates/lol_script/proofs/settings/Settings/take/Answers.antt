@@ -1,4 +1,4 @@
-use Rattle.std.proofs.Common.{◌++◌, ◌∷◌, [], List, ℕ, true, refl, sym, ap, ◌∙◌, subst}
+use Rattle.std.proofs.Common.{◌++◌, ◌∷◌, [], List, ℕ, Some, true, refl, sym, ap, ◌∙◌, subst}
 use Rattle.std.proofs.lemmas.Grind.{flat_map-append}
 use Rattle.lol_program.specs.Paths.{Path, beginnings, all_beginnings}
 use Rattle.lol_program.specs.Asts.{pairs_of, nodes_of}
@@ -13,7 +13,7 @@ pub returns-in-Limit-clause-taken : goal.returns-in-Limit-clause-taken
 returns-in-Limit-clause-taken c = λ s reading.
     let none = reading.none in (
       record s { limit = c.in-Limit.maximum },
-      record { limit = refl; esi = reading.esi; shows_tries = reading.shows_tries; explains = reading.explains; has_rows = reading.has_rows; pairs = reading.pairs; nodes = reading.nodes; rows = reading.rows; selects = reading.selects; none = reading.none },
+      record { limit = refl; esi = reading.esi; shows_tries = reading.shows_tries; explains = reading.explains; rows_from = reading.rows_from; pairs = reading.pairs; nodes = reading.nodes; rows = reading.rows; selects = reading.selects; none = reading.none },
       ap (λ setting. with_line c.args.number s (set_by setting)) c.in-Limit.is ∙ not_begun s.events c.args.number _ none,
     )
 
@@ -21,7 +21,7 @@ pub returns-in-Esi-clause-taken : goal.returns-in-Esi-clause-taken
 returns-in-Esi-clause-taken c = λ s reading.
     let none = reading.none in (
       record s { esi = true },
-      record { limit = reading.limit; esi = refl; shows_tries = reading.shows_tries; explains = reading.explains; has_rows = reading.has_rows; pairs = reading.pairs; nodes = reading.nodes; rows = reading.rows; selects = reading.selects; none = reading.none },
+      record { limit = reading.limit; esi = refl; shows_tries = reading.shows_tries; explains = reading.explains; rows_from = reading.rows_from; pairs = reading.pairs; nodes = reading.nodes; rows = reading.rows; selects = reading.selects; none = reading.none },
       ap (λ setting. with_line c.args.number s (set_by setting)) c.in-Esi.is ∙ not_begun s.events c.args.number _ none,
     )
 
@@ -29,7 +29,7 @@ pub returns-in-Tries-clause-taken : goal.returns-in-Tries-clause-taken
 returns-in-Tries-clause-taken c = λ s reading.
     let none = reading.none in (
       record s { shows_tries = true },
-      record { limit = reading.limit; esi = reading.esi; shows_tries = refl; explains = reading.explains; has_rows = reading.has_rows; pairs = reading.pairs; nodes = reading.nodes; rows = reading.rows; selects = reading.selects; none = reading.none },
+      record { limit = reading.limit; esi = reading.esi; shows_tries = refl; explains = reading.explains; rows_from = reading.rows_from; pairs = reading.pairs; nodes = reading.nodes; rows = reading.rows; selects = reading.selects; none = reading.none },
       ap (λ setting. with_line c.args.number s (set_by setting)) c.in-Tries.is ∙ not_begun s.events c.args.number _ none,
     )
 
@@ -37,15 +37,15 @@ pub returns-in-Explain-clause-taken : goal.returns-in-Explain-clause-taken
 returns-in-Explain-clause-taken c = λ s reading.
     let none = reading.none in (
       record s { explains = true },
-      record { limit = reading.limit; esi = reading.esi; shows_tries = reading.shows_tries; explains = refl; has_rows = reading.has_rows; pairs = reading.pairs; nodes = reading.nodes; rows = reading.rows; selects = reading.selects; none = reading.none },
+      record { limit = reading.limit; esi = reading.esi; shows_tries = reading.shows_tries; explains = refl; rows_from = reading.rows_from; pairs = reading.pairs; nodes = reading.nodes; rows = reading.rows; selects = reading.selects; none = reading.none },
       ap (λ setting. with_line c.args.number s (set_by setting)) c.in-Explain.is ∙ not_begun s.events c.args.number _ none,
     )
 
 pub returns-in-Rows-clause-taken : goal.returns-in-Rows-clause-taken
 returns-in-Rows-clause-taken c = λ s reading.
     let none = reading.none in (
-      record s { has_rows = true },
-      record { limit = reading.limit; esi = reading.esi; shows_tries = reading.shows_tries; explains = reading.explains; has_rows = refl; pairs = reading.pairs; nodes = reading.nodes; rows = reading.rows; selects = reading.selects; none = reading.none },
+      record s { rows_from = Some c.in-Rows.fewest },
+      record { limit = reading.limit; esi = reading.esi; shows_tries = reading.shows_tries; explains = reading.explains; rows_from = refl; pairs = reading.pairs; nodes = reading.nodes; rows = reading.rows; selects = reading.selects; none = reading.none },
       ap (λ setting. with_line c.args.number s (set_by setting)) c.in-Rows.is ∙ not_begun s.events c.args.number _ none,
     )
 
@@ -64,7 +64,7 @@ returns-in-Ok-clause-taken c = λ s reading.
         esi = reading.esi;
         shows_tries = reading.shows_tries;
         explains = reading.explains;
-        has_rows = reading.has_rows;
+        rows_from = reading.rows_from;
         pairs = subst (λ (members : List (Path × ℕ)). SameMembers members (pairs_of new)) (sym more) (joins_members (pairs_of old) (pairs_of new) pairs (pairs_in s) reading.pairs added.pairs);
         nodes = subst (λ (members : List Path). SameMembers members (nodes_of new)) (sym (ap all_beginnings more ∙ flat_map-append (λ (pair : Path × ℕ). beginnings pair.0) (pairs_in s) pairs))
             (joins_members (nodes_of old) (nodes_of new) (all_beginnings pairs) (all_beginnings (pairs_in s)) reading.nodes added.nodes);

@@ -1,4 +1,4 @@
-use Rattle.lol_vm.proofs.Common.{◌≡◌, ◌<◌, drop, arith, sym, ap, ◌∙◌, subst, length, sight, NeedNoMemory, AreRunnable, ranges_of}
+use Rattle.lol_vm.proofs.Common.{◌≡◌, ◌<◌, drop, arith, sym, ap, ◌∙◌, subst, length, sight, NeedNoMemory, AreRunnable}
 use Rattle.lol_vm.proofs.InstructionLists.{open_at_most, attributes_next, length_split, opens_split, others_run}
 use Rattle.lol_vm.proofs.TagRuns.{first_left, part_is}
 use Rattle.lol_vm.proofs.VmRefusals.{err_is_not_ok}
@@ -7,7 +7,7 @@ use Rattle.lol_vm.proofs.tag_runs.TagRun.exec_from.Goals as goal
 pub loop-index-preserved : goal.loop-index-preserved
 loop-index-preserved g c =
     let all = c.args.self.now.instructions.now in
-    let ranges = ranges_of c.args.self.now in
+    let ranges = g.R.TagRanges.listed c.args.self.now.ranges in
     let k = c.loop-index.index in
     let so_far = c.loop-index.invariant in
     let part = c.instructions_in-part.result.now in
@@ -33,7 +33,7 @@ loop-index-preserved g c =
 pub returns-in_err-exec_instructions-clause-within : goal.returns-in_err-exec_instructions-clause-within
 returns-in_err-exec_instructions-clause-within g c = λ runnable.
     let all = c.args.self.now.instructions.now in
-    let ranges = ranges_of c.args.self.now in
+    let ranges = g.R.TagRanges.listed c.args.self.now.ranges in
     let k = c.loop-index.index in
     let so_far = c.loop-index.invariant in
     let part = c.instructions_in-part.result.now in

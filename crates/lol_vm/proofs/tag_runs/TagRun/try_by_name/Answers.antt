@@ -1,4 +1,4 @@
-use Rattle.lol_vm.proofs.Common.{◌≡◌, ◌+◌, ◌<◌, length, take, drop, arith, sym, ap, Some, None, ◌∙◌, subst, sight, names_counted, NeedNoMemory, AreRunnable, all_at, instructions_at, tried_until, first_open_from, ranges_of}
+use Rattle.lol_vm.proofs.Common.{◌≡◌, ◌+◌, ◌<◌, length, take, drop, arith, sym, ap, Some, None, ◌∙◌, subst, sight, names_counted, NeedNoMemory, AreRunnable, all_at, instructions_at, tried_until, first_open_from}
 use Rattle.lol_vm.proofs.TagRuns.{first_left, part_is, length_next, tried_within}
 use Rattle.lol_vm.proofs.InstructionLists.{names_here, names_next, others_run, stop_here, stop_next}
 use Rattle.lol_vm.proofs.VmRefusals.{err_is_not_ok}
@@ -7,7 +7,7 @@ use Rattle.lol_vm.proofs.tag_runs.TagRun.try_by_name.Goals as goal
 pub loop-index-preserved : goal.loop-index-preserved
 loop-index-preserved g c =
     let all = c.args.self.now.instructions.now in
-    let ranges = ranges_of c.args.self.now in
+    let ranges = g.R.TagRanges.listed c.args.self.now.ranges in
     let now = c.loop-index.tries in
     let k = c.loop-index.index in
     let so_far = c.loop-index.invariant in
@@ -42,7 +42,7 @@ loop-index-preserved g c =
 pub returns-in-Some-clause-tried : goal.returns-in-Some-clause-tried
 returns-in-Some-clause-tried g c = λ runnable.
     let all = c.args.self.now.instructions.now in
-    let ranges = ranges_of c.args.self.now in
+    let ranges = g.R.TagRanges.listed c.args.self.now.ranges in
     let now = c.loop-index.tries in
     let k = c.loop-index.index in
     let so_far = c.loop-index.invariant in
@@ -68,7 +68,7 @@ pub returns-in-Some-clause-within : goal.returns-in-Some-clause-within
 returns-in-Some-clause-within g c = λ runnable.
     let so_far = c.loop-index.invariant in
     let told = c.try_instructions.ensures in
-    tried_within c.args.self.now.instructions.now (ranges_of c.args.self.now) c.loop-index.index c.range.result (subst (λ n. c.loop-index.index < n) c.len-index-end.ensures c.loop-index-test.true) c.range.ensures
+    tried_within c.args.self.now.instructions.now (g.R.TagRanges.listed c.args.self.now.ranges) c.loop-index.index c.range.result (subst (λ n. c.loop-index.index < n) c.len-index-end.ensures c.loop-index-test.true) c.range.ensures
     (so_far.runs runnable) c.instructions_in-part.result.now c.instructions_in-part.ensures.value _ c.args.tries.now _ (so_far.names runnable) so_far.attributes told.names_bound told.attributes
 
 -- 3. It was refused
@@ -77,7 +77,7 @@ pub returns-in_err-offset-clause-within : goal.returns-in_err-offset-clause-with
 returns-in_err-offset-clause-within g c = λ runnable.
     let so_far = c.loop-index.invariant in
     let told = c.try_instructions.ensures in
-    tried_within c.args.self.now.instructions.now (ranges_of c.args.self.now) c.loop-index.index c.range.result (subst (λ n. c.loop-index.index < n) c.len-index-end.ensures c.loop-index-test.true) c.range.ensures
+    tried_within c.args.self.now.instructions.now (g.R.TagRanges.listed c.args.self.now.ranges) c.loop-index.index c.range.result (subst (λ n. c.loop-index.index < n) c.len-index-end.ensures c.loop-index-test.true) c.range.ensures
     (so_far.runs runnable) c.instructions_in-part.result.now c.instructions_in-part.ensures.value _ c.args.tries.now _ (so_far.names runnable) so_far.attributes told.names_bound told.attributes
 
 pub returns-in_err-offset-clause-free : goal.returns-in_err-offset-clause-free

@@ -1,4 +1,4 @@
-use Rattle.lol_vm.proofs.Common.{◌≡◌, ◌+◌, drop, take, length, sight, names_counted, attributes_counted, AreRunnable, all_at, first_open_from, gathered_by_names, ranges_of}
+use Rattle.lol_vm.proofs.Common.{◌≡◌, ◌+◌, drop, take, length, sight, names_counted, attributes_counted, AreRunnable, all_at, first_open_from, gathered_by_names}
 use Rattle.lol_vm.proofs.tag_runs.TagRun.try_by_name.Given as goal
 
 abbrev pub invariant-loop-index : goal.invariant-loop-index
@@ -7,7 +7,7 @@ invariant-loop-index g l =
     let with_ids = g.E.ElementData.with_ids in
     let s = sight l.self.state l.fn.ctx.stack_item.local_name in
     let all = l.self.instructions.now in
-    let ranges = ranges_of l.self in
+    let ranges = g.R.TagRanges.listed l.self.ranges in
     let runnable = AreRunnable all ranges l.fn.tries in
     let before = length (all_at all (take l.index ranges)) in
     let left = all_at all (drop l.index ranges) in

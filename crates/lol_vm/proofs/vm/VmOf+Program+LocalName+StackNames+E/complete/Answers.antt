@@ -1,4 +1,4 @@
-use Rattle.lol_vm.proofs.Common.{◌≡◌, false, cond, inr, sym, ap, ◌∙◌, subst, AreRunnable, NeedNoMemory, AreExecuted, AreWithin, IsPointIn, ranges_left, ranges_of, ranges_to_run_in, tried_at}
+use Rattle.lol_vm.proofs.Common.{◌≡◌, false, cond, inr, sym, ap, ◌∙◌, subst, AreRunnable, NeedNoMemory, AreExecuted, AreWithin, IsPointIn, ranges_left, all_ranges, ranges_to_run_in, tried_at}
 use Rattle.std.specs.Result.{IfOk}
 use Rattle.lol_program.specs.ProgramViews.{has_rows}
 use Rattle.lol_vm.specs.SparedRuns.{all_passing, left_at_point, singles}
@@ -12,7 +12,7 @@ returns-then-is_some-clause-completed g c = c.complete_left.ensures.completed (s
 
 -- where the program has no rows, all that is left is run
 module _ (g : given.Over) (c : goal.After-complete g) where
-  runs : ranges_of c.new-run.result ≡ ranges_to_complete c.args.self.now c.args.ctx.now c.args.point c.args.matcher.now
+  runs : all_ranges c.new-run.result.ranges ≡ ranges_to_complete c.args.self.now c.args.ctx.now c.args.point c.args.matcher.now
   runs =
       let ranges = ranges_to_run_in c.args.self.now.program c.args.self.now.stack in
       let passes = left_at_point c.args.ctx.now.stack_item.local_name.lowercased c.args.matcher.now c.args.point in

@@ -1,4 +1,4 @@
-use Rattle.lol_vm.proofs.Common.{◌≡◌, true, cond, inr, sym, ap, ◌∙◌, subst, AreRunnable, NeedNoMemory, AreExecuted, AreWithin, IsPointIn, ranges_left, ranges_of, ranges_to_run_in, tried_at}
+use Rattle.lol_vm.proofs.Common.{◌≡◌, true, cond, inr, sym, ap, ◌∙◌, subst, AreRunnable, NeedNoMemory, AreExecuted, AreWithin, IsPointIn, ranges_left, left_ranges, ranges_to_run_in, tried_at}
 use Rattle.std.specs.Result.{IfOk}
 use Rattle.lol_program.specs.ProgramViews.{HasItsRows, has_rows}
 use Rattle.lol_vm.specs.SparedRuns.{all_passing, left_at_point, singles}
@@ -9,7 +9,7 @@ use Rattle.lol_vm.proofs.vm.VmOf+Program+LocalName+StackNames+E.complete_left.Go
 
 -- what is run is what is left
 module _ (g : given.Over) (c : goal.After-complete g) where
-  runs : has_rows c.args.self.now.program ≡ true → HasItsRows c.args.self.now.program → ranges_of c.left-run.result ≡ ranges_to_complete c.args.self.now c.args.ctx.now c.args.point c.args.matcher.now
+  runs : has_rows c.args.self.now.program ≡ true → HasItsRows c.args.self.now.program → left_ranges c.left-run.result.ranges ≡ ranges_to_complete c.args.self.now c.args.ctx.now c.args.point c.args.matcher.now
   runs is rows =
       let ranges = ranges_to_run_in c.args.self.now.program c.args.self.now.stack in
       let passes = left_at_point c.args.ctx.now.stack_item.local_name.lowercased c.args.matcher.now c.args.point in

@@ -1,4 +1,4 @@
-use Rattle.lol_vm.proofs.Common.{◌≡◌, true, false, true≢false, cond, List, Option, refl, sym, ap, ◌∙◌, subst, Ok, Some, None, Range, ℕ, NeedNoMemory, AreRunnable, AreTried, AreWithin, ranges_of, ranges_to_run_in, sight_in}
+use Rattle.lol_vm.proofs.Common.{◌≡◌, true, false, true≢false, cond, List, Option, refl, sym, ap, ◌∙◌, subst, Ok, Some, None, Range, ℕ, NeedNoMemory, AreRunnable, AreTried, AreWithin, left_ranges, ranges_to_run_in, sight_in}
 use Rattle.std.specs.Result.{IfOk}
 use Rattle.lol_program.specs.ProgramViews.{HasItsRows, has_rows}
 use Rattle.lol_rows.specs.Rows.{is_left_by_name}
@@ -26,7 +26,7 @@ module _ (g : given.Over) (c : After-try_by_name g) where
   shut : HasItsRows c.args.self.now.program → opens_at_once c.args.self.now.program own ranges ≡ false
   shut rows = sym (c.in-Ok-false.ensures.asks rows) ∙ c.in-Ok-false.field-0-test
 
-  runs : has_rows c.args.self.now.program ≡ true → HasItsRows c.args.self.now.program → ranges_of c.left-run.result ≡ left
+  runs : has_rows c.args.self.now.program ≡ true → HasItsRows c.args.self.now.program → left_ranges c.left-run.result.ranges ≡ left
   runs is rows =
       c.left-run.ensures.ranges
       ∙ (ap singles (c.in-Ok-false.ensures.left c.in-Ok-false.field-0-test rows is)

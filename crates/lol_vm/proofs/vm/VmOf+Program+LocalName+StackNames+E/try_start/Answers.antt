@@ -1,4 +1,4 @@
-use Rattle.lol_vm.proofs.Common.{◌≡◌, true, false, true≢false, cond, List, Option, refl, sym, ap, ◌∙◌, subst, Ok, Err, Some, None, is_html, has_content, ExecutionCtx, StartTag, Range, ℕ, NeedNoMemory, AreRunnable, AreTried, AreWithin, IsTagOf, ranges_of, ranges_to_run_in, sight_in}
+use Rattle.lol_vm.proofs.Common.{◌≡◌, true, false, true≢false, cond, List, Option, refl, sym, ap, ◌∙◌, subst, Ok, Err, Some, None, is_html, has_content, ExecutionCtx, StartTag, Range, ℕ, NeedNoMemory, AreRunnable, AreTried, AreWithin, IsTagOf, all_ranges, ranges_to_run_in, sight_in}
 use Rattle.std.specs.Result.{IfOk}
 use Rattle.lol_program.specs.ProgramViews.{has_rows}
 use Rattle.lol_program.specs.declared.program.Program.{Program}
@@ -46,7 +46,7 @@ module _ (g : given.Over) (c : After-try_by_name g) where
   none : has_rows p ≡ false
   none = sym c.is_some.ensures ∙ c.if-is_some.false
 
-  runs : ranges_of c.new-run.result ≡ ranges_by_name p own ranges
+  runs : all_ranges c.new-run.result.ranges ≡ ranges_by_name p own ranges
   runs = c.new-run.ensures.ranges ∙ ap (λ b. cond b (singles (all_passing (is_left_by_name own) p.instructions.items ranges)) ranges) (sym none)
 
   shut : opens_by_rows p.rows own p.instructions.items ranges ≡ false

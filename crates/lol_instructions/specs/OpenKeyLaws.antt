@@ -1,4 +1,4 @@
--- What is left to look at, test by test, for the keys of compiled tests.
+-- How it is told, test by test, whether tests are known to be open.
 use Rattle.std.proofs.Common.{◌≡◌, Bool, true, false, not, List, [], ◌∷◌, filter, refl}
 use Rattle.std.specs.List.{list_all}
 use Rattle.lol_instructions.specs.Keys.{KeyTest, IsAny, IsNamed, HasKey, IsOfAttributes, SaysNothing, is_of_attributes, is_of_any, are_of_attributes, without_name, opens_where_named}
