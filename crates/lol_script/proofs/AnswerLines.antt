@@ -51,7 +51,7 @@ same_selectors code s reading =
     let once = (trees_are_closed false code.ast).once in
     let nodes = λ (node : Path). (λ h. (are.members node).1 ((reading.nodes node).0 h), λ h. (reading.nodes node).1 ((are.members node).0 h)) in
     let all = (selectors_of (pairs_in s)).nodes in
-    let count : length (nodes_of code.ast) ≡ length all = 
+    let count : length (nodes_of code.ast) ≡ length all =
     same_length (nodes_of code.ast) all (distinct_from_pairs (nodes_of code.ast) once) (distinct_from_pairs all are.each_once)
     (among_too (nodes_of code.ast) all (λ node. (nodes node).0)) (among_too all (nodes_of code.ast) (λ node. (nodes node).1)) in
     record {

@@ -48,7 +48,7 @@ passing_all left instructions [] = refl
 passing_all left instructions (r ∷ ranges) =
     ap (λ xs. passing left instructions r ++ xs) (passing_all left instructions ranges) ∙ sym (filter-append (passes_at left instructions) (places r) (all_places ranges))
 
-any_append : (q : ℕ → Bool) (xs ys : List ℕ) → list_any q (xs ++ ys) ≡ (list_any q xs || list_any q ys)
+pub any_append : {T : Type 0} (q : T → Bool) (xs ys : List T) → list_any q (xs ++ ys) ≡ (list_any q xs || list_any q ys)
 any_append q [] ys = refl
 any_append q (x ∷ xs) ys = by_test (q x) (any_append q xs ys)
   where
