@@ -56,10 +56,12 @@ impl Candidates<'_> {
         left: &mut Vec<usize>,
     ) -> Result<(), AllocError>
         ensures left { OnOk result (left.new.items ≡ left.old.items
-            ++ filter (passes_at (leaves_seen local_name.now.lowercased (option_copied attributes.entry)) instructions.now)
+            ++ filter (passes_at (leaves_seen local_name.now.lowercased
+            (option_copied attributes.entry)) instructions.now)
             (candidate_addresses self.now)) }
         ensures free { length left.old.items
-            + length (filter (passes_at (leaves_seen local_name.now.lowercased (option_copied attributes.entry)) instructions.now)
+            + length (filter (passes_at (leaves_seen local_name.now.lowercased
+            (option_copied attributes.entry)) instructions.now)
             (candidate_addresses self.now)) ≤ vec_capacity left.old → IsOk result }
         ensures capacity { vec_capacity left.old ≤ vec_capacity left.new }
     {
@@ -81,7 +83,8 @@ fn is_left_at(
     local_name: &LocalName<'_>,
     attributes: Option<&AttributeMatcher<'_>>,
 ) -> bool
-    ensures { result ≡ passes_at (leaves_seen local_name.now.lowercased (option_copied attributes.entry)) instructions.now address }
+    ensures { result ≡ passes_at (leaves_seen local_name.now.lowercased
+        (option_copied attributes.entry)) instructions.now address }
 {
     match instructions.get(address) {
         Some(instruction) => is_left(instruction, local_name, attributes),

@@ -9,7 +9,8 @@ use Rattle.lol_program.specs.Asts.{is_with_rows, nodes_of}
 use Rattle.lol_program.specs.ClosedLaws.{trees_are_closed}
 use Rattle.lol_program.specs.PairNodeLaws.{nodes_of-AreNodes}
 use Rattle.lol_program.specs.Nodes.{selectors_of}
-use Rattle.lol_program.specs.Paths.{Path, Selectors}
+use Rattle.lol_program.specs.Paths.{Selectors}
+use Rattle.lol_program.specs.Sets.{SameMembers}
 use Rattle.lol_program.specs.declared.ast.Ast.{Ast}
 use Rattle.lol_reasons.specs.Explanations.{added_by, reasons_at}
 use Rattle.lol_reasons.specs.NumberingLaws.{NodesDecideTheRest}
@@ -49,8 +50,8 @@ pub same_selectors : (code : Settings) (s : Script) → IsReading code s → Sam
 same_selectors code s reading =
     let are = nodes_of-AreNodes (pairs_in s) in
     let once = (trees_are_closed false code.ast).once in
-    let nodes = λ (node : Path). (λ h. (are.members node).1 ((reading.nodes node).0 h), λ h. (reading.nodes node).1 ((are.members node).0 h)) in
     let all = (selectors_of (pairs_in s)).nodes in
+    let nodes : SameMembers all (nodes_of code.ast) = λ node. (λ h. (are.members node).1 ((reading.nodes node).0 h), λ h. (reading.nodes node).1 ((are.members node).0 h)) in
     let count : length (nodes_of code.ast) ≡ length all =
     same_length (nodes_of code.ast) all (distinct_from_pairs (nodes_of code.ast) once) (distinct_from_pairs all are.each_once)
     (among_too (nodes_of code.ast) all (λ node. (nodes node).0)) (among_too all (nodes_of code.ast) (λ node. (nodes node).1)) in

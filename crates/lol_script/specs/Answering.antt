@@ -1,5 +1,5 @@
 -- Tags that are answered as their lines are read.
-use Rattle.std.specs.Prelude.{◌≡◌, ℕ, Bool, true, false, List, [], ◌∷◌, ◌++◌, length, map, Option, Some, None, Result, Ok, Err, codes, decimal}
+use Rattle.std.specs.Prelude.{◌≡◌, ℕ, Bool, true, false, List, [], ◌∷◌, ◌++◌, length, map, Option, Ok, decimal}
 use Rattle.std.specs.List.{concat}
 use Rattle.lol_base.specs.CodePoints.{line_feed}
 use Rattle.lol_base.specs.StartTags.{StartTag}
@@ -23,11 +23,11 @@ use Rattle.lol_vm.specs.declared.events.RunCause.TheVariants.{MemoryLimitExceede
 use Rattle.lol_script.specs.Devices.{ReadsToEnd}
 use Rattle.lol_script.specs.Explaining.{Explains, IsRunThrough, Tells, limiter_of, lines_by, with_reasons}
 use Rattle.lol_script.specs.FieldLists.{fields_in, list_text, match_field, started_by, was_refused}
-use Rattle.lol_script.specs.Output.{comma_list, lines_of}
+use Rattle.lol_script.specs.Output.{comma_list}
 use Rattle.lol_script.specs.ReadLines.{ReadLines}
 use Rattle.lol_script.specs.Readings.{IsReadTo, IsTagLine}
 use Rattle.lol_script.specs.Script.{line_at}
-use Rattle.lol_script.specs.Scripts.{Output, Script, output, output_of, run_output, selectors_in, shown_cause, texts_for}
+use Rattle.lol_script.specs.Scripts.{Output, Script, output, output_of, run_output, selectors_in, texts_for}
 use Rattle.lol_script.specs.declared.device.Counted.{Counted}
 use Rattle.lol_script.specs.declared.explained.Explained.{Explained}
 use Rattle.lol_script.specs.declared.output.FieldList.{FieldList}

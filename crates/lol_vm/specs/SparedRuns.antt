@@ -1,5 +1,5 @@
 -- What of a start tag's ranges is run where a program has rows.
-use Rattle.std.specs.Prelude.{ℕ, ◌+◌, ◌-◌, ◌^◌, ◌≡◌, ◌≤◌, ◌<◌, min, Bool, true, false, if◌then◌else◌, List, map, flat_map, length, Option, Some, None}
+use Rattle.std.specs.Prelude.{ℕ, ◌+◌, ◌-◌, ◌^◌, ◌≡◌, ◌≤◌, ◌<◌, min, Bool, true, false, if◌then◌else◌, List, map, flat_map, length, Option, Some, None, Result, Ok, Err}
 use Rattle.std.specs.List.{list_any}
 use Rattle.std.specs.Vec.{vec_capacity}
 use Rattle.std.specs.declared.ops.Range.{Range}
@@ -59,6 +59,11 @@ module _ (p : Program) where
   -- what it goes on in
   abbrev pub ranges_after : List ℕ → TagAttributes → List (Range ℕ) → RecoveryPoint → List (Range ℕ)
   ranges_after name seen ranges point = spared (left_at_point name seen point) ranges
+
+-- where a run by name stopped, if it wasn't refused
+abbrev pub stopped_by : {R : Type 0} → Result (Unit {0}) R → RowSpace → Result (Option RecoveryPoint) R
+stopped_by (Ok done) space = Ok space.stopped
+stopped_by (Err error) space = Err error
 
 -- 3. Room
 

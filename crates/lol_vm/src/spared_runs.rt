@@ -25,6 +25,8 @@ pub(crate) struct RowSpace {
     left: Vec<usize>,
     found: Vec<usize>,
     hashes: Vec<u32>,
+    /// Where the last run by name stopped, if it wasn't refused.
+    pub stopped: Option<RecoveryPoint>,
 }
 
 impl RowSpace {
@@ -41,6 +43,7 @@ impl RowSpace {
             left: Vec::with_capacity(alloc, count)?,
             found: Vec::new(alloc),
             hashes: Vec::new(alloc),
+            stopped: None,
         })
     }
 
@@ -171,7 +174,8 @@ fn add_left_by_name(
     ensures left { OnOk result (AreRowsOf instructions.now rows.now → space.new.left.items ≡ space.old.left.items
         ++ all_passing (is_left_by_name name.now.lowercased) instructions.now (all_ranges ranges.entry)) }
     ensures free { AreRowsOf instructions.now rows.now
-        → HasRoomFor space.old (length space.old.left.items + length (all_places (all_ranges ranges.entry))) → IsOk result }
+        → HasRoomFor space.old (length space.old.left.items + length (all_places (all_ranges ranges.entry)))
+        → IsOk result }
     ensures room { vec_capacity space.old.left ≤ vec_capacity space.new.left }
 {
     let hashes = name_hashes(name);
@@ -196,7 +200,8 @@ fn add_left_by_keys(
     ensures left { OnOk result (AreRowsOf instructions.now rows.now → space.new.left.items ≡ space.old.left.items
         ++ all_passing (is_left_by_keys name.now.lowercased matcher.now) instructions.now (all_ranges ranges.entry)) }
     ensures free { AreRowsOf instructions.now rows.now
-        → HasRoomFor space.old (length space.old.left.items + length (all_places (all_ranges ranges.entry))) → IsOk result }
+        → HasRoomFor space.old (length space.old.left.items + length (all_places (all_ranges ranges.entry)))
+        → IsOk result }
     ensures room { vec_capacity space.old.left ≤ vec_capacity space.new.left }
 {
     space.hashes.clear();

@@ -185,7 +185,8 @@ impl<'p, R: TagRanges> TagRun<'p, R> {
         ctx: &mut ExecutionCtx<'_, E>,
         tries: &mut Tries,
     ) -> Result<Option<Stop>, AllocError>
-        ensures tried { AreRunnable self.now.instructions.now (R.listed self.now.ranges) tries.old → IfOk result (λ stop.
+        ensures tried { AreRunnable self.now.instructions.now (R.listed self.now.ranges) tries.old
+            → IfOk result (λ stop.
             AreTried E.ids E.with_ids (sight self.now.state ctx.old.stack_item.local_name) self.now.instructions.now
             (R.listed self.now.ranges) ctx.old ctx.new tries.old tries.new stop) }
         ensures attributes { attributes_counted tries.new ≡ attributes_counted tries.old }

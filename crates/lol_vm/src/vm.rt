@@ -19,7 +19,7 @@ ghost use Rattle.lol_vm.specs.Due.{IsDue, IsNeverForMemory, IsAfterHandedReport,
 ghost use Rattle.lol_vm.specs.Premises.{ForAskedOf, ForEndOf, ForHandedOf, ForPending, ForRestOf, ForTagOf};
 ghost use Rattle.lol_program.specs.ProgramViews.{has_rows};
 ghost use Rattle.lol_vm.specs.TriedStarts.{IsBegun, IsCompleted, IsNewContext, IsTried, IsTriedByName, left_at};
-ghost use Rattle.lol_vm.specs.SparedRuns.{HasRoom};
+ghost use Rattle.lol_vm.specs.SparedRuns.{HasRoom, stopped_by};
 ghost use Rattle.lol_vm.specs.VmLending.{lends_current_of_vm};
 ghost use Rattle.lol_stack.specs.Stacks.{items_in, slots_in, item_bytes_in, list_in, last_count, IsPushed, IsSame};
 ghost use Rattle.lol_vm.specs.Views.{selectors};
@@ -326,7 +326,10 @@ impl<E: ElementData> VmOf<Program, LocalName<'static>, StackNames, E> {
         }
         ctx.with_content = directive == StackDirective::Push;
         if self.program.rows.is_some() {
-            return self.try_left(ctx);
+            return match self.try_left(ctx) {
+                Ok(()) => Ok(self.space.stopped),
+                Err(error) => Err(error),
+            };
         }
         let name = &ctx.stack_item.local_name;
         let run = TagRun::new(&self.program, &self.stack, name, self.alloc);
@@ -341,13 +344,12 @@ impl<E: ElementData> VmOf<Program, LocalName<'static>, StackNames, E> {
     }
 
     /// Tries a start tag of HTML by its name where the program has rows: what these leave, unless they know that it needs its attributes.
+    /// Where it stopped is kept in the room for rows: as a result, which takes three words, it would cost a machine without rows some
+    /// twenty instructions a tag.
     #[inline(never)]
-    fn try_left(
-        &mut self,
-        ctx: &mut ExecutionCtx<'_, E>,
-    ) -> Result<Option<RecoveryPoint>, AllocError>
+    fn try_left(&mut self, ctx: &mut ExecutionCtx<'_, E>) -> Result<(), AllocError>
         ensures tried { has_rows self.old.program ≡ true → IsTriedByName E.ids E.with_ids
-            self.old self.new ctx.old ctx.new result ctx.old.with_content }
+            self.old self.new ctx.old ctx.new (stopped_by result self.new.space) ctx.old.with_content }
         ensures name { ctx.new.stack_item.local_name ≡ ctx.old.stack_item.local_name }
         ensures ok { OnOk result (self.new ≡ record self.old { tries = self.new.tries; space = self.new.space }) }
         ensures err { OnErr result
@@ -357,7 +359,10 @@ impl<E: ElementData> VmOf<Program, LocalName<'static>, StackNames, E> {
         let name = &ctx.stack_item.local_name;
         match find_by_name(&self.program, &self.stack, name, &mut self.space) {
             Ok(false) => (),
-            Ok(true) => return Ok(Some(RecoveryPoint::AtOnce)),
+            Ok(true) => {
+                self.space.stopped = Some(RecoveryPoint::AtOnce);
+                return Ok(());
+            }
             Err(error) => {
                 self.failed = true;
                 return Err(error);
@@ -365,8 +370,14 @@ impl<E: ElementData> VmOf<Program, LocalName<'static>, StackNames, E> {
         }
         let run = TagRun::left(&self.program, &self.stack, &self.space, name, self.alloc);
         match run.try_by_name(ctx, &mut self.tries) {
-            Ok(None) => Ok(None),
-            Ok(Some(stop)) => Ok(Some(RecoveryPoint::At(stop))),
+            Ok(None) => {
+                self.space.stopped = None;
+                Ok(())
+            }
+            Ok(Some(stop)) => {
+                self.space.stopped = Some(RecoveryPoint::At(stop));
+                Ok(())
+            }
             Err(error) => {
                 self.failed = true;
                 Err(error)

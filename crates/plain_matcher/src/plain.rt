@@ -13,7 +13,7 @@ ghost use Rattle.plain_matcher.specs.Plain.{document_shown, answer_shown, start_
 use crate::plain_document::{PlainDocument, add_element, close, has_content, new_element};
 use crate::plain_element::PlainElement;
 use crate::plain_nodes::{PlainNode, list_nodes, matching_ids};
-use crate::plain_tries::{Trying, attribute_tries, name_tries, some_left_open};
+use crate::plain_tries::{Trying, counted_tries, some_left_open};
 use lol_base::Namespace;
 use lol_css::Combinator;
 use lol_memory::{DenseHashSet, MatchInfo};
@@ -53,7 +53,8 @@ pub fn plain_answers(
     events: &[TagEvent],
 ) -> Result<Vec<PlainAnswer>, AllocError>
     requires { All HasRangesInside events.now }
-    ensures { IfOk result (λ told. map answer_shown told.items ≡ answers.answers (in_mode by_keys (selectors ast.now)) enable_esi_tags (map event_of events.now)) }
+    ensures { IfOk result (λ told. map answer_shown told.items
+        ≡ answers.answers (in_mode by_keys (selectors ast.now)) enable_esi_tags (map event_of events.now)) }
 {
     let mut nodes = Vec::new(alloc);
     list_nodes(alloc, ast.root(), Combinator::Descendant, &[], &mut nodes)?;
@@ -69,7 +70,8 @@ fn answers_of(
     events: &[TagEvent],
 ) -> Result<Vec<PlainAnswer>, AllocError>
     requires { All HasRangesInside events.now }
-    ensures { IfOk result (λ told. map answer_shown told.items ≡ answers.answers (selectors_shown by_keys nodes.now) enable_esi_tags (map event_of events.now)) }
+    ensures { IfOk result (λ told. map answer_shown told.items
+        ≡ answers.answers (selectors_shown by_keys nodes.now) enable_esi_tags (map event_of events.now)) }
 {
     let mut document = PlainDocument::new(alloc);
     let mut told = Vec::new(alloc);
@@ -98,8 +100,12 @@ pub(crate) fn answer<'e>(
     event: &TagEvent<'e>,
 ) -> Result<PlainAnswer, AllocError>
     requires { HasRangesInside event.now }
-    ensures answer { IfOk result (λ told. answer_shown told ≡ answers.answer (selectors_shown by_keys nodes.now) enable_esi_tags (document_shown number document.old) (event_of event.now)) }
-    ensures document { OnOk result (document_shown (number + 1) document.new ≡ answers.after (selectors_shown by_keys nodes.now) enable_esi_tags (document_shown number document.old) (event_of event.now)) }
+    ensures answer { IfOk result (λ told. answer_shown told
+        ≡ answers.answer (selectors_shown by_keys nodes.now) enable_esi_tags (document_shown number document.old)
+        (event_of event.now)) }
+    ensures document { OnOk result (document_shown (number + 1) document.new
+        ≡ answers.after (selectors_shown by_keys nodes.now) enable_esi_tags (document_shown number document.old)
+        (event_of event.now)) }
 {
     match event {
         TagEvent::Start {
@@ -137,8 +143,12 @@ fn start<'e>(
     element: PlainElement<'e>,
 ) -> Result<PlainAnswer, AllocError>
     requires { (element_shown element).tag.namespace ≡ ns }
-    ensures answer { IfOk result (λ told. answer_shown told ≡ start_answer (selectors_shown by_keys nodes.now) enable_esi_tags (element_shown element.entry) (map element_shown document.old.open_elements.items)) }
-    ensures document { OnOk result ((events : ℕ) → document_shown (events + 1) document.new ≡ started (selectors_shown by_keys nodes.now) enable_esi_tags (document_shown events document.old) (element_shown element.entry)) }
+    ensures answer { IfOk result (λ told. answer_shown told
+        ≡ start_answer (selectors_shown by_keys nodes.now) enable_esi_tags (element_shown element.entry)
+        (map element_shown document.old.open_elements.items)) }
+    ensures document { OnOk result ((events : ℕ) → document_shown (events + 1) document.new
+        ≡ started (selectors_shown by_keys nodes.now) enable_esi_tags (document_shown events document.old)
+        (element_shown element.entry)) }
 {
     let with_content = has_content(ns, enable_esi_tags, &element);
     let asked = asks(alloc, nodes, ns, &element, &document.open_elements)?;
@@ -170,10 +180,11 @@ fn asks(
     outer: &[PlainElement<'_>],
 ) -> Result<bool, AllocError>
     requires { (element_shown element.now).tag.namespace ≡ ns }
-    ensures { IfOk result (λ asked. asked ≡ answers.asks (selectors_shown false nodes.now) (element_shown element.now) (map element_shown outer.now)) }
+    ensures { IfOk result (λ asked. asked ≡ answers.asks (selectors_shown false nodes.now)
+        (element_shown element.now) (map element_shown outer.now)) }
 {
-    let tries = attribute_tries(alloc, nodes, Trying::All, element, outer)?;
-    Ok(ns != Namespace::Html || tries > 0)
+    let (_, attributes) = counted_tries(alloc, nodes, Trying::All, element, outer)?;
+    Ok(ns != Namespace::Html || attributes > 0)
 }
 
 /// Which nodes are tried for an element.
@@ -187,7 +198,8 @@ fn trying_for(
 ) -> Result<Trying, AllocError>
     requires { (element_shown element.now).tag.namespace ≡ ns }
     ensures { IfOk result (λ trying. is_tried_in trying (element_shown element.now) (map element_shown outer.now)
-        ≡ answers.is_tried (selectors_shown by_keys nodes.now) (element_shown element.now) (map element_shown outer.now)) }
+        ≡ answers.is_tried (selectors_shown by_keys nodes.now) (element_shown element.now)
+        (map element_shown outer.now)) }
 {
     if !by_keys {
         return Ok(Trying::All);
@@ -209,16 +221,20 @@ fn report(
     outer: &[PlainElement<'_>],
 ) -> Result<PlainAnswer, AllocError>
     ensures { IfOk result (λ told. answer_shown told ≡ answers.Started
-        (map (λ id. record { id = id; with_content = with_content }) (answers.matching_ids (pairs_of nodes.now) (element_shown element.now) (map element_shown outer.now)))
-        asked (count_by (is_tried_in trying (element_shown element.now) (map element_shown outer.now)) (paths_of nodes.now))
-        (count_by (is_tried_open_in trying (element_shown element.now) (map element_shown outer.now)) (paths_of nodes.now))) }
+        (map (λ id. record { id = id; with_content = with_content }) (answers.matching_ids (pairs_of nodes.now)
+        (element_shown element.now) (map element_shown outer.now)))
+        asked (count_by (is_tried_in trying (element_shown element.now) (map element_shown outer.now))
+        (paths_of nodes.now))
+        (count_by (is_tried_open_in trying (element_shown element.now) (map element_shown outer.now))
+        (paths_of nodes.now))) }
 {
     let ids = matching_ids(alloc, nodes, element, outer)?;
+    let (names, attributes) = counted_tries(alloc, nodes, trying, element, outer)?;
     Ok(PlainAnswer::Started {
         matched: infos_of(alloc, &ids, with_content)?,
         asked,
-        names: name_tries(alloc, nodes, trying, element, outer)?,
-        attributes: attribute_tries(alloc, nodes, trying, element, outer)?,
+        names,
+        attributes,
     })
 }
 
@@ -227,7 +243,8 @@ fn infos_of(
     ids: &DenseHashSet,
     with_content: bool,
 ) -> Result<Vec<MatchInfo>, AllocError>
-    ensures { IfOk result (λ infos. map match_of infos.items ≡ map (λ id. record { id = id; with_content = with_content }) (ascending ids.now)) }
+    ensures { IfOk result (λ infos. map match_of infos.items
+        ≡ map (λ id. record { id = id; with_content = with_content }) (ascending ids.now)) }
 {
     let mut infos = Vec::new(alloc);
     for match_id in ids.iter() {

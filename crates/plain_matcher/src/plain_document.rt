@@ -121,7 +121,8 @@ pub(crate) fn new_element<'e>(
     finish: bool,
 ) -> Result<PlainElement<'e>, AllocError>
     requires { RangesAreInside aux_info }
-    ensures { IfOk result (λ element. element_shown element ≡ documents.element_of (document_shown number document.now) (tag_of name.now ns aux_info.entry finish)) }
+    ensures { IfOk result (λ element. element_shown element
+        ≡ documents.element_of (document_shown number document.now) (tag_of name.now ns aux_info.entry finish)) }
 {
     let parent = parent_of(&document.open_elements);
     Ok(PlainElement {
@@ -142,9 +143,14 @@ pub(crate) fn add_element<'e>(
     opens: bool,
 ) -> Result<(), AllocError>
     ensures children { OnOk result (map child_shown document.new.children.items
-        ≡ record { parent = documents.parent_of (map element_shown document.old.open_elements.items); name = (element_shown element.entry).tag.name } ∷ map child_shown document.old.children.items) }
+        ≡ record {
+          parent = documents.parent_of (map element_shown document.old.open_elements.items);
+          name =
+              (element_shown element.entry).tag.name;
+        } ∷ map child_shown document.old.children.items) }
     ensures open_elements { OnOk result (map element_shown document.new.open_elements.items
-        ≡ (if opens then element_shown element.entry ∷ map element_shown document.old.open_elements.items else map element_shown document.old.open_elements.items)) }
+        ≡ (if opens then element_shown element.entry
+        ∷ map element_shown document.old.open_elements.items else map element_shown document.old.open_elements.items)) }
 {
     let child = PlainChild {
         parent: parent_of(&document.open_elements),
@@ -199,8 +205,10 @@ pub(crate) fn close(
     document: &mut PlainDocument<'_>,
     name: &[u8],
 ) -> Result<Vec<usize>, AllocError>
-    ensures closed { IfOk result (λ numbers. (events : ℕ) → numbers.items ≡ documents.closed name.now (document_shown events document.old)) }
-    ensures document { OnOk result ((events : ℕ) → document_shown (events + 1) document.new ≡ documents.after_end (document_shown events document.old) name.now) }
+    ensures closed { IfOk result (λ numbers. (events : ℕ) → numbers.items
+        ≡ documents.closed name.now (document_shown events document.old)) }
+    ensures document { OnOk result ((events : ℕ) → document_shown (events + 1) document.new
+        ≡ documents.after_end (document_shown events document.old) name.now) }
 {
     let Some(place) = place_of(name, &document.open_elements) else {
         return Ok(Vec::new(alloc));

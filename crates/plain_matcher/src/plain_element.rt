@@ -53,7 +53,8 @@ fn attribute_passes(
     test: &OnAttributesExpr,
     attributes: &AttributeMatcher<'_>,
 ) -> Result<bool, AllocError>
-    ensures { IfOk result (λ passes. (e : Element) → attributes.now ≡ tag_attributes e.tag → passes ≡ attribute_holds (attribute_test test.now) e) }
+    ensures { IfOk result (λ passes. (e : Element) → attributes.now ≡ tag_attributes e.tag → passes
+        ≡ attribute_holds (attribute_test test.now) e) }
 {
     match test {
         OnAttributesExpr::Id(id) => Ok(attributes.has_id(id.as_bytes())),
@@ -71,7 +72,8 @@ fn comparison_passes(
     attributes: &AttributeMatcher<'_>,
 ) -> Result<bool, AllocError>
     ensures { IfOk result (λ passes. (e : Element) → attributes.now ≡ tag_attributes e.tag
-        → passes ≡ attribute_holds (Compares (string_bytes test.now.name) test.now.operator (string_bytes test.now.value) test.now.case_sensitivity) e) }
+        → passes ≡ attribute_holds (Compares (string_bytes test.now.name) test.now.operator
+        (string_bytes test.now.value) test.now.case_sensitivity) e) }
 {
     if lacks_operand(test.operator, test.value.as_bytes()) {
         return Ok(false);
@@ -177,7 +179,8 @@ fn some_pass(
     predicates: &[Predicate],
     element: &PlainElement<'_>,
 ) -> Result<bool, AllocError>
-    ensures { IfOk result (λ passes. passes ≡ some_hold (any_of (map tests_of predicates.now)) (element_shown element.now)) }
+    ensures { IfOk result (λ passes. passes ≡ some_hold (any_of (map tests_of predicates.now))
+        (element_shown element.now)) }
 {
     for predicate in predicates {
         if predicate_passes(alloc, predicate, element)? {

@@ -28,7 +28,8 @@ pub(crate) fn lacks_key(
     predicate: &Predicate,
     element: &PlainElement<'_>,
 ) -> Result<bool, AllocError>
-    ensures { IfOk result (λ lacks. lacks ≡ is_ruled_out_by_attributes (both_keys (tests_of predicate.now)) (element_shown element.now)) }
+    ensures { IfOk result (λ lacks. lacks ≡ is_ruled_out_by_attributes (both_keys (tests_of predicate.now))
+        (element_shown element.now)) }
 {
     if let Some(id) = first_id(&predicate.tests) {
         return Ok(!element.attributes.has_id(id));

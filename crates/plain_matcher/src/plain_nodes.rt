@@ -37,7 +37,8 @@ pub(crate) fn list_nodes<'t>(
     above: &[Step<'t>],
     listed: &mut Vec<PlainNode<'t>>,
 ) -> Result<(), AllocError>
-    ensures { OnOk result (map node_shown listed.new.items ≡ map node_shown listed.old.items ++ nodes_listed (path_to above.now combinator) (forest_of nodes.now)) }
+    ensures { OnOk result (map node_shown listed.new.items ≡ map node_shown listed.old.items
+        ++ nodes_listed (path_to above.now combinator) (forest_of nodes.now)) }
 {
     for node in nodes {
         list_node(alloc, node, combinator, above, listed)?;
@@ -54,7 +55,8 @@ fn list_node<'t>(
     above: &[Step<'t>],
     listed: &mut Vec<PlainNode<'t>>,
 ) -> Result<(), AllocError>
-    ensures { OnOk result (map node_shown listed.new.items ≡ map node_shown listed.old.items ++ nodes_listed (path_to above.now combinator) (linked (node_of node.now ∷ []))) }
+    ensures { OnOk result (map node_shown listed.new.items ≡ map node_shown listed.old.items
+        ++ nodes_listed (path_to above.now combinator) (linked (node_of node.now ∷ []))) }
 {
     let step = Step {
         combinator,
@@ -93,7 +95,8 @@ fn path_matches(
     element: &PlainElement<'_>,
     outer: &[PlainElement<'_>],
 ) -> Result<bool, AllocError>
-    ensures { IfOk result (λ found. found ≡ matches (path_shown path.now) (element_shown element.now) (map element_shown outer.now)) }
+    ensures { IfOk result (λ found. found ≡ matches (path_shown path.now) (element_shown element.now)
+        (map element_shown outer.now)) }
 {
     let Some((last, _)) = path.split_first() else {
         return Ok(true);
@@ -130,7 +133,8 @@ fn step_is_reached(
     combinator: Combinator,
     outer: &[PlainElement<'_>],
 ) -> Result<bool, AllocError>
-    ensures { IfOk result (λ found. found ≡ step_reaches combinator (matches (path_shown front.now)) (map element_shown outer.now)) }
+    ensures { IfOk result (λ found. found ≡ step_reaches combinator (matches (path_shown front.now))
+        (map element_shown outer.now)) }
 {
     let Some((nearest, around)) = outer.split_first() else {
         return Ok(false);
@@ -151,7 +155,8 @@ pub(crate) fn matching_ids(
     element: &PlainElement<'_>,
     outer: &[PlainElement<'_>],
 ) -> Result<DenseHashSet, AllocError>
-    ensures { IfOk result (λ ids. ascending ids ≡ answers.matching_ids (pairs_of nodes.now) (element_shown element.now) (map element_shown outer.now)) }
+    ensures { IfOk result (λ ids. ascending ids
+        ≡ answers.matching_ids (pairs_of nodes.now) (element_shown element.now) (map element_shown outer.now)) }
 {
     let mut ids = DenseHashSet::new(alloc);
     for node in nodes {

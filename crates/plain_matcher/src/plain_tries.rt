@@ -24,42 +24,31 @@ pub(crate) enum Trying {
     Left { at_once: bool },
 }
 
-/// How many nodes are tried for an element inside these ones.
-pub(crate) fn name_tries(
+/// How many nodes are tried for an element inside these ones, and how many of them by attributes too.
+pub(crate) fn counted_tries(
     alloc: Global,
     nodes: &[PlainNode<'_>],
     trying: Trying,
     element: &PlainElement<'_>,
     outer: &[PlainElement<'_>],
-) -> Result<usize, AllocError>
-    ensures { IfOk result (λ tries. tries ≡ count_by (is_tried_in trying (element_shown element.now) (map element_shown outer.now)) (paths_of nodes.now)) }
+) -> Result<(usize, usize), AllocError>
+    ensures names { IfOk result (λ tries. tries.0
+        ≡ count_by (is_tried_in trying (element_shown element.now) (map element_shown outer.now)) (paths_of nodes.now)) }
+    ensures attributes { IfOk result (λ tries. tries.1
+        ≡ count_by (is_tried_open_in trying (element_shown element.now) (map element_shown outer.now))
+        (paths_of nodes.now)) }
 {
-    let mut tries = 0;
+    let mut names = 0;
+    let mut attributes = 0;
     for node in nodes {
         if is_tried(alloc, trying, &node.path, element, outer)? {
-            tries += 1;
+            names += 1;
         }
-    }
-    Ok(tries)
-}
-
-/// How many of them are tried by attributes too.
-pub(crate) fn attribute_tries(
-    alloc: Global,
-    nodes: &[PlainNode<'_>],
-    trying: Trying,
-    element: &PlainElement<'_>,
-    outer: &[PlainElement<'_>],
-) -> Result<usize, AllocError>
-    ensures { IfOk result (λ tries. tries ≡ count_by (is_tried_open_in trying (element_shown element.now) (map element_shown outer.now)) (paths_of nodes.now)) }
-{
-    let mut tries = 0;
-    for node in nodes {
         if is_tried_open(alloc, trying, &node.path, element, outer)? {
-            tries += 1;
+            attributes += 1;
         }
     }
-    Ok(tries)
+    Ok((names, attributes))
 }
 
 /// Whether it is known of some node, without a try, that it needs attributes.
@@ -69,7 +58,8 @@ pub(crate) fn some_left_open(
     element: &PlainElement<'_>,
     outer: &[PlainElement<'_>],
 ) -> Result<bool, AllocError>
-    ensures { IfOk result (λ some. some ≡ list_any (keys.is_left_open keys.node_keys (element_shown element.now) (map element_shown outer.now)) (paths_of nodes.now)) }
+    ensures { IfOk result (λ some. some ≡ list_any (keys.is_left_open keys.node_keys (element_shown element.now)
+        (map element_shown outer.now)) (paths_of nodes.now)) }
 {
     for node in nodes {
         if is_left_open(alloc, &node.path, element, outer)? {
@@ -86,7 +76,8 @@ fn is_tried(
     element: &PlainElement<'_>,
     outer: &[PlainElement<'_>],
 ) -> Result<bool, AllocError>
-    ensures { IfOk result (λ tried. tried ≡ is_tried_in trying (element_shown element.now) (map element_shown outer.now) (path_shown path.now)) }
+    ensures { IfOk result (λ tried. tried ≡ is_tried_in trying (element_shown element.now)
+        (map element_shown outer.now) (path_shown path.now)) }
 {
     match trying {
         Trying::All => left_part_matches(alloc, path, outer),
@@ -101,7 +92,8 @@ fn is_tried_open(
     element: &PlainElement<'_>,
     outer: &[PlainElement<'_>],
 ) -> Result<bool, AllocError>
-    ensures { IfOk result (λ is. is ≡ is_tried_open_in trying (element_shown element.now) (map element_shown outer.now) (path_shown path.now)) }
+    ensures { IfOk result (λ is. is ≡ is_tried_open_in trying (element_shown element.now)
+        (map element_shown outer.now) (path_shown path.now)) }
 {
     let Some((last, _)) = path.split_first() else {
         return Ok(false);
@@ -119,7 +111,8 @@ fn is_left_by_name(
     element: &PlainElement<'_>,
     outer: &[PlainElement<'_>],
 ) -> Result<bool, AllocError>
-    ensures { IfOk result (λ left. left ≡ keys.is_left_by_name keys.node_keys (element_shown element.now) (map element_shown outer.now) (path_shown path.now)) }
+    ensures { IfOk result (λ left. left ≡ keys.is_left_by_name keys.node_keys (element_shown element.now)
+        (map element_shown outer.now) (path_shown path.now)) }
 {
     let Some((last, _)) = path.split_first() else {
         return Ok(true);
@@ -136,7 +129,8 @@ fn is_left_open(
     element: &PlainElement<'_>,
     outer: &[PlainElement<'_>],
 ) -> Result<bool, AllocError>
-    ensures { IfOk result (λ is. is ≡ keys.is_left_open keys.node_keys (element_shown element.now) (map element_shown outer.now) (path_shown path.now)) }
+    ensures { IfOk result (λ is. is ≡ keys.is_left_open keys.node_keys (element_shown element.now)
+        (map element_shown outer.now) (path_shown path.now)) }
 {
     let Some((last, _)) = path.split_first() else {
         return Ok(false);
@@ -154,7 +148,8 @@ fn is_left(
     element: &PlainElement<'_>,
     outer: &[PlainElement<'_>],
 ) -> Result<bool, AllocError>
-    ensures { IfOk result (λ left. left ≡ keys.is_left keys.node_keys at_once (element_shown element.now) (map element_shown outer.now) (path_shown path.now)) }
+    ensures { IfOk result (λ left. left ≡ keys.is_left keys.node_keys at_once (element_shown element.now)
+        (map element_shown outer.now) (path_shown path.now)) }
 {
     let Some((last, _)) = path.split_first() else {
         return Ok(true);

@@ -4,7 +4,7 @@ use Rattle.lol_base.specs.declared.start_tag.AttributeOutline.{AttributeOutline}
 use Rattle.lol_program.specs.Paths.{Selectors}
 use Rattle.lol_vm.specs.Events.{Event}
 use Rattle.lol_vm.specs.Events as events
-use Rattle.lol_script.specs.Answering.{Answers, HasRun, IsWritten, has_ended}
+use Rattle.lol_script.specs.Answering.{Answers, IsWritten, has_ended}
 use Rattle.lol_script.specs.Lines.{start_tag_of}
 use Rattle.lol_script.specs.Scripts.{Script, with_event}
 use Rattle.lol_script.specs.declared.script_run.ScriptRun.{ScriptRun}

@@ -1,19 +1,22 @@
-use Rattle.lol_vm.proofs.Common.{◌≡◌, true, false, true≢false, cond, List, Option, refl, sym, ap, ◌∙◌, subst, Ok, Err, Some, None, is_html, has_content, ExecutionCtx, StartTag, Range, ℕ, NeedNoMemory, AreRunnable, AreTried, AreWithin, IsTagOf, all_ranges, ranges_to_run_in, sight_in}
+use Rattle.lol_vm.proofs.Common.{◌≡◌, true, false, true≢false, cond, List, Option, refl, sym, ap, ◌∙◌, subst, Result, Ok, Err, Some, None, is_html, has_content, ExecutionCtx, StartTag, Range, ℕ, NeedNoMemory, AreRunnable, AreTried, AreWithin, IsTagOf, all_ranges, ranges_to_run_in, sight_in}
 use Rattle.std.specs.Result.{IfOk}
+use Rattle.std.specs.declared.alloc.AllocError.{AllocError}
 use Rattle.lol_program.specs.ProgramViews.{has_rows}
 use Rattle.lol_program.specs.declared.program.Program.{Program}
 use Rattle.lol_rows.specs.Rows.{is_left_by_name}
 use Rattle.lol_rows.specs.declared.rows.Rows.{Rows}
-use Rattle.lol_vm.specs.SparedRuns.{all_passing, opens_by_rows, ranges_by_name, singles}
+use Rattle.lol_vm.specs.SparedRuns.{all_passing, opens_by_rows, ranges_by_name, singles, stopped_by}
 use Rattle.lol_instructions.specs.declared.instruction.Instruction.{Instruction}
 use Rattle.lol_vm.specs.declared.tag_runs.RecoveryPoint.TheVariants.{At}
+use Rattle.lol_vm.specs.declared.tag_runs.RecoveryPoint.{RecoveryPoint}
+use Rattle.lol_vm.specs.TriedStarts.{IsTried}
 use Rattle.lol_vm.specs.declared.tag_runs.Stop.{Stop}
 use Rattle.lol_vm.proofs.Directives.{html_tag}
 use Rattle.lol_vm.proofs.TagRuns.{of_same}
 use Rattle.lol_vm.proofs.TriedStarts.{tried_by_name}
 use Rattle.lol_vm.proofs.VmRefusals.{err_is_not_ok}
 use Rattle.lol_vm.proofs.vm.VmOf+Program+LocalName+StackNames+E.try_start.Given as given
-use Rattle.lol_vm.proofs.vm.VmOf+Program+LocalName+StackNames+E.try_start.Goals.{After-try_by_name, After-is_some}
+use Rattle.lol_vm.proofs.vm.VmOf+Program+LocalName+StackNames+E.try_start.Goals.{After-try_by_name, After-try_left, After-is_some}
 use Rattle.lol_vm.proofs.vm.VmOf+Program+LocalName+StackNames+E.try_start.Goals as goal
 
 -- 1. It is a tag of HTML
@@ -24,14 +27,27 @@ module _ (g : given.Over) (c : After-is_some g) where
       html_tag c.args.ctx.now.ns c.args.self.now.enable_esi_tags c.args.self.now.enable_esi_tags tag c.get_stack_directive-directive.result c.eq.result c.eq-ctx.result named.1 (c.get_stack_directive-directive.ensures tag.name named.0)
       c.eq.ensures c.if-eq.false c.eq-ctx.ensures refl
 
-pub returns-then-is_some-clause-tried : goal.returns-then-is_some-clause-tried
-returns-then-is_some-clause-tried g c = λ tag named.
-    let page = html g (goal.at.returns-then-is_some-clause-tried g c).After-is_some tag named in
+-- 2. Where the program has rows, what these leave was run
+
+rows_tried : (g : given.Over) (c : After-try_left g) (tag : StartTag) → (is_html tag.namespace ≡ true) × (c.eq-ctx.result ≡ has_content c.args.self.now.enable_esi_tags tag)
+    → (found : Result (Option RecoveryPoint) AllocError) → stopped_by c.try_left.result c.try_left.new.self.space ≡ found
+    → IsTried g.E.ElementData.ids g.E.ElementData.with_ids c.args.self.now c.try_left.new.self c.args.ctx.now c.try_left.new.ctx found tag
+rows_tried g c tag page found is =
     let told = c.try_left.ensures.tried (sym c.is_some.ensures ∙ c.if-is_some.true) in
-    tried_by_name g.E.ElementData.ids g.E.ElementData.with_ids c.args.self.now _ c.args.ctx.now c.try_left.new.ctx c.try_left.result c.try_left.result tag c.eq-ctx.result page.0 page.1 refl
+    tried_by_name g.E.ElementData.ids g.E.ElementData.with_ids c.args.self.now _ c.args.ctx.now c.try_left.new.ctx (stopped_by c.try_left.result c.try_left.new.self.space) found tag c.eq-ctx.result page.0 page.1 is
     (record { size = told.size; tried = told.tried; attributes = told.attributes; within = told.within; untried = told.untried; free = told.free })
 
--- 2. Where the program has no rows, all is run
+pub returns-in-Ok-clause-tried : goal.returns-in-Ok-clause-tried
+returns-in-Ok-clause-tried g c = λ tag named.
+    rows_tried g (goal.at.returns-in-Ok-clause-tried g c).After-try_left tag (html g (goal.at.returns-in-Ok-clause-tried g c).After-is_some tag named) _
+    (ap (λ r. stopped_by r c.try_left.new.self.space) c.in-Ok.is)
+
+pub returns-in-Err-clause-tried : goal.returns-in-Err-clause-tried
+returns-in-Err-clause-tried g c = λ tag named.
+    rows_tried g (goal.at.returns-in-Err-clause-tried g c).After-try_left tag (html g (goal.at.returns-in-Err-clause-tried g c).After-is_some tag named) _
+    (ap (λ r. stopped_by r c.try_left.new.self.space) c.in-Err.is)
+
+-- 3. Where it has no rows, all is run
 
 module _ (g : given.Over) (c : After-try_by_name g) where
   abbrev p : Program
@@ -77,7 +93,7 @@ module _ (g : given.Over) (c : After-try_by_name g) where
   never : {P : Type 0} → opens_by_rows p.rows own p.instructions.items ranges ≡ true → P
   never opens = absurd (true≢false (sym opens ∙ shut))
 
--- 3. The three results
+-- 4. The three results
 
 pub returns-in-Ok-Some-clause-tried : goal.returns-in-Ok-Some-clause-tried
 returns-in-Ok-Some-clause-tried g c = λ tag named.
@@ -107,11 +123,11 @@ returns-in-Ok-None-clause-tried g c = λ tag named.
       free = λ rows room free. refl;
     })
 
-pub returns-in-Err-clause-tried : goal.returns-in-Err-clause-tried
-returns-in-Err-clause-tried g c = λ tag named.
-    let a = (goal.at.returns-in-Err-clause-tried g c).After-try_by_name in
-    let page = html g (goal.at.returns-in-Err-clause-tried g c).After-is_some tag named in
-    tried_by_name g.E.ElementData.ids g.E.ElementData.with_ids c.args.self.now _ c.args.ctx.now c.try_by_name.new.ctx _ (Err c.in-Err.error) tag c.eq-ctx.result page.0 page.1 refl
+pub returns-in-Err-try_by_name-clause-tried : goal.returns-in-Err-try_by_name-clause-tried
+returns-in-Err-try_by_name-clause-tried g c = λ tag named.
+    let a = (goal.at.returns-in-Err-try_by_name-clause-tried g c).After-try_by_name in
+    let page = html g (goal.at.returns-in-Err-try_by_name-clause-tried g c).After-is_some tag named in
+    tried_by_name g.E.ElementData.ids g.E.ElementData.with_ids c.args.self.now _ c.args.ctx.now c.try_by_name.new.ctx _ (Err c.in-Err-try_by_name.error) tag c.eq-ctx.result page.0 page.1 refl
     (record {
       size = c.new-run.ensures.size;
       tried = λ rows runnable. tt;
@@ -119,6 +135,6 @@ returns-in-Err-clause-tried g c = λ tag named.
       within = λ rows closed. within g a;
       untried = λ rows now. never g a now;
       free = λ rows room free.
-          absurd (err_is_not_ok c.try_by_name.result c.in-Err.error c.in-Err.is
+          absurd (err_is_not_ok c.try_by_name.result c.in-Err-try_by_name.error c.in-Err-try_by_name.is
           (c.try_by_name.ensures.free (subst (NeedNoMemory c.eq-ctx.result) (sym c.new-run.ensures.instructions) free)));
     })
