@@ -1,5 +1,7 @@
 -- Entries that stand side by side, up to a place and from one on.
-use Rattle.std.proofs.Common.{◌≡◌, ℕ, ◌+◌, ◌-◌, ◌<◌, ◌≤◌, Bool, true, false, List, length, take, drop, get_or, Contains, ◌↔◌, ◌⊎◌, inl, inr, true≢false, sym, ap, ◌∙◌, subst, arith, leb, ltb, leb-true, ltb-true, ltb-false, le-leb, le-ltb, lt-ltb}
+use Rattle.std.specs.List.{slice_get}
+use Rattle.std.proofs.lemmas.Option.{slice_get-get_or}
+use Rattle.std.proofs.Common.{◌≡◌, ℕ, Some, ◌+◌, ◌-◌, ◌<◌, ◌≤◌, Bool, true, false, List, length, take, drop, get_or, Contains, ◌↔◌, ◌⊎◌, inl, inr, true≢false, sym, ap, ◌∙◌, subst, arith, leb, ltb, leb-true, ltb-true, ltb-false, le-leb, le-ltb, lt-ltb}
 use Rattle.std.specs.List.Sorted.{IsNonDecreasingBy, IsPartitionPoint, IsPartitionedBy}
 use Rattle.std.proofs.lemmas.List.{length-drop, length-take-le, take_all, get_or-take, get_or-drop, get_or_default}
 use Rattle.std.proofs.lemmas.List.Sorted.{IsNonDecreasingBy-take, IsPartitionedBy-leb, IsPartitionedBy-ltb}
@@ -87,6 +89,31 @@ one_hash_rises entries first last hash bound rise same i j d low high =
 -- where a search for the end of those that pass ends
 abbrev pub Ends : (Entry → Bool) → List Entry → ℕ → Type 0
 Ends q xs i = IsPartitionedBy q xs → IsPartitionPoint (λ y. q y ≡ true) (λ y. q y ≡ false) xs i
+
+-- Where the last entry up to a hash hasn't this hash, none has.
+pub none_within : (all : List ℕ) (t : KeyTable) (E : List Entry) (hash start end a : ℕ) → IsTableOf all t → E ≡ t.entries.items → a ≤ length E → Ends (λ e. leb e.hash hash) E a
+    → ((last : Entry) → slice_get (take a E) (length (take a E) - 1) ≡ Some last → last.hash ≡ hash → ⊥) → (entry : Entry) → IsEntryWithin all hash start end entry → ⊥
+none_within all t E hash start end a is whole in_a end_a not_last entry w =
+    let first = (in_front upto E a in_a point entry).1 (subst (λ (l : List Entry). Contains l entry) (sym whole) ((is.members entry).1 w.hashed), le-leb _ _ (omega (arith, w.same))) in
+    let n = length front - 1 in
+    let inside : n < length front = omega (arith, first.1) in
+    let last = get_or front n entry in
+    let low = leb-true _ _ ((in_front upto E a in_a point last).0 (n, inside, get_or_default front n last entry inside)).1 in
+    let rises = IsNonDecreasingBy-take (λ (e : Entry). e.hash) a E by_hash first.0 n entry (omega (arith, first.1)) inside in
+    let mine : (get_or front first.0 entry).hash ≡ hash = ap (λ (e : Entry). e.hash) first.2 ∙ w.same in
+    not_last last (slice_get-get_or front n entry inside) (omega (arith, low, rises, mine))
+  where
+    front : List Entry
+    front = take a E
+
+    upto : Entry → Bool
+    upto = λ e. leb e.hash hash
+
+    by_hash : IsNonDecreasingBy (λ (e : Entry). e.hash) E
+    by_hash = subst (IsNonDecreasingBy (λ (e : Entry). e.hash)) (sym whole) is.by_hash
+
+    point : IsPartitionPoint (λ e. upto e ≡ true) (λ e. upto e ≡ false) E a
+    point = end_a (IsPartitionedBy-leb (λ (e : Entry). e.hash) E hash by_hash)
 
 -- The four searches of a range with a hash find its entries, and no others.
 pub are_within : (all : List ℕ) (t : KeyTable) (E : List Entry) (hash start end a b k d : ℕ) → IsTableOf all t → E ≡ t.entries.items

@@ -77,6 +77,11 @@ impl KeyTable {
     {
         let run = self.entries.as_slice();
         let run = &run[..run.partition_point(|entry| entry.hash <= hash)];
+        // Most hashes that are looked for aren't there.
+        match run.last() {
+            Some(entry) if entry.hash == hash => (),
+            _ => return &[],
+        }
         let run = &run[run.partition_point(|entry| entry.hash < hash)..];
         let run = &run[..run.partition_point(|entry| (entry.address as usize) < end)];
         &run[run.partition_point(|entry| (entry.address as usize) < start)..]

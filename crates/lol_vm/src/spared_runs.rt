@@ -7,6 +7,7 @@ ghost use Rattle.lol_program.specs.ProgramViews.{HasItsRows, has_rows};
 ghost use Rattle.lol_program.specs.Programs.{all_places};
 ghost use Rattle.lol_instructions.specs.Attributes.{TagAttributes};
 ghost use Rattle.lol_instructions.specs.declared.instruction.Instruction.{Instruction};
+ghost use Rattle.lol_rows.specs.KeyHashes.{name_hashes as hashes_of};
 ghost use Rattle.lol_rows.specs.TagHashes.{pair_hashes};
 ghost use Rattle.lol_rows.specs.Rows.{AreCandidates, AreRowsOf, is_left_by_keys, is_left_by_name, is_left_open, some_pass};
 ghost use Rattle.lol_vm.specs.SparedRuns.{HasRoom, HasRoomFor, all_passing, left_at_point, opens_at_once};
@@ -113,7 +114,10 @@ pub(crate) fn find_at<E>(
                 RecoveryPoint::AtOnce => {
                     add_left_by_keys(rows, instructions, ranges, name, matcher, space)
                 }
-                RecoveryPoint::At(_) => add_left_by_name(rows, instructions, ranges, name, space),
+                RecoveryPoint::At(_) => {
+                    let hashes = name_hashes(name);
+                    add_left_by_name(rows, instructions, ranges, name, &hashes, space)
+                }
             }
         }
     }
@@ -135,53 +139,55 @@ fn find_left_by_name(
         → HasRoomFor space.old (length (all_places (all_ranges ranges.entry))) → IsOk result }
     ensures room { vec_capacity space.old.left ≤ vec_capacity space.new.left }
 {
-    if has_open(rows, instructions, ranges, name) {
+    let hashes = name_hashes(name);
+    if has_open(rows, instructions, ranges, name, &hashes) {
         return Ok(true);
     }
     space.left.clear();
-    add_left_by_name(rows, instructions, ranges, name, space)?;
+    add_left_by_name(rows, instructions, ranges, name, &hashes, space)?;
     Ok(false)
 }
 
-/// Whether one of the ranges has an instruction that the name leaves and that is known to need attributes.
+/// Whether one of the ranges has an instruction that the name, which has these hashes, leaves and that is known to need attributes.
 fn has_open(
     rows: &Rows,
     instructions: &[Instruction],
     ranges: AllRanges<'_>,
     name: &LocalName<'_>,
+    hashes: &[u32; 4],
 ) -> bool
-    ensures { AreRowsOf instructions.now rows.now → result
+    ensures { AreRowsOf instructions.now rows.now → hashes.now ≡ hashes_of name.now.lowercased → result
         ≡ list_any (some_pass (is_left_open name.now.lowercased) instructions.now) (all_ranges ranges.entry) }
 {
-    let hashes = name_hashes(name);
     for index in 0..ranges.len() {
-        if rows.has_open(instructions, &ranges.range(index), name, &hashes) {
+        if rows.has_open(instructions, &ranges.range(index), name, hashes) {
             return true;
         }
     }
     false
 }
 
-/// Adds the addresses of what the name leaves.
+/// Adds the addresses of what the name, which has these hashes, leaves.
 #[inline(never)]
 fn add_left_by_name(
     rows: &Rows,
     instructions: &[Instruction],
     ranges: AllRanges<'_>,
     name: &LocalName<'_>,
+    hashes: &[u32; 4],
     space: &mut RowSpace,
 ) -> Result<(), AllocError>
-    ensures left { OnOk result (AreRowsOf instructions.now rows.now → space.new.left.items ≡ space.old.left.items
+    ensures left { OnOk result (AreRowsOf instructions.now rows.now → hashes.now ≡ hashes_of name.now.lowercased
+        → space.new.left.items ≡ space.old.left.items
         ++ all_passing (is_left_by_name name.now.lowercased) instructions.now (all_ranges ranges.entry)) }
-    ensures free { AreRowsOf instructions.now rows.now
+    ensures free { AreRowsOf instructions.now rows.now → hashes.now ≡ hashes_of name.now.lowercased
         → HasRoomFor space.old (length space.old.left.items + length (all_places (all_ranges ranges.entry)))
         → IsOk result }
     ensures room { vec_capacity space.old.left ≤ vec_capacity space.new.left }
 {
-    let hashes = name_hashes(name);
     for index in 0..ranges.len() {
         let range = ranges.range(index);
-        let candidates = rows.candidates_by_name(&range, &hashes, &mut space.found);
+        let candidates = rows.candidates_by_name(&range, hashes, &mut space.found);
         candidates.add_left(instructions, name, None, &mut space.left)?;
     }
     Ok(())
