@@ -1,10 +1,11 @@
 -- What a handle stands for, and what its calls do.
-use Rattle.std.specs.Prelude.{ℕ, ◌≡◌, false, List, Option, Some, None, Result, Ok, Err}
+use Rattle.std.specs.Prelude.{ℕ, ◌≡◌, ◌||◌, nat_le, length, false, List, Option, Some, None, Result, Ok, Err}
 use Rattle.lol_css.specs.declared.error.ErrorLocation.{ErrorLocation}
 use Rattle.lol_css.specs.declared.error.SelectorError.{SelectorError}
 use Rattle.lol_instructions.specs.Tries.{names_counted, attributes_counted}
 use Rattle.lol_explaining_matcher.specs.Explaining.{Explaining}
 use Rattle.lol_explaining_matcher.specs.Preparing.{Preparing}
+use Rattle.lol_program.specs.Asts.{pairs_of, nodes_of, is_with_rows}
 use Rattle.lol_matcher.specs.Building.{Building, IsRefused, started_with}
 use Rattle.lol_matcher.specs.Told.{Matching}
 use Rattle.lol_matcher.specs.declared.error.AddError.{AddError}
@@ -121,7 +122,7 @@ HasOpenedNone (Some (session.Matching m)) = m.opened ≡ false
 HasOpenedNone (Some (session.AddingExplained b)) = ⊥
 HasOpenedNone (Some (session.Explaining m)) = has_opened m ≡ false
 
--- 4. Refusals, and what is built
+-- 4. Refusals, rows, and what is built
 
 -- a refusal for a cause, in a place, as C gets it
 abbrev pub refusal_of : SelectorError → ErrorLocation → Refusal
@@ -139,6 +140,13 @@ pub record IsNotAccepted (text : List ℕ) (refusal : Refusal) : Type 0 where
   pub location : ErrorLocation
   pub refused : IsRefused text (Refused cause location)
   pub written : refusal ≡ refusal_of cause location
+
+-- A matcher will have rows if so many nodes were added, or if it would have had them. Nothing else changes.
+pub record HasRowsFrom (fewest : ℕ) (old new : Building) : Type 0 where
+  pub pairs : pairs_of new.ast ≡ pairs_of old.ast
+  pub nodes : nodes_of new.ast ≡ nodes_of old.ast
+  pub rows : is_with_rows new.ast ≡ (is_with_rows old.ast || nat_le fewest (length (nodes_of old.ast)))
+  pub rest : new ≡ record old { ast = new.ast }
 
 -- A matcher was built, and told of nothing yet.
 pub record IsBuiltFrom (b : Building) (m : Matching ℕ) : Type 0 where

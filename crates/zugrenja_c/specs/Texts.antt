@@ -26,6 +26,7 @@ status_texts =
     codes "the last tag has opened no element" ∷
     codes "the matcher doesn't explain" ∷
     codes "there are more items of selectors than ids" ∷
+    codes "the matcher explains, and has no rows" ∷
     []
 
 -- what the causes say for which a text isn't accepted, from 0

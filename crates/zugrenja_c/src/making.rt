@@ -9,7 +9,7 @@ ghost use Rattle.lol_reasons.specs.Explanations.{added_by};
 ghost use Rattle.lol_reasons.specs.Numbered.{texts_in};
 ghost use Rattle.zugrenja_c.specs.Explaining.{AddsExplained};
 ghost use Rattle.zugrenja_c.specs.Numbers.{IsOneOf};
-ghost use Rattle.zugrenja_c.specs.Sessions.{IfAdding, IfAddingExplained, IsAdding, IsAddingExplained, IsBuilt, IsBuiltFrom, IsExplaining, IsMatching, IsNotAccepted, IsUnbuilt, StaysAddingExplained};
+ghost use Rattle.zugrenja_c.specs.Sessions.{HasRowsFrom, IfAdding, IfAddingExplained, IsAdding, IsAddingExplained, IsBuilt, IsBuiltFrom, IsExplaining, IsMatching, IsNotAccepted, IsUnbuilt, StaysAddingExplained};
 
 use crate::handle::Handle;
 use crate::session::Session;
@@ -78,6 +78,28 @@ pub extern "C" fn zugrenja_add(
     }
     let mut session = handle.take(alloc);
     let status = session.add(id, text, refusal);
+    handle.put(session);
+    status
+}
+
+/// Has the matcher spare the nodes that a tag's name, id, classes and attributes rule out, if at least `fewest` were added: always with 0,
+/// and 256 is from where it pays. It answers the same, and tries fewer nodes. It is called after the selectors were added, and takes no
+/// memory. A matcher that explains spares none.
+#[unsafe(no_mangle)]
+pub extern "C" fn zugrenja_with_rows(alloc: Global, handle: &mut Handle, fewest: usize) -> u32
+    ensures made { result ≡ 0 → IsAdding handle.old.slot.value (λ b. IsAdding handle.new.slot.value (λ c.
+        HasRowsFrom fewest b c)) }
+    ensures explains { (result ≡ 21) ↔ IsAddingExplained handle.old.slot.value (λ _. Unit {0}) }
+    ensures no_matcher { (result ≡ 5) ↔ (handle.old.slot.value ≡ None) }
+    ensures built { (result ≡ 8) ↔ IsBuilt handle.old.slot.value }
+    ensures statuses { IsOneOf (0 ∷ 5 ∷ 8 ∷ 21 ∷ []) result }
+    ensures unchanged { result ≢ 0 → handle.new.slot.value ≡ handle.old.slot.value }
+{
+    if !handle.is_live() {
+        return NO_MATCHER;
+    }
+    let mut session = handle.take(alloc);
+    let status = session.with_rows(fewest);
     handle.put(session);
     status
 }

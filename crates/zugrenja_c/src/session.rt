@@ -8,9 +8,11 @@ ghost use Rattle.lol_reasons.specs.Explanations.{added_by};
 ghost use Rattle.lol_reasons.specs.Numbered.{texts_in};
 ghost use Rattle.zugrenja_c.specs.Explaining.{AddsExplained};
 ghost use Rattle.zugrenja_c.specs.Numbers.{IsOneOf};
-ghost use Rattle.zugrenja_c.specs.Sessions.{IfAdding, IfAddingExplained, IsAdding, IsAddingExplained, IsAddedAs, IsBuilt, IsBuiltFrom, IsExplaining, IsMatching, IsNotAccepted, IsUnbuilt, StaysAddingExplained};
+ghost use Rattle.zugrenja_c.specs.Sessions.{HasRowsFrom, IfAdding, IfAddingExplained, IsAdding, IsAddingExplained, IsAddedAs, IsBuilt, IsBuiltFrom, IsExplaining, IsMatching, IsNotAccepted, IsUnbuilt, StaysAddingExplained};
 
-use crate::status::{BUILT, GOOD, NOT_ACCEPTED, NOT_UTF8, OUT_OF_MEMORY, Refusal, TOO_MANY_ITEMS};
+use crate::status::{
+    BUILT, EXPLAINS, GOOD, NOT_ACCEPTED, NOT_UTF8, OUT_OF_MEMORY, Refusal, TOO_MANY_ITEMS,
+};
 use lol_explaining_matcher::{ExplainingMatcher, ExplainingMatcherBuilder, NumberingError};
 use lol_matcher::{AddError, Matcher, MatcherBuilder};
 use std::alloc::Global;
@@ -56,6 +58,26 @@ impl Session {
                 Ok(text) => status_of(builder.add(id, text), refusal),
                 Err(_) => NOT_UTF8,
             },
+        }
+    }
+
+    /// Has the matcher spare nodes by rows if so many were added, unless it explains.
+    pub(crate) fn with_rows(&mut self, fewest: usize) -> u32
+        ensures made { result ≡ 0 → IsAdding (Some self.old) (λ b. IsAdding (Some self.new) (λ c.
+            HasRowsFrom fewest b c)) }
+        ensures explains { (result ≡ 21) ↔ IsAddingExplained (Some self.old) (λ _. Unit {0}) }
+        ensures live { result ≢ 5 }
+        ensures built { (result ≡ 8) ↔ IsBuilt (Some self.old) }
+        ensures statuses { IsOneOf (0 ∷ 5 ∷ 8 ∷ 21 ∷ []) result }
+        ensures unchanged { result ≢ 0 → self.new ≡ self.old }
+    {
+        match self {
+            Session::Matching(_) | Session::Explaining(_) => BUILT,
+            Session::AddingExplained(_) => EXPLAINS,
+            Session::Adding(builder) => {
+                builder.with_rows_from(fewest);
+                GOOD
+            }
         }
     }
 

@@ -45,6 +45,9 @@ pub(crate) const NOT_EXPLAINING: u32 = 19;
 /// There are more items of selectors than ids.
 pub(crate) const TOO_MANY_ITEMS: u32 = 20;
 
+/// The matcher explains, and has no rows.
+pub(crate) const EXPLAINS: u32 = 21;
+
 /// The number of the error that a matcher answers a tag with.
 pub(crate) fn number_of(error: MatcherError) -> u32
     ensures { result ≡ error_number error }

@@ -57,6 +57,7 @@ fn text_of(status: u32, cause: u32, combinator: u32) -> &'static str
         18 => "the last tag has opened no element",
         19 => "the matcher doesn't explain",
         20 => "there are more items of selectors than ids",
+        21 => "the matcher explains, and has no rows",
         _ => "unknown status",
     }
 }
