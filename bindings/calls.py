@@ -103,6 +103,7 @@ class Life:
         self.asides: list[tuple[int, Call]] = []
         self.values: dict[int, int] = {}
         self.is_sayable, self.is_refused = True, False
+        self.rows_from: int | None = None
 
     def _tell(self, call: Call, kind: bytes, fields: list[bytes], answer: str) -> None:
         names = fields[:1] if kind == b"end" else [fields[1], *(field.split(b"=")[0] for field in fields[2:])]
@@ -122,7 +123,13 @@ class Life:
         if self.is_refused or not told:
             return
         if call.kind == "add":
+            # For its rows a script counts the nodes of all selectors, and the call those of the selectors before it.
+            self.is_sayable &= not self.rows_from
             self.lines.append(select_line(call))
+        elif call.kind == "with_rows":
+            fewest = number(call.arguments[0])
+            self.rows_from = fewest if self.rows_from is None else min(self.rows_from, fewest)
+            self.lines.append(b"rows\t%d" % self.rows_from)
         elif call.kind in ("start", "end", "end_in"):
             self._drop()
             if status == "NEEDS_ATTRIBUTES":

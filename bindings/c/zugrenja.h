@@ -55,11 +55,16 @@ enum {
     /* The matcher doesn't explain: it was made by zugrenja_new. */
     ZUGRENJA_NOT_EXPLAINING = 19,
     /* There are more items of selectors than ids, 4,294,967,296. (zugrenja_build of a matcher that explains; then it is freed) */
-    ZUGRENJA_TOO_MANY_ITEMS = 20
+    ZUGRENJA_TOO_MANY_ITEMS = 20,
+    /* The matcher explains, and has no rows. (zugrenja_with_rows) */
+    ZUGRENJA_EXPLAINS = 21
 };
 
 /* The bytes that each text of zugrenja_text fits into. */
 enum { ZUGRENJA_TEXT = 96 };
+
+/* The nodes from which rows pay (zugrenja_with_rows). */
+enum { ZUGRENJA_ROWS_PAY_FROM = 256 };
 
 /* Namespaces of elements. */
 enum { ZUGRENJA_HTML = 0, ZUGRENJA_SVG = 1, ZUGRENJA_MATHML = 2 };
@@ -126,6 +131,13 @@ uint32_t zugrenja_new_explaining(zugrenja_matcher *matcher, size_t max_memory, s
    written if the status is NOT_ACCEPTED alone.
    GOOD, NOT_ACCEPTED, NOT_UTF8, BUILT, NO_MATCHER, OUT_OF_MEMORY. */
 uint32_t zugrenja_add(zugrenja_matcher *matcher, uint32_t id, const uint8_t *text, size_t text_len, zugrenja_refusal *refusal);
+
+/* Has the matcher made with rows if at least `fewest` nodes were added: call it after the selectors were added, with
+   ZUGRENJA_ROWS_PAY_FROM, from where rows pay, or with 0 for rows always. A selector gives as many nodes as it has compounds, but for those
+   that begin as another one does. With rows the answers stay the same, and nodes that a tag's name, id, classes and attributes rule out
+   aren't tried. A second call takes no rows away. It takes no memory; zugrenja_build takes more for each node then.
+   GOOD (with too few nodes too), EXPLAINS, BUILT, NO_MATCHER. */
+uint32_t zugrenja_with_rows(zugrenja_matcher *matcher, size_t fewest);
 
 /* Builds the matcher: from now on it is told of tags, and takes no selector.
    GOOD, BUILT, NO_MATCHER; and OUT_OF_MEMORY and TOO_MANY_ITEMS: then the matcher is freed, with its selectors. */

@@ -14,7 +14,7 @@ using words = std::vector<std::string>;
 static const char *const STATUSES[] = {
     "GOOD", "NEEDS_ATTRIBUTES", "BAD_LINE", "REFUSED", "OUT_OF_MEMORY", "NO_MATCHER", "IN_USE", "NOT_BUILT", "BUILT", "NOT_UTF8",
     "NOT_ACCEPTED", "NO_NAMESPACE", "LIMIT", "COUNTER", "TAG_OUT_OF_MEMORY", "FAILED", "NOT_ASKED", "OUTSIDE", "NOT_OPENED",
-    "NOT_EXPLAINING", "TOO_MANY_ITEMS"};
+    "NOT_EXPLAINING", "TOO_MANY_ITEMS", "EXPLAINS"};
 static const char *const CAUSES[] = {
     "UnexpectedToken", "UnexpectedEnd", "MissingAttributeName", "EmptySelector", "DanglingCombinator", "UnexpectedTokenInAttribute",
     "UnsupportedPseudoClassOrElement", "NestedNegation", "NamespacedSelector", "InvalidClassName", "EmptyNegation",
@@ -193,6 +193,7 @@ static std::optional<std::string> call(zugrenja::matcher &m, bool &there, const 
         return good ? std::optional("GOOD" + answer) : std::nullopt;
     }
     return kind == "add"            ? add(m, words)
+           : kind == "with_rows"    ? name_of(m.try_with_rows(number(words[1])))
            : kind == "build"        ? name_of(m.try_build())
            : kind == "start"        ? start(m, words)
            : kind == "finish"       ? finish(m, words)

@@ -159,6 +159,46 @@ static void reasons_are_none_where_they_are_not_told() {
     WANT(reasons_of(refused).empty());
 }
 
+// A matcher for `div p` under 0, with rows from so many nodes on.
+static matcher with_rows(std::size_t fewest) {
+    matcher matcher;
+    zugrenja::refusal why;
+    WANT(matcher.try_add(0, "div p", why) == status::good && matcher.try_with_rows(fewest) == status::good);
+    WANT(matcher.try_build() == status::good);
+    return matcher;
+}
+
+static void rows_spare_tries_alone() {
+    const struct {
+        std::string_view name;
+        ids reported;
+        std::uint64_t tries, tries_with_rows;
+    } tags[] = {{"div", {}, 1, 1}, {"section", {}, 2, 0}, {"p", {0}, 2, 1}};
+    matcher without = built({"div p"}), never = with_rows(SIZE_MAX), always = with_rows(0);
+    for (const auto &tag : tags) {
+        for (matcher *one : {&without, &never, &always}) {
+            WANT(tell(*one, tag.name) == status::good && one->ids() == tag.reported && one->has_opened());
+            WANT(one->tries().names == (one == &always ? tag.tries_with_rows : tag.tries));
+        }
+    }
+}
+
+static void rows_are_made_before_a_matcher_is_built() {
+    matcher plain, explains(explaining());
+    zugrenja::refusal why;
+    std::string deep = "p";
+    for (std::size_t node = 1; node < zugrenja::rows_pay_from; node++) {
+        deep += " p";
+    }
+    WANT(plain.try_add(0, deep, why) == status::good && plain.try_with_rows() == status::good && plain.try_build() == status::good);
+    WANT(tell(plain, "a") == status::good && plain.tries().names == 0 && plain.try_with_rows() == status::built);
+    WANT(explains.try_with_rows(0) == status::explains && explains.try_with_rows() == status::explains);
+    WANT(zugrenja::message(status::explains) == "the matcher explains, and has no rows");
+    WANT(explains.try_build() == status::good && explains.try_with_rows() == status::built);
+    matcher moved(std::move(plain));
+    WANT(plain.try_with_rows() == status::no_matcher);
+}
+
 static void tells_each_cause_and_place() {
     const struct {
         std::string_view text;
@@ -244,8 +284,10 @@ static void throws_what_is_refused() {
         WANT(error.what() == std::string("Unsupported combinator `+` in selector. (item 1, byte 5)"));
     }
     matcher.add(0, "b[x]");
+    matcher.with_rows();
     matcher.build();
-    WANT(thrown([&] { matcher.build(); }) == status::built);
+    WANT(thrown([&] { matcher.build(); }) == status::built && thrown([&] { matcher.with_rows(); }) == status::built);
+    WANT(thrown([] { zugrenja::matcher(explaining()).with_rows(0); }) == status::explains);
     WANT(thrown([&] { matcher.finish({}); }) == status::not_asked && matcher.start("b"));
     WANT(thrown([&] { matcher.finish_in("b", {{0, 2, 0, 0, 0}}); }) == status::outside);
     WANT(thrown([&] { matcher.set_value(1); }) == status::not_opened);
@@ -395,6 +437,8 @@ int main() {
     reasons_are_as_many_and_as_long_as_they_come();
     reasons_are_none_where_they_are_not_told();
     explains_as_scripts_do(1);
+    rows_spare_tries_alone();
+    rows_are_made_before_a_matcher_is_built();
     tells_each_cause_and_place();
     answers_each_order_of_calls();
     a_refused_tag_fails_the_later_ones();

@@ -52,7 +52,8 @@ enum class status : std::uint32_t {
     outside = ZUGRENJA_OUTSIDE,
     not_opened = ZUGRENJA_NOT_OPENED,
     not_explaining = ZUGRENJA_NOT_EXPLAINING,
-    too_many_items = ZUGRENJA_TOO_MANY_ITEMS
+    too_many_items = ZUGRENJA_TOO_MANY_ITEMS,
+    explains = ZUGRENJA_EXPLAINS
 };
 
 // Why a text isn't accepted as a selector: the causes of zugrenja.h.
@@ -133,6 +134,9 @@ struct settings {
     bool explain = false;
 };
 
+// The nodes from which rows pay (matcher::with_rows).
+constexpr std::size_t rows_pay_from = ZUGRENJA_ROWS_PAY_FROM;
+
 // An attribute of a start tag: its name, and its value if it has one.
 struct attribute {
     std::string_view name;
@@ -195,6 +199,13 @@ public:
             why = refusal{cause(refused.cause), char32_t(refused.combinator), refused.item, refused.offset};
         }
         return added;
+    }
+
+    // Has the matcher made with rows if at least so many nodes were added, always with 0: call it after the selectors were added. A
+    // selector gives as many nodes as it has compounds, but for those that begin as another one does. With rows the answers stay the same,
+    // and nodes that a tag's name, id, classes and attributes rule out aren't tried. A matcher that explains has none: explains.
+    status try_with_rows(std::size_t fewest = rows_pay_from) noexcept {
+        return handle_ ? status(zugrenja_with_rows(at(), fewest)) : status::no_matcher;
     }
 
     // Builds the matcher: from now on it is told of tags, and takes no selector. After out_of_memory and too_many_items it is gone.
@@ -307,6 +318,9 @@ public:
         }
         check(added);
     }
+
+    // Throws error for a matcher that explains or is built.
+    void with_rows(std::size_t fewest = rows_pay_from) { check(try_with_rows(fewest)); }
 
     void build() { check(try_build()); }
 

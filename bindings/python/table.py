@@ -13,7 +13,7 @@ from calls import Call, attributes_of, number, places  # noqa: E402
 STATUSES = (
     "GOOD", "NEEDS_ATTRIBUTES", "BAD_LINE", "REFUSED", "OUT_OF_MEMORY", "NO_MATCHER", "IN_USE", "NOT_BUILT", "BUILT", "NOT_UTF8",
     "NOT_ACCEPTED", "NO_NAMESPACE", "LIMIT", "COUNTER", "TAG_OUT_OF_MEMORY", "FAILED", "NOT_ASKED", "OUTSIDE", "NOT_OPENED",
-    "NOT_EXPLAINING", "TOO_MANY_ITEMS",
+    "NOT_EXPLAINING", "TOO_MANY_ITEMS", "EXPLAINS",
 )
 ROOM = 4096
 
@@ -56,6 +56,9 @@ class Functions:
         status = self.function("add", number(id), text, len(text), ctypes.addressof(why))
         combinator = f"({chr(why.combinator)})" if why.combinator else ""
         return status, [zugrenja.CAUSES[why.cause] + combinator, why.item, why.offset] if status == zugrenja.NOT_ACCEPTED else []
+
+    def with_rows(self, fewest: str) -> tuple[int, list]:
+        return self.function("with_rows", number(fewest)), []
 
     def build(self) -> tuple[int, list]:
         return self.function("build"), []
@@ -198,6 +201,10 @@ class Typed:
         self.matcher.add(number(call.arguments[0]), call.arguments[1])
         return "GOOD"
 
+    def with_rows(self, call: Call) -> str:
+        self.matcher.with_rows(number(call.arguments[0]))
+        return "GOOD"
+
     def build(self, _call: Call) -> str:
         self.matcher._begin()
         return "GOOD"
@@ -251,7 +258,7 @@ class Typed:
 
 
 MATCHER_CALLS = (
-    "add", "build", "free", "start", "end", "end_in", "value", "ids", "ids_in", "opened", "tries", "explain", "explain_text",
+    "add", "with_rows", "build", "free", "start", "end", "end_in", "value", "ids", "ids_in", "opened", "tries", "explain", "explain_text",
 )
 
 

@@ -205,6 +205,38 @@ class Reasons(unittest.TestCase):
             matcher.explain()
 
 
+class Rows(unittest.TestCase):
+    def test_spare_tries_alone(self) -> None:
+        with Matcher(["div p"]) as without, Matcher(["div p"]) as never, Matcher(["div p"]) as always:
+            never.with_rows(3)
+            always.with_rows(2)
+            for name, ids, tries, spared in (("div", (), 1, 1), ("section", (), 2, 0), ("p", (0,), 2, 1)):
+                for matcher, tried in ((without, tries), (never, tries), (always, spared)):
+                    self.assertEqual((matcher.start(name), matcher.has_opened), (ids, True))
+                    self.assertEqual(matcher.tries(), (tried, 0))
+
+    def test_pay_from_256_nodes(self) -> None:
+        for nodes, tries in ((255, 1), (256, 0)):
+            with Matcher([" ".join(["p"] * nodes)]) as matcher:
+                matcher.with_rows()
+                matcher.start("a")
+                self.assertEqual(matcher.tries(), (tries, 0))
+
+    def test_are_none_where_they_are_refused(self) -> None:
+        with Matcher(["p"], explain=True) as matcher:
+            with self.assertRaises(TagError) as raised:
+                matcher.with_rows()
+            self.assertEqual(raised.exception.status, zugrenja.EXPLAINS)
+            self.assertEqual(str(raised.exception), "the matcher explains, and has no rows")
+            self.assertEqual(matcher.start("p"), (0,))
+            with self.assertRaises(TagError) as raised:
+                matcher.with_rows(0)
+            self.assertEqual(raised.exception.status, zugrenja.BUILT)
+        for fewest in (-1, 2**64):
+            with Matcher() as matcher, self.assertRaises(ValueError):
+                matcher.with_rows(fewest)
+
+
 class Select(unittest.TestCase):
     PAGE = '<div>\n<p id="a">x</p>\n<a href="https://b">y</a><br></div>'
 

@@ -19,7 +19,8 @@ from pathlib import Path
 from typing import NamedTuple
 
 GOOD, NEEDS_ATTRIBUTES, BAD_LINE, REFUSED, OUT_OF_MEMORY, NO_MATCHER = range(6)
-BUILT, NOT_UTF8, NOT_ACCEPTED, LIMIT, COUNTER, NOT_EXPLAINING = 8, 9, 10, 12, 13, 19
+BUILT, NOT_UTF8, NOT_ACCEPTED, LIMIT, COUNTER, NOT_EXPLAINING, EXPLAINS = 8, 9, 10, 12, 13, 19, 21
+ROWS_PAY_FROM = 256
 NAMESPACES = {"html": 0, "svg": 1, "mathml": 2}
 CAUSES = (
     "UnexpectedToken", "UnexpectedEnd", "MissingAttributeName", "EmptySelector", "DanglingCombinator", "UnexpectedTokenInAttribute",
@@ -115,6 +116,7 @@ def _library() -> ctypes.CDLL:
         "new": [out, size, size, number],
         "new_explaining": [out, size, size, number],
         "add": [out, number, text, size, out],
+        "with_rows": [out, size],
         "build": [out],
         "start": [out, text, size, number, out],
         "finish": [out, text, size, out, size, number, out],
@@ -226,6 +228,17 @@ class Matcher:
             says = _text(status, refusal.cause, refusal.combinator)
             raise SelectorError(str(selector), CAUSES[refusal.cause] + combinator, says, refusal.item, refusal.offset)
         self._check(status)
+
+    def with_rows(self, fewest: int = ROWS_PAY_FROM) -> None:
+        """Has the matcher made with rows if at least so many nodes were added, always with 0: it spares the nodes that a tag's name, id,
+        classes and attributes rule out. It answers the same, and tries fewer nodes. Call it after the selectors were added, before the
+        first tag. A selector gives as many nodes as it has compounds, but for those that begin as another one does.
+
+        Raises TagError if the matcher was made with `explain`, which has no rows, and after the first tag.
+        """
+        if not 0 <= fewest < 1 << 64:
+            raise ValueError(f"no number of nodes: {fewest}")
+        self._check(_LIBRARY.zugrenja_with_rows(self._at, fewest))
 
     def _begin(self) -> None:
         if not self._built:

@@ -11,7 +11,7 @@ enum { WORDS = 32, ROOM = 1 << 16 };
 static const char *const STATUSES[] = {
     "GOOD", "NEEDS_ATTRIBUTES", "BAD_LINE", "REFUSED", "OUT_OF_MEMORY", "NO_MATCHER", "IN_USE", "NOT_BUILT", "BUILT", "NOT_UTF8",
     "NOT_ACCEPTED", "NO_NAMESPACE", "LIMIT", "COUNTER", "TAG_OUT_OF_MEMORY", "FAILED", "NOT_ASKED", "OUTSIDE", "NOT_OPENED",
-    "NOT_EXPLAINING", "TOO_MANY_ITEMS"};
+    "NOT_EXPLAINING", "TOO_MANY_ITEMS", "EXPLAINS"};
 static const char *const CAUSES[] = {
     "UnexpectedToken", "UnexpectedEnd", "MissingAttributeName", "EmptySelector", "DanglingCombinator", "UnexpectedTokenInAttribute",
     "UnsupportedPseudoClassOrElement", "NestedNegation", "NamespacedSelector", "InvalidClassName", "EmptyNegation",
@@ -333,6 +333,8 @@ static void call(zugrenja_matcher *m, const char *line) {
         answers("%s", STATUSES[zugrenja_new(m, number(1), number(2), (uint32_t)number(3))]);
     } else if (is(kind, "new_explaining")) {
         answers("%s", STATUSES[zugrenja_new_explaining(m, number(1), number(2), (uint32_t)number(3))]);
+    } else if (is(kind, "with_rows")) {
+        answers("%s", STATUSES[zugrenja_with_rows(m, number(1))]);
     } else if (is(kind, "build")) {
         answers("%s", STATUSES[zugrenja_build(m)]);
     } else if (is(kind, "value")) {

@@ -13,7 +13,7 @@ enum { HANDLES = 100, ROOM = 8 };
 typedef struct {
     zugrenja_matcher matcher;
     enum { NONE, ADDING, BUILT } stage;
-    int explains, failed, waits, opened;
+    int explains, has_nodes, failed, waits, opened;
     size_t matched;
     recording told;
 } model;
@@ -64,7 +64,7 @@ static void call_new(model *m) {
     if (status == ZUGRENJA_GOOD) {
         m->stage = ADDING;
         m->explains = explains;
-        m->failed = m->waits = m->opened = 0;
+        m->has_nodes = m->failed = m->waits = m->opened = 0;
         m->matched = 0;
         record_new(&m->told, max_memory, element_bytes, esi, explains);
     }
@@ -79,6 +79,7 @@ static void call_add(model *m) {
         assert(status == (m->stage == NONE ? ZUGRENJA_NO_MATCHER : ZUGRENJA_BUILT));
     } else if (status == ZUGRENJA_GOOD) {
         append_selector(&m->told.script, id, t);
+        m->has_nodes = 1;
     } else if (status == ZUGRENJA_NOT_UTF8) {
         check_refused(t, "form", 0);
     } else {
@@ -86,6 +87,21 @@ static void call_add(model *m) {
         check_refused(t, CAUSES[refusal.cause], refusal.combinator);
     }
     assert(status == ZUGRENJA_NOT_ACCEPTED ? refusal.cause <= ZUGRENJA_UNSUPPORTED_SYNTAX && refusal.offset <= t.len : refusal.cause == 99);
+}
+
+/* Rows always, from one node on, or never: a script then has them always, or not by this call. */
+static void call_with_rows(model *m) {
+    static const size_t FEWEST[] = {0, 1, SIZE_MAX};
+    size_t fewest = FEWEST[draw(3)];
+    uint32_t status = zugrenja_with_rows(&m->matcher, fewest);
+    if (m->stage != ADDING || m->explains) {
+        assert(status == (m->stage == NONE ? ZUGRENJA_NO_MATCHER : m->stage == BUILT ? ZUGRENJA_BUILT : ZUGRENJA_EXPLAINS));
+        return;
+    }
+    assert(status == ZUGRENJA_GOOD);
+    if (fewest == 0 || (fewest == 1 && m->has_nodes)) {
+        append(&m->told.script, "rows\t0\n", 7);
+    }
 }
 
 static void call_build(model *m) {
@@ -237,7 +253,7 @@ static void call_text(model *m) {
     uint8_t text[ZUGRENJA_TEXT + 1];
     size_t room = draw(sizeof text);
     memset(text, 0, sizeof text);
-    size_t length = zugrenja_text(m->stage == NONE ? draw(UINT32_MAX) : draw(22), draw(14), draw(2) ? '+' : draw(128), room ? text : NULL, room);
+    size_t length = zugrenja_text(m->stage == NONE ? draw(UINT32_MAX) : draw(23), draw(14), draw(2) ? '+' : draw(128), room ? text : NULL, room);
     assert(length > 0 && length <= ZUGRENJA_TEXT);
     assert(strlen((const char *)text) == (length < room ? length : room));
 }
@@ -251,8 +267,8 @@ static void call_free(model *m) {
 }
 
 int main(int argc, char **argv) {
-    static void (*const CALLS[])(model *) = {call_new,    call_add,   call_build, call_start,  call_finish,
-                                             call_end,    call_report, call_value, call_text,   call_explain};
+    static void (*const CALLS[])(model *) = {call_new,    call_add,   call_build, call_start,   call_finish,   call_end,
+                                             call_report, call_value, call_text,  call_explain, call_with_rows};
     static model models[HANDLES];
     unsigned long count = argc > 1 ? strtoul(argv[1], NULL, 10) : 100000;
     state = argc > 2 ? strtoull(argv[2], NULL, 10) : 1;
@@ -263,9 +279,11 @@ int main(int argc, char **argv) {
             call_free(m);
         } else if (kind < 10 && m->stage == ADDING) {
             call_build(m);
+        } else if (kind < 15 && m->stage == ADDING) {
+            call_with_rows(m);
         } else {
-            uint32_t chosen = draw(m->stage == ADDING && draw(40) ? 2 : 14);
-            chosen = m->waits && draw(2) ? 4 : chosen < 10 ? chosen : 3 + chosen % 2;
+            uint32_t chosen = draw(m->stage == ADDING && draw(40) ? 2 : 15);
+            chosen = m->waits && draw(2) ? 4 : chosen < 11 ? chosen : 3 + chosen % 2;
             CALLS[chosen](m);
         }
     }

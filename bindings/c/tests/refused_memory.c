@@ -86,6 +86,7 @@ static int live_once(int explains) {
     }
     assert(add(&m, 400, "div a[href^='p' i]:not(.b, #c), a") == ZUGRENJA_GOOD);
     assert(add(&m, 5000, "div > a") == ZUGRENJA_GOOD && add(&m, 1, "a + b") == ZUGRENJA_NOT_ACCEPTED);
+    assert(zugrenja_with_rows(&m, 0) == (explains ? ZUGRENJA_EXPLAINS : ZUGRENJA_GOOD));
     if (zugrenja_build(&m) == ZUGRENJA_OUT_OF_MEMORY) {
         assert(m.live == 0 && zugrenja_free(&m) == ZUGRENJA_NO_MATCHER && live == 0);
         return refused + 1;

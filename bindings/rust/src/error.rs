@@ -121,6 +121,8 @@ pub enum Error {
     NotExplaining,
     /// A matcher that explains has more items of selectors than there are ids, 4,294,967,296.
     TooManyItems,
+    /// The matcher is to explain, and has no rows: it was made with [`Settings::explain`](crate::Settings::explain).
+    Explains,
 }
 
 impl Error {
@@ -140,6 +142,7 @@ impl Error {
             ffi::NOT_OPENED => Error::NotOpened,
             ffi::NOT_EXPLAINING => Error::NotExplaining,
             ffi::TOO_MANY_ITEMS => Error::TooManyItems,
+            ffi::EXPLAINS => Error::Explains,
             _ => panic!("no error has the status {status}: the archive is of another version"),
         }
     }
@@ -167,6 +170,7 @@ impl fmt::Display for Error {
             Error::NotOpened => ffi::NOT_OPENED,
             Error::NotExplaining => ffi::NOT_EXPLAINING,
             Error::TooManyItems => ffi::TOO_MANY_ITEMS,
+            Error::Explains => ffi::EXPLAINS,
         };
         write_text(f, status, 0, 0)
     }
@@ -183,8 +187,8 @@ mod tests {
         assert_eq!(Error::of(4).to_string(), "out of memory");
         assert_eq!(Error::of(14).to_string(), "out of memory");
         assert_eq!(Error::of(18).to_string(), "the last tag has opened no element");
-        let shown: std::collections::HashSet<_> = (12..21).map(|status| Error::of(status).to_string()).collect();
-        assert_eq!(shown.len(), 9);
+        let shown: std::collections::HashSet<_> = (12..22).map(|status| Error::of(status).to_string()).collect();
+        assert_eq!(shown.len(), 10);
     }
 
     #[test]
@@ -200,6 +204,6 @@ mod tests {
     #[test]
     #[should_panic(expected = "another version")]
     fn other_statuses_are_no_errors() {
-        Error::of(21);
+        Error::of(22);
     }
 }

@@ -26,6 +26,10 @@ pub const OUTSIDE: u32 = 17;
 pub const NOT_OPENED: u32 = 18;
 pub const NOT_EXPLAINING: u32 = 19;
 pub const TOO_MANY_ITEMS: u32 = 20;
+pub const EXPLAINS: u32 = 21;
+
+/// `ZUGRENJA_ROWS_PAY_FROM`.
+pub const ROWS_PAY_FROM: usize = 256;
 
 /// `ZUGRENJA_TEXT`.
 pub const TEXT: usize = 96;
@@ -84,6 +88,9 @@ extern "C" {
 
     /// GOOD, NOT_ACCEPTED, NOT_UTF8, BUILT, NO_MATCHER, OUT_OF_MEMORY. Writes `refusal` if NOT_ACCEPTED alone, and doesn't keep `text`.
     pub fn zugrenja_add(matcher: *mut Handle, id: u32, text: *const u8, text_len: usize, refusal: *mut Refusal) -> u32;
+
+    /// GOOD, EXPLAINS, BUILT, NO_MATCHER.
+    pub fn zugrenja_with_rows(matcher: *mut Handle, fewest: usize) -> u32;
 
     /// GOOD, BUILT, NO_MATCHER, OUT_OF_MEMORY, TOO_MANY_ITEMS. After the last two the matcher is freed.
     pub fn zugrenja_build(matcher: *mut Handle) -> u32;

@@ -198,6 +198,44 @@ impl Builder {
         }
     }
 
+    /// Has the matcher made with rows if at least 256 nodes were added, from where rows pay: it spares the nodes that a tag's name, id,
+    /// classes and attributes rule out. It answers the same, and tries fewer nodes.
+    ///
+    /// Call it after the selectors were added. A selector gives as many nodes as it has compounds, but for those that begin as another one
+    /// does.
+    ///
+    /// # Errors
+    /// [`Error::Explains`] for a builder with [`Settings::explain`], whose matcher has no rows. The builder is as it was then.
+    pub fn with_rows(&mut self) -> Result<(), Error> {
+        self.with_rows_from(ffi::ROWS_PAY_FROM)
+    }
+
+    /// As [`Builder::with_rows`], if at least so many nodes were added: always with 0. A second call takes no rows away.
+    ///
+    /// # Errors
+    /// Those of [`Builder::with_rows`].
+    ///
+    /// ```
+    /// use zugrenja::{Builder, Namespace};
+    ///
+    /// let mut builder = Builder::new()?;
+    /// builder.add(7, "div p")?;
+    /// builder.with_rows_from(0)?;
+    /// let mut matcher = builder.build()?;
+    /// matcher.tag("div", Namespace::Html, &[], false)?;
+    /// matcher.tag("section", Namespace::Html, &[], false)?;
+    /// assert_eq!(matcher.tries().names, 0); // and 2 without rows
+    /// assert_eq!(matcher.tag("p", Namespace::Html, &[], false)?, [7]);
+    /// # Ok::<(), zugrenja::Error>(())
+    /// ```
+    pub fn with_rows_from(&mut self, fewest: usize) -> Result<(), Error> {
+        // SAFETY: only the handle is given.
+        match unsafe { ffi::zugrenja_with_rows(self.0.raw(), fewest) } {
+            ffi::GOOD => Ok(()),
+            status => Err(Error::of(status)),
+        }
+    }
+
     /// The matcher, before a document's first tag.
     ///
     /// # Errors

@@ -230,6 +230,49 @@ fn tries_are_told() {
     assert!(String::from_utf8(output).unwrap().ends_with(&last), "{last}");
 }
 
+/// A matcher with rows from so many nodes on.
+fn with_rows_from(fewest: usize, text: &str) -> Matcher {
+    let mut builder = Builder::new().unwrap();
+    builder.add(0, text).unwrap();
+    builder.with_rows_from(fewest).unwrap();
+    builder.build().unwrap()
+}
+
+#[test]
+fn rows_spare_tries_alone() {
+    let (mut without, mut never, mut always) =
+        (matcher(&["div p"]), with_rows_from(3, "div p"), with_rows_from(2, "div p"));
+    for (name, ids, tries, spared) in [("div", &[][..], 1, 1), ("section", &[], 2, 0), ("p", &[0], 2, 1)] {
+        for (matcher, tries) in [(&mut without, tries), (&mut never, tries), (&mut always, spared)] {
+            assert_eq!(matcher.tag(name, Html, &[], false), Ok(ids));
+            assert!(matcher.has_opened());
+            assert_eq!(matcher.tries().names, tries);
+        }
+    }
+}
+
+#[test]
+fn rows_pay_from_256_nodes() {
+    for (nodes, tries) in [(255, 1), (256, 0)] {
+        let mut builder = Builder::new().unwrap();
+        builder.add(0, "p ".repeat(nodes).trim_end()).unwrap();
+        builder.with_rows().unwrap();
+        let mut matcher = builder.build().unwrap();
+        matcher.tag("a", Html, &[], false).unwrap();
+        assert_eq!(matcher.tries().names, tries);
+    }
+}
+
+#[test]
+fn a_matcher_that_explains_has_no_rows() {
+    let mut builder = Builder::with_settings(Settings { explain: true, ..Settings::default() }).unwrap();
+    builder.add(0, "p").unwrap();
+    assert_eq!(builder.with_rows(), Err(Error::Explains));
+    assert_eq!(builder.with_rows_from(0), Err(Error::Explains));
+    assert_eq!(Error::Explains.to_string(), "the matcher explains, and has no rows");
+    assert_eq!(builder.build().unwrap().tag("p", Html, &[], false), Ok(&[0][..]));
+}
+
 #[test]
 fn reasons_tell_the_elements_of_the_compounds() {
     let mut matcher = explaining(&["div p", "div > p"]);

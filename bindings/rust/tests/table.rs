@@ -97,6 +97,7 @@ fn name_of(error: Error) -> String {
         Error::NotOpened => "NOT_OPENED",
         Error::NotExplaining => "NOT_EXPLAINING",
         Error::TooManyItems => "TOO_MANY_ITEMS",
+        Error::Explains => "EXPLAINS",
     };
     name.to_string()
 }
@@ -155,6 +156,11 @@ impl Handle {
             (Handle::Adding(builder), "build") => {
                 *self = Handle::Built(builder.build().unwrap());
                 Some(good(()))
+            }
+            (Handle::Adding(mut builder), "with_rows") => {
+                let made = call.number(1).map(|fewest| builder.with_rows_from(fewest));
+                *self = Handle::Adding(builder);
+                made.and_then(|made| answer_of(made.map(good)))
             }
             (Handle::Adding(mut builder), kind) => {
                 let text = call.words.get(2).and_then(|text| std::str::from_utf8(text).ok());
