@@ -255,6 +255,33 @@ fn knows_namespaces_and_void_names(rt: HostRuntime) -> Result<(), Fail> {
     Ok(())
 }
 
+/// A matcher of three nodes, `div`, `div p` and `div > p`, with rows from so many on.
+fn with_rows_from(alloc: Global, fewest: usize) -> Result<Matcher, Fail> {
+    let mut builder = builder_of(alloc, &[("div p", 0), ("div > p", 1)])?;
+    builder.with_rows_from(fewest);
+    Ok(builder.build()?)
+}
+
+/// Whether so many nodes are tried for a `section` in a `div`, and a `p` in it is reported.
+fn tries_in_div(matcher: &mut Matcher, names: u64) -> bool {
+    reports(matcher, "div", &[])
+        && reports(matcher, "section", &[])
+        && matcher.tries().names() == names
+        && reports(matcher, "p", &[0])
+}
+
+#[test]
+fn spares_nodes_from_so_many_on(rt: HostRuntime) -> Result<(), Fail> {
+    for (fewest, names) in [(0, 0), (3, 0), (4, 3)] {
+        let mut matcher = with_rows_from(rt.alloc(), fewest)?;
+        assert!(rt; tries_in_div(&mut matcher, names));
+    }
+    let mut builder = builder_of(rt.alloc(), &[("div p", 0)])?;
+    builder.with_rows();
+    assert!(rt; tries_in_div(&mut builder.build()?, 0));
+    Ok(())
+}
+
 /// Values that were handed out, with the ids beside them: at most eight.
 #[derive(Drop)]
 struct HandedOut {

@@ -24,7 +24,7 @@ use std::io::Read;
 use std::process::ExitCode;
 
 /// The names of the scenarios.
-const NAMES: [&str; 35] = [
+const NAMES: [&str; 37] = [
     "from_str",
     "css_string",
     "to_boxed_slice",
@@ -60,6 +60,8 @@ const NAMES: [&str; 35] = [
     "explained",
     "run_explained",
     "explaining_matcher",
+    "match_events_with_rows",
+    "run_with_rows",
 ];
 
 fn main(rt: HostRuntime) -> ExitCode {
@@ -150,6 +152,8 @@ fn made(alloc: Global, name: &str) -> Result<bool, Stop> {
         "run_of_a_bad_line" => runs::run_of_a_bad_line(alloc),
         "run_past_the_limit" => runs::run_past_the_limit(alloc),
         "run_explained" => runs::run_explained(alloc),
+        "match_events_with_rows" => runs::with_rows(alloc),
+        "run_with_rows" => runs::run_with_rows(alloc),
         "name_into_owned" => names::name_into_owned(alloc),
         "item_into_owned" => names::item_into_owned(alloc),
         "context_into_owned" => names::context_into_owned(alloc),

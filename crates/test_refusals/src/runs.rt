@@ -4,7 +4,7 @@ ghost use Rattle.std.specs.Prelude.{◌≡◌, All};
 ghost use Rattle.lol_vm.specs.Views.{HasRangesInside};
 
 use crate::outcome::{Met, Stop, expect};
-use crate::trees::two;
+use crate::trees::{add, two};
 use lol_script::{Counted, RunFault, Status, run};
 use lol_vm::{
     Ast, Attributes, Namespace, RunCause, RunRefusal, SharedMemoryLimiter, TagEvent, TagReport,
@@ -151,6 +151,42 @@ pub(crate) fn by_type(alloc: Global) -> Result<bool, Stop> {
     )
 }
 
+/// The classes and the ids of one letter, each under its code, in a tree with rows. A refusal is the scenario's own.
+fn letters(alloc: Global) -> Result<Ast, Stop> {
+    let mut ast = Ast::new(alloc);
+    for sign in [b'.', b'#'] {
+        add_letters(alloc, &mut ast, sign)?;
+    }
+    Ok(ast.with_rows())
+}
+
+fn add_letters(alloc: Global, ast: &mut Ast, sign: u8) -> Result<(), Stop> {
+    for letter in b'a'..b'{' {
+        let text = [sign, letter];
+        let Ok(text) = std::str::from_utf8(&text) else {
+            return Err(Stop::Wrong);
+        };
+        add(alloc, ast, text, u32::from(letter))?;
+    }
+    Ok(())
+}
+
+/// Tags whose keys are looked up among so many that a look at each would take longer. What is looked up needs memory, but no tag is
+/// refused for it.
+pub(crate) fn with_rows(alloc: Global) -> Result<bool, Stop> {
+    let mut of_classes = Attributes::new(alloc);
+    of_classes.push(b"class", Some(b"d c"))?;
+    let mut of_id = Attributes::new(alloc);
+    of_id.push(b"id", Some(b"z"))?;
+    let events = [
+        start(b"p", &of_classes),
+        start(b"p", &of_id),
+        TagEvent::End { name: b"p" },
+    ];
+    let wanted: [(&[u32], bool); 3] = [(&[99, 100], true), (&[122], true), (&[1], false)];
+    Ok(answered(alloc, letters(alloc)?, &events, &wanted)? == Met::Nothing)
+}
+
 /// Keeps the first 256 bytes, without memory.
 #[derive(Drop)]
 struct Page {
@@ -217,6 +253,15 @@ pub(crate) fn run_tags(alloc: Global) -> Result<bool, Stop> {
         b"tries\nselect\t0\t.a p\nselect\t1\tp\nstart\thtml\tdiv\tclass=a\nstart\thtml\tp\n",
         Ok(Status::Good),
         b"start\t-\tasked\ttries 2 1\nstart\t0,1\tasked\ttries 3 1\n",
+    )
+}
+
+pub(crate) fn run_with_rows(alloc: Global) -> Result<bool, Stop> {
+    written(
+        alloc,
+        b"rows\t0\ntries\nselect\t0\t.a p\nselect\t1\tp\nstart\thtml\tdiv\tclass=a\nstart\thtml\tp\n",
+        Ok(Status::Good),
+        b"start\t-\tasked\ttries 1 1\nstart\t0,1\tasked\ttries 2 0\n",
     )
 }
 

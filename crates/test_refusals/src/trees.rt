@@ -28,7 +28,7 @@ fn add_both(alloc: Global, ast: &mut Ast, first: &str, second: &str) -> Result<(
 }
 
 /// Adds the selector of a text under an id; its memory is the scenario's own.
-fn add(alloc: Global, ast: &mut Ast, text: &str, match_id: u32) -> Result<(), Stop> {
+pub(crate) fn add(alloc: Global, ast: &mut Ast, text: &str, match_id: u32) -> Result<(), Stop> {
     let selector = read(alloc, text)?;
     match ast.add_selector(&selector, match_id) {
         Ok(()) => Ok(()),
