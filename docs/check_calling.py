@@ -33,7 +33,7 @@ def read_functions():
     functions = {}
     for path in sorted(TOP.glob("crates/*/src/*.rt")):
         source = re.sub(r"^ *//.*\n", "", path.read_text(encoding="utf-8"), flags=re.M)
-        source = re.sub(r"(record(?: [\w.]+)?) \{\n *([^{}]*?);?\s*\}", r"\1 { \2 }", source)
+        source = re.sub(r"(record(?: [\w.]+)?) \{\n([^{}]*?);?\s*\}", lambda m: f"{m[1]} {{ {folded(m[2])} }}", source)
         aliases = {owner: alias for alias, owner in ALIAS.findall(source)}
         owners = [""]
         for item in ITEM.finditer(source):

@@ -60,7 +60,6 @@ impl<'i> Model for AttributeMatcher<'i> {
 impl<'i> AttributeMatcher<'i> {
     /// The attributes that stand at these places of the input, of an element in this namespace. Each name range and each value range lies
     /// inside the input. They are walked over once.
-    #[inline(never)]
     pub fn new(input: Bytes<'i>, attributes: &'i AttributeBuffer, ns: Namespace) -> Self
         requires { All (OutlineIsInside (bytes_of input)) attributes.now.items }
         ensures { result

@@ -346,6 +346,7 @@ impl<E: ElementData> VmOf<Program, LocalName<'static>, StackNames, E> {
     /// Tries a start tag of HTML by its name where the program has rows: what these leave, unless they know that it needs its attributes.
     /// Where it stopped is kept in the room for rows: as a result, which takes three words, it would cost a machine without rows some
     /// twenty instructions a tag.
+    #[cold]
     #[inline(never)]
     fn try_left(&mut self, ctx: &mut ExecutionCtx<'_, E>) -> Result<(), AllocError>
         ensures tried { has_rows self.old.program ≡ true → IsTriedByName E.ids E.with_ids
@@ -539,6 +540,7 @@ impl<E: ElementData> VmOf<Program, LocalName<'static>, StackNames, E> {
     }
 
     /// The same where the program has rows.
+    #[cold]
     #[inline(never)]
     fn complete_left(
         &mut self,

@@ -145,12 +145,11 @@ pub(crate) fn add_element<'e>(
     ensures children { OnOk result (map child_shown document.new.children.items
         ≡ record {
           parent = documents.parent_of (map element_shown document.old.open_elements.items);
-          name =
-              (element_shown element.entry).tag.name;
+          name = (element_shown element.entry).tag.name;
         } ∷ map child_shown document.old.children.items) }
     ensures open_elements { OnOk result (map element_shown document.new.open_elements.items
-        ≡ (if opens then element_shown element.entry
-        ∷ map element_shown document.old.open_elements.items else map element_shown document.old.open_elements.items)) }
+        ≡ (if opens then element_shown element.entry ∷ map element_shown document.old.open_elements.items
+        else map element_shown document.old.open_elements.items)) }
 {
     let child = PlainChild {
         parent: parent_of(&document.open_elements),

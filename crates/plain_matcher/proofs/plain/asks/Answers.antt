@@ -22,4 +22,4 @@ returns-else-ne c =
     let needs = needs_attributes (element_shown c.args.element.now) (map element_shown c.args.outer.now) in
     let nodes = paths_of c.args.nodes.now in
     let html = ap is_html c.requires ∙ html_if c.args.ns (sym c.ne.ensures ∙ c.if-ne.false) in
-    ap (nat_lt 0) c.in_ok-counted_tries.ensures.attributes ∙ sym (any_counted needs nodes) ∙ ap (λ (h : Bool). not h || list_any needs nodes) (sym html)
+    ap (nat_lt 0) c.in_ok-attributes.ensures.attributes ∙ sym (any_counted needs nodes) ∙ ap (λ (h : Bool). not h || list_any needs nodes) (sym html)
