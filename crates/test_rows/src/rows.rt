@@ -158,6 +158,20 @@ fn left_of(
     Ok(left)
 }
 
+/// Candidates, one by one.
+fn addresses(alloc: Global, candidates: &Candidates<'_>) -> Result<Vec<usize>, AllocError> {
+    let mut addresses = Vec::new(alloc);
+    match candidates {
+        Candidates::Each(range) => {
+            for address in range.start..range.end {
+                addresses.push(address)?;
+            }
+        }
+        Candidates::Found(found) => addresses.extend_from_slice(found)?,
+    }
+    Ok(addresses)
+}
+
 /// The same by a look at each.
 fn one_by_one(
     alloc: Global,
@@ -167,14 +181,10 @@ fn one_by_one(
     matcher: Option<&AttributeMatcher<'_>>,
 ) -> Result<Vec<usize>, AllocError> {
     let mut left = Vec::new(alloc);
-    for index in 0..candidates.len() {
-        let address = match candidates {
-            Candidates::Each(range) => range.start.saturating_add(index),
-            Candidates::Found(found) => found[index],
-        };
-        if let Some(instruction) = instructions.get(address) {
+    for address in &addresses(alloc, candidates)? {
+        if let Some(instruction) = instructions.get(*address) {
             if is_left(instruction, name, matcher) {
-                left.push(address)?;
+                left.push(*address)?;
             }
         }
     }
