@@ -116,6 +116,59 @@ def many_attributes(count):
     return script(selectors, [start("p", *(f"a{number}=v" for number in range(count)))])
 
 
+# With rows, whatever the number of selectors.
+
+def with_rows(make):
+    return lambda size: "rows\t0\n" + make(size)
+
+
+def places_of_a_class(asking):
+    """So many selectors of one class and of distinct places, and before them one that asks for attributes, or none; 2,000 tags,
+    half of which have the class."""
+    def make(count):
+        selectors = [".b"] * asking + [f".a:nth-child({number + 2}n+1)" for number in range(count)]
+        return script(selectors, [start("br", "class=a"), start("br", "class=c")] * 1_000)
+
+    return make
+
+
+def keyed(selector, attribute):
+    """1,000 selectors, and 20 tags whose attributes have so many names: 1,000 are those of the selectors, or none is."""
+    return lambda count: script([selector.format(number) for number in range(1_000)], [start("br", *attribute(count))] * 20)
+
+
+def class_words(first):
+    return lambda count: ["class=" + " ".join(f"k{number + first}" for number in range(count))]
+
+
+def attribute_names(first):
+    return lambda count: [f"a{number + first}=v" for number in range(count)]
+
+
+def case_of(word, number):
+    """The word with capitals where the number has a bit."""
+    return "".join(letter.upper() if number >> place & 1 else letter for place, letter in enumerate(word))
+
+
+def found_by(selector, tag, word):
+    """So many selectors of distinct words, and 10,000 tags, each of which has one of 20,000 words."""
+    return lambda count: script(
+        [selector.format(word(number)) for number in range(count)], [tag(word(7_919 * number % 20_000)) for number in range(10_000)])
+
+
+def tags_of_many(count):
+    """So many tags with three classes each, and 10,000 selectors of classes."""
+    classes = lambda number: " ".join(f"k{(number * factor) % 20_000}" for factor in (7_919, 6_007, 4_001))
+    return script([f".k{number}" for number in range(10_000)], [start("br", "class=" + classes(number)) for number in range(count)])
+
+
+def tags_inside_many(count):
+    """So many tags inside 100 elements, each of which adds a hereditary range of 100 selectors."""
+    selectors = [f".o{outer} .k{outer}-{inner}" for outer in range(100) for inner in range(100)]
+    around = [start("div", f"class=o{outer}") for outer in range(100)]
+    return script(selectors, around + [start("br", f"class=k{number % 100}-{number % 89}") for number in range(count)])
+
+
 KB = "a" * 1023 + "b"
 MB = 1 << 20
 ROWS = [(f"selector: {name}", MB // 4, repeated(pattern, last)) for name, pattern, last in [
@@ -149,6 +202,21 @@ ROWS += [
     ("words of `class`", MB // 4, words),
     ("attributes of one tag, 200 selectors", 2_500, many_attributes),
 ]
+PREFIX, LETTERS = "x" * 200, "abcdefghijklmnopqrstuvwxyz"
+ROWS += [(f"rows: {name}", size, with_rows(make)) for name, size, make in [
+    ("selectors of one class and of places", 2_500, places_of_a_class(1)),
+    ("selectors of one class and of places, none that asks at once", 2_500, places_of_a_class(0)),
+    ("words of `class`, 1,000 selectors, none of these", 25_000, keyed(".k{}", class_words(1_000))),
+    ("words of `class`, 1,000 selectors, all of these", 25_000, keyed(".k{}", class_words(0))),
+    ("attributes of a tag, 1,000 selectors, none of these", 2_500, keyed("[a{}]", attribute_names(1_000))),
+    ("attributes of a tag, 1,000 selectors, all of these", 2_500, keyed("[a{}]", attribute_names(0))),
+    ("selectors of names with 200 equal letters", 10_000, found_by("{}", start, lambda number: f"{PREFIX}{number}")),
+    ("selectors of classes with 200 equal letters", 10_000, found_by(".{}", lambda word: start("br", f"class={word}"), lambda number: f"{PREFIX}{number}")),
+    ("selectors of ids that differ in case", 10_000, found_by("#{}", lambda word: start("br", f"id={word}"), lambda number: case_of(LETTERS, number))),
+    ("tags, 10,000 selectors of classes", 12_500, tags_of_many),
+    ("tags inside 100 elements, 10,000 selectors of two steps", 12_500, tags_inside_many),
+    ("open elements that each add a hereditary range", 1_250, hereditary_ranges),
+]]
 
 
 def seconds(path):
