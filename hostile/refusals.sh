@@ -1,5 +1,5 @@
 #!/bin/sh
-# Refuses each request for memory in turn: of every scenario of crates/test_refusals, and of lol_match over the scripts of examples/.
+# Refuses each request for memory in turn: of every scenario of crates/test_refusals, and of lol_match over two scripts of examples/.
 #
 # Run it at the top of the repository; it wants a C compiler (cc) and glibc, and the two programs built:
 #     (cd crates/test_refusals && rt run < /dev/null) && (cd crates/lol_match && rt run < /dev/null)
@@ -82,7 +82,7 @@ while read -r name; do
     echo "$name" > "$folder/name"
     scenario "$name"
 done < "$folder/names"
-for example in examples/*.txt; do
+for example in examples/div_p.txt examples/page.txt; do
     script "$example"
 done
 exit $wrong
