@@ -49,13 +49,12 @@ def ratios(recorded):
 
 
 def lines(rows, by, field, names, axes):
-    """One line for each name, and a dashed one for the other program where it was measured."""
+    """One line for each name, a dotted one with rows, and a dashed one for the other program, where these were measured."""
     for colour, name in zip(COLOURS, names):
-        for whose, style in (("port", "-"), ("beside", "--")):
+        for whose, style, said in (("port", "-", ""), ("rows", ":", ", with rows"), ("beside", "--", ", lol_html")):
             points = [(row["size"], row[whose][field]) for row in rows if row[by] == name and row.get(whose, {}).get(field)]
             if points:
-                label = name if whose == "port" else f"{name}, lol_html"
-                axes.plot(*zip(*points), style, color=colour, marker="o", markersize=3, label=label)
+                axes.plot(*zip(*points), style, color=colour, marker="o", markersize=3, label=name + said)
     axes.set_xscale("log")
     axes.set_yscale("log")
     axes.grid(True, linewidth=0.3)
@@ -70,6 +69,8 @@ def growth(recorded):
         ("memory", "megabytes", ["tags of a page, 50 selectors", "open elements", "siblings"], "tags", "megabytes"),
     ]
     for name, field, kinds, across, up in plots:
+        if not any(row["by"] in kinds and row["port"][field] for row in recorded["rows"]):
+            continue
         figure, axes = plt.subplots(figsize=(6, 4))
         lines(recorded["rows"], "by", field, kinds, axes)
         axes.set_xlabel(across)

@@ -2,6 +2,7 @@
 import os
 import pathlib
 import re
+import resource
 import shutil
 import subprocess
 import sys
@@ -30,6 +31,14 @@ def run(program, script):
     with open(script, "rb") as file:
         done = subprocess.run(words, stdin=file, stdout=subprocess.PIPE, env={}, timeout=LIMIT_SECONDS, check=False)
     return done.stdout, time.perf_counter() - begin
+
+
+def user_seconds(program, script):
+    """The seconds that one run spends in the program itself: less dependent than its time on what else the machine does."""
+    before = resource.getrusage(resource.RUSAGE_CHILDREN).ru_utime
+    with open(script, "rb") as file:
+        subprocess.run([program], stdin=file, stdout=subprocess.DEVNULL, env={}, timeout=LIMIT_SECONDS, check=True)
+    return resource.getrusage(resource.RUSAGE_CHILDREN).ru_utime - before
 
 
 def memory(program, script):

@@ -1,4 +1,4 @@
-"""Writes the tables of recorded figures in docs/TESTED.md and bench/README.md and the span in README.md, or checks them.
+"""Writes the tables of recorded figures in docs/TESTED.md, bench/README.md and README.md and the span in README.md, or checks them.
 
     python3 bench/table.py bench/results/FILE.json     writes the table of this file's kind, in the place of the one there
     python3 bench/table.py --check                     compares each table with the file that it names
@@ -9,8 +9,8 @@ import re
 import sys
 
 TOP = pathlib.Path(__file__).resolve().parent.parent
-PAGES = [TOP / "docs" / "TESTED.md", TOP / "bench" / "README.md"]
 README = TOP / "README.md"
+PAGES = [TOP / "docs" / "TESTED.md", TOP / "bench" / "README.md", README]
 TABLE = re.compile(r"<!-- (bench/results/[\w.-]+\.json) -->\n(.*?)<!-- end -->\n", re.S)
 SPAN = re.compile(r"takes \d\.\d\d to \d\.\d\d of the time of lol_html's own machine")
 
@@ -41,7 +41,21 @@ def peers(recorded):
     return "".join([head, "|---|---|---|---|---|---|---|\n", *rows])
 
 
-TABLES = {"workloads": ratios, "peers": peers}
+def shortened(value):
+    """With two digits after the point below 10, and none from there on."""
+    return f"{value:,.2f}" if value < 10 else f"{value:,.0f}"
+
+
+def growth(recorded):
+    """Microseconds a start tag by the number of selectors: without rows, with them, and beside where that was measured."""
+    cells = {(row["by"], row["size"]): ", ".join(shortened(row[whose]["microseconds"]) for whose in ("port", "rows", "beside") if whose in row)
+             for row in recorded["rows"] if "rows" in row}
+    kinds, sizes = (dict.fromkeys(key[place] for key in cells) for place in (0, 1))
+    rows = [f"| {size:,} | {' | '.join(cells.get((kind, size), '') for kind in kinds)} |\n" for size in sizes]
+    return "".join([f"| Selectors | {' | '.join(kinds)} |\n", "|---" * (len(kinds) + 1) + "|\n", *rows])
+
+
+TABLES = {"workloads": ratios, "peers": peers, "rows": growth}
 
 
 def kind(file):
@@ -71,10 +85,10 @@ def files_of_ratios(pages):
 
 def main():
     check = sys.argv[1:] == ["--check"]
-    texts = {page: page.read_text(encoding="utf-8") for page in [*PAGES, README]}
+    texts = {page: page.read_text(encoding="utf-8") for page in PAGES}
     new = {page: with_tables(texts[page], None if check else sys.argv[1]) for page in PAGES}
     recorded = kind(files_of_ratios(new.values())[0])[1]
-    new[README] = SPAN.sub(span(recorded), texts[README])
+    new[README] = SPAN.sub(span(recorded), new[README])
     if check:
         files = [file for page in PAGES for file, _ in TABLE.findall(texts[page])]
         print(f"the tables and README's span {'are' if new == texts else 'are NOT'} those of {', '.join(files)}")

@@ -1,4 +1,5 @@
 """The scripts that the programs are measured with, made from fixed seeds: each a function that gives a script as bytes."""
+import pathlib
 import random
 
 TAGS = "div p span a ul li section table tr td h1 article custom-element img br input".split()
@@ -186,6 +187,16 @@ def listed(kind, count, tags=20_000):
     draw = random.Random(f"{kind} {count}")
     selectors = LISTS[kind](draw, count)
     return selectors, nested(draw, tags, 20, 0.45, lambda: listed_tag(draw))
+
+
+EXAMPLE = "examples/filters.txt"
+
+
+def listed_example():
+    """The selectors and the tags of the example, whose first line is `rows`."""
+    lines = (pathlib.Path(__file__).resolve().parent.parent / EXAMPLE).read_text(encoding="utf-8").splitlines()[1:]
+    selectors = [line.split("\t", 2)[2] for line in lines if line.startswith("select")]
+    return selectors, lines[len(selectors):]
 
 
 def wide(count):
