@@ -1,6 +1,6 @@
 //! Rows: the instructions of a program by the hashes of their keys.
 
-ghost use Rattle.std.specs.Prelude.{◌≡◌, List, ℕ, IfOk};
+ghost use Rattle.std.specs.Prelude.{◌≡◌, List, ℕ, IfOk, map};
 ghost use Rattle.std.specs.Bool.{OnTrue, OnFalse};
 ghost use Rattle.std.specs.Option.{option_copied};
 ghost use Rattle.lol_instructions.specs.Attributes.{TagAttributes};
@@ -8,7 +8,7 @@ ghost use Rattle.lol_instructions.specs.declared.instruction.Instruction.{Instru
 ghost use Rattle.lol_key_table.specs.KeyTables.{IsTableOf};
 ghost use Rattle.lol_rows.specs.KeyHashes.{name_hashes};
 ghost use Rattle.lol_rows.specs.TagHashes.{pair_hashes};
-ghost use Rattle.lol_rows.specs.Rows.{AreRowsOf, is_left_open, is_left_by_name, is_left_by_keys, leaves_seen, passes_at, some_pass, HasPassing, NonePasses, candidate_addresses, AreCandidates, AreWithin, HaveWanted};
+ghost use Rattle.lol_rows.specs.Rows.{AreRowsOf, is_left_open, is_left_by_name, is_left_by_keys, leaves_seen, name_hash_of, pair_hash_of, passes_at, some_pass, HasPassing, NonePasses, candidate_addresses, AreCandidates, AreWithin, HaveWanted};
 
 use crate::candidates::Candidates;
 use crate::key_hashes::{after_name, name_hash, pair_hash};
@@ -34,17 +34,9 @@ impl Rows {
     pub fn of(alloc: Global, instructions: &[Instruction]) -> Result<Self, AllocError>
         ensures { IfOk result (AreRowsOf instructions.now) }
     {
-        let mut names = Vec::with_capacity(alloc, instructions.len())?;
-        let mut pairs = Vec::with_capacity(alloc, instructions.len())?;
-        for instruction in instructions {
-            let predicate = &instruction.predicate;
-            let name = predicate.name_key();
-            names.push_reserved(name_hash(name, predicate.opens_where_named()));
-            pairs.push_reserved(pair_hash(after_name(name), predicate.attribute_key()));
-        }
         Ok(Rows {
-            names: KeyTable::of(alloc, &names)?,
-            pairs: KeyTable::of(alloc, &pairs)?,
+            names: name_table(alloc, instructions)?,
+            pairs: pair_table(alloc, instructions)?,
         })
     }
 
@@ -123,6 +115,32 @@ impl Rows {
     {
         look_up(&self.pairs, range, hashes, found)
     }
+}
+
+/// The table by names. Its hashes are let go before those of pairs are made.
+fn name_table(alloc: Global, instructions: &[Instruction]) -> Result<KeyTable, AllocError>
+    ensures { IfOk result (IsTableOf (map name_hash_of instructions.now)) }
+{
+    let mut hashes = Vec::with_capacity(alloc, instructions.len())?;
+    for instruction in instructions {
+        let predicate = &instruction.predicate;
+        let hash = name_hash(predicate.name_key(), predicate.opens_where_named());
+        hashes.push_reserved(hash);
+    }
+    KeyTable::of(alloc, &hashes)
+}
+
+/// The table by names and by ids, classes or attributes.
+fn pair_table(alloc: Global, instructions: &[Instruction]) -> Result<KeyTable, AllocError>
+    ensures { IfOk result (IsTableOf (map pair_hash_of instructions.now)) }
+{
+    let mut hashes = Vec::with_capacity(alloc, instructions.len())?;
+    for instruction in instructions {
+        let predicate = &instruction.predicate;
+        let hash = pair_hash(after_name(predicate.name_key()), predicate.attribute_key());
+        hashes.push_reserved(hash);
+    }
+    KeyTable::of(alloc, &hashes)
 }
 
 /// The addresses of a range that have one of these hashes in a table, or each of the range.
