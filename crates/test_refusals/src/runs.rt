@@ -171,19 +171,14 @@ fn add_letters(alloc: Global, ast: &mut Ast, sign: u8) -> Result<(), Stop> {
     Ok(())
 }
 
-/// Tags whose keys are looked up among so many that a look at each would take longer. What is looked up needs memory, but no tag is
+/// A tag whose keys are looked up among so many that a look at each would take longer. What is looked up needs memory, but the tag isn't
 /// refused for it.
 pub(crate) fn with_rows(alloc: Global) -> Result<bool, Stop> {
-    let mut of_classes = Attributes::new(alloc);
-    of_classes.push(b"class", Some(b"d c"))?;
-    let mut of_id = Attributes::new(alloc);
-    of_id.push(b"id", Some(b"z"))?;
-    let events = [
-        start(b"p", &of_classes),
-        start(b"p", &of_id),
-        TagEvent::End { name: b"p" },
-    ];
-    let wanted: [(&[u32], bool); 3] = [(&[99, 100], true), (&[122], true), (&[1], false)];
+    let mut attributes = Attributes::new(alloc);
+    attributes.push(b"class", Some(b"d c"))?;
+    attributes.push(b"id", Some(b"z"))?;
+    let events = [start(b"p", &attributes), TagEvent::End { name: b"p" }];
+    let wanted: [(&[u32], bool); 2] = [(&[99, 100, 122], true), (&[0], false)];
     Ok(answered(alloc, letters(alloc)?, &events, &wanted)? == Met::Nothing)
 }
 
