@@ -1,3 +1,2 @@
 mod Runs
 mod Listed
-mod Found

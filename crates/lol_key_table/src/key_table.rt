@@ -1,11 +1,9 @@
 //! A table of addresses by hashes.
 
-ghost use Rattle.std.specs.Prelude.{◌≡◌, ◌++◌, ◌↔◌, List, ℕ, IfOk, OnOk, Contains, map};
-ghost use Rattle.lol_base.specs.Ascending.{IsStrictlyAscending};
-ghost use Rattle.lol_key_table.specs.KeyTables.{AreFound, IsEntryWithin, IsTableOf};
+ghost use Rattle.std.specs.Prelude.{◌≡◌, ◌↔◌, List, ℕ, IfOk, Contains};
+ghost use Rattle.lol_key_table.specs.KeyTables.{IsEntryWithin, IsTableOf};
 
 use std::alloc::{AllocError, Global};
-use std::ops::Range;
 
 /// An address, and its hash.
 #[derive(Debug, Clone, Copy, PartialEq, Eq)]
@@ -23,12 +21,13 @@ pub struct KeyTable {
 }
 
 impl KeyTable {
-    /// The table of a list of hashes. For `n` of them it takes `n log n` steps.
+    /// The table of a list of hashes. For `n` of them it takes `n log n` steps. The list is let go before the table is sorted, which takes
+    /// up to 8 bytes more for each of them.
     ///
     /// # Errors
     /// Out of memory, also where there are more hashes than a `u32` can number.
-    pub fn of(alloc: Global, hashes: &[u32]) -> Result<Self, AllocError>
-        ensures { IfOk result (λ table. IsTableOf hashes.now table) }
+    pub fn of(alloc: Global, hashes: Vec<u32>) -> Result<Self, AllocError>
+        ensures { IfOk result (λ table. IsTableOf hashes.items table) }
     {
         if hashes.len() > u32::MAX as usize {
             return Err(AllocError);
@@ -40,33 +39,17 @@ impl KeyTable {
                 address: address as u32,
             });
         }
+        drop(hashes);
         entries.sort_by_key(|entry| entry.hash)?;
         Ok(KeyTable { entries })
     }
 
-    /// Finds the addresses in a range that have one of these hashes, ascending and each once. What `found` has before is thrown away. For
-    /// each hash it takes a logarithm of the table's size, and for `n` addresses, each counted as often as its hash is there, `n log n`
-    /// steps.
-    ///
-    /// # Errors
-    /// Out of memory.
-    pub fn find(
-        &self,
-        hashes: &[u32],
-        range: Range<usize>,
-        found: &mut Vec<usize>,
-    ) -> Result<(), AllocError>
-        ensures ascending { OnOk result (IsStrictlyAscending found.new.items) }
-        ensures members { OnOk result ((all : List ℕ) → IsTableOf all self.now
-            → AreFound all hashes.now range found.new.items) }
+    /// All entries, in the order of their hashes, and of their addresses where these are the same.
+    #[inline]
+    pub fn entries(&self) -> &[Entry]
+        ensures { result.now ≡ self.now.entries.items }
     {
-        found.clear();
-        for hash in hashes {
-            add_addresses(self.entries_within(*hash, range.start, range.end), found)?;
-        }
-        found.sort_unstable();
-        found.dedup();
-        Ok(())
+        &self.entries
     }
 
     /// The entries of the addresses from `start` up to `end` that have a hash, in the order of their addresses. It takes a logarithm of the
@@ -86,13 +69,4 @@ impl KeyTable {
         let run = &run[..run.partition_point(|entry| (entry.address as usize) < end)];
         &run[run.partition_point(|entry| (entry.address as usize) < start)..]
     }
-}
-
-fn add_addresses(entries: &[Entry], found: &mut Vec<usize>) -> Result<(), AllocError>
-    ensures { OnOk result (found.new.items ≡ found.old.items ++ map (λ e. e.address) entries.now) }
-{
-    for entry in entries {
-        found.push(entry.address as usize)?;
-    }
-    Ok(())
 }

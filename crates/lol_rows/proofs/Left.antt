@@ -8,28 +8,26 @@ use Rattle.std.proofs.Common.{◌≡◌, ℕ, zero, suc, ◌+◌, ◌-◌, ◌<�
 use Rattle.std.proofs.lemmas.Bool.{cases_lt}
 use Rattle.std.proofs.lemmas.Option.{slice_get-map}
 use Rattle.std.proofs.lemmas.Slice.Eq.{bytes_eq-Decides}
-use Rattle.lol_base.specs.Ascending.{IsStrictlyAscending}
-use Rattle.lol_base.specs.AscendingLaws.{Ascends, ascends_from_pairs, pairs_from_ascends, determined}
-use Rattle.lol_base.specs.MemberLaws.{Among, among_from_contains, contains_from_among, among_filter, filter_among, any_among, among_any}
+use Rattle.lol_base.specs.AscendingLaws.{Ascends}
+use Rattle.lol_base.specs.MemberLaws.{Among, contains_from_among, among_filter, any_among, among_any}
 use Rattle.lol_base.specs.ListLaws.{get_or-any}
 use Rattle.lol_base.specs.BoolLaws.{and_parts, not_true}
-use Rattle.lol_base.specs.PlaceLaws.{some_is, at_among}
+use Rattle.lol_base.specs.PlaceLaws.{some_is}
 use Rattle.lol_instructions.specs.Keys.{is_another_name}
 use Rattle.lol_instructions.specs.declared.instruction.Instruction.{Instruction}
-use Rattle.lol_key_table.specs.KeyTables.{AreFound, IsEntryWithin}
+use Rattle.lol_key_table.specs.KeyTables.{IsEntryWithin}
 use Rattle.lol_key_table.specs.declared.key_table.Entry.{Entry}
 use Rattle.lol_rows.specs.KeyHashes.{hash_of_name, name_hashes}
-use Rattle.lol_rows.specs.Rows.{keys_of, name_hash_of, is_left_by_name, is_left_open, passes, passes_at, addresses, some_pass, passing, HasPassing, NonePasses, HaveWanted, AreWithin, candidate_addresses}
-use Rattle.lol_rows.specs.declared.candidates.Candidates.{Candidates}
+use Rattle.lol_rows.specs.Rows.{keys_of, name_hash_of, is_left_by_name, is_left_open, passes, passes_at, addresses, some_pass, HasPassing, NonePasses}
 
 -- 1. Addresses of a range
 
-among_range : (start n x : ℕ) → Among (range_with_len start n) x → (start ≤ x) × (x < start + n)
+pub among_range : (start n x : ℕ) → Among (range_with_len start n) x → (start ≤ x) × (x < start + n)
 among_range start zero x a = absurd a
 among_range start (suc n) x (inl is) = (omega (arith, is), omega (arith, is))
 among_range start (suc n) x (inr a) = let later = among_range (start + 1) n x a in (omega (arith, later.0), omega (arith, later.1))
 
-range_among : (start n x : ℕ) → start ≤ x → x < start + n → Among (range_with_len start n) x
+pub range_among : (start n x : ℕ) → start ≤ x → x < start + n → Among (range_with_len start n) x
 range_among start zero x low high = absurd (omega (arith, low, high))
 range_among start (suc n) x low high = by_place (cases_lt start x) (λ above. range_among (start + 1) n x (omega (arith, above)) (omega (arith, high)))
   where
@@ -37,11 +35,11 @@ range_among start (suc n) x low high = by_place (cases_lt start x) (λ above. ra
     by_place (inl above) later = inr (later above)
     by_place (inr most) later = inl (omega (arith, low, most))
 
-ascends_range : (start n : ℕ) → Ascends (range_with_len start n)
+pub ascends_range : (start n : ℕ) → Ascends (range_with_len start n)
 ascends_range start zero = tt
 ascends_range start (suc n) = (λ m a. let later = among_range (start + 1) n m a in omega (arith, later.0), ascends_range (start + 1) n)
 
-ascends_filter : (p : ℕ → Bool) (xs : List ℕ) → Ascends xs → Ascends (filter p xs)
+pub ascends_filter : (p : ℕ → Bool) (xs : List ℕ) → Ascends xs → Ascends (filter p xs)
 ascends_filter p [] h = tt
 ascends_filter p (x ∷ xs) h = by_test (p x) (ascends_filter p xs h.1)
   where
@@ -55,54 +53,8 @@ pub instruction_at : (p : Instruction → Bool) (o : Option Instruction) → pas
 instruction_at p None h = cc
 instruction_at p (Some i) h = (i, refl, h)
 
-hashed_at : (hash : Instruction → ℕ) (instructions : List Instruction) (address : ℕ) (i : Instruction) → slice_get instructions address ≡ Some i → slice_get (map hash instructions) address ≡ Some (hash i)
+pub hashed_at : (hash : Instruction → ℕ) (instructions : List Instruction) (address : ℕ) (i : Instruction) → slice_get instructions address ≡ Some i → slice_get (map hash instructions) address ≡ Some (hash i)
 hashed_at hash instructions address i at = slice_get-map hash instructions address ∙ ap (option_map hash) at
-
--- What has one of the hashes is found, so what passes of it is all that passes.
-pub left_found : (p : Instruction → Bool) (hash : Instruction → ℕ) (instructions : List Instruction) (hashes : List ℕ) (range : Range ℕ) (found : List ℕ)
-    → HaveWanted (map hash instructions) hashes range found → ((i : Instruction) → p i ≡ true → Contains hashes (hash i))
-    → filter (passes_at p instructions) found ≡ passing p instructions range
-left_found p hash instructions hashes range found have wanted =
-    determined (filter q found) (filter q all) (ascends_filter q found (ascends_from_pairs found have.ascending)) (ascends_filter q all (ascends_range range.start (range.end - range.start))) to from
-  where
-    q : ℕ → Bool
-    q = passes_at p instructions
-
-    all : List ℕ
-    all = addresses range
-
-    to : (n : ℕ) → Among (filter q found) n → Among (filter q all) n
-    to n a =
-        let parts = among_filter q found n a in
-        let place = have.within n (contains_from_among found n parts.0) in
-        filter_among q all n (range_among range.start (range.end - range.start) n place.0 (omega (arith, place.0, place.1))) parts.1
-
-    from : (n : ℕ) → Among (filter q all) n → Among (filter q found) n
-    from n a =
-        let parts = among_filter q all n a in
-        let place = among_range range.start (range.end - range.start) n parts.0 in
-        let at = instruction_at p (slice_get instructions n) parts.1 in
-        let found_at = have.wanted n (record { hash = hash at.0; wanted = wanted at.0 at.2; hashed = hashed_at hash instructions n at.0 at.1; low = place.0; high = omega (arith, place.0, place.1) }) in
-        filter_among q found n (among_from_contains found n found_at) parts.1
-
--- each of a range has those that are wanted
-pub each_wanted : (all hashes : List ℕ) (range : Range ℕ) → HaveWanted all hashes range (addresses range)
-each_wanted all hashes range = record {
-  ascending = pairs_from_ascends (addresses range) (ascends_range range.start (range.end - range.start));
-  within = λ address h. let place = among_range range.start (range.end - range.start) address (among_from_contains (addresses range) address h) in (place.0, omega (arith, place.0, place.1));
-  wanted = λ address w. contains_from_among (addresses range) address (range_among range.start (range.end - range.start) address w.low (omega (arith, w.low, w.high)));
-}
-
-pub found_wanted : (all hashes : List ℕ) (range : Range ℕ) (found : List ℕ) → IsStrictlyAscending found → AreFound all hashes range found → HaveWanted all hashes range found
-found_wanted all hashes range found up are = record {
-  ascending = up;
-  within = λ address h. let w = (are address).0 h in (w.low, w.high);
-  wanted = λ address. (are address).1;
-}
-
-pub are_within : (all hashes : List ℕ) (range : Range ℕ) (candidates : Candidates) → HaveWanted all hashes range (candidate_addresses candidates) → AreWithin range candidates
-are_within all hashes range candidates have index address at =
-    have.within address (contains_from_among (candidate_addresses candidates) address (at_among (candidate_addresses candidates) index address at))
 
 -- 3. Hashes of names
 

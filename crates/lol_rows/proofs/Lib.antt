@@ -1,2 +1,5 @@
 mod Left
 mod PairLemmas
+mod Found
+mod Alike
+mod Deciding

@@ -1,5 +1,6 @@
 pub mod KeyHashes
 pub mod TagHashes
 pub mod Rows
+pub mod KeyRows
 pub mod KeyLaws
-pub mod CandidateLaws
+pub mod LeftLaws

@@ -1,19 +1,22 @@
 -- Rows of instructions, and what is left of them by their keys.
-use Rattle.std.specs.Prelude.{ℕ, ◌≡◌, ◌≤◌, ◌<◌, ◌-◌, Bool, true, false, not, ◌&&◌, List, map, filter, slice_get, Option, Some, None, Contains}
+use Rattle.std.specs.Prelude.{ℕ, ◌≡◌, ◌≤◌, ◌<◌, ◌-◌, ◌⊎◌, Bool, true, false, not, ◌&&◌, List, map, filter, slice_get, Option, Some, None, Contains}
 use Rattle.std.specs.List.{range_with_len, list_any}
 use Rattle.std.specs.declared.ops.Range.{Range}
-use Rattle.lol_base.specs.Ascending.{IsStrictlyAscending}
-use Rattle.lol_instructions.specs.Keys.{Keys, is_another_name}
+use Rattle.std.specs.Option.{option_copied}
+use Rattle.lol_instructions.specs.Keys.{AttributeKey, Keys, is_another_name}
 use Rattle.lol_instructions.specs.CompiledKeys.{keys_in, lacks_key}
 use Rattle.lol_instructions.specs.Attributes.{TagAttributes}
 use Rattle.lol_instructions.specs.declared.instruction.Instruction.{Instruction}
-use Rattle.lol_key_table.specs.KeyTables.{IsTableOf, IsWanted}
-use Rattle.lol_rows.specs.KeyHashes.{hash_of_name, hash_of_pair}
-use Rattle.lol_rows.specs.declared.candidates.Candidates.{Candidates}
-use Rattle.lol_rows.specs.declared.candidates.Candidates.TheVariants.{Each, Found}
+use Rattle.lol_key_table.specs.KeyTables.{IsTableOf}
+use Rattle.lol_rows.specs.KeyHashes.{hash_of_name, hash_of_pair, name_hashes}
+use Rattle.lol_rows.specs.TagHashes.{pair_hashes}
+use Rattle.lol_rows.specs.declared.key_rows.KeyRows.{KeyRows}
+use Rattle.lol_rows.specs.declared.tag_keys.TagKeys.{TagKeys}
+use Rattle.lol_rows.specs.declared.row_kind.RowKind.{RowKind}
+use Rattle.lol_rows.specs.declared.row_kind.RowKind.TheVariants.{Names, Pairs}
 use Rattle.lol_rows.specs.declared.rows.Rows.{Rows}
 
--- 1. Rows
+-- 1. What instructions are looked up by
 
 abbrev pub keys_of : Instruction → Keys
 keys_of i = keys_in i.predicate
@@ -24,12 +27,40 @@ name_hash_of i = hash_of_name (keys_of i).name (keys_of i).opens
 abbrev pub pair_hash_of : Instruction → ℕ
 pair_hash_of i = hash_of_pair (keys_of i).name (keys_of i).attribute
 
+abbrev pub hash_by : RowKind → Instruction → ℕ
+hash_by Names i = name_hash_of i
+hash_by Pairs i = pair_hash_of i
+
+-- what decides whether an instruction is left: its name, and for pairs its id, class or attribute
+abbrev pub keys_by : RowKind → Instruction → Option (List ℕ) × Option AttributeKey
+keys_by Names i = ((keys_of i).name, None)
+keys_by Pairs i = ((keys_of i).name, (keys_of i).attribute)
+
+-- the instructions at two addresses have the same of these
+abbrev pub AreAlikeAt : RowKind → List Instruction → ℕ → ℕ → Type 0
+AreAlikeAt kind instructions a b = (i j : Instruction) → slice_get instructions a ≡ Some i → slice_get instructions b ≡ Some j → keys_by kind i ≡ keys_by kind j
+
+-- 2. Rows
+
+-- Instructions of one hash are alike, unless it is one of the shared ones.
+abbrev pub AreAlikeUnless : List ℕ → RowKind → List Instruction → Type 0
+AreAlikeUnless shared kind instructions =
+    (a b hash : ℕ) → slice_get (map (hash_by kind) instructions) a ≡ Some hash → slice_get (map (hash_by kind) instructions) b ≡ Some hash
+    → Contains shared hash ⊎ AreAlikeAt kind instructions a b
+
+-- Each instruction stands in its row.
+pub record AreRowsBy (kind : RowKind) (instructions : List Instruction) (rows : KeyRows) : Type 0 where
+  pub table : IsTableOf (map (hash_by kind) instructions) rows.table
+  pub shared : List ℕ
+  pub shared_table : IsTableOf shared rows.shared
+  pub alike : AreAlikeUnless shared kind instructions
+
 -- Rows have each instruction once by its name, and once by both of its keys.
 pub record AreRowsOf (instructions : List Instruction) (rows : Rows) : Type 0 where
-  pub names : IsTableOf (map name_hash_of instructions) rows.names
-  pub pairs : IsTableOf (map pair_hash_of instructions) rows.pairs
+  pub names : AreRowsBy Names instructions rows.names
+  pub pairs : AreRowsBy Pairs instructions rows.pairs
 
--- 2. What is left
+-- 3. What is left
 
 -- an instruction that tests no other name than this one, in lower case
 abbrev pub is_left_by_name : List ℕ → Instruction → Bool
@@ -47,6 +78,10 @@ is_left_by_keys name seen i = is_left_by_name name i && not (lacks_key (keys_of 
 abbrev pub leaves_seen : List ℕ → Option TagAttributes → Instruction → Bool
 leaves_seen name None i = is_left_by_name name i
 leaves_seen name (Some seen) i = is_left_by_keys name seen i
+
+-- what a tag leaves, as far as its attributes are given
+abbrev pub leaves : TagKeys → Instruction → Bool
+leaves keys i = leaves_seen keys.name.now.lowercased (option_copied keys.attributes) i
 
 -- whether there is an instruction, and it passes
 abbrev pub passes : (Instruction → Bool) → Option Instruction → Bool
@@ -79,22 +114,13 @@ abbrev pub NonePasses : (Instruction → Bool) → List Instruction → Range �
 NonePasses p instructions r hash =
     (address : ℕ) (i : Instruction) → r.start ≤ address → address < r.end → slice_get instructions address ≡ Some i → name_hash_of i ≡ hash → p i ≡ false
 
--- 3. Candidates: addresses of a range, ascending
+-- 4. How it is found
 
-abbrev pub candidate_addresses : Candidates → List ℕ
-candidate_addresses (Each range) = addresses range
-candidate_addresses (Found found) = found.now
+-- the hashes that what a tag leaves may have
+abbrev pub hashes_seen : List ℕ → Option TagAttributes → List ℕ
+hashes_seen name None = name_hashes name
+hashes_seen name (Some seen) = pair_hashes name seen
 
--- Of the candidates exactly those pass that do of the whole range.
-abbrev pub AreCandidates : (Instruction → Bool) → List Instruction → Range ℕ → Candidates → Type 0
-AreCandidates p instructions r candidates = filter (passes_at p instructions) (candidate_addresses candidates) ≡ passing p instructions r
-
--- Each lies in the range.
-abbrev pub AreWithin : Range ℕ → Candidates → Type 0
-AreWithin r candidates = (index address : ℕ) → slice_get (candidate_addresses candidates) index ≡ Some address → (r.start ≤ address) × (address < r.end)
-
--- Addresses of a range, ascending, with all that have one of these hashes.
-pub record HaveWanted (all hashes : List ℕ) (r : Range ℕ) (found : List ℕ) : Type 0 where
-  pub ascending : IsStrictlyAscending found
-  pub within : (address : ℕ) → Contains found address → (r.start ≤ address) × (address < r.end)
-  pub wanted : (address : ℕ) → IsWanted all hashes r address → Contains found address
+-- The hashes of a tag, where memory for them was there, are those of its keys.
+abbrev pub AreItsHashes : TagKeys → Type 0
+AreItsHashes keys = (hashes : List ℕ) → option_copied keys.hashes ≡ Some hashes → hashes ≡ hashes_seen keys.name.now.lowercased (option_copied keys.attributes)

@@ -1,13 +1,15 @@
 //! Which instructions of a range are left by their keys, without a look at the others.
 #![tactic(auto)]
 
-mod candidates;
 mod key_hashes;
+mod key_rows;
 pub mod laws;
+mod row_kind;
 mod rows;
 mod tag_hashes;
+mod tag_keys;
 
-pub use candidates::Candidates;
 pub use key_hashes::name_hashes;
-pub use rows::{Rows, is_left};
+pub use rows::Rows;
 pub use tag_hashes::add_pair_hashes;
+pub use tag_keys::{TagKeys, is_left};

@@ -1,29 +1,25 @@
 //! Rows: the instructions of a program by the hashes of their keys.
 
-ghost use Rattle.std.specs.Prelude.{◌≡◌, List, ℕ, IfOk, map};
+ghost use Rattle.std.specs.Prelude.{◌≡◌, ◌++◌, ◌+◌, ◌≤◌, IfOk, IsOk, OnOk, length};
 ghost use Rattle.std.specs.Bool.{OnTrue, OnFalse};
-ghost use Rattle.std.specs.Option.{option_copied};
-ghost use Rattle.lol_instructions.specs.Attributes.{TagAttributes};
-ghost use Rattle.lol_instructions.specs.declared.instruction.Instruction.{Instruction};
-ghost use Rattle.lol_key_table.specs.KeyTables.{IsTableOf};
+ghost use Rattle.std.specs.Vec.{vec_capacity};
 ghost use Rattle.lol_rows.specs.KeyHashes.{name_hashes};
-ghost use Rattle.lol_rows.specs.TagHashes.{pair_hashes};
-ghost use Rattle.lol_rows.specs.Rows.{AreRowsOf, is_left_open, is_left_by_name, is_left_by_keys, leaves_seen, name_hash_of, pair_hash_of, passes_at, some_pass, HasPassing, NonePasses, candidate_addresses, AreCandidates, AreWithin, HaveWanted};
+ghost use Rattle.lol_rows.specs.Rows.{AreItsHashes, AreRowsOf, HasPassing, NonePasses, is_left_open, leaves, passes_at, passing, some_pass};
 
-use crate::candidates::Candidates;
-use crate::key_hashes::{after_name, name_hash, pair_hash};
+use crate::key_rows::{KeyRows, is_short};
+use crate::row_kind::RowKind;
+use crate::tag_keys::TagKeys;
 use lol_base::LocalName;
-use lol_instructions::{AddressRange, AttributeMatcher, Instruction};
-use lol_key_table::KeyTable;
+use lol_instructions::{AddressRange, Instruction};
 use std::alloc::{AllocError, Global};
 
 /// The addresses of instructions by the hashes of their keys. They take 16 bytes for each instruction.
 #[derive(Debug, Drop)]
 pub struct Rows {
     // By name, and by whether it is known that attributes are needed.
-    names: KeyTable,
+    names: KeyRows,
     // By name, and by id, class or attribute.
-    pairs: KeyTable,
+    pairs: KeyRows,
 }
 
 impl Rows {
@@ -35,8 +31,8 @@ impl Rows {
         ensures { IfOk result (AreRowsOf instructions.now) }
     {
         Ok(Rows {
-            names: name_table(alloc, instructions)?,
-            pairs: pair_table(alloc, instructions)?,
+            names: KeyRows::of(alloc, RowKind::Names, instructions)?,
+            pairs: KeyRows::of(alloc, RowKind::Pairs, instructions)?,
         })
     }
 
@@ -73,7 +69,11 @@ impl Rows {
         ensures none { OnFalse result (AreRowsOf instructions.now self.now
             → NonePasses (is_left_open local_name.now.lowercased) instructions.now range.now hash) }
     {
-        for entry in self.names.entries_within(hash, range.start, range.end) {
+        for entry in self
+            .names
+            .table
+            .entries_within(hash, range.start, range.end)
+        {
             if is_left_open(instructions, entry.address as usize, local_name) {
                 return true;
             }
@@ -81,109 +81,34 @@ impl Rows {
         false
     }
 
-    /// The addresses of a range among which are all whose instructions test no other name. `hashes` are the `name_hashes` of the name, and
-    /// `found` is room for what is looked up; each address of the range is given where the range is short, or memory for `found` is refused.
-    /// For `n` instructions it takes a logarithm of `n` for each hash, and `m log m` steps for `m` addresses that are found.
-    pub fn candidates_by_name<'f>(
+    /// Adds, ascending, the addresses of a range whose instructions a start tag leaves: that test no other name, and, where its attributes
+    /// are given, no id, class or attribute that they lack. `found` is room for what is looked up.
+    ///
+    /// For `n` instructions it takes a logarithm of `n` and a look at the keys of one instruction for each hash, a look at each one whose
+    /// hash several keys have, and `m log m` steps for `m` addresses that are added; where the range is short, or memory for the hashes or
+    /// for `found` was refused, a look at each of the range.
+    ///
+    /// # Errors
+    /// Out of memory, but not where `left` has room for what is added.
+    pub fn add_left(
         &self,
+        instructions: &[Instruction],
         range: &AddressRange,
-        hashes: &[u32],
-        found: &'f mut Vec<usize>,
-    ) -> Candidates<'f>
-        ensures left { (instructions : List Instruction) → AreRowsOf instructions self.now
-            → (name : List ℕ) → hashes.now ≡ name_hashes name
-            → AreCandidates (is_left_by_name name) instructions range.now result }
-        ensures within { (instructions : List Instruction) → AreRowsOf instructions self.now
-            → AreWithin range.now result }
+        keys: &TagKeys<'_, '_>,
+        found: &mut Vec<u32>,
+        left: &mut Vec<u32>,
+    ) -> Result<(), AllocError>
+        ensures left { OnOk result (AreRowsOf instructions.now self.now → AreItsHashes keys.now
+            → left.new.items ≡ left.old.items ++ passing (leaves keys.now) instructions.now range.now) }
+        ensures free { AreRowsOf instructions.now self.now → AreItsHashes keys.now
+            → length left.old.items + length (passing (leaves keys.now) instructions.now range.now)
+            ≤ vec_capacity left.old → IsOk result }
+        ensures capacity { vec_capacity left.old ≤ vec_capacity left.new }
     {
-        look_up(&self.names, range, hashes, found)
-    }
-
-    /// The same of those whose instructions test no other name, and no id, class or attribute that the tag lacks. `hashes` are what
-    /// `add_pair_hashes` adds of the tag.
-    pub fn candidates_by_keys<'f>(
-        &self,
-        range: &AddressRange,
-        hashes: &[u32],
-        found: &'f mut Vec<usize>,
-    ) -> Candidates<'f>
-        ensures left { (instructions : List Instruction) → AreRowsOf instructions self.now
-            → (name : List ℕ) (seen : TagAttributes) → hashes.now ≡ pair_hashes name seen
-            → AreCandidates (is_left_by_keys name seen) instructions range.now result }
-        ensures within { (instructions : List Instruction) → AreRowsOf instructions self.now
-            → AreWithin range.now result }
-    {
-        look_up(&self.pairs, range, hashes, found)
-    }
-}
-
-/// The table by names. Its hashes are let go before those of pairs are made.
-fn name_table(alloc: Global, instructions: &[Instruction]) -> Result<KeyTable, AllocError>
-    ensures { IfOk result (IsTableOf (map name_hash_of instructions.now)) }
-{
-    let mut hashes = Vec::with_capacity(alloc, instructions.len())?;
-    for instruction in instructions {
-        let predicate = &instruction.predicate;
-        let hash = name_hash(predicate.name_key(), predicate.opens_where_named());
-        hashes.push_reserved(hash);
-    }
-    KeyTable::of(alloc, &hashes)
-}
-
-/// The table by names and by ids, classes or attributes.
-fn pair_table(alloc: Global, instructions: &[Instruction]) -> Result<KeyTable, AllocError>
-    ensures { IfOk result (IsTableOf (map pair_hash_of instructions.now)) }
-{
-    let mut hashes = Vec::with_capacity(alloc, instructions.len())?;
-    for instruction in instructions {
-        let predicate = &instruction.predicate;
-        let hash = pair_hash(after_name(predicate.name_key()), predicate.attribute_key());
-        hashes.push_reserved(hash);
-    }
-    KeyTable::of(alloc, &hashes)
-}
-
-/// The addresses of a range that have one of these hashes in a table, or each of the range.
-fn look_up<'f>(
-    table: &KeyTable,
-    range: &AddressRange,
-    hashes: &[u32],
-    found: &'f mut Vec<usize>,
-) -> Candidates<'f>
-    ensures { (all : List ℕ) → IsTableOf all table.now
-        → HaveWanted all hashes.now range.now (candidate_addresses result) }
-{
-    if is_short(range) {
-        return Candidates::Each(range.start..range.end);
-    }
-    match table.find(hashes, range.start..range.end, found) {
-        Ok(()) => Candidates::Found(found.as_slice()),
-        Err(_) => Candidates::Each(range.start..range.end),
-    }
-}
-
-// To look addresses up takes about as long as to run through so many.
-const FEWEST_LOOKED_UP: usize = 48;
-
-fn is_short(range: &AddressRange) -> bool {
-    range.end.saturating_sub(range.start) < FEWEST_LOOKED_UP
-}
-
-/// Whether an instruction tests no other name, and, where attributes are given, no id, class or attribute that they lack.
-#[inline(always)]
-pub fn is_left(
-    instruction: &Instruction,
-    local_name: &LocalName<'_>,
-    attributes: Option<&AttributeMatcher<'_>>,
-) -> bool
-    ensures { result ≡ leaves_seen local_name.now.lowercased (option_copied attributes.entry) instruction.now }
-{
-    if instruction.predicate.has_other_name(local_name) {
-        return false;
-    }
-    match attributes {
-        Some(matcher) => !instruction.predicate.lacks_key(matcher),
-        None => true,
+        match keys.attributes {
+            None => self.names.add_left(instructions, range, keys, found, left),
+            Some(_) => self.pairs.add_left(instructions, range, keys, found, left),
+        }
     }
 }
 

@@ -5,26 +5,23 @@ ghost use Rattle.std.specs.List.{list_any};
 ghost use Rattle.std.specs.Vec.{vec_capacity};
 ghost use Rattle.lol_program.specs.ProgramViews.{HasItsRows, has_rows};
 ghost use Rattle.lol_program.specs.Programs.{all_places};
-ghost use Rattle.lol_instructions.specs.Attributes.{TagAttributes};
-ghost use Rattle.lol_instructions.specs.declared.instruction.Instruction.{Instruction};
 ghost use Rattle.lol_rows.specs.KeyHashes.{name_hashes as hashes_of};
-ghost use Rattle.lol_rows.specs.TagHashes.{pair_hashes};
-ghost use Rattle.lol_rows.specs.Rows.{AreCandidates, AreRowsOf, is_left_by_keys, is_left_by_name, is_left_open, some_pass};
+ghost use Rattle.lol_rows.specs.Rows.{AreItsHashes, AreRowsOf, is_left_by_keys, is_left_by_name, is_left_open, leaves, some_pass};
 ghost use Rattle.lol_vm.specs.SparedRuns.{HasRoom, HasRoomFor, all_passing, left_at_point, opens_at_once};
 ghost use Rattle.lol_vm.specs.TagRuns.{all_ranges, ranges_to_run_in};
 
 use crate::tag_runs::{AllRanges, RecoveryPoint, TagRanges};
 use lol_base::LocalName;
-use lol_program::{AddressRange, AttributeMatcher, Instruction, Program};
-use lol_rows::{Candidates, Rows, add_pair_hashes, name_hashes};
+use lol_program::{AttributeMatcher, Instruction, Program};
+use lol_rows::{Rows, TagKeys, add_pair_hashes, name_hashes};
 use lol_stack::Stack;
 use std::alloc::{AllocError, Global};
 
 /// Room for what rows find, kept from tag to tag. What is left has room for all instructions.
 #[derive(Drop)]
 pub(crate) struct RowSpace {
-    left: Vec<usize>,
-    found: Vec<usize>,
+    left: Vec<u32>,
+    found: Vec<u32>,
     hashes: Vec<u32>,
     /// Where the last run by name stopped, if it wasn't refused.
     pub stopped: Option<RecoveryPoint>,
@@ -50,7 +47,7 @@ impl RowSpace {
 
     /// The addresses that were found left.
     #[inline(always)]
-    pub(crate) fn left(&self) -> &[usize]
+    pub(crate) fn left(&self) -> &[u32]
         ensures { result.now ≡ self.now.left.items }
     {
         &self.left
@@ -80,7 +77,7 @@ pub(crate) fn find_by_name<E>(
         None => Ok(false),
         Some(rows) => {
             let ranges = AllRanges::new(program, stack);
-            find_left_by_name(rows, &program.instructions, ranges, name, space)
+            find_unless_open(rows, &program.instructions, ranges, name, space)
         }
     }
 }
@@ -107,24 +104,24 @@ pub(crate) fn find_at<E>(
     match &program.rows {
         None => Ok(()),
         Some(rows) => {
-            space.left.clear();
             let ranges = AllRanges::new(program, stack);
-            let instructions = program.instructions.as_slice();
             match point {
                 RecoveryPoint::AtOnce => {
-                    add_left_by_keys(rows, instructions, ranges, name, matcher, space)
+                    find_left_by_keys(rows, &program.instructions, ranges, name, matcher, space)
                 }
                 RecoveryPoint::At(_) => {
                     let hashes = name_hashes(name);
-                    add_left_by_name(rows, instructions, ranges, name, &hashes, space)
+                    find_left_by_name(rows, &program.instructions, ranges, name, &hashes, space)
                 }
             }
         }
     }
 }
 
+/// Whether one of the ranges has an instruction that the name leaves and that is known to need attributes; if not, what the name leaves is
+/// found.
 #[inline(never)]
-fn find_left_by_name(
+fn find_unless_open(
     rows: &Rows,
     instructions: &[Instruction],
     ranges: AllRanges<'_>,
@@ -143,9 +140,68 @@ fn find_left_by_name(
     if has_open(rows, instructions, ranges, name, &hashes) {
         return Ok(true);
     }
-    space.left.clear();
-    add_left_by_name(rows, instructions, ranges, name, &hashes, space)?;
+    find_left_by_name(rows, instructions, ranges, name, &hashes, space)?;
     Ok(false)
+}
+
+/// Finds the addresses of what the name leaves, which has these hashes.
+#[inline(never)]
+fn find_left_by_name<'t>(
+    rows: &Rows,
+    instructions: &[Instruction],
+    ranges: AllRanges<'_>,
+    name: &'t LocalName<'t>,
+    hashes: &[u32; 4],
+    space: &mut RowSpace,
+) -> Result<(), AllocError>
+    ensures left { OnOk result (AreRowsOf instructions.now rows.now → hashes.now ≡ hashes_of name.now.lowercased
+        → space.new.left.items
+        ≡ all_passing (is_left_by_name name.now.lowercased) instructions.now (all_ranges ranges.entry)) }
+    ensures free { AreRowsOf instructions.now rows.now → hashes.now ≡ hashes_of name.now.lowercased
+        → HasRoomFor space.old (length (all_places (all_ranges ranges.entry))) → IsOk result }
+    ensures room { vec_capacity space.old.left ≤ vec_capacity space.new.left }
+{
+    let keys = TagKeys::new(name, None, Some(hashes));
+    space.left.clear();
+    add_left(
+        rows,
+        instructions,
+        ranges,
+        &keys,
+        &mut space.found,
+        &mut space.left,
+    )
+}
+
+/// Finds the addresses of what the name and the attributes leave.
+#[inline(never)]
+fn find_left_by_keys<'t>(
+    rows: &Rows,
+    instructions: &[Instruction],
+    ranges: AllRanges<'_>,
+    name: &'t LocalName<'t>,
+    matcher: &'t AttributeMatcher<'t>,
+    space: &mut RowSpace,
+) -> Result<(), AllocError>
+    ensures left { OnOk result (AreRowsOf instructions.now rows.now → space.new.left.items
+        ≡ all_passing (is_left_by_keys name.now.lowercased matcher.now) instructions.now (all_ranges ranges.entry)) }
+    ensures free { AreRowsOf instructions.now rows.now
+        → HasRoomFor space.old (length (all_places (all_ranges ranges.entry))) → IsOk result }
+    ensures room { vec_capacity space.old.left ≤ vec_capacity space.new.left }
+{
+    space.hashes.clear();
+    let are_hashed = add_pair_hashes(name, matcher, &mut space.hashes).is_ok();
+    let hashes = are_hashed.then_some(space.hashes.as_slice());
+    let keys = TagKeys::new(name, Some(matcher), hashes);
+    space.left.clear();
+    add_left(
+        rows,
+        instructions,
+        ranges,
+        &keys,
+        &mut space.found,
+        &mut space.left,
+    )
 }
 
 /// Whether one of the ranges has an instruction that the name, which has these hashes, leaves and that is known to need attributes.
@@ -167,74 +223,24 @@ fn has_open(
     false
 }
 
-/// Adds the addresses of what the name, which has these hashes, leaves.
+/// Adds the addresses of what a tag leaves.
 #[inline(never)]
-fn add_left_by_name(
+fn add_left(
     rows: &Rows,
     instructions: &[Instruction],
     ranges: AllRanges<'_>,
-    name: &LocalName<'_>,
-    hashes: &[u32; 4],
-    space: &mut RowSpace,
+    keys: &TagKeys<'_, '_>,
+    found: &mut Vec<u32>,
+    left: &mut Vec<u32>,
 ) -> Result<(), AllocError>
-    ensures left { OnOk result (AreRowsOf instructions.now rows.now → hashes.now ≡ hashes_of name.now.lowercased
-        → space.new.left.items ≡ space.old.left.items
-        ++ all_passing (is_left_by_name name.now.lowercased) instructions.now (all_ranges ranges.entry)) }
-    ensures free { AreRowsOf instructions.now rows.now → hashes.now ≡ hashes_of name.now.lowercased
-        → HasRoomFor space.old (length space.old.left.items + length (all_places (all_ranges ranges.entry)))
-        → IsOk result }
-    ensures room { vec_capacity space.old.left ≤ vec_capacity space.new.left }
+    ensures left { OnOk result (AreRowsOf instructions.now rows.now → AreItsHashes keys.now → left.new.items
+        ≡ left.old.items ++ all_passing (leaves keys.now) instructions.now (all_ranges ranges.entry)) }
+    ensures free { AreRowsOf instructions.now rows.now → AreItsHashes keys.now
+        → length left.old.items + length (all_places (all_ranges ranges.entry)) ≤ vec_capacity left.old → IsOk result }
+    ensures room { vec_capacity left.old ≤ vec_capacity left.new }
 {
     for index in 0..ranges.len() {
-        let range = ranges.range(index);
-        let candidates = rows.candidates_by_name(&range, hashes, &mut space.found);
-        candidates.add_left(instructions, name, None, &mut space.left)?;
+        rows.add_left(instructions, &ranges.range(index), keys, found, left)?;
     }
     Ok(())
-}
-
-/// Adds the addresses of what the name and the attributes leave.
-#[inline(never)]
-fn add_left_by_keys(
-    rows: &Rows,
-    instructions: &[Instruction],
-    ranges: AllRanges<'_>,
-    name: &LocalName<'_>,
-    matcher: &AttributeMatcher<'_>,
-    space: &mut RowSpace,
-) -> Result<(), AllocError>
-    ensures left { OnOk result (AreRowsOf instructions.now rows.now → space.new.left.items ≡ space.old.left.items
-        ++ all_passing (is_left_by_keys name.now.lowercased matcher.now) instructions.now (all_ranges ranges.entry)) }
-    ensures free { AreRowsOf instructions.now rows.now
-        → HasRoomFor space.old (length space.old.left.items + length (all_places (all_ranges ranges.entry)))
-        → IsOk result }
-    ensures room { vec_capacity space.old.left ≤ vec_capacity space.new.left }
-{
-    space.hashes.clear();
-    let are_hashed = add_pair_hashes(name, matcher, &mut space.hashes).is_ok();
-    for index in 0..ranges.len() {
-        let range = ranges.range(index);
-        let hashes = &space.hashes;
-        let candidates = candidates_by_keys(rows, &range, hashes, are_hashed, &mut space.found);
-        candidates.add_left(instructions, name, Some(matcher), &mut space.left)?;
-    }
-    Ok(())
-}
-
-/// The candidates of a range by the hashes of a tag's keys; each of the range where memory for these was refused.
-fn candidates_by_keys<'f>(
-    rows: &Rows,
-    range: &AddressRange,
-    hashes: &[u32],
-    are_hashed: bool,
-    found: &'f mut Vec<usize>,
-) -> Candidates<'f>
-    ensures { (instructions : List Instruction) (name : List ℕ) (seen : TagAttributes) → AreRowsOf instructions rows.now
-        → (are_hashed ≡ true → hashes.now ≡ pair_hashes name seen)
-        → AreCandidates (is_left_by_keys name seen) instructions range.now result }
-{
-    if !are_hashed {
-        return Candidates::Each(range.start..range.end);
-    }
-    rows.candidates_by_keys(range, hashes, found)
 }

@@ -100,7 +100,7 @@ impl TagRanges for AllRanges<'_> {
 /// Of these, the instructions at some addresses, each as a range.
 #[derive(Clone, Copy)]
 pub(crate) struct LeftRanges<'p> {
-    addresses: &'p [usize],
+    addresses: &'p [u32],
 }
 
 impl TagRanges for LeftRanges<'_> {
@@ -115,7 +115,7 @@ impl TagRanges for LeftRanges<'_> {
 
     #[inline(always)]
     fn range(&self, index: usize) -> AddressRange {
-        let address = self.addresses[index];
+        let address = self.addresses[index] as usize;
         address..address.saturating_add(1)
     }
 }

@@ -31,13 +31,36 @@ const ROWS: [Row; 11] = [
     (&[], &[5], (0, 8), &[]),
 ];
 
+fn table_of(alloc: Global, hashes: &[u32]) -> Result<KeyTable, AllocError> {
+    let mut list = Vec::new(alloc);
+    list.extend_from_slice(hashes)?;
+    KeyTable::of(alloc, list)
+}
+
+/// The addresses in a range that have one of some hashes, ascending and each once.
+fn find(
+    table: &KeyTable,
+    hashes: &[u32],
+    (start, end): (usize, usize),
+    found: &mut Vec<usize>,
+) -> Result<(), AllocError> {
+    found.clear();
+    for hash in hashes {
+        for entry in table.entries_within(*hash, start, end) {
+            found.push(entry.address as usize)?;
+        }
+    }
+    found.sort()?;
+    found.dedup();
+    Ok(())
+}
+
 #[test]
 fn find_the_addresses_of_hashes(rt: HostRuntime) -> Result<(), Fail> {
-    // What was found before is thrown away.
     let mut found = Vec::new(rt.alloc());
     for (hashes, wanted, (start, end), addresses) in ROWS {
-        let table = KeyTable::of(rt.alloc(), hashes)?;
-        table.find(wanted, start..end, &mut found)?;
+        let table = table_of(rt.alloc(), hashes)?;
+        find(&table, wanted, (start, end), &mut found)?;
         assert!(rt; found.as_slice() == addresses);
     }
     Ok(())
@@ -73,12 +96,12 @@ fn some_hashes(alloc: Global) -> Result<Vec<u32>, AllocError> {
 fn find_what_a_look_at_each_finds(rt: HostRuntime) -> Result<(), Fail> {
     let alloc = rt.alloc();
     let hashes = some_hashes(alloc)?;
-    let table = KeyTable::of(alloc, &hashes)?;
+    let table = table_of(alloc, &hashes)?;
     let mut found = Vec::new(alloc);
     for start in 0..=62 {
         for end in 0..=62 {
             let wanted = [start as u32 % 11, end as u32 % 11, 4];
-            table.find(&wanted, start..end, &mut found)?;
+            find(&table, &wanted, (start, end), &mut found)?;
             assert!(rt; found == addresses(alloc, &hashes, &wanted, start, end)?);
         }
     }

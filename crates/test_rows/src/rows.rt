@@ -3,7 +3,7 @@
 use lol_base::{Attributes, LocalName, Namespace};
 use lol_css::Selector;
 use lol_program::{Ast, AttributeMatcher, Compiler, Instruction, Program};
-use lol_rows::{Candidates, Rows, add_pair_hashes, is_left, name_hashes};
+use lol_rows::{Rows, TagKeys, add_pair_hashes, is_left, name_hashes};
 use std::alloc::{AllocError, Global};
 use std::process::Abort;
 use std::test::Fail;
@@ -145,85 +145,44 @@ fn matcher(attributes: &Attributes) -> AttributeMatcher<'_> {
     AttributeMatcher::new(tag.input, tag.attr_buffer, Namespace::Html)
 }
 
-/// Those of some addresses whose instructions a tag leaves.
-fn left_of(
+/// The hashes of the keys of a tag, whose attributes may be given.
+fn hashes(
     alloc: Global,
-    instructions: &[Instruction],
-    candidates: &Candidates<'_>,
     name: &LocalName<'_>,
     matcher: Option<&AttributeMatcher<'_>>,
-) -> Result<Vec<usize>, AllocError> {
-    let mut left = Vec::new(alloc);
-    candidates.add_left(instructions, name, matcher, &mut left)?;
-    Ok(left)
-}
-
-/// Candidates, one by one.
-fn addresses(alloc: Global, candidates: &Candidates<'_>) -> Result<Vec<usize>, AllocError> {
-    let mut addresses = Vec::new(alloc);
-    match candidates {
-        Candidates::Each(range) => {
-            for address in range.start..range.end {
-                addresses.push(address)?;
-            }
-        }
-        Candidates::Found(found) => addresses.extend_from_slice(found)?,
+) -> Result<Vec<u32>, AllocError> {
+    let mut hashes = Vec::new(alloc);
+    match matcher {
+        None => hashes.extend_from_slice(&name_hashes(name))?,
+        Some(matcher) => add_pair_hashes(name, matcher, &mut hashes)?,
     }
-    Ok(addresses)
-}
-
-/// The same by a look at each.
-fn one_by_one(
-    alloc: Global,
-    instructions: &[Instruction],
-    candidates: &Candidates<'_>,
-    name: &LocalName<'_>,
-    matcher: Option<&AttributeMatcher<'_>>,
-) -> Result<Vec<usize>, AllocError> {
-    let mut left = Vec::new(alloc);
-    for address in &addresses(alloc, candidates)? {
-        if let Some(instruction) = instructions.get(*address) {
-            if is_left(instruction, name, matcher) {
-                left.push(*address)?;
-            }
-        }
-    }
-    Ok(left)
-}
-
-/// The addresses of a range that a name leaves, by rows.
-fn by_name(
-    alloc: Global,
-    program: &Program,
-    rows: &Rows,
-    (start, end): (usize, usize),
-    name: &LocalName<'_>,
-) -> Result<Vec<usize>, AllocError> {
-    let mut found = Vec::new(alloc);
-    let candidates = rows.candidates_by_name(&(start..end), &name_hashes(name), &mut found);
-    left_of(alloc, &program.instructions, &candidates, name, None)
+    Ok(hashes)
 }
 
 /// The addresses of a range that a tag leaves, by rows.
-fn by_keys(
+fn by_rows<'t>(
     alloc: Global,
     program: &Program,
     rows: &Rows,
     (start, end): (usize, usize),
-    name: &LocalName<'_>,
-    matcher: &AttributeMatcher<'_>,
+    name: &'t LocalName<'t>,
+    matcher: Option<&'t AttributeMatcher<'t>>,
 ) -> Result<Vec<usize>, AllocError> {
-    let mut hashes = Vec::new(alloc);
-    add_pair_hashes(name, matcher, &mut hashes)?;
-    let mut found = Vec::new(alloc);
-    let candidates = rows.candidates_by_keys(&(start..end), &hashes, &mut found);
-    left_of(
-        alloc,
+    let hashes = hashes(alloc, name, matcher)?;
+    let keys = TagKeys::new(name, matcher, Some(&hashes));
+    let (mut found, mut left) = (Vec::new(alloc), Vec::new(alloc));
+    rows.add_left(
         &program.instructions,
-        &candidates,
-        name,
-        Some(matcher),
-    )
+        &(start..end),
+        &keys,
+        &mut found,
+        &mut left,
+    )?;
+    let mut addresses = Vec::new(alloc);
+    for address in &left {
+        addresses.push(*address as usize)?;
+    }
+    Ok(addresses)
 }
 
 fn is_row(alloc: Global, program: &Program, rows: &Rows, row: &Row) -> Result<bool, Fail> {
@@ -233,14 +192,14 @@ fn is_row(alloc: Global, program: &Program, rows: &Rows, row: &Row) -> Result<bo
     let matcher = matcher(&attributes);
     let all = (0, program.instructions.len());
     Ok(
-        by_name(alloc, program, rows, all, &name)?.as_slice() == *named
+        by_rows(alloc, program, rows, all, &name, None)?.as_slice() == *named
             && rows.has_open(
                 &program.instructions,
                 &(0..program.instructions.len()),
                 &name,
                 &name_hashes(&name),
             ) == *opens
-            && by_keys(alloc, program, rows, all, &name, &matcher)?.as_slice() == *keyed,
+            && by_rows(alloc, program, rows, all, &name, Some(&matcher))?.as_slice() == *keyed,
     )
 }
 
@@ -301,27 +260,37 @@ fn are_made_where_they_are_asked_for(rt: HostRuntime) -> Result<(), Fail> {
     Ok(())
 }
 
-/// How many of a range a name may leave, and whether they were looked up.
+/// How many of a range a name leaves, and how many of these were looked up.
 fn met(
     alloc: Global,
+    program: &Program,
     rows: &Rows,
     (start, end): (usize, usize),
-    name: &LocalName<'_>,
-) -> (usize, bool) {
-    let mut found = Vec::new(alloc);
-    let candidates = rows.candidates_by_name(&(start..end), &name_hashes(name), &mut found);
-    (candidates.len(), matches!(candidates, Candidates::Found(_)))
+    name: &[u8],
+) -> Result<(usize, usize), AllocError> {
+    let name = LocalName::new(name);
+    let hashes = name_hashes(&name);
+    let keys = TagKeys::new(&name, None, Some(&hashes));
+    let (mut found, mut left) = (Vec::new(alloc), Vec::new(alloc));
+    rows.add_left(
+        &program.instructions,
+        &(start..end),
+        &keys,
+        &mut found,
+        &mut left,
+    )?;
+    Ok((left.len(), found.len()))
 }
 
 #[test]
 fn look_up_only_long_ranges(rt: HostRuntime) -> Result<(), Fail> {
     let program = program(rt.alloc(), SELECTORS, OTHERS)?;
     let rows = Rows::of(rt.alloc(), &program.instructions)?;
-    let name = LocalName::new(b"p");
-    assert!(rt; met(rt.alloc(), &rows, (0, 49), &name) == (11, true));
-    assert!(rt; met(rt.alloc(), &rows, (1, 49), &name) == (11, true));
-    assert!(rt; met(rt.alloc(), &rows, (2, 49), &name) == (47, false));
-    assert!(rt; met(rt.alloc(), &rows, (49, 2), &name) == (0, false));
+    let alloc = rt.alloc();
+    assert!(rt; met(alloc, &program, &rows, (0, 49), b"p")? == (11, 11));
+    assert!(rt; met(alloc, &program, &rows, (1, 49), b"p")? == (11, 11));
+    assert!(rt; met(alloc, &program, &rows, (2, 49), b"p")? == (10, 0));
+    assert!(rt; met(alloc, &program, &rows, (49, 2), b"p")? == (0, 0));
     Ok(())
 }
 
@@ -385,9 +354,9 @@ fn are_alike(
     let matcher = matcher(&attributes);
     let instructions = &program.instructions;
     Ok(
-        by_name(alloc, program, rows, range, &name)?
+        by_rows(alloc, program, rows, range, &name, None)?
             == each_left(alloc, instructions, range, &name, None)?
-            && by_keys(alloc, program, rows, range, &name, &matcher)?
+            && by_rows(alloc, program, rows, range, &name, Some(&matcher))?
                 == each_left(alloc, instructions, range, &name, Some(&matcher))?
             && rows.has_open(
                 instructions,
@@ -437,43 +406,58 @@ fn leave_of_long_ranges_what_a_look_at_each_leaves(rt: HostRuntime) -> Result<()
     Ok(())
 }
 
-/// Whether what is added to a list is what a look at each candidate leaves, after what the list had, and in the room that it has.
-fn adds_alike(
-    alloc: Global,
-    instructions: &[Instruction],
-    candidates: &Candidates<'_>,
-    name: &LocalName<'_>,
-    matcher: Option<&AttributeMatcher<'_>>,
-) -> Result<bool, AllocError> {
-    let mut twice = one_by_one(alloc, instructions, candidates, name, matcher)?;
-    let count = twice.len();
-    candidates.add_left(instructions, name, matcher, &mut twice)?;
-    let mut once = Vec::with_capacity(alloc, count)?;
-    let room = once.capacity();
-    candidates.add_left(instructions, name, matcher, &mut once)?;
-    Ok(twice[..count] == once[..] && twice[count..] == once[..] && once.capacity() == room)
-}
-
-/// The same of the candidates of a range, by name and by keys.
-fn add_alike(
+/// Whether what is added to a list is what a look at each leaves, after what the list had, and in the room that it has, with the hashes of
+/// the tag's keys and without.
+fn adds_alike<'t>(
     alloc: Global,
     program: &Program,
     rows: &Rows,
     (start, end): (usize, usize),
+    name: &'t LocalName<'t>,
+    matcher: Option<&'t AttributeMatcher<'t>>,
+) -> Result<bool, AllocError> {
+    let each = each_left(alloc, &program.instructions, (start, end), name, matcher)?;
+    let hashes = hashes(alloc, name, matcher)?;
+    let hashed = TagKeys::new(name, matcher, Some(&hashes));
+    let unhashed = TagKeys::new(name, matcher, None);
+    let instructions = program.instructions.as_slice();
+    let (mut found, mut twice) = (Vec::new(alloc), Vec::with_capacity(alloc, 2 * each.len())?);
+    let room = twice.capacity();
+    rows.add_left(instructions, &(start..end), &hashed, &mut found, &mut twice)?;
+    rows.add_left(
+        instructions,
+        &(start..end),
+        &unhashed,
+        &mut found,
+        &mut twice,
+    )?;
+    Ok(are_twice(&twice, &each) && twice.capacity() == room)
+}
+
+/// Whether a list is another one twice.
+fn are_twice(twice: &[u32], once: &[usize]) -> bool {
+    let both = once.iter().chain(once);
+    twice.len() == 2 * once.len()
+        && twice
+            .iter()
+            .zip(both)
+            .all(|(one, other)| *one as usize == *other)
+}
+
+/// The same by name, and by name and attributes.
+fn add_alike(
+    alloc: Global,
+    program: &Program,
+    rows: &Rows,
+    range: (usize, usize),
     (name, pairs): &Tag,
 ) -> Result<bool, Fail> {
     let name = LocalName::new(name.as_bytes());
     let attributes = attributes(alloc, pairs)?;
     let matcher = matcher(&attributes);
-    let mut hashes = Vec::new(alloc);
-    add_pair_hashes(&name, &matcher, &mut hashes)?;
-    let (mut of_name, mut of_keys) = (Vec::new(alloc), Vec::new(alloc));
-    let named = rows.candidates_by_name(&(start..end), &name_hashes(&name), &mut of_name);
-    let keyed = rows.candidates_by_keys(&(start..end), &hashes, &mut of_keys);
-    let instructions = &program.instructions;
     Ok(
-        adds_alike(alloc, instructions, &named, &name, None)?
-            && adds_alike(alloc, instructions, &keyed, &name, Some(&matcher))?,
+        adds_alike(alloc, program, rows, range, &name, None)?
+            && adds_alike(alloc, program, rows, range, &name, Some(&matcher))?,
     )
 }
 
@@ -491,7 +475,7 @@ const RANGES: &[(usize, usize)] = &[
 ];
 
 #[test]
-fn add_what_a_look_at_each_candidate_leaves(rt: HostRuntime) -> Result<(), Fail> {
+fn add_what_a_look_at_each_leaves(rt: HostRuntime) -> Result<(), Fail> {
     let alloc = rt.alloc();
     let program = program(alloc, SELECTORS, OTHERS)?;
     let rows = Rows::of(alloc, &program.instructions)?;
@@ -586,5 +570,46 @@ fn know_what_needs_attributes_in_a_long_range(rt: HostRuntime) -> Result<(), Fai
     assert!(rt; !opens(&program, &rows, (0, 52), "p"));
     assert!(rt; opens(&program, &rows, (0, 52), "DIV"));
     assert!(rt; !opens(&program, &rows, (3, 52), "div"));
+    Ok(())
+}
+
+/// Selectors of two classes of one hash, among others.
+fn shared_hash(alloc: Global) -> Result<Program, Fail> {
+    let mut ast = Ast::new(alloc);
+    ast.add_selector(&Selector::from_str(alloc, ".c27820")?, 0)?;
+    for text in PLAIN {
+        ast.add_selector(&Selector::from_str(alloc, text)?, 0)?;
+    }
+    for text in ["x.c154553", "x.c27820", ".c154553", "p.c27820"] {
+        ast.add_selector(&Selector::from_str(alloc, text)?, 0)?;
+    }
+    Ok(Compiler::new(alloc).compile(ast)?)
+}
+
+/// What a tag `x` with a class leaves of these, and the hash of the class.
+fn left_of_shared(
+    alloc: Global,
+    program: &Program,
+    class: &str,
+) -> Result<(Vec<usize>, u32), Fail> {
+    let rows = Rows::of(alloc, &program.instructions)?;
+    let name = LocalName::new(b"x");
+    let attributes = attributes(alloc, &[("class", class)])?;
+    let matcher = matcher(&attributes);
+    let all = (0, program.instructions.len());
+    let left = by_rows(alloc, program, &rows, all, &name, Some(&matcher))?;
+    let hashes = hashes(alloc, &name, Some(&matcher))?;
+    Ok((left, hashes[2]))
+}
+
+/// Keys that share a hash are looked at one by one.
+#[test]
+fn tell_keys_of_one_hash_apart(rt: HostRuntime) -> Result<(), Fail> {
+    let program = shared_hash(rt.alloc())?;
+    let (one, hash) = left_of_shared(rt.alloc(), &program, "c27820")?;
+    let (other, same) = left_of_shared(rt.alloc(), &program, "c154553")?;
+    assert!(rt; hash == same);
+    assert!(rt; one[..] == [0, 50]);
+    assert!(rt; other[..] == [49, 51]);
     Ok(())
 }
