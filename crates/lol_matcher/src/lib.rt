@@ -18,7 +18,7 @@ pub use lol_base::{
 };
 pub use lol_css::{ErrorLocation, SelectorError};
 pub use lol_memory::{MatchId, MatchInfo};
-pub use lol_program::Tries;
+pub use lol_program::{ROWS_PAY_FROM, Tries};
 pub use lol_stack::ElementValue;
 pub use matcher::{Matcher, Started};
 pub use reading::read_selector;

@@ -164,7 +164,7 @@ module _ (q : ℕ → Bool) (range : Range ℕ) where
       let place = among_range range.start (range.end - range.start) there.0 there.1 in
       true≢false (sym there.2 ∙ before there.0 place.0 (omega (arith, place.0, place.1, most)))))
 
--- 6. Candidates by their places
+-- 6. Addresses of a range by their places
 
 pub range_at : (start n index : ℕ) → index < n → slice_get (range_with_len start n) index ≡ Some (start + index)
 range_at start zero index within = absurd (omega (arith, within))

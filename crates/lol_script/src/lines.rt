@@ -9,6 +9,7 @@ ghost use Rattle.lol_base.specs.declared.start_tag.AttributeOutline.{AttributeOu
 ghost use Rattle.lol_script.specs.Lines.{HasOutlines, fields_of, said_by};
 
 use crate::tags::cut_attributes;
+use lol_program::ROWS_PAY_FROM;
 use lol_vm::{AttributeBuffer, Namespace};
 use memchr::memchr;
 use std::alloc::AllocError;
@@ -61,9 +62,6 @@ pub struct StartLine<'s> {
     /// Whether the attributes are handed over where they are asked for.
     pub finish: bool,
 }
-
-/// From so many nodes on there are rows where a line doesn't say from how many.
-const ROWS_PAY_FROM: u64 = 256;
 
 /// How many bytes are looked at one by one. Most fields are shorter, and a call of `memchr` costs more than these.
 const NEAR: usize = 8;
@@ -301,7 +299,7 @@ fn bare_line(kind: &[u8]) -> Option<Line<'static>>
         Some(Line::Setting(Setting::Explain))
     } else if kind == b"rows".as_slice() {
         Some(Line::Setting(Setting::Rows {
-            fewest: ROWS_PAY_FROM,
+            fewest: ROWS_PAY_FROM as u64,
         }))
     } else {
         None
