@@ -1,12 +1,13 @@
 -- The entries of a list of hashes, before and after they are sorted.
-use Rattle.std.proofs.Common.{◌≡◌, ℕ, zero, suc, ◌+◌, ◌-◌, ◌<◌, ◌≤◌, List, [], ◌∷◌, ◌++◌, length, get_or, slice_get, Some, Contains, ◌↔◌, ◌⊎◌, inl, inr, IsPermutation, refl, sym, ap, ◌∙◌, subst, arith, length-append, Bool, true, false, cond, ltb, le-ltb}
+use Rattle.std.proofs.Common.{◌≡◌, ℕ, zero, suc, ◌+◌, ◌-◌, ◌<◌, ◌≤◌, List, [], ◌∷◌, ◌++◌, length, get_or, slice_get, Some, Contains, ◌↔◌, ◌⊎◌, inl, inr, IsPermutation, refl, sym, ap, ◌∙◌, subst, arith, length-append, true, false, cond, le-ltb, lt-ltb, true≢false}
 use Rattle.std.specs.Prelude.{◌==◌}
-use Rattle.std.specs.Ordering.{is_lt, nat_cmp}
+use Rattle.std.specs.Ordering.{is_lt, nat_cmp, ordering_then}
+use Rattle.std.specs.declared.cmp.Ordering.{Ordering}
 use Rattle.std.specs.declared.cmp.Ordering.TheVariants.{Less, Equal, Greater}
-use Rattle.std.specs.List.Sorted.{IsNonDecreasingBy, IsSortedByKey}
+use Rattle.std.specs.List.Sorted.{IsNonDecreasingBy}
 use Rattle.std.proofs.lemmas.List.{get_or-append-add, get_or_append_left}
-use Rattle.std.proofs.lemmas.List.Sorted.{Contains-permutation, IsPermutation-sym}
-use Rattle.std.proofs.lemmas.Bool.{cases_lt}
+use Rattle.std.proofs.lemmas.List.Sorted.{Contains-permutation, IsNonDecreasingBy-from_sort, IsPermutation-sym}
+use Rattle.std.proofs.lemmas.Bool.{cases_lt, eq-eqb}
 use Rattle.lol_base.specs.PlaceLaws.{at_within, some_is}
 use Rattle.lol_key_table.specs.KeyTables.{RiseWhereEqual}
 use Rattle.lol_key_table.specs.declared.key_table.Entry.{Entry}
@@ -75,19 +76,37 @@ rise_where_equal entries up next i j d low high same = subst (λ k. (get_or entr
         let last : (get_or entries (i + m) d).hash ≡ (get_or entries (i + m + 1) d).hash = sym equal ∙ (same ∙ ap (λ k. (get_or entries k d).hash) (sym step)) in
         omega (arith, far m (omega (arith, within)) equal, next (i + m) d (omega (arith, within)) last, ap (λ k. (get_or entries k d).address) step)
 
--- listed entries rise by their addresses
-pub addresses_rise : (hashes : List ℕ) (entries : List Entry) → AreListed hashes (length hashes) entries → IsNonDecreasingBy (λ entry. entry.address) entries
-addresses_rise hashes entries listed i j d low high =
-    let below : j < length hashes = omega (arith, high, listed.many) in
-    omega (arith, low, ap (λ (e : Entry). e.address) (listed.each i d (omega (arith, low, below))), ap (λ (e : Entry). e.address) (listed.each j d below))
+-- What the order of entries, by hash and then by address, says of two that stand side by side.
+is_less : (x y : ℕ) → x < y → is_lt (nat_cmp x y) ≡ true
+is_less x y less = ap (λ b. is_lt (cond b Less (cond (x == y) Equal Greater))) (lt-ltb x y less)
 
-not_less : (x y : ℕ) → y ≤ x → is_lt (nat_cmp x y) ≡ false
-not_less x y most = by_tests (ltb x y) (x == y) (le-ltb x y most)
+least : (x y : ℕ) → is_lt (nat_cmp x y) ≡ false → y ≤ x
+least x y h = by_place (cases_lt x y)
   where
-    by_tests : (less same : Bool) → less ≡ false → is_lt (cond less Less (cond same Equal Greater)) ≡ false
-    by_tests true same is = cc
-    by_tests false true is = refl
-    by_tests false false is = refl
+    by_place : (x < y) ⊎ (y ≤ x) → y ≤ x
+    by_place (inl less) = absurd (true≢false (sym (is_less x y less) ∙ h))
+    by_place (inr most) = most
 
-pub sorted_by_address : (entries : List Entry) → IsNonDecreasingBy (λ entry. entry.address) entries → IsSortedByKey (λ (entry : Entry). entry.address) nat_cmp entries
-sorted_by_address entries rise k d low high = not_less (get_or entries (k + 1) d).address (get_or entries k d).address (rise k (k + 1) d (omega arith) high)
+same_number : (x y : ℕ) → x ≡ y → nat_cmp x y ≡ Equal
+same_number x y same = (λ i. cond (le-ltb x y (omega (arith, same)) i) Less (cond (eq-eqb x y same i) Equal Greater))
+
+first_decides : (o p : Ordering) → is_lt (ordering_then o p) ≡ false → is_lt o ≡ false
+first_decides Less p h = h
+first_decides Equal p h = refl
+first_decides Greater p h = refl
+
+-- by hash, and then by address
+abbrev pub AreOrdered : List Entry → Type 0
+AreOrdered entries =
+    (k : ℕ) (d : Entry) → 0 ≤ k → k + 1 < length entries
+    → is_lt (ordering_then (nat_cmp (get_or entries (k + 1) d).hash (get_or entries k d).hash) (nat_cmp (get_or entries (k + 1) d).address (get_or entries k d).address)) ≡ false
+
+pub hashes_rise : (entries : List Entry) → AreOrdered entries → IsNonDecreasingBy (λ entry. entry.hash) entries
+hashes_rise entries ordered = IsNonDecreasingBy-from_sort (λ (entry : Entry). entry.hash) entries (λ k d low high. first_decides _ _ (ordered k d low high))
+
+pub addresses_rise_in_rows : (entries : List Entry) → AreOrdered entries
+    → (k : ℕ) (d : Entry) → k + 1 < length entries → (get_or entries k d).hash ≡ (get_or entries (k + 1) d).hash → (get_or entries k d).address ≤ (get_or entries (k + 1) d).address
+addresses_rise_in_rows entries ordered k d high same =
+    least (get_or entries (k + 1) d).address (get_or entries k d).address
+    (sym (ap (λ o. is_lt (ordering_then o (nat_cmp (get_or entries (k + 1) d).address (get_or entries k d).address))) (same_number (get_or entries (k + 1) d).hash (get_or entries k d).hash (sym same)))
+    ∙ ordered k d (omega arith) high)

@@ -6,7 +6,7 @@ ghost use Rattle.lol_key_table.specs.KeyTables.{IsEntryWithin, IsTableOf};
 use std::alloc::{AllocError, Global};
 
 /// An address, and its hash.
-#[derive(Debug, Clone, Copy, PartialEq, Eq)]
+#[derive(Debug, Clone, Copy, PartialEq, Eq, PartialOrd, Ord)]
 pub struct Entry {
     /// The hash of the key at the address.
     pub hash: u32,
@@ -21,8 +21,7 @@ pub struct KeyTable {
 }
 
 impl KeyTable {
-    /// The table of a list of hashes. For `n` of them it takes `n log n` steps. The list is let go before the table is sorted, which takes
-    /// up to 8 bytes more for each of them.
+    /// The table of a list of hashes. For `n` of them it takes `n log n` steps, and no memory but the table's.
     ///
     /// # Errors
     /// Out of memory, also where there are more hashes than a `u32` can number.
@@ -40,7 +39,7 @@ impl KeyTable {
             });
         }
         drop(hashes);
-        entries.sort_by_key(|entry| entry.hash)?;
+        entries.sort_unstable();
         Ok(KeyTable { entries })
     }
 
