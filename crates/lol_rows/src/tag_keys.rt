@@ -57,8 +57,8 @@ impl<'t, 'h> TagKeys<'t, 'h> {
         ensures left { OnOk result (length instructions.now < 2 ^ 32
             → left.new.items ≡ left.old.items ++ passing (leaves self.now) instructions.now range.now) }
         ensures free { length instructions.now < 2 ^ 32
-            → length left.old.items + length (passing (leaves self.now) instructions.now range.now) ≤ vec_capacity left.old
-            → IsOk result }
+            → length left.old.items + length (passing (leaves self.now) instructions.now range.now)
+            ≤ vec_capacity left.old → IsOk result }
         ensures capacity { vec_capacity left.old ≤ vec_capacity left.new }
     {
         for address in range.start..range.end {
