@@ -42,9 +42,6 @@ module _ (kind : RowKind) (instructions : List Instruction) where
           let other : get_or entries n e ≡ get_or entries (k + 1) d = ap (λ j. get_or entries j e) at ∙ get_or-any entries (k + 1) e d inside in
           subst (BesideAlike more (get_or entries k d)) other (subst (λ x. BesideAlike more x (get_or entries n e)) one here) same
 
-  pub all_beside : (shared : List ℕ) (entries : List Entry) (n : ℕ) → length entries ≤ n → AreAlikeSoFar shared entries n → AreBesideAlike kind instructions shared entries
-  all_beside shared entries n all alike k d inside = alike k d (omega (arith, all, inside)) inside
-
   -- 2. Of one hash
 
   -- an instruction with a hash
