@@ -542,8 +542,8 @@ def all_by_names(tests: tuple, element: Element) -> Optional[bool]:
 
 
 class Keys(NamedTuple):
-    """A name in lower case; an id, else a class, else an attribute's name, each as a test; and whether the value by names is known to be
-    open at each element of the name."""
+    """A name in lower case; an id, else a class, else a part of an attribute's value, else an attribute's name, each as a test; and whether
+    the value by names is known to be open at each element of the name."""
 
     name: Optional[bytes]
     attribute: Optional[tuple]
@@ -551,12 +551,16 @@ class Keys(NamedTuple):
 
 
 def attribute_key(test: tuple) -> Optional[tuple]:
-    """The test of an id, a class or an attribute that a test of attributes asks for. A comparison that its empty operand makes false
-    asks for none."""
+    """The test of an id, a class, a part of a value or an attribute that a test of attributes asks for. A part is the last four bytes of an
+    operand that is compared with case. A comparison that its empty operand makes false asks for none."""
     if test[0] in ("id", "class", "attribute"):
         return test
-    _, name, operator, operand, _ = test
-    return None if operator not in ("=", "|=") and operand == b"" else ("attribute", name)
+    _, name, operator, operand, rule = test
+    if operator not in ("=", "|=") and operand == b"":
+        return None
+    if rule.startswith("with case") and len(operand) >= 4:
+        return ("compare", name, "*=", operand[-4:], "with case, as flagged")
+    return ("attribute", name)
 
 
 def is_of_attributes(test: tuple) -> bool:
@@ -567,7 +571,7 @@ def keys_of(tests: tuple) -> Keys:
     names = [test[1].lower() for test in tests if test[0] == "name"]
     others = [test for test in tests if test[0] not in ("name", "any name")]
     asked = [key for test in others if is_of_attributes(test) and (key := attribute_key(test))]
-    key = next((key for kind in ("id", "class", "attribute") for key in reversed(asked) if key[0] == kind), None)
+    key = next((key for kind in ("id", "class", "compare", "attribute") for key in reversed(asked) if key[0] == kind), None)
     opens = bool(others) and all(map(is_of_attributes, others)) and len(names) < 2
     return Keys(names[0] if names else None, key, opens)
 

@@ -10,6 +10,7 @@ pub mod Words
 pub mod AttributeLaws
 pub mod Compiled
 pub mod Keys
+pub mod ValueParts
 pub mod CompiledKeys
 pub mod OpenKeyLaws
 pub mod CompiledRowLaws

@@ -2,21 +2,26 @@
 
 ghost use Rattle.std.specs.Prelude.{◌≡◌, map, Option};
 ghost use Rattle.std.specs.Option.{option_copied, option_map};
-ghost use Rattle.lol_instructions.specs.CompiledKeys.{compiled_key_test, keys_in, key_shown, is_key_there, lacks_key, attribute_expr_key_test};
-ghost use Rattle.lol_instructions.specs.Keys.{ById, ByClass, ByAttribute, first_read, read_id, read_class, read_attribute, is_another_name};
+ghost use Rattle.lol_instructions.specs.CompiledKeys.{compiled_key_test, keys_in, key_shown, is_key_there, lacks_key, attribute_expr_key_test, operands_key};
+ghost use Rattle.lol_instructions.specs.Keys.{ById, ByClass, ByAttribute, first_read, part_or_name, read_id, read_class, read_part, read_attribute, is_another_name};
 
-use crate::attribute_matcher::AttributeMatcher;
+use crate::attribute_matcher::{AttrExprOperands, AttributeMatcher};
 use crate::compiled_expr::{AttributeExprTest, LocalNameExprTest};
 use crate::compiled_predicate::{CompiledPredicate, CompiledTest};
-use lol_base::LocalName;
+use lol_base::{LocalName, ParsedCaseSensitivity};
 
-/// An id, a class, or the name of an attribute, by its bytes.
+/// How many bytes of an attribute's value are a key.
+pub const PART_LENGTH: usize = 4;
+
+/// An id, a class, a part of an attribute's value, or the name of an attribute, by its bytes.
 #[derive(Clone, Copy)]
 pub enum KeyBytes<'p> {
     /// The value of `id`.
     Id(&'p [u8]),
     /// A word of `class`.
     Class(&'p [u8]),
+    /// The name of an attribute, and `PART_LENGTH` bytes of its value.
+    Part(&'p [u8], &'p [u8]),
     /// The name of an attribute.
     Attribute(&'p [u8]),
 }
@@ -29,6 +34,7 @@ impl KeyBytes<'_> {
         match self {
             KeyBytes::Id(id) => matcher.has_id(id),
             KeyBytes::Class(name) => matcher.has_class(name),
+            KeyBytes::Part(name, part) => matcher.has_attr_with_part(name, part),
             KeyBytes::Attribute(name) => matcher.has_attribute(name),
         }
     }
@@ -49,8 +55,8 @@ impl CompiledPredicate {
         None
     }
 
-    /// What each element has that passes: the first id, else the first class, else the name of the first attribute that is tested, if
-    /// there is one. Tests inside `:not`, `:is` and `:where` don't count.
+    /// What each element has that passes: the first id, else the first class, else the last part of the first operand that has one and
+    /// that is compared with case, else the name of the first attribute that is tested, if there is one. Tests inside `:not`, `:is` and `:where` don't count.
     pub fn attribute_key(&self) -> Option<KeyBytes<'_>>
         ensures { option_map key_shown result ≡ (keys_in self.now).attribute }
     {
@@ -59,6 +65,9 @@ impl CompiledPredicate {
         }
         if let Some(name) = first_class(&self.tests) {
             return Some(KeyBytes::Class(name));
+        }
+        if let Some(key) = first_part(&self.tests) {
+            return Some(key);
         }
         match first_attribute(&self.tests) {
             Some(name) => Some(KeyBytes::Attribute(name)),
@@ -134,6 +143,53 @@ fn first_class(tests: &[CompiledTest]) -> Option<&[u8]>
     None
 }
 
+fn first_part(tests: &[CompiledTest]) -> Option<KeyBytes<'_>>
+    ensures { option_map key_shown result ≡ first_read read_part (map compiled_key_test tests.now) }
+{
+    for test in tests {
+        if let CompiledTest::Attribute(expr) = test {
+            if let Some(key) = tested_part(&expr.test) {
+                return Some(key);
+            }
+        }
+    }
+    None
+}
+
+/// The attribute and the part of its value that a test looks at, if there is one.
+fn tested_part(test: &AttributeExprTest) -> Option<KeyBytes<'_>>
+    ensures { option_map key_shown result ≡ read_part (attribute_expr_key_test test.now) }
+{
+    match test {
+        AttributeExprTest::Equal(operands)
+        | AttributeExprTest::Includes(operands)
+        | AttributeExprTest::DashMatch(operands)
+        | AttributeExprTest::Prefix(operands)
+        | AttributeExprTest::Suffix(operands)
+        | AttributeExprTest::Substring(operands) => {
+            Some(KeyBytes::Part(&operands.name, last_part(operands)?))
+        }
+        AttributeExprTest::Never
+        | AttributeExprTest::Id(_)
+        | AttributeExprTest::Class(_)
+        | AttributeExprTest::Exists(_) => None,
+    }
+}
+
+/// The last bytes of an operand that is compared with case, if it has so many.
+fn last_part(operands: &AttrExprOperands) -> Option<&[u8]>
+    ensures { operands_key operands.now ≡ part_or_name operands.now.name.items (option_copied result) }
+{
+    match operands.case_sensitivity {
+        ParsedCaseSensitivity::ExplicitCaseSensitive | ParsedCaseSensitivity::CaseSensitive => {
+            let start = operands.value.len().checked_sub(PART_LENGTH)?;
+            Some(&operands.value[start..])
+        }
+        ParsedCaseSensitivity::AsciiCaseInsensitive
+        | ParsedCaseSensitivity::AsciiCaseInsensitiveIfInHtmlElementInHtmlDocument => None,
+    }
+}
+
 fn first_attribute(tests: &[CompiledTest]) -> Option<&[u8]>
     ensures { option_map ByAttribute (option_copied result)
         ≡ first_read read_attribute (map compiled_key_test tests.now) }
@@ -148,7 +204,7 @@ fn first_attribute(tests: &[CompiledTest]) -> Option<&[u8]>
     None
 }
 
-/// The name of the attribute that a test looks at, unless it looks at an id, a class or at none.
+/// The name of the attribute that a test looks at, unless it has another key or none.
 fn tested_name(test: &AttributeExprTest) -> Option<&[u8]>
     ensures { option_map ByAttribute (option_copied result) ≡ read_attribute (attribute_expr_key_test test.now) }
 {
@@ -160,6 +216,9 @@ fn tested_name(test: &AttributeExprTest) -> Option<&[u8]>
         | AttributeExprTest::DashMatch(operands)
         | AttributeExprTest::Prefix(operands)
         | AttributeExprTest::Suffix(operands)
-        | AttributeExprTest::Substring(operands) => Some(&operands.name),
+        | AttributeExprTest::Substring(operands) => match last_part(operands) {
+            Some(_) => None,
+            None => Some(&operands.name),
+        },
     }
 }

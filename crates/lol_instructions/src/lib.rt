@@ -24,7 +24,7 @@ pub use compiled_expr::{
 pub use compiled_predicate::{CompiledPredicate, CompiledTest};
 pub use execution_branch::{AddressRange, ExecutionBranch};
 pub use instruction::{Instruction, TryExecResult};
-pub use keys::KeyBytes;
+pub use keys::{KeyBytes, PART_LENGTH};
 pub use name_value::NameValue;
 pub use selector_state::SelectorState;
 pub use tries::Tries;

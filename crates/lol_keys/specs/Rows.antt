@@ -2,13 +2,13 @@
 use Rattle.std.specs.Prelude.{ℕ, ◌≡◌, Bool, true, false, not, if◌then◌else◌, List, [], ◌∷◌, map, filter, sum_by, Option, Some, None, codes, pos}
 use Rattle.lol_base.specs.StartTags.{Attribute}
 use Rattle.lol_base.specs.declared.namespace.Namespace.TheVariants.{Html}
-use Rattle.lol_base.specs.declared.attribute.AttrSelectorOperator.TheVariants.{Equal, Prefix}
-use Rattle.lol_base.specs.declared.attribute.ParsedCaseSensitivity.TheVariants.{CaseSensitive}
-use Rattle.lol_instructions.specs.Tests.{Element, AnyName, HasName, IsNthChild, HasId, HasClass, Compares}
+use Rattle.lol_base.specs.declared.attribute.AttrSelectorOperator.TheVariants.{Equal, Prefix, Substring}
+use Rattle.lol_base.specs.declared.attribute.ParsedCaseSensitivity.TheVariants.{AsciiCaseInsensitive, CaseSensitive}
+use Rattle.lol_instructions.specs.Tests.{Element, AnyName, HasName, IsNthChild, HasId, HasClass, HasAttribute, Compares}
 use Rattle.lol_instructions.specs.Compounds.{Test, OfName, OfAttributes, NoneOf, SomeOf, Compound, all_of, any_of, by_names, is_open}
 use Rattle.lol_program.specs.Paths.{Path, Selectors, First, last_compound}
 use Rattle.lol_vm.specs.Answers.{name_tries, attribute_tries, asks}
-use Rattle.lol_instructions.specs.Keys.{Keys, AttributeKey, ById, ByClass, ByAttribute, is_ruled_out_by_attributes, one_key}
+use Rattle.lol_instructions.specs.Keys.{Keys, AttributeKey, ById, ByClass, ByPart, ByAttribute, is_ruled_out_by_attributes, one_key}
 use Rattle.lol_vm.specs.KeyTries.{asks_at_once, name_tries_by_keys, attribute_tries_by_keys}
 use Rattle.lol_keys.specs.Calls.{Call, Without, Completing, With, name_counted}
 
@@ -24,7 +24,7 @@ second_child = OfName (IsNthChild (record { step = pos 0; offset = pos 2 }))
 abbrev keys_are : Compound → Option (List ℕ) → Option AttributeKey → Bool → Type 0
 keys_are c tag attribute opens = one_key c ≡ record { name = tag; attribute = attribute; opens = opens }
 
--- 1. Keys: `div.a`, `*.c#i`, `[HREF=x].c`, `[HREF=x]`, `:nth-child(2).a`, `:not(.a)`, `:is(p)`, `*`, `[href^=""]`
+-- 1. Keys: `div.a`, `*.c#i`, `[HREF=x].c`, `[HREF=x]`, `[HREF*=abcde][title]`, `[href*=abcde i]`, `:nth-child(2).a`, `:not(.a)`, `:is(p)`, `*`, `[href^=""]`
 
 pub record AreKeys : Type 0 where
   pub named : keys_are (all_of (class (codes "a") ∷ name (codes "div") ∷ [])) (Some (codes "div")) None true
@@ -33,6 +33,10 @@ pub record AreKeys : Type 0 where
   pub class_first : keys_are (all_of (OfAttributes (Compares (codes "HREF") Equal (codes "x") CaseSensitive) ∷ class (codes "c") ∷ []))
       None (Some (ByClass (codes "c"))) true
   pub attribute : keys_are (all_of (OfAttributes (Compares (codes "HREF") Equal (codes "x") CaseSensitive) ∷ []))
+      None (Some (ByAttribute (codes "href"))) true
+  pub part : keys_are (all_of (OfAttributes (HasAttribute (codes "title")) ∷ OfAttributes (Compares (codes "HREF") Substring (codes "abcde") CaseSensitive) ∷ []))
+      None (Some (ByPart (codes "href") (codes "bcde"))) true
+  pub caseless : keys_are (all_of (OfAttributes (Compares (codes "href") Substring (codes "abcde") AsciiCaseInsensitive) ∷ []))
       None (Some (ByAttribute (codes "href"))) true
   pub not_surely_open : keys_are (all_of (second_child ∷ class (codes "a") ∷ [])) None (Some (ByClass (codes "a"))) false
   pub negated : keys_are (all_of (NoneOf (any_of (all_of (class (codes "a") ∷ []) ∷ [])) ∷ [])) None None false

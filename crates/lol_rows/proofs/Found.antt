@@ -99,7 +99,7 @@ module _ (p : Instruction → Bool) (instructions : List Instruction) (hash_of :
 
   -- Where what passes has one of the hashes, they are all that pass, ascending.
   pub all_left : (hashes found kept : List ℕ) → AreLeft hashes found → IsStrictlyAscending kept → ((address : ℕ) → Contains kept address ↔ Contains found address)
-      → ((i : Instruction) → p i ≡ true → Contains hashes (hash_of i)) → kept ≡ passing p instructions range
+      → ((address : ℕ) (i : Instruction) → slice_get instructions address ≡ Some i → p i ≡ true → Contains hashes (hash_of i)) → kept ≡ passing p instructions range
   all_left hashes found kept are up same wanted =
       determined kept (filter q each) (ascends_from_pairs kept up) (ascends_filter q each (ascends_range range.start (range.end - range.start))) to from
     where
@@ -119,7 +119,7 @@ module _ (p : Instruction → Bool) (instructions : List Instruction) (hash_of :
           let parts = among_filter q each n a in
           let place = among_range range.start (range.end - range.start) n parts.0 in
           let at = instruction_at p (slice_get instructions n) parts.1 in
-          let there = (are n).1 (record { hash = hash_of at.0; wanted = wanted at.0 at.2; hashed = hashed_at hash_of instructions n at.0 at.1; low = place.0; high = omega (arith, place.0, place.1); passes = parts.1 }) in
+          let there = (are n).1 (record { hash = hash_of at.0; wanted = wanted n at.0 at.1 at.2; hashed = hashed_at hash_of instructions n at.0 at.1; low = place.0; high = omega (arith, place.0, place.1); passes = parts.1 }) in
           among_from_contains kept n ((same n).1 there)
 
 -- Sorted, and without those that stand twice, they have the same members.

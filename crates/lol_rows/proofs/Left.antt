@@ -1,23 +1,21 @@
 -- What is left of a range is found by its hashes.
 use Rattle.std.specs.Prelude.{slice_get}
-use Rattle.std.specs.Str.{bytes_eq}
 use Rattle.std.specs.Option.{option_map}
 use Rattle.std.specs.List.{range_with_len, list_any}
 use Rattle.std.specs.declared.ops.Range.{Range}
-use Rattle.std.proofs.Common.{◌≡◌, ℕ, zero, suc, ◌+◌, ◌-◌, ◌<◌, ◌≤◌, Bool, true, false, cond, not, List, [], ◌∷◌, ◌++◌, length, map, filter, take, get_or, Option, Some, None, Contains, ◌⊎◌, inl, inr, refl, sym, ap, ◌∙◌, arith, append_assoc, true≢false}
+use Rattle.std.proofs.Common.{◌≡◌, ℕ, zero, suc, ◌+◌, ◌-◌, ◌<◌, ◌≤◌, Bool, true, false, cond, List, [], ◌∷◌, ◌++◌, length, map, filter, take, get_or, Option, Some, None, Contains, ◌⊎◌, inl, inr, refl, sym, ap, ◌∙◌, arith, append_assoc, true≢false}
 use Rattle.std.proofs.lemmas.Bool.{cases_lt}
 use Rattle.std.proofs.lemmas.Option.{slice_get-map}
-use Rattle.std.proofs.lemmas.Slice.Eq.{bytes_eq-Decides}
 use Rattle.lol_base.specs.AscendingLaws.{Ascends}
-use Rattle.lol_base.specs.MemberLaws.{Among, contains_from_among, among_filter, any_among, among_any}
+use Rattle.lol_base.specs.MemberLaws.{Among, among_filter, any_among, among_any}
 use Rattle.lol_base.specs.ListLaws.{get_or-any}
 use Rattle.lol_base.specs.BoolLaws.{and_parts, not_true}
 use Rattle.lol_base.specs.PlaceLaws.{some_is}
-use Rattle.lol_instructions.specs.Keys.{is_another_name}
 use Rattle.lol_instructions.specs.declared.instruction.Instruction.{Instruction}
 use Rattle.lol_key_table.specs.KeyTables.{IsEntryWithin}
 use Rattle.lol_key_table.specs.declared.key_table.Entry.{Entry}
-use Rattle.lol_rows.specs.KeyHashes.{hash_of_name, name_hashes}
+use Rattle.lol_rows.specs.KeyHashes.{hash_of_name}
+use Rattle.lol_rows.specs.LeftLaws.{hash_is}
 use Rattle.lol_rows.specs.Rows.{keys_of, name_hash_of, is_left_by_name, is_left_open, passes, passes_at, addresses, some_pass, HasPassing, NonePasses}
 
 -- 1. Addresses of a range
@@ -55,37 +53,6 @@ instruction_at p (Some i) h = (i, refl, h)
 
 pub hashed_at : (hash : Instruction → ℕ) (instructions : List Instruction) (address : ℕ) (i : Instruction) → slice_get instructions address ≡ Some i → slice_get (map hash instructions) address ≡ Some (hash i)
 hashed_at hash instructions address i at = slice_get-map hash instructions address ∙ ap (option_map hash) at
-
--- 3. Hashes of names
-
-abbrev pub unnamed_or : Option (List ℕ) → List ℕ → Type 0
-unnamed_or key name = (key ≡ None) ⊎ (key ≡ Some name)
-
-pub key_is : (key : Option (List ℕ)) (name : List ℕ) → not (is_another_name key name) ≡ true → unnamed_or key name
-key_is None name h = inl refl
-key_is (Some own) name h = inr (ap Some (sym ((bytes_eq-Decides name own).0 (twice (bytes_eq name own) h))))
-  where
-    twice : (b : Bool) → not (not b) ≡ true → b ≡ true
-    twice true h = refl
-    twice false h = h
-
--- the hash of an instruction that tests no other name
-pub hash_is : (name : List ℕ) (i : Instruction) → is_left_by_name name i ≡ true → (name_hash_of i ≡ hash_of_name None (keys_of i).opens) ⊎ (name_hash_of i ≡ hash_of_name (Some name) (keys_of i).opens)
-hash_is name i h = by_key (key_is (keys_of i).name name h)
-  where
-    by_key : unnamed_or (keys_of i).name name → (name_hash_of i ≡ hash_of_name None (keys_of i).opens) ⊎ (name_hash_of i ≡ hash_of_name (Some name) (keys_of i).opens)
-    by_key (inl is) = inl (ap (λ o. hash_of_name o (keys_of i).opens) is)
-    by_key (inr is) = inr (ap (λ o. hash_of_name o (keys_of i).opens) is)
-
--- it is one of four
-pub hash_among : (name : List ℕ) (i : Instruction) → is_left_by_name name i ≡ true → Contains (name_hashes name) (name_hash_of i)
-hash_among name i h = contains_from_among (name_hashes name) (name_hash_of i) (by_opens (keys_of i).opens (hash_is name i h))
-  where
-    by_opens : (opens : Bool) → (name_hash_of i ≡ hash_of_name None opens) ⊎ (name_hash_of i ≡ hash_of_name (Some name) opens) → Among (name_hashes name) (name_hash_of i)
-    by_opens false (inl is) = inl (sym is)
-    by_opens true (inl is) = inr (inl (sym is))
-    by_opens false (inr is) = inr (inr (inl (sym is)))
-    by_opens true (inr is) = inr (inr (inr (inl (sym is))))
 
 -- 4. Whether one is left that is open
 

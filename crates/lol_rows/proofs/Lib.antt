@@ -3,3 +3,4 @@ mod PairLemmas
 mod Found
 mod Alike
 mod Deciding
+mod PartLemmas

@@ -1,6 +1,6 @@
 -- The hashes of a tag's keys, part by part.
-use Rattle.std.proofs.Common.{◌≡◌, ℕ, zero, suc, ◌+◌, ◌<◌, ◌≤◌, arith, Bool, true, false, not, List, [], ◌∷◌, ◌++◌, length, map, take, get_or, Option, Some, None, Contains, inl, inr, refl, sym, ap, ◌∙◌, append_assoc, append-nil}
-use Rattle.std.specs.Prelude.{flat_map, fold, codes, option_to_list, slice_get}
+use Rattle.std.proofs.Common.{◌≡◌, ℕ, zero, suc, ◌+◌, ◌<◌, ◌≤◌, arith, Bool, true, false, not, List, [], ◌∷◌, ◌++◌, length, map, take, get_or, Option, Some, None, Contains, ◌⊎◌, inl, inr, refl, sym, ap, ◌∙◌, append_assoc, append-nil}
+use Rattle.std.specs.Prelude.{⊤, flat_map, fold, codes, option_to_list, slice_get}
 use Rattle.std.specs.Option.{option_map}
 use Rattle.std.specs.declared.hash.DefaultHasher.{DefaultHasher}
 use Rattle.std.proofs.lemmas.List.{take_more, map-append}
@@ -14,11 +14,11 @@ use Rattle.lol_instructions.specs.Keys.{AttributeKey, ById, ByClass, ByAttribute
 use Rattle.lol_instructions.specs.CompiledKeys.{is_key_there, lacks_key}
 use Rattle.lol_instructions.specs.declared.instruction.Instruction.{Instruction}
 use Rattle.std.specs.Hash.DefaultHasher as sip
-use Rattle.lol_rows.specs.KeyHashes.{byte_hashed, after_name, hash_after, hash_of_pair}
+use Rattle.lol_rows.specs.KeyHashes.{byte_hashed, after_name, hash_after}
 use Rattle.lol_rows.specs.TagHashes.{both_hashes, pair_hashes}
 use Rattle.lol_rows.specs.Rows.{keys_of, pair_hash_of, is_left_by_name, is_left_by_keys}
-use Rattle.lol_rows.proofs.Left.{unnamed_or, key_is}
-use Rattle.lol_rows.specs.KeyLaws.{key_among}
+use Rattle.lol_rows.specs.LeftLaws.{unnamed_or, key_is}
+use Rattle.lol_rows.specs.KeyLaws.{key_among, IsWhole}
 
 -- 1. Lists
 
@@ -74,32 +74,43 @@ module _ (both : Option AttributeKey → List ℕ) (seen : TagAttributes) where
           joined (map ById ids) (map ByClass classes ++ map name_of seen.attributes)
           ∙ λ i. part ById ids i ++ (joined (map ByClass classes) (map name_of seen.attributes) ∙ λ j. part ByClass classes j ++ part name_of seen.attributes j) i
 
--- 3. A key that isn't lacking is among those that are seen
+-- 3. A key that isn't lacking is among those that are seen, unless it is a part
 
-optional_among : (key : Option AttributeKey) (seen : TagAttributes) → lacks_key key seen ≡ false → Among (None ∷ map Some (keys_seen seen)) key
-optional_among None seen h = inl refl
-optional_among (Some key) seen h = inr (map_among Some (keys_seen seen) key (key_among key seen (there (is_key_there key seen) h)))
-  where
-    there : (b : Bool) → not b ≡ false → b ≡ true
-    there true h = refl
-    there false h = sym h
+negated : (b : Bool) → not b ≡ true → b ≡ false
+negated true h = sym h
+negated false h = refl
+
+there : (b : Bool) → not b ≡ false → b ≡ true
+there true h = refl
+there false h = sym h
+
+abbrev pub IsWholeOrNone : Option AttributeKey → Type 0
+IsWholeOrNone None = ⊤
+IsWholeOrNone (Some key) = IsWhole key
+
+optional_among : (key : Option AttributeKey) (seen : TagAttributes) → IsWholeOrNone key → lacks_key key seen ≡ false → Among (None ∷ map Some (keys_seen seen)) key
+optional_among None seen whole h = inl refl
+optional_among (Some key) seen whole h = inr (map_among Some (keys_seen seen) key (key_among key seen whole (there (is_key_there key seen) h)))
 
 -- 4. What is left by keys has one of the hashes
 
-pub pair_among : (name : List ℕ) (seen : TagAttributes) (i : Instruction) → is_left_by_keys name seen i ≡ true → Contains (pair_hashes name seen) (pair_hash_of i)
-pair_among name seen i h =
-    let parts = and_parts (is_left_by_name name i) (not (lacks_key (keys_of i).attribute seen)) h in
-    let key = optional_among (keys_of i).attribute seen (negated (lacks_key (keys_of i).attribute seen) parts.1) in
-    contains_from_among (pair_hashes name seen) (pair_hash_of i)
-    (flat_map_among (both_hashes (after_name None) (after_name (Some name))) (None ∷ map Some (keys_seen seen)) (keys_of i).attribute (pair_hash_of i) key (by_key (key_is (keys_of i).name name parts.0)))
+pub named_hasher : (name : List ℕ) (i : Instruction) → is_left_by_name name i ≡ true → (after_name (keys_of i).name ≡ after_name None) ⊎ (after_name (keys_of i).name ≡ after_name (Some name))
+named_hasher name i h = by_key (key_is (keys_of i).name name h)
   where
-    negated : (b : Bool) → not b ≡ true → b ≡ false
-    negated true h = sym h
-    negated false h = refl
+    by_key : unnamed_or (keys_of i).name name → (after_name (keys_of i).name ≡ after_name None) ⊎ (after_name (keys_of i).name ≡ after_name (Some name))
+    by_key (inl is) = inl (ap after_name is)
+    by_key (inr is) = inr (ap after_name is)
 
-    by_key : unnamed_or (keys_of i).name name → Among (both_hashes (after_name None) (after_name (Some name)) (keys_of i).attribute) (pair_hash_of i)
-    by_key (inl is) = inl (sym (ap (λ o. hash_of_pair o (keys_of i).attribute) is))
-    by_key (inr is) = inr (inl (sym (ap (λ o. hash_of_pair o (keys_of i).attribute) is)))
+pub whole_among : (name : List ℕ) (seen : TagAttributes) (i : Instruction) → is_left_by_keys name seen i ≡ true → IsWholeOrNone (keys_of i).attribute → Contains (pair_hashes name seen) (pair_hash_of i)
+whole_among name seen i h whole =
+    let parts = and_parts (is_left_by_name name i) (not (lacks_key (keys_of i).attribute seen)) h in
+    let key = optional_among (keys_of i).attribute seen whole (negated (lacks_key (keys_of i).attribute seen) parts.1) in
+    contains_from_among (pair_hashes name seen) (pair_hash_of i)
+    (flat_map_among (both_hashes (after_name None) (after_name (Some name))) (None ∷ map Some (keys_seen seen)) (keys_of i).attribute (pair_hash_of i) key (by_hasher (named_hasher name i parts.0)))
+  where
+    by_hasher : (after_name (keys_of i).name ≡ after_name None) ⊎ (after_name (keys_of i).name ≡ after_name (Some name)) → Among (both_hashes (after_name None) (after_name (Some name)) (keys_of i).attribute) (pair_hash_of i)
+    by_hasher (inl is) = inl (sym (ap (λ h. hash_after h (keys_of i).attribute) is))
+    by_hasher (inr is) = inr (inl (sym (ap (λ h. hash_after h (keys_of i).attribute) is)))
 
 -- 5. Bytes that are given one by one
 

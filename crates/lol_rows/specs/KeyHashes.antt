@@ -4,7 +4,7 @@ use Rattle.std.specs.Hash.DefaultHasher as sip
 use Rattle.std.specs.declared.hash.DefaultHasher.{DefaultHasher}
 use Rattle.std.specs.Option.{option_map}
 use Rattle.lol_base.specs.LocalNames.{Name, name_code, writes_of}
-use Rattle.lol_instructions.specs.Keys.{AttributeKey, ById, ByClass, ByAttribute}
+use Rattle.lol_instructions.specs.Keys.{AttributeKey, ById, ByClass, ByPart, ByAttribute}
 
 -- a name of the code in lower case, if there is one
 abbrev pub name_shown : Option Name → Option (List ℕ)
@@ -22,10 +22,18 @@ abbrev pub byte_of_bool : Bool → ℕ
 byte_of_bool true = 1
 byte_of_bool false = 0
 
+-- after the name of an attribute in lower case, before a part of its value
+abbrev pub after_attribute : DefaultHasher → List ℕ → DefaultHasher
+after_attribute hasher name = sip.write (byte_hashed hasher 4) name
+
+abbrev pub hash_of_part : DefaultHasher → List ℕ → ℕ
+hash_of_part hasher part = sip.finish (sip.write hasher part) % 2 ^ 32
+
 abbrev pub after_key : DefaultHasher → Option AttributeKey → DefaultHasher
 after_key hasher None = byte_hashed hasher 0
 after_key hasher (Some (ById id)) = sip.write (byte_hashed hasher 1) id
 after_key hasher (Some (ByClass name)) = sip.write (byte_hashed hasher 2) name
+after_key hasher (Some (ByPart name part)) = sip.write (after_attribute hasher name) part
 after_key hasher (Some (ByAttribute name)) = sip.write (byte_hashed hasher 3) name
 
 abbrev pub hash_of_name : Option (List ℕ) → Bool → ℕ

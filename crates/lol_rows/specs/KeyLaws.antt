@@ -1,6 +1,6 @@
 -- Laws of keys: they are right, and a tag's attributes have a key exactly if it is among theirs.
-use Rattle.std.proofs.Common.{◌≡◌, ℕ, Bool, true, false, cond, not, ◌||◌, ◌&&◌, filter, List, [], ◌∷◌, ◌++◌, map, Option, Some, None, ◌⊎◌, inl, inr, refl, sym, ap, ◌∙◌, subst}
-use Rattle.std.specs.Prelude.{codes, option_to_list, unwrap_or}
+use Rattle.std.proofs.Common.{◌≡◌, ℕ, length, arith, Bool, true, false, cond, not, ◌||◌, ◌&&◌, filter, List, [], ◌∷◌, ◌++◌, map, Option, Some, None, ◌⊎◌, inl, inr, refl, sym, ap, ◌∙◌, subst}
+use Rattle.std.specs.Prelude.{⊤, codes, option_to_list, unwrap_or}
 use Rattle.std.specs.Option.{option_map}
 use Rattle.std.specs.Str.{bytes_eq}
 use Rattle.std.specs.List.{list_any, list_all}
@@ -10,21 +10,27 @@ use Rattle.lol_base.specs.BoolLaws.{and_parts, not_true, or-false}
 use Rattle.lol_base.specs.MemberLaws.{Among, among_any}
 use Rattle.lol_base.specs.PlaceLaws.{some_is}
 use Rattle.lol_base.specs.StartTags.{Attribute}
-use Rattle.lol_instructions.specs.Tests.{Element, AnyName, NoName, HasName, IsNthChild, IsNthOfType, AttributeTest, HasId, HasClass, HasAttribute, Compares, attribute_holds, attribute_value, find_attribute, words, has_value, needs_operand, is_empty_text, compares, compared, ignores_case}
+use Rattle.lol_base.specs.declared.namespace.Namespace.{Namespace}
+use Rattle.lol_base.specs.declared.attribute.AttrSelectorOperator.{AttrSelectorOperator}
+use Rattle.lol_base.specs.declared.attribute.AttrSelectorOperator.TheVariants.{Substring}
+use Rattle.lol_base.specs.declared.attribute.ParsedCaseSensitivity.{ParsedCaseSensitivity}
+use Rattle.lol_base.specs.declared.attribute.ParsedCaseSensitivity.TheVariants.{ExplicitCaseSensitive, AsciiCaseInsensitive, CaseSensitive, AsciiCaseInsensitiveIfInHtmlElementInHtmlDocument}
+use Rattle.lol_instructions.specs.Tests.{Element, AnyName, NoName, HasName, IsNthChild, IsNthOfType, AttributeTest, HasId, HasClass, HasAttribute, Compares, attribute_value, find_attribute, words, has_value, needs_operand, is_empty_text, operator_holds, stands_in, compares, compared, ignores_case}
 use Rattle.lol_instructions.specs.Compounds.{Test, OfName, OfAttributes, NoneOf, SomeOf, Compound, NoTests, AndTest, holds, all_hold, value_of_bool, both, test_by_names, by_names}
 use Rattle.lol_instructions.specs.Attributes.{TagAttributes, tag_attributes, value_in}
 use Rattle.lol_instructions.specs.declared.name_value.NameValue.{NameValue}
 use Rattle.lol_instructions.specs.declared.name_value.NameValue.TheVariants.{True, False, Open}
-use Rattle.lol_instructions.specs.Keys.{AttributeKey, ById, ByClass, ByAttribute, KeyTest, HasKey, IsOfAttributes, attribute_key_test, key_test, key_tests, first_of, first_read, read_name, read_id, read_class, read_attribute, name_key, attribute_key, is_of_attributes, is_of_any, are_of_attributes, without_name, opens_where_named, unless_named, one_key, both_keys, is_another_name, test_of_key, lacks, AreKeysOf, no_keys, same_key, words_of, keys_seen, keys_of_tag}
+use Rattle.lol_instructions.specs.Keys.{AttributeKey, ById, ByClass, ByPart, ByAttribute, part_length, last_part, counts_case, part_or_name, parts_of, KeyTest, HasKey, IsOfAttributes, attribute_key_test, key_test, key_tests, first_of, first_read, read_name, read_id, read_class, read_part, read_attribute, name_key, attribute_key, is_of_attributes, is_of_any, are_of_attributes, without_name, opens_where_named, unless_named, one_key, both_keys, is_another_name, has_key, lacks, AreKeysOf, no_keys, same_key, words_of, keys_seen, is_key_of, HasItsLength}
+use Rattle.lol_instructions.specs.ValueParts.{last_stands, part_is_one, parts_stand}
 use Rattle.lol_instructions.specs.CompiledKeys.{is_key_there}
 
 -- The keys of a compound are right: one, both, and none.
 abbrev pub KeysAreRight : Type 0
 KeysAreRight = (c : Compound) → AreKeysOf (one_key c) c × AreKeysOf (both_keys c) c × AreKeysOf no_keys c
 
--- An element passes a key's test exactly if its tag has the key: by its id, its classes and its attributes' names.
+-- An element has a key exactly if its tag has it: by its id, its classes, its attributes' names and the parts of their values.
 abbrev pub KeysAreOfTags : Type 0
-KeysAreOfTags = (key : AttributeKey) (e : Element) → attribute_holds (test_of_key key) e ≡ list_any (same_key key) (keys_of_tag e.tag)
+KeysAreOfTags = (key : AttributeKey) (e : Element) → HasItsLength key → has_key key e ≡ is_key_of key e.tag
 
 -- 1. A key that was read comes from a test that must hold
 
@@ -42,41 +48,94 @@ there_if_compared : (o : Option (List ℕ)) (test : List ℕ → Bool) → has_v
 there_if_compared None test h = h
 there_if_compared (Some value) test h = refl
 
-id_right : (e : Element) (test : Test) (key : AttributeKey) → read_id (key_test test) ≡ Some key → holds test e ≡ true → attribute_holds (test_of_key key) e ≡ true
+-- the key of a comparison: none, a name, or a part of the operand
+by_comparison : (name : List ℕ) (operator : AttrSelectorOperator) (operand : List ℕ) (case : ParsedCaseSensitivity) (P : KeyTest → Type 0) → P IsOfAttributes → P (HasKey (ByAttribute (lowercased name)))
+    → ((part : List ℕ) → counts_case case ≡ true → last_part operand ≡ Some part → P (HasKey (ByPart (lowercased name) part))) → P (attribute_key_test (Compares name operator operand case))
+by_comparison name operator operand case P none named parted = by_operand (needs_operand operator && is_empty_text operand)
+  where
+    by_part : (o : Option (List ℕ)) → last_part operand ≡ o → counts_case case ≡ true → P (HasKey (part_or_name (lowercased name) o))
+    by_part None is counts = named
+    by_part (Some part) is counts = parted part counts is
+
+    by_case : (b : Bool) → counts_case case ≡ b → P (HasKey (part_or_name (lowercased name) (cond b (last_part operand) None)))
+    by_case true counts = by_part (last_part operand) refl counts
+    by_case false counts = named
+
+    by_operand : (b : Bool) → P (cond b IsOfAttributes (HasKey (part_or_name (lowercased name) (cond (counts_case case) (last_part operand) None))))
+    by_operand true = none
+    by_operand false = by_case (counts_case case) refl
+
+has_too : (o : Option (List ℕ)) (f g : List ℕ → Bool) → ((value : List ℕ) → f value ≡ true → g value ≡ true) → has_value o f ≡ true → has_value o g ≡ true
+has_too None f g each h = h
+has_too (Some value) f g each h = each value h
+
+-- where case counts, what is compared are the bytes
+with_case : (case : ParsedCaseSensitivity) (namespace : Namespace) (operator : AttrSelectorOperator) (o : Option (List ℕ)) (operand : List ℕ) → counts_case case ≡ true
+    → has_value o (λ value. compares operator (compared (ignores_case case namespace) value) (compared (ignores_case case namespace) operand)) ≡ true
+    → has_value o (λ value. compares operator value operand) ≡ true
+with_case ExplicitCaseSensitive namespace operator o operand counts h = h
+with_case CaseSensitive namespace operator o operand counts h = h
+with_case AsciiCaseInsensitive namespace operator o operand counts h = cc
+with_case AsciiCaseInsensitiveIfInHtmlElementInHtmlDocument namespace operator o operand counts h = cc
+
+-- a part isn't empty
+by_bytes : (value part : List ℕ) → length part ≡ part_length → stands_in value part ≡ true → operator_holds Substring value part ≡ true
+by_bytes value [] long stands = absurd (omega (arith, long))
+by_bytes value (b ∷ part) long stands = stands
+
+-- the last part of an operand stands in each value that passes the comparison
+part_passes : (operator : AttrSelectorOperator) (value operand part : List ℕ) → last_part operand ≡ Some part → compares operator value operand ≡ true → operator_holds Substring value part ≡ true
+part_passes operator value operand part last passes = by_bytes value part (last_stands operand part last).1 (parts_stand operator value operand part passes (last_stands operand part last).0)
+
+id_right : (e : Element) (test : Test) (key : AttributeKey) → read_id (key_test test) ≡ Some key → holds test e ≡ true → has_key key e ≡ true
 id_right e (OfName AnyName) key h = cc
 id_right e (OfName NoName) key h = cc
 id_right e (OfName (HasName name)) key h = cc
 id_right e (OfName (IsNthChild nth)) key h = cc
 id_right e (OfName (IsNthOfType nth)) key h = cc
-id_right e (OfAttributes (HasId id)) key h = λ all. subst (λ k. attribute_holds (test_of_key k) e ≡ true) (some_is h) all
+id_right e (OfAttributes (HasId id)) key h = λ all. subst (λ k. has_key k e ≡ true) (some_is h) all
 id_right e (OfAttributes (HasClass name)) key h = cc
 id_right e (OfAttributes (HasAttribute name)) key h = cc
-id_right e (OfAttributes (Compares name operator operand case)) key h = by_operand (needs_operand operator && is_empty_text operand) h
-  where
-    by_operand : (b : Bool) → read_id (cond b IsOfAttributes (HasKey (ByAttribute (lowercased name)))) ≡ Some key → holds (OfAttributes (Compares name operator operand case)) e ≡ true → attribute_holds (test_of_key key) e ≡ true
-    by_operand true found all = cc
-    by_operand false found all = cc
+id_right e (OfAttributes (Compares name operator operand case)) key h =
+    by_comparison name operator operand case (λ k. read_id k ≡ Some key → holds (OfAttributes (Compares name operator operand case)) e ≡ true → has_key key e ≡ true)
+    (λ found all. cc) (λ found all. cc) (λ part counts last found all. cc) h
 id_right e (NoneOf _) key h = cc
 id_right e (SomeOf _) key h = cc
 
-class_right : (e : Element) (test : Test) (key : AttributeKey) → read_class (key_test test) ≡ Some key → holds test e ≡ true → attribute_holds (test_of_key key) e ≡ true
+class_right : (e : Element) (test : Test) (key : AttributeKey) → read_class (key_test test) ≡ Some key → holds test e ≡ true → has_key key e ≡ true
 class_right e (OfName AnyName) key h = cc
 class_right e (OfName NoName) key h = cc
 class_right e (OfName (HasName name)) key h = cc
 class_right e (OfName (IsNthChild nth)) key h = cc
 class_right e (OfName (IsNthOfType nth)) key h = cc
 class_right e (OfAttributes (HasId id)) key h = cc
-class_right e (OfAttributes (HasClass name)) key h = λ all. subst (λ k. attribute_holds (test_of_key k) e ≡ true) (some_is h) all
+class_right e (OfAttributes (HasClass name)) key h = λ all. subst (λ k. has_key k e ≡ true) (some_is h) all
 class_right e (OfAttributes (HasAttribute name)) key h = cc
-class_right e (OfAttributes (Compares name operator operand case)) key h = by_operand (needs_operand operator && is_empty_text operand) h
-  where
-    by_operand : (b : Bool) → read_class (cond b IsOfAttributes (HasKey (ByAttribute (lowercased name)))) ≡ Some key → holds (OfAttributes (Compares name operator operand case)) e ≡ true → attribute_holds (test_of_key key) e ≡ true
-    by_operand true found all = cc
-    by_operand false found all = cc
+class_right e (OfAttributes (Compares name operator operand case)) key h =
+    by_comparison name operator operand case (λ k. read_class k ≡ Some key → holds (OfAttributes (Compares name operator operand case)) e ≡ true → has_key key e ≡ true)
+    (λ found all. cc) (λ found all. cc) (λ part counts last found all. cc) h
 class_right e (NoneOf _) key h = cc
 class_right e (SomeOf _) key h = cc
 
-attribute_right : (e : Element) (test : Test) (key : AttributeKey) → read_attribute (key_test test) ≡ Some key → holds test e ≡ true → attribute_holds (test_of_key key) e ≡ true
+part_right : (e : Element) (test : Test) (key : AttributeKey) → read_part (key_test test) ≡ Some key → holds test e ≡ true → has_key key e ≡ true
+part_right e (OfName AnyName) key h = cc
+part_right e (OfName NoName) key h = cc
+part_right e (OfName (HasName name)) key h = cc
+part_right e (OfName (IsNthChild nth)) key h = cc
+part_right e (OfName (IsNthOfType nth)) key h = cc
+part_right e (OfAttributes (HasId id)) key h = cc
+part_right e (OfAttributes (HasClass name)) key h = cc
+part_right e (OfAttributes (HasAttribute name)) key h = cc
+part_right e (OfAttributes (Compares name operator operand case)) key h =
+    by_comparison name operator operand case (λ k. read_part k ≡ Some key → holds (OfAttributes (Compares name operator operand case)) e ≡ true → has_key key e ≡ true)
+    (λ found all. cc) (λ found all. cc)
+    (λ part counts last found all. subst (λ k. has_key k e ≡ true) (some_is found)
+    (has_too (attribute_value (lowercased name) e.tag) _ _ (λ value passes. part_passes operator value operand part last passes)
+    (with_case case e.tag.namespace operator (attribute_value (lowercased name) e.tag) operand counts all))) h
+part_right e (NoneOf _) key h = cc
+part_right e (SomeOf _) key h = cc
+
+attribute_right : (e : Element) (test : Test) (key : AttributeKey) → read_attribute (key_test test) ≡ Some key → holds test e ≡ true → has_key key e ≡ true
 attribute_right e (OfName AnyName) key h = cc
 attribute_right e (OfName NoName) key h = cc
 attribute_right e (OfName (HasName name)) key h = cc
@@ -84,27 +143,30 @@ attribute_right e (OfName (IsNthChild nth)) key h = cc
 attribute_right e (OfName (IsNthOfType nth)) key h = cc
 attribute_right e (OfAttributes (HasId id)) key h = cc
 attribute_right e (OfAttributes (HasClass name)) key h = cc
-attribute_right e (OfAttributes (HasAttribute name)) key h = λ all. subst (λ k. attribute_holds (test_of_key k) e ≡ true) (some_is h) all
-attribute_right e (OfAttributes (Compares name operator operand case)) key h = by_operand (needs_operand operator && is_empty_text operand) h
-  where
-    by_operand : (b : Bool) → read_attribute (cond b IsOfAttributes (HasKey (ByAttribute (lowercased name)))) ≡ Some key → holds (OfAttributes (Compares name operator operand case)) e ≡ true → attribute_holds (test_of_key key) e ≡ true
-    by_operand true found all = cc
-    by_operand false found all =
-        subst (λ k. attribute_holds (test_of_key k) e ≡ true) (some_is found)
-        (there_if_compared (attribute_value (lowercased name) e.tag) (λ value. compares operator (compared (ignores_case case e.tag.namespace) value) (compared (ignores_case case e.tag.namespace) operand)) all)
+attribute_right e (OfAttributes (HasAttribute name)) key h = λ all. subst (λ k. has_key k e ≡ true) (some_is h) all
+attribute_right e (OfAttributes (Compares name operator operand case)) key h =
+    by_comparison name operator operand case (λ k. read_attribute k ≡ Some key → holds (OfAttributes (Compares name operator operand case)) e ≡ true → has_key key e ≡ true)
+    (λ found all. cc)
+    (λ found all. subst (λ k. has_key k e ≡ true) (some_is found)
+    (there_if_compared (attribute_value (lowercased name) e.tag) (λ value. compares operator (compared (ignores_case case e.tag.namespace) value) (compared (ignores_case case e.tag.namespace) operand)) all))
+    (λ part counts last found all. cc) h
 attribute_right e (NoneOf _) key h = cc
 attribute_right e (SomeOf _) key h = cc
 
-key_right : (e : Element) (c : Compound) (key : AttributeKey) → attribute_key (key_tests c) ≡ Some key → all_hold c e ≡ true → attribute_holds (test_of_key key) e ≡ true
+key_right : (e : Element) (c : Compound) (key : AttributeKey) → attribute_key (key_tests c) ≡ Some key → all_hold c e ≡ true → has_key key e ≡ true
 key_right e c key h all = by_id (first_read read_id (key_tests c)) refl h
   where
-    by_class : (o : Option AttributeKey) → first_read read_class (key_tests c) ≡ o → first_of o (first_read read_attribute (key_tests c)) ≡ Some key → attribute_holds (test_of_key key) e ≡ true
-    by_class None is found = read_right read_attribute (λ k. attribute_holds (test_of_key k) e ≡ true) e (attribute_right e) c key found all
-    by_class (Some k) is found = read_right read_class (λ k. attribute_holds (test_of_key k) e ≡ true) e (class_right e) c key (is ∙ found) all
+    by_part : (o : Option AttributeKey) → first_read read_part (key_tests c) ≡ o → first_of o (first_read read_attribute (key_tests c)) ≡ Some key → has_key key e ≡ true
+    by_part None is found = read_right read_attribute (λ k. has_key k e ≡ true) e (attribute_right e) c key found all
+    by_part (Some k) is found = read_right read_part (λ k. has_key k e ≡ true) e (part_right e) c key (is ∙ found) all
 
-    by_id : (o : Option AttributeKey) → first_read read_id (key_tests c) ≡ o → first_of o (first_of (first_read read_class (key_tests c)) (first_read read_attribute (key_tests c))) ≡ Some key → attribute_holds (test_of_key key) e ≡ true
+    by_class : (o : Option AttributeKey) → first_read read_class (key_tests c) ≡ o → first_of o (first_of (first_read read_part (key_tests c)) (first_read read_attribute (key_tests c))) ≡ Some key → has_key key e ≡ true
+    by_class None is found = by_part (first_read read_part (key_tests c)) refl found
+    by_class (Some k) is found = read_right read_class (λ k. has_key k e ≡ true) e (class_right e) c key (is ∙ found) all
+
+    by_id : (o : Option AttributeKey) → first_read read_id (key_tests c) ≡ o → first_of o (first_of (first_read read_class (key_tests c)) (first_of (first_read read_part (key_tests c)) (first_read read_attribute (key_tests c)))) ≡ Some key → has_key key e ≡ true
     by_id None is found = by_class (first_read read_class (key_tests c)) refl found
-    by_id (Some k) is found = read_right read_id (λ k. attribute_holds (test_of_key k) e ≡ true) e (id_right e) c key (is ∙ found) all
+    by_id (Some k) is found = read_right read_id (λ k. has_key k e ≡ true) e (id_right e) c key (is ∙ found) all
 
 pub lacking_fails : (e : Element) (c : Compound) → lacks (attribute_key (key_tests c)) e ≡ true → all_hold c e ≡ false
 lacking_fails e c h = by_key (attribute_key (key_tests c)) refl h
@@ -134,11 +196,9 @@ name_false e (OfName (IsNthOfType nth)) name h = cc
 name_false e (OfAttributes (HasId id)) name h = cc
 name_false e (OfAttributes (HasClass class)) name h = cc
 name_false e (OfAttributes (HasAttribute attribute)) name h = cc
-name_false e (OfAttributes (Compares attribute operator operand case)) name h = by_operand (needs_operand operator && is_empty_text operand) h
-  where
-    by_operand : (b : Bool) → read_name (cond b IsOfAttributes (HasKey (ByAttribute (lowercased attribute)))) ≡ Some name → not (bytes_eq (lowercased e.tag.name) name) ≡ true → test_by_names (OfAttributes (Compares attribute operator operand case)) e ≡ False
-    by_operand true found other = cc
-    by_operand false found other = cc
+name_false e (OfAttributes (Compares attribute operator operand case)) name h =
+    by_comparison attribute operator operand case (λ k. read_name k ≡ Some name → not (bytes_eq (lowercased e.tag.name) name) ≡ true → test_by_names (OfAttributes (Compares attribute operator operand case)) e ≡ False)
+    (λ found other. cc) (λ found other. cc) (λ part counts last found other. cc) h
 name_false e (NoneOf _) name h = cc
 name_false e (SomeOf _) name h = cc
 
@@ -178,11 +238,8 @@ module _ (e : Element) where
   split_attributes (HasId id) P keyed other = keyed (ById id)
   split_attributes (HasClass name) P keyed other = keyed (ByClass name)
   split_attributes (HasAttribute name) P keyed other = keyed (ByAttribute name)
-  split_attributes (Compares name operator operand case) P keyed other = by_operand (needs_operand operator && is_empty_text operand)
-    where
-      by_operand : (b : Bool) → P (cond b IsOfAttributes (HasKey (ByAttribute (lowercased name))))
-      by_operand true = other
-      by_operand false = keyed (ByAttribute (lowercased name))
+  split_attributes (Compares name operator operand case) P keyed other =
+      by_comparison name operator operand case P other (keyed (ByAttribute (lowercased name))) (λ part counts last. keyed (ByPart (lowercased name) part))
 
   -- all are of attributes
   rest_open : (c : Compound) → list_all is_of_attributes (but_any (key_tests c)) ≡ true → (by_names c e ≡ True) ⊎ (by_names c e ≡ Open)
@@ -318,22 +375,30 @@ module _ (ids classes : List (List ℕ)) (attributes : List Attribute) where
       ∙ (λ j. any_map (same_key key) ByClass classes j || any_map (same_key key) (λ (a : Attribute). ByAttribute (lowercased a.name)) attributes j)) i)
 
 -- The attributes of a tag have a key exactly if it is among their keys.
-pub keys_are_there : (key : AttributeKey) (seen : TagAttributes) → is_key_there key seen ≡ list_any (same_key key) (keys_seen seen)
-keys_are_there (ById id) seen =
+-- a key that isn't a part
+abbrev pub IsWhole : AttributeKey → Type 0
+IsWhole (ById id) = ⊤
+IsWhole (ByClass name) = ⊤
+IsWhole (ByPart name part) = ⊥
+IsWhole (ByAttribute name) = ⊤
+
+pub keys_are_there : (key : AttributeKey) (seen : TagAttributes) → IsWhole key → is_key_there key seen ≡ list_any (same_key key) (keys_seen seen)
+keys_are_there (ByPart name part) seen whole = absurd whole
+keys_are_there (ById id) seen whole =
     let ids = option_to_list (value_in (codes "id") seen) in
     let classes = words_of (value_in (codes "class") seen) in
     value_passes (value_in (codes "id") seen) (λ value. bytes_eq value id)
     ∙ sym (or-false (list_any (λ value. bytes_eq value id) ids))
     ∙ (λ i. list_any (λ value. bytes_eq value id) ids || (sym (any_never classes) i || sym (any_never seen.attributes) i))
     ∙ sym (in_parts ids classes seen.attributes (ById id))
-keys_are_there (ByClass name) seen =
+keys_are_there (ByClass name) seen whole =
     let ids = option_to_list (value_in (codes "id") seen) in
     let classes = words_of (value_in (codes "class") seen) in
     words_pass (value_in (codes "class") seen) (λ word. bytes_eq word name)
     ∙ sym (or-false (list_any (λ word. bytes_eq word name) classes))
     ∙ (λ i. sym (any_never ids) i || (list_any (λ word. bytes_eq word name) classes || sym (any_never seen.attributes) i))
     ∙ sym (in_parts ids classes seen.attributes (ByClass name))
-keys_are_there (ByAttribute name) seen =
+keys_are_there (ByAttribute name) seen whole =
     let ids = option_to_list (value_in (codes "id") seen) in
     let classes = words_of (value_in (codes "class") seen) in
     names_pass name seen.attributes
@@ -341,13 +406,27 @@ keys_are_there (ByAttribute name) seen =
     ∙ sym (in_parts ids classes seen.attributes (ByAttribute name))
 
 -- a key's test says of an element what its attributes have
-test_is_there : (key : AttributeKey) (e : Element) → attribute_holds (test_of_key key) e ≡ is_key_there key (tag_attributes e.tag)
+test_is_there : (key : AttributeKey) (e : Element) → has_key key e ≡ is_key_there key (tag_attributes e.tag)
 test_is_there (ById id) e = refl
 test_is_there (ByClass name) e = refl
+test_is_there (ByPart name part) e = refl
 test_is_there (ByAttribute name) e = refl
 
+-- a part stands in a value exactly if it is one of its parts
+part_there : (value part : List ℕ) → length part ≡ part_length → operator_holds Substring value part ≡ list_any (λ other. bytes_eq other part) (parts_of value)
+part_there value [] long = absurd (omega (arith, long))
+part_there value (b ∷ part) long = part_is_one value (b ∷ part) long
+
+parts_there : (o : Option (List ℕ)) (part : List ℕ) → length part ≡ part_length
+    → has_value o (λ value. operator_holds Substring value part) ≡ has_value o (λ value. list_any (λ other. bytes_eq other part) (parts_of value))
+parts_there None part long = refl
+parts_there (Some value) part long = part_there value part long
+
 pub keys_are_of_tags : KeysAreOfTags
-keys_are_of_tags key e = test_is_there key e ∙ keys_are_there key (tag_attributes e.tag)
+keys_are_of_tags (ById id) e long = test_is_there (ById id) e ∙ keys_are_there (ById id) (tag_attributes e.tag) tt
+keys_are_of_tags (ByClass name) e long = test_is_there (ByClass name) e ∙ keys_are_there (ByClass name) (tag_attributes e.tag) tt
+keys_are_of_tags (ByPart name part) e long = parts_there (attribute_value name e.tag) part long
+keys_are_of_tags (ByAttribute name) e long = test_is_there (ByAttribute name) e ∙ keys_are_there (ByAttribute name) (tag_attributes e.tag) tt
 
 same_is : (a b : AttributeKey) → same_key a b ≡ true → a ≡ b
 same_is (ById a) (ById b) h = ap ById (sym ((bytes_eq-Decides b a).0 h))
@@ -356,12 +435,21 @@ same_is (ById a) (ByAttribute b) h = cc
 same_is (ByClass a) (ById b) h = cc
 same_is (ByClass a) (ByClass b) h = ap ByClass (sym ((bytes_eq-Decides b a).0 h))
 same_is (ByClass a) (ByAttribute b) h = cc
+same_is (ById a) (ByPart b p) h = cc
+same_is (ByClass a) (ByPart b p) h = cc
+same_is (ByAttribute a) (ByPart b p) h = cc
+same_is (ByPart a p) (ById b) h = cc
+same_is (ByPart a p) (ByClass b) h = cc
+same_is (ByPart a p) (ByAttribute b) h = cc
+same_is (ByPart a p) (ByPart b q) h =
+    let both = and_parts (bytes_eq b a) (bytes_eq q p) h in
+    λ i. ByPart (sym ((bytes_eq-Decides b a).0 both.0) i) (sym ((bytes_eq-Decides q p).0 both.1) i)
 same_is (ByAttribute a) (ById b) h = cc
 same_is (ByAttribute a) (ByClass b) h = cc
 same_is (ByAttribute a) (ByAttribute b) h = ap ByAttribute (sym ((bytes_eq-Decides b a).0 h))
 
--- A key that is there is among those that are seen.
-pub key_among : (key : AttributeKey) (seen : TagAttributes) → is_key_there key seen ≡ true → Among (keys_seen seen) key
-key_among key seen h =
-    let there = among_any (same_key key) (keys_seen seen) (sym (keys_are_there key seen) ∙ h) in
+-- A key that is there, and that isn't a part, is among those that are seen.
+pub key_among : (key : AttributeKey) (seen : TagAttributes) → IsWhole key → is_key_there key seen ≡ true → Among (keys_seen seen) key
+key_among key seen whole h =
+    let there = among_any (same_key key) (keys_seen seen) (sym (keys_are_there key seen whole) ∙ h) in
     subst (Among (keys_seen seen)) (sym (same_is key there.0 there.2)) there.1

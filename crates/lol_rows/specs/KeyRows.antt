@@ -1,18 +1,18 @@
 -- How rows find what a tag leaves.
-use Rattle.std.specs.Prelude.{ℕ, ◌≡◌, ◌+◌, ◌<◌, ◌⊎◌, Bool, true, List, map, filter, length, slice_get, slice_index_or, Some, Contains}
+use Rattle.std.specs.Prelude.{ℕ, ◌≡◌, ◌+◌, ◌<◌, ◌⊎◌, Bool, List, map, filter, length, slice_get, slice_index_or, Some, Contains}
 use Rattle.std.specs.Option.{option_copied}
 use Rattle.lol_instructions.specs.declared.instruction.Instruction.{Instruction}
 use Rattle.lol_key_table.specs.declared.key_table.Entry.{Entry}
-use Rattle.lol_rows.specs.Rows.{hash_by, keys_by, leaves, passes_at, AreAlikeAt, AreRowsBy}
+use Rattle.lol_rows.specs.Rows.{hash_by, keys_by, leaves, passes_at, AreAlikeAt, AreRowsBy, HoldEach}
 use Rattle.lol_rows.specs.declared.key_rows.KeyRows.{KeyRows}
 use Rattle.lol_rows.specs.declared.tag_keys.TagKeys.{TagKeys}
 use Rattle.lol_rows.specs.declared.row_kind.RowKind.{RowKind}
 
--- Rows can find what a tag leaves: these keys decide it, and its hashes are among the tag's.
+-- Rows can find what a tag leaves: these keys decide it, and its hashes hold those of what it leaves.
 pub record CanFind (kind : RowKind) (instructions : List Instruction) (rows : KeyRows) (keys : TagKeys) : Type 0 where
   pub built : AreRowsBy kind instructions rows
   pub decided : (i j : Instruction) → keys_by kind i ≡ keys_by kind j → leaves keys i ≡ leaves keys j
-  pub hashed : (hashes : List ℕ) → option_copied keys.hashes ≡ Some hashes → (i : Instruction) → leaves keys i ≡ true → Contains hashes (hash_by kind i)
+  pub hashed : (hashes : List ℕ) → option_copied keys.hashes ≡ Some hashes → HoldEach hashes kind (leaves keys) instructions
 
 abbrev pub address_of : Entry → ℕ
 address_of e = e.address

@@ -1,15 +1,15 @@
 -- Rows of instructions, and what is left of them by their keys.
-use Rattle.std.specs.Prelude.{ℕ, ◌≡◌, ◌≤◌, ◌<◌, ◌-◌, ◌⊎◌, Bool, true, false, not, ◌&&◌, List, map, filter, slice_get, Option, Some, None, Contains}
+use Rattle.std.specs.Prelude.{ℕ, ◌≡◌, ◌≤◌, ◌<◌, ◌-◌, ◌⊎◌, Bool, true, false, not, ◌&&◌, List, [], ◌∷◌, map, flat_map, filter, slice_get, Option, Some, None, Contains}
 use Rattle.std.specs.List.{range_with_len, list_any}
 use Rattle.std.specs.declared.ops.Range.{Range}
 use Rattle.std.specs.Option.{option_copied}
-use Rattle.lol_instructions.specs.Keys.{AttributeKey, Keys, is_another_name}
+use Rattle.std.specs.declared.hash.DefaultHasher.{DefaultHasher}
+use Rattle.lol_instructions.specs.Keys.{AttributeKey, ById, ByClass, ByPart, ByAttribute, Keys, is_another_name}
 use Rattle.lol_instructions.specs.CompiledKeys.{keys_in, lacks_key}
 use Rattle.lol_instructions.specs.Attributes.{TagAttributes}
 use Rattle.lol_instructions.specs.declared.instruction.Instruction.{Instruction}
 use Rattle.lol_key_table.specs.KeyTables.{IsTableOf}
-use Rattle.lol_rows.specs.KeyHashes.{hash_of_name, hash_of_pair, name_hashes}
-use Rattle.lol_rows.specs.TagHashes.{pair_hashes}
+use Rattle.lol_rows.specs.KeyHashes.{after_name, hash_after, hash_of_name, hash_of_pair}
 use Rattle.lol_rows.specs.declared.key_rows.KeyRows.{KeyRows}
 use Rattle.lol_rows.specs.declared.tag_keys.TagKeys.{TagKeys}
 use Rattle.lol_rows.specs.declared.row_kind.RowKind.{RowKind}
@@ -55,10 +55,22 @@ pub record AreRowsBy (kind : RowKind) (instructions : List Instruction) (rows : 
   pub shared_table : IsTableOf shared rows.shared
   pub alike : AreAlikeUnless shared kind instructions
 
--- Rows have each instruction once by its name, and once by both of its keys.
+-- the hash of the pair of an instruction's name and of the attribute whose value has its part, if it has one
+abbrev pub parted_after : DefaultHasher → Option AttributeKey → List ℕ
+parted_after hasher None = []
+parted_after hasher (Some (ById id)) = []
+parted_after hasher (Some (ByClass name)) = []
+parted_after hasher (Some (ByPart name part)) = hash_after hasher (Some (ByAttribute name)) ∷ []
+parted_after hasher (Some (ByAttribute name)) = []
+
+abbrev pub parted_of : Instruction → List ℕ
+parted_of i = parted_after (after_name (keys_of i).name) (keys_of i).attribute
+
+-- Rows have each instruction once by its name, and once by both of its keys, and the attributes of those that have a part.
 pub record AreRowsOf (instructions : List Instruction) (rows : Rows) : Type 0 where
   pub names : AreRowsBy Names instructions rows.names
   pub pairs : AreRowsBy Pairs instructions rows.pairs
+  pub parted : IsTableOf (flat_map parted_of instructions) rows.parted
 
 -- 3. What is left
 
@@ -116,11 +128,16 @@ NonePasses p instructions r hash =
 
 -- 4. How it is found
 
--- the hashes that what a tag leaves may have
-abbrev pub hashes_seen : List ℕ → Option TagAttributes → List ℕ
-hashes_seen name None = name_hashes name
-hashes_seen name (Some seen) = pair_hashes name seen
+-- what instructions are looked up by
+abbrev pub kind_for : Option TagAttributes → RowKind
+kind_for None = Names
+kind_for (Some seen) = Pairs
 
--- The hashes of a tag, where memory for them was there, are those of its keys.
-abbrev pub AreItsHashes : TagKeys → Type 0
-AreItsHashes keys = (hashes : List ℕ) → option_copied keys.hashes ≡ Some hashes → hashes ≡ hashes_seen keys.name.now.lowercased (option_copied keys.attributes)
+-- The hashes hold that of each instruction that passes.
+abbrev pub HoldEach : List ℕ → RowKind → (Instruction → Bool) → List Instruction → Type 0
+HoldEach hashes kind p instructions =
+    (address : ℕ) (i : Instruction) → slice_get instructions address ≡ Some i → p i ≡ true → Contains hashes (hash_by kind i)
+
+-- The hashes of a tag, where memory for them was there, hold that of each instruction that it leaves.
+abbrev pub AreItsHashes : List Instruction → TagKeys → Type 0
+AreItsHashes instructions keys = (hashes : List ℕ) → option_copied keys.hashes ≡ Some hashes → HoldEach hashes (kind_for (option_copied keys.attributes)) (leaves keys) instructions

@@ -1,9 +1,13 @@
--- The hashes of the pairs of keys that a start tag has.
-use Rattle.std.specs.Prelude.{ℕ, List, [], ◌∷◌, map, flat_map, Option, Some, None}
+-- The hashes of the pairs of keys that a start tag has, and of the parts of its attributes' values.
+use Rattle.std.specs.Prelude.{ℕ, List, [], ◌∷◌, map, flat_map, Option, Some, None, Contains, unwrap_or}
 use Rattle.std.specs.declared.hash.DefaultHasher.{DefaultHasher}
+use Rattle.lol_base.specs.Names.{lowercased}
+use Rattle.lol_base.specs.StartTags.{Attribute}
+use Rattle.lol_key_table.specs.KeyTables.{IsTableOf}
+use Rattle.lol_key_table.specs.declared.key_table.KeyTable.{KeyTable}
 use Rattle.lol_instructions.specs.Attributes.{TagAttributes}
-use Rattle.lol_instructions.specs.Keys.{AttributeKey, keys_seen}
-use Rattle.lol_rows.specs.KeyHashes.{after_name, hash_after}
+use Rattle.lol_instructions.specs.Keys.{AttributeKey, ByAttribute, keys_seen, parts_of}
+use Rattle.lol_rows.specs.KeyHashes.{after_attribute, after_name, hash_after, hash_of_part}
 
 -- a key after no name, and after a name
 abbrev pub both_hashes : DefaultHasher → DefaultHasher → Option AttributeKey → List ℕ
@@ -12,3 +16,18 @@ both_hashes unnamed named key = hash_after unnamed key ∷ hash_after named key 
 -- The pairs of no name, or the tag's, and of no key, or one of the tag's.
 abbrev pub pair_hashes : List ℕ → TagAttributes → List ℕ
 pair_hashes name seen = flat_map (both_hashes (after_name None) (after_name (Some name))) (None ∷ map Some (keys_seen seen))
+
+-- All of the first are in the second.
+abbrev pub Keeps : List ℕ → List ℕ → Type 0
+Keeps old new = (hash : ℕ) → Contains old hash → Contains new hash
+
+-- The hashes hold those of the parts of an attribute's value, where a table has the hash of its name.
+abbrev pub HoldsParts : KeyTable → DefaultHasher → List ℕ → List ℕ → List ℕ → Type 0
+HoldsParts table hasher name value hashes =
+    (parted : List ℕ) → IsTableOf parted table → Contains parted (hash_after hasher (Some (ByAttribute (lowercased name))))
+    → (part : List ℕ) → Contains (parts_of value) part → Contains hashes (hash_of_part (after_attribute hasher (lowercased name)) part)
+
+-- the same of an attribute, after no name, and after a name
+pub record HoldsBothParts (table : KeyTable) (unnamed named : DefaultHasher) (hashes : List ℕ) (a : Attribute) : Type 0 where
+  pub unnamed_parts : HoldsParts table unnamed a.name (unwrap_or a.value []) hashes
+  pub named_parts : HoldsParts table named a.name (unwrap_or a.value []) hashes

@@ -5,7 +5,8 @@ ghost use Rattle.std.specs.Option.{option_copied, option_map};
 ghost use Rattle.lol_base.specs.Names.{lowercased};
 ghost use Rattle.lol_instructions.specs.Keys.{ByAttribute};
 ghost use Rattle.lol_instructions.specs.CompiledKeys.{key_shown};
-ghost use Rattle.lol_rows.specs.KeyHashes.{after_name, name_shown, hash_of_name, hash_after, name_hashes};
+ghost use Rattle.std.specs.Hash.DefaultHasher.{write};
+ghost use Rattle.lol_rows.specs.KeyHashes.{after_attribute, after_name, name_shown, hash_of_name, hash_of_part, hash_after, name_hashes};
 
 use lol_base::LocalName;
 use lol_instructions::KeyBytes;
@@ -65,6 +66,11 @@ pub(crate) fn pair_hash(mut hasher: DefaultHasher, key: Option<KeyBytes<'_>>) ->
             hasher.write_u8(2);
             hasher.write(name);
         }
+        Some(KeyBytes::Part(name, part)) => {
+            hasher.write_u8(4);
+            hasher.write(name);
+            hasher.write(part);
+        }
         Some(KeyBytes::Attribute(name)) => {
             hasher.write_u8(3);
             hasher.write(name);
@@ -78,8 +84,30 @@ pub(crate) fn attribute_hash(mut hasher: DefaultHasher, name: &[u8]) -> u32
     ensures { result ≡ hash_after hasher (Some (ByAttribute (lowercased name.now))) }
 {
     hasher.write_u8(3);
+    (after_lowercased(hasher, name).finish() % HASHES) as u32
+}
+
+/// A hasher that was given that an attribute of this name has a part, but not yet the part. The name's case doesn't count.
+pub(crate) fn after_attribute(mut hasher: DefaultHasher, name: &[u8]) -> DefaultHasher
+    ensures { result ≡ after_attribute hasher (lowercased name.now) }
+{
+    hasher.write_u8(4);
+    after_lowercased(hasher, name)
+}
+
+/// The hash of a part, where a hasher was given all before it.
+pub(crate) fn part_hash(mut hasher: DefaultHasher, part: &[u8]) -> u32
+    ensures { result ≡ hash_of_part hasher part.now }
+{
+    hasher.write(part);
+    (hasher.finish() % HASHES) as u32
+}
+
+fn after_lowercased(mut hasher: DefaultHasher, name: &[u8]) -> DefaultHasher
+    ensures { result ≡ write hasher (lowercased name.now) }
+{
     for byte in name {
         hasher.write_u8(byte.to_ascii_lowercase());
     }
-    (hasher.finish() % HASHES) as u32
+    hasher
 }

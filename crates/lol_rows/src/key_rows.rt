@@ -106,20 +106,13 @@ impl KeyRows {
         let Some(first) = row.first() else {
             return Ok(());
         };
-        if self.is_shared(first.hash) {
+        if has_hash(&self.shared, first.hash) {
             return add_left_entries(instructions, row, keys, found);
         }
         if keys.leave(instructions, first.address as usize) {
             add_entries(row, found)?;
         }
         Ok(())
-    }
-
-    /// Whether several keys may have this hash.
-    fn is_shared(&self, hash: u32) -> bool
-        ensures { OnFalse result ((shared : List ℕ) → IsTableOf shared self.now.shared → Contains shared hash → ⊥) }
-    {
-        !self.shared.entries_within(hash, 0, usize::MAX).is_empty()
     }
 }
 
@@ -192,6 +185,13 @@ fn add_entries(row: &[Entry], found: &mut Vec<u32>) -> Result<(), AllocError>
         found.push(entry.address)?;
     }
     Ok(())
+}
+
+/// Whether a table may have an entry of this hash. It is false only if it has none.
+pub(crate) fn has_hash(table: &KeyTable, hash: u32) -> bool
+    ensures { OnFalse result ((all : List ℕ) → IsTableOf all table.now → Contains all hash → ⊥) }
+{
+    !table.entries_within(hash, 0, usize::MAX).is_empty()
 }
 
 // To look addresses up takes about as long as to run through so many.

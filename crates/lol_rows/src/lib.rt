@@ -11,5 +11,4 @@ mod tag_keys;
 
 pub use key_hashes::name_hashes;
 pub use rows::Rows;
-pub use tag_hashes::add_pair_hashes;
 pub use tag_keys::{TagKeys, is_left};

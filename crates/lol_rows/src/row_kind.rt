@@ -65,6 +65,9 @@ fn is_same_key(one: Option<KeyBytes<'_>>, other: Option<KeyBytes<'_>>) -> bool
         (Some(KeyBytes::Id(one)), Some(KeyBytes::Id(other)))
         | (Some(KeyBytes::Class(one)), Some(KeyBytes::Class(other)))
         | (Some(KeyBytes::Attribute(one)), Some(KeyBytes::Attribute(other))) => one == other,
+        (Some(KeyBytes::Part(one, part)), Some(KeyBytes::Part(other, same))) => {
+            one == other && part == same
+        }
         (None, None) => true,
         _ => false,
     }

@@ -1,16 +1,21 @@
 //! Rows: the instructions of a program by the hashes of their keys.
 
-ghost use Rattle.std.specs.Prelude.{◌≡◌, ◌++◌, ◌+◌, ◌≤◌, IfOk, IsOk, OnOk, length};
+ghost use Rattle.std.specs.Prelude.{List, ◌≡◌, ◌++◌, ◌+◌, ◌≤◌, IfOk, IsOk, OnOk, length, flat_map};
 ghost use Rattle.std.specs.Bool.{OnTrue, OnFalse};
 ghost use Rattle.std.specs.Vec.{vec_capacity};
+ghost use Rattle.lol_instructions.specs.declared.instruction.Instruction.{Instruction};
+ghost use Rattle.lol_rows.specs.declared.row_kind.RowKind.TheVariants.{Pairs};
 ghost use Rattle.lol_rows.specs.KeyHashes.{name_hashes};
-ghost use Rattle.lol_rows.specs.Rows.{AreItsHashes, AreRowsOf, HasPassing, NonePasses, is_left_open, leaves, passes_at, passing, some_pass};
+ghost use Rattle.lol_rows.specs.Rows.{AreItsHashes, AreRowsOf, HasPassing, HoldEach, NonePasses, is_left_by_keys, is_left_open, parted_of, leaves, passes_at, passing, some_pass};
 
+use crate::key_hashes::{after_name, pair_hash};
 use crate::key_rows::{KeyRows, is_short};
 use crate::row_kind::RowKind;
+use crate::tag_hashes::{add_pair_hashes, add_part_hashes};
 use crate::tag_keys::TagKeys;
 use lol_base::LocalName;
-use lol_instructions::{AddressRange, Instruction};
+use lol_instructions::{AddressRange, AttributeMatcher, Instruction, KeyBytes};
+use lol_key_table::KeyTable;
 use std::alloc::{AllocError, Global};
 
 /// The addresses of instructions by the hashes of their keys. They take 16 bytes for each instruction.
@@ -18,8 +23,10 @@ use std::alloc::{AllocError, Global};
 pub struct Rows {
     // By name, and by whether it is known that attributes are needed.
     names: KeyRows,
-    // By name, and by id, class or attribute.
+    // By name, and by id, class, part or attribute.
     pairs: KeyRows,
+    // The hashes of a name and of an attribute whose value has a part, for each instruction that has one.
+    parted: KeyTable,
 }
 
 impl Rows {
@@ -33,6 +40,7 @@ impl Rows {
         Ok(Rows {
             names: KeyRows::of(alloc, RowKind::Names, instructions)?,
             pairs: KeyRows::of(alloc, RowKind::Pairs, instructions)?,
+            parted: KeyTable::of(alloc, parted_hashes(alloc, instructions)?)?,
         })
     }
 
@@ -81,6 +89,25 @@ impl Rows {
         false
     }
 
+    /// Adds the hashes of what a start tag of this name and with these attributes leaves: of no name and of its own, each with no key, with
+    /// its id, with each of its classes, with the name of each of its attributes, and with the parts of their values, as far as an
+    /// instruction has one of these. It takes a step for each byte of these.
+    ///
+    /// # Errors
+    /// Out of memory.
+    pub fn add_hashes(
+        &self,
+        local_name: &LocalName<'_>,
+        matcher: &AttributeMatcher<'_>,
+        hashes: &mut Vec<u32>,
+    ) -> Result<(), AllocError>
+        ensures { OnOk result ((instructions : List Instruction) → AreRowsOf instructions self.now
+            → HoldEach hashes.new.items Pairs (is_left_by_keys local_name.now.lowercased matcher.now) instructions) }
+    {
+        add_pair_hashes(local_name, matcher, hashes)?;
+        add_part_hashes(&self.parted, local_name, matcher, hashes)
+    }
+
     /// Adds, ascending, the addresses of a range whose instructions a start tag leaves: that test no other name, and, where its attributes
     /// are given, no id, class or attribute that they lack. `found` is room for what is looked up.
     ///
@@ -98,9 +125,9 @@ impl Rows {
         found: &mut Vec<u32>,
         left: &mut Vec<u32>,
     ) -> Result<(), AllocError>
-        ensures left { OnOk result (AreRowsOf instructions.now self.now → AreItsHashes keys.now
+        ensures left { OnOk result (AreRowsOf instructions.now self.now → AreItsHashes instructions.now keys.now
             → left.new.items ≡ left.old.items ++ passing (leaves keys.now) instructions.now range.now) }
-        ensures free { AreRowsOf instructions.now self.now → AreItsHashes keys.now
+        ensures free { AreRowsOf instructions.now self.now → AreItsHashes instructions.now keys.now
             → length left.old.items + length (passing (leaves keys.now) instructions.now range.now)
             ≤ vec_capacity left.old → IsOk result }
         ensures capacity { vec_capacity left.old ≤ vec_capacity left.new }
@@ -110,6 +137,21 @@ impl Rows {
             Some(_) => self.pairs.add_left(instructions, range, keys, found, left),
         }
     }
+}
+
+/// The hashes of a name and of an attribute whose value has a part.
+fn parted_hashes(alloc: Global, instructions: &[Instruction]) -> Result<Vec<u32>, AllocError>
+    ensures { IfOk result (λ hashes. hashes.items ≡ flat_map parted_of instructions.now) }
+{
+    let mut hashes = Vec::new(alloc);
+    for instruction in instructions {
+        let predicate = &instruction.predicate;
+        if let Some(KeyBytes::Part(name, _)) = predicate.attribute_key() {
+            let named = after_name(predicate.name_key());
+            hashes.push(pair_hash(named, Some(KeyBytes::Attribute(name))))?;
+        }
+    }
+    Ok(hashes)
 }
 
 /// Whether a range has an instruction that tests no other name and is known to need attributes, by a look at each.

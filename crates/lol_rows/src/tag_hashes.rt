@@ -1,15 +1,19 @@
 //! The hashes of the keys that a start tag has.
 
-ghost use Rattle.std.specs.Prelude.{◌≡◌, ◌++◌, OnOk, Some, flat_map, option_to_list};
+ghost use Rattle.std.specs.Prelude.{◌≡◌, ◌++◌, OnOk, Some, None, Contains, map, flat_map, option_to_list};
 ghost use Rattle.std.specs.Option.{option_copied, option_map};
 ghost use Rattle.lol_base.specs.Names.{lowercased};
-ghost use Rattle.lol_instructions.specs.Keys.{ById, ByClass, ByAttribute, words_of};
+ghost use Rattle.lol_base.specs.StartTags.{Attribute};
+ghost use Rattle.lol_instructions.specs.Keys.{ById, ByClass, ByAttribute, parts_of, words_of};
 ghost use Rattle.lol_instructions.specs.CompiledKeys.{key_shown};
-ghost use Rattle.lol_rows.specs.TagHashes.{both_hashes, pair_hashes};
+ghost use Rattle.lol_rows.specs.KeyHashes.{after_name, hash_of_part};
+ghost use Rattle.lol_rows.specs.TagHashes.{both_hashes, pair_hashes, HoldsBothParts, HoldsParts, Keeps};
 
-use crate::key_hashes::{after_name, attribute_hash, pair_hash};
+use crate::key_hashes::{after_attribute, after_name, attribute_hash, pair_hash, part_hash};
+use crate::key_rows::has_hash;
 use lol_base::LocalName;
-use lol_instructions::{AttributeMatcher, KeyBytes, first_word};
+use lol_instructions::{AttributeMatcher, KeyBytes, PART_LENGTH, first_word};
+use lol_key_table::KeyTable;
 use std::alloc::AllocError;
 use std::hash::DefaultHasher;
 
@@ -19,7 +23,7 @@ use std::hash::DefaultHasher;
 ///
 /// # Errors
 /// Out of memory.
-pub fn add_pair_hashes(
+pub(crate) fn add_pair_hashes(
     local_name: &LocalName<'_>,
     matcher: &AttributeMatcher<'_>,
     hashes: &mut Vec<u32>,
@@ -36,6 +40,28 @@ pub fn add_pair_hashes(
     both.add_words(matcher.class(), hashes)?;
     both.add_names(matcher, hashes)?;
     Ok(())
+}
+
+/// Adds the hashes of the pairs with each part of the values of attributes, where a table has the hash of the pair with the attribute's
+/// name. It takes a step for each byte of the attributes' names, and of the values whose parts are added.
+///
+/// # Errors
+/// Out of memory.
+pub(crate) fn add_part_hashes(
+    parted: &KeyTable,
+    local_name: &LocalName<'_>,
+    matcher: &AttributeMatcher<'_>,
+    hashes: &mut Vec<u32>,
+) -> Result<(), AllocError>
+    ensures kept { OnOk result (Keeps hashes.old.items hashes.new.items) }
+    ensures parts { OnOk result ((a : Attribute) → Contains matcher.now.attributes a
+        → HoldsBothParts parted.now (after_name None) (after_name (Some local_name.now.lowercased)) hashes.new.items a) }
+{
+    let both = BothNames {
+        unnamed: after_name(None),
+        named: after_name(Some(local_name)),
+    };
+    both.add_parts(parted, matcher, hashes)
 }
 
 /// Hashers that were given that there is no name, and a name.
@@ -103,4 +129,59 @@ impl BothNames {
         }
         Ok(())
     }
+    /// Those of the parts of the value of each attribute, where the table has the hash of its name.
+    fn add_parts(
+        &self,
+        parted: &KeyTable,
+        matcher: &AttributeMatcher<'_>,
+        hashes: &mut Vec<u32>,
+    ) -> Result<(), AllocError>
+        ensures kept { OnOk result (Keeps hashes.old.items hashes.new.items) }
+        ensures parts { OnOk result ((a : Attribute) → Contains matcher.now.attributes a
+            → HoldsBothParts parted.now self.now.unnamed self.now.named hashes.new.items a) }
+    {
+        let mut place = 0;
+        while let Some(name) = matcher.name_at(place) {
+            let value = matcher.value_at(place).unwrap_or(&[]);
+            add_parts_after(self.unnamed, parted, name, value, hashes)?;
+            add_parts_after(self.named, parted, name, value, hashes)?;
+            let Some(next) = place.checked_add(1) else {
+                return Err(AllocError);
+            };
+            place = next;
+        }
+        Ok(())
+    }
+}
+
+/// Adds the hashes of the parts of an attribute's value, where the table has the hash of its name.
+fn add_parts_after(
+    hasher: DefaultHasher,
+    parted: &KeyTable,
+    name: &[u8],
+    value: &[u8],
+    hashes: &mut Vec<u32>,
+) -> Result<(), AllocError>
+    ensures kept { OnOk result (Keeps hashes.old.items hashes.new.items) }
+    ensures parts { OnOk result (HoldsParts parted.now hasher name.now value.now hashes.new.items) }
+{
+    if !has_hash(parted, attribute_hash(hasher, name)) {
+        return Ok(());
+    }
+    add_each_part(after_attribute(hasher, name), value, hashes)
+}
+
+fn add_each_part(
+    hasher: DefaultHasher,
+    value: &[u8],
+    hashes: &mut Vec<u32>,
+) -> Result<(), AllocError>
+    ensures { OnOk result (hashes.new.items ≡ hashes.old.items ++ map (hash_of_part hasher) (parts_of value.now)) }
+{
+    let mut left = value;
+    while left.len() >= PART_LENGTH {
+        hashes.push(part_hash(hasher, &left[..PART_LENGTH]))?;
+        left = &left[1..];
+    }
+    Ok(())
 }

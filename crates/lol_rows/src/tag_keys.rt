@@ -19,7 +19,7 @@ pub struct TagKeys<'t, 'h> {
 
 impl<'t, 'h> TagKeys<'t, 'h> {
     /// Its name, its attributes where they are given, and the hashes of its keys, unless memory for these was refused: the `name_hashes` of
-    /// the name, or where the attributes are given what `add_pair_hashes` adds.
+    /// the name, or where the attributes are given what `Rows::add_hashes` adds.
     pub fn new(
         name: &'t LocalName<'t>,
         attributes: Option<&'t AttributeMatcher<'t>>,

@@ -4,7 +4,20 @@ use Rattle.std.proofs.lemmas.List.{length-append, take_more}
 use Rattle.std.proofs.lemmas.Grind.{flat_map-append}
 use Rattle.std.proofs.lemmas.List.FromFn.{length-range_with_len}
 use Rattle.lol_instructions.specs.declared.instruction.Instruction.{Instruction}
-use Rattle.lol_rows.specs.Rows.{passing, some_pass}
+use Rattle.std.proofs.Common.{true, Option, Some, None, Result, Ok, Err, Contains, subst, Bor}
+use Rattle.std.specs.Prelude.{OnOk}
+use Rattle.std.specs.Result.{is_ok}
+use Rattle.std.specs.Bool.{then_some}
+use Rattle.std.specs.Prelude.{slice_get}
+use Rattle.std.specs.Option.{option_copied}
+use Rattle.lol_base.specs.PlaceLaws.{some_is}
+use Rattle.lol_instructions.specs.Attributes.{TagAttributes}
+use Rattle.lol_rows.specs.KeyHashes.{name_hashes}
+use Rattle.lol_rows.specs.LeftLaws.{names_hold}
+use Rattle.lol_base.specs.LocalNames.{Name}
+use Rattle.lol_rows.specs.declared.rows.Rows.{Rows}
+use Rattle.lol_rows.specs.declared.tag_keys.TagKeys.{TagKeys}
+use Rattle.lol_rows.specs.Rows.{hash_by, is_left_by_keys, kind_for, leaves_seen, name_hash_of, passing, some_pass, AreItsHashes, AreRowsOf, HoldEach}
 use Rattle.lol_stack.specs.WithRange.{no_range}
 use Rattle.lol_vm.specs.SparedRuns.{all_passing}
 use Rattle.lol_vm.proofs.Spared.{any_append, passing_few}
@@ -39,3 +52,48 @@ module _ (p : Instruction → Bool) (instructions : List Instruction) (ranges : 
     none_more before here =
         ap (list_any (some_pass p instructions)) (take_more ranges i no_range within ∙ ap (λ x. take i ranges ++ x ∷ []) (sym at))
         ∙ (any_append (some_pass p instructions) (take i ranges) (r ∷ []) ∙ λ j. before j || (here j || false))
+
+-- What rows are given of a tag are its hashes
+
+held_by_name : (instructions : List Instruction) (name : List ℕ) (o : Option TagAttributes) (hashes : List ℕ) → o ≡ None → hashes ≡ name_hashes name
+    → (address : ℕ) (i : Instruction) → slice_get instructions address ≡ Some i → leaves_seen name o i ≡ true → Contains hashes (hash_by (kind_for o) i)
+held_by_name instructions name None hashes none are address i at left = subst (λ (l : List ℕ). Contains l (name_hash_of i)) (sym are) (names_hold name instructions address i at left)
+held_by_name instructions name (Some seen) hashes none are address i at left = cc
+
+held_by_keys : (instructions : List Instruction) (name : List ℕ) (o : Option TagAttributes) (seen : TagAttributes) (hashes : List ℕ) → o ≡ Some seen → HoldEach hashes (kind_for (Some seen)) (is_left_by_keys name seen) instructions
+    → (address : ℕ) (i : Instruction) → slice_get instructions address ≡ Some i → leaves_seen name o i ≡ true → Contains hashes (hash_by (kind_for o) i)
+held_by_keys instructions name None seen hashes some hold address i at left = cc
+held_by_keys instructions name (Some given) seen hashes some hold address i at left = hold address i at (subst (λ (s : TagAttributes). is_left_by_keys name s i ≡ true) (some_is some) left)
+
+pub its_by_name : (instructions : List Instruction) (keys : TagKeys) (hashes : List ℕ) → option_copied keys.attributes ≡ None → option_copied keys.hashes ≡ Some hashes → hashes ≡ name_hashes keys.name.now.lowercased → AreItsHashes instructions keys
+its_by_name instructions keys hashes none given are others is address i at left =
+    held_by_name instructions keys.name.now.lowercased (option_copied keys.attributes) others none (some_is (sym is ∙ given) ∙ are) address i at left
+
+pub its_by_keys : (instructions : List Instruction) (keys : TagKeys) (seen : TagAttributes) → option_copied keys.attributes ≡ Some seen
+    → ((hashes : List ℕ) → option_copied keys.hashes ≡ Some hashes → HoldEach hashes (kind_for (Some seen)) (is_left_by_keys keys.name.now.lowercased seen) instructions) → AreItsHashes instructions keys
+its_by_keys instructions keys seen given hold others is address i at left =
+    held_by_keys instructions keys.name.now.lowercased (option_copied keys.attributes) seen others given (hold others is) address i at left
+
+-- hashes are given where none was refused
+pub held_if_ok : {T X : Type 0} (r : Result T X) (ok : Bool) (P : List ℕ → Type 0) (slice : Bor (List ℕ)) (given : Option (Bor (List ℕ))) (items others : List ℕ)
+    → ok ≡ is_ok r → given ≡ then_some ok slice → slice.now ≡ items → OnOk r (P items) → option_copied given ≡ Some others → P others
+held_if_ok (Ok v) ok P slice given items others told is are hold same =
+    subst P (sym are ∙ some_is (ap option_copied (sym (is ∙ ap (λ (b : Bool). then_some b slice) told)) ∙ same)) hold
+held_if_ok (Err error) ok P slice given items others told is are hold same = absurd (none_some (ap option_copied (sym (is ∙ ap (λ (b : Bool). then_some b slice) told)) ∙ same))
+  where
+    none_some : None ≡ Some others → ⊥
+    none_some h = let it = h in cc
+
+pub on_ok : {T X P Q : Type 0} (r : Result T X) → (P → Q) → OnOk r P → OnOk r Q
+on_ok (Ok v) f h = f h
+on_ok (Err error) f h = tt
+
+-- what rows were given after their hashes were added
+pub its_by_added : {T X : Type 0} (instructions : List Instruction) (rows : Rows) (keys : TagKeys) (name : Name) (seen : TagAttributes) (r : Result T X) (ok : Bool) (slice : Bor (List ℕ)) (given : Option (Bor (List ℕ))) (items : List ℕ)
+    → keys.name.now ≡ name → option_copied keys.attributes ≡ Some seen → option_copied keys.hashes ≡ option_copied given → ok ≡ is_ok r → given ≡ then_some ok slice → slice.now ≡ items
+    → OnOk r ((all : List Instruction) → AreRowsOf all rows → HoldEach items (kind_for (Some seen)) (is_left_by_keys name.lowercased seen) all) → AreRowsOf instructions rows → AreItsHashes instructions keys
+its_by_added instructions rows keys name seen r ok slice given items named seen_are given_are told is are each own =
+    its_by_keys instructions keys seen seen_are
+    (λ others same. held_if_ok r ok (λ l. HoldEach l (kind_for (Some seen)) (is_left_by_keys keys.name.now.lowercased seen) instructions) slice given items others told is are
+    (on_ok r (λ hold. subst (λ (n : Name). HoldEach items (kind_for (Some seen)) (is_left_by_keys n.lowercased seen) instructions) (sym named) (hold instructions own)) each)
+    (sym given_are ∙ same))

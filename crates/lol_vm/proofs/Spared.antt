@@ -7,7 +7,7 @@ use Rattle.std.proofs.lemmas.List.FromFn.{length-range_with_len}
 use Rattle.std.proofs.lemmas.List.{length-append}
 use Rattle.std.proofs.lemmas.Option.{slice_get-map}
 use Rattle.lol_base.specs.MemberLaws.{among_any, any_among}
-use Rattle.lol_instructions.specs.Keys.{AttributeKey, ById, ByClass, ByAttribute, is_ruled_out_by_attributes, is_another_name, is_ruled_out_by_name, lacks}
+use Rattle.lol_instructions.specs.Keys.{AttributeKey, ById, ByClass, ByPart, ByAttribute, is_ruled_out_by_attributes, is_another_name, is_ruled_out_by_name, lacks}
 use Rattle.lol_instructions.specs.CompiledKeys.{lacks_key}
 use Rattle.lol_instructions.specs.declared.instruction.Instruction.{Instruction}
 use Rattle.lol_program.specs.Programs.{Once}
@@ -66,6 +66,7 @@ lacks_same : (key : Option AttributeKey) (e : Element) → lacks_key key (tag_at
 lacks_same None e = refl
 lacks_same (Some (ById id)) e = refl
 lacks_same (Some (ByClass name)) e = refl
+lacks_same (Some (ByPart name part)) e = refl
 lacks_same (Some (ByAttribute name)) e = refl
 
 passing_address : (left : Instruction → Bool) (instructions : List Instruction) (a : ℕ) → passes_at left instructions a ≡ true → a < length instructions

@@ -13,7 +13,7 @@ ghost use Rattle.lol_vm.specs.TagRuns.{all_ranges, ranges_to_run_in};
 use crate::tag_runs::{AllRanges, RecoveryPoint, TagRanges};
 use lol_base::LocalName;
 use lol_program::{AttributeMatcher, Instruction, Program};
-use lol_rows::{Rows, TagKeys, add_pair_hashes, name_hashes};
+use lol_rows::{Rows, TagKeys, name_hashes};
 use lol_stack::Stack;
 use std::alloc::{AllocError, Global};
 
@@ -190,7 +190,7 @@ fn find_left_by_keys<'t>(
     ensures room { vec_capacity space.old.left ≤ vec_capacity space.new.left }
 {
     space.hashes.clear();
-    let are_hashed = add_pair_hashes(name, matcher, &mut space.hashes).is_ok();
+    let are_hashed = rows.add_hashes(name, matcher, &mut space.hashes).is_ok();
     let hashes = are_hashed.then_some(space.hashes.as_slice());
     let keys = TagKeys::new(name, Some(matcher), hashes);
     space.left.clear();
@@ -233,9 +233,9 @@ fn add_left(
     found: &mut Vec<u32>,
     left: &mut Vec<u32>,
 ) -> Result<(), AllocError>
-    ensures left { OnOk result (AreRowsOf instructions.now rows.now → AreItsHashes keys.now → left.new.items
+    ensures left { OnOk result (AreRowsOf instructions.now rows.now → AreItsHashes instructions.now keys.now → left.new.items
         ≡ left.old.items ++ all_passing (leaves keys.now) instructions.now (all_ranges ranges.entry)) }
-    ensures free { AreRowsOf instructions.now rows.now → AreItsHashes keys.now
+    ensures free { AreRowsOf instructions.now rows.now → AreItsHashes instructions.now keys.now
         → length left.old.items + length (all_places (all_ranges ranges.entry)) ≤ vec_capacity left.old → IsOk result }
     ensures room { vec_capacity left.old ≤ vec_capacity left.new }
 {

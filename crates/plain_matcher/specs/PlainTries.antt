@@ -1,7 +1,9 @@
 -- Which nodes the plain matcher tries.
-use Rattle.std.specs.Prelude.{Bool, ◌&&◌, List}
+use Rattle.std.specs.Prelude.{ℕ, Bool, ◌&&◌, List}
 use Rattle.lol_instructions.specs.Compounds.{by_names, is_open}
-use Rattle.lol_instructions.specs.Keys.{KeyTest, key_test}
+use Rattle.std.specs.Global.{Vec}
+use Rattle.std.specs.Borrow.{Bor}
+use Rattle.lol_instructions.specs.Keys.{AttributeKey, ByPart, KeyTest, key_test}
 use Rattle.lol_instructions.specs.Tests.{Element}
 use Rattle.lol_program.specs.Paths.{Path, last_compound}
 use Rattle.lol_program.specs.Predicates.{test_shown}
@@ -14,6 +16,10 @@ use Rattle.plain_matcher.specs.declared.plain_tries.Trying.TheVariants.{All, Lef
 -- what a test says of keys
 abbrev pub test_key : Test → KeyTest
 test_key test = key_test (test_shown test)
+
+-- the name of an attribute and a part of its value
+abbrev pub part_shown : Vec ℕ × Bor (List ℕ) → AttributeKey
+part_shown part = ByPart part.0.items part.1.now
 
 -- whether a node is tried for an element inside these ones
 abbrev pub is_tried_in : Trying → Element → List Element → Path → Bool

@@ -1,15 +1,17 @@
 //! Which elements the keys of a compound rule out, by its tests as they stand: the definitions, test by test.
 
-ghost use Rattle.std.specs.Prelude.{◌≡◌, IfOk, map};
+ghost use Rattle.std.specs.Prelude.{ℕ, List, ◌≡◌, IfOk, map, string_bytes};
 ghost use Rattle.std.specs.Option.{option_copied, option_map};
 ghost use Rattle.lol_base.specs.Names.{lowercased};
-ghost use Rattle.lol_instructions.specs.Keys.{ById, ByClass, ByAttribute, attribute_key_test, both_keys, first_read, is_ruled_out_by_attributes, is_ruled_out_by_name, read_attribute, read_class, read_id, read_name};
+ghost use Rattle.lol_instructions.specs.Keys.{ById, ByClass, ByAttribute, attribute_key_test, both_keys, comparison_key, first_read, is_ruled_out_by_attributes, is_ruled_out_by_name, part_or_name, read_attribute, read_class, read_id, read_name, read_part};
 ghost use Rattle.lol_program.specs.Predicates.{attribute_test, tests_of};
 ghost use Rattle.plain_matcher.specs.PlainElements.{element_shown};
-ghost use Rattle.plain_matcher.specs.PlainTries.{test_key};
+ghost use Rattle.plain_matcher.specs.PlainTries.{part_shown, test_key};
 
 use crate::plain_element::{PlainElement, is_same_name, lacks_operand};
-use lol_program::{OnAttributesExpr, OnTagNameExpr, Predicate, Test};
+use lol_base::ParsedCaseSensitivity;
+use lol_instructions::{KeyBytes, PART_LENGTH};
+use lol_program::{AttributeComparisonExpr, OnAttributesExpr, OnTagNameExpr, Predicate, Test};
 use std::alloc::{AllocError, Global};
 
 /// Whether the first test of a name, if there is one, asks for another than the element's.
@@ -22,7 +24,8 @@ pub(crate) fn has_other_name(predicate: &Predicate, element: &PlainElement<'_>) 
     }
 }
 
-/// Whether an element lacks the first id that is tested, else the first class, else the first other attribute.
+/// Whether an element lacks the first id that is tested, else the first class, else the last part of the first operand that has one and that
+/// is compared with case, else the first other attribute.
 pub(crate) fn lacks_key(
     alloc: Global,
     predicate: &Predicate,
@@ -36,6 +39,9 @@ pub(crate) fn lacks_key(
     }
     if let Some(name) = first_class(&predicate.tests) {
         return Ok(!element.attributes.has_class(name));
+    }
+    if let Some((name, part)) = first_part(alloc, &predicate.tests)? {
+        return Ok(!KeyBytes::Part(&name, part).is_in(&element.attributes));
     }
     match first_attribute(alloc, &predicate.tests)? {
         Some(name) => Ok(!element.attributes.has_attribute(&name)),
@@ -103,6 +109,62 @@ fn first_class(tests: &[Test]) -> Option<&[u8]>
     None
 }
 
+/// The name of an attribute in lower case, and a part of its value.
+type AttributePart<'p> = (Vec<u8>, &'p [u8]);
+
+fn first_part(alloc: Global, tests: &[Test]) -> Result<Option<AttributePart<'_>>, AllocError>
+    ensures { IfOk result (λ found. option_map part_shown found ≡ first_read read_part (map test_key tests.now)) }
+{
+    for test in tests {
+        if let Test::Attribute(test) = test {
+            if let Some(part) = part_asked(alloc, test)? {
+                return Ok(Some(part));
+            }
+        }
+    }
+    Ok(None)
+}
+
+/// The attribute and the part of its value that a test asks for.
+fn part_asked(
+    alloc: Global,
+    test: &OnAttributesExpr,
+) -> Result<Option<AttributePart<'_>>, AllocError>
+    ensures { IfOk result (λ found. option_map part_shown found
+        ≡ read_part (attribute_key_test (attribute_test test.now))) }
+{
+    match test {
+        OnAttributesExpr::Id(_)
+        | OnAttributesExpr::Class(_)
+        | OnAttributesExpr::AttributeExists(_) => Ok(None),
+        OnAttributesExpr::AttributeComparisonExpr(test) => {
+            if lacks_operand(test.operator, test.value.as_bytes()) {
+                return Ok(None);
+            }
+            match last_part(test) {
+                Some(part) => Ok(Some((test.name.as_bytes().to_ascii_lowercase(alloc)?, part))),
+                None => Ok(None),
+            }
+        }
+    }
+}
+
+/// The last bytes of an operand that is compared with case, if it has so many.
+fn last_part(test: &AttributeComparisonExpr) -> Option<&[u8]>
+    ensures { (name : List ℕ) → part_or_name name (option_copied result)
+        ≡ comparison_key name (string_bytes test.now.value) test.now.case_sensitivity }
+{
+    let operand = test.value.as_bytes();
+    match test.case_sensitivity {
+        ParsedCaseSensitivity::ExplicitCaseSensitive | ParsedCaseSensitivity::CaseSensitive => {
+            let start = operand.len().checked_sub(PART_LENGTH)?;
+            Some(&operand[start..])
+        }
+        ParsedCaseSensitivity::AsciiCaseInsensitive
+        | ParsedCaseSensitivity::AsciiCaseInsensitiveIfInHtmlElementInHtmlDocument => None,
+    }
+}
+
 fn first_attribute(alloc: Global, tests: &[Test]) -> Result<Option<Vec<u8>>, AllocError>
     ensures { IfOk result (λ found. option_map (λ name. ByAttribute name.items) found
         ≡ first_read read_attribute (map test_key tests.now)) }
@@ -117,7 +179,7 @@ fn first_attribute(alloc: Global, tests: &[Test]) -> Result<Option<Vec<u8>>, All
     Ok(None)
 }
 
-/// The name of the attribute that a test asks for, but for an id and a class.
+/// The name of the attribute that a test asks for, but for an id, a class and a part of a value.
 fn attribute_named(alloc: Global, test: &OnAttributesExpr) -> Result<Option<Vec<u8>>, AllocError>
     ensures { IfOk result (λ found. option_map (λ name. ByAttribute name.items) found
         ≡ read_attribute (attribute_key_test (attribute_test test.now))) }
@@ -127,6 +189,9 @@ fn attribute_named(alloc: Global, test: &OnAttributesExpr) -> Result<Option<Vec<
         OnAttributesExpr::AttributeExists(name) => Ok(Some(name.as_bytes().to_vec(alloc)?)),
         OnAttributesExpr::AttributeComparisonExpr(test) => {
             if lacks_operand(test.operator, test.value.as_bytes()) {
+                return Ok(None);
+            }
+            if last_part(test).is_some() {
                 return Ok(None);
             }
             Ok(Some(test.name.as_bytes().to_ascii_lowercase(alloc)?))

@@ -3,7 +3,7 @@
 use lol_base::{Attributes, LocalName, Namespace};
 use lol_css::Selector;
 use lol_program::{Ast, AttributeMatcher, Compiler, Instruction, Program};
-use lol_rows::{Rows, TagKeys, add_pair_hashes, is_left, name_hashes};
+use lol_rows::{Rows, TagKeys, is_left, name_hashes};
 use std::alloc::{AllocError, Global};
 use std::process::Abort;
 use std::test::Fail;
@@ -148,13 +148,14 @@ fn matcher(attributes: &Attributes) -> AttributeMatcher<'_> {
 /// The hashes of the keys of a tag, whose attributes may be given.
 fn hashes(
     alloc: Global,
+    rows: &Rows,
     name: &LocalName<'_>,
     matcher: Option<&AttributeMatcher<'_>>,
 ) -> Result<Vec<u32>, AllocError> {
     let mut hashes = Vec::new(alloc);
     match matcher {
         None => hashes.extend_from_slice(&name_hashes(name))?,
-        Some(matcher) => add_pair_hashes(name, matcher, &mut hashes)?,
+        Some(matcher) => rows.add_hashes(name, matcher, &mut hashes)?,
     }
     Ok(hashes)
 }
@@ -168,7 +169,7 @@ fn by_rows<'t>(
     name: &'t LocalName<'t>,
     matcher: Option<&'t AttributeMatcher<'t>>,
 ) -> Result<Vec<usize>, AllocError> {
-    let hashes = hashes(alloc, name, matcher)?;
+    let hashes = hashes(alloc, rows, name, matcher)?;
     let keys = TagKeys::new(name, matcher, Some(&hashes));
     let (mut found, mut left) = (Vec::new(alloc), Vec::new(alloc));
     rows.add_left(
@@ -417,7 +418,7 @@ fn adds_alike<'t>(
     matcher: Option<&'t AttributeMatcher<'t>>,
 ) -> Result<bool, AllocError> {
     let each = each_left(alloc, &program.instructions, (start, end), name, matcher)?;
-    let hashes = hashes(alloc, name, matcher)?;
+    let hashes = hashes(alloc, rows, name, matcher)?;
     let hashed = TagKeys::new(name, matcher, Some(&hashes));
     let unhashed = TagKeys::new(name, matcher, None);
     let instructions = program.instructions.as_slice();
@@ -598,7 +599,7 @@ fn left_of_shared(
     let matcher = matcher(&attributes);
     let all = (0, program.instructions.len());
     let left = by_rows(alloc, program, &rows, all, &name, Some(&matcher))?;
-    let hashes = hashes(alloc, &name, Some(&matcher))?;
+    let hashes = hashes(alloc, &rows, &name, Some(&matcher))?;
     Ok((left, hashes.get(2).copied()))
 }
 
@@ -611,5 +612,63 @@ fn tell_keys_of_one_hash_apart(rt: HostRuntime) -> Result<(), Fail> {
     assert!(rt; hash.is_some() && hash == same);
     assert!(rt; one[..] == [0, 50]);
     assert!(rt; other[..] == [49, 51]);
+    Ok(())
+}
+
+/// After the plain ones: a part of a value, one without case, one too short, a part of a second test, and a part of a word.
+const PARTS: [&str; 5] = [
+    "a[href^='http://xyz']",
+    "[href$='.html' i]",
+    "[href*='ads']",
+    "a[href][title='long text']",
+    "[data-k~=wordy]",
+];
+
+/// A tag, and which of these it leaves.
+type PartRow = (
+    (&'static str, &'static [(&'static str, &'static str)]),
+    &'static [usize],
+);
+
+const PART_ROWS: [PartRow; 8] = [
+    (("a", &[("href", "http://xyz/q")]), &[0, 1, 2]),
+    (("a", &[("href", "http://XYZ/q")]), &[1, 2]),
+    (("b", &[("HREF", "http://xyz/q")]), &[1, 2]),
+    (("a", &[("href", "http"), ("href", "http://xyz")]), &[1, 2]),
+    (("a", &[("href", "xyz"), ("title", "no text")]), &[1, 2, 3]),
+    (("a", &[("title", "a tex t")]), &[]),
+    (("p", &[("data-k", "a wordy b")]), &[4]),
+    (("p", &[("data-k", "a word b"), ("class", "wordy")]), &[]),
+];
+
+fn leaves_parts(
+    alloc: Global,
+    program: &Program,
+    rows: &Rows,
+    row: &PartRow,
+) -> Result<bool, AllocError> {
+    let ((name, pairs), wanted) = row;
+    let name = LocalName::new(name.as_bytes());
+    let attributes = attributes(alloc, pairs)?;
+    let matcher = matcher(&attributes);
+    let all = (0, program.instructions.len());
+    let left = by_rows(alloc, program, rows, all, &name, Some(&matcher))?;
+    let mut parts = Vec::new(alloc);
+    for address in &left {
+        if let Some(index) = address.checked_sub(PLAIN.len()) {
+            parts.push(index)?;
+        }
+    }
+    Ok(parts.as_slice() == *wanted)
+}
+
+/// A node whose operand is compared with case is left where the value has the last bytes of the operand.
+#[test]
+fn leave_what_has_a_part_of_the_operand(rt: HostRuntime) -> Result<(), Fail> {
+    let program = program(rt.alloc(), &PLAIN, &PARTS)?;
+    let rows = Rows::of(rt.alloc(), &program.instructions)?;
+    for row in &PART_ROWS {
+        assert!(rt; leaves_parts(rt.alloc(), &program, &rows, row)?);
+    }
     Ok(())
 }

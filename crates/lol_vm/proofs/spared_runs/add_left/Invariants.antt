@@ -7,7 +7,7 @@ use Rattle.lol_vm.proofs.spared_runs.add_left.Given as goal
 
 abbrev pub invariant-loop-index : goal.invariant-loop-index
 invariant-loop-index l = record {
-  left : AreRowsOf l.instructions l.rows → AreItsHashes l.keys → l.left.items
+  left : AreRowsOf l.instructions l.rows → AreItsHashes l.instructions l.keys → l.left.items
       ≡ l.fn.left.items ++ all_passing (leaves l.keys) l.instructions (take l.index (all_ranges l.ranges));
   room : vec_capacity l.fn.left ≤ vec_capacity l.left;
 }

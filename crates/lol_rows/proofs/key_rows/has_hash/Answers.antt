@@ -3,12 +3,12 @@ use Rattle.std.specs.Bool.{OnFalse}
 use Rattle.std.proofs.lemmas.Option.{slice_get-get_or}
 use Rattle.lol_key_table.specs.KeyTables.{IsTableOf}
 use Rattle.lol_key_table.specs.declared.key_table.Entry.{Entry}
-use Rattle.lol_rows.proofs.key_rows.KeyRows.is_shared.Goals as goal
+use Rattle.lol_rows.proofs.key_rows.has_hash.Goals as goal
 
 pub returns : goal.returns
 returns c = by_empty c.is_empty.result refl
   where
-    by_empty : (b : Bool) → c.is_empty.result ≡ b → OnFalse (not b) ((shared : List ℕ) → IsTableOf shared c.args.self.now.shared → Contains shared c.args.hash → ⊥)
+    by_empty : (b : Bool) → c.is_empty.result ≡ b → OnFalse (not b) ((shared : List ℕ) → IsTableOf shared c.args.table.now → Contains shared c.args.hash → ⊥)
     by_empty false is = tt
     by_empty true is = λ shared table known.
         let none : length c.entries_within.result.now ≡ 0 = eqb-true _ _ (sym c.is_empty.ensures ∙ is) in
