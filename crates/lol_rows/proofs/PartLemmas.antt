@@ -11,6 +11,8 @@ use Rattle.lol_base.specs.StartTags.{Attribute}
 use Rattle.lol_base.specs.BoolLaws.{and_parts}
 use Rattle.lol_base.specs.PlaceLaws.{some_is}
 use Rattle.lol_base.specs.MemberLaws.{Among, among_any, among_back, among_from_contains, contains_from_among, flat_map_among, map_among}
+use Rattle.std.proofs.lemmas.Option.{slice_get-get_or}
+use Rattle.lol_key_table.specs.declared.key_table.Entry.{Entry}
 use Rattle.lol_key_table.specs.declared.key_table.KeyTable.{KeyTable}
 use Rattle.lol_instructions.specs.Tests.{find_attribute, has_value, operator_holds}
 use Rattle.lol_base.specs.declared.attribute.AttrSelectorOperator.TheVariants.{Substring}
@@ -298,3 +300,10 @@ value_is attributes place name None d r named copied is = by_get (slice_get attr
         → option_map (λ (a : Attribute). unwrap_or a.value []) found ≡ Some r.now
     by_get None at of = cc
     by_get (Some a) at of = cc
+
+-- an empty table has no hash, so nothing has to be held
+pub none_parted : (table : KeyTable) (hasher : DefaultHasher) (name value hashes : List ℕ) → length table.entries.items ≡ 0 → HoldsParts table hasher name value hashes
+none_parted table hasher name value hashes empty parted own known part one =
+    let entry : Entry = record { hash = hash_after hasher (Some (ByAttribute (lowercased name))); address = known.0 } in
+    let has = (own.members entry).1 (slice_get-get_or parted known.0 (hash_after hasher (Some (ByAttribute (lowercased name)))) known.1 ∙ ap Some known.2) in
+    absurd (omega (arith, empty, has.1))

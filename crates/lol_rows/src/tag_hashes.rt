@@ -57,6 +57,9 @@ pub(crate) fn add_part_hashes(
     ensures parts { OnOk result ((a : Attribute) → Contains matcher.now.attributes a
         → HoldsBothParts parted.now (after_name None) (after_name (Some local_name.now.lowercased)) hashes.new.items a) }
 {
+    if parted.entries().is_empty() {
+        return Ok(());
+    }
     let both = BothNames {
         unnamed: after_name(None),
         named: after_name(Some(local_name)),

@@ -1,7 +1,8 @@
-use Rattle.std.proofs.Common.{Some, subst}
+use Rattle.std.proofs.Common.{◌≡◌, [], Some, None, subst, length, ap, sym, ◌∙◌, eqb-true}
+use Rattle.std.specs.Prelude.{unwrap_or}
 use Rattle.lol_rows.specs.KeyHashes.{after_name}
 use Rattle.lol_rows.specs.TagHashes.{HoldsBothParts}
-use Rattle.lol_rows.proofs.PartLemmas.{on_ok}
+use Rattle.lol_rows.proofs.PartLemmas.{none_parted, on_ok}
 use Rattle.lol_rows.proofs.tag_hashes.add_part_hashes.Goals as goal
 
 pub returns-clause-parts : goal.returns-clause-parts
@@ -11,3 +12,12 @@ returns-clause-parts c =
     subst (λ h. HoldsBothParts c.args.parted.now h (after_name (Some c.args.local_name.now.lowercased)) c.add_parts.new.hashes.items a) c.after_name.ensures
     (subst (λ h. HoldsBothParts c.args.parted.now c.after_name.result h c.add_parts.new.hashes.items a) c.after_name-2.ensures (parts a has)))
     c.add_parts.ensures.parts
+
+pub returns-then-is_empty-clause-parts : goal.returns-then-is_empty-clause-parts
+returns-then-is_empty-clause-parts c = λ a has. record {
+  unnamed_parts = none_parted c.args.parted.now (after_name None) a.name (unwrap_or a.value []) c.args.hashes.now.items empty;
+  named_parts = none_parted c.args.parted.now (after_name (Some c.args.local_name.now.lowercased)) a.name (unwrap_or a.value []) c.args.hashes.now.items empty;
+}
+  where
+    empty : length c.args.parted.now.entries.items ≡ 0
+    empty = ap length (sym c.entries.ensures) ∙ eqb-true _ _ (sym c.is_empty.ensures ∙ c.if-is_empty.true)
