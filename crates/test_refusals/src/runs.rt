@@ -151,12 +151,13 @@ pub(crate) fn by_type(alloc: Global) -> Result<bool, Stop> {
     )
 }
 
-/// The classes and the ids of one letter, each under its code, in a tree with rows. A refusal is the scenario's own.
+/// The classes and the ids of one letter, each under its code, and a part of a value, in a tree with rows. A refusal is the scenario's own.
 fn letters(alloc: Global) -> Result<Ast, Stop> {
     let mut ast = Ast::new(alloc);
     for sign in [b'.', b'#'] {
         add_letters(alloc, &mut ast, sign)?;
     }
+    add(alloc, &mut ast, "[title$='text']", 7)?;
     Ok(ast.with_rows())
 }
 
@@ -177,8 +178,9 @@ pub(crate) fn with_rows(alloc: Global) -> Result<bool, Stop> {
     let mut attributes = Attributes::new(alloc);
     attributes.push(b"class", Some(b"d c"))?;
     attributes.push(b"id", Some(b"z"))?;
+    attributes.push(b"title", Some(b"a text"))?;
     let events = [start(b"p", &attributes), TagEvent::End { name: b"p" }];
-    let wanted: [(&[u32], bool); 2] = [(&[99, 100, 122], true), (&[0], false)];
+    let wanted: [(&[u32], bool); 2] = [(&[7, 99, 100, 122], true), (&[0], false)];
     Ok(answered(alloc, letters(alloc)?, &events, &wanted)? == Met::Nothing)
 }
 
