@@ -169,6 +169,11 @@ def tags_inside_many(count):
     return script(selectors, around + [start("br", f"class=k{number % 100}-{number % 89}") for number in range(count)])
 
 
+def value_of(text):
+    """1,000 selectors whose operands end alike, and a tag with a value of so many bytes, which repeats a text."""
+    return lambda size: script([f'[a*="{number}bbbb"]' for number in range(1_000)], [start("br", "a=" + (text * size)[:size])])
+
+
 KB = "a" * 1023 + "b"
 MB = 1 << 20
 ROWS = [(f"selector: {name}", MB // 4, repeated(pattern, last)) for name, pattern, last in [
@@ -210,6 +215,8 @@ ROWS += [(f"rows: {name}", size, with_rows(make)) for name, size, make in [
     ("words of `class`, 1,000 selectors, all of these", 25_000, keyed(".k{}", class_words(0))),
     ("attributes of a tag, 1,000 selectors, none of these", 2_500, keyed("[a{}]", attribute_names(1_000))),
     ("attributes of a tag, 1,000 selectors, all of these", 2_500, keyed("[a{}]", attribute_names(0))),
+    ("bytes of a value, 1,000 selectors of its part", 25_000, value_of("b")),
+    ("bytes of a value, 1,000 selectors of another part", 25_000, value_of("".join(map(str, range(50_000))))),
     ("selectors of names with 200 equal letters", 10_000, found_by("{}", start, lambda number: f"{PREFIX}{number}")),
     ("selectors of classes with 200 equal letters", 10_000, found_by(".{}", lambda word: start("br", f"class={word}"), lambda number: f"{PREFIX}{number}")),
     ("selectors of ids that differ in case", 10_000, found_by("#{}", lambda word: start("br", f"id={word}"), lambda number: case_of(LETTERS, number))),

@@ -11,7 +11,7 @@ ghost use Rattle.lol_rows.specs.Rows.{AreItsHashes, AreRowsOf, HasPassing, HoldE
 use crate::key_hashes::{after_name, pair_hash};
 use crate::key_rows::{KeyRows, is_short};
 use crate::row_kind::RowKind;
-use crate::tag_hashes::{add_pair_hashes, add_part_hashes};
+use crate::tag_hashes::{add_pair_hashes, add_part_hashes, drop_repeated};
 use crate::tag_keys::TagKeys;
 use lol_base::LocalName;
 use lol_instructions::{AddressRange, AttributeMatcher, Instruction, KeyBytes};
@@ -91,7 +91,7 @@ impl Rows {
 
     /// Adds the hashes of what a start tag of this name and with these attributes leaves: of no name and of its own, each with no key, with
     /// its id, with each of its classes, with the name of each of its attributes, and with the parts of their values, as far as an
-    /// instruction has one of these. It takes a step for each byte of these.
+    /// instruction has one of these. It takes a step for each byte of these, and sorts the hashes where they are many.
     ///
     /// # Errors
     /// Out of memory.
@@ -105,7 +105,9 @@ impl Rows {
             → HoldEach hashes.new.items Pairs (is_left_by_keys local_name.now.lowercased matcher.now) instructions) }
     {
         add_pair_hashes(local_name, matcher, hashes)?;
-        add_part_hashes(&self.parted, local_name, matcher, hashes)
+        add_part_hashes(&self.parted, local_name, matcher, hashes)?;
+        drop_repeated(hashes);
+        Ok(())
     }
 
     /// Adds, ascending, the addresses of a range whose instructions a start tag leaves: that test no other name, and, where its attributes

@@ -67,6 +67,20 @@ pub(crate) fn add_part_hashes(
     both.add_parts(parted, matcher, hashes)
 }
 
+// So few hashes are looked up twice sooner than sorted.
+const FEW_HASHES: usize = 64;
+
+/// Takes out hashes that stand twice where they are many, as those of equal parts of a long value are: each would find all that it finds
+/// once more.
+pub(crate) fn drop_repeated(hashes: &mut Vec<u32>)
+    ensures { Keeps hashes.old.items hashes.new.items }
+{
+    if hashes.len() > FEW_HASHES {
+        hashes.sort_unstable();
+        hashes.dedup();
+    }
+}
+
 /// Hashers that were given that there is no name, and a name.
 #[derive(Clone, Copy)]
 struct BothNames {
