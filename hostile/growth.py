@@ -171,7 +171,7 @@ def tags_inside_many(count):
 
 def value_of(text):
     """1,000 selectors whose operands end alike, and a tag with a value of so many bytes, which repeats a text."""
-    return lambda size: script([f'[a*="{number}bbbb"]' for number in range(1_000)], [start("br", "a=" + (text * size)[:size])])
+    return lambda size: script([f'[a*="{number}bbbb"]' for number in range(1_000)], [start("br", "a=" + (text * (size // len(text) + 1))[:size])])
 
 
 KB = "a" * 1023 + "b"
