@@ -55,7 +55,8 @@ pub(crate) fn add_part_hashes(
 ) -> Result<(), AllocError>
     ensures kept { OnOk result (Keeps hashes.old.items hashes.new.items) }
     ensures parts { OnOk result ((a : Attribute) → Contains matcher.now.attributes a
-        → HoldsBothParts parted.now (after_name None) (after_name (Some local_name.now.lowercased)) hashes.new.items a) }
+        → HoldsBothParts parted.now (after_name None) (after_name (Some local_name.now.lowercased))
+        hashes.new.items a) }
 {
     if parted.entries().is_empty() {
         return Ok(());

@@ -24,8 +24,8 @@ pub(crate) fn has_other_name(predicate: &Predicate, element: &PlainElement<'_>) 
     }
 }
 
-/// Whether an element lacks the first id that is tested, else the first class, else the last part of the first operand that has one and that
-/// is compared with case, else the first other attribute.
+/// Whether an element lacks the first id that is tested, else the first class, else the last part of the first operand that has one and
+/// that is compared with case, else the first other attribute.
 pub(crate) fn lacks_key(
     alloc: Global,
     predicate: &Predicate,
