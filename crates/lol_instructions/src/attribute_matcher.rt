@@ -109,7 +109,8 @@ impl<'i> AttributeMatcher<'i> {
 
     /// The value of the attribute at a place, from 0, which is empty where none is written; none where there are not so many attributes.
     pub fn value_at(&self, place: usize) -> Option<&'i [u8]>
-        ensures { option_copied result ≡ option_map (λ a. unwrap_or a.value []) (slice_get self.now.attributes place) }
+        ensures { option_copied result
+            ≡ option_map (λ a. unwrap_or a.value []) (slice_get self.now.attributes place) }
     {
         Some(value_at(self.input, self.attributes.get(place)?))
     }
@@ -205,7 +206,8 @@ impl<'i> AttributeMatcher<'i> {
 
     /// Whether these bytes, which aren't none, stand in the attribute's value, with case. The name is in ASCII lower case.
     pub(crate) fn has_attr_with_part(&self, name: &[u8], part: &[u8]) -> bool
-        ensures { result ≡ has_value (value_in name.now self.now) (λ value. operator_holds Substring value part.now) }
+        ensures { result
+            ≡ has_value (value_in name.now self.now) (λ value. operator_holds Substring value part.now) }
     {
         match self.value_of(name) {
             Some(value) => has_substring(value, part, CaseSensitivity::CaseSensitive),

@@ -234,7 +234,8 @@ fn add_left(
     left: &mut Vec<u32>,
 ) -> Result<(), AllocError>
     ensures left { OnOk result (AreRowsOf instructions.now rows.now → AreItsHashes instructions.now keys.now
-        → left.new.items ≡ left.old.items ++ all_passing (leaves keys.now) instructions.now (all_ranges ranges.entry)) }
+        → left.new.items
+        ≡ left.old.items ++ all_passing (leaves keys.now) instructions.now (all_ranges ranges.entry)) }
     ensures free { AreRowsOf instructions.now rows.now → AreItsHashes instructions.now keys.now
         → length left.old.items + length (all_places (all_ranges ranges.entry)) ≤ vec_capacity left.old → IsOk result }
     ensures room { vec_capacity left.old ≤ vec_capacity left.new }
