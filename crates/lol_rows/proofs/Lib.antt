@@ -4,3 +4,4 @@ mod Found
 mod Alike
 mod Deciding
 mod PartLemmas
+mod Searches

@@ -11,9 +11,6 @@ use Rattle.lol_base.specs.StartTags.{Attribute}
 use Rattle.lol_base.specs.BoolLaws.{and_parts}
 use Rattle.lol_base.specs.PlaceLaws.{some_is}
 use Rattle.lol_base.specs.MemberLaws.{Among, among_any, among_back, among_from_contains, contains_from_among, flat_map_among, map_among}
-use Rattle.std.proofs.lemmas.Option.{slice_get-get_or}
-use Rattle.lol_key_table.specs.declared.key_table.Entry.{Entry}
-use Rattle.lol_key_table.specs.declared.key_table.KeyTable.{KeyTable}
 use Rattle.lol_instructions.specs.Tests.{find_attribute, has_value, operator_holds}
 use Rattle.lol_base.specs.declared.attribute.AttrSelectorOperator.TheVariants.{Substring}
 use Rattle.lol_instructions.specs.Attributes.{TagAttributes}
@@ -33,6 +30,7 @@ use Rattle.lol_rows.specs.TagHashes.{pair_hashes, HoldsBothParts, HoldsParts, Ke
 use Rattle.lol_rows.specs.Rows.{AreRowsOf, HoldEach, is_left_by_keys, is_left_by_name, keys_of, parted_after, parted_of}
 use Rattle.lol_rows.specs.declared.row_kind.RowKind.TheVariants.{Pairs}
 use Rattle.lol_rows.specs.declared.rows.Rows.{Rows}
+use Rattle.lol_rows.specs.declared.sorted_hashes.SortedHashes.{SortedHashes}
 use Rattle.lol_rows.proofs.PairLemmas.{name_there, named_hasher, whole_among, IsWholeOrNone}
 
 -- 1. A part of compiled tests has its length
@@ -246,7 +244,7 @@ no_parts (b ∷ value) short = by_length (nat_lt (length (b ∷ value)) part_len
     by_length true is = refl
     by_length false is = absurd (grind (arith, nat_tests, short, is))
 
-pub each_added : (table : KeyTable) (hasher after : DefaultHasher) (name value old new : List ℕ) → after ≡ after_attribute hasher (lowercased name)
+pub each_added : (table : SortedHashes) (hasher after : DefaultHasher) (name value old new : List ℕ) → after ≡ after_attribute hasher (lowercased name)
     → new ≡ old ++ map (hash_of_part after) (parts_of value) → HoldsParts table hasher name value new
 each_added table hasher after name value old new is added parted own known part one =
     subst (λ l. Contains l (hash_of_part (after_attribute hasher (lowercased name)) part)) (sym added)
@@ -256,10 +254,10 @@ each_added table hasher after name value old new is added parted own known part 
     (map_among (hash_of_part after) (parts_of value) part (among_from_contains (parts_of value) part one)))))
 
 -- what is kept still holds the parts
-pub parts_kept : (table : KeyTable) (hasher : DefaultHasher) (name value old new : List ℕ) → Keeps old new → HoldsParts table hasher name value old → HoldsParts table hasher name value new
+pub parts_kept : (table : SortedHashes) (hasher : DefaultHasher) (name value old new : List ℕ) → Keeps old new → HoldsParts table hasher name value old → HoldsParts table hasher name value new
 parts_kept table hasher name value old new keeps holds parted own known part one = keeps _ (holds parted own known part one)
 
-pub both_kept : (table : KeyTable) (unnamed named : DefaultHasher) (old new : List ℕ) (a : Attribute) → Keeps old new → HoldsBothParts table unnamed named old a → HoldsBothParts table unnamed named new a
+pub both_kept : (table : SortedHashes) (unnamed named : DefaultHasher) (old new : List ℕ) (a : Attribute) → Keeps old new → HoldsBothParts table unnamed named old a → HoldsBothParts table unnamed named new a
 both_kept table unnamed named old new a keeps holds = record {
   unnamed_parts = parts_kept table unnamed a.name (unwrap_or a.value []) old new keeps holds.unnamed_parts;
   named_parts = parts_kept table named a.name (unwrap_or a.value []) old new keeps holds.named_parts;
@@ -301,9 +299,8 @@ value_is attributes place name None d r named copied is = by_get (slice_get attr
     by_get None at of = cc
     by_get (Some a) at of = cc
 
--- an empty table has no hash, so nothing has to be held
-pub none_parted : (table : KeyTable) (hasher : DefaultHasher) (name value hashes : List ℕ) → length table.entries.items ≡ 0 → HoldsParts table hasher name value hashes
-none_parted table hasher name value hashes empty parted own known part one =
-    let entry : Entry = record { hash = hash_after hasher (Some (ByAttribute (lowercased name))); address = known.0 } in
-    let has = (own.members entry).1 (slice_get-get_or parted known.0 (hash_after hasher (Some (ByAttribute (lowercased name)))) known.1 ∙ ap Some known.2) in
+-- where there are none, nothing has to be held
+pub none_parted : (table : SortedHashes) (hasher : DefaultHasher) (name value hashes : List ℕ) → length table.sorted.items ≡ 0 → HoldsParts table hasher name value hashes
+none_parted table hasher name value hashes empty all own known part one =
+    let has = (own.members (hash_after hasher (Some (ByAttribute (lowercased name))))).1 known in
     absurd (omega (arith, empty, has.1))

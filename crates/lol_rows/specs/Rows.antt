@@ -10,6 +10,7 @@ use Rattle.lol_instructions.specs.Attributes.{TagAttributes}
 use Rattle.lol_instructions.specs.declared.instruction.Instruction.{Instruction}
 use Rattle.lol_key_table.specs.KeyTables.{IsTableOf}
 use Rattle.lol_rows.specs.KeyHashes.{after_name, hash_after, hash_of_name, hash_of_pair}
+use Rattle.lol_rows.specs.SortedHashes.{AreHashesOf}
 use Rattle.lol_rows.specs.declared.key_rows.KeyRows.{KeyRows}
 use Rattle.lol_rows.specs.declared.tag_keys.TagKeys.{TagKeys}
 use Rattle.lol_rows.specs.declared.row_kind.RowKind.{RowKind}
@@ -52,7 +53,7 @@ AreAlikeUnless shared kind instructions =
 pub record AreRowsBy (kind : RowKind) (instructions : List Instruction) (rows : KeyRows) : Type 0 where
   pub table : IsTableOf (map (hash_by kind) instructions) rows.table
   pub shared : List ℕ
-  pub shared_table : IsTableOf shared rows.shared
+  pub are_shared : AreHashesOf shared rows.shared
   pub alike : AreAlikeUnless shared kind instructions
 
 -- the hash of the pair of an instruction's name and of the attribute whose value has its part, if it has one
@@ -70,7 +71,7 @@ parted_of i = parted_after (after_name (keys_of i).name) (keys_of i).attribute
 pub record AreRowsOf (instructions : List Instruction) (rows : Rows) : Type 0 where
   pub names : AreRowsBy Names instructions rows.names
   pub pairs : AreRowsBy Pairs instructions rows.pairs
-  pub parted : IsTableOf (flat_map parted_of instructions) rows.parted
+  pub parted : AreHashesOf (flat_map parted_of instructions) rows.parted
 
 -- 3. What is left
 

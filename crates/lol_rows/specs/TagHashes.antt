@@ -3,11 +3,11 @@ use Rattle.std.specs.Prelude.{ℕ, List, [], ◌∷◌, map, flat_map, Option, S
 use Rattle.std.specs.declared.hash.DefaultHasher.{DefaultHasher}
 use Rattle.lol_base.specs.Names.{lowercased}
 use Rattle.lol_base.specs.StartTags.{Attribute}
-use Rattle.lol_key_table.specs.KeyTables.{IsTableOf}
-use Rattle.lol_key_table.specs.declared.key_table.KeyTable.{KeyTable}
 use Rattle.lol_instructions.specs.Attributes.{TagAttributes}
 use Rattle.lol_instructions.specs.Keys.{AttributeKey, ByAttribute, keys_seen, parts_of}
 use Rattle.lol_rows.specs.KeyHashes.{after_attribute, after_name, hash_after, hash_of_part}
+use Rattle.lol_rows.specs.SortedHashes.{AreHashesOf}
+use Rattle.lol_rows.specs.declared.sorted_hashes.SortedHashes.{SortedHashes}
 
 -- a key after no name, and after a name
 abbrev pub both_hashes : DefaultHasher → DefaultHasher → Option AttributeKey → List ℕ
@@ -21,13 +21,13 @@ pair_hashes name seen = flat_map (both_hashes (after_name None) (after_name (Som
 abbrev pub Keeps : List ℕ → List ℕ → Type 0
 Keeps old new = (hash : ℕ) → Contains old hash → Contains new hash
 
--- The hashes hold those of the parts of an attribute's value, where a table has the hash of its name.
-abbrev pub HoldsParts : KeyTable → DefaultHasher → List ℕ → List ℕ → List ℕ → Type 0
-HoldsParts table hasher name value hashes =
-    (parted : List ℕ) → IsTableOf parted table → Contains parted (hash_after hasher (Some (ByAttribute (lowercased name))))
+-- The hashes hold those of the parts of an attribute's value, where that of its name is one of the parted ones.
+abbrev pub HoldsParts : SortedHashes → DefaultHasher → List ℕ → List ℕ → List ℕ → Type 0
+HoldsParts parted hasher name value hashes =
+    (all : List ℕ) → AreHashesOf all parted → Contains all (hash_after hasher (Some (ByAttribute (lowercased name))))
     → (part : List ℕ) → Contains (parts_of value) part → Contains hashes (hash_of_part (after_attribute hasher (lowercased name)) part)
 
 -- the same of an attribute, after no name, and after a name
-pub record HoldsBothParts (table : KeyTable) (unnamed named : DefaultHasher) (hashes : List ℕ) (a : Attribute) : Type 0 where
-  pub unnamed_parts : HoldsParts table unnamed a.name (unwrap_or a.value []) hashes
-  pub named_parts : HoldsParts table named a.name (unwrap_or a.value []) hashes
+pub record HoldsBothParts (parted : SortedHashes) (unnamed named : DefaultHasher) (hashes : List ℕ) (a : Attribute) : Type 0 where
+  pub unnamed_parts : HoldsParts parted unnamed a.name (unwrap_or a.value []) hashes
+  pub named_parts : HoldsParts parted named a.name (unwrap_or a.value []) hashes

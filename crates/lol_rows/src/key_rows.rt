@@ -1,7 +1,7 @@
 //! Instructions by the hashes of their keys.
 
-ghost use Rattle.std.specs.Prelude.{◌≡◌, ◌++◌, ◌+◌, ◌≤◌, ℕ, List, IfOk, IsOk, OnOk, Some, Contains, map, length};
-ghost use Rattle.std.specs.Bool.{OnTrue, OnFalse};
+ghost use Rattle.std.specs.Prelude.{◌≡◌, ◌++◌, ◌+◌, ◌≤◌, ℕ, IfOk, IsOk, OnOk, Some, map, length};
+ghost use Rattle.std.specs.Bool.{OnTrue};
 ghost use Rattle.std.specs.Vec.{vec_capacity};
 ghost use Rattle.std.specs.Option.{option_copied};
 ghost use Rattle.lol_key_table.specs.KeyTables.{IsTableOf};
@@ -10,6 +10,7 @@ ghost use Rattle.lol_rows.specs.Rows.{hash_by, leaves, passing, AreAlikeAt, AreR
 ghost use Rattle.lol_rows.specs.KeyRows.{CanFind, AreBesideAlike, AreOfOneHash, address_of, left_of_row};
 
 use crate::row_kind::RowKind;
+use crate::sorted_hashes::SortedHashes;
 use crate::tag_keys::TagKeys;
 use lol_instructions::{AddressRange, Instruction};
 use lol_key_table::{Entry, KeyTable};
@@ -20,7 +21,7 @@ use std::alloc::{AllocError, Global};
 pub(crate) struct KeyRows {
     pub(crate) table: KeyTable,
     // The hashes that several keys have.
-    shared: KeyTable,
+    shared: SortedHashes,
 }
 
 impl KeyRows {
@@ -35,7 +36,7 @@ impl KeyRows {
         let shared = shared_hashes(alloc, kind, instructions, table.entries())?;
         Ok(KeyRows {
             table,
-            shared: KeyTable::of(alloc, shared)?,
+            shared: SortedHashes::of(shared),
         })
     }
 
@@ -106,7 +107,7 @@ impl KeyRows {
         let Some(first) = row.first() else {
             return Ok(());
         };
-        if has_hash(&self.shared, first.hash) {
+        if self.shared.has(first.hash) {
             return add_left_entries(instructions, row, keys, found);
         }
         if keys.leave(instructions, first.address as usize) {
@@ -185,13 +186,6 @@ fn add_entries(row: &[Entry], found: &mut Vec<u32>) -> Result<(), AllocError>
         found.push(entry.address)?;
     }
     Ok(())
-}
-
-/// Whether a table may have an entry of this hash. It is false only if it has none.
-pub(crate) fn has_hash(table: &KeyTable, hash: u32) -> bool
-    ensures { OnFalse result ((all : List ℕ) → IsTableOf all table.now → Contains all hash → ⊥) }
-{
-    !table.entries_within(hash, 0, usize::MAX).is_empty()
 }
 
 // To look addresses up takes about as long as to run through so many.

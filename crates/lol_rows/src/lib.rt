@@ -6,6 +6,7 @@ mod key_rows;
 pub mod laws;
 mod row_kind;
 mod rows;
+mod sorted_hashes;
 mod tag_hashes;
 mod tag_keys;
 

@@ -11,22 +11,23 @@ ghost use Rattle.lol_rows.specs.Rows.{AreItsHashes, AreRowsOf, HasPassing, HoldE
 use crate::key_hashes::{after_name, pair_hash};
 use crate::key_rows::{KeyRows, is_short};
 use crate::row_kind::RowKind;
+use crate::sorted_hashes::SortedHashes;
 use crate::tag_hashes::{add_pair_hashes, add_part_hashes, drop_repeated};
 use crate::tag_keys::TagKeys;
 use lol_base::LocalName;
 use lol_instructions::{AddressRange, AttributeMatcher, Instruction, KeyBytes};
-use lol_key_table::KeyTable;
 use std::alloc::{AllocError, Global};
 
-/// The addresses of instructions by the hashes of their keys. They take 16 bytes for each instruction.
+/// The addresses of instructions by the hashes of their keys. They take 16 bytes for each instruction, and 4 for each attribute of which some
+/// have a part.
 #[derive(Debug, Drop)]
 pub struct Rows {
     // By name, and by whether it is known that attributes are needed.
     names: KeyRows,
     // By name, and by id, class, part or attribute.
     pairs: KeyRows,
-    // The hashes of a name and of an attribute whose value has a part, for each instruction that has one.
-    parted: KeyTable,
+    // The hashes of a name and of an attribute of which some instruction has a part.
+    parted: SortedHashes,
 }
 
 impl Rows {
@@ -37,10 +38,11 @@ impl Rows {
     pub fn of(alloc: Global, instructions: &[Instruction]) -> Result<Self, AllocError>
         ensures { IfOk result (AreRowsOf instructions.now) }
     {
+        let parted = SortedHashes::of(parted_hashes(alloc, instructions)?);
         Ok(Rows {
             names: KeyRows::of(alloc, RowKind::Names, instructions)?,
             pairs: KeyRows::of(alloc, RowKind::Pairs, instructions)?,
-            parted: KeyTable::of(alloc, parted_hashes(alloc, instructions)?)?,
+            parted,
         })
     }
 

@@ -10,10 +10,9 @@ ghost use Rattle.lol_rows.specs.KeyHashes.{after_name, hash_of_part};
 ghost use Rattle.lol_rows.specs.TagHashes.{both_hashes, pair_hashes, HoldsBothParts, HoldsParts, Keeps};
 
 use crate::key_hashes::{after_attribute, after_name, attribute_hash, pair_hash, part_hash};
-use crate::key_rows::has_hash;
+use crate::sorted_hashes::SortedHashes;
 use lol_base::LocalName;
 use lol_instructions::{AttributeMatcher, KeyBytes, PART_LENGTH, first_word};
-use lol_key_table::KeyTable;
 use std::alloc::AllocError;
 use std::hash::DefaultHasher;
 
@@ -42,13 +41,13 @@ pub(crate) fn add_pair_hashes(
     Ok(())
 }
 
-/// Adds the hashes of the pairs with each part of the values of attributes, where a table has the hash of the pair with the attribute's
-/// name. It takes a step for each byte of the attributes' names, and of the values whose parts are added.
+/// Adds the hashes of the pairs with each part of the values of attributes, where the hash of the pair with the attribute's name is one of
+/// `parted`. It takes a step for each byte of the attributes' names, and of the values whose parts are added.
 ///
 /// # Errors
 /// Out of memory.
 pub(crate) fn add_part_hashes(
-    parted: &KeyTable,
+    parted: &SortedHashes,
     local_name: &LocalName<'_>,
     matcher: &AttributeMatcher<'_>,
     hashes: &mut Vec<u32>,
@@ -58,7 +57,7 @@ pub(crate) fn add_part_hashes(
         → HoldsBothParts parted.now (after_name None) (after_name (Some local_name.now.lowercased))
         hashes.new.items a) }
 {
-    if parted.entries().is_empty() {
+    if parted.is_empty() {
         return Ok(());
     }
     let both = BothNames {
@@ -147,10 +146,10 @@ impl BothNames {
         }
         Ok(())
     }
-    /// Those of the parts of the value of each attribute, where the table has the hash of its name.
+    /// Those of the parts of the value of each attribute, where the hash of its name is one of `parted`.
     fn add_parts(
         &self,
-        parted: &KeyTable,
+        parted: &SortedHashes,
         matcher: &AttributeMatcher<'_>,
         hashes: &mut Vec<u32>,
     ) -> Result<(), AllocError>
@@ -172,10 +171,10 @@ impl BothNames {
     }
 }
 
-/// Adds the hashes of the parts of an attribute's value, where the table has the hash of its name.
+/// Adds the hashes of the parts of an attribute's value, where the hash of its name is one of `parted`.
 fn add_parts_after(
     hasher: DefaultHasher,
-    parted: &KeyTable,
+    parted: &SortedHashes,
     name: &[u8],
     value: &[u8],
     hashes: &mut Vec<u32>,
@@ -183,7 +182,7 @@ fn add_parts_after(
     ensures kept { OnOk result (Keeps hashes.old.items hashes.new.items) }
     ensures parts { OnOk result (HoldsParts parted.now hasher name.now value.now hashes.new.items) }
 {
-    if !has_hash(parted, attribute_hash(hasher, name)) {
+    if !parted.has(attribute_hash(hasher, name)) {
         return Ok(());
     }
     add_each_part(after_attribute(hasher, name), value, hashes)

@@ -1,4 +1,4 @@
-use Rattle.std.proofs.Common.{◌≡◌, [], Some, None, subst, length, ap, sym, ◌∙◌, eqb-true}
+use Rattle.std.proofs.Common.{◌≡◌, [], Some, None, subst, length}
 use Rattle.std.specs.Prelude.{unwrap_or}
 use Rattle.lol_rows.specs.KeyHashes.{after_name}
 use Rattle.lol_rows.specs.TagHashes.{HoldsBothParts}
@@ -19,5 +19,5 @@ returns-then-is_empty-clause-parts c = λ a has. record {
   named_parts = none_parted c.args.parted.now (after_name (Some c.args.local_name.now.lowercased)) a.name (unwrap_or a.value []) c.args.hashes.now.items empty;
 }
   where
-    empty : length c.args.parted.now.entries.items ≡ 0
-    empty = ap length (sym c.entries.ensures) ∙ eqb-true _ _ (sym c.is_empty.ensures ∙ c.if-is_empty.true)
+    empty : length c.args.parted.now.sorted.items ≡ 0
+    empty = c.if-is_empty.ensures

@@ -11,7 +11,7 @@ returns-in_ok-add_entries c = λ kind can hash of_one.
     let row = c.args.row.now in
     let first = c.in-Some.first.now in
     let has : Contains row first = contains_from_among row first (at_among row 0 first (sym c.in-Some.ensures.value)) in
-    let all = all_or_none kind c.args.instructions.now (leaves c.args.keys.now) can.built.shared row hash first can.built.alike can.decided of_one has (c.if-has_hash.ensures can.built.shared can.built.shared_table) in
+    let all = all_or_none kind c.args.instructions.now (leaves c.args.keys.now) can.built.shared row hash first can.built.alike can.decided of_one has (c.if-has.ensures.none can.built.shared can.built.are_shared) in
     c.in_ok-add_entries.ensures ∙ ap (λ (l : List ℕ). c.args.found.now.items ++ l) (sym (all ∙ ap (λ b. cond b (map address_of row) []) (sym c.leave.ensures ∙ c.if-leave.true)))
 
 pub returns-else-leave : goal.returns-else-leave
@@ -19,5 +19,5 @@ returns-else-leave c = λ kind can hash of_one.
     let row = c.args.row.now in
     let first = c.in-Some.first.now in
     let has : Contains row first = contains_from_among row first (at_among row 0 first (sym c.in-Some.ensures.value)) in
-    let all = all_or_none kind c.args.instructions.now (leaves c.args.keys.now) can.built.shared row hash first can.built.alike can.decided of_one has (c.if-has_hash.ensures can.built.shared can.built.shared_table) in
+    let all = all_or_none kind c.args.instructions.now (leaves c.args.keys.now) can.built.shared row hash first can.built.alike can.decided of_one has (c.if-has.ensures.none can.built.shared can.built.are_shared) in
     sym (append-nil c.args.found.now.items) ∙ ap (λ (l : List ℕ). c.args.found.now.items ++ l) (sym (all ∙ ap (λ b. cond b (map address_of row) []) (sym c.leave.ensures ∙ c.if-leave.false)))

@@ -8,7 +8,7 @@ pub returns : goal.returns
 returns c = record {
   table = c.in_ok-table.ensures;
   shared = c.in_ok-shared.shared.items;
-  shared_table = c.in_ok-of.ensures;
+  are_shared = c.of.ensures;
   alike =
       alike_unless c.args.kind c.args.instructions.now c.in_ok-shared.shared.items c.in_ok-table.table c.in_ok-table.ensures
       (subst (λ (l : List Entry). AreBesideAlike c.args.kind c.args.instructions.now c.in_ok-shared.shared.items l) c.entries.ensures c.in_ok-shared.ensures);
