@@ -1,5 +1,5 @@
 use Rattle.lol_base.specs.ListLaws.{passes_not, passes_all, passes_some, fails_all}
-use Rattle.std.proofs.Common.{◌≡◌, ◌≤◌, ◌-◌, arith, length, get_or, List, sym, ap, ◌∙◌}
+use Rattle.std.proofs.Common.{◌≡◌, ◌≤◌, ◌-◌, arith, length, get_or, List, sym, ap, ◌∙◌, rules}
 use Rattle.std.proofs.lemmas.Result.{IfOk-weaker}
 use Rattle.lol_css.specs.TreeViews.{item_of, compound_of, with_part_list}
 use Rattle.lol_css.specs.Trees.{Nothing}
@@ -61,3 +61,6 @@ item_passes-returns t c =
           ap (λ (k : Compound). written_tests (compound_of k)) (ap (λ b. b.now) w.compound-is ∙ ap (λ (l : Combinator × Compound). l.1) (sym w.index-last.is)) ∙ sym (last_counts_in item last some at)
     ] in
     IfOk-weaker c.compound_passes.result _ _ (λ passes told. told ∙ ap (λ k. all_hold k e) counts) c.compound_passes.ensures
+
+pub part_passes-returns-in_ok-some_item_passes-in-Negation : goal.part_passes-returns-in_ok-some_item_passes-in-Negation
+part_passes-returns-in_ok-some_item_passes-in-Negation c = search rules

@@ -1,4 +1,4 @@
-use Rattle.std.proofs.Common.{Some, None, Vec, ℕ, map, sym, ap, ◌∙◌}
+use Rattle.std.proofs.Common.{Some, None, Vec, ℕ, map, sym, ap, ◌∙◌, rules}
 use Rattle.std.specs.Option.{option_map}
 use Rattle.plain_matcher.specs.PlainElements.{element_shown}
 use Rattle.plain_matcher.proofs.PlainExplained.{alone_fails, alone_passes, last_fails, last_passes}
@@ -27,3 +27,9 @@ innermost_witness-returns t c =
     ap Some c.in_ok-insert.ensures.items
     ∙ last_passes c.args.first.now c.args.rest.now (element_shown c.args.element.now) (map element_shown c.args.outer.now) c.in_ok-compound_passes-2.field-0 c.in-Some.front.now c.in-Some.field-0-0.now c.in-Some.ensures.cases.0 c.in_ok-compound_passes-2.ensures c.if-not-branch-2.false
     (Some c.in-Some-2.witness.items) (sym (ap (option_map (λ (v : Vec ℕ _). v.items)) c.in-Some-2.is) ∙ c.in_ok-witness.ensures)
+
+pub step_finds-returns-in-Child : goal.step_finds-returns-in-Child
+step_finds-returns-in-Child c = search rules
+
+pub step_finds-returns-in-Some-2 : goal.step_finds-returns-in-Some-2
+step_finds-returns-in-Some-2 c = search rules

@@ -24,3 +24,6 @@ pub returns-clause-left : goal.returns-clause-left
 returns-clause-left g c =
     let told = c.open_element-pushed.ensures in
     on_err_both c.open_element-pushed.result (λ alike uncharged. alike_opens_nothing c.args.self.now _ alike refl uncharged) told.err told.err_limiter
+
+pub returns-clause-refused : goal.returns-clause-refused
+returns-clause-refused c = search rules
