@@ -1,4 +1,4 @@
-use Rattle.std.proofs.Common.{◌≡◌, Option, Some, ◌∙◌, subst}
+use Rattle.std.proofs.Common.{◌≡◌, Option, Some, ◌∙◌, subst, rules}
 use Rattle.std.specs.Prelude.{IfSome}
 use Rattle.std.proofs.lemmas.Result.{err_from_is_err_and}
 use Rattle.lol_script.proofs.program.answer_lines.Goals as goal
@@ -17,3 +17,6 @@ returns-clause-ok g c =
     let tags = at_some _ c.in_ok-settings.field-0 c.in-Some.settings c.in-Some.is c.in_ok-settings.ensures.tags in
     let whole = c.in_ok-answered.ensures.whole c.args.reader.now tags.0 tags.2 (c.in-Ok.ensures tags.0 tags.1) (λ none. tags.3) in
     (whole.0, whole.1, whole.2, whole.3.2 ∙ c.finish-made.ensures whole.3.0 whole.3.1)
+
+pub returns-in_default-clause-ok : goal.returns-in_default-clause-ok
+returns-in_default-clause-ok g c = search rules
