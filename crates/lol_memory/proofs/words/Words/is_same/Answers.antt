@@ -1,4 +1,4 @@
-use Rattle.std.proofs.Common.{ap, sym, subst, ◌∙◌}
+use Rattle.std.proofs.Common.{ap, sym, subst, ◌∙◌, rules}
 use Rattle.std.proofs.lemmas.Slice.Eq.{slice_eq-Decides}
 use Rattle.lol_memory.specs.SparseWords.{all_words}
 use Rattle.lol_memory.specs.WordsOf.{IsInForm, words_of}
@@ -15,3 +15,6 @@ returns-in-Sparse-Sparse c =
       λ same. ap words_of c.in-Sparse-Sparse.is-0 ∙ (ap all_words (test.0 same) ∙ sym (ap words_of c.in-Sparse-Sparse.is-1)),
       λ same. test.1 (same_sparse xs ys form.0 form'.0 (sym (ap words_of c.in-Sparse-Sparse.is-0) ∙ (same ∙ ap words_of c.in-Sparse-Sparse.is-1))),
     )
+
+pub returns-in_default : goal.returns-in_default
+returns-in_default c = search rules
