@@ -1,9 +1,12 @@
-use Rattle.std.proofs.Common.{◌∙◌, ap, refl, take, length}
+use Rattle.std.proofs.Common.{◌∙◌, ap, refl, take, length, rules}
 use Rattle.lol_base.specs.LocalNames.{same_local_name}
 use Rattle.lol_stack.specs.OpenPlaces.{places_of}
 use Rattle.lol_stack.specs.Stacks.{active_in, places_in}
 use Rattle.lol_stack.proofs.StackLists.{take-activated, place-undone}
 use Rattle.lol_stack.proofs.stack.StackOf+LocalName+StackNames+E.push_item.Goals as goal
+
+pub returns-then-is_limited-clause-limited : goal.returns-then-is_limited-clause-limited
+returns-then-is_limited-clause-limited g c = search rules
 
 pub returns-in-Err-add-clause-err : goal.returns-in-Err-add-clause-err
 returns-in-Err-add-clause-err g c =
