@@ -1,4 +1,4 @@
-use Rattle.std.proofs.Common.{◌++◌, ◌∷◌, List, ℕ, map, sym, ap, ◌∙◌}
+use Rattle.std.proofs.Common.{◌++◌, ◌∷◌, List, ℕ, map, sym, ap, ◌∙◌, rules}
 use Rattle.std.specs.List.{flat_map}
 use Rattle.std.proofs.lemmas.List.{append_assoc}
 use Rattle.std.proofs.lemmas.Result.{on_ok_weaker}
@@ -21,3 +21,6 @@ returns-clause-appended c = on_ok_weaker c.push_others.result
     ∙ ap (λ (list : List ℕ). before ++ list) (sym (listed_is shown_field first others)
     ∙ ap (λ (filling : Filling). comma_list (map shown_field (fields_from filling first others))) (sym c.in-Listed.is)))))
     c.push_others.ensures
+
+pub returns-in-Empty-clause-appended : goal.returns-in-Empty-clause-appended
+returns-in-Empty-clause-appended c = search rules

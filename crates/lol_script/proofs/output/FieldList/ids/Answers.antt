@@ -1,4 +1,5 @@
-use Rattle.std.proofs.Common.{◌≡◌, ◌++◌, ◌∷◌, [], List, ℕ, map, sym, ap, ◌∙◌}
+use Rattle.std.proofs.Common.{◌≡◌, ◌++◌, ◌∷◌, [], List, ℕ, map, sym, ap, ◌∙◌, arith}
+use Rattle.std.proofs.lemmas.Grind.{common_steps}
 use Rattle.std.proofs.lemmas.List.{take_all}
 use Rattle.lol_script.specs.FieldLists.{fields_from, number_in}
 use Rattle.lol_script.specs.declared.output.Field.{Field}
@@ -14,3 +15,6 @@ returns-clause-ids c =
     ∙ ((λ i. begun i ++ map number_in (take_all c.loop-field.field-index others c.loop-field-test.false i))
     ∙ (ap (λ (fields : List Field). number_in first ∷ map number_in fields) c.deref-field-items.ensures.value
     ∙ ap (λ (filling : Filling). map number_in (fields_from filling first c.args.self.now.others.items)) (sym c.in-Listed.is)))
+
+pub loop-field-preserved : goal.loop-field-preserved
+loop-field-preserved c = grind (arith, common_steps)
