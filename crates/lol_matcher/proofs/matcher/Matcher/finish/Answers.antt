@@ -143,3 +143,6 @@ pub returns-in-Err-clause-tried : goal.returns-in-Err-clause-tried
 returns-in-Err-clause-tried g c =
     let a = (goal.at.returns-in-Err-clause-tried g c).After-finish_tag in
     rw (← c.self.view_is, (waits g a).asked) (λ refusal. tried g a)
+
+pub returns-in_default-clause-well : goal.returns-in_default-clause-well
+returns-in_default-clause-well c = search rules

@@ -1,3 +1,4 @@
+use Rattle.std.proofs.Common.{rules}
 use Rattle.lol_vm.specs.Views.{selectors}
 use Rattle.lol_matcher.specs.Told.{heard}
 use Rattle.lol_matcher.proofs.Charges.{charged_on}
@@ -17,3 +18,9 @@ invariant_of-self g c =
       waits = λ ok. waits_on (selectors h.told.ast) h.told.esi h.told.events h.told.asked vm call.new.vm c.self.inside.request call.ensures.pending (keeps.waits ok);
       told_open = keeps.told_open;
     }
+
+pub returns-clause-before : goal.returns-clause-before
+returns-clause-before c = search rules
+
+pub returns-clause-changed : goal.returns-clause-changed
+returns-clause-changed c = search rules

@@ -133,3 +133,6 @@ returns-in-Err-clause-left g c =
 
 pub returns-in-Err-clause-tried : goal.returns-in-Err-clause-tried
 returns-in-Err-clause-tried g c = rw (← c.self.view_is) (λ refusal. tried g (goal.at.returns-in-Err-clause-tried g c).After-hand_tag)
+
+pub returns-in-Ok-Unreported-clause-after : goal.returns-in-Ok-Unreported-clause-after
+returns-in-Ok-Unreported-clause-after c = search rules
