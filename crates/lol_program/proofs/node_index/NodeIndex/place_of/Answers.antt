@@ -1,4 +1,4 @@
-use Rattle.std.proofs.Common.{◌≡◌, ◌<◌, arith, length, map, None, true≢false, is_some, ap, subst, sym, ◌∙◌, List}
+use Rattle.std.proofs.Common.{◌≡◌, ◌<◌, arith, length, map, None, true≢false, is_some, ap, subst, sym, ◌∙◌, List, rules}
 use Rattle.std.proofs.lemmas.List.{length-map, length-take, take-map}
 use Rattle.std.specs.Ordering.{nat_cmp}
 use Rattle.std.specs.BTreeMap.{get}
@@ -36,3 +36,6 @@ returns-then-is_of-clause-some c =
     let within : place < length (map node_of nodes) = omega (arith, c.if-place-nodes.true, length-map nodes node_of) in
     place_from_differ (tests_of_compound c.args.compound.now) (map node_of nodes) place c.requires.differ within
     (λ d. compound_at nodes place node d c.if-place-nodes.true ∙ c.is_of.ensures.0 c.if-is_of.true)
+
+pub returns-clause-none : goal.returns-clause-none
+returns-clause-none c = search rules
