@@ -1,4 +1,4 @@
-use Rattle.lol_vm.proofs.Common.{◌≡◌, true, false, true≢false, cond, List, Option, refl, sym, ap, ◌∙◌, subst, Ok, Some, None, Range, ℕ, NeedNoMemory, AreRunnable, AreTried, AreWithin, left_ranges, ranges_to_run_in, sight_in}
+use Rattle.lol_vm.proofs.Common.{◌≡◌, true, false, true≢false, cond, List, Option, refl, sym, ap, ◌∙◌, subst, Ok, Some, None, Range, ℕ, NeedNoMemory, AreRunnable, AreTried, AreWithin, left_ranges, ranges_to_run_in, sight_in, rules}
 use Rattle.std.specs.Result.{IfOk}
 use Rattle.lol_program.specs.ProgramViews.{HasItsRows, has_rows}
 use Rattle.lol_rows.specs.Rows.{is_left_by_name}
@@ -92,3 +92,6 @@ returns-in-Err-try_by_name-clause-tried g c = λ own_rows.
           absurd (err_is_not_ok c.try_by_name.result c.in-Err-try_by_name.error c.in-Err-try_by_name.is
           (c.try_by_name.ensures.free (subst (NeedNoMemory c.args.ctx.now.with_content) (sym c.left-run.ensures.instructions) free)));
     }
+
+pub returns-in-Ok-true-clause-tried : goal.returns-in-Ok-true-clause-tried
+returns-in-Ok-true-clause-tried g c = search rules
