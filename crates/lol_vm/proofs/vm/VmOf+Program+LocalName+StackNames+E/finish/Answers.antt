@@ -157,3 +157,6 @@ returns-clause-all_or_none g c = λ error is. inr (
       let opens = not_false c.complete.new.ctx.with_content (λ closed. err_is_not_ok c.answer.result (pushes.Memory error) is (c.answer.ensures.closed closed)) in
       memory_instead c.answer.result error is (c.answer.ensures.limited.1 (opens, due_then g c due)),
 )
+
+pub returns-in-Err-clause-refused : goal.returns-in-Err-clause-refused
+returns-in-Err-clause-refused g c = refl
