@@ -3,6 +3,3 @@ use Rattle.lol_stack.proofs.address_ranges.AddressRanges.pop.Goals as goal
 
 pub returns-in-One-clause-items : goal.returns-in-One-clause-items
 returns-in-One-clause-items c = search rules
-
-pub returns-else-not-is_empty-clause-items : goal.returns-else-not-is_empty-clause-items
-returns-else-not-is_empty-clause-items c = search rules

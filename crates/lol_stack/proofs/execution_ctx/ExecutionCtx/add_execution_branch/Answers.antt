@@ -3,6 +3,3 @@ use Rattle.lol_stack.proofs.execution_ctx.ExecutionCtx.add_execution_branch.Goal
 
 pub returns-clause-ok : goal.returns-clause-ok
 returns-clause-ok g c = search rules
-
-pub returns-then-self-2-clause-err : goal.returns-then-self-2-clause-err
-returns-then-self-2-clause-err g c = search rules
