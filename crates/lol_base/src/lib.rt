@@ -2,10 +2,10 @@
 //! siblings counted.
 #![tactic(auto)]
 
-mod attribute;
 mod attributes;
 mod bytes;
 mod caseless;
+mod comparison;
 pub mod laws;
 mod local_name;
 mod namespace;
@@ -13,9 +13,9 @@ mod nth;
 mod start_tag;
 mod tag;
 
-pub use attribute::{AttrSelectorOperator, CaseSensitivity, ParsedCaseSensitivity};
 pub use attributes::Attributes;
 pub use bytes::{Bytes, Range};
+pub use comparison::{AttrSelectorOperator, CaseSensitivity, ParsedCaseSensitivity};
 pub use local_name::LocalName;
 pub use namespace::Namespace;
 pub use nth::NthChild;

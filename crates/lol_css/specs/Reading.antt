@@ -11,10 +11,10 @@ use Rattle.lol_css.specs.Drafts.{Step, By, NextSibling, SubsequentSibling, Draft
 use Rattle.lol_css.specs.Rules.{Read, refused, ◌>>=◌, giving, is_delim, is_space, skip_space, Nesting, Outside, InFunction, InBrackets, at_end, at_stop, required_token, block_end, lowercase, says, ident_of}
 use Rattle.lol_css.specs.AnPlusB.{an_plus_b}
 use Rattle.lol_css.specs.declared.syntax.tokens.MatchOperator.TheVariants as operators
-use Rattle.lol_base.specs.declared.attribute.AttrSelectorOperator.{AttrSelectorOperator}
-use Rattle.lol_base.specs.declared.attribute.AttrSelectorOperator.TheVariants.{Equal, Includes, DashMatch, Prefix, Substring, Suffix}
-use Rattle.lol_base.specs.declared.attribute.ParsedCaseSensitivity.{ParsedCaseSensitivity}
-use Rattle.lol_base.specs.declared.attribute.ParsedCaseSensitivity.TheVariants.{ExplicitCaseSensitive, AsciiCaseInsensitive, CaseSensitive, AsciiCaseInsensitiveIfInHtmlElementInHtmlDocument}
+use Rattle.lol_base.specs.declared.comparison.AttrSelectorOperator.{AttrSelectorOperator}
+use Rattle.lol_base.specs.declared.comparison.AttrSelectorOperator.TheVariants.{Equal, Includes, DashMatch, Prefix, Substring, Suffix}
+use Rattle.lol_base.specs.declared.comparison.ParsedCaseSensitivity.{ParsedCaseSensitivity}
+use Rattle.lol_base.specs.declared.comparison.ParsedCaseSensitivity.TheVariants.{ExplicitCaseSensitive, AsciiCaseInsensitive, CaseSensitive, AsciiCaseInsensitiveIfInHtmlElementInHtmlDocument}
 use Rattle.lol_css.specs.declared.selector.Combinator.TheVariants.{Child, Descendant}
 use Rattle.lol_css.specs.declared.selectors.logical.LogicalCombination.{LogicalCombination}
 use Rattle.lol_css.specs.declared.selectors.logical.LogicalCombination.TheVariants.{Not, Is, Where}

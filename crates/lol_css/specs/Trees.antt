@@ -1,8 +1,8 @@
 -- Selectors as trees (Selectors 4, sections 3 and 4). Rows are built at their right end: what stands last is on the outside.
 -- Names and values are texts in UTF-8.
 use Rattle.std.specs.Prelude.{ℕ, Bool, List, ℤ}
-use Rattle.lol_base.specs.declared.attribute.AttrSelectorOperator.{AttrSelectorOperator}
-use Rattle.lol_base.specs.declared.attribute.ParsedCaseSensitivity.{ParsedCaseSensitivity}
+use Rattle.lol_base.specs.declared.comparison.AttrSelectorOperator.{AttrSelectorOperator}
+use Rattle.lol_base.specs.declared.comparison.ParsedCaseSensitivity.{ParsedCaseSensitivity}
 use Rattle.lol_css.specs.declared.selector.Combinator.{Combinator}
 
 -- a part without parts of its own

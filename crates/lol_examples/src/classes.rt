@@ -2,7 +2,7 @@
 
 ghost use Rattle.std.specs.Prelude.{◌≡◌, codes};
 ghost use Rattle.lol_base.specs.StartTags.{RangesAreInside, attributes_of};
-ghost use Rattle.lol_base.specs.declared.attribute.AttrSelectorOperator.TheVariants.{Includes};
+ghost use Rattle.lol_base.specs.declared.comparison.AttrSelectorOperator.TheVariants.{Includes};
 ghost use Rattle.lol_instructions.specs.Attributes.{value_among};
 ghost use Rattle.lol_instructions.specs.Tests.{has_value, operator_holds};
 

@@ -13,9 +13,9 @@ use Rattle.std.proofs.lemmas.Bool.Decides.{nat_tests}
 use Rattle.std.proofs.lemmas.Bool.{cases_eq, cases_Bool, and_right, or_from}
 use Rattle.std.proofs.Math.Bool.{or-false, or-true, and-true, and_assoc}
 use Rattle.lol_base.specs.Names.{lowercased}
-use Rattle.lol_base.specs.declared.attribute.AttrSelectorOperator.TheVariants.{Equal, Includes, DashMatch, Prefix, Substring, Suffix}
-use Rattle.lol_base.specs.declared.attribute.CaseSensitivity.{CaseSensitivity}
-use Rattle.lol_base.specs.declared.attribute.CaseSensitivity.TheVariants.{CaseSensitive, AsciiCaseInsensitive}
+use Rattle.lol_base.specs.declared.comparison.AttrSelectorOperator.TheVariants.{Equal, Includes, DashMatch, Prefix, Substring, Suffix}
+use Rattle.lol_base.specs.declared.comparison.CaseSensitivity.{CaseSensitivity}
+use Rattle.lol_base.specs.declared.comparison.CaseSensitivity.TheVariants.{CaseSensitive, AsciiCaseInsensitive}
 use Rattle.memchr.specs.Find.{FindsNeedle, IsFirstByte, OccursAt, Nowhere, Passes, is_byte2}
 use Rattle.memchr.proofs.lemmas.MatchLemmas.{OccursAt-part, OccursAt-from_part}
 use Rattle.lol_instructions.specs.Tests.{compared, words, is_white, is_empty_text, stands_in}

@@ -7,9 +7,9 @@ use Rattle.std.proofs.lemmas.Grind.{common_steps}
 use Rattle.std.proofs.lemmas.List.{get_or-map}
 use Rattle.std.proofs.lemmas.List.Folds.{list_any_at}
 use Rattle.std.proofs.lemmas.Bool.{cases_eq, cases_lt, cases_Bool, false≢true}
-use Rattle.lol_base.specs.declared.attribute.AttrSelectorOperator.TheVariants.{Equal, Includes}
-use Rattle.lol_base.specs.declared.attribute.CaseSensitivity.{CaseSensitivity}
-use Rattle.lol_base.specs.declared.attribute.CaseSensitivity.TheVariants.{CaseSensitive, AsciiCaseInsensitive}
+use Rattle.lol_base.specs.declared.comparison.AttrSelectorOperator.TheVariants.{Equal, Includes}
+use Rattle.lol_base.specs.declared.comparison.CaseSensitivity.{CaseSensitivity}
+use Rattle.lol_base.specs.declared.comparison.CaseSensitivity.TheVariants.{CaseSensitive, AsciiCaseInsensitive}
 use Rattle.lol_instructions.specs.Tests.{compared, is_white}
 use Rattle.lol_instructions.specs.Attributes.{ignores, value_holds}
 use Rattle.lol_instructions.specs.Words.{is_letter_of, IsWordStart, IsWordEnd, IsWordBefore, NoLetter, IsLetterEnd}

@@ -6,7 +6,7 @@ use Rattle.std.specs.List.{list_all}
 use Rattle.lol_base.specs.Names.{lowercased}
 use Rattle.lol_base.specs.LocalNames as names
 use Rattle.lol_base.specs.Progression.{Progression, has_index}
-use Rattle.lol_base.specs.declared.attribute.AttrSelectorOperator.TheVariants as operators
+use Rattle.lol_base.specs.declared.comparison.AttrSelectorOperator.TheVariants as operators
 use Rattle.lol_instructions.specs.Tests.{Element, has_value, operator_holds}
 use Rattle.lol_instructions.specs.Compounds.{value_of_bool, both, either, opposite}
 use Rattle.lol_instructions.specs.Attributes.{TagAttributes, value_in, operands_hold}

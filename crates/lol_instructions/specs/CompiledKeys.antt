@@ -1,7 +1,7 @@
 -- The keys of compiled tests.
 use Rattle.std.specs.Prelude.{Bool, true, false, not, map, Option, Some, None, codes}
 use Rattle.std.specs.Str.{bytes_eq}
-use Rattle.lol_base.specs.declared.attribute.AttrSelectorOperator.TheVariants.{Includes, Substring}
+use Rattle.lol_base.specs.declared.comparison.AttrSelectorOperator.TheVariants.{Includes, Substring}
 use Rattle.lol_instructions.specs.Tests.{has_value, operator_holds}
 use Rattle.lol_instructions.specs.Attributes.{TagAttributes, value_in}
 use Rattle.lol_instructions.specs.Compiled.{tests_in}

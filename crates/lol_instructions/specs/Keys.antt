@@ -4,9 +4,9 @@ use Rattle.std.specs.Str.{bytes_eq}
 use Rattle.std.specs.List.{list_all, list_any}
 use Rattle.lol_base.specs.StartTags.{StartTag}
 use Rattle.lol_base.specs.Names.{lowercased}
-use Rattle.lol_base.specs.declared.attribute.AttrSelectorOperator.TheVariants.{Substring}
-use Rattle.lol_base.specs.declared.attribute.ParsedCaseSensitivity.{ParsedCaseSensitivity}
-use Rattle.lol_base.specs.declared.attribute.ParsedCaseSensitivity.TheVariants.{ExplicitCaseSensitive, AsciiCaseInsensitive, CaseSensitive, AsciiCaseInsensitiveIfInHtmlElementInHtmlDocument}
+use Rattle.lol_base.specs.declared.comparison.AttrSelectorOperator.TheVariants.{Substring}
+use Rattle.lol_base.specs.declared.comparison.ParsedCaseSensitivity.{ParsedCaseSensitivity}
+use Rattle.lol_base.specs.declared.comparison.ParsedCaseSensitivity.TheVariants.{ExplicitCaseSensitive, AsciiCaseInsensitive, CaseSensitive, AsciiCaseInsensitiveIfInHtmlElementInHtmlDocument}
 use Rattle.lol_instructions.specs.Tests.{Element, NameTest, AnyName, HasName, AttributeTest, HasId, HasClass, HasAttribute, Compares, attribute_holds, attribute_value, has_value, operator_holds, words, needs_operand, is_empty_text}
 use Rattle.lol_instructions.specs.Attributes.{TagAttributes, tag_attributes, value_in}
 use Rattle.lol_instructions.specs.Compounds.{Test, OfName, OfAttributes, NoneOf, SomeOf, Compound, NoTests, AndTest, all_hold, by_names}

@@ -12,8 +12,8 @@ use Rattle.std.specs.Bool.{nat_eq}
 use mathlib.Core.List.{append-nil, append_assoc}
 use Rattle.lol_base.specs.BoolLaws.{and_parts}
 use Rattle.lol_base.specs.PlaceLaws.{some_is}
-use Rattle.lol_base.specs.declared.attribute.AttrSelectorOperator.{AttrSelectorOperator}
-use Rattle.lol_base.specs.declared.attribute.AttrSelectorOperator.TheVariants.{Equal, Includes, DashMatch, Prefix, Substring, Suffix}
+use Rattle.lol_base.specs.declared.comparison.AttrSelectorOperator.{AttrSelectorOperator}
+use Rattle.lol_base.specs.declared.comparison.AttrSelectorOperator.TheVariants.{Equal, Includes, DashMatch, Prefix, Substring, Suffix}
 use Rattle.lol_instructions.specs.Tests.{is_white, words, is_empty_text, stands_in, operator_holds, needs_operand, compares}
 use Rattle.lol_instructions.specs.Keys.{part_length, last_part, parts_of}
 

@@ -1,9 +1,9 @@
 -- Words of a value by their places, as they are searched for. No public clause speaks of them.
 use Rattle.std.specs.Prelude.{◌≡◌, ℕ, ◌-◌, ◌<◌, ◌≤◌, Bool, true, false, ◌==◌, ◌⊎◌, List, length, slice_index, slice_range}
 use Rattle.std.specs.Char.{to_ascii_lowercase}
-use Rattle.lol_base.specs.declared.attribute.AttrSelectorOperator.TheVariants.{Equal}
-use Rattle.lol_base.specs.declared.attribute.CaseSensitivity.{CaseSensitivity}
-use Rattle.lol_base.specs.declared.attribute.CaseSensitivity.TheVariants.{CaseSensitive, AsciiCaseInsensitive}
+use Rattle.lol_base.specs.declared.comparison.AttrSelectorOperator.TheVariants.{Equal}
+use Rattle.lol_base.specs.declared.comparison.CaseSensitivity.{CaseSensitivity}
+use Rattle.lol_base.specs.declared.comparison.CaseSensitivity.TheVariants.{CaseSensitive, AsciiCaseInsensitive}
 use Rattle.lol_instructions.specs.Tests.{is_white}
 use Rattle.lol_instructions.specs.Attributes.{value_holds}
 

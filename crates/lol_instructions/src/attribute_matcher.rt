@@ -7,7 +7,7 @@ ghost use Rattle.std.specs.Str.{bytes_eq};
 ghost use Rattle.std.specs.Bool.{OnTrue};
 ghost use Rattle.lol_base.specs.Names.{lowercased};
 ghost use Rattle.lol_base.specs.StartTags.{bytes_of, attribute_of, OutlineIsInside};
-ghost use Rattle.lol_base.specs.declared.attribute.AttrSelectorOperator.TheVariants.{Equal, Includes, DashMatch, Prefix, Substring, Suffix};
+ghost use Rattle.lol_base.specs.declared.comparison.AttrSelectorOperator.TheVariants.{Equal, Includes, DashMatch, Prefix, Substring, Suffix};
 ghost use Rattle.lol_instructions.specs.Tests.{has_value, ignores_case, operator_holds};
 ghost use Rattle.lol_instructions.specs.Attributes.{value_among, value_in, ignores, operands_hold};
 ghost use Rattle.lol_instructions.specs.Marks.{LacksOne};

@@ -2,8 +2,8 @@
 use Rattle.std.specs.Prelude.{ℕ, ◌≡◌, Bool, true, false, not, if◌then◌else◌, List, [], ◌∷◌, map, filter, sum_by, Option, Some, None, codes, pos}
 use Rattle.lol_base.specs.StartTags.{Attribute}
 use Rattle.lol_base.specs.declared.namespace.Namespace.TheVariants.{Html}
-use Rattle.lol_base.specs.declared.attribute.AttrSelectorOperator.TheVariants.{Equal, Prefix, Substring}
-use Rattle.lol_base.specs.declared.attribute.ParsedCaseSensitivity.TheVariants.{AsciiCaseInsensitive, CaseSensitive}
+use Rattle.lol_base.specs.declared.comparison.AttrSelectorOperator.TheVariants.{Equal, Prefix, Substring}
+use Rattle.lol_base.specs.declared.comparison.ParsedCaseSensitivity.TheVariants.{AsciiCaseInsensitive, CaseSensitive}
 use Rattle.lol_instructions.specs.Tests.{Element, AnyName, HasName, IsNthChild, HasId, HasClass, HasAttribute, Compares}
 use Rattle.lol_instructions.specs.Compounds.{Test, OfName, OfAttributes, NoneOf, SomeOf, Compound, all_of, any_of, by_names, is_open}
 use Rattle.lol_program.specs.Paths.{Path, Selectors, First, last_compound}

@@ -11,8 +11,8 @@ use Rattle.lol_program.specs.Growth.{IsWith}
 use Rattle.lol_program.specs.IdSetLaws.{has_if_listed, set_of-IsWith, with_id-again}
 use Rattle.lol_program.specs.IdsForNodes.{id_in, set_of, Fits}
 use Rattle.lol_program.specs.Views.{tests_of_compound, steps_of}
-use Rattle.lol_program.specs.declared.id_for_node.IdForNode.{IdForNode}
-use Rattle.lol_program.specs.declared.id_for_node.IdForNode.TheVariants.{Nothing, Id, Reserved}
+use Rattle.lol_program.specs.declared.node_id.IdForNode.{IdForNode}
+use Rattle.lol_program.specs.declared.node_id.IdForNode.TheVariants.{Nothing, Id, Reserved}
 use Rattle.lol_program.proofs.Standing.{KeepsWith, Leaves}
 
 -- what fits a node, fits it still when the node has the id

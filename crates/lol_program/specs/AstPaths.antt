@@ -7,7 +7,7 @@ use Rattle.lol_program.specs.Paths.{Path, First, extended}
 use Rattle.lol_program.specs.Forest.{Forest}
 use Rattle.lol_program.specs.Growth.{StandsWith, StandsUnder}
 use Rattle.lol_program.specs.IdsForNodes.{id_in, Fits}
-use Rattle.lol_program.specs.declared.id_for_node.IdForNode.{IdForNode}
+use Rattle.lol_program.specs.declared.node_id.IdForNode.{IdForNode}
 use Rattle.lol_program.specs.Views.{tests_of_compound, steps_of}
 
 abbrev pub path_shown : ComplexSelector → Path

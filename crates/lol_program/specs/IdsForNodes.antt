@@ -2,8 +2,8 @@
 use Rattle.std.specs.Prelude.{ℕ, ◌≡◌, List, [], ◌∷◌, Option, Some, None}
 use Rattle.lol_memory.specs.Ids.{Ids, no_ids, with_id, with_ids, HasRoom}
 use Rattle.lol_program.specs.Paths.{Path}
-use Rattle.lol_program.specs.declared.id_for_node.IdForNode.{IdForNode}
-use Rattle.lol_program.specs.declared.id_for_node.IdForNode.TheVariants.{Nothing, Id, Reserved}
+use Rattle.lol_program.specs.declared.node_id.IdForNode.{IdForNode}
+use Rattle.lol_program.specs.declared.node_id.IdForNode.TheVariants.{Nothing, Id, Reserved}
 
 -- the id, if there is one
 abbrev pub id_in : IdForNode → Option ℕ

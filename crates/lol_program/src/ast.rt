@@ -6,7 +6,7 @@ ghost use Rattle.lol_program.specs.Indexed.{IsIndexOf, IsIndexOf-prop};
 ghost use Rattle.lol_program.specs.Views.{forest_of};
 
 use crate::ast_node::{self, AstNode};
-use crate::id_for_node::IdForNode;
+use crate::node_id::IdForNode;
 use crate::node_index::NodeIndex;
 use crate::node_key::ROOT_LIST;
 use lol_css::{ComplexSelector, Selector, SelectorList};

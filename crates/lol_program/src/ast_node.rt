@@ -9,7 +9,7 @@ ghost use Rattle.lol_program.specs.Growth.{fresh, Adds, AddsFirst, StandsWith, S
 ghost use Rattle.lol_program.specs.IdsForNodes.{id_in, Fits, IsReserved};
 ghost use Rattle.lol_program.specs.Places.{HasPlace, IsNowhere};
 
-use crate::id_for_node::IdForNode;
+use crate::node_id::IdForNode;
 use crate::node_index::NodeIndex;
 use crate::node_key::list_under;
 use crate::predicate::Predicate;

@@ -6,13 +6,12 @@ mod ast_node;
 mod compilable;
 mod compiler;
 mod condition;
-mod id_for_node;
 pub mod laws;
+mod node_id;
 mod node_index;
 mod node_key;
 mod predicate;
 mod program;
-mod reserved_id;
 
 pub use ast::{Ast, ROWS_PAY_FROM};
 pub use ast_node::AstNode;

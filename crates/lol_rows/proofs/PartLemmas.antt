@@ -12,7 +12,7 @@ use Rattle.lol_base.specs.BoolLaws.{and_parts}
 use Rattle.lol_base.specs.PlaceLaws.{some_is}
 use Rattle.lol_base.specs.MemberLaws.{Among, among_any, among_back, among_from_contains, contains_from_among, flat_map_among, map_among}
 use Rattle.lol_instructions.specs.Tests.{find_attribute, has_value, operator_holds}
-use Rattle.lol_base.specs.declared.attribute.AttrSelectorOperator.TheVariants.{Substring}
+use Rattle.lol_base.specs.declared.comparison.AttrSelectorOperator.TheVariants.{Substring}
 use Rattle.lol_instructions.specs.Attributes.{TagAttributes}
 use Rattle.lol_instructions.specs.ValueParts.{last_stands, part_is_one}
 use Rattle.lol_instructions.specs.Keys.{AttributeKey, ById, ByClass, ByPart, ByAttribute, KeyTest, IsAny, IsNamed, HasKey, IsOfAttributes, SaysNothing, HasItsLength, counts_case, last_part, part_length, part_or_name, parts_of, first_of, first_read, read_id, read_class, read_part, read_attribute}

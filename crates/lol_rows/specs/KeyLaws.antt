@@ -11,10 +11,10 @@ use Rattle.lol_base.specs.MemberLaws.{Among, among_any}
 use Rattle.lol_base.specs.PlaceLaws.{some_is}
 use Rattle.lol_base.specs.StartTags.{Attribute}
 use Rattle.lol_base.specs.declared.namespace.Namespace.{Namespace}
-use Rattle.lol_base.specs.declared.attribute.AttrSelectorOperator.{AttrSelectorOperator}
-use Rattle.lol_base.specs.declared.attribute.AttrSelectorOperator.TheVariants.{Substring}
-use Rattle.lol_base.specs.declared.attribute.ParsedCaseSensitivity.{ParsedCaseSensitivity}
-use Rattle.lol_base.specs.declared.attribute.ParsedCaseSensitivity.TheVariants.{ExplicitCaseSensitive, AsciiCaseInsensitive, CaseSensitive, AsciiCaseInsensitiveIfInHtmlElementInHtmlDocument}
+use Rattle.lol_base.specs.declared.comparison.AttrSelectorOperator.{AttrSelectorOperator}
+use Rattle.lol_base.specs.declared.comparison.AttrSelectorOperator.TheVariants.{Substring}
+use Rattle.lol_base.specs.declared.comparison.ParsedCaseSensitivity.{ParsedCaseSensitivity}
+use Rattle.lol_base.specs.declared.comparison.ParsedCaseSensitivity.TheVariants.{ExplicitCaseSensitive, AsciiCaseInsensitive, CaseSensitive, AsciiCaseInsensitiveIfInHtmlElementInHtmlDocument}
 use Rattle.lol_instructions.specs.Tests.{Element, AnyName, NoName, HasName, IsNthChild, IsNthOfType, AttributeTest, HasId, HasClass, HasAttribute, Compares, attribute_value, find_attribute, words, has_value, needs_operand, is_empty_text, operator_holds, stands_in, compares, compared, ignores_case}
 use Rattle.lol_instructions.specs.Compounds.{Test, OfName, OfAttributes, NoneOf, SomeOf, Compound, NoTests, AndTest, holds, all_hold, value_of_bool, both, test_by_names, by_names}
 use Rattle.lol_instructions.specs.Attributes.{TagAttributes, tag_attributes, value_in}

@@ -3,9 +3,9 @@ use Rattle.std.specs.Prelude.{ℕ, ◌≡◌, Bool, true, false, List, [], ◌�
 use Rattle.lol_base.specs.StartTags.{Attribute}
 use Rattle.lol_base.specs.declared.namespace.Namespace.{Namespace}
 use Rattle.lol_base.specs.declared.namespace.Namespace.TheVariants.{Html, Svg, MathML}
-use Rattle.lol_base.specs.declared.attribute.AttrSelectorOperator.{AttrSelectorOperator}
-use Rattle.lol_base.specs.declared.attribute.AttrSelectorOperator.TheVariants.{Equal, Includes, DashMatch, Prefix, Substring, Suffix}
-use Rattle.lol_base.specs.declared.attribute.ParsedCaseSensitivity.TheVariants.{CaseSensitive, AsciiCaseInsensitiveIfInHtmlElementInHtmlDocument}
+use Rattle.lol_base.specs.declared.comparison.AttrSelectorOperator.{AttrSelectorOperator}
+use Rattle.lol_base.specs.declared.comparison.AttrSelectorOperator.TheVariants.{Equal, Includes, DashMatch, Prefix, Substring, Suffix}
+use Rattle.lol_base.specs.declared.comparison.ParsedCaseSensitivity.TheVariants.{CaseSensitive, AsciiCaseInsensitiveIfInHtmlElementInHtmlDocument}
 use Rattle.lol_css.specs.declared.selector.Combinator.TheVariants.{Child, Descendant}
 use Rattle.lol_instructions.specs.Tests.{Element, AnyName, NoName, HasName, IsNthChild, IsNthOfType, HasId, HasClass, HasAttribute, Compares, attribute_holds}
 use Rattle.lol_instructions.specs.Compounds.{Test, OfName, OfAttributes, NoneOf, SomeOf, Compound, all_of, any_of, by_names}

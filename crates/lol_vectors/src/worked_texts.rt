@@ -3,7 +3,7 @@
 ghost use Rattle.std.specs.Prelude.{◌≡◌, [], ◌∷◌, map, replicate, true, false, codes, pos, negsuc};
 ghost use Rattle.lol_base.specs.Progression.{Has};
 ghost use Rattle.lol_base.specs.SameText.{SameText};
-ghost use Rattle.lol_base.specs.declared.attribute.CaseSensitivity.TheVariants.{CaseSensitive, AsciiCaseInsensitive};
+ghost use Rattle.lol_base.specs.declared.comparison.CaseSensitivity.TheVariants.{CaseSensitive, AsciiCaseInsensitive};
 ghost use Rattle.lol_css.specs.declared.error.SelectorError.TheVariants.{UnsupportedPseudoClassOrElement};
 ghost use Rattle.lol_vectors.specs.WorkedTexts.{refused_late, refused_at_once, after_a_sibling, all_refused, sibling, node_count, told_of, parted_by, with_operators, reads_class};
 

@@ -4,7 +4,7 @@ use Rattle.std.specs.Option.{option_map}
 use Rattle.lol_instructions.specs.AttributeLaws.{holds-HasAttribute, holds-HasClass, holds-HasId}
 use Rattle.lol_instructions.specs.Keys.{AttributeKey, ByAttribute, first_of, first_read, key_tests, lacks, read_attribute, read_class, read_id, read_part}
 use Rattle.lol_instructions.specs.Tests.{HasAttribute, attribute_holds, attribute_value, has_value, operator_holds}
-use Rattle.lol_base.specs.declared.attribute.AttrSelectorOperator.TheVariants.{Substring}
+use Rattle.lol_base.specs.declared.comparison.AttrSelectorOperator.TheVariants.{Substring}
 use Rattle.lol_program.specs.Predicates.{tests_of}
 use Rattle.plain_matcher.specs.PlainElements.{element_shown}
 use Rattle.plain_matcher.specs.PlainTries.{part_shown}

@@ -5,7 +5,7 @@ use Rattle.lol_css.specs.declared.selector.Combinator.{Combinator}
 use Rattle.lol_program.specs.IdsForNodes.{id_in, Fits}
 use Rattle.lol_program.specs.Views.{forest_of, steps_of, tests_of_compound}
 use Rattle.lol_program.specs.Growth.{Adds, AddsFirst}
-use Rattle.lol_program.specs.declared.id_for_node.IdForNode.{IdForNode}
+use Rattle.lol_program.specs.declared.node_id.IdForNode.{IdForNode}
 use Rattle.lol_css.specs.declared.selector.Compound as css
 use Rattle.lol_program.proofs.Reserved.{fits_stay, all_stay}
 use Rattle.lol_program.proofs.Adding.{added_pairs, added_nodes, first_pairs, first_nodes, keeps_either, keeps_all}

@@ -3,7 +3,7 @@ use Rattle.std.proofs.lemmas.Slice.Zip.{all_zipped_more}
 use Rattle.lol_css.specs.declared.selector.ComplexSelector.{ComplexSelector}
 use Rattle.lol_program.specs.AstPaths.{FitsPath, AllFit}
 use Rattle.lol_program.specs.Asts.{trees_of}
-use Rattle.lol_program.specs.declared.id_for_node.IdForNode.{IdForNode}
+use Rattle.lol_program.specs.declared.node_id.IdForNode.{IdForNode}
 use Rattle.lol_program.proofs.PathLists.{one_more, AllIn-at}
 use Rattle.lol_program.proofs.ast.Ast.reserve_ids.Goals as goal
 

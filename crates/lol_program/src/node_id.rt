@@ -1,10 +1,9 @@
-//! The id that a path's last node gets.
+//! The id that a path's last node gets, with the memory that it needs.
 
 ghost use Rattle.std.specs.Prelude.{◌≡◌, Some, IfOk, OnOk, OnErr, IsOk};
 ghost use Rattle.lol_memory.specs.Ids.{ascending, with_id};
 ghost use Rattle.lol_program.specs.IdsForNodes.{id_in, SetTakes, Fits, IsReserved};
 
-use crate::reserved_id::ReservedId;
 use lol_memory::{DenseHashSet, MatchId};
 use std::alloc::AllocError;
 
@@ -46,6 +45,25 @@ impl IdForNode {
             IdForNode::Id(id) => ids.insert(id),
             IdForNode::Reserved(reserved) => insert_reserved(ids, reserved),
         }
+    }
+}
+
+/// An id, and the set that a node has with it.
+#[derive(Drop)]
+pub(crate) struct ReservedId {
+    pub(crate) id: MatchId,
+    pub(crate) set: DenseHashSet,
+}
+
+impl ReservedId {
+    /// Copies a node's set, and adds the id there.
+    pub(crate) fn new(ids: &DenseHashSet, id: MatchId) -> Result<ReservedId, AllocError>
+        ensures same { IfOk result (λ reserved. reserved.id ≡ id) }
+        ensures set { IfOk result (λ reserved. reserved.set ≡ with_id ids.now id) }
+    {
+        let mut set = ids.try_clone()?;
+        set.insert(id)?;
+        Ok(ReservedId { id, set })
     }
 }
 

@@ -1,5 +1,5 @@
 use Rattle.std.proofs.Common.{rules}
-use Rattle.lol_base.proofs.attribute.CaseSensitivity.eq.Goals as goal
+use Rattle.lol_base.proofs.comparison.CaseSensitivity.eq.Goals as goal
 
 pub returns-in-CaseSensitive : goal.returns-in-CaseSensitive
 returns-in-CaseSensitive c = search rules

@@ -1,7 +1,7 @@
 use Rattle.std.proofs.Common.{sym, ap, subst, ◌∙◌}
 use Rattle.lol_memory.specs.Ids.{Ids, HasRoom, with_id}
 use Rattle.lol_program.specs.IdSetLaws.{set_of-ascending}
-use Rattle.lol_program.proofs.id_for_node.IdForNode.reserve.Goals as goal
+use Rattle.lol_program.proofs.node_id.IdForNode.reserve.Goals as goal
 
 pub returns-then-has_room-clause-fits : goal.returns-then-has_room-clause-fits
 returns-then-has_room-clause-fits c = subst (λ (s : Ids). HasRoom s c.args.id) (sym (set_of-ascending c.args.ids.now)) (c.has_room.ensures.0 c.if-has_room.true)

@@ -2,8 +2,8 @@ use Rattle.std.proofs.Common.{ap, subst, ◌∙◌}
 use Rattle.lol_memory.specs.Ids.{Ids, HasRoom, ascending, with_id}
 use Rattle.lol_program.specs.IdSetLaws.{set_of-ascending}
 use Rattle.lol_program.specs.IdsForNodes.{Fits, IsReserved}
-use Rattle.lol_program.specs.declared.id_for_node.IdForNode.{IdForNode}
-use Rattle.lol_program.proofs.id_for_node.IdForNode.add_to.Goals as goal
+use Rattle.lol_program.specs.declared.node_id.IdForNode.{IdForNode}
+use Rattle.lol_program.proofs.node_id.IdForNode.add_to.Goals as goal
 
 pub returns-in-Id-clause-free : goal.returns-in-Id-clause-free
 returns-in-Id-clause-free c fits =
