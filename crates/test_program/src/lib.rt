@@ -1,5 +1,5 @@
-//! Tests of the trees that selectors make, and of their programs: rows whose answers come from outside, and each call that can refuse once with
-//! ample memory.
+//! Tests of the trees that selectors make, of their programs, and of what rows leave of these. There are rows whose answers come from
+//! outside, and each call that can refuse once with ample memory.
 #![tactic(auto)]
 
 #[cfg(test)]
@@ -8,5 +8,7 @@ mod found_again;
 mod nodes;
 #[cfg(test)]
 mod programs;
+#[cfg(test)]
+mod rows;
 #[cfg(test)]
 mod trees;
