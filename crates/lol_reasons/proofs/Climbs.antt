@@ -71,22 +71,22 @@ give_for front a around = known_witness matches front a around
 
 -- What the walk keeps: the node where it stands matched the element where it stands, and the numbers so far go on with that element's.
 pub record Climbs (paths : List Path) (p : Program) (path0 : Path) (e0 : Element) (outer0 : List Element) (items : List OpenItem) (numbers : List ℕ)
-    (place left : ℕ) (witness : List ℕ) : Type 0 where
+    (address left : ℕ) (witness : List ℕ) : Type 0 where
   pub path : Path
   pub element : Element
   pub around : List Element
   pub before : List ℕ
-  pub at : IsAt paths place path
+  pub at : IsAt paths address path
   pub are_items : AreItems paths p (reverse (take left items)) around
   pub are_numbers : map (λ a. a.number) around ≡ reverse (take left numbers)
   pub fits : matches path element around ≡ true
   pub known : known_witness matches path0 e0 outer0 ≡ before ++ known_witness matches path element around
   pub told : witness ≡ before ++ element.number ∷ []
 
-pub begins : (s : Selectors) (paths : List Path) (p : Program) (place : ℕ) (path : Path) (items : List OpenItem) (numbers : List ℕ) (e : Element) (around : List Element) (number left : ℕ)
-    (witness : List ℕ) → HasMatched s paths p place path (reverse items) numbers e around → length items ≤ left → length numbers ≤ left → number ≡ e.number → witness ≡ number ∷ []
-    → Climbs paths p path e around items numbers place left witness
-begins s paths p place path items numbers e around number left witness h all all' same told = record {
+pub begins : (s : Selectors) (paths : List Path) (p : Program) (address : ℕ) (path : Path) (items : List OpenItem) (numbers : List ℕ) (e : Element) (around : List Element) (number left : ℕ)
+    (witness : List ℕ) → HasMatched s paths p address path (reverse items) numbers e around → length items ≤ left → length numbers ≤ left → number ≡ e.number → witness ≡ number ∷ []
+    → Climbs paths p path e around items numbers address left witness
+begins s paths p address path items numbers e around number left witness h all all' same told = record {
   path = path;
   element = e;
   around = around;
@@ -103,13 +103,13 @@ module _ (s : Selectors) (paths : List Path) (code_program : program.Program) (c
   abbrev p : Program
   p = program_shown code_program
 
-  reached : (front : Path) (step : Combinator) (c : Compound) (place : ℕ) (items : List OpenItem) (around : List Element) → IsAt paths place (Then front step c) → AreItems paths p items around
+  reached : (front : Path) (step : Combinator) (c : Compound) (address : ℕ) (items : List OpenItem) (around : List Element) → IsAt paths address (Then front step c) → AreItems paths p items around
       → step_reaches step (λ a o. matches front a o) around ≡ true
-      → Reached paths p front (give_for front) items around (reached_by step place items) (step_gives step (λ a o. matches front a o) (give_for front) around)
-  reached front Child c place [] [] at h fits = cc
-  reached front Child c place [] (a ∷ around) at h fits = absurd h
-  reached front Child c place (item ∷ items) [] at h fits = absurd h
-  reached front Child c place (item ∷ items) (a ∷ around) at h fits = record {
+      → Reached paths p front (give_for front) items around (reached_by step address items) (step_gives step (λ a o. matches front a o) (give_for front) around)
+  reached front Child c address [] [] at h fits = cc
+  reached front Child c address [] (a ∷ around) at h fits = absurd h
+  reached front Child c address (item ∷ items) [] at h fits = absurd h
+  reached front Child c address (item ∷ items) (a ∷ around) at h fits = record {
     inner = [];
     item = item;
     outer = items;
@@ -124,10 +124,10 @@ module _ (s : Selectors) (paths : List Path) (code_program : program.Program) (c
     fits = fits;
     gives = refl;
   }
-  reached front Descendant c place items around at h fits = nearest_reached s paths p closed is front c place (give_for front) at items around h fits
+  reached front Descendant c address items around at h fits = nearest_reached s paths p closed is front c address (give_for front) at items around h fits
 
-  module _ (path0 : Path) (e0 : Element) (outer0 : List Element) (items : List OpenItem) (numbers : List ℕ) (place left : ℕ) (witness : List ℕ)
-      (within : left ≤ length items) (as_many : length numbers ≡ length items) (here : Climbs paths p path0 e0 outer0 items numbers place left witness)
+  module _ (path0 : Path) (e0 : Element) (outer0 : List Element) (items : List OpenItem) (numbers : List ℕ) (address left : ℕ) (witness : List ℕ)
+      (within : left ≤ length items) (as_many : length numbers ≡ length items) (here : Climbs paths p path0 e0 outer0 items numbers address left witness)
       (found : Option NodeAbove) (under_here : StandsUnder paths here.path found) where
     -- at a root the walk is over
     pub ends : found ≡ None → matches path0 e0 outer0 ≡ true → innermost_witness path0 e0 outer0 ≡ Some witness
@@ -139,19 +139,19 @@ module _ (s : Selectors) (paths : List Path) (code_program : program.Program) (c
         one (Then front step c) stands = absurd (let some = sym none ∙ stands.1 in cc)
 
     pub goes_on : (a : NodeAbove) → found ≡ Some a → (at : ℕ) (shown : List OpenItem) → shown ≡ reverse (take left items)
-        → reached_by a.step place shown ≡ Some at
-        → (d : ℕ) → Climbs paths p path0 e0 outer0 items numbers a.place at (witness ++ get_or numbers at d ∷ [])
+        → reached_by a.step address shown ≡ Some at
+        → (d : ℕ) → Climbs paths p path0 e0 outer0 items numbers a.address at (witness ++ get_or numbers at d ∷ [])
     goes_on a above at shown is_shown reaches d = from here.path here.at here.fits here.known under_here
       where
-        from : (path : Path) → IsAt paths place path → matches path here.element here.around ≡ true → known_witness matches path0 e0 outer0 ≡ here.before ++ known_witness matches path here.element here.around
-            → StandsUnder paths path found → Climbs paths p path0 e0 outer0 items numbers a.place at (witness ++ get_or numbers at d ∷ [])
+        from : (path : Path) → IsAt paths address path → matches path here.element here.around ≡ true → known_witness matches path0 e0 outer0 ≡ here.before ++ known_witness matches path here.element here.around
+            → StandsUnder paths path found → Climbs paths p path0 e0 outer0 items numbers a.address at (witness ++ get_or numbers at d ∷ [])
         from (First c) is_at fits known stands = absurd (let some = sym above ∙ stands in cc)
         from (Then front step c) is_at fits known stands =
             let same : stands.0 ≡ a = some_is (sym stands.1 ∙ above) in
             let step_is : step ≡ a.step = sym stands.3 ∙ ap (λ (x : NodeAbove). x.step) same in
-            let r = reached front step c place (reverse (take left items)) here.around is_at here.are_items
+            let r = reached front step c address (reverse (take left items)) here.around is_at here.are_items
             (and_parts (all_hold c here.element) (step_reaches step (λ a o. matches front a o) here.around) fits).1 in
-            let found_at : length r.outer ≡ at = some_is (sym r.found ∙ ap (λ x. reached_by x place (reverse (take left items))) step_is ∙ ap (reached_by a.step place) (sym is_shown) ∙ reaches) in
+            let found_at : length r.outer ≡ at = some_is (sym r.found ∙ ap (λ x. reached_by x address (reverse (take left items))) step_is ∙ ap (reached_by a.step address) (sym is_shown) ∙ reaches) in
             let items_cut = cut items left r.inner r.item r.outer within r.parts in
             let numbers_cut = cut numbers left (numbers_of r.nearer) r.element.number (numbers_of r.beyond) (omega (arith, within, as_many))
             (sym here.are_numbers ∙ ap numbers_of r.elements ∙ numbers_append r.nearer (r.element ∷ r.beyond)) in
@@ -161,7 +161,7 @@ module _ (s : Selectors) (paths : List Path) (code_program : program.Program) (c
               element = r.element;
               around = r.beyond;
               before = here.before ++ here.element.number ∷ [];
-              at = subst (λ (x : NodeAbove). IsAt paths x.place front) same stands.2;
+              at = subst (λ (x : NodeAbove). IsAt paths x.address front) same stands.2;
               are_items = subst (λ l. AreItems paths p l r.beyond) (sym items_cut.rest ∙ ap (λ n. reverse (take n items)) found_at) r.are_items;
               are_numbers = sym numbers_cut.rest ∙ ap (λ n. reverse (take n numbers)) many;
               fits = r.fits;
@@ -170,15 +170,15 @@ module _ (s : Selectors) (paths : List Path) (code_program : program.Program) (c
             }
 
     pub not_lost : (a : NodeAbove) → found ≡ Some a → (shown : List OpenItem) → shown ≡ reverse (take left items)
-        → reached_by a.step place shown ≡ None → ⊥
+        → reached_by a.step address shown ≡ None → ⊥
     not_lost a above shown is_shown lost = from here.path here.at here.fits under_here
       where
-        from : (path : Path) → IsAt paths place path → matches path here.element here.around ≡ true → StandsUnder paths path found → ⊥
+        from : (path : Path) → IsAt paths address path → matches path here.element here.around ≡ true → StandsUnder paths path found → ⊥
         from (First c) is_at fits stands = let some = sym above ∙ stands in cc
         from (Then front step c) is_at fits stands =
             let same : stands.0 ≡ a = some_is (sym stands.1 ∙ above) in
             let step_is : step ≡ a.step = sym stands.3 ∙ ap (λ (x : NodeAbove). x.step) same in
-            let r = reached front step c place (reverse (take left items)) here.around is_at here.are_items
+            let r = reached front step c address (reverse (take left items)) here.around is_at here.are_items
             (and_parts (all_hold c here.element) (step_reaches step (λ a o. matches front a o) here.around) fits).1 in
-            let some = sym r.found ∙ ap (λ x. reached_by x place (reverse (take left items))) step_is ∙ ap (reached_by a.step place) (sym is_shown) ∙ lost in
+            let some = sym r.found ∙ ap (λ x. reached_by x address (reverse (take left items))) step_is ∙ ap (reached_by a.step address) (sym is_shown) ∙ lost in
             cc

@@ -16,11 +16,11 @@ module _ (e : Element) (outer : List Element) where
   abbrev that_match : List Added → List Added
   that_match added = filter (λ a. matches a.path e outer) added
 
-  named_from : (items : List (ℕ × ℕ × ℕ)) (n : ℕ) (added : List Added) → ((place : ℕ) (a : Added) → IsAt added place a → slice_get items (n + place) ≡ Some (place_of_added a))
+  named_from : (items : List (ℕ × ℕ × ℕ)) (n : ℕ) (added : List Added) → ((index : ℕ) (a : Added) → IsAt added index a → slice_get items (n + index) ≡ Some (place_of_added a))
       → filter_map (slice_get items) (matched_from e outer n added) ≡ map place_of_added (that_match added)
   named_from items n [] at = refl
   named_from items n (a ∷ added) at =
-      by_test (matches a.path e outer) (named_from items (n + 1) added (λ place b is. ap (slice_get items) (omega arith) ∙ at (suc place) b is))
+      by_test (matches a.path e outer) (named_from items (n + 1) added (λ index b is. ap (slice_get items) (omega arith) ∙ at (suc index) b is))
     where
       first : slice_get items n ≡ Some (place_of_added a)
       first = ap (slice_get items) (omega arith) ∙ at zero a refl
@@ -35,4 +35,4 @@ pub numbers_name_what_matches : NumbersNameWhatMatches
 numbers_name_what_matches texts s has e outer =
     let items = map place_of_added (added_by texts) in
     ap (filter_map (slice_get items)) (matched_are texts s has e outer)
-    ∙ named_from e outer items 0 (added_by texts) (λ place a is. ap (slice_get items) (omega arith) ∙ at_map place_of_added (added_by texts) place a is)
+    ∙ named_from e outer items 0 (added_by texts) (λ index a is. ap (slice_get items) (omega arith) ∙ at_map place_of_added (added_by texts) index a is)

@@ -58,7 +58,7 @@ module _ (id : ℕ) where
 
 module _ (s : Selectors) (paths : List Path) (code_program : program.Program) (closed : AreClosed s) (is : IsProgramOf s paths (program_shown code_program)) (path : Path) (id : ℕ)
     (alone : IsAlone s path id) where
-  -- the place of a node with the id is that of its path
+  -- the address of a node with the id is that of its path
   pub holds_at : (k : ℕ) (i : code.Instruction) → IsAt code_program.instructions.items k i → has i id ≡ true → IsAt paths k path
   holds_at k i at has_it =
       let code_at = at_map (instruction_shown code_program.enable_nth_of_type) code_program.instructions.items k i at in
@@ -66,8 +66,8 @@ module _ (s : Selectors) (paths : List Path) (code_program : program.Program) (c
       let ids = (is.each k own.0 (instruction_shown code_program.enable_nth_of_type i) own.1 code_at).ids id in
       subst (IsAt paths k) (alone.only own.0 (ids.0 (contains_from_among _ id (among_if _ id has_it)))) own.1
 
-  has_place_of : (k : ℕ) → node_with_from 0 code_program.instructions.items id ≡ Some k → IsAt paths k path
-  has_place_of k h =
+  has_address_of : (k : ℕ) → node_with_from 0 code_program.instructions.items id ≡ Some k → IsAt paths k path
+  has_address_of k h =
       let f = found_with id code_program.instructions.items code_program.instructions.items 0 (λ j i there. subst (λ m. IsAt code_program.instructions.items m i) (omega arith) there) k h in
       holds_at k f.0 f.1 f.2
 
@@ -84,4 +84,4 @@ module _ (s : Selectors) (paths : List Path) (code_program : program.Program) (c
 
   pub node_is : (o : Option ℕ) → o ≡ node_with_from 0 code_program.instructions.items id → (k : ℕ) × (o ≡ Some k) × IsAt paths k path
   node_is None is_none = absurd (has_one (sym is_none))
-  node_is (Some k) is_some = (k, refl, has_place_of k (sym is_some))
+  node_is (Some k) is_some = (k, refl, has_address_of k (sym is_some))

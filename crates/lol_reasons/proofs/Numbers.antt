@@ -44,10 +44,10 @@ module _ (e : Element) (outer : List Element) where
 
   -- an item that matches
   pub record MatchedAt (n : ℕ) (added : List Added) (k : ℕ) : Type 0 where
-    pub place : ℕ
+    pub index : ℕ
     pub by : Added
-    pub at : IsAt added place by
-    pub is : n + place ≡ k
+    pub at : IsAt added index by
+    pub is : n + index ≡ k
     pub fits : matches by.path e outer ≡ true
 
   pub matched_at : (n : ℕ) (added : List Added) (k : ℕ) → Among (matched_from n added) k → MatchedAt n added k
@@ -55,22 +55,22 @@ module _ (e : Element) (outer : List Element) where
   matched_at n (a ∷ added) k h = by_test (matches a.path e outer) refl h (matched_at (n + 1) added k)
     where
       later : MatchedAt (n + 1) added k → MatchedAt n (a ∷ added) k
-      later m = record { place = suc m.place; by = m.by; at = m.at; is = omega (arith, m.is); fits = m.fits }
+      later m = record { index = suc m.index; by = m.by; at = m.at; is = omega (arith, m.is); fits = m.fits }
 
       by_test : (b : Bool) → matches a.path e outer ≡ b → Among (cond b (n ∷ matched_from (n + 1) added) (matched_from (n + 1) added)) k
           → (Among (matched_from (n + 1) added) k → MatchedAt (n + 1) added k) → MatchedAt n (a ∷ added) k
-      by_test true is (inl same) rest = record { place = zero; by = a; at = refl; is = omega (arith, same); fits = is }
+      by_test true is (inl same) rest = record { index = zero; by = a; at = refl; is = omega (arith, same); fits = is }
       by_test true is (inr h) rest = later (rest h)
       by_test false is h rest = later (rest h)
 
   -- 2. A value for each of them
 
   module _ {R : Type 0} (value : Added → Option R) (told : ℕ → Option R) (none : (a : Added) → matches a.path e outer ≡ false → value a ≡ None) where
-    pub each_told : (n : ℕ) (added : List Added) → ((place : ℕ) (a : Added) → IsAt added place a → told (n + place) ≡ value a)
+    pub each_told : (n : ℕ) (added : List Added) → ((index : ℕ) (a : Added) → IsAt added index a → told (n + index) ≡ value a)
         → filter_map told (matched_from n added) ≡ filter_map value added
     each_told n [] is = refl
     each_told n (a ∷ added) is =
-        by_test (matches a.path e outer) refl (each_told (n + 1) added (λ place b at. ap told (omega arith) ∙ is (suc place) b at))
+        by_test (matches a.path e outer) refl (each_told (n + 1) added (λ index b at. ap told (omega arith) ∙ is (suc index) b at))
       where
         first : told n ≡ value a
         first = ap told (omega arith) ∙ is zero a refl
@@ -83,25 +83,25 @@ module _ (e : Element) (outer : List Element) where
 -- 3. Pairs under numbers
 
 pub record Numbered (n : ℕ) (added : List Added) (path : Path) (k : ℕ) : Type 0 where
-  pub place : ℕ
+  pub index : ℕ
   pub by : Added
-  pub at : IsAt added place by
-  pub is : n + place ≡ k
+  pub at : IsAt added index by
+  pub is : n + index ≡ k
   pub same : by.path ≡ path
 
 pub numbered_at : (n : ℕ) (added : List Added) (path : Path) (k : ℕ) → Among (numbered_from n added) (path, k) → Numbered n added path k
 numbered_at n [] path k h = absurd h
 numbered_at n (a ∷ added) path k (inl same) =
-    record { place = zero; by = a; at = refl; is = omega (arith, ap (λ (p : Path × ℕ). p.1) same); same = ap (λ (p : Path × ℕ). p.0) same }
+    record { index = zero; by = a; at = refl; is = omega (arith, ap (λ (p : Path × ℕ). p.1) same); same = ap (λ (p : Path × ℕ). p.0) same }
 numbered_at n (a ∷ added) path k (inr h) =
     let later = numbered_at (n + 1) added path k h in
-    record { place = suc later.place; by = later.by; at = later.at; is = omega (arith, later.is); same = later.same }
+    record { index = suc later.index; by = later.by; at = later.at; is = omega (arith, later.is); same = later.same }
 
-pub at_numbered : (n : ℕ) (added : List Added) (place : ℕ) (a : Added) → IsAt added place a → Among (numbered_from n added) (a.path, n + place)
-at_numbered n [] place a at = cc
+pub at_numbered : (n : ℕ) (added : List Added) (index : ℕ) (a : Added) → IsAt added index a → Among (numbered_from n added) (a.path, n + index)
+at_numbered n [] index a at = cc
 at_numbered n (b ∷ added) zero a at = inl (ap (λ (x : Added). (x.path, n)) (some_is at) ∙ ap (λ (k : ℕ). (a.path, k)) (omega arith))
-at_numbered n (b ∷ added) (suc place) a at =
-    inr (subst (λ k. Among (numbered_from (n + 1) added) (a.path, k)) (omega arith) (at_numbered (n + 1) added place a at))
+at_numbered n (b ∷ added) (suc index) a at =
+    inr (subst (λ k. Among (numbered_from (n + 1) added) (a.path, k)) (omega arith) (at_numbered (n + 1) added index a at))
 
 -- 4. More items
 

@@ -80,7 +80,7 @@ module _ (e : Element) (outer : List Element) where
           ≡ map place_of_added (cond b (a ∷ filter (λ (a : Added). matches a.path e outer) added) (filter (λ (a : Added). matches a.path e outer) added))
       by_test None true h = cc
       by_test None false h = λ more. more
-      by_test (Some w) true h = λ more. ap (λ places. place_of_added a ∷ places) more
+      by_test (Some w) true h = λ more. ap (λ indexes. place_of_added a ∷ indexes) more
       by_test (Some w) false h = cc
 
 pub each_has_one_reason : EachHasOneReason
@@ -111,16 +111,16 @@ module _ (e : Element) (outer : List Element) (r : Reason) where
 
   kept : (added : List Added) (a : Added) → Among added a → IsReasonOf e outer r a → Among (reasons added e outer) r
   kept [] a h is = absurd h
-  kept (b ∷ added) a h is = by_place h (innermost_witness b.path e outer) refl (kept added a)
+  kept (b ∷ added) a h is = by_membership h (innermost_witness b.path e outer) refl (kept added a)
     where
-      by_place : Among (b ∷ added) a → (o : Option (List ℕ)) → innermost_witness b.path e outer ≡ o → (Among added a → IsReasonOf e outer r a → Among (reasons added e outer) r)
+      by_membership : Among (b ∷ added) a → (o : Option (List ℕ)) → innermost_witness b.path e outer ≡ o → (Among added a → IsReasonOf e outer r a → Among (reasons added e outer) r)
           → Among (cons_option (option_map (reason_by b) o) (reasons added e outer)) r
-      by_place (inl same) o at later =
+      by_membership (inl same) o at later =
           let found : o ≡ Some r.witness = sym at ∙ ap (λ (x : Added). innermost_witness x.path e outer) same ∙ is.3 in
           subst (λ q. Among (cons_option (option_map (reason_by b) q) (reasons added e outer)) r) (sym found)
           (inl (λ i. record { id = (ap (λ (x : Added). x.id) same ∙ sym is.0) i; text = (ap (λ (x : Added). x.text) same ∙ sym is.1) i; item = (ap (λ (x : Added). x.item) same ∙ sym is.2) i; witness = r.witness }))
-      by_place (inr h) None at later = later h is
-      by_place (inr h) (Some w) at later = inr (later h is)
+      by_membership (inr h) None at later = later h is
+      by_membership (inr h) (Some w) at later = inr (later h is)
 
 pub reasons_are_exact : ReasonsAreExact
 reasons_are_exact added e outer r = (

@@ -83,7 +83,7 @@ module _ (ts : List Text) (e : Element) (outer : List Element) where
   pub all_told : (s : Selectors) → HasItemsOf ts s → told_under (matching_ids s.pairs e outer) ≡ reasons (added_by ts) e outer
   all_told s has =
       ap told_under (matched_are ts s has e outer)
-      ∙ each_told e outer (reason_of e outer) reason_under has_none 0 (added_by ts) (λ place a at. ap reason_under (omega arith) ∙ ap reason_by_item at)
+      ∙ each_told e outer (reason_of e outer) reason_under has_none 0 (added_by ts) (λ index a at. ap reason_under (omega arith) ∙ ap reason_by_item at)
 
   told_more : (ks : List ℕ) (i k : ℕ) → i < length ks → k ≡ get_or ks i k → told_under (take (i + 1) ks) ≡ told_under (take i ks) ++ cons_option (reason_under k) []
   told_more ks i k within at = ap told_under (take_more ks i k within ∙ ap (λ n. take i ks ++ n ∷ []) (sym at)) ∙ filter_map-append reason_under (take i ks) (k ∷ [])

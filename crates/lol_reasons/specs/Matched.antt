@@ -6,7 +6,7 @@ use Rattle.lol_program.specs.Programs.{Program, AreClosed, IsAt, IsProgramOf}
 use Rattle.lol_vm.specs.Machines.{AreItems, OpenItem}
 use Rattle.lol_vm.specs.Matching.{matches}
 
--- A program is one of selectors, whose places are those of these paths. The items, the innermost first, are those of the elements around an
+-- A program is one of selectors, whose addresses are those of these paths. The items, the innermost first, are those of the elements around an
 -- element, and the numbers, the outermost first, theirs.
 pub record IsAround (s : Selectors) (paths : List Path) (p : Program) (items : List OpenItem) (numbers : List ℕ) (outer : List Element) : Type 0 where
   pub closed : AreClosed s
@@ -14,11 +14,11 @@ pub record IsAround (s : Selectors) (paths : List Path) (p : Program) (items : L
   pub are_items : AreItems paths p items outer
   pub are_numbers : map (λ e. e.number) outer ≡ reverse numbers
 
--- The path at a place matched an element inside these ones.
-pub record HasMatched (s : Selectors) (paths : List Path) (p : Program) (place : ℕ) (path : Path) (items : List OpenItem) (numbers : List ℕ)
+-- The path at a address matched an element inside these ones.
+pub record HasMatched (s : Selectors) (paths : List Path) (p : Program) (address : ℕ) (path : Path) (items : List OpenItem) (numbers : List ℕ)
     (e : Element) (outer : List Element) : Type 0 where
   pub around : IsAround s paths p items numbers outer
-  pub at : IsAt paths place path
+  pub at : IsAt paths address path
   pub matched : matches path e outer ≡ true
 
 -- A path was added under an id, and no other path was.

@@ -9,7 +9,7 @@ pub enum NumberingError {
     /// There are more items than ids: more than 4,294,967,296.
     #[error("there are more selectors than ids")]
     TooManyItems,
-    /// Memory was refused.
+    /// An allocation failed.
     #[error("out of memory")]
     Memory,
 }

@@ -9,7 +9,7 @@ ghost use Rattle.lol_program.specs.ProgramViews.{program_shown};
 ghost use Rattle.lol_vm.specs.Matching.{matches};
 ghost use Rattle.lol_vm.specs.Machines.{items_shown};
 ghost use Rattle.lol_reasons.specs.Matched.{HasMatched, IsAlone, IsAround};
-ghost use Rattle.lol_reasons.specs.Climbing.{has_number, has_place, have_place, is_within, nearest_giving, node_above_from, node_with_from, reached_by};
+ghost use Rattle.lol_reasons.specs.Climbing.{has_number, has_address, have_address, is_within, nearest_giving, node_above_from, node_with_from, reached_by};
 ghost use Rattle.lol_reasons.specs.Witnesses.{innermost_witness};
 
 use crate::node_table::NodeTable;
@@ -20,17 +20,17 @@ use lol_program::Program;
 use lol_stack::StackItem;
 use std::alloc::{AllocError, Global};
 
-/// What a node stands under: the place of the node that is one compound shorter, and the step from it.
+/// What a node stands under: the address of the node that is one compound shorter, and the step from it.
 #[derive(Clone, Copy)]
 pub(crate) struct NodeAbove {
-    pub place: usize,
+    pub address: usize,
     pub step: Combinator,
 }
 
 /// The innermost witness of the path of a node that matched an element: the numbers of the start tags whose elements the path's compounds
 /// are passed by, the last compound's first.
 ///
-/// `place` is the node's in the program, `number` the element's start tag, `outer` are the open elements around it, the outermost first, and
+/// `address` is the node's in the program, `number` the element's start tag, `outer` are the open elements around it, the outermost first, and
 /// `numbers` theirs: where these aren't as many, it is the element's number alone. Only their ranges are read, so the element itself needn't
 /// be open.
 ///
@@ -42,17 +42,17 @@ pub(crate) struct NodeAbove {
 pub fn witness_of<E>(
     alloc: Global,
     program: &Program,
-    place: usize,
+    address: usize,
     number: usize,
     outer: &[StackItem<'static, E>],
     numbers: &[usize],
 ) -> Result<Vec<usize>, AllocError>
     ensures { IfOk result (λ witness.
         (s : Selectors) (paths : List Path) (path : Path) (e : Element) (around : List Element)
-        → HasMatched s paths (program_shown program.now) place path (items_shown outer.now) numbers.now e around
+        → HasMatched s paths (program_shown program.now) address path (items_shown outer.now) numbers.now e around
         → number ≡ e.number → innermost_witness path e around ≡ Some witness.items) }
 {
-    NodeTable::new(alloc).witness_of(program, place, number, outer, numbers)
+    NodeTable::new(alloc).witness_of(program, address, number, outer, numbers)
 }
 
 /// The same for an id that one path alone was added under: nothing if the program has no node with it.
@@ -76,13 +76,13 @@ pub fn witness_under<E>(
     NodeTable::new(alloc).witness_under(program, id, number, outer, numbers)
 }
 
-/// The place of the first node that has an id.
+/// The address of the first node that has an id.
 pub(crate) fn node_with(instructions: &[Instruction], id: MatchId) -> Option<usize>
     ensures { result ≡ node_with_from 0 instructions.now id }
 {
-    for (place, instruction) in instructions.iter().enumerate() {
+    for (address, instruction) in instructions.iter().enumerate() {
         if has_id(&instruction.associated_branch.matched_ids, id) {
-            return Some(place);
+            return Some(address);
         }
     }
     None
@@ -94,21 +94,21 @@ pub(crate) fn has_id(ids: &DenseHashSet, id: MatchId) -> bool
     ids.iter().any(|other| other == id)
 }
 
-/// What the node at a place stands under, if it isn't a root.
-pub(crate) fn node_above(instructions: &[Instruction], place: usize) -> Option<NodeAbove>
-    ensures { result ≡ node_above_from 0 instructions.now place }
+/// What the node at a address stands under, if it isn't a root.
+pub(crate) fn node_above(instructions: &[Instruction], address: usize) -> Option<NodeAbove>
+    ensures { result ≡ node_above_from 0 instructions.now address }
 {
     for (front, instruction) in instructions.iter().enumerate() {
         let branch = &instruction.associated_branch;
-        if is_in(&branch.jumps, place) {
+        if is_in(&branch.jumps, address) {
             return Some(NodeAbove {
-                place: front,
+                address: front,
                 step: Combinator::Child,
             });
         }
-        if is_in(&branch.hereditary_jumps, place) {
+        if is_in(&branch.hereditary_jumps, address) {
             return Some(NodeAbove {
-                place: front,
+                address: front,
                 step: Combinator::Descendant,
             });
         }
@@ -116,11 +116,11 @@ pub(crate) fn node_above(instructions: &[Instruction], place: usize) -> Option<N
     None
 }
 
-pub(crate) fn is_in(range: &Option<AddressRange>, place: usize) -> bool
-    ensures { result ≡ has_place range.now place }
+pub(crate) fn is_in(range: &Option<AddressRange>, address: usize) -> bool
+    ensures { result ≡ has_address range.now address }
 {
     match range {
-        Some(range) => range.start <= place && place < range.end,
+        Some(range) => range.start <= address && address < range.end,
         None => false,
     }
 }
@@ -128,37 +128,37 @@ pub(crate) fn is_in(range: &Option<AddressRange>, place: usize) -> bool
 /// How many elements are around the one that the step to a node leads to.
 pub(crate) fn element_reached<E>(
     step: Combinator,
-    place: usize,
+    address: usize,
     outer: &[StackItem<'static, E>],
 ) -> Option<usize>
-    ensures value { result ≡ reached_by step place (items_shown outer.now) }
+    ensures value { result ≡ reached_by step address (items_shown outer.now) }
     ensures within { IfSome result (λ at. at < length outer.now) }
 {
     match step {
         Combinator::Child => outer.len().checked_sub(1),
-        Combinator::Descendant => nearest_element(place, outer),
+        Combinator::Descendant => nearest_element(address, outer),
     }
 }
 
-/// How many elements are around the nearest one that gives a range with the place to all inside it.
-fn nearest_element<E>(place: usize, outer: &[StackItem<'static, E>]) -> Option<usize>
-    ensures value { result ≡ nearest_giving place (items_shown outer.now) }
+/// How many elements are around the nearest one that gives a range with the address to all inside it.
+fn nearest_element<E>(address: usize, outer: &[StackItem<'static, E>]) -> Option<usize>
+    ensures value { result ≡ nearest_giving address (items_shown outer.now) }
     ensures within { IfSome result (λ at. at < length outer.now) }
 {
     let mut left = outer.len();
     while left > 0 {
         left -= 1;
-        if are_with(outer[left].hereditary_jumps.as_slice(), place) {
+        if are_with(outer[left].hereditary_jumps.as_slice(), address) {
             return Some(left);
         }
     }
     None
 }
 
-fn are_with(ranges: &[AddressRange], place: usize) -> bool
-    ensures { result ≡ have_place ranges.now place }
+fn are_with(ranges: &[AddressRange], address: usize) -> bool
+    ensures { result ≡ have_address ranges.now address }
 {
     ranges
         .iter()
-        .any(|range| range.start <= place && place < range.end)
+        .any(|range| range.start <= address && address < range.end)
 }

@@ -7,6 +7,6 @@ pub returns-in-Some : goal.returns-in-Some
 returns-in-Some c h =
     let found = c.in-Some.ensures.lookup in (
       c.in-Some.instruction.now,
-      ap (λ l. slice_get l c.args.place) (sym c.deref.ensures.value) ∙ slice_get_read c.deref.result.now _ c.args.place c.in-Some.instruction.now refl found.3.0 found.1,
+      ap (λ l. slice_get l c.args.address) (sym c.deref.ensures.value) ∙ slice_get_read c.deref.result.now _ c.args.address c.in-Some.instruction.now refl found.3.0 found.1,
       sym c.has_id.ensures ∙ h,
     )

@@ -16,7 +16,7 @@ loop-above-preserved g c =
       within = omega (arith, c.in-Some-element_reached.ensures.within, length-take-le c.loop-above.left c.args.outer.now c.loop-above.invariant.within, c.loop-above.invariant.within);
       climbs = λ s paths path e around h same.
           let here = c.loop-above.invariant.climbs s paths path e around h same in
-          subst (Climbs paths (program_shown c.args.program.now) path e around items c.args.numbers.now c.in-Some.above.place at) (sym c.in_ok-push.ensures.items)
+          subst (Climbs paths (program_shown c.args.program.now) path e around items c.args.numbers.now c.in-Some.above.address at) (sym c.in_ok-push.ensures.items)
           (goes_on s paths c.args.program.now h.around.closed h.around.program path e around items c.args.numbers.now c.loop-above.node c.loop-above.left c.loop-above.witness.items
           (omega (arith, c.loop-above.invariant.within, many)) (omega (arith, c.if-numbers-outer.false, many)) here c.node_above.result
           (c.node_above.ensures s paths here.path h.around.closed h.around.program here.at) c.in-Some.above c.in-Some.is at _
@@ -63,6 +63,6 @@ loop-above-init g c =
     record {
       within = omega arith;
       climbs = λ s paths path e around h same.
-          begins s paths (program_shown c.args.program.now) c.args.place path items c.args.numbers.now e around c.args.number (length c.args.outer.now) c.in_ok-witness.witness.items h
+          begins s paths (program_shown c.args.program.now) c.args.address path items c.args.numbers.now e around c.args.number (length c.args.outer.now) c.in_ok-witness.witness.items h
           (omega (arith, many)) (omega (arith, c.if-numbers-outer.false)) same c.in_ok-witness.ensures.items;
     }

@@ -17,6 +17,6 @@ invariant-loop-above g l =
       within : l.left ≤ length l.outer;
       climbs :
           (s : Selectors) (paths : List Path) (path : Path) (e : Element) (around : List Element)
-          → HasMatched s paths (program_shown l.program) l.place path (items_shown l.outer) l.numbers e around → l.number ≡ e.number
+          → HasMatched s paths (program_shown l.program) l.address path (items_shown l.outer) l.numbers e around → l.number ≡ e.number
           → Climbs paths (program_shown l.program) path e around (map item_shown l.outer) l.numbers l.node l.left l.witness.items;
     }
